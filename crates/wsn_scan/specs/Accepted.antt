@@ -1,0 +1,29 @@
+-- Accepted streams. RFC 6455 sections 5.4, 5.5.1 and 7.1.
+use Rattle.std.specs.Prelude.{◌≡◌, ℕ, ◌⊎◌, false, true, List, [], ◌∷◌, ◌++◌}
+use Rattle.std.specs.List.{list_any}
+use Rattle.wsn_wire.specs.declared.endpoint.Role.{Role}
+use Rattle.wsn_wire.specs.declared.opcode.Op.{Op}
+use Rattle.wsn_wire.specs.declared.opcode.Op.TheVariants.{Close}
+use Rattle.wsn_wire.specs.Frame.{Frame, stream}
+use Rattle.wsn_scan.specs.Bounds.{Bounds}
+use Rattle.wsn_scan.specs.Group.{unfinished}
+use Rattle.wsn_scan.specs.Lawful.{IsLawful}
+
+-- No frame is a Close.
+abbrev pub HasNoClose : List Frame → Type 0
+HasNoClose fs = (before after : List Frame) (f : Frame) → fs ≡ before ++ f ∷ after → f.op ≡ Close → ⊥
+
+-- The last frame is a Close.
+abbrev pub EndsWithClose : List Frame → Type 0
+EndsWithClose fs = (before : List Frame) × (close : Frame) × (close.op ≡ Close) × (fs ≡ before ++ close ∷ [])
+
+-- Without a Close, no message is open and the frames are all of the bytes; with one, any tail may follow.
+abbrev pub Ends : List Frame → List ℕ → Type 0
+Ends fs bytes =
+    (HasNoClose fs × (unfinished fs ≡ []) × (bytes ≡ stream fs))
+    ⊎ (EndsWithClose fs × ((tail : List ℕ) × (bytes ≡ stream fs ++ tail)))
+
+-- The bytes are these frames, which are lawful, and the stream may end there.
+pub record IsAccepted (role : Role) (bounds : Bounds) (bytes : List ℕ) (fs : List Frame) : Type 0 where
+  pub lawful : IsLawful role bounds fs
+  pub ends : Ends fs bytes

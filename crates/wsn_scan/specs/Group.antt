@@ -1,0 +1,48 @@
+-- Messages as groups of data frames. RFC 6455 section 5.4.
+use Rattle.std.specs.Prelude.{◌≡◌, ◌≢◌, ℕ, Bool, not, ◌&&◌, List, [], ◌∷◌, ◌++◌, filter, if◌then◌else◌}
+use Rattle.std.specs.List.{list_any, flat_map}
+use Rattle.wsn_wire.specs.declared.opcode.Op.{Op}
+use Rattle.wsn_wire.specs.declared.opcode.Op.TheVariants.{Continue, Text, Binary, Close, Ping, Pong}
+use Rattle.wsn_wire.specs.declared.opcode.Kind.{Kind}
+use Rattle.wsn_wire.specs.declared.opcode.Kind.TheVariants as kind
+use Rattle.wsn_wire.specs.Frame.{Frame, is_control}
+
+-- What stands behind the last element that passes: all, if none does.
+abbrev pub after_last : {A : Type 0} → (A → Bool) → List A → List A
+after_last passes [] = []
+after_last passes (x ∷ xs) = if list_any passes (x ∷ xs) then after_last passes xs else x ∷ xs
+
+abbrev pub is_data : Frame → Bool
+is_data f = not (is_control f.op)
+
+abbrev pub is_final : Frame → Bool
+is_final f = f.fin
+
+-- The data frames of the message that is not finished: those behind the last final data frame. The group of
+-- a data frame is what is unfinished before it, and the frame itself.
+abbrev pub unfinished : List Frame → List Frame
+unfinished fs = after_last is_final (filter is_data fs)
+
+-- Open: a message is not finished.
+abbrev pub IsOpen : List Frame → Type 0
+IsOpen fs = unfinished fs ≢ []
+
+-- the opcode of a group's first frame
+abbrev pub first_op : List Frame → Op
+first_op [] = Continue
+first_op (f ∷ group) = f.op
+
+-- a group's kind, where its first frame has opcode 1 or 2
+abbrev pub kind_of : List Frame → Kind
+kind_of group = elim (first_op group) [
+  | Continue ↦ kind.Binary
+  | Text ↦ kind.Text
+  | Binary ↦ kind.Binary
+  | Close ↦ kind.Binary
+  | Ping ↦ kind.Binary
+  | Pong ↦ kind.Binary
+]
+
+-- a group's text: its payloads, joined
+abbrev pub text_of : List Frame → List ℕ
+text_of = flat_map (λ f. f.payload)

@@ -1,0 +1,24 @@
+-- Bytes below 0x80 are characters of one byte each.
+use Rattle.std.proofs.Common.{◌≡◌, ℕ, ◌<◌, ◌≤◌, List, [], ◌∷◌, ◌++◌, inl, refl, ap, arith}
+use Rattle.std.specs.List.{AllByRecursion, concat}
+use Rattle.wsn_text.specs.Utf8.{IsText, IsCharacter}
+
+singles : List ℕ → List (List ℕ)
+singles [] = []
+singles (b ∷ bytes) = (b ∷ []) ∷ singles bytes
+
+each_single : (bytes : List ℕ) → AllByRecursion (λ b. b < 128) bytes → AllByRecursion IsCharacter (singles bytes)
+unfolding singles
+each_single [] low = tt
+each_single (b ∷ bytes) low =
+    let is_low : b < 128 = low.0 in
+    let fits : IsCharacter (b ∷ []) = inl (omega arith, omega arith, tt) in
+    (fits, each_single bytes low.1)
+
+concat-singles : (bytes : List ℕ) → bytes ≡ concat (singles bytes)
+unfolding singles
+concat-singles [] = refl
+concat-singles (b ∷ bytes) = ap (λ (rest : List ℕ). b ∷ rest) (concat-singles bytes)
+
+pub ascii_text : (bytes : List ℕ) → AllByRecursion (λ b. b < 128) bytes → IsText bytes
+ascii_text bytes low = record { characters = singles bytes; each = each_single bytes low; whole = concat-singles bytes }
