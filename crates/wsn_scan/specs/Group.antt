@@ -32,16 +32,18 @@ abbrev pub first_op : List Frame → Op
 first_op [] = Continue
 first_op (f ∷ group) = f.op
 
--- a group's kind, where its first frame has opcode 1 or 2
+-- the kind of a message that an opcode begins; only 1 begins text
+abbrev pub kind_at : Op → Kind
+kind_at Continue = kind.Binary
+kind_at Text = kind.Text
+kind_at Binary = kind.Binary
+kind_at Close = kind.Binary
+kind_at Ping = kind.Binary
+kind_at Pong = kind.Binary
+
+-- a group's kind
 abbrev pub kind_of : List Frame → Kind
-kind_of group = elim (first_op group) [
-  | Continue ↦ kind.Binary
-  | Text ↦ kind.Text
-  | Binary ↦ kind.Binary
-  | Close ↦ kind.Binary
-  | Ping ↦ kind.Binary
-  | Pong ↦ kind.Binary
-]
+kind_of group = kind_at (first_op group)
 
 -- a group's text: its payloads, joined
 abbrev pub text_of : List Frame → List ℕ

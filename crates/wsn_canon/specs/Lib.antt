@@ -1,0 +1,4 @@
+pub mod Events
+pub mod NormalForm
+pub mod ShortMessages
+pub mod Normalised
