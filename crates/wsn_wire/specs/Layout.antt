@@ -1,5 +1,5 @@
 -- How bytes are read as a frame, whether or not the frame is one that may be sent. RFC 6455 section 5.2.
-use Rattle.std.specs.Prelude.{◌≡◌, ℕ, ◌%◌, ◌/◌, ◌<◌, ◌≤◌, Bool, List, [], ◌∷◌, ◌++◌, length, nat_lt, nat_le, ◌==◌, if◌then◌else◌}
+use Rattle.std.specs.Prelude.{◌≡◌, ℕ, ◌%◌, ◌/◌, Bool, List, ◌∷◌, ◌++◌, length, nat_lt, nat_le, ◌==◌, if◌then◌else◌}
 use Rattle.std.specs.Int.{from_be_bytes, w16, w64}
 use Rattle.wsn_wire.specs.declared.spelling.LenForm.{LenForm}
 use Rattle.wsn_wire.specs.declared.spelling.LenForm.TheVariants.{Short, Two, Eight}

@@ -1,7 +1,6 @@
 -- The refusals that a frame's head shows by itself, whatever came before it: one line a row, by the byte
 -- that shows it. RFC 6455 sections 5.1, 5.2 and 5.5.
 use Rattle.std.specs.Prelude.{◌≡◌, ℕ, ◌^◌, ◌<◌, ◌≤◌, ◌⊎◌, false, true, List}
-use Rattle.std.specs.Int.{from_be_bytes, w16, w64}
 use Rattle.wsn_wire.specs.declared.endpoint.Role.{Role}
 use Rattle.wsn_wire.specs.declared.endpoint.Role.TheVariants.{Client, Server}
 use Rattle.wsn_wire.specs.declared.spelling.Lengths.{Lengths}

@@ -1,7 +1,6 @@
-use Rattle.std.proofs.Common.{◌≡◌, ◌+◌, take, drop, ap, sym, rules, length, ◌-◌, subst}
+use Rattle.std.proofs.Common.{take, drop, rules, length}
 use Rattle.std.proofs.KnownBytes.{Appends-trans}
 use Rattle.std.proofs.lemmas.Slice.{between_to_end}
-use Rattle.std.specs.Io.KnownBytes.{Appends}
 use lib.Seq.{take-add}
 use Rattle.wsn_wire.proofs.writing.Output.put.Goals as goal
 
