@@ -1,2 +1,6 @@
+pub mod BytesOf
+pub mod Rekeying
 pub mod ShortLists
 pub mod ShortMeaning
+pub mod ShortFront
+pub mod ShortRun

@@ -38,7 +38,7 @@ module _ (role : Role) (bounds : Bounds) where
   normal_frame-said f short =
       ap (λ (o : Op). record { fin = true; op = o; key = normal_key role; form = Shortest; payload = f.payload }) (op_of-kind f short)
 
-  all_push : (before : List Frame) (f : Frame) → AllByRecursion (IsShortMessage role bounds) before → IsShortMessage role bounds f → AllByRecursion (IsShortMessage role bounds) (before ++ f ∷ [])
+  pub all_push : (before : List Frame) (f : Frame) → AllByRecursion (IsShortMessage role bounds) before → IsShortMessage role bounds f → AllByRecursion (IsShortMessage role bounds) (before ++ f ∷ [])
   all_push [] f each short = (short, tt)
   all_push (g ∷ before) f each short = (each.0, all_push before f each.1 short)
 

@@ -5,6 +5,7 @@
 #![tactic(auto)]
 
 mod normal;
+mod short;
 mod whole_input;
 
 pub use normal::{Fault, normalise};

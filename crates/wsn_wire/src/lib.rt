@@ -6,6 +6,7 @@
 #![tactic(auto)]
 
 mod endpoint;
+mod masking;
 mod opcode;
 mod reading;
 mod refusal;
@@ -13,6 +14,7 @@ mod spelling;
 mod writing;
 
 pub use endpoint::Role;
+pub use masking::mask;
 pub use opcode::{Kind, Op};
 pub use reading::Input;
 pub use refusal::Reason;

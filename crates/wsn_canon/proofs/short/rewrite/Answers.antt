@@ -1,0 +1,26 @@
+use Rattle.std.proofs.Common.{◌≡◌, ◌≤◌, ◌-◌, ◌++◌, List, ℕ, length, take, drop, subst, ap, ◌∙◌, rules}
+use borrow.Rule.Slice.PartMut.{put_mid}
+use Rattle.std.proofs.lemmas.Slice.{between_to_end}
+use Rattle.wsn_canon.specs.Rewriting.{RewritesFront}
+use Rattle.wsn_canon.proofs.ShortRun.{Rewritten, put_rest, longer, rewritten_more}
+use Rattle.wsn_canon.proofs.short.rewrite.Goals as goal
+
+-- one message more
+pub loop-at-preserved : goal.loop-at-preserved
+loop-at-preserved c =
+    let role = c.args.role in
+    let limits = c.args.limits in
+    let initial = c.args.bytes.now in
+    let now = c.loop-at.bytes in
+    let at = c.loop-at.at in
+    let size = c.in-Some.size in
+    let written = c.rewrite_front.new.bytes in
+    let here = between_to_end now at (length now) (search rules) in
+    let front : RewritesFront role limits (drop at now) written size = subst (λ (old : List ℕ). RewritesFront role limits old written size) here c.in-Some.ensures in
+    let same : length written ≡ length (drop at now) = c.rewrite_front.auto.bytes ∙ ap length here in
+    let so_far = c.loop-at.invariant.so_far in
+    let within = c.loop-at.invariant.within in
+    rw (put_rest now written at) (record {
+      within = longer role limits initial now written at size within so_far front same;
+      so_far = rewritten_more role limits initial now written at size within so_far front same;
+    })
