@@ -38,7 +38,7 @@ first_byte_fields true Ping = record { fin_is = refl; unreserved = refl; opcode_
 first_byte_fields true Pong = record { fin_is = refl; unreserved = refl; opcode_is = refl; below = omega arith }
 
 -- the opcode that a number is; for a reserved one any
-pub op_at : ℕ → Op
+unfoldable pub op_at : ℕ → Op
 op_at n = if n == 0 then Continue else (if n == 1 then Text else (if n == 2 then Binary else (if n == 8 then Close else (if n == 9 then Ping else Pong))))
 
 pub op_at-opcode : (op : Op) → op_at (opcode op) ≡ op
@@ -123,7 +123,7 @@ spells-len_form_of form.Two len fits below = omega arith
 spells-len_form_of form.Eight len fits below = below
 
 -- the form in which a length form spells a length
-pub form_at : LenForm → ℕ → Form
+unfoldable pub form_at : LenForm → ℕ → Form
 form_at (len_form.Short n) len = form.Shortest
 form_at len_form.Two len = if nat_lt len 126 then form.Two else form.Shortest
 form_at len_form.Eight len = if nat_lt len 65536 then form.Eight else form.Shortest
@@ -189,7 +189,7 @@ wire_payload_twice None payload = refl
 wire_payload_twice (Some key) payload = masked-masked key 0 payload
 
 -- the key that the bytes after the length are, where MASK says that there is one
-pub key_at : Bool → List ℕ → Option (List ℕ)
+unfoldable pub key_at : Bool → List ℕ → Option (List ℕ)
 key_at mask bytes = if mask then Some bytes else None
 
 pub key_at-key_bytes : (key : Option (List ℕ)) → key_at (is_some key) (key_bytes key) ≡ key
