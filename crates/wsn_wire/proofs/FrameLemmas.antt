@@ -95,10 +95,10 @@ pub length_bytes_fields : (f : LenForm) (len : ℕ) → Spells f len → AreLeng
 length_bytes_fields (len_form.Short n) len spells = record { count = refl; told = spells.0; all = tt }
 length_bytes_fields len_form.Two len spells = record { count = refl; told = from_be_bytes-to_be_bytes_2 len spells; all = (omega arith, (omega arith, tt)) }
 length_bytes_fields len_form.Eight len spells = record {
-    count = refl;
-    told = from_be_bytes-to_be_bytes_8 len (omega arith);
-    all = (omega arith, (omega arith, (omega arith, (omega arith, (omega arith, (omega arith, (omega arith, (omega arith, tt))))))))
-  }
+  count = refl;
+  told = from_be_bytes-to_be_bytes_8 len (omega arith);
+  all = (omega arith, (omega arith, (omega arith, (omega arith, (omega arith, (omega arith, (omega arith, (omega arith, tt))))))));
+}
 
 -- what the shortest form is, by the length
 pub short-len_form_of : (len : ℕ) → len < 126 → len_form_of form.Shortest len ≡ len_form.Short len
@@ -113,10 +113,10 @@ eight-len_form_of len least = rw (le-ltb len 126 (omega arith), le-ltb len 65536
 pub spells-len_form_of : (f : Form) (len : ℕ) → FormFits f len → len < 2 ^ 63 → Spells (len_form_of f len) len
 spells-len_form_of form.Shortest len fits below =
     elim (cases_lt len 126) [
-      inl small ↦ rw (short-len_form_of len small) (refl, small)
-    | inr least ↦ elim (cases_lt len 65536) [
-        inl middle ↦ rw (two-len_form_of len least middle) middle
-      | inr large ↦ rw (eight-len_form_of len large) below
+      | inl small ↦ rw (short-len_form_of len small) (refl, small)
+      | inr least ↦ elim (cases_lt len 65536) [
+        | inl middle ↦ rw (two-len_form_of len least middle) middle
+        | inr large ↦ rw (eight-len_form_of len large) below
       ]
     ]
 spells-len_form_of form.Two len fits below = omega arith
@@ -132,10 +132,10 @@ pub form_at-len_form_of : (f : Form) (len : ℕ) → FormFits f len → form_at 
 unfolding form_at
 form_at-len_form_of form.Shortest len fits =
     elim (cases_lt len 126) [
-      inl small ↦ rw (short-len_form_of len small) refl
-    | inr least ↦ elim (cases_lt len 65536) [
-        inl middle ↦ rw (two-len_form_of len least middle, le-ltb len 126 least) refl
-      | inr large ↦ rw (eight-len_form_of len large, le-ltb len 65536 large) refl
+      | inl small ↦ rw (short-len_form_of len small) refl
+      | inr least ↦ elim (cases_lt len 65536) [
+        | inl middle ↦ rw (two-len_form_of len least middle, le-ltb len 126 least) refl
+        | inr large ↦ rw (eight-len_form_of len large, le-ltb len 65536 large) refl
       ]
     ]
 form_at-len_form_of form.Two len fits = rw (lt-ltb len 126 (omega arith)) refl
@@ -202,12 +202,12 @@ key_at-key_bytes (Some key) = refl
 -- the frame that the parts of a layout spell, where its opcode is a known one
 unfoldable pub frame_at : ℕ → ℕ → List ℕ → List ℕ → Frame
 frame_at first second key payload = record {
-    fin = fin_bit first;
-    op = op_at (opcode_field first);
-    key = key_at (mask_bit second) key;
-    form = form_at (len_form_at second) (length payload);
-    payload = wire_payload (key_at (mask_bit second) key) payload;
-  }
+  fin = fin_bit first;
+  op = op_at (opcode_field first);
+  key = key_at (mask_bit second) key;
+  form = form_at (len_form_at second) (length payload);
+  payload = wire_payload (key_at (mask_bit second) key) payload;
+}
 
 -- the bytes of a frame have the layout
 unfoldable pub layout_of_frame : (f : Frame) → IsSpellable f → HasLayout (frame_bytes f)
@@ -226,8 +226,8 @@ layout_of_frame f spellable =
       key = key_bytes f.key;
       payload = wire_payload f.key f.payload;
       whole =
-        ap (λ bytes. first_byte f.fin f.op ∷ second_byte f.key (len_form_of f.form (length f.payload)) ∷ bytes)
-        (append_assoc (length_bytes (len_form_of f.form (length f.payload)) (length f.payload)) (key_bytes f.key) (wire_payload f.key f.payload));
+          ap (λ bytes. first_byte f.fin f.op ∷ second_byte f.key (len_form_of f.form (length f.payload)) ∷ bytes)
+          (append_assoc (length_bytes (len_form_of f.form (length f.payload)) (length f.payload)) (key_bytes f.key) (wire_payload f.key f.payload));
       in_bytes = (of_first.below, (of_second.below, IsBytes-append _ _ (IsBytes-append _ _ of_length.all of_key) of_payload));
       len_count = of_length.count ∙ ap length_count (sym of_second.field_is);
       key_counted = key_bytes_count f.key spellable.key ∙ ap (λ mask. if mask then 4 else 0) (sym of_second.mask_is);
@@ -248,11 +248,11 @@ frame_at-frame_bytes f spellable =
     let wire = wire_payload f.key f.payload in
     let key_is = ap (λ mask. key_at mask (key_bytes f.key)) of_second.mask_is ∙ key_at-key_bytes f.key in
     frames_equal _ _
-      of_first.fin_is
-      (ap op_at of_first.opcode_is ∙ op_at-opcode f.op)
-      key_is
-      (ap (λ g. form_at g (length wire)) of_second.field_is ∙ (ap (λ n. form_at (len_form_of f.form (length f.payload)) n) (length-wire_payload f.key f.payload) ∙ form_at-len_form_of f.form (length f.payload) spellable.form))
-      (ap (λ key. wire_payload key wire) key_is ∙ wire_payload_twice f.key f.payload)
+    of_first.fin_is
+    (ap op_at of_first.opcode_is ∙ op_at-opcode f.op)
+    key_is
+    (ap (λ g. form_at g (length wire)) of_second.field_is ∙ (ap (λ n. form_at (len_form_of f.form (length f.payload)) n) (length-wire_payload f.key f.payload) ∙ form_at-len_form_of f.form (length f.payload) spellable.form))
+    (ap (λ key. wire_payload key wire) key_is ∙ wire_payload_twice f.key f.payload)
 
 -- Two whole layouts with anything behind them, where the bytes are the same, have the same parts.
 pub record SameLayout {xs ys : List ℕ} (a : HasLayout xs) (b : HasLayout ys) : Type 0 where
@@ -279,7 +279,7 @@ layouts_agree xs ys us vs a b same =
     let lens = fronts_agree a.len b.len (a.key ++ (a.payload ++ us)) (b.key ++ (b.payload ++ vs)) (a.len_count ∙ (ap (λ s. length_count (len_form_at s)) second ∙ sym b.len_count)) behind in
     let keys = fronts_agree a.key b.key (a.payload ++ us) (b.payload ++ vs) (a.key_counted ∙ (ap key_count second ∙ sym b.key_counted)) lens.1 in
     let told : length_told (len_form_at a.second) a.len ≡ length_told (len_form_at b.second) b.len =
-        ap (λ s. length_told (len_form_at s) a.len) second ∙ ap (λ bytes. length_told (len_form_at b.second) bytes) lens.0 in
+    ap (λ s. length_told (len_form_at s) a.len) second ∙ ap (λ bytes. length_told (len_form_at b.second) bytes) lens.0 in
     let payloads = fronts_agree a.payload b.payload us vs (a.payload_count ∙ (told ∙ sym b.payload_count)) keys.1 in
     (record { first = first; second = second; len = lens.0; key = keys.0; payload = payloads.0 }, payloads.1)
 
@@ -290,6 +290,6 @@ frame_bytes_determine f g xs ys of_f of_g same =
     let agree = layouts_agree (frame_bytes f) (frame_bytes g) xs ys (layout_of_frame f of_f) (layout_of_frame g of_g) same in
     let parts = agree.0 in
     let reading : frame_at (layout_of_frame f of_f).first (layout_of_frame f of_f).second (layout_of_frame f of_f).key (layout_of_frame f of_f).payload
-        ≡ frame_at (layout_of_frame g of_g).first (layout_of_frame g of_g).second (layout_of_frame g of_g).key (layout_of_frame g of_g).payload =
-        λ i. frame_at (parts.first i) (parts.second i) (parts.key i) (parts.payload i) in
+    ≡ frame_at (layout_of_frame g of_g).first (layout_of_frame g of_g).second (layout_of_frame g of_g).key (layout_of_frame g of_g).payload =
+    λ i. frame_at (parts.first i) (parts.second i) (parts.key i) (parts.payload i) in
     (sym (frame_at-frame_bytes f of_f) ∙ (reading ∙ frame_at-frame_bytes g of_g), agree.1)

@@ -1,6 +1,6 @@
 -- From a whole layout whose head shows no refusal, the frame that it spells; and a frame's head shows none.
 use Rattle.std.proofs.Common.{◌≡◌, ℕ, ◌%◌, ◌<◌, ◌≤◌, ◌^◌, Bool, true, false, Option, List, ◌∷◌, ◌++◌, length, refl, ap, sym, ◌∙◌, arith, inl, inr, if◌then◌else◌, subst}
-use Rattle.std.specs.Prelude.{is_some, IsSome, ◌↔◌, ◌≢◌, IfSome}
+use Rattle.std.specs.Prelude.{is_some, ◌↔◌, IfSome}
 use Rattle.std.specs.Int.{from_be_bytes, w16, w64}
 use Rattle.std.proofs.lemmas.Bool.{lt-ltb, le-ltb, lt-leb, le-leb, cases_lt, cases_eq, eq-eqb, ne_eqb, false≢true}
 use Rattle.std.proofs.lemmas.List.{append_assoc, nil_from_length}
@@ -11,35 +11,50 @@ use Rattle.wsn_wire.specs.declared.endpoint.Role.{Role}
 use Rattle.wsn_wire.specs.declared.endpoint.Role.TheVariants.{Client, Server}
 use Rattle.wsn_wire.specs.declared.spelling.Form.TheVariants as form
 use Rattle.wsn_wire.specs.declared.spelling.Lengths.{Lengths}
-use Rattle.wsn_wire.specs.declared.spelling.Lengths.TheVariants as lengths_of
 use Rattle.wsn_wire.specs.declared.spelling.LenForm.{LenForm}
 use Rattle.wsn_wire.specs.declared.spelling.LenForm.TheVariants as len_form
 use Rattle.wsn_wire.specs.declared.refusal.Reason.{Reason}
 use Rattle.wsn_wire.specs.declared.refusal.Reason.TheVariants.{ReservedBits, ReservedOpcode, ControlNotFinal, MaskMissing, MaskPresent, ControlTooLong, CloseOneByte, LengthTopBit, LengthNotMinimal}
-use Rattle.wsn_wire.specs.Frame.{Frame, opcode, is_control, first_byte, second_byte, length_field, length_bytes, len_form_of, key_bytes, wire_payload, frame_bytes, masked, IsBytes, IsKey, FormFits, IsSpellable}
+use Rattle.wsn_wire.specs.Frame.{Frame, opcode, is_control, first_byte, second_byte, length_field, length_bytes, len_form_of, key_bytes, wire_payload, frame_bytes, masked, IsBytes, IsKey, FormFits}
 use Rattle.wsn_wire.specs.Layout.{fin_bit, reserved_bits, opcode_field, mask_bit, len_form_at, length_count, length_told, HasLayout}
 use Rattle.wsn_wire.specs.Rows.{IsReserved, IsControlOpcode, ShownByFirst, ShownBySecond, ShownByLength, HasTopBit, IsNotMinimal, IsLong}
+use Rattle.wsn_wire.specs.Sender.{IsSpelledFor, ShowsNothing}
 use Rattle.wsn_wire.proofs.MaskLemmas.{at-All}
-use Rattle.wsn_wire.proofs.FrameLemmas.{op_at, form_at, key_at, frame_at, Spells, short-len_form_of, two-len_form_of, eight-len_form_of, IsBytes-left, IsBytes-right, length-wire_payload, wire_payload_bytes, wire_payload_twice}
+use Rattle.wsn_wire.proofs.FrameLemmas.{op_at, form_at, key_at, frame_at, Spells, short-len_form_of, two-len_form_of, eight-len_form_of, IsBytes-left, IsBytes-right, length-wire_payload, wire_payload_bytes, wire_payload_twice, IsFirstByteOf, first_byte_fields, second_byte_fields, length_bytes_fields, spells-len_form_of}
 
 -- ---- the fields, put together again
 
 ten_left : (n : ℕ) → n < 16 → (IsReserved n → ⊥) → (n ≡ 0 → ⊥) → (n ≡ 1 → ⊥) → (n ≡ 2 → ⊥) → (n ≡ 8 → ⊥) → (n ≡ 9 → ⊥) → n ≡ 10
 ten_left n low known no0 no1 no2 no8 no9 =
     elim (cases_lt n 8) [
-      inl small ↦ absurd (known (inl (omega arith, omega arith)))
-    | inr large ↦ elim (cases_lt n 11) [ inl less ↦ omega arith | inr more ↦ absurd (known (inr (omega arith, omega arith))) ]
+      | inl small ↦ absurd (known (inl (omega arith, omega arith)))
+      | inr large ↦ elim (cases_lt n 11) [ inl less ↦ omega arith | inr more ↦ absurd (known (inr (omega arith, omega arith))) ]
     ]
 
 pub opcode-op_at : (n : ℕ) → n < 16 → (IsReserved n → ⊥) → opcode (op_at n) ≡ n
 unfolding op_at
 opcode-op_at n low known =
-    elim (cases_eq n 0) [ inl is ↦ rw is refl | inr no0 ↦
-    elim (cases_eq n 1) [ inl is ↦ rw is refl | inr no1 ↦
-    elim (cases_eq n 2) [ inl is ↦ rw is refl | inr no2 ↦
-    elim (cases_eq n 8) [ inl is ↦ rw is refl | inr no8 ↦
-    elim (cases_eq n 9) [ inl is ↦ rw is refl | inr no9 ↦
-    let is_ten : n ≡ 10 = ten_left n low known no0 no1 no2 no8 no9 in rw is_ten refl ] ] ] ] ]
+    elim (cases_eq n 0) [
+      | inl is ↦ rw is refl
+      | inr no0 ↦
+          elim (cases_eq n 1) [
+            | inl is ↦ rw is refl
+            | inr no1 ↦
+                elim (cases_eq n 2) [
+                  | inl is ↦ rw is refl
+                  | inr no2 ↦
+                      elim (cases_eq n 8) [
+                        | inl is ↦ rw is refl
+                        | inr no8 ↦
+                            elim (cases_eq n 9) [
+                              | inl is ↦ rw is refl
+                              | inr no9 ↦
+                                  let is_ten : n ≡ 10 = ten_left n low known no0 no1 no2 no8 no9 in rw is_ten refl
+                            ]
+                      ]
+                ]
+          ]
+    ]
 
 pub first_byte-fields : (first : ℕ) → first < 256 → reserved_bits first ≡ 0 → (IsReserved (opcode_field first) → ⊥) → first_byte (fin_bit first) (op_at (opcode_field first)) ≡ first
 first_byte-fields first byte unreserved known =
@@ -49,10 +64,10 @@ first_byte-fields first byte unreserved known =
 pub length_field-len_form_at : (second : ℕ) → length_field (len_form_at second) ≡ second % 128
 length_field-len_form_at second =
     elim (cases_lt (second % 128) 126) [
-      inl short ↦ rw (lt-ltb (second % 128) 126 short) refl
-    | inr long ↦ elim (cases_eq (second % 128) 126) [
-        inl two ↦ rw (le-ltb (second % 128) 126 long, eq-eqb (second % 128) 126 two) (sym two)
-      | inr other ↦ rw (le-ltb (second % 128) 126 long, ne_eqb (second % 128) 126 other) (omega arith)
+      | inl short ↦ rw (lt-ltb (second % 128) 126 short) refl
+      | inr long ↦ elim (cases_eq (second % 128) 126) [
+        | inl two ↦ rw (le-ltb (second % 128) 126 long, eq-eqb (second % 128) 126 two) (sym two)
+        | inr other ↦ rw (le-ltb (second % 128) 126 long, ne_eqb (second % 128) 126 other) (omega arith)
       ]
     ]
 
@@ -60,12 +75,11 @@ pub second_byte-fields : (second : ℕ) (key : Option (List ℕ)) → second < 2
 second_byte-fields second key byte keyed =
     let field = length_field-len_form_at second in
     elim (cases_lt second 128) [
-      inl less ↦ rw (keyed, lt-leb 128 second less, field) (omega arith)
-    | inr more ↦ rw (keyed, le-leb 128 second more, field) (omega arith)
+      | inl less ↦ rw (keyed, lt-leb 128 second less, field) (omega arith)
+      | inr more ↦ rw (keyed, le-leb 128 second more, field) (omega arith)
     ]
 
 -- the opcode is one of six
-
 
 -- ---- the length bytes, told and written again
 
@@ -78,10 +92,10 @@ IsField len_form.Eight = Unit {0}
 pub len_form_at_field : (second : ℕ) → IsField (len_form_at second)
 len_form_at_field second =
     elim (cases_lt (second % 128) 126) [
-      inl short ↦ rw (lt-ltb (second % 128) 126 short) short
-    | inr long ↦ elim (cases_eq (second % 128) 126) [
-        inl two ↦ rw (le-ltb (second % 128) 126 long, eq-eqb (second % 128) 126 two) tt
-      | inr other ↦ rw (le-ltb (second % 128) 126 long, ne_eqb (second % 128) 126 other) tt
+      | inl short ↦ rw (lt-ltb (second % 128) 126 short) short
+      | inr long ↦ elim (cases_eq (second % 128) 126) [
+        | inl two ↦ rw (le-ltb (second % 128) 126 long, eq-eqb (second % 128) 126 two) tt
+        | inr other ↦ rw (le-ltb (second % 128) 126 long, ne_eqb (second % 128) 126 other) tt
       ]
     ]
 
@@ -108,13 +122,13 @@ unfolding form_at
 len_form_of-form_at (len_form.Short n) len spells = (rw (short-len_form_of len (omega arith), spells.0) refl, tt, omega arith)
 len_form_of-form_at len_form.Two len spells =
     elim (cases_lt len 126) [
-      inl small ↦ rw (lt-ltb len 126 small) (refl, omega arith, omega arith)
-    | inr large ↦ rw (le-ltb len 126 large) (two-len_form_of len large spells, tt, omega arith)
+      | inl small ↦ rw (lt-ltb len 126 small) (refl, omega arith, omega arith)
+      | inr large ↦ rw (le-ltb len 126 large) (two-len_form_of len large spells, tt, omega arith)
     ]
 len_form_of-form_at len_form.Eight len spells =
     elim (cases_lt len 65536) [
-      inl small ↦ rw (lt-ltb len 65536 small) (refl, omega arith, spells)
-    | inr large ↦ rw (le-ltb len 65536 large) (eight-len_form_of len large, tt, spells)
+      | inl small ↦ rw (lt-ltb len 65536 small) (refl, omega arith, spells)
+      | inr large ↦ rw (le-ltb len 65536 large) (eight-len_form_of len large, tt, spells)
     ]
 
 not_below : (n most : ℕ) → (n < most → ⊥) → most ≤ n
@@ -170,15 +184,9 @@ masked_for Client false present absent = absurd (present (refl, refl))
 masked_for Server true present absent = absurd (absent (refl, refl))
 masked_for Server false present absent = ((λ is. absurd (false≢true is)), (λ is. cc))
 
--- No row of the table is shown by the head.
-pub record ShowsNothing (role : Role) (lengths : Lengths) (first second : ℕ) (len : List ℕ) : Type 0 where
-  pub by_first : (r : Reason) → ShownByFirst r first → ⊥
-  pub by_second : (r : Reason) → ShownBySecond role r first second → ⊥
-  pub by_length : (r : Reason) → ShownByLength lengths r (len_form_at second) len → ⊥
-
--- The frame that a layout spells: its bytes are the layout's, and it is as its sender must spell it.
+-- The frame that a layout spells: it is as its sender must spell it, and its bytes are the layout's.
 pub record IsSpelledBy (role : Role) (lengths : Lengths) {bytes : List ℕ} (l : HasLayout bytes) (f : Frame) : Type 0 where
-  pub spellable : IsSpellable f
+  pub owed : IsSpelledFor role lengths f
   pub bytes_are : frame_bytes f ≡ bytes
   pub fin_is : f.fin ≡ fin_bit l.first
   pub opcode_is : opcode f.op ≡ opcode_field l.first
@@ -186,10 +194,6 @@ pub record IsSpelledBy (role : Role) (lengths : Lengths) {bytes : List ℕ} (l :
   pub key_bytes_are : key_bytes f.key ≡ l.key
   pub payload_is : f.payload ≡ (if mask_bit l.second then masked l.key 0 l.payload else l.payload)
   pub length_is : length f.payload ≡ length_told (len_form_at l.second) l.len
-  pub masked : IsSome f.key ↔ (role ≡ Client)
-  pub shortest : lengths ≡ lengths_of.Shortest → f.form ≡ form.Shortest
-  pub control : is_control f.op ≡ true → (f.fin ≡ true) × (length f.payload ≤ 125) × (f.form ≡ form.Shortest)
-  pub close : f.op ≡ Close → length f.payload ≢ 1
 
 -- A whole layout whose head shows no row is the bytes of a frame.
 pub frame_of_layout : (role : Role) (lengths : Lengths) (bytes : List ℕ) (l : HasLayout bytes) → ShowsNothing role lengths l.first l.second l.len →
@@ -213,26 +217,36 @@ frame_of_layout role lengths bytes l shows =
     let op = opcode-op_at (opcode_field l.first) (omega arith) (shows.by_first ReservedOpcode) in
     let unreserved : reserved_bits l.first ≡ 0 = elim (cases_eq (reserved_bits l.first) 0) [ inl none ↦ none | inr some ↦ absurd (shows.by_first ReservedBits (omega arith)) ] in
     let as_control : is_control (op_at (opcode_field l.first)) ≡ true → IsControlOpcode (opcode_field l.first) =
-        λ control. subst IsControlOpcode op (control_opcode (op_at (opcode_field l.first)) control) in
+    λ control. subst IsControlOpcode op (control_opcode (op_at (opcode_field l.first)) control) in
     let short : is_control (op_at (opcode_field l.first)) ≡ true → IsLong (len_form_at l.second) → ⊥ =
-        λ control long. shows.by_second ControlTooLong (as_control control, long) in
+    λ control long. shows.by_second ControlTooLong (as_control control, long) in
     let first_is = first_byte-fields l.first all.0 unreserved (shows.by_first ReservedOpcode) in
     let second_is : second_byte key (len_form_of form_is (length payload)) ≡ l.second =
-        ap (λ n. second_byte key (len_form_of form_is n)) size
-        ∙ (ap (λ g. second_byte key g) spelled.0 ∙ second_byte-fields l.second key all.1.0 keyed.0) in
+    ap (λ n. second_byte key (len_form_of form_is n)) size
+    ∙ (ap (λ g. second_byte key g) spelled.0 ∙ second_byte-fields l.second key all.1.0 keyed.0) in
     let len_is : length_bytes (len_form_of form_is (length payload)) (length payload) ≡ l.len =
-        ap (λ n. length_bytes (len_form_of form_is n) n) size
-        ∙ (ap (λ g. length_bytes g count) spelled.0
-        ∙ (ap (λ n. length_bytes field n) l.payload_count ∙ length_bytes-length_told field l.len all_len l.len_count)) in
+    ap (λ n. length_bytes (len_form_of form_is n) n) size
+    ∙ (ap (λ g. length_bytes g count) spelled.0
+    ∙ (ap (λ n. length_bytes field n) l.payload_count ∙ length_bytes-length_told field l.len all_len l.len_count)) in
     let payload_is = wire_payload_twice key l.payload in
     let parts : frame_bytes (frame_at l.first l.second l.key l.payload) ≡ l.first ∷ l.second ∷ (l.len ++ l.key ++ l.payload) =
-        λ i. first_is i ∷ second_is i ∷ (len_is i ++ keyed.1 i ++ payload_is i) in
+    λ i. first_is i ∷ second_is i ∷ (len_is i ++ keyed.1 i ++ payload_is i) in
     record {
-      spellable = record {
-        key = keyed.2;
-        payload = wire_payload_bytes key l.payload keyed.2 all_payload;
-        size = rw size spelled.2;
-        form = subst (λ n. FormFits form_is n) (sym size) spelled.1;
+      owed = record {
+        spellable = record {
+          key = keyed.2;
+          payload = wire_payload_bytes key l.payload keyed.2 all_payload;
+          size = rw size spelled.2;
+          form = subst (λ n. FormFits form_is n) (sym size) spelled.1;
+        };
+        masked = subst (λ some. (some ≡ true) ↔ (role ≡ Client)) (sym keyed.0) (masked_for role (mask_bit l.second) (shows.by_second MaskMissing) (shows.by_second MaskPresent));
+        shortest = λ only. form_at_minimal field count (λ not. shows.by_length LengthNotMinimal (only, subst (λ n. IsNotMinimal field n) l.payload_count not));
+        control = λ control.
+            let fits = form_at_short field count spells (short control) in
+            (final_control (fin_bit l.first) (λ more. shows.by_first ControlNotFinal (as_control control, more)), rw size fits.1, fits.0);
+        close = λ close one.
+            let is_control : is_control (op_at (opcode_field l.first)) ≡ true = ap is_control close in
+            shows.by_second CloseOneByte (sym op ∙ ap opcode close, one_byte field count spells (short is_control) (sym size ∙ one));
       };
       bytes_are = parts ∙ (ap (λ bs. l.first ∷ l.second ∷ bs) (append_assoc l.len l.key l.payload) ∙ sym l.whole);
       fin_is = refl;
@@ -241,12 +255,109 @@ frame_of_layout role lengths bytes l shows =
       key_bytes_are = keyed.1;
       payload_is = wire_payload-key_at (mask_bit l.second) l.key l.payload;
       length_is = size ∙ l.payload_count;
-      masked = subst (λ some. (some ≡ true) ↔ (role ≡ Client)) (sym keyed.0) (masked_for role (mask_bit l.second) (shows.by_second MaskMissing) (shows.by_second MaskPresent));
-      shortest = λ only. form_at_minimal field count (λ not. shows.by_length LengthNotMinimal (only, subst (λ n. IsNotMinimal field n) l.payload_count not));
-      control = λ control.
-        let fits = form_at_short field count spells (short control) in
-        (final_control (fin_bit l.first) (λ more. shows.by_first ControlNotFinal (as_control control, more)), rw size fits.1, fits.0);
-      close = λ close one.
-        let is_control : is_control (op_at (opcode_field l.first)) ≡ true = ap is_control close in
-        shows.by_second CloseOneByte (sym op ∙ ap opcode close, one_byte field count spells (short is_control) (sym size ∙ one));
+    }
+
+-- ---- a frame that is spelled as its sender must spell it shows no row by its head
+
+unreserved_opcode : (op : Op) → IsReserved (opcode op) → ⊥
+unreserved_opcode Continue (inl is) = omega (arith, is)
+unreserved_opcode Continue (inr is) = omega (arith, is)
+unreserved_opcode Text (inl is) = omega (arith, is)
+unreserved_opcode Text (inr is) = omega (arith, is)
+unreserved_opcode Binary (inl is) = omega (arith, is)
+unreserved_opcode Binary (inr is) = omega (arith, is)
+unreserved_opcode Close (inl is) = omega (arith, is)
+unreserved_opcode Close (inr is) = omega (arith, is)
+unreserved_opcode Ping (inl is) = omega (arith, is)
+unreserved_opcode Ping (inr is) = omega (arith, is)
+unreserved_opcode Pong (inl is) = omega (arith, is)
+unreserved_opcode Pong (inr is) = omega (arith, is)
+
+pub control_from_opcode : (op : Op) → IsControlOpcode (opcode op) → is_control op ≡ true
+control_from_opcode Continue is = absurd (omega (arith, is))
+control_from_opcode Text is = absurd (omega (arith, is))
+control_from_opcode Binary is = absurd (omega (arith, is))
+control_from_opcode Close is = refl
+control_from_opcode Ping is = refl
+control_from_opcode Pong is = refl
+
+pub close_from_opcode : (op : Op) → opcode op ≡ 8 → op ≡ Close
+close_from_opcode Continue is = absurd (omega (arith, is))
+close_from_opcode Text is = absurd (omega (arith, is))
+close_from_opcode Binary is = absurd (omega (arith, is))
+close_from_opcode Close is = refl
+close_from_opcode Ping is = absurd (omega (arith, is))
+close_from_opcode Pong is = absurd (omega (arith, is))
+
+short_is : (len : ℕ) → len ≤ 125 → (IsLong (len_form_of form.Shortest len) → ⊥) × ((n : ℕ) → len_form_of form.Shortest len ≡ len_form.Short n → len ≡ n)
+short_is len small = rw (short-len_form_of len (omega arith)) ((λ long. long), (λ n is. cc))
+
+minimal_is : (len : ℕ) → IsNotMinimal (len_form_of form.Shortest len) len → ⊥
+minimal_is len =
+    elim (cases_lt len 126) [
+      | inl small ↦ rw (short-len_form_of len small) (λ not. not)
+      | inr least ↦ elim (cases_lt len 65536) [
+        | inl middle ↦ rw (two-len_form_of len least middle) (λ not. omega arith)
+        | inr large ↦ rw (eight-len_form_of len large) (λ not. omega arith)
+      ]
+    ]
+
+below_top : (f : LenForm) (len : ℕ) → len < 2 ^ 63 → HasTopBit f len → ⊥
+below_top (len_form.Short n) len below top = top
+below_top len_form.Two len below top = top
+below_top len_form.Eight len below top = omega arith
+
+first_shows_nothing : (fin : Bool) (op : Op) (first : ℕ) → IsFirstByteOf fin op first → (is_control op ≡ true → fin ≡ true) → (r : Reason) → ShownByFirst r first → ⊥
+first_shows_nothing fin op first fields final ReservedBits shown = omega (arith, shown, fields.unreserved)
+first_shows_nothing fin op first fields final ReservedOpcode shown = unreserved_opcode op (subst IsReserved fields.opcode_is shown)
+first_shows_nothing fin op first fields final ControlNotFinal shown =
+    let is_final : fin ≡ true = final (control_from_opcode op (subst IsControlOpcode fields.opcode_is shown.0)) in
+    false≢true (sym shown.1 ∙ (fields.fin_is ∙ is_final))
+first_shows_nothing fin op first fields final _ shown = shown
+
+second_shows_nothing : (role : Role) (lengths : Lengths) (f : Frame) → IsSpelledFor role lengths f → (first second : ℕ) →
+    opcode_field first ≡ opcode f.op → mask_bit second ≡ is_some f.key → len_form_at second ≡ len_form_of f.form (length f.payload) →
+    (r : Reason) → ShownBySecond role r first second → ⊥
+second_shows_nothing role lengths f owed first second op mask field MaskMissing shown = false≢true (sym shown.1 ∙ (mask ∙ owed.masked.1 shown.0))
+second_shows_nothing role lengths f owed first second op mask field MaskPresent shown =
+    let client : role ≡ Client = owed.masked.0 (sym mask ∙ shown.1) in
+    let server : role ≡ Server = shown.0 in
+    cc
+second_shows_nothing role lengths f owed first second op mask field ControlTooLong shown =
+    let law = owed.control (control_from_opcode f.op (subst IsControlOpcode op shown.0)) in
+    let spelled : len_form_at second ≡ len_form_of form.Shortest (length f.payload) = field ∙ ap (λ g. len_form_of g (length f.payload)) law.2 in
+    (short_is (length f.payload) law.1).0 (subst IsLong spelled shown.1)
+second_shows_nothing role lengths f owed first second op mask field CloseOneByte shown =
+    let is_close = close_from_opcode f.op (sym op ∙ shown.0) in
+    let law = owed.control (ap is_control is_close) in
+    let spelled : len_form_at second ≡ len_form_of form.Shortest (length f.payload) = field ∙ ap (λ g. len_form_of g (length f.payload)) law.2 in
+    owed.close is_close ((short_is (length f.payload) law.1).1 1 (sym spelled ∙ shown.1))
+second_shows_nothing role lengths f owed first second op mask field _ shown = shown
+
+length_shows_nothing : (role : Role) (lengths : Lengths) (f : Frame) → IsSpelledFor role lengths f → (g : LenForm) (bytes : List ℕ) →
+    g ≡ len_form_of f.form (length f.payload) → length_told g bytes ≡ length f.payload →
+    (r : Reason) → ShownByLength lengths r g bytes → ⊥
+length_shows_nothing role lengths f owed g bytes field told LengthTopBit shown = below_top g (length f.payload) owed.spellable.size (subst (λ n. HasTopBit g n) told shown)
+length_shows_nothing role lengths f owed g bytes field told LengthNotMinimal shown =
+    let spelled : g ≡ len_form_of form.Shortest (length f.payload) = field ∙ ap (λ h. len_form_of h (length f.payload)) (owed.shortest shown.0) in
+    minimal_is (length f.payload) (subst (λ h. IsNotMinimal h (length f.payload)) spelled (subst (λ n. IsNotMinimal g n) told shown.1))
+length_shows_nothing role lengths f owed g bytes field told _ shown = shown
+
+pub frame_shows_nothing : (role : Role) (lengths : Lengths) (f : Frame) → IsSpelledFor role lengths f →
+    ShowsNothing role lengths
+    (first_byte f.fin f.op)
+    (second_byte f.key (len_form_of f.form (length f.payload)))
+    (length_bytes (len_form_of f.form (length f.payload)) (length f.payload))
+frame_shows_nothing role lengths f owed =
+    let first = first_byte f.fin f.op in
+    let second = second_byte f.key (len_form_of f.form (length f.payload)) in
+    let bytes = length_bytes (len_form_of f.form (length f.payload)) (length f.payload) in
+    let spells = spells-len_form_of f.form (length f.payload) owed.spellable.form owed.spellable.size in
+    let of_first = first_byte_fields f.fin f.op in
+    let of_second = second_byte_fields f.key (len_form_of f.form (length f.payload)) (length f.payload) spells in
+    let of_length = length_bytes_fields (len_form_of f.form (length f.payload)) (length f.payload) spells in
+    record {
+      by_first = first_shows_nothing f.fin f.op first of_first (λ control. (owed.control control).0);
+      by_second = second_shows_nothing role lengths f owed first second of_first.opcode_is of_second.mask_is of_second.field_is;
+      by_length = length_shows_nothing role lengths f owed (len_form_at second) bytes of_second.field_is (ap (λ g. length_told g bytes) of_second.field_is ∙ of_length.told);
     }
