@@ -21,6 +21,7 @@ pub fn read_whole<A: Allocator, R: Read>(
     ensures limit { result ≡ Err Fault.InputLimit → (came : List ℕ) × Consumes input.old.remaining input.new.remaining came × (limits.input < length came) }
     ensures not_yet { result ≢ Err Fault.NotYet }
     ensures write { result ≢ Err Fault.Write }
+    ensures in_range { InRange limits }
 {
     let most = limits.input();
     let mut came = Vec::new(alloc);

@@ -1,4 +1,5 @@
 pub mod Frame
 pub mod Layout
 pub mod Rows
+pub mod Sender
 pub mod Transfer

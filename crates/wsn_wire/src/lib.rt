@@ -6,6 +6,7 @@
 #![tactic(auto)]
 
 mod endpoint;
+pub mod laws;
 mod masking;
 mod opcode;
 mod reading;
