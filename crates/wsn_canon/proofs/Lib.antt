@@ -4,3 +4,4 @@ pub mod ShortLists
 pub mod ShortMeaning
 pub mod ShortFront
 pub mod ShortRun
+pub mod ShortNormal
