@@ -1,13 +1,7 @@
-// A library with one function.
+//! What each command of the program does, over any reader and writers.
 #![tactic(auto)]
 
-ghost use Rattle.std.specs.Prelude.{◌≡◌};
-ghost use Rattle.wsn_job.specs.Echo.{echo_of};
+mod faults;
+mod jobs;
 
-// The `ensures` clause is the contract: what `echo` returns is `echo_of` of its argument, a definition
-// in `specs/Echo.antt`, which a caller's clause can cite too.
-pub fn echo(x: usize) -> usize
-    ensures { result ≡ echo_of x }
-{
-    x
-}
+pub use jobs::{Job, run};

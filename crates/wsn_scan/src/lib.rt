@@ -5,4 +5,4 @@
 
 mod ceilings;
 
-pub use ceilings::Limits;
+pub use ceilings::{INPUT_MAX, Limits, MESSAGE_MAX};

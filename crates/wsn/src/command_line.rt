@@ -1,0 +1,135 @@
+use clap::builder::ValueParser;
+use clap::error::ErrorKind;
+use clap::{Arg, ArgAction, ArgMatches, Command, Error, value_parser};
+use std::alloc::{AllocError, Global};
+use wsn_job::Job;
+use wsn_scan::{INPUT_MAX, Limits, MESSAGE_MAX};
+use wsn_wire::{Lengths, Role};
+
+/// What the words of a command line ask for.
+#[derive(Drop)]
+pub enum Request {
+    /// Do this work over the standard streams.
+    Run(Job),
+    /// Show this text, which was asked for.
+    Help(String),
+}
+
+/// Why the words ask for nothing.
+#[derive(Drop)]
+pub enum Usage {
+    /// They break a rule of the command line: the text says which.
+    Clap(String),
+    /// They break a rule that the text of help doesn't tell.
+    Own,
+    /// Memory was refused.
+    Memory,
+}
+
+impl From<AllocError> for Usage {
+    fn from(_: AllocError) -> Self {
+        Usage::Memory
+    }
+}
+
+static ROLES: [&str; 2] = ["client", "server"];
+
+static SPELLINGS: [&str; 2] = ["shortest", "any"];
+
+/// `--role`, which each command wants, and `--limit`.
+fn with_role<'a>(alloc: Global, command: Command<'a>) -> Result<Command<'a>, AllocError> {
+    let role = Arg::new(alloc, "role")
+        .long("role")
+        .required(true)
+        .action(ArgAction::Set)
+        .value_parser(ROLES.as_slice())
+        .help("The endpoint that sent the stream");
+    let limit = Arg::new(alloc, "limit")
+        .long("limit")
+        .action(ArgAction::Set)
+        .value_parser(value_parser!(u32).range(0..16_777_217))
+        .value_name("BYTES")
+        .help("The most bytes of a message, 0 to 16777216 [default: 16777216]");
+    command.arg(role)?.arg(limit)
+}
+
+/// `--frames` and `--lengths`.
+fn with_limits<'a>(alloc: Global, command: Command<'a>) -> Result<Command<'a>, AllocError> {
+    let frames = Arg::new(alloc, "frames")
+        .long("frames")
+        .action(ArgAction::Set)
+        .value_parser(value_parser!(u32).range(1..))
+        .value_name("N")
+        .help("The most frames of a message, 1 to 4294967295 [default: any number]");
+    let lengths = Arg::new(alloc, "lengths")
+        .long("lengths")
+        .action(ArgAction::Set)
+        .value_parser(SPELLINGS.as_slice())
+        .default_value("shortest")
+        .help("Which spellings of a length are taken");
+    command.arg(frames)?.arg(lengths)
+}
+
+fn normal<'a>(alloc: Global) -> Result<Command<'a>, AllocError> {
+    let command = Command::new(alloc, "normal").about("Write a stream's normal form");
+    with_limits(alloc, with_role(alloc, command)?)
+}
+
+fn program<'a>(alloc: Global) -> Result<Command<'a>, AllocError> {
+    Command::new(alloc, "wsn")
+        .about("Read what one endpoint of a WebSocket connection sent")
+        .subcommand_required(true)
+        .subcommand(normal(alloc)?)
+}
+
+fn role_of(matches: &ArgMatches<'_>) -> Role {
+    match matches.get_str("role") {
+        Some("server") => Role::Server,
+        _ => Role::Client,
+    }
+}
+
+fn lengths_of(matches: &ArgMatches<'_>) -> Lengths {
+    match matches.get_str("lengths") {
+        Some("any") => Lengths::Any,
+        _ => Lengths::Shortest,
+    }
+}
+
+fn limits_of(matches: &ArgMatches<'_>) -> Option<Limits> {
+    let message = matches.get_one::<u32>("limit").unwrap_or(MESSAGE_MAX);
+    let limits = Limits::new(message, INPUT_MAX)?.with_lengths(lengths_of(matches));
+    match matches.get_one::<u32>("frames") {
+        Some(frames) => limits.with_frames(frames),
+        None => Some(limits),
+    }
+}
+
+/// What clap's error says: help that was asked for, or the rule that the words break.
+fn told(alloc: Global, error: &Error) -> Result<Request, Usage> {
+    if error.kind() == ErrorKind::OutOfMemory {
+        return Err(Usage::Memory);
+    }
+    let text = error.to_string(alloc)?;
+    if error.use_stderr() {
+        Err(Usage::Clap(text))
+    } else {
+        Ok(Request::Help(text))
+    }
+}
+
+/// What the words ask for, the program's name first: `normal --role client|server [--limit BYTES]
+/// [--frames N] [--lengths shortest|any]`.
+pub fn asked(alloc: Global, words: &[String]) -> Result<Request, Usage> {
+    let matches = match program(alloc)?.try_get_matches_from(words) {
+        Ok(matches) => matches,
+        Err(error) => return told(alloc, &error),
+    };
+    let Some(("normal", command)) = matches.subcommand() else {
+        return Err(Usage::Own);
+    };
+    match limits_of(command) {
+        Some(limits) => Ok(Request::Run(Job::Normal(role_of(command), limits))),
+        None => Err(Usage::Own),
+    }
+}
