@@ -133,3 +133,6 @@ pub fn asked(alloc: Global, words: &[String]) -> Result<Request, Usage> {
         None => Err(Usage::Own),
     }
 }
+
+#[cfg(test)]
+mod tests;

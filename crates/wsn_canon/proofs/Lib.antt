@@ -5,3 +5,4 @@ pub mod ShortMeaning
 pub mod ShortFront
 pub mod ShortRun
 pub mod ShortNormal
+pub mod ShortRefused

@@ -11,7 +11,7 @@ use Rattle.wsn_wire.specs.declared.opcode.Op.TheVariants.{Text, Binary}
 use Rattle.wsn_wire.specs.declared.spelling.Form.TheVariants as form
 use Rattle.wsn_wire.specs.declared.spelling.LenForm.{LenForm}
 use Rattle.wsn_wire.specs.declared.spelling.LenForm.TheVariants as len_form
-use Rattle.wsn_wire.specs.Frame.{Frame, IsBytes, IsKey, masked, first_byte, second_byte, len_form_of, length_bytes, key_bytes, wire_payload, frame_bytes, stream}
+use Rattle.wsn_wire.specs.Frame.{Frame, IsKey, IsSpellable, masked, head_bytes, first_byte, second_byte, len_form_of, length_bytes, key_bytes, wire_payload, frame_bytes, stream}
 use Rattle.wsn_wire.proofs.MaskLemmas.{length-masked, masked-zero}
 use Rattle.wsn_scan.specs.Bounds.{Bounds}
 use Rattle.wsn_scan.specs.Meaning.{meaning}
@@ -25,7 +25,7 @@ use Rattle.wsn_canon.proofs.ShortMeaning.{rekeyed, normal_form-short}
 abbrev pub Says : Op → ℕ → Type 0
 Says op first = ((op ≡ Text) × (first ≡ 129)) ⊎ ((op ≡ Binary) × (first ≡ 130))
 
-first_said : (op : Op) (first : ℕ) → Says op first → first_byte true op ≡ first
+pub first_said : (op : Op) (first : ℕ) → Says op first → first_byte true op ≡ first
 first_said op first says = elim says [
   | inl text ↦ ap (first_byte true) text.0 ∙ sym text.1
   | inr binary ↦ ap (first_byte true) binary.0 ∙ sym binary.1
@@ -42,13 +42,13 @@ flag Client (Some key) masks = refl
 flag Server None masks = refl
 flag Server (Some key) masks = let server : Server ≡ Client = masks.0 refl in cc
 
-counted : (role : Role) (key : Option (List ℕ)) → IsSome key ↔ (role ≡ Client) → IfSome key IsKey → length (key_bytes key) ≡ key_count role
+pub counted : (role : Role) (key : Option (List ℕ)) → IsSome key ↔ (role ≡ Client) → IfSome key IsKey → length (key_bytes key) ≡ key_count role
 counted Client None masks four = let none : false ≡ true = masks.1 refl in cc
 counted Client (Some key) masks four = four.0
 counted Server None masks four = refl
 counted Server (Some key) masks four = let server : Server ≡ Client = masks.0 refl in cc
 
-length-wire : (key : Option (List ℕ)) (payload : List ℕ) → length (wire_payload key payload) ≡ length payload
+pub length-wire : (key : Option (List ℕ)) (payload : List ℕ) → length (wire_payload key payload) ≡ length payload
 length-wire None payload = refl
 length-wire (Some key) payload = length-masked key 0 payload
 
@@ -72,7 +72,7 @@ short_form n small =
     ap (λ (b : Bool). cond b (len_form.Short n) (cond (ltb n 65536) len_form.Two len_form.Eight)) (lt-ltb n 126 below)
 
 -- the bytes of a short frame under a key that the role asks for
-frame-short : (role : Role) (op : Op) (key : Option (List ℕ)) (payload : List ℕ) → length payload ≤ 125 → IsSome key ↔ (role ≡ Client)
+pub frame-short : (role : Role) (op : Op) (key : Option (List ℕ)) (payload : List ℕ) → length payload ≤ 125 → IsSome key ↔ (role ≡ Client)
     → frame_bytes (record { fin = true; op = op; key = key; form = form.Shortest; payload = payload })
     ≡ first_byte true op ∷ (mask_flag role + length payload) ∷ (key_bytes key ++ wire_payload key payload)
 frame-short role op key payload small masks =
@@ -110,10 +110,16 @@ module _ (role : Role) (bounds : Bounds) (old written : List ℕ) (op : Op) (len
       let of_key : length (key_bytes key) ≡ key_count role = counted role key rekeys.masked rekeys.of_four in
       omega (arith, length-wire key payload)
 
-  pub rewrites_front : Says op (get_or old 0 0) → len ≤ 125 → mask_flag role + len ≡ get_or old 1 0 → len ≤ bounds.message → 2 + tail_size ≤ length old
-      → Rekeys role (take tail_size (drop 2 old)) written key payload → (op ≡ Text → AllByRecursion (λ b. b < 128) payload)
-      → RewritesFront role bounds old (put_mid 2 tail_size old written) (2 + tail_size)
-  rewrites_front says small second within enough rekeys ascii =
+  -- what is known of the front, once its sizes and key are
+  pub record Front : Type 0 where
+    pub spellable : IsSpellable found
+    pub size : length payload ≡ len
+    pub bytes : (k : Option (List ℕ)) → IsSome k ↔ (role ≡ Client)
+        → frame_bytes (record { fin = true; op = op; key = k; form = form.Shortest; payload = payload }) ≡ get_or old 0 0 ∷ get_or old 1 0 ∷ (key_bytes k ++ wire_payload k payload)
+    pub was : old ≡ frame_bytes found ++ drop (2 + tail_size) old
+
+  pub front_of : Says op (get_or old 0 0) → len ≤ 125 → mask_flag role + len ≡ get_or old 1 0 → 2 + tail_size ≤ length old → Rekeys role (take tail_size (drop 2 old)) written key payload → Front
+  front_of says small second enough rekeys =
       let size = payload_size enough rekeys in
       let two : 2 ≤ length old = omega arith in
       let payload_small : length payload ≤ 125 = omega arith in
@@ -123,26 +129,42 @@ module _ (role : Role) (bounds : Bounds) (old written : List ℕ) (op : Op) (len
       λ (k : Option (List ℕ)) (masks : IsSome k ↔ (role ≡ Client)). frame-short role op k payload payload_small masks
       ∙ ap (λ (a : ℕ). a ∷ (mask_flag role + length payload) ∷ (key_bytes k ++ wire_payload k payload)) (first_said op (get_or old 0 0) says)
       ∙ ap (λ (b : ℕ). get_or old 0 0 ∷ b ∷ (key_bytes k ++ wire_payload k payload)) second_is in
-      let short : IsShortMessage role bounds found = record {
+      let was_bytes : frame_bytes found ≡ head (take tail_size (drop 2 old)) = spelled key rekeys.masked ∙ ap head (sym rekeys.was) in
+      record {
         spellable = record { key = rekeys.of_four; payload = rekeys.in_bytes; size = omega arith; form = tt };
+        size = size;
+        bytes = spelled;
+        was = parted old tail_size two ∙ ap (λ (front : List ℕ). front ++ drop (2 + tail_size) old) (sym was_bytes);
+      }
+
+  pub rewrites_front : Says op (get_or old 0 0) → len ≤ 125 → mask_flag role + len ≡ get_or old 1 0 → len ≤ bounds.message → 2 + tail_size ≤ length old
+      → Rekeys role (take tail_size (drop 2 old)) written key payload → (op ≡ Text → AllByRecursion (λ b. b < 128) payload)
+      → RewritesFront role bounds old (put_mid 2 tail_size old written) (2 + tail_size)
+  rewrites_front says small second within enough rekeys ascii =
+      let front = front_of says small second enough rekeys in
+      let size = front.size in
+      let two : 2 ≤ length old = omega arith in
+      let head : List ℕ → List ℕ = λ (rest : List ℕ). get_or old 0 0 ∷ get_or old 1 0 ∷ rest in
+      let short : IsShortMessage role bounds found = record {
+        spellable = front.spellable;
         final = refl;
         message = message_said op (get_or old 0 0) says;
         masked = rekeys.masked;
         shortest = refl;
-        short = payload_small;
+        short = omega arith;
         within = omega arith;
         ascii = ascii;
       } in
-      let was_bytes : frame_bytes found ≡ head (take tail_size (drop 2 old)) = spelled key rekeys.masked ∙ ap head (sym rekeys.was) in
+      let was_bytes : frame_bytes found ≡ head (take tail_size (drop 2 old)) = front.bytes key rekeys.masked ∙ ap head (sym rekeys.was) in
       let normal : normal_form role (meaning (found ∷ [])) ≡ head written =
       normal_form-short role bounds (found ∷ []) (short, tt) ∙ append-nil (frame_bytes (rekeyed role found))
-      ∙ spelled (normal_key role) (normal_masks role)
+      ∙ front.bytes (normal_key role) (normal_masks role)
       ∙ ap (λ (wire : List ℕ). head (key_bytes (normal_key role) ++ wire)) (wire-normal role payload)
       ∙ ap head (sym rekeys.is) in
       record {
         frame = found;
         short = short;
-        was = parted old tail_size two ∙ ap (λ (front : List ℕ). front ++ drop (2 + tail_size) old) (sym was_bytes);
+        was = front.was;
         is = put_tail old written tail_size two ∙ ap (λ (front : List ℕ). front ++ drop (2 + tail_size) old) (sym normal);
         counted = let all : length (take tail_size (drop 2 old)) ≡ tail_size = omega (arith, length-take tail_size (drop 2 old), length-drop 2 old) in
             let of_frame : length (frame_bytes found) ≡ 2 + length (take tail_size (drop 2 old)) = ap length was_bytes ∙ (omega arith) in

@@ -4,6 +4,7 @@ ghost use Rattle.wsn_wire.specs.Frame.{Frame};
 ghost use Rattle.wsn_scan.specs.Accepted.{IsAccepted};
 ghost use Rattle.wsn_scan.specs.Meaning.{meaning};
 ghost use Rattle.wsn_canon.specs.NormalForm.{normal_form};
+ghost use Rattle.wsn_canon.specs.ShortMessages.{AreShortMessages};
 ghost use Rattle.wsn_canon.specs.Normalised.{ReadsAll, Normalises, WritesFront};
 
 use crate::short::rewrite;
@@ -45,6 +46,7 @@ pub fn normalise<A: Allocator, R: Read, W: Write>(
 
     ensures read { (result ≡ Err Fault.Read) ↔ (input.new.failed ≡ true) }
     ensures limit { result ≡ Err Fault.InputLimit → (came : List ℕ) × Consumes input.old.remaining input.new.remaining came × (limits.input < length came) }
+    ensures not_yet { result ≡ Err Fault.NotYet → (came : List ℕ) × ReadsAll input.old input.new came × (AreShortMessages role limits came → ⊥) }
     ensures write { (result ≡ Err Fault.Write) ↔ (output.new.failed ≡ true) }
 
     // What went out before each fault.

@@ -1,8 +1,8 @@
-ghost use Rattle.std.specs.Prelude.{◌≡◌, ℕ, ◌+◌, ◌<◌, ◌≤◌, true, false, List, length, drop, Option, MatchOption, IfSome, IsTrue, ◌↔◌, ◌⊎◌, ◌*◌, bit_and};
+ghost use Rattle.std.specs.Prelude.{◌≡◌, ℕ, ◌+◌, ◌<◌, ◌≤◌, true, false, List, length, drop, Option, MatchOption, IfSome, IfNone, IsTrue, ◌↔◌, ◌⊎◌, ◌*◌, bit_and};
 ghost use Rattle.std.specs.List.{AllByRecursion};
 ghost use Rattle.wsn_wire.specs.declared.opcode.Op.TheVariants.{Text, Binary};
 ghost use Rattle.wsn_wire.specs.Frame.{IsKey};
-ghost use Rattle.wsn_canon.specs.ShortMessages.{IsShortMessage};
+ghost use Rattle.wsn_canon.specs.ShortMessages.{AreShortMessages, HasNoneAtFront};
 ghost use Rattle.wsn_canon.specs.Rewriting.{RewritesAll, RewritesFront, Rekeys, mask_flag, key_count, first_key};
 
 use wsn_scan::Limits;
@@ -77,7 +77,8 @@ fn rekey(role: Role, tail: &mut [u8])
 /// Rewrites the frame at the front in its normal form if it is a short message, and answers its size in
 /// bytes. After `None` the bytes are of no use.
 fn rewrite_front(role: Role, limits: Limits, bytes: &mut [u8]) -> Option<usize>
-    ensures { IfSome result (RewritesFront role limits bytes.old bytes.new) }
+    ensures some { IfSome result (RewritesFront role limits bytes.old bytes.new) }
+    ensures none { IfNone result (HasNoneAtFront role limits bytes.old) }
 {
     if bytes.len() < 2 {
         return None;
@@ -86,7 +87,10 @@ fn rewrite_front(role: Role, limits: Limits, bytes: &mut [u8]) -> Option<usize>
     let len = short_length(role, bytes[1])?;
     let key = key_size(role);
     let size = 2 + key + usize::from(len);
-    if u32::from(len) > limits.message() || size > bytes.len() {
+    if u32::from(len) > limits.message() {
+        return None;
+    }
+    if bytes.len() < size {
         return None;
     }
     rekey(role, &mut bytes[2..size]);
@@ -100,7 +104,8 @@ fn rewrite_front(role: Role, limits: Limits, bytes: &mut [u8]) -> Option<usize>
 /// Rewrites short messages in their normal form, in place: it has the same length. False, and the bytes of
 /// no use, where they are not all short messages.
 pub fn rewrite(role: Role, limits: Limits, bytes: &mut [u8]) -> bool
-    ensures { result ≡ true → RewritesAll role limits bytes.old bytes.new }
+    ensures all { result ≡ true → RewritesAll role limits bytes.old bytes.new }
+    ensures other { result ≡ false → AreShortMessages role limits bytes.old → ⊥ }
 {
     let mut at = 0;
     while at < bytes.len() {

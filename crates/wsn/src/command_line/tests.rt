@@ -1,0 +1,73 @@
+use super::*;
+use std::process::Abort;
+use std::test::Fail;
+
+/// What a line's words ask for, parted by single spaces.
+fn asked_by(alloc: Global, line: &str) -> Result<Result<Request, Usage>, Fail> {
+    let mut words = Vec::new(alloc);
+    for word in line.split(' ') {
+        words.push(String::from_str(alloc, word)?)?;
+    }
+    Ok(asked(alloc, words.as_slice()))
+}
+
+fn expect_job(rt: &impl Abort, request: Result<Request, Usage>, role: Role) -> Limits {
+    let Ok(Request::Run(Job::Normal(found, limits))) = request else {
+        panic!(rt; "not a job");
+    };
+    assert_eq!(rt; found, role);
+    limits
+}
+
+#[test]
+fn normal_has_the_greatest_limits(rt: HostRuntime) -> Result<(), Fail> {
+    let asked = asked_by(rt.alloc(), "wsn normal --role client")?;
+    let limits = expect_job(&rt, asked, Role::Client);
+    assert_eq!(rt; limits.message(), 16_777_216);
+    assert_eq!(rt; limits.input(), 1_099_511_627_776);
+    assert_eq!(rt; limits.frames(), None);
+    assert_eq!(rt; limits.lengths(), Lengths::Shortest);
+    Ok(())
+}
+
+#[test]
+fn limits_are_as_spelled(rt: HostRuntime) -> Result<(), Fail> {
+    let line = "wsn normal --frames 4294967295 --role=server --lengths any --limit 0";
+    let asked = asked_by(rt.alloc(), line)?;
+    let limits = expect_job(&rt, asked, Role::Server);
+    assert_eq!(rt; limits.message(), 0);
+    assert_eq!(rt; limits.frames(), Some(4_294_967_295));
+    assert_eq!(rt; limits.lengths(), Lengths::Any);
+    Ok(())
+}
+
+#[test]
+fn other_words_are_refused(rt: HostRuntime) -> Result<(), Fail> {
+    let lines = [
+        "wsn",
+        "wsn normal",
+        "wsn normal --role both",
+        "wsn normal --role client --limit 16777217",
+        "wsn normal --role client --limit -1",
+        "wsn normal --role client --frames 0",
+        "wsn normal --role client --frames 4294967296",
+        "wsn normal --role client --lengths long",
+        "wsn normal --role client --role client",
+        "wsn normal --role client file",
+        "wsn other --role client",
+    ];
+    for line in lines {
+        let asked = asked_by(rt.alloc(), line)?;
+        assert!(rt; matches!(asked, Err(Usage::Clap(_))), "{line}");
+    }
+    Ok(())
+}
+
+#[test]
+fn help_is_shown(rt: HostRuntime) -> Result<(), Fail> {
+    for line in ["wsn --help", "wsn normal --help", "wsn help normal"] {
+        let asked = asked_by(rt.alloc(), line)?;
+        assert!(rt; matches!(asked, Ok(Request::Help(_))), "{line}");
+    }
+    Ok(())
+}
