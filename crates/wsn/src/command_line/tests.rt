@@ -11,18 +11,18 @@ fn asked_by(alloc: Global, line: &str) -> Result<Result<Request, Usage>, Fail> {
     Ok(asked(alloc, words.as_slice()))
 }
 
-fn expect_job(rt: &impl Abort, request: Result<Request, Usage>, role: Role) -> Limits {
-    let Ok(Request::Run(Job::Normal(found, limits))) = request else {
-        panic!(rt; "not a job");
-    };
-    assert_eq!(rt; found, role);
-    limits
+fn job_of(rt: &impl Abort, request: Result<Request, Usage>) -> Job {
+    match request {
+        Ok(Request::Run(job)) => job,
+        _ => panic!(rt; "not a job"),
+    }
 }
 
 #[test]
 fn normal_has_the_greatest_limits(rt: HostRuntime) -> Result<(), Fail> {
     let asked = asked_by(rt.alloc(), "wsn normal --role client")?;
-    let limits = expect_job(&rt, asked, Role::Client);
+    let Job::Normal(role, limits) = job_of(&rt, asked);
+    assert_eq!(rt; role, Role::Client);
     assert_eq!(rt; limits.message(), 16_777_216);
     assert_eq!(rt; limits.input(), 1_099_511_627_776);
     assert_eq!(rt; limits.frames(), None);
@@ -34,7 +34,8 @@ fn normal_has_the_greatest_limits(rt: HostRuntime) -> Result<(), Fail> {
 fn limits_are_as_spelled(rt: HostRuntime) -> Result<(), Fail> {
     let line = "wsn normal --frames 4294967295 --role=server --lengths any --limit 0";
     let asked = asked_by(rt.alloc(), line)?;
-    let limits = expect_job(&rt, asked, Role::Server);
+    let Job::Normal(role, limits) = job_of(&rt, asked);
+    assert_eq!(rt; role, Role::Server);
     assert_eq!(rt; limits.message(), 0);
     assert_eq!(rt; limits.frames(), Some(4_294_967_295));
     assert_eq!(rt; limits.lengths(), Lengths::Any);
