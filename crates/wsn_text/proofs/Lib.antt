@@ -1,1 +1,7 @@
 pub mod Ascii
+pub mod Rests
+pub mod Scalars
+pub mod Decide
+pub mod Fronts
+pub mod Taking
+pub mod States

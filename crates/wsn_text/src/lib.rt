@@ -4,4 +4,11 @@
 //! may hold.
 #![tactic(auto)]
 
+mod codes;
 pub mod laws;
+mod pieces;
+#[cfg(test)]
+mod tests;
+
+pub use codes::code_allowed;
+pub use pieces::Utf8;
