@@ -1,3 +1,5 @@
+pub mod ByteLemmas
 pub mod FrameLemmas
 pub mod HeadLemmas
 pub mod MaskLemmas
+pub mod RowLemmas

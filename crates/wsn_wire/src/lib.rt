@@ -6,6 +6,7 @@
 #![tactic(auto)]
 
 mod endpoint;
+mod heads;
 pub mod laws;
 mod opcode;
 mod reading;
@@ -14,6 +15,7 @@ mod spelling;
 mod writing;
 
 pub use endpoint::Role;
+pub use heads::{FirstByte, first};
 pub use opcode::{Kind, Op};
 pub use reading::Input;
 pub use refusal::Reason;
