@@ -2,4 +2,3 @@ pub mod ByteLemmas
 pub mod FrameLemmas
 pub mod HeadLemmas
 pub mod MaskLemmas
-pub mod RowLemmas

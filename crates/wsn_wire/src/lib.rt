@@ -15,7 +15,7 @@ mod spelling;
 mod writing;
 
 pub use endpoint::Role;
-pub use heads::{FirstByte, first};
+pub use heads::{FirstByte, eight, first, head, head_as, second, two};
 pub use opcode::{Kind, Op};
 pub use reading::Input;
 pub use refusal::Reason;

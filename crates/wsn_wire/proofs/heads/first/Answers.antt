@@ -4,13 +4,20 @@ use Rattle.wsn_wire.specs.Rows.{IsReserved}
 use Rattle.wsn_wire.proofs.ByteLemmas.{opcode_mask, top_mask, reserved_clear, reserved_set}
 use Rattle.wsn_wire.proofs.FrameLemmas.{IsFirstByteOf}
 use Rattle.wsn_wire.proofs.HeadLemmas.{first_byte-parts, first_shows_nothing}
-use Rattle.wsn_wire.proofs.RowLemmas.{first_least}
 use Rattle.wsn_wire.proofs.heads.first.Goals as goal
+
+-- a reason that the byte shows has at least the number n, if the rows below n are not shown
+least_shown : (byte n : ℕ) → (ShownByFirst ReservedBits byte → n ≤ 1) → (ShownByFirst ReservedOpcode byte → n ≤ 2) →
+    n ≤ 3 → (r : Reason) → ShownByFirst r byte → n ≤ number_of r
+least_shown byte n bits opcode final ReservedBits shown = bits shown
+least_shown byte n bits opcode final ReservedOpcode shown = opcode shown
+least_shown byte n bits opcode final ControlNotFinal shown = final
+least_shown byte n bits opcode final _ shown = absurd shown
 
 pub returns-then-b-ne0-clause-refused : goal.returns-then-b-ne0-clause-refused
 returns-then-b-ne0-clause-refused c = record {
   shown = reserved_set c.args.b (omega arith) c.if-b-ne0.true;
-  least = first_least c.args.b 1 (λ _. omega arith) (λ _. omega arith) (omega arith);
+  least = least_shown c.args.b 1 (λ _. omega arith) (λ _. omega arith) (omega arith);
 }
 
 pub returns-in_default-clause-refused : goal.returns-in_default-clause-refused
@@ -18,7 +25,7 @@ returns-in_default-clause-refused c =
     let clear = reserved_clear c.args.b (omega arith) c.if-b-ne0.false in
     record {
       shown = subst IsReserved (opcode_mask c.args.b) c.in_default.ensures.reserved;
-      least = first_least c.args.b 2 (λ shown. omega (arith, shown, clear)) (λ _. omega arith) (omega arith);
+      least = least_shown c.args.b 2 (λ shown. omega (arith, shown, clear)) (λ _. omega arith) (omega arith);
     }
 
 fields : (c : goal.After-result-1) → IsFirstByteOf (not (nat_eq (bit_and c.args.b 128) 0)) c.in-Some.op c.args.b
