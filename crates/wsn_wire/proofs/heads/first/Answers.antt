@@ -1,6 +1,9 @@
-use Rattle.std.proofs.Common.{not, nat_eq, bit_and, arith, sym, ◌∙◌, ap, subst, inl, inr}
+use Rattle.std.proofs.Common.{◌≡◌, ℕ, ◌≤◌, not, nat_eq, bit_and, arith, sym, ◌∙◌, ap, subst, inl, inr}
 use Rattle.std.proofs.lemmas.Bool.{ne_eqb, false≢true}
-use Rattle.wsn_wire.specs.Rows.{IsReserved}
+use Rattle.wsn_wire.specs.declared.refusal.Reason.{Reason}
+use Rattle.wsn_wire.specs.declared.refusal.Reason.TheVariants.{ReservedBits, ReservedOpcode, ControlNotFinal}
+use Rattle.wsn_wire.specs.Refusal.{number_of}
+use Rattle.wsn_wire.specs.Rows.{IsReserved, ShownByFirst}
 use Rattle.wsn_wire.proofs.ByteLemmas.{opcode_mask, top_mask, reserved_clear, reserved_set}
 use Rattle.wsn_wire.proofs.FrameLemmas.{IsFirstByteOf}
 use Rattle.wsn_wire.proofs.HeadLemmas.{first_byte-parts, first_shows_nothing}
