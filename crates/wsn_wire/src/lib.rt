@@ -8,6 +8,7 @@
 mod endpoint;
 mod heads;
 pub mod laws;
+mod masking;
 mod opcode;
 mod reading;
 mod refusal;
@@ -16,6 +17,7 @@ mod writing;
 
 pub use endpoint::Role;
 pub use heads::{FirstByte, eight, first, head, head_as, second, two};
+pub use masking::mask;
 pub use opcode::{Kind, Op};
 pub use reading::Input;
 pub use refusal::Reason;

@@ -1,4 +1,4 @@
-use Rattle.std.proofs.Common.{◌≡◌, ℕ, ◌≤◌, not, nat_eq, bit_and, arith, sym, ◌∙◌, ap, subst, inl, inr}
+use Rattle.std.proofs.Common.{ℕ, ◌≤◌, not, nat_eq, bit_and, arith, sym, ◌∙◌, ap, subst, inl, inr}
 use Rattle.std.proofs.lemmas.Bool.{ne_eqb, false≢true}
 use Rattle.wsn_wire.specs.declared.refusal.Reason.{Reason}
 use Rattle.wsn_wire.specs.declared.refusal.Reason.TheVariants.{ReservedBits, ReservedOpcode, ControlNotFinal}
