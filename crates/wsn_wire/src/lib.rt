@@ -13,6 +13,8 @@ mod opcode;
 mod reading;
 mod refusal;
 mod spelling;
+#[cfg(test)]
+mod tests;
 mod writing;
 
 pub use endpoint::Role;

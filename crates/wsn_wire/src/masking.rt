@@ -37,7 +37,7 @@ fn key_lanes(key: [u8; 4], start: u64) -> u8x32
 }
 
 // The same as `mask`, byte by byte.
-fn mask_each(key: [u8; 4], start: u64, bytes: &mut [u8])
+pub(crate) fn mask_each(key: [u8; 4], start: u64, bytes: &mut [u8])
     requires { start + length bytes.old < 2 ^ 64 }
     ensures { bytes.new ≡ masked key start bytes.old }
 {
