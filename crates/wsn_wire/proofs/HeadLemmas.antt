@@ -2,7 +2,7 @@
 use Rattle.std.proofs.Common.{◌≡◌, ℕ, ◌%◌, ◌<◌, ◌≤◌, ◌^◌, Bool, true, false, Option, List, ◌∷◌, ◌++◌, length, refl, ap, sym, ◌∙◌, arith, inl, inr, if◌then◌else◌, subst}
 use Rattle.std.specs.Prelude.{is_some, ◌↔◌, IfSome}
 use Rattle.std.specs.Int.{from_be_bytes, w16, w64}
-use Rattle.std.proofs.lemmas.Bool.{lt-ltb, le-ltb, lt-leb, le-leb, cases_lt, cases_eq, eq-eqb, ne_eqb, false≢true}
+use Rattle.std.proofs.lemmas.Bool.{lt-ltb, le-ltb, lt-leb, le-leb, leb-true, leb-false, cases_lt, cases_eq, eq-eqb, ne_eqb, false≢true}
 use Rattle.std.proofs.lemmas.List.{append_assoc, nil_from_length}
 use Rattle.std.proofs.lemmas.Nat.{be_bytes_2, be_bytes_8}
 use Rattle.wsn_wire.specs.declared.opcode.Op.{Op}
@@ -307,7 +307,7 @@ below_top (len_form.Short n) len below top = top
 below_top len_form.Two len below top = top
 below_top len_form.Eight len below top = omega arith
 
-first_shows_nothing : (fin : Bool) (op : Op) (first : ℕ) → IsFirstByteOf fin op first → (is_control op ≡ true → fin ≡ true) → (r : Reason) → ShownByFirst r first → ⊥
+pub first_shows_nothing : (fin : Bool) (op : Op) (first : ℕ) → IsFirstByteOf fin op first → (is_control op ≡ true → fin ≡ true) → (r : Reason) → ShownByFirst r first → ⊥
 first_shows_nothing fin op first fields final ReservedBits shown = omega (arith, shown, fields.unreserved)
 first_shows_nothing fin op first fields final ReservedOpcode shown = unreserved_opcode op (subst IsReserved fields.opcode_is shown)
 first_shows_nothing fin op first fields final ControlNotFinal shown =
@@ -315,7 +315,7 @@ first_shows_nothing fin op first fields final ControlNotFinal shown =
     false≢true (sym shown.1 ∙ (fields.fin_is ∙ is_final))
 first_shows_nothing fin op first fields final _ shown = shown
 
-second_shows_nothing : (role : Role) (lengths : Lengths) (f : Frame) → IsSpelledFor role lengths f → (first second : ℕ) →
+pub second_shows_nothing : (role : Role) (lengths : Lengths) (f : Frame) → IsSpelledFor role lengths f → (first second : ℕ) →
     opcode_field first ≡ opcode f.op → mask_bit second ≡ is_some f.key → len_form_at second ≡ len_form_of f.form (length f.payload) →
     (r : Reason) → ShownBySecond role r first second → ⊥
 second_shows_nothing role lengths f owed first second op mask field MaskMissing shown = false≢true (sym shown.1 ∙ (mask ∙ owed.masked.1 shown.0))
@@ -334,7 +334,7 @@ second_shows_nothing role lengths f owed first second op mask field CloseOneByte
     owed.close is_close ((short_is (length f.payload) law.1).1 1 (sym spelled ∙ shown.1))
 second_shows_nothing role lengths f owed first second op mask field _ shown = shown
 
-length_shows_nothing : (role : Role) (lengths : Lengths) (f : Frame) → IsSpelledFor role lengths f → (g : LenForm) (bytes : List ℕ) →
+pub length_shows_nothing : (role : Role) (lengths : Lengths) (f : Frame) → IsSpelledFor role lengths f → (g : LenForm) (bytes : List ℕ) →
     g ≡ len_form_of f.form (length f.payload) → length_told g bytes ≡ length f.payload →
     (r : Reason) → ShownByLength lengths r g bytes → ⊥
 length_shows_nothing role lengths f owed g bytes field told LengthTopBit shown = below_top g (length f.payload) owed.spellable.size (subst (λ n. HasTopBit g n) told shown)
@@ -361,3 +361,8 @@ frame_shows_nothing role lengths f owed =
       by_second = second_shows_nothing role lengths f owed first second of_first.opcode_is of_second.mask_is of_second.field_is;
       by_length = length_shows_nothing role lengths f owed (len_form_at second) bytes of_second.field_is (ap (λ g. length_told g bytes) of_second.field_is ∙ of_length.told);
     }
+
+-- a byte is what its fields are put together to
+pub first_byte-parts : (fin : Bool) (op : Op) (byte : ℕ) → IsFirstByteOf fin op byte → byte ≡ first_byte fin op
+first_byte-parts false op byte fields = let low : byte < 128 = leb-false 128 byte fields.fin_is in omega (arith, fields.unreserved, fields.opcode_is)
+first_byte-parts true op byte fields = let high : 128 ≤ byte = leb-true 128 byte fields.fin_is in omega (arith, fields.unreserved, fields.opcode_is, fields.below)

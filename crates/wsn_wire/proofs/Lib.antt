@@ -1,3 +1,4 @@
+pub mod ByteLemmas
 pub mod FrameLemmas
 pub mod HeadLemmas
 pub mod MaskLemmas

@@ -1,7 +1,13 @@
 -- Masking: of joined bytes, twice, by a key of zeros, and what it keeps.
 use Rattle.std.proofs.Common.{◌≡◌, ℕ, zero, suc, ◌+◌, ◌%◌, ◌<◌, List, [], ◌∷◌, ◌++◌, length, refl, ap, arith, get_or, add-zero}
+use Rattle.std.proofs.Common.{◌-◌, ◌∙◌, sym, take, drop, ◌≤◌, slice_set, replicate}
+use Rattle.std.proofs.lemmas.List.{length-take-le, drop_more, get_or_at, set_at, append_assoc, drop_at, take_at, drop-drop, length-drop, length-append, take_rest, drop_all, take-append-drop, append-nil}
+use borrow.Rule.Slice.PartMut.{put_mid}
+use Rattle.std.specs.Simd.Lanes.{zip2, chunk, put_chunk}
+use Rattle.std.proofs.lemmas.Simd.{put_chunk_is}
+use lib.Seq.{take-add}
 use Rattle.std.specs.List.{AllByRecursion, slice_index}
-use Rattle.std.specs.Int.Bits.{bit_xor, xor_assoc, xor_self, xor_zero_r}
+use Rattle.std.specs.Int.Bits.{bit_xor, xor_assoc, xor_self, xor_zero_r, xor_zero_l}
 use Rattle.std.proofs.lemmas.Nat.{xor_of_8}
 use Rattle.wsn_wire.specs.Frame.{masked, IsBytes}
 
@@ -44,3 +50,94 @@ masked-bytes key start [] of_key all = all
 masked-bytes key start (b ∷ bs) of_key all =
     let part : get_or key (start % 4) 0 < 256 = at-All (λ n. n < 256) (omega arith) key of_key (start % 4) in
     (xor_of_8 b (get_or key (start % 4) 0) all.0 part, masked-bytes key (start + 1) bs of_key all.1)
+
+-- ---- in place: the bytes at the front are masked, the others are as they were
+
+abbrev pub masked_front : List ℕ → ℕ → List ℕ → ℕ → List ℕ
+masked_front key start bytes count = masked key start (take count bytes) ++ drop count bytes
+
+length-front : (key : List ℕ) (start : ℕ) (bytes : List ℕ) (count : ℕ) → count ≤ length bytes → length (masked key start (take count bytes)) ≡ count
+length-front key start bytes count within = length-masked key start (take count bytes) ∙ length-take-le count bytes within
+
+-- some bytes more, whatever they are
+masked_front-append : (key : List ℕ) (start : ℕ) (bytes : List ℕ) (at count : ℕ) → at ≤ length bytes →
+    masked_front key start bytes (at + count) ≡ masked key start (take at bytes) ++ (masked key (start + at) (take count (drop at bytes)) ++ drop (at + count) bytes)
+masked_front-append key start bytes at count within =
+    let front = take at bytes in
+    let more = take count (drop at bytes) in
+    let place : start + length front ≡ start + at = ap (λ n. start + n) (length-take-le at bytes within) in
+    let joined : masked key start (take (at + count) bytes) ≡ masked key start front ++ masked key (start + at) more =
+    ap (λ bs. masked key start bs) (take-add at count bytes) ∙ (masked-append key start front more ∙ ap (λ n. masked key start front ++ masked key n more) place) in
+    ap (λ bs. bs ++ drop (at + count) bytes) joined ∙ append_assoc (masked key start front) (masked key (start + at) more) (drop (at + count) bytes)
+
+-- one byte more
+pub masked_front-set : (key : List ℕ) (start : ℕ) (bytes : List ℕ) (i : ℕ) → i < length bytes →
+    slice_set (masked_front key start bytes i) i (bit_xor (get_or (masked_front key start bytes i) i 0) (get_or key ((start + i) % 4) 0)) ≡ masked_front key start bytes (i + 1)
+masked_front-set key start bytes i within =
+    let front = masked key start (take i bytes) in
+    let front_length = length-front key start bytes i (omega arith) in
+    let rest : drop i bytes ≡ get_or bytes i 0 ∷ drop (i + 1) bytes = drop_more bytes i 0 within in
+    let whole : front ++ drop i bytes ≡ front ++ get_or bytes i 0 ∷ drop (i + 1) bytes = ap (λ bs. front ++ bs) rest in
+    let read : get_or (front ++ drop i bytes) i 0 ≡ get_or bytes i 0 = ap (λ bs. get_or bs i 0) whole ∙ get_or_at front (get_or bytes i 0) (drop (i + 1) bytes) 0 i front_length in
+    let byte = bit_xor (get_or bytes i 0) (get_or key ((start + i) % 4) 0) in
+    let written : slice_set (front ++ drop i bytes) i byte ≡ front ++ byte ∷ drop (i + 1) bytes =
+    ap (λ bs. slice_set bs i byte) whole ∙ set_at front (get_or bytes i 0) (drop (i + 1) bytes) byte i front_length in
+    let one : take 1 (drop i bytes) ≡ get_or bytes i 0 ∷ [] = ap (λ bs. take 1 bs) rest in
+    let more : masked_front key start bytes (i + 1) ≡ front ++ byte ∷ drop (i + 1) bytes =
+    masked_front-append key start bytes i 1 (omega arith) ∙ ap (λ bs. front ++ (masked key (start + i) bs ++ drop (i + 1) bytes)) one in
+    rw read (written ∙ sym more)
+
+-- ---- by vectors
+
+-- four bytes on, the key is the same
+pub masked-round : (key : List ℕ) (start at : ℕ) (bytes : List ℕ) → at % 4 ≡ 0 → masked key (start + at) bytes ≡ masked key start bytes
+masked-round key start at [] round = refl
+masked-round key start at (b ∷ bs) round =
+    let same : (start + at) % 4 ≡ start % 4 = omega arith in
+    let next : start + at + 1 ≡ start + 1 + at = omega arith in
+    rw (same, next) (ap (λ bytes. bit_xor b (get_or key (start % 4) 0) ∷ bytes) (masked-round key (start + 1) at bs round))
+
+-- zeros, masked, are the key bytes that mask
+pub zip2-masked : (key : List ℕ) (start : ℕ) (bytes : List ℕ) → zip2 bit_xor bytes (masked key start (replicate (length bytes) 0)) ≡ masked key start bytes
+zip2-masked key start [] = refl
+zip2-masked key start (b ∷ bs) = rw (xor_zero_l (get_or key (start % 4) 0)) (ap (λ bytes. bit_xor b (get_or key (start % 4) 0) ∷ bytes) (zip2-masked key (start + 1) bs))
+
+-- a block more
+pub masked_front-put_chunk : (key : List ℕ) (start : ℕ) (bytes : List ℕ) (at : ℕ) → at + 32 ≤ length bytes → at % 4 ≡ 0 →
+    put_chunk at (masked_front key start bytes at) (zip2 bit_xor (chunk at 32 (masked_front key start bytes at)) (masked key start (replicate 32 0)))
+    ≡ masked_front key start bytes (at + 32)
+masked_front-put_chunk key start bytes at within round =
+    let front = masked key start (take at bytes) in
+    let front_length = length-front key start bytes at (omega arith) in
+    let now = masked_front key start bytes at in
+    let block = take 32 (drop at bytes) in
+    let block_length : length block ≡ 32 = length-take-le 32 (drop at bytes) (rw length-drop (omega arith)) in
+    let behind : drop at now ≡ drop at bytes = drop_at front (drop at bytes) at front_length in
+    let masked_block : zip2 bit_xor (chunk at 32 now) (masked key start (replicate 32 0)) ≡ masked key start block =
+    ap (λ bs. zip2 bit_xor (take 32 bs) (masked key start (replicate 32 0))) behind
+    ∙ (ap (λ n. zip2 bit_xor block (masked key start (replicate n 0))) (sym block_length) ∙ zip2-masked key start block) in
+    let masked_length : length (masked key start block) ≡ 32 = length-masked key start block ∙ block_length in
+    let now_length : length now ≡ length bytes = omega (arith, length-append front (drop at bytes), length-drop at bytes, front_length) in
+    let written : put_chunk at now (masked key start block) ≡ front ++ (masked key start block ++ drop (at + 32) bytes) =
+    put_chunk_is at now (masked key start block) (omega (arith, now_length, masked_length))
+    ∙ (λ i. take_at front (drop at bytes) at front_length i ++ (masked key start block ++ drop (masked_length i) (behind i)))
+    ∙ ap (λ bs. front ++ (masked key start block ++ bs)) (drop-drop 32 at bytes) in
+    ap (λ bs. put_chunk at now bs) masked_block
+    ∙ (written ∙ sym (masked_front-append key start bytes at 32 (omega arith) ∙ ap (λ bs. front ++ (bs ++ drop (at + 32) bytes)) (masked-round key start at block round)))
+
+-- all that is left
+pub masked_front-rest : (key : List ℕ) (start : ℕ) (bytes now rest : List ℕ) (at : ℕ) → at ≤ length bytes → now ≡ masked_front key start bytes at →
+    rest ≡ masked key (start + at) (take (length now - at) (drop at now)) → put_mid at (length now - at) now rest ≡ masked key start bytes
+masked_front-rest key start bytes now rest at within is rest_is =
+    let front = masked key start (take at bytes) in
+    let front_length = length-front key start bytes at within in
+    let behind : drop at now ≡ drop at bytes = ap (λ bs. drop at bs) is ∙ drop_at front (drop at bytes) at front_length in
+    let before : take at now ≡ front = ap (λ bs. take at bs) is ∙ take_at front (drop at bytes) at front_length in
+    let rest_all : rest ≡ masked key (start + at) (drop at bytes) =
+    rest_is ∙ ap (λ bs. masked key (start + at) bs) (take_rest now at ∙ behind) in
+    let nothing : drop (length now - at) (drop at now) ≡ [] = drop_all (length now - at) (drop at now) (rw length-drop (omega arith)) in
+    let place : start + length (take at bytes) ≡ start + at = ap (λ n. start + n) (length-take-le at bytes within) in
+    let whole : masked key start bytes ≡ front ++ masked key (start + at) (drop at bytes) =
+    ap (λ bs. masked key start bs) (sym (take-append-drop at bytes))
+    ∙ (masked-append key start (take at bytes) (drop at bytes) ∙ ap (λ n. front ++ masked key n (drop at bytes)) place) in
+    (λ i. before i ++ (rest_all i ++ nothing i)) ∙ (ap (λ bs. front ++ bs) (append-nil (masked key (start + at) (drop at bytes))) ∙ sym whole)

@@ -6,15 +6,19 @@
 #![tactic(auto)]
 
 mod endpoint;
+mod heads;
 pub mod laws;
 mod masking;
 mod opcode;
 mod reading;
 mod refusal;
 mod spelling;
+#[cfg(test)]
+mod tests;
 mod writing;
 
 pub use endpoint::Role;
+pub use heads::{FirstByte, eight, first, head, head_as, second, two};
 pub use masking::mask;
 pub use opcode::{Kind, Op};
 pub use reading::Input;

@@ -1,15 +1,47 @@
-ghost use Rattle.std.specs.Prelude.{◌≡◌, ℕ, ◌+◌, ◌^◌, ◌<◌, length};
+//! Masking (RFC 6455 section 5.3).
+ghost use Rattle.std.specs.Prelude.{◌≡◌, ℕ, ◌+◌, ◌≤◌, ◌<◌, ◌^◌, length, replicate};
 ghost use Rattle.wsn_wire.specs.Frame.{masked};
 
-/// Masks or unmasks a payload's bytes in place (RFC 6455 section 5.3): byte `i` becomes itself XOR byte
-/// `(start + i) mod 4` of the key. `start` is the offset of the first of them in the frame's payload.
+use std::simd::prelude::*;
+
+/// Masks a piece of a payload, or unmasks it: byte i XOR key byte `(start + i) % 4` (RFC 6455 section 5.3).
+/// `start` is the piece's offset in the payload.
 pub fn mask(key: [u8; 4], start: u64, bytes: &mut [u8])
     requires { start + length bytes.old < 2 ^ 64 }
     ensures { bytes.new ≡ masked key start bytes.old }
 {
+    if bytes.len() < BLOCK {
+        mask_each(key, start, bytes);
+        return;
+    }
+    let lanes = key_lanes(key, start);
     let mut at = 0;
-    while at < bytes.len() {
-        bytes[at] ^= key[((start + at as u64) % 4) as usize];
-        at += 1;
+    while bytes.len() - at >= BLOCK {
+        let block = u8x32::from_slice(&bytes[at..]) ^ lanes;
+        block.copy_to_slice(&mut bytes[at..]);
+        at += BLOCK;
+    }
+    mask_each(key, start + at as u64, &mut bytes[at..]);
+}
+
+const BLOCK: usize = 32;
+
+// The key bytes for a block of bytes that begins at `start`.
+fn key_lanes(key: [u8; 4], start: u64) -> u8x32
+    requires { start + BLOCK < 2 ^ 64 }
+    ensures { result ≡ masked key start (replicate BLOCK 0) }
+{
+    let mut lanes = [0; BLOCK];
+    mask_each(key, start, &mut lanes);
+    u8x32::from_array(lanes)
+}
+
+// The same as `mask`, byte by byte.
+pub(crate) fn mask_each(key: [u8; 4], start: u64, bytes: &mut [u8])
+    requires { start + length bytes.old < 2 ^ 64 }
+    ensures { bytes.new ≡ masked key start bytes.old }
+{
+    for i in 0..bytes.len() {
+        bytes[i] ^= key[((start + i as u64) % 4) as usize];
     }
 }

@@ -1,3 +1,7 @@
+ghost use Rattle.std.specs.Prelude.{◌≡◌, ◌<◌, IfNone, IfSome};
+ghost use Rattle.wsn_wire.specs.Frame.{opcode, is_control};
+ghost use Rattle.wsn_wire.specs.Rows.{IsReserved};
+
 /// What a frame is, by its opcode (RFC 6455 section 5.2). The opcodes 3 to 7 and 11 to 15 are reserved.
 #[derive(Clone, Copy, Debug, PartialEq, Eq)]
 pub enum Op {
@@ -7,6 +11,35 @@ pub enum Op {
     Close = 8,
     Ping = 9,
     Pong = 10,
+}
+
+impl Op {
+    // `None` for the reserved opcodes.
+    pub(crate) fn from_opcode(n: u8) -> Option<Op>
+        requires { n < 16 }
+        ensures known { IfSome result (λ op. opcode op ≡ n) }
+        ensures reserved { IfNone result (IsReserved n) }
+    {
+        match n {
+            0 => Some(Op::Continue),
+            1 => Some(Op::Text),
+            2 => Some(Op::Binary),
+            8 => Some(Op::Close),
+            9 => Some(Op::Ping),
+            10 => Some(Op::Pong),
+            _ => None,
+        }
+    }
+
+    // Close, Ping and Pong are control frames (RFC 6455 section 5.5).
+    pub(crate) fn is_control(self) -> bool
+        ensures { result ≡ is_control self }
+    {
+        match self {
+            Op::Close | Op::Ping | Op::Pong => true,
+            Op::Continue | Op::Text | Op::Binary => false,
+        }
+    }
 }
 
 /// What a message holds (RFC 6455 section 5.6).

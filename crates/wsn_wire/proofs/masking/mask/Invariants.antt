@@ -1,13 +1,14 @@
-use Rattle.std.proofs.Common.{◌≡◌, ◌≤◌, ◌+◌, ◌-◌, ◌++◌, length, take, drop}
-use Rattle.wsn_wire.specs.Frame.{masked}
+use Rattle.std.proofs.Common.{◌≡◌, ◌≤◌, ◌%◌, ◌-◌, length}
+use Rattle.wsn_wire.proofs.MaskLemmas.{masked_front}
 use Rattle.wsn_wire.proofs.masking.mask.Given as goal
 
--- what is done is the front, and the rest is still to be masked
-abbrev pub invariant-loop-at : goal.invariant-loop-at
-invariant-loop-at l = record {
+-- the bytes before `at` are masked, the others are as they were
+abbrev pub invariant-loop-bytes : goal.invariant-loop-bytes
+invariant-loop-bytes l = record {
   within : l.at ≤ length l.bytes;
-  so_far : masked l.key l.start l.fn.bytes ≡ take l.at l.bytes ++ masked l.key (l.start + l.at) (drop l.at l.bytes);
+  round : l.at % 4 ≡ 0;
+  front : l.bytes ≡ masked_front l.key l.start l.initial.bytes l.at;
 }
 
-abbrev pub decreases-loop-at : goal.decreases-loop-at
-decreases-loop-at l = length l.bytes - l.at
+abbrev pub decreases-loop-bytes : goal.decreases-loop-bytes
+decreases-loop-bytes l = length l.bytes - l.at

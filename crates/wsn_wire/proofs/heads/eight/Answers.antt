@@ -1,0 +1,6 @@
+use Rattle.std.proofs.Common.{rules, sym}
+use Rattle.std.proofs.lemmas.Nat.{be_bytes_8}
+use Rattle.wsn_wire.proofs.heads.eight.Goals as goal
+
+pub returns-clause-read : goal.returns-clause-read
+returns-clause-read c = sym (be_bytes_8 c.args.b c.from_be_bytes-len.result (search rules) (search rules) c.from_be_bytes-len.ensures)

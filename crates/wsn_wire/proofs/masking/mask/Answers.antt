@@ -1,0 +1,25 @@
+use Rattle.std.proofs.Common.{◌∙◌, ap, arith, take, drop, bit_xor}
+use Rattle.std.specs.Simd.Lanes.{zip2, put_chunk}
+use Rattle.std.proofs.lemmas.Simd.{length-put_chunk}
+use Rattle.wsn_wire.proofs.MaskLemmas.{masked_front, masked_front-put_chunk, masked_front-rest}
+use Rattle.wsn_wire.proofs.masking.mask.Goals as goal
+
+pub loop-bytes-preserved : goal.loop-bytes-preserved
+loop-bytes-preserved c =
+    let key = c.args.key in
+    let start = c.args.start in
+    let at = c.loop-bytes.at in
+    let known = c.loop-bytes.invariant in
+    record {
+      within = simp length-put_chunk (omega arith);
+      round = omega arith;
+      front =
+          ap (λ bytes. put_chunk at bytes (zip2 bit_xor (take 32 (drop at bytes)) c.key_lanes-lanes.result)) known.front
+          ∙ (ap (λ lanes. put_chunk at (masked_front key start c.args.bytes.now at) (zip2 bit_xor (take 32 (drop at (masked_front key start c.args.bytes.now at))) lanes)) c.key_lanes-lanes.ensures
+          ∙ masked_front-put_chunk key start c.args.bytes.now at (omega arith) known.round);
+    }
+
+pub returns : goal.returns
+returns c =
+    masked_front-rest c.args.key c.args.start c.args.bytes.now c.loop-bytes.bytes c.mask_each-2.new.bytes c.loop-bytes.at (omega arith)
+    c.loop-bytes.invariant.front c.mask_each-2.ensures

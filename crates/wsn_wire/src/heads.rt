@@ -1,0 +1,175 @@
+ghost use Rattle.std.specs.Prelude.{◌≡◌, ℕ, ◌↔◌, ◌<◌, ◌≤◌, ◌^◌, true, List, Option, IfOk, IfErr, IsSome, is_some};
+ghost use Rattle.std.specs.Int.{to_be_bytes, w16, w64};
+ghost use Rattle.wsn_wire.specs.declared.endpoint.Role.TheVariants.{Client};
+ghost use Rattle.wsn_wire.specs.declared.refusal.Reason.{Reason};
+ghost use Rattle.wsn_wire.specs.declared.spelling.Form.TheVariants.{Shortest};
+ghost use Rattle.wsn_wire.specs.declared.spelling.LenForm.TheVariants as len_form;
+ghost use Rattle.wsn_wire.specs.Frame.{is_control, first_byte, second_byte, len_form_of, length_bytes, head_bytes, FormFits};
+ghost use Rattle.wsn_wire.specs.Layout.{len_form_at, length_told};
+ghost use Rattle.wsn_wire.specs.Refusal.{IsFirstShown};
+ghost use Rattle.wsn_wire.specs.Rows.{ShownByFirst, ShownBySecond, ShownByLength};
+
+use crate::endpoint::Role;
+use crate::opcode::Op;
+use crate::refusal::Reason;
+use crate::spelling::{Form, LenForm, Lengths};
+use arrayvec::ArrayVec;
+
+/// The fields of a frame's first byte (RFC 6455 section 5.2). A control frame is final (section 5.5).
+#[derive(Clone, Copy, Debug, PartialEq, Eq)]
+pub struct FirstByte {
+    pub fin: bool,
+    pub op: Op,
+    pub ghost control_is_final: { is_control op ≡ true → fin ≡ true },
+}
+
+/// Reads a frame's first byte (RFC 6455 sections 5.2 and 5.5). `ReservedBits`, `ReservedOpcode` or
+/// `ControlNotFinal`, the first of these that the byte shows.
+pub fn first(b: u8) -> Result<FirstByte, Reason>
+    ensures read { IfOk result (λ f. b ≡ first_byte f.fin f.op) }
+    ensures nothing_shown { IfOk result (λ _. (reason : Reason) → ¬ (ShownByFirst reason b)) }
+    ensures refused { IfErr result (IsFirstShown (λ reason. ShownByFirst reason b)) }
+{
+    if b & 0x70 != 0 {
+        return Err(Reason::ReservedBits);
+    }
+    let Some(op) = Op::from_opcode(b & 0x0f) else {
+        return Err(Reason::ReservedOpcode);
+    };
+    let fin = b & 0x80 != 0;
+    if op.is_control() && !fin {
+        return Err(Reason::ControlNotFinal);
+    }
+    Ok(FirstByte { fin, op })
+}
+
+/// Reads a frame's second byte, which stands behind the first byte `f` (RFC 6455 sections 5.1, 5.2 and 5.5).
+/// `MaskMissing`, `MaskPresent`, `ControlTooLong` or `CloseOneByte`, the first of these that the byte shows.
+pub fn second(f: FirstByte, role: Role, b: u8) -> Result<LenForm, Reason>
+    ensures read { IfOk result (λ form. (key : Option (List ℕ)) → (IsSome key ↔ (role ≡ Role.Client)) →
+        b ≡ second_byte key form) }
+    ensures field { IfOk result (λ form. form ≡ len_form_at b) }
+    ensures short { (len : ℕ) → result ≡ Ok (LenForm.Short len) → len ≤ 125 }
+    ensures nothing_shown { IfOk result (λ _. (reason : Reason) →
+        ¬ (ShownBySecond role reason (first_byte f.fin f.op) b)) }
+    ensures refused { IfErr result (IsFirstShown (λ reason.
+        ShownBySecond role reason (first_byte f.fin f.op) b)) }
+{
+    let masked = b & 0x80 != 0;
+    match role {
+        Role::Client if !masked => return Err(Reason::MaskMissing),
+        Role::Server if masked => return Err(Reason::MaskPresent),
+        _ => {}
+    }
+    let form = len_form_at(b);
+    match form {
+        LenForm::Two | LenForm::Eight if f.op.is_control() => Err(Reason::ControlTooLong),
+        LenForm::Short(1) if f.op == Op::Close => Err(Reason::CloseOneByte),
+        _ => Ok(form),
+    }
+}
+
+// The low seven bits of a second byte say where the length stands.
+fn len_form_at(b: u8) -> LenForm
+    ensures { result ≡ len_form_at b }
+{
+    match b & 0x7f {
+        126 => LenForm::Two,
+        127 => LenForm::Eight,
+        len => LenForm::Short(len),
+    }
+}
+
+/// Reads a length in two bytes (RFC 6455 section 5.2). `LengthNotMinimal` for one below 126, if only the
+/// shortest spelling is taken.
+pub fn two(b: [u8; 2], lengths: Lengths) -> Result<u64, Reason>
+    ensures read { IfOk result (λ len. b ≡ length_bytes LenForm.Two len) }
+    ensures told { IfOk result (λ len. len ≡ length_told LenForm.Two b) }
+    ensures nothing_shown { IfOk result (λ _. (reason : Reason) → ¬ (ShownByLength lengths reason LenForm.Two b)) }
+    ensures refused { IfErr result (IsFirstShown (λ reason. ShownByLength lengths reason LenForm.Two b)) }
+{
+    let len = u64::from(u16::from_be_bytes(b));
+    if lengths == Lengths::Shortest && len < 126 {
+        return Err(Reason::LengthNotMinimal);
+    }
+    Ok(len)
+}
+
+/// Reads a length in eight bytes (RFC 6455 section 5.2). `LengthTopBit` for one of 2^63 or more; else
+/// `LengthNotMinimal` for one below 65,536, if only the shortest spelling is taken.
+pub fn eight(b: [u8; 8], lengths: Lengths) -> Result<u64, Reason>
+    ensures read { IfOk result (λ len. b ≡ length_bytes LenForm.Eight len) }
+    ensures told { IfOk result (λ len. len ≡ length_told LenForm.Eight b) }
+    ensures nothing_shown { IfOk result (λ _. (reason : Reason) → ¬ (ShownByLength lengths reason LenForm.Eight b)) }
+    ensures refused { IfErr result (IsFirstShown (λ reason. ShownByLength lengths reason LenForm.Eight b)) }
+{
+    let len = u64::from_be_bytes(b);
+    if len >= 1 << 63 {
+        return Err(Reason::LengthTopBit);
+    }
+    if lengths == Lengths::Shortest && len < 65536 {
+        return Err(Reason::LengthNotMinimal);
+    }
+    Ok(len)
+}
+
+/// The head of a frame in its shortest spelling, for a payload of `len` bytes (RFC 6455 section 5.2).
+pub fn head(fin: bool, op: Op, key: Option<[u8; 4]>, len: u64) -> ArrayVec<u8, 14>
+    requires size { len < 2 ^ 63 }
+    requires control { is_control op ≡ true → (fin ≡ true) × (len ≤ 125) }
+    ensures { result.items ≡ head_bytes fin op key Form.Shortest len }
+{
+    head_as(fin, op, key, len, Form::Shortest)
+}
+
+/// The head of a frame, its length spelled as `form` says (RFC 6455 section 5.2).
+pub fn head_as(fin: bool, op: Op, key: Option<[u8; 4]>, len: u64, form: Form) -> ArrayVec<u8, 14>
+    requires size { len < 2 ^ 63 }
+    requires control { is_control op ≡ true → (fin ≡ true) × (len ≤ 125) × (form ≡ Form.Shortest) }
+    requires fits { FormFits form len }
+    ensures { result.items ≡ head_bytes fin op key form len }
+{
+    let len_form = len_form_of(form, len);
+    let mut head = ArrayVec::new();
+    head.push(first_byte_of(fin, op));
+    head.push(second_byte_of(key.is_some(), len_form));
+    let _fits = match len_form {
+        LenForm::Short(_) => Ok(()),
+        LenForm::Two => head.try_extend_from_slice(&(len as u16).to_be_bytes()),
+        LenForm::Eight => head.try_extend_from_slice(&len.to_be_bytes()),
+    };
+    if let Some(key) = key {
+        let _fits = head.try_extend_from_slice(&key);
+    }
+    head
+}
+
+fn first_byte_of(fin: bool, op: Op) -> u8
+    ensures { result ≡ first_byte fin op }
+{
+    (if fin { 0x80 } else { 0 }) | op as u8
+}
+
+fn second_byte_of(masked: bool, form: LenForm) -> u8
+    requires { (len : ℕ) → form ≡ LenForm.Short len → len ≤ 125 }
+    ensures { (key : Option (List ℕ)) → is_some key ≡ masked → result ≡ second_byte key form }
+{
+    let field = match form {
+        LenForm::Short(len) => len,
+        LenForm::Two => 126,
+        LenForm::Eight => 127,
+    };
+    (if masked { 0x80 } else { 0 }) | field
+}
+
+fn len_form_of(form: Form, len: u64) -> LenForm
+    ensures { result ≡ len_form_of form len }
+{
+    match form {
+        Form::Shortest if len < 126 => LenForm::Short(len as u8),
+        Form::Shortest if len < 65536 => LenForm::Two,
+        Form::Shortest => LenForm::Eight,
+        Form::Two => LenForm::Two,
+        Form::Eight => LenForm::Eight,
+    }
+}
