@@ -11,9 +11,9 @@ fn asked_by(alloc: Global, line: &str) -> Result<Result<Request, Usage>, Fail> {
     Ok(asked(alloc, words.as_slice()))
 }
 
-fn job_of(rt: &impl Abort, request: Result<Request, Usage>) -> Job {
+fn job_of(rt: &impl Abort, request: &Result<Request, Usage>) -> Job {
     match request {
-        Ok(Request::Run(job)) => job,
+        Ok(Request::Run(job)) => *job,
         _ => panic!(rt; "not a job"),
     }
 }
@@ -21,7 +21,7 @@ fn job_of(rt: &impl Abort, request: Result<Request, Usage>) -> Job {
 #[test]
 fn normal_has_the_greatest_limits(rt: HostRuntime) -> Result<(), Fail> {
     let asked = asked_by(rt.alloc(), "wsn normal --role client")?;
-    let Job::Normal(role, limits) = job_of(&rt, asked);
+    let Job::Normal(role, limits) = job_of(&rt, &asked);
     assert_eq!(rt; role, Role::Client);
     assert_eq!(rt; limits.message(), 16_777_216);
     assert_eq!(rt; limits.input(), 1_099_511_627_776);
@@ -34,7 +34,7 @@ fn normal_has_the_greatest_limits(rt: HostRuntime) -> Result<(), Fail> {
 fn limits_are_as_spelled(rt: HostRuntime) -> Result<(), Fail> {
     let line = "wsn normal --frames 4294967295 --role=server --lengths any --limit 0";
     let asked = asked_by(rt.alloc(), line)?;
-    let Job::Normal(role, limits) = job_of(&rt, asked);
+    let Job::Normal(role, limits) = job_of(&rt, &asked);
     assert_eq!(rt; role, Role::Server);
     assert_eq!(rt; limits.message(), 0);
     assert_eq!(rt; limits.frames(), Some(4_294_967_295));
