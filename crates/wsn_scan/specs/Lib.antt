@@ -2,5 +2,9 @@ pub mod Bounds
 pub mod Group
 pub mod FrameLaw
 pub mod Lawful
+pub mod Behind
 pub mod Accepted
 pub mod Meaning
+pub mod Evidence
+pub mod Summary
+pub mod Verdict

@@ -4,5 +4,8 @@
 #![tactic(auto)]
 
 mod ceilings;
+pub mod laws;
+mod outcome;
 
 pub use ceilings::{INPUT_MAX, Limits, MESSAGE_MAX};
+pub use outcome::{Refusal, Summary, Verdict};

@@ -5,3 +5,4 @@ pub mod Decide
 pub mod Fronts
 pub mod Taking
 pub mod States
+pub mod Numbers

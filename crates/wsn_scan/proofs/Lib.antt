@@ -1,0 +1,16 @@
+pub mod Fronts
+pub mod LawfulLists
+pub mod Groups
+pub mod Walk
+pub mod RowsOfLayout
+pub mod MessageText
+pub mod LawfulRows
+pub mod UnshownLayouts
+pub mod DecidedRows
+pub mod DecidedEvidence
+pub mod LeastShown
+pub mod LayoutFronts
+pub mod EveryInput
+pub mod OneVerdict
+pub mod StaysRefused
+pub mod Examples
