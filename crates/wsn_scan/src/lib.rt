@@ -5,7 +5,10 @@
 
 mod ceilings;
 pub mod laws;
+mod open_message;
 mod outcome;
+mod partial_head;
+mod payload_check;
 
 pub use ceilings::{INPUT_MAX, Limits, MESSAGE_MAX};
 pub use outcome::{Refusal, Summary, Verdict};
