@@ -1,27 +1,17 @@
 -- What taking bytes makes of the state: byte by byte, by skipping text, and one piece behind another.
-use Rattle.std.proofs.Common.{◌≡◌, ℕ, ◌+◌, ◌-◌, ◌<◌, ◌≤◌, ◌⊎◌, ◌↔◌, List, [], ◌∷◌, ◌++◌, length, take, drop, get_or, Result, Ok, Err, Option, Some, None, inl, inr, refl, sym, ◌∙◌, subst, ap, append_assoc, append-nil, add-one, arith}
-use Rattle.std.proofs.Math.Seq.{take-length, take-append_seam, drop-append_seam, take-append-add, take-suc}
-use Rattle.std.proofs.lemmas.List.{take-append-drop, take-take, take_more, length-append, length-take-le}
-use Rattle.std.proofs.lemmas.Str.{IsUtf8-drop, IsCharBoundary-from_take}
+use Rattle.std.proofs.Common.{◌≡◌, ℕ, ◌+◌, ◌<◌, ◌↔◌, List, [], ◌∷◌, ◌++◌, length, take, drop, get_or, Result, Ok, Err, Option, refl, sym, ◌∙◌, subst, ap, append_assoc, arith}
+use Rattle.std.proofs.Math.Seq.{take-append-add}
+use Rattle.std.proofs.lemmas.List.{take-append-drop, take_more, length-append}
 use Rattle.std.specs.Result.{MatchResult, IfErr, IsOk}
-use Rattle.std.specs.Str.{IsUtf8, IsValidUpTo}
 use Rattle.wsn_text.specs.Utf8.{Range, IsText, BeginsText, IsFirstBad}
 use Rattle.wsn_text.specs.Rest.{Follows}
 use Rattle.wsn_text.specs.Taken.{HasTaken}
 use Rattle.wsn_text.specs.Piece.{Takes, Breaks}
-use Rattle.wsn_text.proofs.Scalars.{text_is_utf8}
+use Rattle.wsn_text.proofs.Boundaries.{text_behind}
 use Rattle.wsn_text.proofs.Fronts.{text-append, text_begins, begins_front, begins_shorter, first_bad-append}
 
 abbrev State : Type 0
 State = Option (List Range)
-
-pub text_behind : (front back : List ℕ) → IsText front → IsText (front ++ back) → IsText back
-text_behind front back text joined =
-    let utf8 : IsUtf8 (front ++ back) = (text_is_utf8 (front ++ back)).0 joined in
-    let front_utf8 : IsUtf8 (take (length front) (front ++ back)) = subst IsUtf8 (sym (take-append_seam front back)) ((text_is_utf8 front).0 text) in
-    let le : length front ≤ length (front ++ back) = omega (arith, length-append front back) in
-    let behind : IsUtf8 (drop (length front) (front ++ back)) = IsUtf8-drop (front ++ back) (length front) utf8 (IsCharBoundary-from_take (front ++ back) (length front) utf8 le front_utf8) in
-    (text_is_utf8 back).1 (subst IsUtf8 (drop-append_seam front back) behind)
 
 -- something may follow, or nothing may
 
@@ -58,28 +48,11 @@ pushed old new b same taken has =
 abbrev pub TakesFirst : State → State → List ℕ → ℕ → Type 0
 TakesFirst old new bytes n = (taken : List ℕ) → HasTaken old taken → HasTaken new (taken ++ take n bytes)
 
-pub takes_none : (state : State) (bytes : List ℕ) → TakesFirst state state bytes 0
-takes_none state bytes taken has = subst (HasTaken state) (sym (append-nil taken)) has
-
 pub takes_next : (old before new : State) (bytes : List ℕ) (i : ℕ) → i < length bytes → TakesFirst old before bytes i
     → ((more : List ℕ) → Follows before (get_or bytes i 0 ∷ more) ↔ Follows new more) → TakesFirst old new bytes (i + 1)
 takes_next old before new bytes i less takes same taken has =
     let e : (taken ++ take i bytes) ++ get_or bytes i 0 ∷ [] ≡ taken ++ take (i + 1) bytes = append_assoc taken (take i bytes) (get_or bytes i 0 ∷ []) ∙ ap (λ (front : List ℕ). taken ++ front) (sym (take_more bytes i 0 less)) in
     subst (HasTaken new) e (pushed before new (get_or bytes i 0) same (taken ++ take i bytes) (takes taken has))
-
-pub takes_all : (old new : State) (bytes : List ℕ) → TakesFirst old new bytes (length bytes) → Live new → Takes old new bytes
-takes_all old new bytes takes live =
-    let taken_all : (taken : List ℕ) → HasTaken old taken → HasTaken new (taken ++ bytes) = λ taken has. subst (λ (piece : List ℕ). HasTaken new (taken ++ piece)) (take-length bytes) (takes taken has) in
-    record { taken = taken_all; begins = λ taken has. begins_live new (taken ++ bytes) (taken_all taken has) live }
-
-pub dead_breaks : (state : State) (bytes : List ℕ) → Dead state → Breaks state state bytes 0
-dead_breaks state bytes dead =
-    record {
-      taken = λ taken has. stays_dead state taken bytes has dead;
-      ends = λ taken has begins. ends_dead state taken has dead (begins_front taken bytes begins);
-      first = λ taken has begins. absurd (ends_dead state taken has dead begins);
-      later = λ taken has ends. refl;
-    }
 
 pub breaks_at : (old before new : State) (bytes : List ℕ) (i : ℕ) → i < length bytes → TakesFirst old before bytes i → Live before
     → ((more : List ℕ) → Follows before (get_or bytes i 0 ∷ more) ↔ Follows new more) → Dead new → Breaks old new bytes i
@@ -115,19 +88,6 @@ takes_text state text whole is_text =
       };
       begins = λ taken has. text_begins (taken ++ text) (both taken has);
     }
-
--- a front of a front that is UTF-8
-
-pub text_of_all : (bytes text : List ℕ) (n : ℕ) → n ≤ length bytes → text ≡ take n bytes → IsUtf8 (take n bytes) → (length text ≤ length bytes) × IsText (take (length text) bytes)
-text_of_all bytes text n le is utf8 =
-    let len : length text ≡ n = ap length is ∙ length-take-le n bytes le in
-    (omega arith, subst (λ (m : ℕ). IsText (take m bytes)) (sym len) ((text_is_utf8 (take n bytes)).1 utf8))
-
-pub text_of_valid : (bytes : List ℕ) (n at : ℕ) → n ≤ length bytes → IsValidUpTo (take n bytes) at → (at ≤ length bytes) × IsText (take at bytes)
-text_of_valid bytes n at le valid =
-    let short : at < length (take n bytes) = valid.short in
-    let len : length (take n bytes) ≡ n = length-take-le n bytes le in
-    (omega arith, subst IsText (take-take at n bytes (omega arith)) ((text_is_utf8 (take at (take n bytes))).1 valid.front))
 
 -- one piece behind another
 
