@@ -1,5 +1,4 @@
-//! Masking (RFC 6455 section 5.3).
-ghost use Rattle.std.specs.Prelude.{◌≡◌, ℕ, ◌+◌, ◌≤◌, ◌<◌, ◌^◌, length, replicate};
+ghost use Rattle.std.specs.Prelude.{◌≡◌, ◌+◌, ◌<◌, ◌^◌, length, replicate};
 ghost use Rattle.wsn_wire.specs.Frame.{masked};
 
 use std::simd::prelude::*;
