@@ -1,9 +1,8 @@
 -- Masking: of joined bytes, twice, by a key of zeros, and what it keeps.
-use Rattle.std.proofs.Common.{◌≡◌, ℕ, zero, suc, ◌+◌, ◌%◌, ◌<◌, List, [], ◌∷◌, ◌++◌, length, refl, ap, arith, get_or, add-zero}
-use Rattle.std.proofs.Common.{◌-◌, ◌∙◌, sym, take, drop, ◌≤◌, slice_set, replicate}
+use Rattle.std.proofs.Common.{◌≡◌, ℕ, zero, suc, ◌+◌, ◌%◌, ◌<◌, List, [], ◌∷◌, ◌++◌, length, refl, ap, arith, get_or, add-zero, ◌-◌, ◌∙◌, sym, take, drop, ◌≤◌, slice_set, replicate, ◌*◌, ◌/◌}
 use Rattle.std.proofs.lemmas.List.{length-take-le, drop_more, get_or_at, set_at, append_assoc, drop_at, take_at, drop-drop, length-drop, length-append, take_rest, drop_all, take-append-drop, append-nil}
 use borrow.Rule.Slice.PartMut.{put_mid}
-use Rattle.std.specs.Simd.Lanes.{zip2, chunk, put_chunk}
+use Rattle.std.specs.Simd.Lanes.{zip2, chunk, put_chunk, digits_l}
 use Rattle.std.proofs.lemmas.Simd.{put_chunk_is}
 use lib.Seq.{take-add}
 use Rattle.std.specs.List.{AllByRecursion, slice_index}
@@ -141,3 +140,44 @@ masked_front-rest key start bytes now rest at within is rest_is =
     ap (λ bs. masked key start bs) (sym (take-append-drop at bytes))
     ∙ (masked-append key start (take at bytes) (drop at bytes) ∙ ap (λ n. front ++ masked key n (drop at bytes)) place) in
     (λ i. before i ++ (rest_all i ++ nothing i)) ∙ (ap (λ bs. front ++ bs) (append-nil (masked key (start + at) (drop at bytes))) ∙ sym whole)
+
+-- one round of the key in a word of four bytes, the lowest first, and zeros masked
+pub word-masked : (key : List ℕ) (start word rest count : ℕ) (zeros : List ℕ) →
+    get_or key (start % 4) 0 < 256 → get_or key ((start % 4 + 1) % 4) 0 < 256 → get_or key ((start % 4 + 2) % 4) 0 < 256 → get_or key ((start % 4 + 3) % 4) 0 < 256 →
+    word ≡ get_or key (start % 4) 0 + get_or key ((start % 4 + 1) % 4) 0 * 256 + get_or key ((start % 4 + 2) % 4) 0 * 65536 + get_or key ((start % 4 + 3) % 4) 0 * 16777216 →
+    digits_l 256 count rest ≡ masked key start zeros →
+    digits_l 256 (suc (suc (suc (suc count)))) (word + 4294967296 * rest) ≡ masked key start (0 ∷ 0 ∷ 0 ∷ 0 ∷ zeros)
+word-masked key start word rest count zeros first second third fourth is_word behind =
+    let number = word + 4294967296 * rest in
+    let byte0 : number % 256 ≡ bit_xor 0 (get_or key (start % 4) 0) = rw (xor_zero_l (get_or key (start % 4) 0)) (omega arith) in
+    let byte1 : number / 256 % 256 ≡ bit_xor 0 (get_or key ((start + 1) % 4) 0) = let turn : (start + 1) % 4 ≡ (start % 4 + 1) % 4 = omega arith in rw (turn, xor_zero_l (get_or key ((start % 4 + 1) % 4) 0)) (omega arith) in
+    let byte2 : number / 256 / 256 % 256 ≡ bit_xor 0 (get_or key ((start + 1 + 1) % 4) 0) = let turn : (start + 1 + 1) % 4 ≡ (start % 4 + 2) % 4 = omega arith in rw (turn, xor_zero_l (get_or key ((start % 4 + 2) % 4) 0)) (omega arith) in
+    let byte3 : number / 256 / 256 / 256 % 256 ≡ bit_xor 0 (get_or key ((start + 1 + 1 + 1) % 4) 0) = let turn : (start + 1 + 1 + 1) % 4 ≡ (start % 4 + 3) % 4 = omega arith in rw (turn, xor_zero_l (get_or key ((start % 4 + 3) % 4) 0)) (omega arith) in
+    let left : number / 256 / 256 / 256 / 256 ≡ rest = omega arith in
+    let place : start + 1 + 1 + 1 + 1 ≡ start + 4 = omega arith in
+    let round = masked-round key start 4 zeros refl in
+    let after : digits_l 256 count (number / 256 / 256 / 256 / 256) ≡ masked key (start + 1 + 1 + 1 + 1) zeros =
+    ap (λ n. digits_l 256 count n) left ∙ (behind ∙ (sym round ∙ ap (λ n. masked key n zeros) (sym place))) in
+    λ i. byte0 i ∷ byte1 i ∷ byte2 i ∷ byte3 i ∷ after i
+
+-- rounds of zeros, as many words in one number, and as many bytes
+abbrev pub zero_rounds : ℕ → List ℕ
+zero_rounds zero = []
+zero_rounds (suc n) = 0 ∷ 0 ∷ 0 ∷ 0 ∷ zero_rounds n
+
+abbrev pub word_rounds : ℕ → ℕ → ℕ
+word_rounds word zero = 0
+word_rounds word (suc n) = word + 4294967296 * word_rounds word n
+
+abbrev pub round_bytes : ℕ → ℕ
+round_bytes zero = 0
+round_bytes (suc n) = suc (suc (suc (suc (round_bytes n))))
+
+-- a word of the key, repeated, has the bytes of zeros masked
+pub words-masked : (key : List ℕ) (start word : ℕ) →
+    get_or key (start % 4) 0 < 256 → get_or key ((start % 4 + 1) % 4) 0 < 256 → get_or key ((start % 4 + 2) % 4) 0 < 256 → get_or key ((start % 4 + 3) % 4) 0 < 256 →
+    word ≡ get_or key (start % 4) 0 + get_or key ((start % 4 + 1) % 4) 0 * 256 + get_or key ((start % 4 + 2) % 4) 0 * 65536 + get_or key ((start % 4 + 3) % 4) 0 * 16777216 →
+    (n : ℕ) → digits_l 256 (round_bytes n) (word_rounds word n) ≡ masked key start (zero_rounds n)
+words-masked key start word first second third fourth is_word zero = refl
+words-masked key start word first second third fourth is_word (suc n) =
+    word-masked key start word (word_rounds word n) (round_bytes n) (zero_rounds n) first second third fourth is_word (words-masked key start word first second third fourth is_word n)

@@ -1,9 +1,5 @@
 ghost use Rattle.std.specs.Prelude.{◌≡◌, ℕ, ◌↔◌, ◌<◌, ◌≤◌, ◌^◌, true, List, Option, IfOk, IfErr, IsSome, is_some};
-ghost use Rattle.std.specs.Int.{to_be_bytes, w16, w64};
-ghost use Rattle.wsn_wire.specs.declared.endpoint.Role.TheVariants.{Client};
 ghost use Rattle.wsn_wire.specs.declared.refusal.Reason.{Reason};
-ghost use Rattle.wsn_wire.specs.declared.spelling.Form.TheVariants.{Shortest};
-ghost use Rattle.wsn_wire.specs.declared.spelling.LenForm.TheVariants as len_form;
 ghost use Rattle.wsn_wire.specs.Frame.{is_control, first_byte, second_byte, len_form_of, length_bytes, head_bytes, FormFits};
 ghost use Rattle.wsn_wire.specs.Layout.{len_form_at, length_told};
 ghost use Rattle.wsn_wire.specs.Refusal.{IsFirstShown};
@@ -18,7 +14,9 @@ use arrayvec::ArrayVec;
 /// The fields of a frame's first byte (RFC 6455 section 5.2). A control frame is final (section 5.5).
 #[derive(Clone, Copy, Debug, PartialEq, Eq)]
 pub struct FirstByte {
+    /// FIN: the frame is the last of its message.
     pub fin: bool,
+    /// The opcode.
     pub op: Op,
     pub ghost control_is_final: { is_control op ≡ true → fin ≡ true },
 }

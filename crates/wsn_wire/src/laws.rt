@@ -1,7 +1,7 @@
 //! Laws of masking and of frames' bytes, over the definitions in `specs/`. The functions do nothing when
 //! called: what they say is proved.
-ghost use Rattle.std.specs.Prelude.{◌≡◌, ℕ, ◌+◌, ◌<◌, ◌^◌, Bool, Option, List, [], ◌∷◌, ◌++◌, length, is_some};
-ghost use Rattle.wsn_wire.specs.Frame.{Frame, IsBytes, IsSpellable, masked, opcode, first_byte, second_byte, len_form_of, length_bytes, frame_bytes, FormFits};
+ghost use Rattle.std.specs.Prelude.{◌≡◌, ℕ, ◌+◌, ◌<◌, ◌^◌, Bool, true, Option, None, List, [], ◌∷◌, ◌++◌, length, is_some};
+ghost use Rattle.wsn_wire.specs.Frame.{Frame, IsBytes, IsSpellable, masked, opcode, first_byte, second_byte, len_form_of, length_bytes, head_bytes, frame_bytes, FormFits};
 ghost use Rattle.wsn_wire.specs.Layout.{fin_bit, reserved_bits, opcode_field, mask_bit, len_form_at, length_count, length_told, HasLayout};
 ghost use Rattle.wsn_wire.specs.Sender.{IsSpelledFor, ShowsNothing};
 ghost use Rattle.wsn_wire.specs.declared.endpoint.Role.{Role};
@@ -89,4 +89,17 @@ pub fn layouts_that_show_nothing_are_frames()
     ensures { (role : Role) (lengths : Lengths) (bytes : List ℕ) (l : HasLayout bytes) →
         ShowsNothing role lengths l.first l.second l.len →
         (f : Frame) × IsSpelledFor role lengths f × (frame_bytes f ≡ bytes) }
+{}
+
+/// A server's heads of a final frame, byte for byte: the lengths at which the shortest spelling changes, and
+/// one byte spelled in two and in eight (RFC 6455 section 5.2).
+pub fn heads_byte_for_byte()
+    ensures len_125 { head_bytes true Op.Binary None Form.Shortest 125 ≡ 0x82 ∷ 0x7d ∷ [] }
+    ensures len_126 { head_bytes true Op.Binary None Form.Shortest 126 ≡ 0x82 ∷ 0x7e ∷ 0x00 ∷ 0x7e ∷ [] }
+    ensures len_65535 { head_bytes true Op.Binary None Form.Shortest 65535 ≡ 0x82 ∷ 0x7e ∷ 0xff ∷ 0xff ∷ [] }
+    ensures len_65536 { head_bytes true Op.Binary None Form.Shortest 65536
+        ≡ 0x82 ∷ 0x7f ∷ 0x00 ∷ 0x00 ∷ 0x00 ∷ 0x00 ∷ 0x00 ∷ 0x01 ∷ 0x00 ∷ 0x00 ∷ [] }
+    ensures in_two { head_bytes true Op.Text None Form.Two 1 ≡ 0x81 ∷ 0x7e ∷ 0x00 ∷ 0x01 ∷ [] }
+    ensures in_eight { head_bytes true Op.Text None Form.Eight 1
+        ≡ 0x81 ∷ 0x7f ∷ 0x00 ∷ 0x00 ∷ 0x00 ∷ 0x00 ∷ 0x00 ∷ 0x00 ∷ 0x00 ∷ 0x01 ∷ [] }
 {}

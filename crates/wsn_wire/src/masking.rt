@@ -1,8 +1,10 @@
-//! Masking (RFC 6455 section 5.3).
-ghost use Rattle.std.specs.Prelude.{◌≡◌, ℕ, ◌+◌, ◌≤◌, ◌<◌, ◌^◌, length, replicate};
+ghost use Rattle.std.specs.Prelude.{◌≡◌, ◌+◌, ◌<◌, ◌^◌, length, replicate};
 ghost use Rattle.wsn_wire.specs.Frame.{masked};
 
 use std::simd::prelude::*;
+
+// The bytes of a vector.
+const BLOCK: usize = 32;
 
 /// Masks a piece of a payload, or unmasks it: byte i XOR key byte `(start + i) % 4` (RFC 6455 section 5.3).
 /// `start` is the piece's offset in the payload.
@@ -24,16 +26,18 @@ pub fn mask(key: [u8; 4], start: u64, bytes: &mut [u8])
     mask_each(key, start + at as u64, &mut bytes[at..]);
 }
 
-const BLOCK: usize = 32;
-
 // The key bytes for a block of bytes that begins at `start`.
 fn key_lanes(key: [u8; 4], start: u64) -> u8x32
-    requires { start + BLOCK < 2 ^ 64 }
     ensures { result ≡ masked key start (replicate BLOCK 0) }
 {
-    let mut lanes = [0; BLOCK];
-    mask_each(key, start, &mut lanes);
-    u8x32::from_array(lanes)
+    let turn = (start % 4) as usize;
+    let round = u32::from_le_bytes([
+        key[turn],
+        key[(turn + 1) % 4],
+        key[(turn + 2) % 4],
+        key[(turn + 3) % 4],
+    ]);
+    u32x8::splat(round).to_le_bytes()
 }
 
 // The same as `mask`, byte by byte.

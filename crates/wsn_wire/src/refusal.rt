@@ -4,22 +4,39 @@ ghost use Rattle.wsn_wire.specs.Refusal.{number_of, code_of, word_of};
 /// Why a stream is refused, in the order in which reasons at one place go (RFC 6455 sections 5 and 7.4).
 #[derive(Clone, Copy, Debug, PartialEq, Eq)]
 pub enum Reason {
+    /// A reserved bit of the first byte is set.
     ReservedBits,
+    /// The opcode is 3 to 7 or 11 to 15.
     ReservedOpcode,
+    /// A Close, Ping or Pong without FIN.
     ControlNotFinal,
+    /// A Continue where no message is open.
     NothingToContinue,
+    /// A Text or Binary while a message is open.
     MessageOpen,
+    /// A client's frame without MASK.
     MaskMissing,
+    /// A server's frame with MASK.
     MaskPresent,
+    /// A control frame's length field is 126 or 127.
     ControlTooLong,
+    /// A Close's length field is 1.
     CloseOneByte,
+    /// A length in eight bytes is 2^63 or more.
     LengthTopBit,
+    /// A length is not spelled in the shortest way, where only that is taken.
     LengthNotMinimal,
+    /// The message passes the limit on its bytes.
     MessageTooBig,
+    /// A Close's code is not one that may be sent.
     CloseCode,
+    /// A Close's reason is not UTF-8.
     CloseReason,
+    /// A text message has a byte that no UTF-8 text has there.
     TextBad,
+    /// A text message ends inside a character.
     TextCut,
+    /// The message passes the limit on its frames.
     TooManyFrames,
 }
 
