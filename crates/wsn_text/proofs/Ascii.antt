@@ -1,5 +1,5 @@
 -- Bytes below 0x80 are characters of one byte each.
-use Rattle.std.proofs.Common.{◌≡◌, ℕ, ◌<◌, ◌≤◌, List, [], ◌∷◌, ◌++◌, inl, refl, ap, arith}
+use Rattle.std.proofs.Common.{◌≡◌, ℕ, ◌<◌, List, [], ◌∷◌, inl, refl, ap, arith}
 use Rattle.std.specs.List.{AllByRecursion, concat}
 use Rattle.wsn_text.specs.Utf8.{IsText, IsCharacter}
 

@@ -1,1 +1,5 @@
 pub mod Ascii
+pub mod Rests
+pub mod Scalars
+pub mod Decide
+pub mod Fronts

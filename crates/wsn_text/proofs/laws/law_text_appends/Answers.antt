@@ -1,0 +1,5 @@
+use Rattle.wsn_text.proofs.Fronts.{text-append}
+use Rattle.wsn_text.proofs.laws.law_text_appends.Goals as goal
+
+pub returns : goal.returns
+returns c = text-append
