@@ -86,7 +86,7 @@ behind (b ∷ bytes) before fillable =
     }
 
 -- the least bytes that fill a row
-fill : (row : List Range) → AllByRecursion (λ r. r.low ≤ r.high) row → (bytes : List ℕ) × IsRest row bytes
+pub fill : (row : List Range) → AllByRecursion (λ r. r.low ≤ r.high) row → (bytes : List ℕ) × IsRest row bytes
 fill [] each = ([], text-nil)
 fill (r ∷ row) each = let filled = fill row each.1 in (r.low ∷ filled.0, (omega arith, each.0, filled.1))
 

@@ -33,7 +33,7 @@ pub begins_take : (n : ℕ) (bytes : List ℕ) → BeginsText bytes → BeginsTe
 begins_take n bytes begins = begins_front (take n bytes) (drop n bytes) (subst BeginsText (sym (take-append-drop n bytes)) begins)
 
 -- a front of a front
-begins_shorter : (m n : ℕ) (bytes : List ℕ) → m ≤ n → BeginsText (take n bytes) → BeginsText (take m bytes)
+pub begins_shorter : (m n : ℕ) (bytes : List ℕ) → m ≤ n → BeginsText (take n bytes) → BeginsText (take m bytes)
 begins_shorter m n bytes le begins = subst BeginsText (take-take m n bytes le) (begins_take m (take n bytes) begins)
 
 -- bytes with a first bad byte don't begin text, whatever follows them

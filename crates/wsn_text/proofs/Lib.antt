@@ -3,3 +3,5 @@ pub mod Rests
 pub mod Scalars
 pub mod Decide
 pub mod Fronts
+pub mod Taking
+pub mod States

@@ -1,3 +1,6 @@
 pub mod Utf8
 pub mod CloseBody
 pub mod Rest
+pub mod Taken
+pub mod Piece
+pub mod Expected

@@ -4,4 +4,9 @@
 //! may hold.
 #![tactic(auto)]
 
+mod codes;
 pub mod laws;
+mod pieces;
+
+pub use codes::code_allowed;
+pub use pieces::Utf8;

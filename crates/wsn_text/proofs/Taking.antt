@@ -1,0 +1,204 @@
+-- What taking bytes makes of the state: byte by byte, by skipping text, and one piece behind another.
+use Rattle.std.proofs.Common.{◌≡◌, ℕ, ◌+◌, ◌-◌, ◌<◌, ◌≤◌, ◌⊎◌, ◌↔◌, List, [], ◌∷◌, ◌++◌, length, take, drop, get_or, Result, Ok, Err, Option, Some, None, inl, inr, refl, sym, ◌∙◌, subst, ap, append_assoc, append-nil, add-one, arith}
+use Rattle.std.proofs.Math.Seq.{take-length, take-append_seam, drop-append_seam, take-append-add, take-suc}
+use Rattle.std.proofs.lemmas.List.{take-append-drop, take-take, take_more, length-append, length-take-le}
+use Rattle.std.proofs.lemmas.Str.{IsUtf8-drop, IsCharBoundary-from_take}
+use Rattle.std.specs.Result.{MatchResult, IfErr, IsOk}
+use Rattle.std.specs.Str.{IsUtf8, IsValidUpTo}
+use Rattle.wsn_text.specs.Utf8.{Range, IsText, BeginsText, IsFirstBad}
+use Rattle.wsn_text.specs.Rest.{Follows}
+use Rattle.wsn_text.specs.Taken.{HasTaken}
+use Rattle.wsn_text.specs.Piece.{Takes, Breaks}
+use Rattle.wsn_text.proofs.Scalars.{text_is_utf8}
+use Rattle.wsn_text.proofs.Fronts.{text-append, text_begins, begins_front, begins_shorter, first_bad-append}
+
+abbrev State : Type 0
+State = Option (List Range)
+
+pub text_behind : (front back : List ℕ) → IsText front → IsText (front ++ back) → IsText back
+text_behind front back text joined =
+    let utf8 : IsUtf8 (front ++ back) = (text_is_utf8 (front ++ back)).0 joined in
+    let front_utf8 : IsUtf8 (take (length front) (front ++ back)) = subst IsUtf8 (sym (take-append_seam front back)) ((text_is_utf8 front).0 text) in
+    let le : length front ≤ length (front ++ back) = omega (arith, length-append front back) in
+    let behind : IsUtf8 (drop (length front) (front ++ back)) = IsUtf8-drop (front ++ back) (length front) utf8 (IsCharBoundary-from_take (front ++ back) (length front) utf8 le front_utf8) in
+    (text_is_utf8 back).1 (subst IsUtf8 (drop-append_seam front back) behind)
+
+-- something may follow, or nothing may
+
+abbrev pub Live : State → Type 0
+Live state = (more : List ℕ) × Follows state more
+
+abbrev pub Dead : State → Type 0
+Dead state = (more : List ℕ) → ¬ (Follows state more)
+
+begins_live : (state : State) (taken : List ℕ) → HasTaken state taken → Live state → BeginsText taken
+begins_live state taken has live = record { more = live.0; text = (has.continues live.0).1 live.1 }
+
+ends_dead : (state : State) (taken : List ℕ) → HasTaken state taken → Dead state → ¬ (BeginsText taken)
+ends_dead state taken has dead begins = dead begins.more ((has.continues begins.more).0 begins.text)
+
+dead_state : (state : State) (taken : List ℕ) → HasTaken state taken → ¬ (BeginsText taken) → Dead state
+dead_state state taken has ends more follows = ends (record { more = more; text = (has.continues more).1 follows })
+
+stays_dead : (state : State) (taken back : List ℕ) → HasTaken state taken → Dead state → HasTaken state (taken ++ back)
+stays_dead state taken back has dead =
+    record { continues = λ more. (λ text. absurd (ends_dead state taken has dead (begins_front taken (back ++ more) (text_begins _ (subst IsText (append_assoc taken back more) text)))), λ follows. absurd (dead more follows)) }
+
+-- one byte
+
+pushed : (old new : State) (b : ℕ) → ((more : List ℕ) → Follows old (b ∷ more) ↔ Follows new more) → (taken : List ℕ) → HasTaken old taken → HasTaken new (taken ++ b ∷ [])
+pushed old new b same taken has =
+    record {
+      continues = λ more.
+          let e : (taken ++ b ∷ []) ++ more ≡ taken ++ b ∷ more = append_assoc taken (b ∷ []) more in
+          (λ text. (same more).0 ((has.continues (b ∷ more)).0 (subst IsText e text)), λ follows. subst IsText (sym e) ((has.continues (b ∷ more)).1 ((same more).1 follows)));
+    }
+
+-- `new` has taken the first n of the bytes where `old` had taken none of them
+abbrev pub TakesFirst : State → State → List ℕ → ℕ → Type 0
+TakesFirst old new bytes n = (taken : List ℕ) → HasTaken old taken → HasTaken new (taken ++ take n bytes)
+
+pub takes_none : (state : State) (bytes : List ℕ) → TakesFirst state state bytes 0
+takes_none state bytes taken has = subst (HasTaken state) (sym (append-nil taken)) has
+
+pub takes_next : (old before new : State) (bytes : List ℕ) (i : ℕ) → i < length bytes → TakesFirst old before bytes i
+    → ((more : List ℕ) → Follows before (get_or bytes i 0 ∷ more) ↔ Follows new more) → TakesFirst old new bytes (i + 1)
+takes_next old before new bytes i less takes same taken has =
+    let e : (taken ++ take i bytes) ++ get_or bytes i 0 ∷ [] ≡ taken ++ take (i + 1) bytes = append_assoc taken (take i bytes) (get_or bytes i 0 ∷ []) ∙ ap (λ (front : List ℕ). taken ++ front) (sym (take_more bytes i 0 less)) in
+    subst (HasTaken new) e (pushed before new (get_or bytes i 0) same (taken ++ take i bytes) (takes taken has))
+
+pub takes_all : (old new : State) (bytes : List ℕ) → TakesFirst old new bytes (length bytes) → Live new → Takes old new bytes
+takes_all old new bytes takes live =
+    let taken_all : (taken : List ℕ) → HasTaken old taken → HasTaken new (taken ++ bytes) = λ taken has. subst (λ (piece : List ℕ). HasTaken new (taken ++ piece)) (take-length bytes) (takes taken has) in
+    record { taken = taken_all; begins = λ taken has. begins_live new (taken ++ bytes) (taken_all taken has) live }
+
+pub dead_breaks : (state : State) (bytes : List ℕ) → Dead state → Breaks state state bytes 0
+dead_breaks state bytes dead =
+    record {
+      taken = λ taken has. stays_dead state taken bytes has dead;
+      ends = λ taken has begins. ends_dead state taken has dead (begins_front taken bytes begins);
+      first = λ taken has begins. absurd (ends_dead state taken has dead begins);
+      later = λ taken has ends. refl;
+    }
+
+pub breaks_at : (old before new : State) (bytes : List ℕ) (i : ℕ) → i < length bytes → TakesFirst old before bytes i → Live before
+    → ((more : List ℕ) → Follows before (get_or bytes i 0 ∷ more) ↔ Follows new more) → Dead new → Breaks old new bytes i
+breaks_at old before new bytes i less takes live same dead =
+    let next : TakesFirst old new bytes (i + 1) = takes_next old before new bytes i less takes same in
+    let front_of : (taken : List ℕ) (n : ℕ) → take (length taken + n) (taken ++ bytes) ≡ taken ++ take n bytes = λ taken n. take-append-add taken bytes n in
+    let whole : (taken : List ℕ) → (taken ++ take (i + 1) bytes) ++ drop (i + 1) bytes ≡ taken ++ bytes =
+    λ taken. append_assoc taken (take (i + 1) bytes) (drop (i + 1) bytes) ∙ ap (λ (piece : List ℕ). taken ++ piece) (take-append-drop (i + 1) bytes) in
+    let good : (taken : List ℕ) → HasTaken old taken → BeginsText (taken ++ take i bytes) = λ taken has. begins_live before (taken ++ take i bytes) (takes taken has) live in
+    let bad : (taken : List ℕ) → HasTaken old taken → ¬ (BeginsText (taken ++ take (i + 1) bytes)) = λ taken has. ends_dead new (taken ++ take (i + 1) bytes) (next taken has) dead in
+    record {
+      taken = λ taken has. subst (HasTaken new) (whole taken) (stays_dead new (taken ++ take (i + 1) bytes) (drop (i + 1) bytes) (next taken has) dead);
+      ends = λ taken has begins. bad taken has (begins_front (taken ++ take (i + 1) bytes) (drop (i + 1) bytes) (subst BeginsText (sym (whole taken)) begins));
+      first = λ taken has begins. record {
+        within = omega (arith, length-append taken bytes);
+        bad = λ longer. bad taken has (subst BeginsText (front_of taken (i + 1)) (subst (λ (n : ℕ). BeginsText (take n (taken ++ bytes))) (omega arith) longer));
+        least = λ j before_it. begins_shorter (j + 1) (length taken + i) (taken ++ bytes) (omega arith) (subst BeginsText (sym (front_of taken i)) (good taken has));
+      };
+      later = λ taken has ends. absurd (ends (begins_front taken (take i bytes) (good taken has)));
+    }
+
+-- a text, where text was taken
+
+pub takes_text : (state : State) (text : List ℕ) → ((taken : List ℕ) → HasTaken state taken → IsText taken) → IsText text → Takes state state text
+takes_text state text whole is_text =
+    let both : (taken : List ℕ) → HasTaken state taken → IsText (taken ++ text) = λ taken has. text-append taken text (whole taken has) is_text in
+    record {
+      taken = λ taken has. record {
+        continues = λ more. (
+          λ joined. (has.continues more).0 (text-append taken more (whole taken has) (text_behind (taken ++ text) more (both taken has) joined)),
+          λ follows. text-append (taken ++ text) more (both taken has) (text_behind taken more (whole taken has) ((has.continues more).1 follows)),
+        );
+      };
+      begins = λ taken has. text_begins (taken ++ text) (both taken has);
+    }
+
+-- a front of a front that is UTF-8
+
+pub text_of_all : (bytes text : List ℕ) (n : ℕ) → n ≤ length bytes → text ≡ take n bytes → IsUtf8 (take n bytes) → (length text ≤ length bytes) × IsText (take (length text) bytes)
+text_of_all bytes text n le is utf8 =
+    let len : length text ≡ n = ap length is ∙ length-take-le n bytes le in
+    (omega arith, subst (λ (m : ℕ). IsText (take m bytes)) (sym len) ((text_is_utf8 (take n bytes)).1 utf8))
+
+pub text_of_valid : (bytes : List ℕ) (n at : ℕ) → n ≤ length bytes → IsValidUpTo (take n bytes) at → (at ≤ length bytes) × IsText (take at bytes)
+text_of_valid bytes n at le valid =
+    let short : at < length (take n bytes) = valid.short in
+    let len : length (take n bytes) ≡ n = length-take-le n bytes le in
+    (omega arith, subst IsText (take-take at n bytes (omega arith)) ((text_is_utf8 (take at (take n bytes))).1 valid.front))
+
+-- one piece behind another
+
+pub takes_then_takes : (old mid new : State) (front back bytes : List ℕ) → bytes ≡ front ++ back → Takes old mid front → Takes mid new back → Takes old new bytes
+takes_then_takes old mid new front back bytes joined first second =
+    let whole : (taken : List ℕ) → (taken ++ front) ++ back ≡ taken ++ bytes = λ taken. append_assoc taken front back ∙ ap (λ (piece : List ℕ). taken ++ piece) (sym joined) in
+    record {
+      taken = λ taken has. subst (HasTaken new) (whole taken) (second.taken (taken ++ front) (first.taken taken has));
+      begins = λ taken has. subst BeginsText (whole taken) (second.begins (taken ++ front) (first.taken taken has));
+    }
+
+pub takes_then_breaks : (old mid new : State) (front back bytes : List ℕ) (i : ℕ) → bytes ≡ front ++ back → Takes old mid front → Breaks mid new back i → Breaks old new bytes (length front + i)
+takes_then_breaks old mid new front back bytes i joined first second =
+    let whole : (taken : List ℕ) → (taken ++ front) ++ back ≡ taken ++ bytes = λ taken. append_assoc taken front back ∙ ap (λ (piece : List ℕ). taken ++ piece) (sym joined) in
+    record {
+      taken = λ taken has. subst (HasTaken new) (whole taken) (second.taken (taken ++ front) (first.taken taken has));
+      ends = λ taken has begins. second.ends (taken ++ front) (first.taken taken has) (subst BeginsText (sym (whole taken)) begins);
+      first = λ taken has begins.
+          let place : length (taken ++ front) + i ≡ length taken + (length front + i) = omega (arith, length-append taken front) in
+          subst (IsFirstBad (taken ++ bytes)) place
+          (subst (λ (all : List ℕ). IsFirstBad all (length (taken ++ front) + i)) (whole taken) (second.first (taken ++ front) (first.taken taken has) (first.begins taken has)));
+      later = λ taken has ends. absurd (ends (begins_front taken front (first.begins taken has)));
+    }
+
+pub breaks_then : (old new : State) (front back bytes : List ℕ) (i : ℕ) → bytes ≡ front ++ back → Breaks old new front i → Breaks old new bytes i
+breaks_then old new front back bytes i joined first =
+    let whole : (taken : List ℕ) → (taken ++ front) ++ back ≡ taken ++ bytes = λ taken. append_assoc taken front back ∙ ap (λ (piece : List ℕ). taken ++ piece) (sym joined) in
+    record {
+      taken = λ taken has.
+          let now : HasTaken new (taken ++ front) = first.taken taken has in
+          subst (HasTaken new) (whole taken) (stays_dead new (taken ++ front) back now (dead_state new (taken ++ front) now (first.ends taken has)));
+      ends = λ taken has begins. first.ends taken has (begins_front (taken ++ front) back (subst BeginsText (sym (whole taken)) begins));
+      first = λ taken has begins. subst (λ (all : List ℕ). IsFirstBad all (length taken + i)) (whole taken) (first_bad-append (taken ++ front) back (length taken + i) (first.first taken has begins));
+      later = first.later;
+    }
+
+-- the answer for the back, its place counted from where the front begins
+
+abbrev pub Shifted : {T : Type 0} → Result T ℕ → Result T ℕ → ℕ → Type 0
+Shifted answer shifted n = MatchResult answer (λ x. shifted ≡ Ok x) (λ i. shifted ≡ Err (n + i))
+
+pub answers_behind : {T : Type 0} (old mid new : State) (front back bytes : List ℕ) (answer shifted : Result T ℕ) → bytes ≡ front ++ back → Takes old mid front → Shifted answer shifted (length front)
+    → MatchResult answer (λ _. Takes mid new back) (Breaks mid new back) → MatchResult shifted (λ _. Takes old new bytes) (Breaks old new bytes)
+answers_behind old mid new front back bytes (Ok x) shifted joined first is second =
+    subst (λ (r : Result _ ℕ). MatchResult r (λ _. Takes old new bytes) (Breaks old new bytes)) (sym is) (takes_then_takes old mid new front back bytes joined first second)
+answers_behind old mid new front back bytes (Err i) shifted joined first is second =
+    subst (λ (r : Result _ ℕ). MatchResult r (λ _. Takes old new bytes) (Breaks old new bytes)) (sym is) (takes_then_breaks old mid new front back bytes i joined first second)
+
+pub answers_before : {T : Type 0} (old new : State) (front back bytes : List ℕ) (answer : Result T ℕ) (i : ℕ) → bytes ≡ front ++ back → answer ≡ Err i → Breaks old new front i
+    → MatchResult answer (λ _. Takes old new bytes) (Breaks old new bytes)
+answers_before old new front back bytes answer i joined is first =
+    subst (λ (r : Result _ ℕ). MatchResult r (λ _. Takes old new bytes) (Breaks old new bytes)) (sym is) (breaks_then old new front back bytes i joined first)
+
+-- what `feed` says of its answer
+
+pub taken_of : {T : Type 0} (old new : State) (piece : List ℕ) (answer : Result T ℕ) → MatchResult answer (λ _. Takes old new piece) (Breaks old new piece)
+    → (taken : List ℕ) → HasTaken old taken → HasTaken new (taken ++ piece)
+taken_of old new piece (Ok x) takes taken has = takes.taken taken has
+taken_of old new piece (Err i) breaks taken has = breaks.taken taken has
+
+pub ok_of : {T : Type 0} (old new : State) (piece : List ℕ) (answer : Result T ℕ) → MatchResult answer (λ _. Takes old new piece) (Breaks old new piece)
+    → (taken : List ℕ) → HasTaken old taken → IsOk answer ↔ BeginsText (taken ++ piece)
+ok_of old new piece (Ok x) takes taken has = (λ ok. takes.begins taken has, λ begins. refl)
+ok_of old new piece (Err i) breaks taken has = (λ ok. cc, λ begins. absurd (breaks.ends taken has begins))
+
+pub first_bad_of : {T : Type 0} (old new : State) (piece : List ℕ) (answer : Result T ℕ) → MatchResult answer (λ _. Takes old new piece) (Breaks old new piece)
+    → (taken : List ℕ) → HasTaken old taken → BeginsText taken → IfErr answer (λ i. IsFirstBad (taken ++ piece) (length taken + i))
+first_bad_of old new piece (Ok x) takes taken has begins = tt
+first_bad_of old new piece (Err i) breaks taken has begins = breaks.first taken has begins
+
+pub after_bad_of : {T : Type 0} (old new : State) (piece : List ℕ) (answer : Result T ℕ) → MatchResult answer (λ _. Takes old new piece) (Breaks old new piece)
+    → (taken : List ℕ) → HasTaken old taken → ¬ (BeginsText taken) → answer ≡ Err 0
+after_bad_of old new piece (Ok x) takes taken has ends = absurd (ends (begins_front taken piece (takes.begins taken has)))
+after_bad_of old new piece (Err i) breaks taken has ends = ap (λ (n : ℕ). Err n) (breaks.later taken has ends)

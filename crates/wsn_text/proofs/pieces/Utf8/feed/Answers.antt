@@ -1,0 +1,42 @@
+use Rattle.std.proofs.Common.{◌≡◌, Err, length, rules}
+use Rattle.std.specs.Result.{MatchResult}
+use Rattle.wsn_text.specs.Piece.{Takes, Breaks}
+use Rattle.wsn_text.proofs.Taking.{Shifted, answers_behind, answers_before, taken_of, ok_of, first_bad_of, after_bad_of}
+use Rattle.wsn_text.proofs.pieces.Utf8.feed.Goals as goal
+
+-- the character that was begun breaks
+broken : (c : goal.After-from_residual) → MatchResult c.from_residual.result (λ _. Takes c.args.self.now c.step_over.new.self c.args.piece.now) (Breaks c.args.self.now c.step_over.new.self c.args.piece.now)
+broken c =
+    let is : c.from_residual.result ≡ Err c.in_err-step_over.field-0.0 = search rules in
+    answers_before c.args.self.now c.step_over.new.self c.split_at.result.0.now c.split_at.result.1.now c.args.piece.now c.from_residual.result c.in_err-step_over.field-0.0 c.split_at.ensures.by_index.0 is c.in_err-step_over.ensures.steps
+
+pub returns-in_err-step_over-clause-taken : goal.returns-in_err-step_over-clause-taken
+returns-in_err-step_over-clause-taken c = taken_of c.args.self.now c.step_over.new.self c.args.piece.now c.from_residual.result (broken c)
+
+pub returns-in_err-step_over-clause-ok : goal.returns-in_err-step_over-clause-ok
+returns-in_err-step_over-clause-ok c = ok_of c.args.self.now c.step_over.new.self c.args.piece.now c.from_residual.result (broken c)
+
+pub returns-in_err-step_over-clause-first_bad : goal.returns-in_err-step_over-clause-first_bad
+returns-in_err-step_over-clause-first_bad c = first_bad_of c.args.self.now c.step_over.new.self c.args.piece.now c.from_residual.result (broken c)
+
+pub returns-in_err-step_over-clause-after_bad : goal.returns-in_err-step_over-clause-after_bad
+returns-in_err-step_over-clause-after_bad c = after_bad_of c.args.self.now c.step_over.new.self c.args.piece.now c.from_residual.result (broken c)
+
+-- it is completed, and the rest comes behind it
+whole : (c : goal.After-map_err) → MatchResult c.map_err.result (λ _. Takes c.args.self.now c.skip_and_step.new.self c.args.piece.now) (Breaks c.args.self.now c.skip_and_step.new.self c.args.piece.now)
+whole c =
+    let shifted : Shifted c.skip_and_step.result c.map_err.result (length c.split_at.result.0.now) = search rules in
+    answers_behind c.args.self.now c.step_over.new.self c.skip_and_step.new.self c.split_at.result.0.now c.split_at.result.1.now c.args.piece.now c.skip_and_step.result c.map_err.result c.split_at.ensures.by_index.0
+    c.in_ok-step_over.ensures.steps shifted c.skip_and_step.ensures.steps
+
+pub returns-clause-taken : goal.returns-clause-taken
+returns-clause-taken c = taken_of c.args.self.now c.skip_and_step.new.self c.args.piece.now c.map_err.result (whole c)
+
+pub returns-clause-ok : goal.returns-clause-ok
+returns-clause-ok c = ok_of c.args.self.now c.skip_and_step.new.self c.args.piece.now c.map_err.result (whole c)
+
+pub returns-clause-first_bad : goal.returns-clause-first_bad
+returns-clause-first_bad c = first_bad_of c.args.self.now c.skip_and_step.new.self c.args.piece.now c.map_err.result (whole c)
+
+pub returns-clause-after_bad : goal.returns-clause-after_bad
+returns-clause-after_bad c = after_bad_of c.args.self.now c.skip_and_step.new.self c.args.piece.now c.map_err.result (whole c)

@@ -1,0 +1,196 @@
+ghost use Rattle.std.specs.Prelude.{◌≡◌, ℕ, ◌+◌, ◌≤◌, ◌↔◌, List, [], ◌∷◌, ◌++◌, length, take, IsTrue, IsFalse, IsOk, IfSome, IfErr, MatchResult};
+ghost use Rattle.wsn_text.specs.Utf8.{IsText, BeginsText, IsFirstBad};
+ghost use Rattle.wsn_text.specs.Rest.{Follows};
+ghost use Rattle.wsn_text.specs.Taken.{HasTaken};
+ghost use Rattle.wsn_text.specs.Piece.{Takes, Breaks};
+ghost use Rattle.wsn_text.specs.Expected.{awaited};
+
+use simdutf8::compat::from_utf8;
+use std::marker::Model;
+
+/// What may come next: the bytes that the last character still needs, and the range of the first of them.
+#[derive(Clone, Copy, Debug)]
+enum Expected {
+    Character,
+    One,
+    Two,
+    TwoFromA0,
+    TwoUpTo9F,
+    Three,
+    ThreeFrom90,
+    ThreeUpTo8F,
+    Nothing,
+}
+
+impl Expected {
+    /// What may come after `byte`.
+    fn after(self, byte: u8) -> Expected
+        ensures { (more : List ℕ) → Follows (awaited self) (byte ∷ more) ↔ Follows (awaited result) more }
+    {
+        match self {
+            Expected::Character => Expected::after_first(byte),
+            Expected::One => Expected::Character.if_within(byte, 0x80, 0xBF),
+            Expected::Two => Expected::One.if_within(byte, 0x80, 0xBF),
+            Expected::TwoFromA0 => Expected::One.if_within(byte, 0xA0, 0xBF),
+            Expected::TwoUpTo9F => Expected::One.if_within(byte, 0x80, 0x9F),
+            Expected::Three => Expected::Two.if_within(byte, 0x80, 0xBF),
+            Expected::ThreeFrom90 => Expected::Two.if_within(byte, 0x90, 0xBF),
+            Expected::ThreeUpTo8F => Expected::Two.if_within(byte, 0x80, 0x8F),
+            Expected::Nothing => Expected::Nothing,
+        }
+    }
+
+    /// What may come after the first byte of a character.
+    fn after_first(byte: u8) -> Expected
+        ensures { (more : List ℕ) → IsText (byte ∷ more) ↔ Follows (awaited result) more }
+    {
+        match byte {
+            0x00..=0x7F => Expected::Character,
+            0xC2..=0xDF => Expected::One,
+            0xE0 => Expected::TwoFromA0,
+            0xE1..=0xEC => Expected::Two,
+            0xED => Expected::TwoUpTo9F,
+            0xEE..=0xEF => Expected::Two,
+            0xF0 => Expected::ThreeFrom90,
+            0xF1..=0xF3 => Expected::Three,
+            0xF4 => Expected::ThreeUpTo8F,
+            _ => Expected::Nothing,
+        }
+    }
+
+    /// This, if `byte` is one of `low` to `high`.
+    fn if_within(self, byte: u8, low: u8, high: u8) -> Expected
+        ensures { (more : List ℕ) → (low ≤ byte) × (byte ≤ high) × Follows (awaited self) more
+            ↔ Follows (awaited result) more }
+    {
+        if (low..=high).contains(&byte) {
+            self
+        } else {
+            Expected::Nothing
+        }
+    }
+
+    /// How many bytes the last character still needs.
+    fn missing(self) -> usize
+        ensures { IfSome (awaited self) (λ row. result ≡ length row) }
+    {
+        match self {
+            Expected::Character | Expected::Nothing => 0,
+            Expected::One => 1,
+            Expected::Two | Expected::TwoFromA0 | Expected::TwoUpTo9F => 2,
+            Expected::Three | Expected::ThreeFrom90 | Expected::ThreeUpTo8F => 3,
+        }
+    }
+}
+
+/// Checks UTF-8 that comes in pieces (Unicode Standard, Table 3-7; RFC 6455 sections 5.6 and 8.1). It doesn't keep
+/// the bytes that it has taken: one byte says what may follow them.
+#[derive(Clone, Copy, Debug)]
+pub struct Utf8 {
+    expected: Expected,
+}
+
+impl Model for Utf8 {
+    ghost use Rattle.std.specs.Prelude.{List, Option};
+    ghost use Rattle.wsn_text.specs.Utf8.{Range};
+    ghost use Rattle.wsn_text.specs.Expected.{awaited, expecting, expecting-awaited};
+
+    ghost Value = { Option (List Range) };
+
+    ghost view = { λ u. awaited u.expected };
+
+    ghost inverse = { λ ranges. record { expected = expecting ranges } };
+
+    ghost inverse_ok = { λ u h i. record { expected = expecting-awaited u.expected i } };
+}
+
+impl Utf8 {
+    /// No byte is taken yet.
+    pub fn new() -> Self
+        ensures { HasTaken result [] }
+    {
+        Utf8 {
+            expected: Expected::Character,
+        }
+    }
+
+    /// Takes the next piece, which may be empty.
+    ///
+    /// # Errors
+    ///
+    /// The offset in this piece of the first bad byte of all bytes taken. Once a bad byte has come, 0.
+    pub fn feed(&mut self, piece: &[u8]) -> Result<(), usize>
+        ensures taken { (taken : List ℕ) → HasTaken self.old taken → HasTaken self.new (taken ++ piece.now) }
+        ensures ok { (taken : List ℕ) → HasTaken self.old taken → (IsOk result ↔ BeginsText (taken ++ piece.now)) }
+        ensures first_bad { (taken : List ℕ) → HasTaken self.old taken → BeginsText taken
+            → IfErr result (λ i. IsFirstBad (taken ++ piece.now) (length taken + i)) }
+        ensures after_bad { (taken : List ℕ) → HasTaken self.old taken → ¬ (BeginsText taken) → result ≡ Err 0 }
+    {
+        let (begun, rest) = piece.split_at(self.expected.missing().min(piece.len()));
+        self.step_over(begun)?;
+        self.skip_and_step(rest).map_err(|i| begun.len() + i)
+    }
+
+    /// Whether the bytes taken are UTF-8. Never again true after a bad byte.
+    pub fn is_whole(&self) -> bool
+        ensures { (taken : List ℕ) → HasTaken self.now taken → (IsTrue result ↔ IsText taken) }
+    {
+        matches!(self.expected, Expected::Character)
+    }
+
+    /// Whether a bad byte has come, so that nothing may follow.
+    fn is_bad(&self) -> bool
+        ensures bad { IsTrue result → (more : List ℕ) → ¬ (Follows self.now more) }
+        ensures good { IsFalse result → (more : List ℕ) × Follows self.now more }
+    {
+        matches!(self.expected, Expected::Nothing)
+    }
+
+    /// Takes bytes, `simdutf8` those that it can.
+    fn skip_and_step(&mut self, bytes: &[u8]) -> Result<(), usize>
+        ensures within { IfErr result (λ i. i ≤ length bytes.now) }
+        ensures steps { MatchResult result (λ _. Takes self.old self.new bytes.now) (Breaks self.old self.new bytes.now) }
+    {
+        if !self.is_whole() {
+            return self.step_over(bytes);
+        }
+        let (text, rest) = bytes.split_at(text_front(bytes));
+        self.step_over(rest).map_err(|i| text.len() + i)
+    }
+
+    /// Takes bytes one by one.
+    fn step_over(&mut self, bytes: &[u8]) -> Result<(), usize>
+        ensures within { IfErr result (λ i. i ≤ length bytes.now) }
+        ensures steps { MatchResult result (λ _. Takes self.old self.new bytes.now) (Breaks self.old self.new bytes.now) }
+    {
+        if self.is_bad() {
+            return Err(0);
+        }
+        for (i, &byte) in bytes.iter().enumerate() {
+            self.expected = self.expected.after(byte);
+            if self.is_bad() {
+                return Err(i);
+            }
+        }
+        Ok(())
+    }
+}
+
+/// The length of a front that is text: all but a last character that may be unfinished, if no byte is bad.
+fn text_front(bytes: &[u8]) -> usize
+    ensures { (result ≤ length bytes.now) × IsText (take result bytes.now) }
+{
+    match from_utf8(&bytes[..last_character(bytes)]) {
+        Ok(text) => text.len(),
+        Err(bad) => bad.valid_up_to(),
+    }
+}
+
+/// Where the last character begins if it may be unfinished, else the end.
+fn last_character(bytes: &[u8]) -> usize
+    ensures { (result ≤ length bytes.now) × (length bytes.now ≤ result + 3) }
+{
+    let tail = bytes.len().saturating_sub(3);
+    let lead = bytes[tail..].iter().rposition(|&byte| byte >= 0xC0);
+    lead.map_or(bytes.len(), |i| tail + i)
+}
