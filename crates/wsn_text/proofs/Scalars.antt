@@ -5,7 +5,7 @@ use Rattle.std.proofs.lemmas.Str.{encode_ascii, IsUtf8-nil}
 use Rattle.std.specs.List.{AllByRecursion, concat}
 use Rattle.std.specs.Str.{IsUtf8}
 use lib.Utf8.{scalar, scalars, encode, encodes, next, low_scalar, scalar_cases}
-use Rattle.wsn_text.specs.Utf8.{Range, ◌–◌, FitsRow, IsCharacter, IsText}
+use Rattle.wsn_text.specs.Utf8.{Range, ◌–◌, table, FitsRow, FitsSome, IsCharacter, IsText}
 use Rattle.wsn_text.proofs.Rests.{text-nil, text_push}
 
 -- the bytes of a scalar value, by its size
@@ -145,36 +145,45 @@ row_of_four p q all (x ∷ y ∷ z ∷ []) fits = absurd fits.2.2.2
 row_of_four p q all (x ∷ y ∷ z ∷ w ∷ []) fits = all x y z w (fits.0, fits.1) (fits.2.0, fits.2.1) (fits.2.2.0, fits.2.2.1) (fits.2.2.2.0, fits.2.2.2.1)
 row_of_four p q all (x ∷ y ∷ z ∷ w ∷ v ∷ bytes) fits = absurd fits.2.2.2.2
 
+abbrev IsEncodedRow : List Range → Type 0
+IsEncodedRow row = (bytes : List ℕ) → FitsRow row bytes → IsEncoded bytes
+
+some_encoded : (rows : List (List Range)) → AllByRecursion IsEncodedRow rows → (bytes : List ℕ) → FitsSome rows bytes → IsEncoded bytes
+some_encoded [] each bytes fits = absurd fits
+some_encoded (row ∷ rows) each bytes fits = elim fits [ inl here ↦ each.0 bytes here | inr later ↦ some_encoded rows each.1 bytes later ]
+
+-- no row of three spells a character that two bytes hold, nor a surrogate
+three_row : (p q : Range) → (0xE0 ≤ p.low) × (p.high ≤ 0xEF) × (0x80 ≤ q.low) × (q.high ≤ 0xBF) → (0xE1 ≤ p.low) ⊎ (0xA0 ≤ q.low) → (q.high ≤ 0x9F) ⊎ ((p.high ≤ 0xEC) ⊎ (0xEE ≤ p.low)) → IsEncodedRow (p ∷ q ∷ any ∷ [])
+three_row p q ranges long surrogate = row_of_three p q (λ x y z first second third. three_encoded x y z (omega arith) (omega arith) third (grind arith) (grind arith))
+
+-- no row of four spells a character that three bytes hold, nor one above 0x10FFFF
+four_row : (p q : Range) → (0xF0 ≤ p.low) × (p.high ≤ 0xF4) × (0x80 ≤ q.low) × (q.high ≤ 0xBF) → (0xF1 ≤ p.low) ⊎ (0x90 ≤ q.low) → (p.high ≤ 0xF3) ⊎ (q.high ≤ 0x8F) → IsEncodedRow (p ∷ q ∷ any ∷ any ∷ [])
+four_row p q ranges long large = row_of_four p q (λ x y z w first second third fourth. four_encoded x y z w (omega arith) (omega arith) third fourth (grind arith) (grind arith))
+
 encoded : (bytes : List ℕ) → IsCharacter bytes → IsEncoded bytes
-encoded bytes fits =
-    elim fits [
-      | inl one ↦ row_of_one (0x00 – 0x7F) bytes one (omega arith)
-      | inr rows ↦ elim rows [
-        | inl two ↦ row_of_two (0xC2 – 0xDF) any two_encoded bytes two
-        | inr rows ↦ elim rows [
-          | inl E0 ↦ row_of_three (0xE0 – 0xE0) (0xA0 – 0xBF) (λ x y z a b c. three_encoded x y z (omega arith) (omega arith) c (inr b.0) (inr (inl (omega arith)))) bytes E0
-          | inr rows ↦ elim rows [
-            | inl E1 ↦ row_of_three (0xE1 – 0xEC) any (λ x y z a b c. three_encoded x y z (omega arith) (omega arith) c (inl (omega arith)) (inr (inl (omega arith)))) bytes E1
-            | inr rows ↦ elim rows [
-              | inl ED ↦ row_of_three (0xED – 0xED) (0x80 – 0x9F) (λ x y z a b c. three_encoded x y z (omega arith) (omega arith) c (inl (omega arith)) (inl b.1)) bytes ED
-              | inr rows ↦ elim rows [
-                | inl EE ↦ row_of_three (0xEE – 0xEF) any (λ x y z a b c. three_encoded x y z (omega arith) (omega arith) c (inl (omega arith)) (inr (inr (omega arith)))) bytes EE
-                | inr rows ↦ elim rows [
-                  | inl F0 ↦ row_of_four (0xF0 – 0xF0) (0x90 – 0xBF) (λ x y z w a b c d. four_encoded x y z w (omega arith) (omega arith) c d (inr b.0) (inl (omega arith))) bytes F0
-                  | inr rows ↦ elim rows [
-                    | inl F1 ↦ row_of_four (0xF1 – 0xF3) any (λ x y z w a b c d. four_encoded x y z w (omega arith) (omega arith) c d (inl (omega arith)) (inl (omega arith))) bytes F1
-                    | inr rows ↦ elim rows [
-                      | inl F4 ↦ row_of_four (0xF4 – 0xF4) (0x80 – 0x8F) (λ x y z w a b c d. four_encoded x y z w (omega arith) (omega arith) c d (inl (omega arith)) (inr b.1)) bytes F4
-                      | inr none ↦ absurd none
-                    ]
-                  ]
-                ]
-              ]
-            ]
-          ]
-        ]
-      ]
-    ]
+encoded =
+    some_encoded table (
+      λ bytes fits. row_of_one (0x00 – 0x7F) bytes fits (omega arith),
+      (
+        row_of_two (0xC2 – 0xDF) any two_encoded,
+        (
+          three_row (0xE0 – 0xE0) (0xA0 – 0xBF) (omega arith) (inr (omega arith)) (inr (inl (omega arith))),
+          (
+            three_row (0xE1 – 0xEC) any (omega arith) (inl (omega arith)) (inr (inl (omega arith))),
+            (
+              three_row (0xED – 0xED) (0x80 – 0x9F) (omega arith) (inl (omega arith)) (inl (omega arith)),
+              (
+                three_row (0xEE – 0xEF) any (omega arith) (inl (omega arith)) (inr (inr (omega arith))),
+                (
+                  four_row (0xF0 – 0xF0) (0x90 – 0xBF) (omega arith) (inr (omega arith)) (inl (omega arith)),
+                  (four_row (0xF1 – 0xF3) any (omega arith) (inl (omega arith)) (inl (omega arith)), (four_row (0xF4 – 0xF4) (0x80 – 0x8F) (omega arith) (inl (omega arith)) (inr (omega arith)), tt)),
+                ),
+              ),
+            ),
+          ),
+        ),
+      ),
+    )
 
 utf8_push : (c : ℕ) (bytes : List ℕ) → scalar c ≡ true → IsUtf8 bytes → IsUtf8 (encode c ++ bytes)
 utf8_push c bytes ok utf8 = (c ∷ utf8.0, (rw ok utf8.1.0, λ i. encode c ++ utf8.1.1 i))

@@ -7,6 +7,8 @@
 mod codes;
 pub mod laws;
 mod pieces;
+#[cfg(test)]
+mod tests;
 
 pub use codes::code_allowed;
 pub use pieces::Utf8;

@@ -46,6 +46,7 @@ impl Expected {
     {
         match byte {
             0x00..=0x7F => Expected::Character,
+            0x80..=0xC1 => Expected::Nothing,
             0xC2..=0xDF => Expected::One,
             0xE0 => Expected::TwoFromA0,
             0xE1..=0xEC => Expected::Two,
@@ -54,7 +55,7 @@ impl Expected {
             0xF0 => Expected::ThreeFrom90,
             0xF1..=0xF3 => Expected::Three,
             0xF4 => Expected::ThreeUpTo8F,
-            _ => Expected::Nothing,
+            0xF5..=0xFF => Expected::Nothing,
         }
     }
 

@@ -29,8 +29,8 @@ returns-in-241-to-243 c = behind_F1_to_F3 c.args.byte (omega arith)
 pub returns-in-244 : goal.returns-in-244
 returns-in-244 c = behind_F4 c.args.byte (omega arith)
 
-pub returns-in_default : goal.returns-in_default
-returns-in_default c more = (behind_none c.args.byte (inl (omega arith)) more, λ none. absurd none)
+pub returns-in-128-to-193 : goal.returns-in-128-to-193
+returns-in-128-to-193 c more = (behind_none c.args.byte (inl (omega arith)) more, λ none. absurd none)
 
-pub returns-in_default-2 : goal.returns-in_default-2
-returns-in_default-2 c more = (behind_none c.args.byte (inr (omega arith)) more, λ none. absurd none)
+pub returns-in-245-to-255 : goal.returns-in-245-to-255
+returns-in-245-to-255 c more = (behind_none c.args.byte (inr (omega arith)) more, λ none. absurd none)
