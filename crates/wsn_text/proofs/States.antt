@@ -1,5 +1,5 @@
 -- Which states of a `Utf8` are whole, and which let bytes follow.
-use Rattle.std.proofs.Common.{◌≡◌, ◌≢◌, ℕ, List, [], ◌∷◌, ◌++◌, Option, Some, None, refl, sym, subst, append-nil, arith}
+use Rattle.std.proofs.Common.{◌≡◌, ◌≢◌, ℕ, List, [], ◌∷◌, Option, refl, sym, subst, append-nil, arith}
 use Rattle.wsn_text.specs.Utf8.{Range, ◌–◌, IsText}
 use Rattle.wsn_text.specs.Rest.{Follows}
 use Rattle.wsn_text.specs.Taken.{HasTaken}

@@ -1,6 +1,6 @@
 -- What taking bytes makes of the state: byte by byte, by skipping text, and one piece behind another.
-use Rattle.std.proofs.Common.{◌≡◌, ℕ, ◌+◌, ◌-◌, ◌<◌, ◌≤◌, ◌⊎◌, ◌↔◌, List, [], ◌∷◌, ◌++◌, length, take, drop, get_or, Result, Ok, Err, Option, Some, None, inl, inr, refl, sym, ◌∙◌, subst, ap, append_assoc, append-nil, add-one, arith}
-use Rattle.std.proofs.Math.Seq.{take-length, take-append_seam, drop-append_seam, take-append-add, take-suc}
+use Rattle.std.proofs.Common.{◌≡◌, ℕ, ◌+◌, ◌<◌, ◌≤◌, ◌↔◌, List, [], ◌∷◌, ◌++◌, length, take, drop, get_or, Result, Ok, Err, Option, refl, sym, ◌∙◌, subst, ap, append_assoc, arith}
+use Rattle.std.proofs.Math.Seq.{take-append_seam, drop-append_seam, take-append-add}
 use Rattle.std.proofs.lemmas.List.{take-append-drop, take-take, take_more, length-append, length-take-le}
 use Rattle.std.proofs.lemmas.Str.{IsUtf8-drop, IsCharBoundary-from_take}
 use Rattle.std.specs.Result.{MatchResult, IfErr, IsOk}
@@ -58,28 +58,11 @@ pushed old new b same taken has =
 abbrev pub TakesFirst : State → State → List ℕ → ℕ → Type 0
 TakesFirst old new bytes n = (taken : List ℕ) → HasTaken old taken → HasTaken new (taken ++ take n bytes)
 
-pub takes_none : (state : State) (bytes : List ℕ) → TakesFirst state state bytes 0
-takes_none state bytes taken has = subst (HasTaken state) (sym (append-nil taken)) has
-
 pub takes_next : (old before new : State) (bytes : List ℕ) (i : ℕ) → i < length bytes → TakesFirst old before bytes i
     → ((more : List ℕ) → Follows before (get_or bytes i 0 ∷ more) ↔ Follows new more) → TakesFirst old new bytes (i + 1)
 takes_next old before new bytes i less takes same taken has =
     let e : (taken ++ take i bytes) ++ get_or bytes i 0 ∷ [] ≡ taken ++ take (i + 1) bytes = append_assoc taken (take i bytes) (get_or bytes i 0 ∷ []) ∙ ap (λ (front : List ℕ). taken ++ front) (sym (take_more bytes i 0 less)) in
     subst (HasTaken new) e (pushed before new (get_or bytes i 0) same (taken ++ take i bytes) (takes taken has))
-
-pub takes_all : (old new : State) (bytes : List ℕ) → TakesFirst old new bytes (length bytes) → Live new → Takes old new bytes
-takes_all old new bytes takes live =
-    let taken_all : (taken : List ℕ) → HasTaken old taken → HasTaken new (taken ++ bytes) = λ taken has. subst (λ (piece : List ℕ). HasTaken new (taken ++ piece)) (take-length bytes) (takes taken has) in
-    record { taken = taken_all; begins = λ taken has. begins_live new (taken ++ bytes) (taken_all taken has) live }
-
-pub dead_breaks : (state : State) (bytes : List ℕ) → Dead state → Breaks state state bytes 0
-dead_breaks state bytes dead =
-    record {
-      taken = λ taken has. stays_dead state taken bytes has dead;
-      ends = λ taken has begins. ends_dead state taken has dead (begins_front taken bytes begins);
-      first = λ taken has begins. absurd (ends_dead state taken has dead begins);
-      later = λ taken has ends. refl;
-    }
 
 pub breaks_at : (old before new : State) (bytes : List ℕ) (i : ℕ) → i < length bytes → TakesFirst old before bytes i → Live before
     → ((more : List ℕ) → Follows before (get_or bytes i 0 ∷ more) ↔ Follows new more) → Dead new → Breaks old new bytes i

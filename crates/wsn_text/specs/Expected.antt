@@ -1,5 +1,5 @@
 -- The ranges of the bytes that each state of a `Utf8` expects.
-use Rattle.std.specs.Prelude.{◌≡◌, ℕ, ◌==◌, if◌then◌else◌, List, [], ◌∷◌, Option, Some, None, refl}
+use Rattle.std.specs.Prelude.{◌≡◌, ◌==◌, if◌then◌else◌, List, [], ◌∷◌, Option, Some, None, refl}
 use Rattle.wsn_text.specs.Utf8.{Range, ◌–◌}
 use Rattle.wsn_text.specs.declared.pieces.Expected.{Expected}
 use Rattle.wsn_text.specs.declared.pieces.Expected.TheVariants.{Character, One, Two, TwoFromA0, TwoUpTo9F, Three, ThreeFrom90, ThreeUpTo8F, Nothing}

@@ -1,4 +1,4 @@
-ghost use Rattle.std.specs.Prelude.{◌≡◌, ℕ, ◌+◌, ◌≤◌, ◌↔◌, List, [], ◌∷◌, ◌++◌, length, take, IsTrue, IsFalse, IsOk, IfSome, IfErr, MatchResult};
+ghost use Rattle.std.specs.Prelude.{◌≡◌, ℕ, ◌+◌, ◌<◌, ◌≤◌, ◌⊎◌, ◌↔◌, List, [], ◌∷◌, ◌++◌, length, take, IsTrue, IsFalse, IsOk, IfSome, IfErr, MatchResult};
 ghost use Rattle.wsn_text.specs.Utf8.{IsText, BeginsText, IsFirstBad};
 ghost use Rattle.wsn_text.specs.Rest.{Follows};
 ghost use Rattle.wsn_text.specs.Taken.{HasTaken};
@@ -8,17 +8,22 @@ ghost use Rattle.wsn_text.specs.Expected.{awaited};
 use simdutf8::compat::from_utf8;
 use std::marker::Model;
 
-/// What may come next: the bytes that the last character still needs, and the range of the first of them.
+/// What may come next.
 #[derive(Clone, Copy, Debug)]
 enum Expected {
+    /// A character.
     Character,
+    /// The last byte of one.
     One,
+    /// Its last two bytes; or the first of them is at least A0, or at most 9F.
     Two,
     TwoFromA0,
     TwoUpTo9F,
+    /// Its last three bytes; or the first of them is at least 90, or at most 8F.
     Three,
     ThreeFrom90,
     ThreeUpTo8F,
+    /// Nothing, since a bad byte has come.
     Nothing,
 }
 
@@ -121,15 +126,21 @@ impl Utf8 {
     ///
     /// The offset in this piece of the first bad byte of all bytes taken. Once a bad byte has come, 0.
     pub fn feed(&mut self, piece: &[u8]) -> Result<(), usize>
+        ensures within { IfErr result (λ i. (i ≡ 0) ⊎ (i < length piece.now)) }
+
+        // Whatever was taken before:
         ensures taken { (taken : List ℕ) → HasTaken self.old taken → HasTaken self.new (taken ++ piece.now) }
         ensures ok { (taken : List ℕ) → HasTaken self.old taken → (IsOk result ↔ BeginsText (taken ++ piece.now)) }
         ensures first_bad { (taken : List ℕ) → HasTaken self.old taken → BeginsText taken
             → IfErr result (λ i. IsFirstBad (taken ++ piece.now) (length taken + i)) }
         ensures after_bad { (taken : List ℕ) → HasTaken self.old taken → ¬ (BeginsText taken) → result ≡ Err 0 }
     {
+        if self.is_bad() {
+            return Err(0);
+        }
         let (begun, rest) = piece.split_at(self.expected.missing().min(piece.len()));
-        self.step_over(begun)?;
-        self.skip_and_step(rest).map_err(|i| begun.len() + i)
+        self.take_each(begun)?;
+        self.take_rest(rest).map_err(|i| begun.len() + i)
     }
 
     /// Whether the bytes taken are UTF-8. Never again true after a bad byte.
@@ -147,26 +158,13 @@ impl Utf8 {
         matches!(self.expected, Expected::Nothing)
     }
 
-    /// Takes bytes, `simdutf8` those that it can.
-    fn skip_and_step(&mut self, bytes: &[u8]) -> Result<(), usize>
-        ensures within { IfErr result (λ i. i ≤ length bytes.now) }
-        ensures steps { MatchResult result (λ _. Takes self.old self.new bytes.now) (Breaks self.old self.new bytes.now) }
-    {
-        if !self.is_whole() {
-            return self.step_over(bytes);
-        }
-        let (text, rest) = bytes.split_at(text_front(bytes));
-        self.step_over(rest).map_err(|i| text.len() + i)
-    }
-
     /// Takes bytes one by one.
-    fn step_over(&mut self, bytes: &[u8]) -> Result<(), usize>
-        ensures within { IfErr result (λ i. i ≤ length bytes.now) }
+    fn take_each(&mut self, bytes: &[u8]) -> Result<(), usize>
+        requires { (more : List ℕ) × Follows self.old more }
+        ensures within { IfErr result (λ i. i < length bytes.now) }
+        ensures good { IsOk result → (more : List ℕ) × Follows self.new more }
         ensures steps { MatchResult result (λ _. Takes self.old self.new bytes.now) (Breaks self.old self.new bytes.now) }
     {
-        if self.is_bad() {
-            return Err(0);
-        }
         for (i, &byte) in bytes.iter().enumerate() {
             self.expected = self.expected.after(byte);
             if self.is_bad() {
@@ -174,6 +172,19 @@ impl Utf8 {
             }
         }
         Ok(())
+    }
+
+    /// Takes the bytes behind a character: those that are text at once, and what is left one by one.
+    fn take_rest(&mut self, bytes: &[u8]) -> Result<(), usize>
+        requires { (more : List ℕ) × Follows self.old more }
+        ensures within { IfErr result (λ i. i < length bytes.now) }
+        ensures steps { MatchResult result (λ _. Takes self.old self.new bytes.now) (Breaks self.old self.new bytes.now) }
+    {
+        if !self.is_whole() {
+            return self.take_each(bytes);
+        }
+        let (text, rest) = bytes.split_at(text_front(bytes));
+        self.take_each(rest).map_err(|i| text.len() + i)
     }
 }
 

@@ -1,4 +1,4 @@
-use Rattle.std.proofs.Common.{ℕ, ◌≤◌, List, length, take, sym, subst}
+use Rattle.std.proofs.Common.{ℕ, ◌≤◌, length, take, sym, subst}
 use Rattle.wsn_text.specs.Utf8.{IsText}
 use Rattle.wsn_text.proofs.Taking.{text_of_all, text_of_valid}
 use Rattle.wsn_text.proofs.pieces.text_front.Goals as goal

@@ -5,38 +5,38 @@ use Rattle.wsn_text.proofs.Taking.{Shifted, answers_behind, answers_before, take
 use Rattle.wsn_text.proofs.pieces.Utf8.feed.Goals as goal
 
 -- the character that was begun breaks
-broken : (c : goal.After-from_residual) → MatchResult c.from_residual.result (λ _. Takes c.args.self.now c.step_over.new.self c.args.piece.now) (Breaks c.args.self.now c.step_over.new.self c.args.piece.now)
+broken : (c : goal.After-from_residual) → MatchResult c.from_residual.result (λ _. Takes c.args.self.now c.take_each.new.self c.args.piece.now) (Breaks c.args.self.now c.take_each.new.self c.args.piece.now)
 broken c =
-    let is : c.from_residual.result ≡ Err c.in_err-step_over.field-0.0 = search rules in
-    answers_before c.args.self.now c.step_over.new.self c.split_at.result.0.now c.split_at.result.1.now c.args.piece.now c.from_residual.result c.in_err-step_over.field-0.0 c.split_at.ensures.by_index.0 is c.in_err-step_over.ensures.steps
+    let is : c.from_residual.result ≡ Err c.in_err-take_each.field-0.0 = search rules in
+    answers_before c.args.self.now c.take_each.new.self c.split_at.result.0.now c.split_at.result.1.now c.args.piece.now c.from_residual.result c.in_err-take_each.field-0.0 c.split_at.ensures.by_index.0 is c.in_err-take_each.ensures.steps
 
-pub returns-in_err-step_over-clause-taken : goal.returns-in_err-step_over-clause-taken
-returns-in_err-step_over-clause-taken c = taken_of c.args.self.now c.step_over.new.self c.args.piece.now c.from_residual.result (broken c)
+pub returns-in_err-take_each-clause-taken : goal.returns-in_err-take_each-clause-taken
+returns-in_err-take_each-clause-taken c = taken_of c.args.self.now c.take_each.new.self c.args.piece.now c.from_residual.result (broken c)
 
-pub returns-in_err-step_over-clause-ok : goal.returns-in_err-step_over-clause-ok
-returns-in_err-step_over-clause-ok c = ok_of c.args.self.now c.step_over.new.self c.args.piece.now c.from_residual.result (broken c)
+pub returns-in_err-take_each-clause-ok : goal.returns-in_err-take_each-clause-ok
+returns-in_err-take_each-clause-ok c = ok_of c.args.self.now c.take_each.new.self c.args.piece.now c.from_residual.result (broken c)
 
-pub returns-in_err-step_over-clause-first_bad : goal.returns-in_err-step_over-clause-first_bad
-returns-in_err-step_over-clause-first_bad c = first_bad_of c.args.self.now c.step_over.new.self c.args.piece.now c.from_residual.result (broken c)
+pub returns-in_err-take_each-clause-first_bad : goal.returns-in_err-take_each-clause-first_bad
+returns-in_err-take_each-clause-first_bad c = first_bad_of c.args.self.now c.take_each.new.self c.args.piece.now c.from_residual.result (broken c)
 
-pub returns-in_err-step_over-clause-after_bad : goal.returns-in_err-step_over-clause-after_bad
-returns-in_err-step_over-clause-after_bad c = after_bad_of c.args.self.now c.step_over.new.self c.args.piece.now c.from_residual.result (broken c)
+pub returns-in_err-take_each-clause-after_bad : goal.returns-in_err-take_each-clause-after_bad
+returns-in_err-take_each-clause-after_bad c = after_bad_of c.args.self.now c.take_each.new.self c.args.piece.now c.from_residual.result (broken c)
 
 -- it is completed, and the rest comes behind it
-whole : (c : goal.After-map_err) → MatchResult c.map_err.result (λ _. Takes c.args.self.now c.skip_and_step.new.self c.args.piece.now) (Breaks c.args.self.now c.skip_and_step.new.self c.args.piece.now)
+whole : (c : goal.After-map_err) → MatchResult c.map_err.result (λ _. Takes c.args.self.now c.take_rest.new.self c.args.piece.now) (Breaks c.args.self.now c.take_rest.new.self c.args.piece.now)
 whole c =
-    let shifted : Shifted c.skip_and_step.result c.map_err.result (length c.split_at.result.0.now) = search rules in
-    answers_behind c.args.self.now c.step_over.new.self c.skip_and_step.new.self c.split_at.result.0.now c.split_at.result.1.now c.args.piece.now c.skip_and_step.result c.map_err.result c.split_at.ensures.by_index.0
-    c.in_ok-step_over.ensures.steps shifted c.skip_and_step.ensures.steps
+    let shifted : Shifted c.take_rest.result c.map_err.result (length c.split_at.result.0.now) = search rules in
+    answers_behind c.args.self.now c.take_each.new.self c.take_rest.new.self c.split_at.result.0.now c.split_at.result.1.now c.args.piece.now c.take_rest.result c.map_err.result c.split_at.ensures.by_index.0
+    c.in_ok-take_each.ensures.steps shifted c.take_rest.ensures.steps
 
 pub returns-clause-taken : goal.returns-clause-taken
-returns-clause-taken c = taken_of c.args.self.now c.skip_and_step.new.self c.args.piece.now c.map_err.result (whole c)
+returns-clause-taken c = taken_of c.args.self.now c.take_rest.new.self c.args.piece.now c.map_err.result (whole c)
 
 pub returns-clause-ok : goal.returns-clause-ok
-returns-clause-ok c = ok_of c.args.self.now c.skip_and_step.new.self c.args.piece.now c.map_err.result (whole c)
+returns-clause-ok c = ok_of c.args.self.now c.take_rest.new.self c.args.piece.now c.map_err.result (whole c)
 
 pub returns-clause-first_bad : goal.returns-clause-first_bad
-returns-clause-first_bad c = first_bad_of c.args.self.now c.skip_and_step.new.self c.args.piece.now c.map_err.result (whole c)
+returns-clause-first_bad c = first_bad_of c.args.self.now c.take_rest.new.self c.args.piece.now c.map_err.result (whole c)
 
 pub returns-clause-after_bad : goal.returns-clause-after_bad
-returns-clause-after_bad c = after_bad_of c.args.self.now c.skip_and_step.new.self c.args.piece.now c.map_err.result (whole c)
+returns-clause-after_bad c = after_bad_of c.args.self.now c.take_rest.new.self c.args.piece.now c.map_err.result (whole c)
