@@ -91,6 +91,14 @@ impl Expected {
 
 /// Checks UTF-8 that comes in pieces (Unicode Standard, Table 3-7; RFC 6455 sections 5.6 and 8.1). It doesn't keep
 /// the bytes that it has taken: one byte says what may follow them.
+///
+/// ```
+/// let mut utf8 = Utf8::new();
+/// utf8.feed(b"5 \xE2\x82"); // Ok(()), and is_whole() is false
+/// utf8.feed(b"\xAC"); // Ok(()), and is_whole() is true
+/// utf8.feed(b"a\xFFb"); // Err(1)
+/// utf8.feed(b""); // Err(0)
+/// ```
 #[derive(Clone, Copy, Debug)]
 pub struct Utf8 {
     expected: Expected,
