@@ -1,7 +1,8 @@
 -- The rows of the table are the encodings of the scalar values, so the table's text is std's.
-use Rattle.std.proofs.Common.{◌≡◌, ℕ, ◌+◌, ◌-◌, ◌*◌, ◌/◌, ◌<◌, ◌≤◌, ◌⊎◌, ◌↔◌, true, List, [], ◌∷◌, ◌++◌, inl, inr, sym, ◌∙◌, subst, arith, lt-ltb, le-ltb, le-leb}
+use Rattle.std.proofs.Common.{◌≡◌, ℕ, ◌+◌, ◌-◌, ◌*◌, ◌/◌, ◌<◌, ◌≤◌, ◌⊎◌, ◌↔◌, true, List, [], ◌∷◌, ◌++◌, length, inl, inr, sym, ◌∙◌, subst, ap, arith, lt-ltb, le-ltb, le-leb}
 use Rattle.std.proofs.lemmas.Bool.{cases_lt, and_parts}
-use Rattle.std.proofs.lemmas.Str.{encode_ascii, IsUtf8-nil}
+use Rattle.std.proofs.lemmas.Str.{encode_ascii, IsUtf8-nil, length-encode, len_utf8_bounds}
+use Rattle.std.specs.Char.{len_utf8}
 use Rattle.std.specs.List.{AllByRecursion, concat}
 use Rattle.std.specs.Str.{IsUtf8}
 use lib.Utf8.{scalar, scalars, encode, encodes, next, low_scalar, scalar_cases}
@@ -184,6 +185,13 @@ encoded =
         ),
       ),
     )
+
+pub character_length : (bytes : List ℕ) → IsCharacter bytes → (0 < length bytes) × (length bytes ≤ 4)
+character_length bytes fits =
+    let e : IsEncoded bytes = encoded bytes fits in
+    let len : length bytes ≡ len_utf8 e.value = ap length (sym e.encoded) ∙ length-encode e.value in
+    let bounds = len_utf8_bounds e.value in
+    (omega arith, omega arith)
 
 utf8_push : (c : ℕ) (bytes : List ℕ) → scalar c ≡ true → IsUtf8 bytes → IsUtf8 (encode c ++ bytes)
 utf8_push c bytes ok utf8 = (c ∷ utf8.0, (rw ok utf8.1.0, λ i. encode c ++ utf8.1.1 i))

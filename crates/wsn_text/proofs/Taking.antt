@@ -1,27 +1,17 @@
 -- What taking bytes makes of the state: byte by byte, by skipping text, and one piece behind another.
-use Rattle.std.proofs.Common.{◌≡◌, ℕ, ◌+◌, ◌<◌, ◌≤◌, ◌↔◌, List, [], ◌∷◌, ◌++◌, length, take, drop, get_or, Result, Ok, Err, Option, refl, sym, ◌∙◌, subst, ap, append_assoc, arith}
-use Rattle.std.proofs.Math.Seq.{take-append_seam, drop-append_seam, take-append-add}
-use Rattle.std.proofs.lemmas.List.{take-append-drop, take-take, take_more, length-append, length-take-le}
-use Rattle.std.proofs.lemmas.Str.{IsUtf8-drop, IsCharBoundary-from_take}
+use Rattle.std.proofs.Common.{◌≡◌, ℕ, ◌+◌, ◌<◌, ◌↔◌, List, [], ◌∷◌, ◌++◌, length, take, drop, get_or, Result, Ok, Err, Option, refl, sym, ◌∙◌, subst, ap, append_assoc, arith}
+use Rattle.std.proofs.Math.Seq.{take-append-add}
+use Rattle.std.proofs.lemmas.List.{take-append-drop, take_more, length-append}
 use Rattle.std.specs.Result.{MatchResult, IfErr, IsOk}
-use Rattle.std.specs.Str.{IsUtf8, IsValidUpTo}
 use Rattle.wsn_text.specs.Utf8.{Range, IsText, BeginsText, IsFirstBad}
 use Rattle.wsn_text.specs.Rest.{Follows}
 use Rattle.wsn_text.specs.Taken.{HasTaken}
 use Rattle.wsn_text.specs.Piece.{Takes, Breaks}
-use Rattle.wsn_text.proofs.Scalars.{text_is_utf8}
+use Rattle.wsn_text.proofs.Boundaries.{text_behind}
 use Rattle.wsn_text.proofs.Fronts.{text-append, text_begins, begins_front, begins_shorter, first_bad-append}
 
 abbrev State : Type 0
 State = Option (List Range)
-
-pub text_behind : (front back : List ℕ) → IsText front → IsText (front ++ back) → IsText back
-text_behind front back text joined =
-    let utf8 : IsUtf8 (front ++ back) = (text_is_utf8 (front ++ back)).0 joined in
-    let front_utf8 : IsUtf8 (take (length front) (front ++ back)) = subst IsUtf8 (sym (take-append_seam front back)) ((text_is_utf8 front).0 text) in
-    let le : length front ≤ length (front ++ back) = omega (arith, length-append front back) in
-    let behind : IsUtf8 (drop (length front) (front ++ back)) = IsUtf8-drop (front ++ back) (length front) utf8 (IsCharBoundary-from_take (front ++ back) (length front) utf8 le front_utf8) in
-    (text_is_utf8 back).1 (subst IsUtf8 (drop-append_seam front back) behind)
 
 -- something may follow, or nothing may
 
@@ -98,19 +88,6 @@ takes_text state text whole is_text =
       };
       begins = λ taken has. text_begins (taken ++ text) (both taken has);
     }
-
--- a front of a front that is UTF-8
-
-pub text_of_all : (bytes text : List ℕ) (n : ℕ) → n ≤ length bytes → text ≡ take n bytes → IsUtf8 (take n bytes) → (length text ≤ length bytes) × IsText (take (length text) bytes)
-text_of_all bytes text n le is utf8 =
-    let len : length text ≡ n = ap length is ∙ length-take-le n bytes le in
-    (omega arith, subst (λ (m : ℕ). IsText (take m bytes)) (sym len) ((text_is_utf8 (take n bytes)).1 utf8))
-
-pub text_of_valid : (bytes : List ℕ) (n at : ℕ) → n ≤ length bytes → IsValidUpTo (take n bytes) at → (at ≤ length bytes) × IsText (take at bytes)
-text_of_valid bytes n at le valid =
-    let short : at < length (take n bytes) = valid.short in
-    let len : length (take n bytes) ≡ n = length-take-le n bytes le in
-    (omega arith, subst IsText (take-take at n bytes (omega arith)) ((text_is_utf8 (take at (take n bytes))).1 valid.front))
 
 -- one piece behind another
 

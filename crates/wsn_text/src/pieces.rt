@@ -198,7 +198,8 @@ impl Utf8 {
 
 /// The length of a front that is text: all but a last character that may be unfinished, if no byte is bad.
 fn text_front(bytes: &[u8]) -> usize
-    ensures { (result ≤ length bytes.now) × IsText (take result bytes.now) }
+    ensures text { (result ≤ length bytes.now) × IsText (take result bytes.now) }
+    ensures most { result + 6 < length bytes.now → ¬ (BeginsText bytes.now) }
 {
     match from_utf8(&bytes[..last_character(bytes)]) {
         Ok(text) => text.len(),

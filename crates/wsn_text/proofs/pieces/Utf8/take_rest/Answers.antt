@@ -9,4 +9,4 @@ returns-clause-steps c =
     let text = c.split_at.result.0.now in
     let shifted : Shifted c.take_each-2.result c.map_err.result (length text) = search rules in
     answers_behind old old c.take_each-2.new.self text c.split_at.result.1.now c.args.bytes.now c.take_each-2.result c.map_err.result c.split_at.ensures.by_index.0
-    (takes_text old text (λ taken has. (c.if-not-is_whole.ensures taken has).0 refl) (subst IsText (sym c.split_at.ensures.front) c.text_front.ensures.1)) shifted c.take_each-2.ensures.steps
+    (takes_text old text (λ taken has. (c.if-not-is_whole.ensures taken has).0 refl) (subst IsText (sym c.split_at.ensures.front) c.text_front.ensures.text.1)) shifted c.take_each-2.ensures.steps
