@@ -1,5 +1,5 @@
 -- The law of one frame, for the endpoint that sent it. RFC 6455 sections 5.1, 5.2, 5.5 and 7.4.
-use Rattle.std.specs.Prelude.{◌≡◌, ◌≤◌, ◌↔◌, Bool, true, length, IsSome, IsTrue}
+use Rattle.std.specs.Prelude.{◌≡◌, ◌≤◌, ◌↔◌, true, length, IsSome}
 use Rattle.wsn_wire.specs.declared.endpoint.Role.{Role}
 use Rattle.wsn_wire.specs.declared.endpoint.Role.TheVariants.{Client}
 use Rattle.wsn_wire.specs.declared.opcode.Op.TheVariants.{Close}

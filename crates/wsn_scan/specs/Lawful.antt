@@ -1,5 +1,5 @@
 -- Lawful lists of frames. RFC 6455 sections 5.4, 5.5.1, 5.6 and 8.1.
-use Rattle.std.specs.Prelude.{◌≡◌, ◌≢◌, ℕ, ◌≤◌, ◌↔◌, true, List, [], ◌∷◌, ◌++◌, length}
+use Rattle.std.specs.Prelude.{◌≡◌, ◌≢◌, ◌≤◌, ◌↔◌, true, List, [], ◌∷◌, ◌++◌, length}
 use Rattle.std.specs.Option.{ForSome}
 use Rattle.wsn_wire.specs.declared.endpoint.Role.{Role}
 use Rattle.wsn_wire.specs.declared.opcode.Op.TheVariants.{Continue, Text, Close}

@@ -4,3 +4,7 @@ pub mod FrameLaw
 pub mod Lawful
 pub mod Accepted
 pub mod Meaning
+pub mod Order
+pub mod Evidence
+pub mod Summary
+pub mod Verdict

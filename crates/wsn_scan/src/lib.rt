@@ -4,5 +4,8 @@
 #![tactic(auto)]
 
 mod ceilings;
+pub mod laws;
+mod outcome;
 
 pub use ceilings::Limits;
+pub use outcome::{Refusal, Summary, Verdict};
