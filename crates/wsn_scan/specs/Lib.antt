@@ -2,6 +2,7 @@ pub mod Bounds
 pub mod Group
 pub mod FrameLaw
 pub mod Lawful
+pub mod Behind
 pub mod Accepted
 pub mod Meaning
 pub mod Order
