@@ -118,3 +118,18 @@ module _ (role : Role) (bounds : Bounds) where
         | inl c ↦ subst (λ (hs : List Frame). IsLawful role bounds (before ++ f ∷ hs)) (sym (behind.1 c)) with_f
         | inr o ↦ subst (IsLawful role bounds) (push-append before f fs) (lawful_from_front (before ++ f ∷ []) fs with_f (no_close_push before f none o) behind.2)
       ]
+
+  pub came_on : (fs : List Frame) (f : Frame) → IsLawful role bounds (fs ++ f ∷ []) → IsLawful role bounds fs × HasNoClose fs × LawAt role bounds fs f
+  came_on fs f lawful = (lawful_front fs (f ∷ []) lawful, no_close_before fs f [] lawful, law_at_split fs f [] lawful)
+
+  pub lawful_iff_from_front : (fs : List Frame) → IsLawful role bounds fs ↔ AreLawfulBehind role bounds [] fs
+  lawful_iff_from_front fs = (λ lawful. lawful_behind [] fs lawful, λ behind. lawful_from_front [] fs lawful_nil no_close_nil behind)
+
+  pub finished_is_accepted : (fs : List Frame) → IsLawful role bounds fs → unfinished fs ≡ [] → IsAccepted role bounds (stream fs) fs
+  finished_is_accepted fs lawful finished = record {
+      lawful = lawful;
+      ends = elim (close_is_last fs lawful) [
+        | inl none ↦ inl (none, finished, refl)
+        | inr close ↦ inr (close, ([], sym (append-nil (stream fs))))
+      ]
+    }

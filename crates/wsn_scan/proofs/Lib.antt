@@ -1,2 +1,4 @@
 pub mod Fronts
 pub mod LawfulLists
+pub mod Groups
+pub mod Walk
