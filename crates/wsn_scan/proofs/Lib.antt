@@ -2,3 +2,4 @@ pub mod Fronts
 pub mod LawfulLists
 pub mod Groups
 pub mod Walk
+pub mod RowsOfLayout
