@@ -6,3 +6,6 @@ pub mod RowsOfLayout
 pub mod MessageText
 pub mod LawfulRows
 pub mod UnshownLayouts
+pub mod DecidedRows
+pub mod DecidedEvidence
+pub mod LeastShown
