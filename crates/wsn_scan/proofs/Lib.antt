@@ -9,3 +9,5 @@ pub mod UnshownLayouts
 pub mod DecidedRows
 pub mod DecidedEvidence
 pub mod LeastShown
+pub mod LayoutFronts
+pub mod EveryInput
