@@ -11,3 +11,5 @@ pub mod DecidedEvidence
 pub mod LeastShown
 pub mod LayoutFronts
 pub mod EveryInput
+pub mod OneVerdict
+pub mod StaysRefused
