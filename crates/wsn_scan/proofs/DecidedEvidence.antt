@@ -1,5 +1,5 @@
 -- Whether bytes are evidence is decided, and so is whether a front of bytes is.
-use Rattle.std.proofs.Common.{◌≡◌, ◌≢◌, ℕ, zero, suc, ◌+◌, ◌<◌, ◌≤◌, List, [], ◌∷◌, ◌++◌, ◌⊎◌, length, take, drop, refl, sym, ap, ◌∙◌, subst, inl, inr, arith}
+use Rattle.std.proofs.Common.{◌≡◌, ℕ, ◌+◌, ◌<◌, ◌≤◌, List, [], ◌∷◌, ◌++◌, length, take, drop, refl, sym, ap, ◌∙◌, subst, inl, inr, arith}
 use Rattle.std.proofs.lemmas.Bool.{cases_lt, cases_eq}
 use Rattle.std.proofs.lemmas.List.{take-append-drop, length-take-le, length-append}
 use Rattle.wsn_wire.specs.declared.endpoint.Role.{Role}
@@ -10,7 +10,7 @@ use Rattle.wsn_wire.specs.Rows.{ShownBySecond}
 use Rattle.wsn_scan.specs.Bounds.{Bounds}
 use Rattle.wsn_scan.specs.Evidence.{Evidence, EvidentByFirst, EvidentByLength, EvidentByPayload, IntoPayload, unmasked}
 use Rattle.wsn_scan.specs.Evidence.Evidence.{ByFirst, BySecond, ByLength, ByPayload}
-use Rattle.wsn_scan.proofs.Fronts.{head_same, tail_same, nil-cons, same_front, append_cancel}
+use Rattle.wsn_scan.proofs.Fronts.{head_same, tail_same, nil-cons, same_front}
 use Rattle.wsn_scan.proofs.DecidedRows.{Decided, by_first, by_second, by_length, by_payload}
 
 -- ---- the head, and what has come of the payload
@@ -45,9 +45,9 @@ unfolding RowInto
 row_into_same group reason seen p q row =
     let same = same_into seen p q in
     let total : length_told (len_form_at p.second) p.len ≡ length_told (len_form_at q.second) q.len =
-        ap (λ (b : ℕ). length_told (len_form_at b) p.len) same.second ∙ ap (λ (bs : List ℕ). length_told (len_form_at q.second) bs) same.len in
+    ap (λ (b : ℕ). length_told (len_form_at b) p.len) same.second ∙ ap (λ (bs : List ℕ). length_told (len_form_at q.second) bs) same.len in
     let payload : unmasked p.second p.key p.wire ≡ unmasked q.second q.key q.wire =
-        ap (λ (b : ℕ). unmasked b p.key p.wire) same.second ∙ ap (λ (bs : List ℕ). unmasked q.second bs p.wire) same.key ∙ ap (λ (bs : List ℕ). unmasked q.second q.key bs) same.wire in
+    ap (λ (b : ℕ). unmasked b p.key p.wire) same.second ∙ ap (λ (bs : List ℕ). unmasked q.second bs p.wire) same.key ∙ ap (λ (bs : List ℕ). unmasked q.second q.key bs) same.wire in
     subst (λ (b : ℕ). EvidentByPayload group reason b (length_told (len_form_at q.second) q.len) (unmasked q.second q.key q.wire)) same.first
     (subst (λ (n : ℕ). EvidentByPayload group reason p.first n (unmasked q.second q.key q.wire)) total
     (subst (λ (bs : List ℕ). EvidentByPayload group reason p.first (length_told (len_form_at p.second) p.len) bs) payload row))
@@ -60,17 +60,17 @@ into_payload (first ∷ second ∷ rest) =
     elim (cases_lt (length rest) (length_count (len_form_at second) + key_count second)) [
       | inl short ↦ inr (λ p. omega (arith, as_long p))
       | inr long ↦
-        let count = length_count (len_form_at second) in
-        let keys = key_count second in
-        let len = take (length_count (len_form_at second)) rest in
-        let behind = drop (length_count (len_form_at second)) rest in
-        let len_is : length (take (length_count (len_form_at second)) rest) ≡ length_count (len_form_at second) = length-take-le (length_count (len_form_at second)) rest (omega arith) in
-        let parted : take (length_count (len_form_at second)) rest ++ drop (length_count (len_form_at second)) rest ≡ rest = take-append-drop (length_count (len_form_at second)) rest in
-        let all : length rest ≡ length (take (length_count (len_form_at second)) rest) + length (drop (length_count (len_form_at second)) rest) = ap (λ (bs : List ℕ). length bs) (sym parted) ∙ length-append (take (length_count (len_form_at second)) rest) (drop (length_count (len_form_at second)) rest) in
-        let enough : key_count second ≤ length (drop (length_count (len_form_at second)) rest) = omega arith in
-        let key_is : length (take (key_count second) (drop (length_count (len_form_at second)) rest)) ≡ key_count second = length-take-le (key_count second) (drop (length_count (len_form_at second)) rest) enough in
-        let key_parted : take (key_count second) (drop (length_count (len_form_at second)) rest) ++ drop (key_count second) (drop (length_count (len_form_at second)) rest) ≡ drop (length_count (len_form_at second)) rest = take-append-drop (key_count second) (drop (length_count (len_form_at second)) rest) in
-        with_parts (take (length_count (len_form_at second)) rest) (take (key_count second) (drop (length_count (len_form_at second)) rest)) (drop (key_count second) (drop (length_count (len_form_at second)) rest))
+          let count = length_count (len_form_at second) in
+          let keys = key_count second in
+          let len = take (length_count (len_form_at second)) rest in
+          let behind = drop (length_count (len_form_at second)) rest in
+          let len_is : length (take (length_count (len_form_at second)) rest) ≡ length_count (len_form_at second) = length-take-le (length_count (len_form_at second)) rest (omega arith) in
+          let parted : take (length_count (len_form_at second)) rest ++ drop (length_count (len_form_at second)) rest ≡ rest = take-append-drop (length_count (len_form_at second)) rest in
+          let all : length rest ≡ length (take (length_count (len_form_at second)) rest) + length (drop (length_count (len_form_at second)) rest) = ap (λ (bs : List ℕ). length bs) (sym parted) ∙ length-append (take (length_count (len_form_at second)) rest) (drop (length_count (len_form_at second)) rest) in
+          let enough : key_count second ≤ length (drop (length_count (len_form_at second)) rest) = omega arith in
+          let key_is : length (take (key_count second) (drop (length_count (len_form_at second)) rest)) ≡ key_count second = length-take-le (key_count second) (drop (length_count (len_form_at second)) rest) enough in
+          let key_parted : take (key_count second) (drop (length_count (len_form_at second)) rest) ++ drop (key_count second) (drop (length_count (len_form_at second)) rest) ≡ drop (length_count (len_form_at second)) rest = take-append-drop (key_count second) (drop (length_count (len_form_at second)) rest) in
+          with_parts (take (length_count (len_form_at second)) rest) (take (key_count second) (drop (length_count (len_form_at second)) rest)) (drop (key_count second) (drop (length_count (len_form_at second)) rest))
           (sym parted ∙ ap (λ (bs : List ℕ). take (length_count (len_form_at second)) rest ++ bs) (sym key_parted)) len_is key_is
     ]
   where
@@ -81,10 +81,11 @@ into_payload (first ∷ second ∷ rest) =
         let seconds : second ≡ p.second = head_same second p.second rest theirs tails in
         let rests : rest ≡ theirs = tail_same second p.second rest theirs tails in
         let counts : length rest ≡ length p.len + (length p.key + length p.wire) =
-            ap (λ (bs : List ℕ). length bs) rests ∙ length-append p.len (p.key ++ p.wire) ∙ ap (λ (n : ℕ). length p.len + n) (length-append p.key p.wire) in
+        ap (λ (bs : List ℕ). length bs) rests ∙ length-append p.len (p.key ++ p.wire) ∙ ap (λ (n : ℕ). length p.len + n) (length-append p.key p.wire) in
         let lens : length p.len ≡ length_count (len_form_at second) = p.len_count ∙ ap (λ (b : ℕ). length_count (len_form_at b)) (sym seconds) in
         let keys : length p.key ≡ key_count second = p.key_counted ∙ ap key_count (sym seconds) in
         omega arith
+
     with_parts : (len key wire : List ℕ) → rest ≡ len ++ (key ++ wire) → length len ≡ length_count (len_form_at second) → length key ≡ key_count second → Decided (IntoPayload (first ∷ second ∷ rest))
     with_parts len key wire is len_is key_is =
         elim (cases_lt (length_told (len_form_at second) len) (length wire)) [
@@ -104,7 +105,7 @@ into_payload (first ∷ second ∷ rest) =
             let keys = same_front key p.key wire p.wire key_counts lens.1 in
             let wires : length wire ≡ length p.wire = ap (λ (bs : List ℕ). length bs) keys.1 in
             let told : length_told (len_form_at second) len ≡ length_told (len_form_at p.second) p.len =
-                ap (λ (b : ℕ). length_told (len_form_at b) len) seconds ∙ ap (λ (bs : List ℕ). length_told (len_form_at p.second) bs) lens.0 in
+            ap (λ (b : ℕ). length_told (len_form_at b) len) seconds ∙ ap (λ (bs : List ℕ). length_told (len_form_at p.second) bs) lens.0 in
             let fits : length p.wire ≤ length_told (len_form_at p.second) p.len = p.within in
             omega arith
 
@@ -140,16 +141,16 @@ module _ (role : Role) (bounds : Bounds) (group : List Frame) (reason : Reason) 
   length_evidence (b ∷ c ∷ len) =
       elim (cases_eq (length len) (length_count (len_form_at c))) [
         | inr other ↦ inr (λ p.
-          let tails = tail_same b p.0 (c ∷ len) (p.1 ∷ p.2) p.3 in
-          other (ap (λ (bs : List ℕ). length bs) (tail_same c p.1 len p.2 tails) ∙ p.4 ∙ ap (λ (n : ℕ). length_count (len_form_at n)) (sym (head_same c p.1 len p.2 tails))))
+            let tails = tail_same b p.0 (c ∷ len) (p.1 ∷ p.2) p.3 in
+            other (ap (λ (bs : List ℕ). length bs) (tail_same c p.1 len p.2 tails) ∙ p.4 ∙ ap (λ (n : ℕ). length_count (len_form_at n)) (sym (head_same c p.1 len p.2 tails))))
         | inl count ↦ elim (by_length bounds group reason b c len) [
-            | inl row ↦ inl (b, c, len, refl, count, row)
-            | inr not ↦ inr (λ p.
+          | inl row ↦ inl (b, c, len, refl, count, row)
+          | inr not ↦ inr (λ p.
               let tails = tail_same b p.0 (c ∷ len) (p.1 ∷ p.2) p.3 in
               not (subst (λ (n : ℕ). EvidentByLength bounds group reason n c len) (sym (head_same b p.0 (c ∷ len) (p.1 ∷ p.2) p.3))
               (subst (λ (n : ℕ). EvidentByLength bounds group reason p.0 n len) (sym (head_same c p.1 len p.2 tails))
               (subst (λ (bs : List ℕ). EvidentByLength bounds group reason p.0 p.1 bs) (sym (tail_same c p.1 len p.2 tails)) p.5))))
-          ]
+        ]
       ]
 
   payload_evidence : (seen : List ℕ) → Decided ((p : IntoPayload seen) × RowInto group reason p)
@@ -158,9 +159,9 @@ module _ (role : Role) (bounds : Bounds) (group : List Frame) (reason : Reason) 
       elim (into_payload seen) [
         | inr not ↦ inr (λ p. not p.0)
         | inl p ↦ elim (by_payload group reason p.first (length_told (len_form_at p.second) p.len) (unmasked p.second p.key p.wire)) [
-            | inl row ↦ inl (p, row)
-            | inr not ↦ inr (λ q. not (row_into_same group reason seen q.0 p q.1))
-          ]
+          | inl row ↦ inl (p, row)
+          | inr not ↦ inr (λ q. not (row_into_same group reason seen q.0 p q.1))
+        ]
       ]
 
   pub evidence_decided : (seen : List ℕ) → Decided (Evidence role bounds group reason seen)
@@ -169,15 +170,15 @@ module _ (role : Role) (bounds : Bounds) (group : List Frame) (reason : Reason) 
       elim (first_evidence seen) [
         | inl p ↦ inl (ByFirst p.0 p.1 p.2)
         | inr no_first ↦ elim (second_evidence seen) [
-            | inl p ↦ inl (BySecond p.0 p.1 p.2 p.3)
-            | inr no_second ↦ elim (length_evidence seen) [
-                | inl p ↦ inl (ByLength p.0 p.1 p.2 p.3 p.4 p.5)
-                | inr no_length ↦ elim (payload_evidence seen) [
-                    | inl p ↦ inl (ByPayload p.0 p.1)
-                    | inr no_payload ↦ inr (λ e. none no_first no_second no_length no_payload e)
-                  ]
-              ]
+          | inl p ↦ inl (BySecond p.0 p.1 p.2 p.3)
+          | inr no_second ↦ elim (length_evidence seen) [
+            | inl p ↦ inl (ByLength p.0 p.1 p.2 p.3 p.4 p.5)
+            | inr no_length ↦ elim (payload_evidence seen) [
+              | inl p ↦ inl (ByPayload p.0 p.1)
+              | inr no_payload ↦ inr (λ e. none no_first no_second no_length no_payload e)
+            ]
           ]
+        ]
       ]
     where
       none : (((first : ℕ) × (seen ≡ first ∷ []) × EvidentByFirst bounds group reason first) → ⊥) → (((first : ℕ) × (second : ℕ) × (seen ≡ first ∷ second ∷ []) × ShownBySecond role reason first second) → ⊥) → (LengthEvidence seen → ⊥) → (((p : IntoPayload seen) × RowInto group reason p) → ⊥) → Evidence role bounds group reason seen → ⊥

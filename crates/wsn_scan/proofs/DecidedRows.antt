@@ -1,9 +1,8 @@
 -- Whether a row of the table holds is decided.
-use Rattle.std.proofs.Common.{◌≡◌, ◌≢◌, ℕ, zero, suc, ◌+◌, ◌^◌, ◌<◌, ◌≤◌, Bool, true, false, Option, Some, None, List, [], ◌∷◌, ◌++◌, ◌⊎◌, length, take, drop, refl, sym, ap, ◌∙◌, subst, inl, inr, arith, true≢false}
+use Rattle.std.proofs.Common.{◌≡◌, ℕ, ◌+◌, ◌^◌, ◌<◌, ◌≤◌, Bool, true, false, Option, Some, None, List, [], ◌∷◌, ◌++◌, ◌⊎◌, length, drop, refl, sym, ap, ◌∙◌, inl, inr, arith, true≢false}
 use Rattle.std.specs.Int.{from_be_bytes, w16}
 use Rattle.std.proofs.lemmas.Bool.{cases_lt, cases_eq}
 use Rattle.std.proofs.lemmas.Option.{same_Some}
-use Rattle.std.proofs.lemmas.List.{take-append-drop, length-take-le}
 use Rattle.wsn_wire.specs.declared.endpoint.Role.{Role}
 use Rattle.wsn_wire.specs.declared.endpoint.Role.TheVariants.{Client, Server}
 use Rattle.wsn_wire.specs.declared.spelling.Lengths.{Lengths}
@@ -15,16 +14,15 @@ use Rattle.wsn_wire.specs.declared.opcode.Op.TheVariants.{Continue, Text, Binary
 use Rattle.wsn_wire.specs.declared.refusal.Reason.{Reason}
 use Rattle.wsn_wire.specs.declared.refusal.Reason.TheVariants.{ReservedBits, ReservedOpcode, ControlNotFinal, NothingToContinue, MessageOpen, MaskMissing, MaskPresent, ControlTooLong, CloseOneByte, LengthTopBit, LengthNotMinimal, MessageTooBig, CloseCode, CloseReason, TextBad, TextCut, TooManyFrames}
 use Rattle.wsn_wire.specs.Frame.{Frame}
-use Rattle.wsn_wire.specs.Layout.{fin_bit, reserved_bits, opcode_field, mask_bit, len_form_at, length_count, length_told, key_count}
-use Rattle.wsn_wire.specs.Rows.{IsReserved, IsControlOpcode, IsLong, IsNotMinimal, HasTopBit, ShownBySecond}
-use Rattle.wsn_text.specs.Utf8.{IsText, BeginsText, IsFirstBad}
+use Rattle.wsn_wire.specs.Layout.{fin_bit, reserved_bits, opcode_field, mask_bit, len_form_at, length_told}
+use Rattle.wsn_wire.specs.Rows.{IsLong, IsNotMinimal, HasTopBit, ShownBySecond}
+use Rattle.wsn_text.specs.Utf8.{IsText, BeginsText}
 use Rattle.wsn_text.proofs.Decide.{begins_decided, text_decided}
 use Rattle.wsn_text.proofs.Fronts.{bad_ends, first_bad_unique, begins_or_first_bad}
 use Rattle.wsn_scan.specs.Bounds.{Bounds}
 use Rattle.wsn_scan.specs.Group.{text_of}
-use Rattle.wsn_scan.specs.Evidence.{Evidence, EvidentByFirst, EvidentByLength, EvidentByPayload, IntoPayload, IsDataOpcode, IsOfText, EndsBad, EndsInside, unmasked}
-use Rattle.wsn_scan.specs.Evidence.Evidence.{ByFirst, BySecond, ByLength, ByPayload}
-use Rattle.wsn_scan.proofs.Fronts.{head_same, tail_same, nil-cons, same_front, append_cancel}
+use Rattle.wsn_scan.specs.Evidence.{EvidentByFirst, EvidentByLength, EvidentByPayload, IsDataOpcode, IsOfText, EndsBad, EndsInside}
+use Rattle.wsn_scan.proofs.Fronts.{nil-cons}
 use Rattle.wsn_scan.proofs.MessageText.{accepted_code_or_not}
 
 abbrev pub Decided : Type 0 → Type 0
@@ -113,9 +111,9 @@ ends_bad text =
     elim (begins_or_first_bad text) [
       | inl begins ↦ inr (λ bad. bad_ends text bad.0 bad.2 begins)
       | inr bad ↦ elim (cases_eq (bad.0 + 1) (length text)) [
-          | inl last ↦ inl (bad.0, last, bad.1)
-          | inr other ↦ inr (λ ends. other (ap (λ (n : ℕ). n + 1) (first_bad_unique text bad.0 ends.0 bad.1 ends.2) ∙ ends.1))
-        ]
+        | inl last ↦ inl (bad.0, last, bad.1)
+        | inr other ↦ inr (λ ends. other (ap (λ (n : ℕ). n + 1) (first_bad_unique text bad.0 ends.0 bad.1 ends.2) ∙ ends.1))
+      ]
     ]
 
 ends_inside : (text : List ℕ) → Decided (EndsInside text)

@@ -1,5 +1,5 @@
 -- Every list of bytes has a verdict.
-use Rattle.std.proofs.Common.{◌≡◌, ◌≢◌, ℕ, zero, suc, ◌+◌, ◌-◌, ◌<◌, ◌≤◌, List, [], ◌∷◌, ◌++◌, ◌⊎◌, length, refl, sym, ap, ◌∙◌, subst, inl, inr, append_assoc, append-nil, arith}
+use Rattle.std.proofs.Common.{◌≡◌, ◌≢◌, ℕ, zero, suc, ◌+◌, ◌-◌, ◌<◌, List, [], ◌∷◌, ◌++◌, ◌⊎◌, length, refl, sym, ap, ◌∙◌, subst, inl, inr, append_assoc, append-nil, arith}
 use Rattle.std.proofs.lemmas.List.{length-append}
 use Rattle.wsn_wire.specs.declared.endpoint.Role.{Role}
 use Rattle.wsn_wire.specs.declared.refusal.Reason.{Reason}
@@ -10,7 +10,7 @@ use Rattle.wsn_scan.specs.Bounds.{Bounds, InRange}
 use Rattle.wsn_scan.specs.Group.{unfinished}
 use Rattle.wsn_scan.specs.Lawful.{IsLawful}
 use Rattle.wsn_scan.specs.Accepted.{HasNoClose, IsAccepted}
-use Rattle.wsn_scan.specs.Verdict.{Shown, EndsWithinFrame, IsRefused, IsCut, IsVerdict}
+use Rattle.wsn_scan.specs.Verdict.{Shown, EndsWithinFrame, IsVerdict}
 use Rattle.wsn_scan.specs.Summary.{counted}
 use Rattle.wsn_scan.specs.declared.outcome.Verdict.{Verdict}
 use Rattle.wsn_scan.specs.declared.outcome.Verdict.TheVariants.{Accepted, Cut, Refused}
@@ -21,7 +21,7 @@ use Rattle.wsn_scan.proofs.Walk.{stream_push}
 use Rattle.wsn_scan.proofs.RowsOfLayout.{RowAt, row_has_evidence}
 use Rattle.wsn_scan.proofs.UnshownLayouts.{unshown_is_lawful, IsLawfulFrame}
 use Rattle.wsn_scan.proofs.LeastShown.{least_shown, LeastShown, evidence_is_some}
-use Rattle.wsn_scan.proofs.LayoutFronts.{layout_or_within, BeginsWithLayout}
+use Rattle.wsn_scan.proofs.LayoutFronts.{layout_or_within}
 
 module _ (role : Role) (bounds : Bounds) (range : InRange bounds) (bytes : List ℕ) where
   -- the bytes have a verdict, with some list of frames
@@ -32,24 +32,24 @@ module _ (role : Role) (bounds : Bounds) (range : InRange bounds) (bytes : List 
 
   refused : (fs : List Frame) (rest : List ℕ) (whole : bytes ≡ stream fs ++ rest) → IsLawful role bounds fs → HasNoClose fs → LeastShown role bounds bytes fs rest whole → HasVerdict
   refused fs rest whole lawful none p = record {
-      frames = fs;
-      verdict = Refused (record { place = p.place; reason = p.reason });
-      is = record { lawful = lawful; no_close = none; shown = p.shown; least = p.least }
-    }
+    frames = fs;
+    verdict = Refused (record { place = p.place; reason = p.reason });
+    is = record { lawful = lawful; no_close = none; shown = p.shown; least = p.least };
+  }
 
   cut : (fs : List Frame) (rest : List ℕ) (whole : bytes ≡ stream fs ++ rest) → IsLawful role bounds fs → HasNoClose fs → ((p : ℕ) (r : Reason) → Shown role bounds bytes fs p r → ⊥) → EndsWithinFrame rest → (rest ≢ []) ⊎ (unfinished fs ≢ []) → HasVerdict
   cut fs rest whole lawful none unshown within more = record {
-      frames = fs;
-      verdict = Cut (counted fs (length bytes) 0);
-      is = (record { lawful = lawful; no_close = none; rest = rest; whole = whole; within = within; unshown = unshown; more = more }, refl)
-    }
+    frames = fs;
+    verdict = Cut (counted fs (length bytes) 0);
+    is = (record { lawful = lawful; no_close = none; rest = rest; whole = whole; within = within; unshown = unshown; more = more }, refl);
+  }
 
   accepted : (fs : List Frame) → IsAccepted role bounds bytes fs → HasVerdict
   accepted fs is = record {
-      frames = fs;
-      verdict = Accepted (counted fs (length (stream fs)) (length bytes - length (stream fs)));
-      is = (is, refl)
-    }
+    frames = fs;
+    verdict = Accepted (counted fs (length (stream fs)) (length bytes - length (stream fs)));
+    is = (is, refl);
+  }
 
   -- nothing is shown, and the rest is within a frame
   ended : (fs : List Frame) (rest : List ℕ) (whole : bytes ≡ stream fs ++ rest) → IsLawful role bounds fs → HasNoClose fs → ((p : ℕ) (r : Reason) → Shown role bounds bytes fs p r → ⊥) → EndsWithinFrame rest → HasVerdict
@@ -64,17 +64,25 @@ module _ (role : Role) (bounds : Bounds) (range : InRange bounds) (bytes : List 
   row_shown : (fs : List Frame) (xs behind : List ℕ) → bytes ≡ stream fs ++ (xs ++ behind) → (l : HasLayout xs) (reason : Reason) → RowAt role bounds (unfinished fs) reason l → (p : ℕ) × Shown role bounds bytes fs p reason
   row_shown fs xs behind whole l reason row =
       let front = row_has_evidence role bounds (unfinished fs) reason xs l row in
-      let some = evidence_is_some role bounds (unfinished fs) reason front.seen front.evidence in
-      (length (stream fs) + length front.seen - 1, record {
-        seen = front.seen;
-        later = front.later ++ behind;
-        whole = whole ∙ ap (λ (bs : List ℕ). stream fs ++ bs) (ap (λ (bs : List ℕ). bs ++ behind) front.whole ∙ append_assoc front.seen front.later behind);
-        at_place = placed (length (stream fs)) (length front.seen) some;
-        evidence = front.evidence
-      })
+      let some = evidence_is_some role bounds (unfinished fs) reason front.seen front.evidence in (
+        length (stream fs) + length front.seen - 1,
+        record {
+          seen = front.seen;
+          later = front.later ++ behind;
+          whole = whole ∙ ap (λ (bs : List ℕ). stream fs ++ bs) (ap (λ (bs : List ℕ). bs ++ behind) front.whole ∙ append_assoc front.seen front.later behind);
+          at_place = placed (length (stream fs)) (length front.seen) some;
+          evidence = front.evidence;
+        },
+      )
     where
       placed : (h n : ℕ) → 0 < n → h + n - 1 + 1 ≡ h + n
       placed h n some = omega arith
+
+  -- a whole layout behind lawful frames that shows nothing
+  pub unshown_frame : (fs : List Frame) (xs behind : List ℕ) → bytes ≡ stream fs ++ (xs ++ behind) → IsLawful role bounds fs → (l : HasLayout xs) → ((p : ℕ) (r : Reason) → Shown role bounds bytes fs p r → ⊥) → IsLawfulFrame role bounds fs xs
+  unshown_frame fs xs behind whole lawful l unshown =
+      unshown_is_lawful role bounds range fs (group_of_lawful role bounds fs lawful) l
+      (λ reason row. let shown = row_shown fs xs behind whole l reason row in unshown shown.0 reason shown.1)
 
   from : (steps : ℕ) (fs : List Frame) (rest : List ℕ) → length rest < steps → bytes ≡ stream fs ++ rest → IsBytes rest → IsLawful role bounds fs → HasNoClose fs → HasVerdict
   from zero fs rest within whole in_bytes lawful none = absurd (omega arith)
@@ -82,23 +90,21 @@ module _ (role : Role) (bounds : Bounds) (range : InRange bounds) (bytes : List 
       elim (least_shown role bounds bytes fs rest whole) [
         | inl p ↦ refused fs rest whole lawful none p
         | inr unshown ↦ elim (layout_or_within rest in_bytes) [
-            | inr partial ↦ ended fs rest whole lawful none unshown partial
-            | inl p ↦
+          | inr partial ↦ ended fs rest whole lawful none unshown partial
+          | inl p ↦
               let split : bytes ≡ stream fs ++ (p.bytes ++ p.behind) = whole ∙ ap (λ (bs : List ℕ). stream fs ++ bs) p.whole in
-              let frame = unshown_is_lawful role bounds range fs (group_of_lawful role bounds fs lawful) p.layout
-                  (λ reason row. let shown = row_shown fs p.bytes p.behind split p.layout reason row in unshown shown.0 reason shown.1) in
-              let f = frame.frame in
+              let frame = unshown_frame fs p.bytes p.behind split lawful p.layout unshown in
               let with_f = lawful_push role bounds fs frame.frame lawful none frame.law in
               let moved : bytes ≡ stream (fs ++ frame.frame ∷ []) ++ p.behind =
-                  split ∙ ap (λ (bs : List ℕ). stream fs ++ (bs ++ p.behind)) (sym frame.bytes_are) ∙ sym (append_assoc (stream fs) (frame_bytes frame.frame) p.behind)
-                  ∙ ap (λ (bs : List ℕ). bs ++ p.behind) (sym (stream_push fs frame.frame)) in
+              split ∙ ap (λ (bs : List ℕ). stream fs ++ (bs ++ p.behind)) (sym frame.bytes_are) ∙ sym (append_assoc (stream fs) (frame_bytes frame.frame) p.behind)
+              ∙ ap (λ (bs : List ℕ). bs ++ p.behind) (sym (stream_push fs frame.frame)) in
               let counts : length rest ≡ length p.bytes + length p.behind = ap (λ (bs : List ℕ). length bs) p.whole ∙ length-append p.bytes p.behind in
               let some : 0 < length p.bytes = p.some in
               elim (close_or_not frame.frame.op) [
                 | inl close ↦ accepted (fs ++ frame.frame ∷ []) (record { lawful = with_f; ends = inr ((fs, frame.frame, close, refl), (p.behind, moved)) })
                 | inr other ↦ from steps (fs ++ frame.frame ∷ []) p.behind (omega arith) moved (IsBytes-right p.bytes p.behind (subst IsBytes p.whole in_bytes)) with_f (no_close_push fs frame.frame none other)
               ]
-          ]
+        ]
       ]
 
   pub has_verdict : IsBytes bytes → HasVerdict

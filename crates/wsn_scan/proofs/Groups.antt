@@ -1,5 +1,5 @@
 -- The unfinished group, and the meaning, of a list of frames that goes on; the group of a lawful list.
-use Rattle.std.proofs.Common.{◌≡◌, ◌≢◌, ℕ, ◌≤◌, Bool, true, false, cond, not, ◌||◌, List, [], ◌∷◌, ◌++◌, ◌⊎◌, length, filter, refl, sym, ap, ◌∙◌, subst, inl, inr, append-nil, append_assoc, true≢false, arith, if◌then◌else◌, zero-le}
+use Rattle.std.proofs.Common.{◌≡◌, ◌≢◌, ◌≤◌, Bool, true, false, cond, not, ◌||◌, List, [], ◌∷◌, ◌++◌, ◌⊎◌, length, filter, refl, sym, ap, ◌∙◌, subst, inl, inr, append-nil, append_assoc, true≢false, if◌then◌else◌, zero-le}
 use Rattle.std.proofs.lemmas.Bool.{cases_Bool, cond-true, cond-false}
 use Rattle.std.specs.Option.{ForSome}
 use Rattle.std.specs.List.{list_any}
@@ -8,7 +8,7 @@ use Rattle.wsn_wire.specs.declared.opcode.Op.{Op}
 use Rattle.wsn_wire.specs.declared.opcode.Op.TheVariants.{Continue, Text, Binary, Close, Ping, Pong}
 use Rattle.wsn_wire.specs.Frame.{Frame, is_control}
 use Rattle.wsn_text.specs.Utf8.{BeginsText}
-use Rattle.wsn_scan.specs.Bounds.{Bounds, InRange}
+use Rattle.wsn_scan.specs.Bounds.{Bounds}
 use Rattle.wsn_scan.specs.Group.{after_last, is_data, is_final, unfinished, first_op, text_of}
 use Rattle.wsn_scan.specs.Lawful.{GroupLaw, LawAt, IsLawful}
 use Rattle.wsn_scan.specs.Meaning.{event_at, events_behind, meaning}
@@ -22,13 +22,13 @@ filter_push_yes [] f kept = cond-true (is_data f) (f ∷ []) [] kept
 filter_push_yes (g ∷ fs) f kept =
     elim (cases_Bool (is_data g)) [
       | inl here ↦
-        let left = cond-true (is_data g) (g ∷ filter is_data (fs ++ f ∷ [])) (filter is_data (fs ++ f ∷ [])) here in
-        let right = cond-true (is_data g) (g ∷ filter is_data fs) (filter is_data fs) here in
-        left ∙ ap (λ (hs : List Frame). g ∷ hs) (filter_push_yes fs f kept) ∙ ap (λ (hs : List Frame). hs ++ f ∷ []) (sym right)
+          let left = cond-true (is_data g) (g ∷ filter is_data (fs ++ f ∷ [])) (filter is_data (fs ++ f ∷ [])) here in
+          let right = cond-true (is_data g) (g ∷ filter is_data fs) (filter is_data fs) here in
+          left ∙ ap (λ (hs : List Frame). g ∷ hs) (filter_push_yes fs f kept) ∙ ap (λ (hs : List Frame). hs ++ f ∷ []) (sym right)
       | inr left_out ↦
-        let left = cond-false (is_data g) (g ∷ filter is_data (fs ++ f ∷ [])) (filter is_data (fs ++ f ∷ [])) left_out in
-        let right = cond-false (is_data g) (g ∷ filter is_data fs) (filter is_data fs) left_out in
-        left ∙ filter_push_yes fs f kept ∙ ap (λ (hs : List Frame). hs ++ f ∷ []) (sym right)
+          let left = cond-false (is_data g) (g ∷ filter is_data (fs ++ f ∷ [])) (filter is_data (fs ++ f ∷ [])) left_out in
+          let right = cond-false (is_data g) (g ∷ filter is_data fs) (filter is_data fs) left_out in
+          left ∙ filter_push_yes fs f kept ∙ ap (λ (hs : List Frame). hs ++ f ∷ []) (sym right)
     ]
 
 filter_push_no : (fs : List Frame) (f : Frame) → is_data f ≡ false → filter is_data (fs ++ f ∷ []) ≡ filter is_data fs
@@ -78,9 +78,9 @@ pub unfinished_push : (fs : List Frame) (f : Frame) → unfinished (fs ++ f ∷ 
 unfinished_push fs f =
     elim (cases_Bool (is_data f)) [
       | inl data_frame ↦ elim (cases_Bool f.fin) [
-          | inl final ↦ unfinished_final fs f data_frame final ∙ sym (cond-true (is_data f) (cond f.fin [] (unfinished fs ++ f ∷ [])) (unfinished fs) data_frame ∙ cond-true f.fin [] (unfinished fs ++ f ∷ []) final)
-          | inr more ↦ unfinished_more fs f data_frame more ∙ sym (cond-true (is_data f) (cond f.fin [] (unfinished fs ++ f ∷ [])) (unfinished fs) data_frame ∙ cond-false f.fin [] (unfinished fs ++ f ∷ []) more)
-        ]
+        | inl final ↦ unfinished_final fs f data_frame final ∙ sym (cond-true (is_data f) (cond f.fin [] (unfinished fs ++ f ∷ [])) (unfinished fs) data_frame ∙ cond-true f.fin [] (unfinished fs ++ f ∷ []) final)
+        | inr more ↦ unfinished_more fs f data_frame more ∙ sym (cond-true (is_data f) (cond f.fin [] (unfinished fs ++ f ∷ [])) (unfinished fs) data_frame ∙ cond-false f.fin [] (unfinished fs ++ f ∷ []) more)
+      ]
       | inr control ↦ unfinished_control fs f control ∙ sym (cond-false (is_data f) (cond f.fin [] (unfinished fs ++ f ∷ [])) (unfinished fs) control)
     ]
 
@@ -111,11 +111,11 @@ pub record IsGroup (bounds : Bounds) (group : List Frame) : Type 0 where
 
 pub is_group_nil : (bounds : Bounds) → IsGroup bounds []
 is_group_nil bounds = record {
-    size = zero-le;
-    count = λ most e. zero-le;
-    begins = λ e. cc;
-    kind = λ some. absurd (some refl)
-  }
+  size = zero-le;
+  count = λ most e. zero-le;
+  begins = λ e. cc;
+  kind = λ some. absurd (some refl);
+}
 
 pub data_kind : (op : Op) → not (is_control op) ≡ true → (op ≡ Continue → ⊥) → (op ≡ Text) ⊎ (op ≡ Binary)
 data_kind Continue is_data other = absurd (other refl)
@@ -131,19 +131,19 @@ group_kind bounds (g ∷ group) f earlier is_data law = earlier.kind (λ e. nil-
 
 pub is_group_push : (bounds : Bounds) (group : List Frame) (f : Frame) → IsGroup bounds group → is_data f ≡ true → GroupLaw bounds group f → IsGroup bounds (group ++ f ∷ [])
 is_group_push bounds group f earlier is_data law = record {
-    size = law.size;
-    count = law.count;
-    begins = law.begins;
-    kind = λ some. group_kind bounds group f earlier is_data law
-  }
+  size = law.size;
+  count = law.count;
+  begins = law.begins;
+  kind = λ some. group_kind bounds group f earlier is_data law;
+}
 
 group_of_push : (role : Role) (bounds : Bounds) (fs : List Frame) (f : Frame) → IsGroup bounds (unfinished fs) → LawAt role bounds fs f → IsGroup bounds (unfinished (fs ++ f ∷ []))
 group_of_push role bounds fs f earlier law =
     elim (cases_Bool (is_data f)) [
       | inl data_frame ↦ elim (cases_Bool f.fin) [
-          | inl final ↦ subst (IsGroup bounds) (sym (unfinished_final fs f data_frame final)) (is_group_nil bounds)
-          | inr more ↦ subst (IsGroup bounds) (sym (unfinished_more fs f data_frame more)) (is_group_push bounds (unfinished fs) f earlier data_frame (law.group data_frame))
-        ]
+        | inl final ↦ subst (IsGroup bounds) (sym (unfinished_final fs f data_frame final)) (is_group_nil bounds)
+        | inr more ↦ subst (IsGroup bounds) (sym (unfinished_more fs f data_frame more)) (is_group_push bounds (unfinished fs) f earlier data_frame (law.group data_frame))
+      ]
       | inr control ↦ subst (IsGroup bounds) (sym (unfinished_control fs f control)) earlier
     ]
 

@@ -1,5 +1,5 @@
 -- Lawful lists of frames: one frame more at their end, their fronts, and what stands behind a front.
-use Rattle.std.proofs.Common.{◌≡◌, ◌≢◌, ℕ, Bool, true, false, List, [], ◌∷◌, ◌++◌, ◌⊎◌, ◌↔◌, refl, sym, ap, ◌∙◌, subst, inl, inr, append-nil}
+use Rattle.std.proofs.Common.{◌≡◌, List, [], ◌∷◌, ◌++◌, ◌⊎◌, ◌↔◌, refl, sym, ap, ◌∙◌, subst, inl, inr, append-nil}
 use Rattle.wsn_wire.specs.declared.endpoint.Role.{Role}
 use Rattle.wsn_wire.specs.declared.opcode.Op.{Op}
 use Rattle.wsn_wire.specs.declared.opcode.Op.TheVariants.{Continue, Text, Binary, Close, Ping, Pong}
@@ -9,7 +9,7 @@ use Rattle.wsn_scan.specs.Group.{unfinished}
 use Rattle.wsn_scan.specs.Lawful.{LawAt, IsLawful}
 use Rattle.wsn_scan.specs.Behind.{AreLawfulBehind}
 use Rattle.wsn_scan.specs.Accepted.{HasNoClose, EndsWithClose, IsAccepted}
-use Rattle.wsn_scan.proofs.Fronts.{nil-push, nil-cons, split_push, SplitPush, push-append, tail_same, head_same}
+use Rattle.wsn_scan.proofs.Fronts.{nil-push, nil-cons, split_push, push-append, tail_same, head_same}
 
 pub close_or_not : (op : Op) → (op ≡ Close) ⊎ (op ≡ Close → ⊥)
 close_or_not Close = inl refl
@@ -40,27 +40,27 @@ no_close_front fs gs none before after f e c =
 module _ (role : Role) (bounds : Bounds) where
   pub lawful_nil : IsLawful role bounds []
   lawful_nil = record {
-      each = λ before after f e. absurd (nil-push before f after e);
-      close_last = λ before after f e c. absurd (nil-push before f after e)
-    }
+    each = λ before after f e. absurd (nil-push before f after e);
+    close_last = λ before after f e c. absurd (nil-push before f after e);
+  }
 
   pub lawful_push : (fs : List Frame) (f : Frame) → IsLawful role bounds fs → HasNoClose fs → LawAt role bounds fs f → IsLawful role bounds (fs ++ f ∷ [])
   lawful_push fs f lawful none here = record {
-      each = λ before after g e. elim (split_push fs f before g after e) [
-        | inl p ↦ subst (λ (h : Frame). LawAt role bounds before h) (sym p.1) (subst (λ (hs : List Frame). LawAt role bounds hs f) (sym p.0) here)
-        | inr p ↦ lawful.each before p.0 g p.1
-      ];
-      close_last = λ before after g e c. elim (split_push fs f before g after e) [
-        | inl p ↦ p.2
-        | inr p ↦ absurd (none before p.0 g p.1 c)
-      ]
-    }
+    each = λ before after g e. elim (split_push fs f before g after e) [
+      | inl p ↦ subst (λ (h : Frame). LawAt role bounds before h) (sym p.1) (subst (λ (hs : List Frame). LawAt role bounds hs f) (sym p.0) here)
+      | inr p ↦ lawful.each before p.0 g p.1
+    ];
+    close_last = λ before after g e c. elim (split_push fs f before g after e) [
+      | inl p ↦ p.2
+      | inr p ↦ absurd (none before p.0 g p.1 c)
+    ];
+  }
 
   pub lawful_front : (fs gs : List Frame) → IsLawful role bounds (fs ++ gs) → IsLawful role bounds fs
   lawful_front fs gs lawful = record {
-      each = λ before after f e. lawful.each before (after ++ gs) f (split_front fs gs before f after e);
-      close_last = λ before after f e c. none_behind after gs (lawful.close_last before (after ++ gs) f (split_front fs gs before f after e) c)
-    }
+    each = λ before after f e. lawful.each before (after ++ gs) f (split_front fs gs before f after e);
+    close_last = λ before after f e c. none_behind after gs (lawful.close_last before (after ++ gs) f (split_front fs gs before f after e) c);
+  }
     where
       split_front : (fs gs before : List Frame) (f : Frame) (after : List Frame) → fs ≡ before ++ f ∷ after → fs ++ gs ≡ before ++ f ∷ (after ++ gs)
       split_front fs gs [] f after e = ap (λ (hs : List Frame). hs ++ gs) e
@@ -69,6 +69,7 @@ module _ (role : Role) (bounds : Bounds) where
           let rest = split_front fs gs before f after (tail_same g b fs (before ++ f ∷ after) e) in
           let first = head_same g b fs (before ++ f ∷ after) e in
           cc
+
       none_behind : (xs ys : List Frame) → xs ++ ys ≡ [] → xs ≡ []
       none_behind [] ys e = refl
       none_behind (x ∷ xs) ys e = absurd (nil-cons x (xs ++ ys) (sym e))
@@ -99,8 +100,8 @@ module _ (role : Role) (bounds : Bounds) where
           elim (close_or_not f.op) [
             | inl c ↦ inr (before, f, c, ap (λ (hs : List Frame). before ++ f ∷ hs) (lawful.close_last before fs f refl c))
             | inr o ↦
-              let moved = push-append before f fs in
-              subst (λ (hs : List Frame). HasNoClose hs ⊎ EndsWithClose hs) moved (from_front fs (before ++ f ∷ []) (subst (IsLawful role bounds) (sym moved) lawful) (no_close_push before f none o))
+                let moved = push-append before f fs in
+                subst (λ (hs : List Frame). HasNoClose hs ⊎ EndsWithClose hs) moved (from_front fs (before ++ f ∷ []) (subst (IsLawful role bounds) (sym moved) lawful) (no_close_push before f none o))
           ]
 
   -- ---- from the front, behind the frames before
@@ -127,9 +128,9 @@ module _ (role : Role) (bounds : Bounds) where
 
   pub finished_is_accepted : (fs : List Frame) → IsLawful role bounds fs → unfinished fs ≡ [] → IsAccepted role bounds (stream fs) fs
   finished_is_accepted fs lawful finished = record {
-      lawful = lawful;
-      ends = elim (close_is_last fs lawful) [
-        | inl none ↦ inl (none, finished, refl)
-        | inr close ↦ inr (close, ([], sym (append-nil (stream fs))))
-      ]
-    }
+    lawful = lawful;
+    ends = elim (close_is_last fs lawful) [
+      | inl none ↦ inl (none, finished, refl)
+      | inr close ↦ inr (close, ([], sym (append-nil (stream fs))))
+    ];
+  }

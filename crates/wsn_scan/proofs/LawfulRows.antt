@@ -1,14 +1,13 @@
 -- A frame that is lawful behind others shows no row of the table.
-use Rattle.std.proofs.Common.{◌≡◌, ◌≢◌, ℕ, zero, suc, ◌+◌, ◌<◌, ◌≤◌, Bool, true, false, not, Option, Some, None, is_some, List, [], ◌∷◌, ◌++◌, ◌⊎◌, length, take, drop, refl, sym, ap, ◌∙◌, subst, inl, inr, append-nil, arith, true≢false, if◌then◌else◌}
+use Rattle.std.proofs.Common.{◌≡◌, ℕ, suc, ◌+◌, ◌<◌, ◌≤◌, Bool, true, false, not, Option, Some, None, is_some, List, [], ◌∷◌, ◌++◌, ◌⊎◌, length, take, drop, refl, sym, ap, ◌∙◌, subst, inl, inr, arith, true≢false, if◌then◌else◌}
 use Rattle.std.proofs.lemmas.List.{length-append, length-take-le, take_all}
 use Rattle.wsn_wire.specs.declared.endpoint.Role.{Role}
 use Rattle.wsn_wire.specs.declared.spelling.Lengths.{Lengths}
 use Rattle.wsn_wire.specs.declared.opcode.Op.{Op}
-use Rattle.wsn_wire.specs.declared.opcode.Op.TheVariants.{Continue, Text, Close}
 use Rattle.wsn_wire.specs.declared.refusal.Reason.{Reason}
-use Rattle.wsn_wire.specs.declared.refusal.Reason.TheVariants.{ReservedBits, ReservedOpcode, ControlNotFinal, NothingToContinue, MessageOpen, MaskMissing, MaskPresent, ControlTooLong, CloseOneByte, LengthTopBit, LengthNotMinimal, MessageTooBig, CloseCode, CloseReason, TextBad, TextCut, TooManyFrames}
-use Rattle.wsn_wire.specs.Frame.{Frame, opcode, is_control, first_byte, second_byte, len_form_of, length_bytes, key_bytes, wire_payload, frame_bytes, masked}
-use Rattle.wsn_wire.specs.Layout.{HasLayout, fin_bit, opcode_field, mask_bit, len_form_at, length_told}
+use Rattle.wsn_wire.specs.declared.refusal.Reason.TheVariants.{ReservedBits, ReservedOpcode, ControlNotFinal, NothingToContinue, MessageOpen, LengthTopBit, LengthNotMinimal, MessageTooBig, CloseCode, CloseReason, TextBad, TextCut, TooManyFrames}
+use Rattle.wsn_wire.specs.Frame.{Frame, opcode, is_control, second_byte, len_form_of, length_bytes, key_bytes, wire_payload, masked}
+use Rattle.wsn_wire.specs.Layout.{HasLayout, opcode_field, mask_bit, length_told}
 use Rattle.wsn_wire.specs.Sender.{IsSpelledFor, ShowsNothing}
 use Rattle.wsn_wire.proofs.MaskLemmas.{masked-masked}
 use Rattle.wsn_wire.proofs.FrameLemmas.{layout_of_frame, first_byte_fields, second_byte_fields, length_bytes_fields, spells-len_form_of}
@@ -16,10 +15,10 @@ use Rattle.wsn_wire.proofs.HeadLemmas.{IsSpelledBy, frame_shows_nothing, close_f
 use Rattle.wsn_text.specs.Utf8.{IsText, BeginsText}
 use Rattle.wsn_text.specs.CloseBody.{IsCloseBody}
 use Rattle.wsn_scan.specs.Bounds.{Bounds}
-use Rattle.wsn_scan.specs.Group.{is_data, unfinished, first_op, text_of}
+use Rattle.wsn_scan.specs.Group.{unfinished, text_of}
 use Rattle.wsn_scan.specs.FrameLaw.{FrameLaw}
-use Rattle.wsn_scan.specs.Lawful.{GroupLaw, LawAt}
-use Rattle.wsn_scan.specs.Evidence.{EvidentByFirst, EvidentByLength, EvidentByPayload, IsOfText, unmasked}
+use Rattle.wsn_scan.specs.Lawful.{LawAt}
+use Rattle.wsn_scan.specs.Evidence.{EvidentByFirst, EvidentByLength, EvidentByPayload, IsOfText}
 use Rattle.wsn_scan.proofs.RowsOfLayout.{RowAt, payload_of, told_by, length-unmasked}
 use Rattle.wsn_scan.proofs.RowsOfLayout.RowAt.{FirstShows, SecondShows, LengthShows, PayloadShows}
 use Rattle.wsn_scan.proofs.MessageText.{continue_from_opcode, data_from_opcode, begins_from_opcode, text_of_push, group_from_of_text, begins_not_bad, code_is_accepted, reason_is_text, reason_not_bad}
@@ -28,12 +27,12 @@ use Rattle.wsn_scan.proofs.MessageText.{continue_from_opcode, data_from_opcode, 
 
 pub owed_by_law : (role : Role) (lengths : Lengths) (f : Frame) → FrameLaw role lengths f → IsSpelledFor role lengths f
 owed_by_law role lengths f law = record {
-    spellable = law.spellable;
-    masked = law.masked;
-    shortest = law.shortest;
-    control = λ control. ((law.control control).final, (law.control control).short, (law.control control).shortest);
-    close = λ close one. one_byte f.payload (law.close close) one
-  }
+  spellable = law.spellable;
+  masked = law.masked;
+  shortest = law.shortest;
+  control = λ control. ((law.control control).final, (law.control control).short, (law.control control).shortest);
+  close = λ close one. one_byte f.payload (law.close close) one;
+}
   where
     one_byte : (body : List ℕ) → IsCloseBody body → length body ≡ 1 → ⊥
     one_byte body (inl none) one = let empty : length body ≡ 0 = ap (λ (bs : List ℕ). length bs) none in omega arith
@@ -56,7 +55,7 @@ spelled_by_itself role lengths f owed =
       key_is = sym of_second.mask_is;
       key_bytes_are = refl;
       payload_is = unmasks f.key (mask_bit (second_byte f.key (len_form_of f.form (length f.payload)))) of_second.mask_is;
-      length_is = sym (ap (λ g. length_told g bytes) of_second.field_is ∙ of_length.told)
+      length_is = sym (ap (λ g. length_told g bytes) of_second.field_is ∙ of_length.told);
     }
   where
     unmasks : (key : Option (List ℕ)) (mask : Bool) → mask ≡ is_some key → f.payload ≡ (if mask then masked (key_bytes key) 0 (wire_payload key f.payload) else wire_payload key f.payload)

@@ -1,6 +1,6 @@
 -- Of all that the bytes behind a list of frames show, the pair of place and reason that comes first; or they
 -- show nothing.
-use Rattle.std.proofs.Common.{◌≡◌, ◌≢◌, ℕ, zero, suc, ◌+◌, ◌-◌, ◌<◌, ◌≤◌, List, [], ◌∷◌, ◌++◌, ◌⊎◌, length, take, drop, refl, sym, ap, ◌∙◌, subst, inl, inr, arith, if◌then◌else◌}
+use Rattle.std.proofs.Common.{◌≡◌, ℕ, zero, suc, ◌+◌, ◌-◌, ◌<◌, ◌≤◌, List, ◌++◌, ◌⊎◌, length, take, drop, refl, sym, ap, ◌∙◌, subst, inl, inr, arith, if◌then◌else◌}
 use Rattle.std.specs.Prelude.{◌==◌}
 use Rattle.std.proofs.lemmas.Bool.{cases_lt, cases_eq, cases_order}
 use Rattle.std.proofs.lemmas.List.{take-append-drop, length-take-le, length-append, take_at}
@@ -10,7 +10,7 @@ use Rattle.wsn_wire.specs.declared.refusal.Reason.TheVariants.{ReservedBits, Res
 use Rattle.wsn_wire.specs.Frame.{Frame, stream}
 use Rattle.wsn_scan.specs.Bounds.{Bounds}
 use Rattle.wsn_scan.specs.Group.{unfinished}
-use Rattle.wsn_scan.specs.Order.{number_of}
+use Rattle.wsn_wire.specs.Refusal.{number_of}
 use Rattle.wsn_scan.specs.Evidence.{Evidence}
 use Rattle.wsn_scan.specs.Evidence.Evidence.{ByFirst, BySecond, ByLength, ByPayload}
 use Rattle.wsn_scan.specs.Verdict.{Shown, ComesFirst}
@@ -29,12 +29,12 @@ least_or_none P decided (suc n) =
     elim (least_or_none P decided n) [
       | inl p ↦ inl (p.0, omega (arith, p.1), p.2, p.3)
       | inr none ↦ elim (decided n) [
-          | inl here ↦ inl (n, omega arith, here, none)
-          | inr not ↦ inr (λ k below holds. elim (cases_lt k n) [
-              | inl less ↦ none k less holds
-              | inr from ↦ let last : k ≡ n = omega arith in not (subst P last holds)
-            ])
-        ]
+        | inl here ↦ inl (n, omega arith, here, none)
+        | inr not ↦ inr (λ k below holds. elim (cases_lt k n) [
+          | inl less ↦ none k less holds
+          | inr from ↦ let last : k ≡ n = omega arith in not (subst P last holds)
+        ])
+      ]
     ]
 
 -- ---- the reason that a number is of
@@ -110,9 +110,9 @@ module _ (role : Role) (bounds : Bounds) (group : List Frame) where
       elim (cases_eq (number_of (reason_at n)) n) [
         | inr other ↦ inr (λ p. other (ap (λ (m : ℕ). number_of (reason_at m)) (sym p.1) ∙ ap number_of (reason_at-number_of p.0) ∙ p.1))
         | inl same ↦ elim (evidence_decided role bounds group (reason_at n) seen) [
-            | inl e ↦ inl (reason_at n, same, e)
-            | inr not ↦ inr (λ p. not (subst (λ (r : Reason). Evidence role bounds group r seen) (sym (reason_at-number_of p.0) ∙ ap reason_at p.1) p.2))
-          ]
+          | inl e ↦ inl (reason_at n, same, e)
+          | inr not ↦ inr (λ p. not (subst (λ (r : Reason). Evidence role bounds group r seen) (sym (reason_at-number_of p.0) ∙ ap reason_at p.1) p.2))
+        ]
       ]
 
   pub least_reason : (seen : List ℕ) → LeastReason seen ⊎ ((s : Reason) → Evidence role bounds group s seen → ⊥)
@@ -154,9 +154,9 @@ module _ (role : Role) (bounds : Bounds) (group : List Frame) where
       elim (least_or_none (FrontShowsSome rest) (front_decided rest) (suc (length rest))) [
         | inr none ↦ inr (λ m s within e. none m (omega arith) (s, e))
         | inl p ↦ elim (least_reason (take p.0 rest)) [
-            | inr none ↦ absurd (none p.2.0 p.2.1)
-            | inl q ↦ inl (record { count = p.0; within = omega (arith, p.1); reason = q.0; evidence = q.1; least_reason_is = q.2; shorter = λ m s less e. p.3 m less (s, e) })
-          ]
+          | inr none ↦ absurd (none p.2.0 p.2.1)
+          | inl q ↦ inl (record { count = p.0; within = omega (arith, p.1); reason = q.0; evidence = q.1; least_reason_is = q.2; shorter = λ m s less e. p.3 m less (s, e) })
+        ]
       ]
 
 -- ---- what is shown behind the frames fs
@@ -178,17 +178,17 @@ module _ (role : Role) (bounds : Bounds) (bytes : List ℕ) (fs : List Frame) (r
         count = length s.seen;
         within = omega arith;
         at_place = s.at_place;
-        evidence = subst (λ (bs : List ℕ). Evidence role bounds (unfinished fs) reason bs) (sym front) s.evidence
+        evidence = subst (λ (bs : List ℕ). Evidence role bounds (unfinished fs) reason bs) (sym front) s.evidence;
       }
 
   pub front_shown : (place count : ℕ) (reason : Reason) → count ≤ length rest → place + 1 ≡ length (stream fs) + count → Evidence role bounds (unfinished fs) reason (take count rest) → Shown role bounds bytes fs place reason
   front_shown place count reason within at e = record {
-      seen = take count rest;
-      later = drop count rest;
-      whole = whole ∙ ap (λ (bs : List ℕ). stream fs ++ bs) (sym (take-append-drop count rest));
-      at_place = at ∙ ap (λ (n : ℕ). length (stream fs) + n) (sym (length-take-le count rest within));
-      evidence = e
-    }
+    seen = take count rest;
+    later = drop count rest;
+    whole = whole ∙ ap (λ (bs : List ℕ). stream fs ++ bs) (sym (take-append-drop count rest));
+    at_place = at ∙ ap (λ (n : ℕ). length (stream fs) + n) (sym (length-take-le count rest within));
+    evidence = e;
+  }
 
   -- the pair that comes first
   pub record LeastShown : Type 0 where
@@ -213,7 +213,7 @@ module _ (role : Role) (bounds : Bounds) (bytes : List ℕ) (fs : List Frame) (r
             place = length (stream fs) + q.count - 1;
             reason = q.reason;
             shown = front_shown (length (stream fs) + q.count - 1) q.count q.reason q.within at q.evidence;
-            least = λ p r s. comes_first q (length (stream fs) + q.count - 1) at p r (shown_front p r s)
+            least = λ p r s. comes_first q (length (stream fs) + q.count - 1) at p r (shown_front p r s);
           }
         where
           comes_first : (q : LeastFront role bounds (unfinished fs) rest) (place : ℕ) → place + 1 ≡ length (stream fs) + q.count → (p : ℕ) (r : Reason) → ShownFront p r → ComesFirst place q.reason p r
@@ -221,9 +221,9 @@ module _ (role : Role) (bounds : Bounds) (bytes : List ℕ) (fs : List Frame) (r
               elim (cases_order front.count q.count) [
                 | inl same ↦ inr (places place p q.count front.count at front.at_place same, q.least_reason_is r (subst (λ (n : ℕ). Evidence role bounds (unfinished fs) r (take n rest)) same front.evidence))
                 | inr other ↦ elim other [
-                    | inl less ↦ absurd (q.shorter front.count r less front.evidence)
-                    | inr more ↦ inl (omega (arith, front.at_place))
-                  ]
+                  | inl less ↦ absurd (q.shorter front.count r less front.evidence)
+                  | inr more ↦ inl (omega (arith, front.at_place))
+                ]
               ]
             where
               places : (place p m n : ℕ) → place + 1 ≡ length (stream fs) + m → p + 1 ≡ length (stream fs) + n → n ≡ m → place ≡ p

@@ -1,7 +1,7 @@
 -- Of a message's text and a Close's body: the opcodes that they go by, and where a bad byte shows.
-use Rattle.std.proofs.Common.{◌≡◌, ◌≢◌, ℕ, zero, suc, ◌+◌, ◌-◌, ◌<◌, ◌≤◌, Bool, true, false, not, List, [], ◌∷◌, ◌++◌, ◌⊎◌, length, take, drop, refl, sym, ap, ◌∙◌, subst, inl, inr, append_assoc, append-nil, arith, true≢false}
+use Rattle.std.proofs.Common.{◌≡◌, ◌≢◌, ℕ, zero, suc, ◌+◌, ◌-◌, ◌<◌, ◌≤◌, true, not, List, [], ◌∷◌, ◌++◌, ◌⊎◌, length, take, drop, refl, sym, ap, ◌∙◌, subst, inl, inr, append_assoc, append-nil, arith, true≢false}
 use Rattle.std.specs.Int.{from_be_bytes, to_be_bytes, w16}
-use Rattle.std.proofs.lemmas.Bool.{cases_lt, cases_eq}
+use Rattle.std.proofs.lemmas.Bool.{cases_lt}
 use Rattle.std.proofs.lemmas.List.{take-append-drop, length-append, length-take-le, take_all}
 use Rattle.std.proofs.lemmas.List.Concat.{flat_map-append}
 use Rattle.std.proofs.lemmas.Nat.{be_bytes_2, from_be_bytes-to_be_bytes_2}
@@ -103,21 +103,21 @@ bad_behind_front front bytes i begins bad =
     elim (cases_lt i (length front)) [
       | inl within ↦ absurd (bad_ends front i (first_bad_front front bytes i within bad) begins)
       | inr behind ↦
-        let n = i + 1 - length front in
-        let all : length (front ++ bytes) ≡ length front + length bytes = length-append front bytes in
-        let within : i < length (front ++ bytes) = bad.within in
-        let fits : i + 1 - length front ≤ length bytes = omega arith in
-        let parted : front ++ bytes ≡ (front ++ take (i + 1 - length front) bytes) ++ drop (i + 1 - length front) bytes =
-            ap (λ (bs : List ℕ). front ++ bs) (sym (take-append-drop (i + 1 - length front) bytes)) ∙ sym (append_assoc front (take (i + 1 - length front) bytes) (drop (i + 1 - length front) bytes)) in
-        let took : length (take (i + 1 - length front) bytes) ≡ i + 1 - length front = length-take-le (i + 1 - length front) bytes fits in
-        let count : i + 1 ≡ length (front ++ take (i + 1 - length front) bytes) = omega (arith, length-append front (take (i + 1 - length front) bytes)) in
-        (i + 1 - length front, fits, (i, count, first_bad_front (front ++ take (i + 1 - length front) bytes) (drop (i + 1 - length front) bytes) i (omega arith) (subst (λ (bs : List ℕ). IsFirstBad bs i) parted bad)))
+          let n = i + 1 - length front in
+          let all : length (front ++ bytes) ≡ length front + length bytes = length-append front bytes in
+          let within : i < length (front ++ bytes) = bad.within in
+          let fits : i + 1 - length front ≤ length bytes = omega arith in
+          let parted : front ++ bytes ≡ (front ++ take (i + 1 - length front) bytes) ++ drop (i + 1 - length front) bytes =
+          ap (λ (bs : List ℕ). front ++ bs) (sym (take-append-drop (i + 1 - length front) bytes)) ∙ sym (append_assoc front (take (i + 1 - length front) bytes) (drop (i + 1 - length front) bytes)) in
+          let took : length (take (i + 1 - length front) bytes) ≡ i + 1 - length front = length-take-le (i + 1 - length front) bytes fits in
+          let count : i + 1 ≡ length (front ++ take (i + 1 - length front) bytes) = omega (arith, length-append front (take (i + 1 - length front) bytes)) in
+          (i + 1 - length front, fits, (i, count, first_bad_front (front ++ take (i + 1 - length front) bytes) (drop (i + 1 - length front) bytes) i (omega arith) (subst (λ (bs : List ℕ). IsFirstBad bs i) parted bad)))
     ]
 
 -- a front of bytes that begin text doesn't end bad
 pub begins_not_bad : (front bytes : List ℕ) (n : ℕ) → BeginsText (front ++ bytes) → EndsBad (front ++ take n bytes) → ⊥
 begins_not_bad front bytes n begins bad =
-    bad_ends (front ++ take n bytes) bad.0 bad.2 (begins_front (front ++ take n bytes) (drop n bytes) (subst BeginsText (sym (append_assoc front (take n bytes) (drop n bytes)) ) (subst (λ (bs : List ℕ). BeginsText (front ++ bs)) (sym (take-append-drop n bytes)) begins)))
+    bad_ends (front ++ take n bytes) bad.0 bad.2 (begins_front (front ++ take n bytes) (drop n bytes) (subst BeginsText (sym (append_assoc front (take n bytes) (drop n bytes))) (subst (λ (bs : List ℕ). BeginsText (front ++ bs)) (sym (take-append-drop n bytes)) begins)))
 
 -- ---- a Close's body
 
@@ -126,21 +126,21 @@ accepted_code_or_not code =
     elim (cases_lt code 1000) [
       | inl below ↦ inr (λ is. grind arith)
       | inr from_1000 ↦ elim (cases_lt 1003 code) [
-          | inr to_1003 ↦ inl (inl (from_1000, to_1003))
-          | inl above_1003 ↦ elim (cases_lt code 1007) [
-              | inl below_1007 ↦ inr (λ is. grind arith)
-              | inr from_1007 ↦ elim (cases_lt 1014 code) [
-                  | inr to_1014 ↦ inl (inr (inl (from_1007, to_1014)))
-                  | inl above_1014 ↦ elim (cases_lt code 3000) [
-                      | inl below_3000 ↦ inr (λ is. grind arith)
-                      | inr from_3000 ↦ elim (cases_lt 4999 code) [
-                          | inr to_4999 ↦ inl (inr (inr (from_3000, to_4999)))
-                          | inl above_4999 ↦ inr (λ is. grind arith)
-                        ]
-                    ]
-                ]
+        | inr to_1003 ↦ inl (inl (from_1000, to_1003))
+        | inl above_1003 ↦ elim (cases_lt code 1007) [
+          | inl below_1007 ↦ inr (λ is. grind arith)
+          | inr from_1007 ↦ elim (cases_lt 1014 code) [
+            | inr to_1014 ↦ inl (inr (inl (from_1007, to_1014)))
+            | inl above_1014 ↦ elim (cases_lt code 3000) [
+              | inl below_3000 ↦ inr (λ is. grind arith)
+              | inr from_3000 ↦ elim (cases_lt 4999 code) [
+                | inr to_4999 ↦ inl (inr (inr (from_3000, to_4999)))
+                | inl above_4999 ↦ inr (λ is. grind arith)
+              ]
             ]
+          ]
         ]
+      ]
     ]
 
 accepted_fits : (code : ℕ) → IsAcceptedCode code → code < 65536
@@ -198,22 +198,22 @@ body_or_shows (b ∷ []) bytes not_one = absurd (not_one refl)
 body_or_shows (b ∷ c ∷ reason) bytes not_one =
     let code = from_be_bytes w16 (b ∷ c ∷ []) in
     let spelled : to_be_bytes w16 (from_be_bytes w16 (b ∷ c ∷ [])) ≡ b ∷ c ∷ [] =
-        be_bytes_2 (b ∷ c ∷ []) (from_be_bytes w16 (b ∷ c ∷ [])) refl (at-All (λ n. n < 256) (omega arith) (b ∷ c ∷ []) (bytes.0, (bytes.1.0, tt))) refl in
+    be_bytes_2 (b ∷ c ∷ []) (from_be_bytes w16 (b ∷ c ∷ [])) refl (at-All (λ n. n < 256) (omega arith) (b ∷ c ∷ []) (bytes.0, (bytes.1.0, tt))) refl in
     elim (accepted_code_or_not (from_be_bytes w16 (b ∷ c ∷ []))) [
       | inr refused ↦ inr (inl (2, omega arith, refl, refused))
       | inl accepted ↦ elim (text_decided reason) [
-          | inl text ↦ inl (inr (from_be_bytes w16 (b ∷ c ∷ []), reason, accepted, text, ap (λ (bs : List ℕ). bs ++ reason) (sym spelled)))
-          | inr not_text ↦ inr (inr (reason_shows reason not_text))
-        ]
+        | inl text ↦ inl (inr (from_be_bytes w16 (b ∷ c ∷ []), reason, accepted, text, ap (λ (bs : List ℕ). bs ++ reason) (sym spelled)))
+        | inr not_text ↦ inr (inr (reason_shows reason not_text))
+      ]
     ]
   where
     reason_shows : (reason : List ℕ) → (IsText reason → ⊥) → (n : ℕ) × (n ≤ length (b ∷ c ∷ reason)) × (EndsBad (drop 2 (take n (b ∷ c ∷ reason))) ⊎ ((length (take n (b ∷ c ∷ reason)) ≡ length (b ∷ c ∷ reason)) × EndsInside (drop 2 (take n (b ∷ c ∷ reason)))))
     reason_shows reason not_text =
         elim (begins_or_first_bad reason) [
           | inl begins ↦
-            let all : take (length reason) reason ≡ reason = take_all (length reason) reason (omega arith) in
-            (suc (suc (length reason)), omega arith, inr (ap (λ (bs : List ℕ). length (b ∷ c ∷ bs)) all, subst EndsInside (sym all) (begins, not_text)))
+              let all : take (length reason) reason ≡ reason = take_all (length reason) reason (omega arith) in
+              (suc (suc (length reason)), omega arith, inr (ap (λ (bs : List ℕ). length (b ∷ c ∷ bs)) all, subst EndsInside (sym all) (begins, not_text)))
           | inr bad ↦
-            let shown = bad_behind_front [] reason bad.0 begins-nil bad.1 in
-            (suc (suc shown.0), omega (arith, shown.1), inl shown.2)
+              let shown = bad_behind_front [] reason bad.0 begins-nil bad.1 in
+              (suc (suc shown.0), omega (arith, shown.1), inl shown.2)
         ]

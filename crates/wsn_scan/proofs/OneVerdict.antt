@@ -1,27 +1,25 @@
 -- No list of bytes has two verdicts.
-use Rattle.std.proofs.Common.{◌≡◌, ◌≢◌, ℕ, zero, suc, ◌+◌, ◌-◌, ◌<◌, ◌≤◌, List, [], ◌∷◌, ◌++◌, ◌⊎◌, length, refl, sym, ap, ◌∙◌, subst, inl, inr, append_assoc, append-nil, arith}
-use Rattle.std.proofs.lemmas.Bool.{cases_eq}
+use Rattle.std.proofs.Common.{◌≡◌, ℕ, List, [], ◌∷◌, ◌++◌, length, sym, ap, ◌∙◌, subst, inl, inr, append_assoc, append-nil, arith}
 use Rattle.wsn_wire.specs.declared.endpoint.Role.{Role}
 use Rattle.wsn_wire.specs.declared.refusal.Reason.{Reason}
 use Rattle.wsn_wire.specs.Frame.{Frame, frame_bytes, stream}
 use Rattle.wsn_wire.specs.Layout.{HasLayout}
 use Rattle.wsn_wire.proofs.FrameLemmas.{layout_of_frame, layouts_agree}
 use Rattle.wsn_scan.specs.Bounds.{Bounds}
-use Rattle.wsn_scan.specs.Group.{unfinished, IsOpen}
+use Rattle.wsn_scan.specs.Group.{unfinished}
 use Rattle.wsn_scan.specs.Lawful.{IsLawful}
 use Rattle.wsn_scan.specs.Accepted.{HasNoClose, EndsWithClose, IsAccepted, Ends}
 use Rattle.wsn_scan.specs.Meaning.{meaning, events_behind}
 use Rattle.wsn_scan.specs.Evidence.{Evidence}
-use Rattle.wsn_scan.specs.Order.{number_of}
-use Rattle.wsn_scan.specs.Summary.{counted}
-use Rattle.wsn_scan.specs.Verdict.{Shown, ComesFirst, IsRefused, IsCut, IsVerdict}
+use Rattle.wsn_wire.specs.Refusal.{number_of}
+use Rattle.wsn_scan.specs.Verdict.{ComesFirst, IsRefused, IsCut, IsVerdict}
 use Rattle.wsn_scan.specs.declared.outcome.Refusal.{Refusal}
 use Rattle.wsn_scan.specs.declared.outcome.Verdict.{Verdict}
 use Rattle.wsn_scan.specs.declared.outcome.Verdict.TheVariants.{Accepted, Cut, Refused}
 use Rattle.wsn_scan.proofs.Fronts.{nil-cons, nil-parts, append_cancel}
-use Rattle.wsn_scan.proofs.LawfulLists.{no_close_before, law_at_split, lawful_front}
+use Rattle.wsn_scan.proofs.LawfulLists.{no_close_before, law_at_split}
 use Rattle.wsn_scan.proofs.Groups.{meaning-append}
-use Rattle.wsn_scan.proofs.Walk.{walk, spellable_of_lawful, GoesOnWith}
+use Rattle.wsn_scan.proofs.Walk.{walk, spellable_of_lawful}
 use Rattle.wsn_scan.proofs.RowsOfLayout.{evidence_is_row}
 use Rattle.wsn_scan.proofs.LawfulRows.{lawful_shows_no_row}
 use Rattle.wsn_scan.proofs.LeastShown.{same_number, evidence_is_some}
@@ -56,31 +54,39 @@ module _ (role : Role) (bounds : Bounds) where
     where
       by_end : Ends fs bytes → AreAll bytes fs
       by_end (inl p) = record {
-          lawful = a.lawful; rest = []; whole = p.2 ∙ sym (append-nil (stream fs));
-          last = λ f gs behind lawful e. nil-cons _ _ e
-        }
+        lawful = a.lawful;
+        rest = [];
+        whole = p.2 ∙ sym (append-nil (stream fs));
+        last = λ f gs behind lawful e. nil-cons _ _ e;
+      }
       by_end (inr p) = record {
-          lawful = a.lawful; rest = p.1.0; whole = p.1.1;
-          last = λ f gs behind lawful e. close_ends fs (no_close_before role bounds fs f gs lawful) p.0
-        }
+        lawful = a.lawful;
+        rest = p.1.0;
+        whole = p.1.1;
+        last = λ f gs behind lawful e. close_ends fs (no_close_before role bounds fs f gs lawful) p.0;
+      }
 
   all_of_cut : (bytes : List ℕ) (fs : List Frame) → IsCut role bounds bytes fs → AreAll bytes fs
   all_of_cut bytes fs c = record {
-      lawful = c.lawful; rest = c.rest; whole = c.whole;
-      last = λ f gs behind lawful e.
+    lawful = c.lawful;
+    rest = c.rest;
+    whole = c.whole;
+    last = λ f gs behind lawful e.
         let spellable = (law_at_split role bounds fs f gs lawful).frame.spellable in
         let missing = c.within.0 in
         let same : frame_bytes f ++ (behind ++ c.within.0) ≡ (c.rest ++ c.within.0) ++ [] =
-            sym (append_assoc (frame_bytes f) behind c.within.0) ∙ ap (λ (bs : List ℕ). bs ++ c.within.0) (sym e) ∙ sym (append-nil (c.rest ++ c.within.0)) in
+        sym (append_assoc (frame_bytes f) behind c.within.0) ∙ ap (λ (bs : List ℕ). bs ++ c.within.0) (sym e) ∙ sym (append-nil (c.rest ++ c.within.0)) in
         let agree = layouts_agree (frame_bytes f) (c.rest ++ c.within.0) (behind ++ c.within.0) [] (layout_of_frame f spellable) c.within.2 same in
-        c.within.1 (nil-parts behind c.within.0 (sym agree.1)).1
-    }
+        c.within.1 (nil-parts behind c.within.0 (sym agree.1)).1;
+  }
 
   all_of_refused : (bytes : List ℕ) (fs : List Frame) (place : ℕ) (reason : Reason) → IsRefused role bounds bytes fs place reason → AreAll bytes fs
   all_of_refused bytes fs place reason r = record {
-      lawful = r.lawful; rest = r.shown.seen ++ r.shown.later; whole = r.shown.whole;
-      last = λ f gs behind lawful e. lawful_frame_shows_nothing fs f gs lawful r.shown.seen r.shown.later behind reason e r.shown.evidence
-    }
+    lawful = r.lawful;
+    rest = r.shown.seen ++ r.shown.later;
+    whole = r.shown.whole;
+    last = λ f gs behind lawful e. lawful_frame_shows_nothing fs f gs lawful r.shown.seen r.shown.later behind reason e r.shown.evidence;
+  }
 
   pub all_of_verdict : (bytes : List ℕ) (fs : List Frame) (v : Verdict) → IsVerdict role bounds bytes fs v → AreAll bytes fs
   all_of_verdict bytes fs (Accepted s) is = all_of_accepted bytes fs is.0

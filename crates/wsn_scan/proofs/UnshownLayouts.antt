@@ -1,14 +1,13 @@
 -- A whole layout that shows no row is the bytes of a frame that is lawful at its place.
-use Rattle.std.proofs.Common.{◌≡◌, ◌≢◌, ℕ, zero, suc, ◌+◌, ◌<◌, ◌≤◌, Bool, true, false, not, Option, Some, None, List, [], ◌∷◌, ◌++◌, ◌⊎◌, ◌↔◌, length, take, drop, refl, sym, ap, ◌∙◌, subst, inl, inr, append-nil, arith, true≢false}
+use Rattle.std.proofs.Common.{◌≡◌, ◌≢◌, ℕ, ◌+◌, ◌≤◌, true, not, Some, List, [], ◌∷◌, ◌++◌, ◌⊎◌, length, take, drop, sym, ap, ◌∙◌, subst, inl, inr, arith}
 use Rattle.std.proofs.lemmas.Bool.{cases_lt, cases_eq}
 use Rattle.std.proofs.lemmas.List.{length-append, take_all}
 use Rattle.std.specs.Option.{ForSome}
 use Rattle.wsn_wire.specs.declared.endpoint.Role.{Role}
-use Rattle.wsn_wire.specs.declared.opcode.Op.{Op}
 use Rattle.wsn_wire.specs.declared.opcode.Op.TheVariants.{Continue, Text, Close}
 use Rattle.wsn_wire.specs.declared.refusal.Reason.{Reason}
-use Rattle.wsn_wire.specs.declared.refusal.Reason.TheVariants.{ReservedBits, ReservedOpcode, ControlNotFinal, NothingToContinue, MessageOpen, MaskMissing, MaskPresent, ControlTooLong, CloseOneByte, LengthTopBit, LengthNotMinimal, MessageTooBig, CloseCode, CloseReason, TextBad, TextCut, TooManyFrames}
-use Rattle.wsn_wire.specs.Frame.{Frame, opcode, is_control, frame_bytes}
+use Rattle.wsn_wire.specs.declared.refusal.Reason.TheVariants.{ReservedBits, ReservedOpcode, ControlNotFinal, NothingToContinue, MessageOpen, LengthTopBit, LengthNotMinimal, MessageTooBig, CloseCode, CloseReason, TextBad, TextCut, TooManyFrames}
+use Rattle.wsn_wire.specs.Frame.{Frame, opcode, frame_bytes}
 use Rattle.wsn_wire.specs.Layout.{HasLayout, opcode_field, len_form_at}
 use Rattle.wsn_wire.specs.Rows.{ShownByFirst, ShownByLength}
 use Rattle.wsn_wire.specs.Sender.{ShowsNothing}
@@ -20,11 +19,11 @@ use Rattle.wsn_text.proofs.Decide.{text_decided}
 use Rattle.wsn_text.proofs.Fronts.{begins-nil, begins_or_first_bad}
 use Rattle.wsn_scan.specs.Bounds.{Bounds, InRange}
 use Rattle.wsn_scan.specs.Group.{is_data, unfinished, first_op, text_of}
-use Rattle.wsn_scan.specs.FrameLaw.{FrameLaw, ControlLaw}
+use Rattle.wsn_scan.specs.FrameLaw.{FrameLaw}
 use Rattle.wsn_scan.specs.Lawful.{GroupLaw, LawAt}
 use Rattle.wsn_scan.specs.Evidence.{EvidentByPayload, IsOfText, EndsBad, EndsInside}
 use Rattle.wsn_scan.proofs.Groups.{IsGroup}
-use Rattle.wsn_scan.proofs.RowsOfLayout.{RowAt, payload_of, told_by, length-unmasked}
+use Rattle.wsn_scan.proofs.RowsOfLayout.{RowAt, payload_of, told_by}
 use Rattle.wsn_scan.proofs.RowsOfLayout.RowAt.{FirstShows, SecondShows, LengthShows, PayloadShows}
 use Rattle.wsn_scan.proofs.MessageText.{opcode_of_data, opcode_of_beginning, continue_or_not, text_of_push, of_text_from_group, bad_behind_front, BodyShows, body_or_shows}
 
@@ -48,10 +47,10 @@ module _ (role : Role) (bounds : Bounds) (range : InRange bounds) (before : List
 
   head_shows_nothing : ShowsNothing role bounds.lengths l.first l.second l.len
   head_shows_nothing = record {
-      by_first = no_first;
-      by_second = λ reason row. unshown reason (SecondShows row);
-      by_length = no_length
-    }
+    by_first = no_first;
+    by_second = λ reason row. unshown reason (SecondShows row);
+    by_length = no_length;
+  }
 
   module _ (f : Frame) (spelled : IsSpelledBy role bounds.lengths l f) where
     payload_same : payload_of l ≡ f.payload
@@ -72,7 +71,7 @@ module _ (role : Role) (bounds : Bounds) (range : InRange bounds) (before : List
     no_body close (inr p) =
         let eight : opcode_field l.first ≡ 8 = sym spelled.opcode_is ∙ ap opcode close in
         let ends : EndsBad (drop 2 (take p.0 f.payload)) ⊎ ((length (take p.0 f.payload) ≡ told_by l) × EndsInside (drop 2 (take p.0 f.payload))) =
-            elim p.2 [ inl bad ↦ inl bad | inr q ↦ inr (q.0 ∙ spelled.length_is, q.1) ] in
+        elim p.2 [ inl bad ↦ inl bad | inr q ↦ inr (q.0 ∙ spelled.length_is, q.1) ] in
         no_payload CloseReason p.0 p.1 (eight, ends)
 
     body_is_lawful : f.op ≡ Close → IsCloseBody f.payload
@@ -84,12 +83,12 @@ module _ (role : Role) (bounds : Bounds) (range : InRange bounds) (before : List
 
     frame_law : FrameLaw role bounds.lengths f
     frame_law = record {
-        spellable = spelled.owed.spellable;
-        masked = spelled.owed.masked;
-        shortest = spelled.owed.shortest;
-        control = λ control. record { final = (spelled.owed.control control).0; short = (spelled.owed.control control).1; shortest = (spelled.owed.control control).2 };
-        close = body_is_lawful
-      }
+      spellable = spelled.owed.spellable;
+      masked = spelled.owed.masked;
+      shortest = spelled.owed.shortest;
+      control = λ control. record { final = (spelled.owed.control control).0; short = (spelled.owed.control control).1; shortest = (spelled.owed.control control).2 };
+      close = body_is_lawful;
+    }
 
     -- the message goes on with opcode 0, and begins with another
     no_zero : unfinished before ≡ [] → f.op ≡ Continue → ⊥
@@ -100,9 +99,9 @@ module _ (role : Role) (bounds : Bounds) (range : InRange bounds) (before : List
         elim (continue_or_not f.op) [
           | inl is ↦ is
           | inr other ↦
-            let one_or_two : (opcode_field l.first ≡ 1) ⊎ (opcode_field l.first ≡ 2) =
-                elim (opcode_of_beginning f.op data_frame other) [ inl one ↦ inl (sym spelled.opcode_is ∙ one) | inr two ↦ inr (sym spelled.opcode_is ∙ two) ] in
-            absurd (unshown MessageOpen (FirstShows (one_or_two, some)))
+              let one_or_two : (opcode_field l.first ≡ 1) ⊎ (opcode_field l.first ≡ 2) =
+              elim (opcode_of_beginning f.op data_frame other) [ inl one ↦ inl (sym spelled.opcode_is ∙ one) | inr two ↦ inr (sym spelled.opcode_is ∙ two) ] in
+              absurd (unshown MessageOpen (FirstShows (one_or_two, some)))
         ]
 
     size_fits : is_data f ≡ true → length (text_of (unfinished before ++ f ∷ [])) ≤ bounds.message
@@ -122,9 +121,9 @@ module _ (role : Role) (bounds : Bounds) (range : InRange bounds) (before : List
         elim (cases_eq (length (unfinished before)) most) [
           | inr less ↦ omega arith
           | inl all ↦
-            let some : unfinished before ≢ [] = λ none. ones most (length (unfinished before)) least all (ap (λ (gs : List Frame). length gs) none) in
-            let is_zero : opcode_field l.first ≡ 0 = sym spelled.opcode_is ∙ ap opcode (goes_on data_frame some) in
-            absurd (unshown TooManyFrames (FirstShows (is_zero, is ∙ ap Some (sym all))))
+              let some : unfinished before ≢ [] = λ none. ones most (length (unfinished before)) least all (ap (λ (gs : List Frame). length gs) none) in
+              let is_zero : opcode_field l.first ≡ 0 = sym spelled.opcode_is ∙ ap opcode (goes_on data_frame some) in
+              absurd (unshown TooManyFrames (FirstShows (is_zero, is ∙ ap Some (sym all))))
         ]
       where
         ones : (most n : ℕ) → 1 ≤ most → n ≡ most → n ≡ 0 → ⊥
@@ -143,8 +142,8 @@ module _ (role : Role) (bounds : Bounds) (range : InRange bounds) (before : List
         elim (begins_or_first_bad (text_of (unfinished before) ++ f.payload)) [
           | inl begins ↦ begins
           | inr bad ↦
-            let shown = bad_behind_front (text_of (unfinished before)) f.payload bad.0 (group_begins text) bad.1 in
-            absurd (no_payload TextBad shown.0 shown.1 (of_text, shown.2))
+              let shown = bad_behind_front (text_of (unfinished before)) f.payload bad.0 (group_begins text) bad.1 in
+              absurd (no_payload TextBad shown.0 shown.1 (of_text, shown.2))
         ]
 
     text_is_whole : is_data f ≡ true → first_op (unfinished before ++ f ∷ []) ≡ Text → f.fin ≡ true → IsText (text_of (unfinished before) ++ f.payload)
@@ -158,12 +157,12 @@ module _ (role : Role) (bounds : Bounds) (range : InRange bounds) (before : List
 
     group_law : is_data f ≡ true → GroupLaw bounds (unfinished before) f
     group_law data_frame = record {
-        continues = (λ is none. no_zero none is, goes_on data_frame);
-        size = size_fits data_frame;
-        count = count_fits data_frame;
-        begins = λ text. subst BeginsText (sym (text_of_push (unfinished before) f)) (text_begins data_frame text);
-        text = λ text final. subst IsText (sym (text_of_push (unfinished before) f)) (text_is_whole data_frame text final)
-      }
+      continues = (λ is none. no_zero none is, goes_on data_frame);
+      size = size_fits data_frame;
+      count = count_fits data_frame;
+      begins = λ text. subst BeginsText (sym (text_of_push (unfinished before) f)) (text_begins data_frame text);
+      text = λ text final. subst IsText (sym (text_of_push (unfinished before) f)) (text_is_whole data_frame text final);
+    }
 
   -- completeness of the table
   pub unshown_is_lawful : IsLawfulFrame role bounds before bytes
@@ -175,6 +174,6 @@ module _ (role : Role) (bounds : Bounds) (range : InRange bounds) (before : List
         bytes_are = spelled.bytes_are;
         law = record {
           frame = frame_law (frame_at l.first l.second l.key l.payload) spelled;
-          group = group_law (frame_at l.first l.second l.key l.payload) spelled
-        }
+          group = group_law (frame_at l.first l.second l.key l.payload) spelled;
+        };
       }

@@ -5,7 +5,6 @@ pub mod Lawful
 pub mod Behind
 pub mod Accepted
 pub mod Meaning
-pub mod Order
 pub mod Evidence
 pub mod Summary
 pub mod Verdict

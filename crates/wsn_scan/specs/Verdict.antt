@@ -12,7 +12,7 @@ use Rattle.wsn_scan.specs.Group.{unfinished, IsOpen}
 use Rattle.wsn_scan.specs.Lawful.{IsLawful}
 use Rattle.wsn_scan.specs.Accepted.{IsAccepted, HasNoClose}
 use Rattle.wsn_scan.specs.Evidence.{Evidence}
-use Rattle.wsn_scan.specs.Order.{number_of}
+use Rattle.wsn_wire.specs.Refusal.{number_of}
 use Rattle.wsn_scan.specs.Summary.{counted}
 
 -- ---- refused

@@ -1,10 +1,12 @@
 //! Facts of the definitions in `specs/`. Each function does nothing: its contract is the fact.
 
-ghost use Rattle.std.specs.Prelude.{◌≡◌, ◌≢◌, ℕ, ◌≤◌, ◌⊎◌, ◌↔◌, true, false, List, [], ◌∷◌, ◌++◌, length, if◌then◌else◌};
+ghost use Rattle.std.specs.Prelude.{◌≡◌, ◌≢◌, ℕ, ◌+◌, ◌≤◌, ◌⊎◌, ◌↔◌, true, false, List, [], ◌∷◌, ◌++◌, length, take, if◌then◌else◌};
 ghost use Rattle.std.specs.Option.{ForSome};
 ghost use Rattle.wsn_wire.specs.declared.endpoint.Role.{Role};
 ghost use Rattle.wsn_wire.specs.declared.opcode.Op.TheVariants.{Text, Binary};
-ghost use Rattle.wsn_wire.specs.Frame.{Frame, IsBytes, stream};
+ghost use Rattle.wsn_wire.specs.declared.refusal.Reason.{Reason};
+ghost use Rattle.wsn_wire.specs.Frame.{Frame, IsBytes, frame_bytes, stream};
+ghost use Rattle.wsn_wire.specs.Layout.{HasLayout};
 ghost use Rattle.wsn_text.specs.Utf8.{BeginsText};
 ghost use Rattle.wsn_scan.specs.Bounds.{Bounds, InRange};
 ghost use Rattle.wsn_scan.specs.Group.{is_data, unfinished, first_op, text_of};
@@ -12,8 +14,53 @@ ghost use Rattle.wsn_scan.specs.Lawful.{LawAt, IsLawful};
 ghost use Rattle.wsn_scan.specs.Behind.{AreLawfulBehind};
 ghost use Rattle.wsn_scan.specs.Accepted.{HasNoClose, EndsWithClose, IsAccepted};
 ghost use Rattle.wsn_scan.specs.Meaning.{event_at, events_behind, meaning};
-ghost use Rattle.wsn_scan.specs.Verdict.{IsVerdict};
+ghost use Rattle.wsn_scan.specs.Verdict.{Shown, IsRefused, IsVerdict};
 ghost use Rattle.wsn_scan.specs.declared.outcome.Verdict.{Verdict};
+ghost use Rattle.wsn_scan.specs.declared.outcome.Verdict.TheVariants.{Refused};
+
+/// Every list of bytes has exactly one verdict, accepted, cut or refused, with one list of frames; so a refused
+/// one has one place and one reason.
+pub fn law_one_verdict()
+    ensures some { (role : Role) (bounds : Bounds) (bytes : List ℕ) → InRange bounds → IsBytes bytes →
+        (fs : List Frame) × (verdict : Verdict) × IsVerdict role bounds bytes fs verdict }
+    ensures one { (role : Role) (bounds : Bounds) (bytes : List ℕ) (fs gs : List Frame) (verdict other : Verdict) →
+        IsVerdict role bounds bytes fs verdict → IsVerdict role bounds bytes gs other → (fs ≡ gs) × (verdict ≡ other) }
+{}
+
+/// A refused input stays refused whatever follows, and so is every input with the same bytes up to the place.
+/// No input that begins with those bytes has another verdict.
+pub fn law_stays_refused()
+    ensures longer { (role : Role) (bounds : Bounds) (bytes more : List ℕ) (fs : List Frame) (place : ℕ) (reason : Reason) →
+        IsRefused role bounds bytes fs place reason → IsRefused role bounds (bytes ++ more) fs place reason }
+    ensures alike { (role : Role) (bounds : Bounds) (bytes other : List ℕ) (fs : List Frame) (place : ℕ) (reason : Reason) →
+        IsRefused role bounds bytes fs place reason → take (place + 1) other ≡ take (place + 1) bytes → IsRefused role bounds other fs place reason }
+    ensures nothing_else { (role : Role) (bounds : Bounds) (bytes more : List ℕ) (fs gs : List Frame) (place : ℕ) (reason : Reason) (verdict : Verdict) →
+        IsRefused role bounds bytes fs place reason → IsVerdict role bounds (take (place + 1) bytes ++ more) gs verdict →
+        (gs ≡ fs) × (verdict ≡ Refused (record { place = place; reason = reason })) }
+    ensures within { (role : Role) (bounds : Bounds) (bytes : List ℕ) (fs : List Frame) (place : ℕ) (reason : Reason) →
+        IsRefused role bounds bytes fs place reason → place + 1 ≤ length bytes }
+{}
+
+/// The frames of a longer input go on where those of its front end, and so does their meaning.
+pub fn law_longer_input()
+    ensures verdicts { (role : Role) (bounds : Bounds) (bytes more : List ℕ) (fs gs : List Frame) (verdict longer : Verdict) →
+        IsVerdict role bounds bytes fs verdict → IsVerdict role bounds (bytes ++ more) gs longer →
+        (extra : List Frame) × (gs ≡ fs ++ extra) × (meaning gs ≡ meaning fs ++ events_behind fs extra) }
+    ensures lawful_front { (role : Role) (bounds : Bounds) (bytes rest : List ℕ) (fs gs : List Frame) (verdict : Verdict) →
+        IsLawful role bounds fs → bytes ≡ stream fs ++ rest → IsVerdict role bounds bytes gs verdict →
+        (extra : List Frame) × (gs ≡ fs ++ extra) }
+{}
+
+/// The table of refusals is whole: bytes with the layout of a frame that show nothing behind lawful frames are
+/// the bytes of a frame that is lawful there. And it is sound: a frame that is lawful there shows nothing.
+pub fn law_the_table_is_whole()
+    ensures whole { (role : Role) (bounds : Bounds) (fs : List Frame) (bytes : List ℕ) →
+        InRange bounds → IsLawful role bounds fs → HasLayout bytes →
+        ((place : ℕ) (reason : Reason) → ¬ (Shown role bounds (stream fs ++ bytes) fs place reason)) →
+        (f : Frame) × LawAt role bounds fs f × (frame_bytes f ≡ bytes) }
+    ensures sound { (role : Role) (bounds : Bounds) (fs gs : List Frame) (f : Frame) (behind : List ℕ) (place : ℕ) (reason : Reason) →
+        IsLawful role bounds (fs ++ f ∷ gs) → ¬ (Shown role bounds (stream fs ++ (frame_bytes f ++ behind)) fs place reason) }
+{}
 
 /// The front of a lawful list is lawful.
 #[tactic(auto, using(crate::proofs::LawfulLists::lawful_front))]

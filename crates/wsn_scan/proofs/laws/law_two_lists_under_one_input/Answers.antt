@@ -1,5 +1,3 @@
-use Rattle.std.proofs.Common.{ℕ, List}
-use Rattle.wsn_wire.specs.Frame.{Frame}
 use Rattle.wsn_scan.proofs.Walk.{walk, spellable_of_lawful}
 use Rattle.wsn_scan.proofs.laws.law_two_lists_under_one_input.Goals as goal
 
