@@ -1,6 +1,6 @@
 -- Whether bytes are evidence is decided, and so is whether a front of bytes is.
 use Rattle.std.proofs.Common.{◌≡◌, ℕ, ◌+◌, ◌<◌, ◌≤◌, List, [], ◌∷◌, ◌++◌, length, take, drop, refl, sym, ap, ◌∙◌, subst, inl, inr, arith}
-use Rattle.std.proofs.lemmas.Bool.{cases_lt, cases_eq}
+use Rattle.wsn_text.proofs.Numbers.{less_or_not, same_or_not}
 use Rattle.std.proofs.lemmas.List.{take-append-drop, length-take-le, length-append}
 use Rattle.wsn_wire.specs.declared.endpoint.Role.{Role}
 use Rattle.wsn_wire.specs.declared.refusal.Reason.{Reason}
@@ -37,10 +37,10 @@ same_into seen p q =
     let keys = same_front p.key q.key p.wire q.wire key_counts lens.1 in
     record { first = firsts; second = seconds; len = lens.0; key = keys.0; wire = keys.1 }
 
-RowInto : List Frame → Reason → {seen : List ℕ} → IntoPayload seen → Type 0
+pub RowInto : List Frame → Reason → {seen : List ℕ} → IntoPayload seen → Type 0
 RowInto group reason p = EvidentByPayload group reason p.first (length_told (len_form_at p.second) p.len) (unmasked p.second p.key p.wire)
 
-row_into_same : (group : List Frame) (reason : Reason) (seen : List ℕ) (p q : IntoPayload seen) → RowInto group reason p → RowInto group reason q
+pub row_into_same : (group : List Frame) (reason : Reason) (seen : List ℕ) (p q : IntoPayload seen) → RowInto group reason p → RowInto group reason q
 unfolding RowInto
 row_into_same group reason seen p q row =
     let same = same_into seen p q in
@@ -53,11 +53,11 @@ row_into_same group reason seen p q row =
     (subst (λ (bs : List ℕ). EvidentByPayload group reason p.first (length_told (len_form_at p.second) p.len) bs) payload row))
 
 -- whether the bytes have a whole head, and no more than the payload's length behind it
-into_payload : (seen : List ℕ) → Decided (IntoPayload seen)
+unfoldable pub into_payload : (seen : List ℕ) → Decided (IntoPayload seen)
 into_payload [] = inr (λ p. nil-cons p.first (p.second ∷ (p.len ++ (p.key ++ p.wire))) p.whole)
 into_payload (first ∷ []) = inr (λ p. nil-cons p.second (p.len ++ (p.key ++ p.wire)) (tail_same first p.first [] (p.second ∷ (p.len ++ (p.key ++ p.wire))) p.whole))
 into_payload (first ∷ second ∷ rest) =
-    elim (cases_lt (length rest) (length_count (len_form_at second) + key_count second)) [
+    elim (less_or_not (length rest) (length_count (len_form_at second) + key_count second)) [
       | inl short ↦ inr (λ p. omega (arith, as_long p))
       | inr long ↦
           let count = length_count (len_form_at second) in
@@ -88,7 +88,7 @@ into_payload (first ∷ second ∷ rest) =
 
     with_parts : (len key wire : List ℕ) → rest ≡ len ++ (key ++ wire) → length len ≡ length_count (len_form_at second) → length key ≡ key_count second → Decided (IntoPayload (first ∷ second ∷ rest))
     with_parts len key wire is len_is key_is =
-        elim (cases_lt (length_told (len_form_at second) len) (length wire)) [
+        elim (less_or_not (length_told (len_form_at second) len) (length wire)) [
           | inr within ↦ inl (record { first = first; second = second; len = len; key = key; wire = wire; whole = ap (λ (bs : List ℕ). first ∷ second ∷ bs) is; len_count = len_is; key_counted = key_is; within = within })
           | inl past ↦ inr (λ p. past_told past p)
         ]
@@ -112,7 +112,7 @@ into_payload (first ∷ second ∷ rest) =
 -- ---- evidence
 
 module _ (role : Role) (bounds : Bounds) (group : List Frame) (reason : Reason) where
-  first_evidence : (seen : List ℕ) → Decided ((first : ℕ) × (seen ≡ first ∷ []) × EvidentByFirst bounds group reason first)
+  unfoldable pub first_evidence : (seen : List ℕ) → Decided ((first : ℕ) × (seen ≡ first ∷ []) × EvidentByFirst bounds group reason first)
   first_evidence [] = inr (λ p. nil-cons p.0 [] p.1)
   first_evidence (b ∷ []) =
       elim (by_first bounds group reason b) [
@@ -121,7 +121,7 @@ module _ (role : Role) (bounds : Bounds) (group : List Frame) (reason : Reason) 
       ]
   first_evidence (b ∷ c ∷ seen) = inr (λ p. nil-cons c seen (sym (tail_same b p.0 (c ∷ seen) [] p.1)))
 
-  second_evidence : (seen : List ℕ) → Decided ((first : ℕ) × (second : ℕ) × (seen ≡ first ∷ second ∷ []) × ShownBySecond role reason first second)
+  unfoldable pub second_evidence : (seen : List ℕ) → Decided ((first : ℕ) × (second : ℕ) × (seen ≡ first ∷ second ∷ []) × ShownBySecond role reason first second)
   second_evidence [] = inr (λ p. nil-cons p.0 (p.1 ∷ []) p.2)
   second_evidence (b ∷ []) = inr (λ p. nil-cons p.1 [] (tail_same b p.0 [] (p.1 ∷ []) p.2))
   second_evidence (b ∷ c ∷ []) =
@@ -131,15 +131,15 @@ module _ (role : Role) (bounds : Bounds) (group : List Frame) (reason : Reason) 
       ]
   second_evidence (b ∷ c ∷ d ∷ seen) = inr (λ p. nil-cons d seen (sym (tail_same c p.1 (d ∷ seen) [] (tail_same b p.0 (c ∷ d ∷ seen) (p.1 ∷ []) p.2))))
 
-  LengthEvidence : List ℕ → Type 0
+  pub LengthEvidence : List ℕ → Type 0
   LengthEvidence seen = (first : ℕ) × (second : ℕ) × (len : List ℕ) × (seen ≡ first ∷ second ∷ len) × (length len ≡ length_count (len_form_at second)) × EvidentByLength bounds group reason first second len
 
-  length_evidence : (seen : List ℕ) → Decided (LengthEvidence seen)
+  unfoldable pub length_evidence : (seen : List ℕ) → Decided (LengthEvidence seen)
   unfolding LengthEvidence
   length_evidence [] = inr (λ p. nil-cons p.0 (p.1 ∷ p.2) p.3)
   length_evidence (b ∷ []) = inr (λ p. nil-cons p.1 p.2 (tail_same b p.0 [] (p.1 ∷ p.2) p.3))
   length_evidence (b ∷ c ∷ len) =
-      elim (cases_eq (length len) (length_count (len_form_at c))) [
+      elim (same_or_not (length len) (length_count (len_form_at c))) [
         | inr other ↦ inr (λ p.
             let tails = tail_same b p.0 (c ∷ len) (p.1 ∷ p.2) p.3 in
             other (ap (λ (bs : List ℕ). length bs) (tail_same c p.1 len p.2 tails) ∙ p.4 ∙ ap (λ (n : ℕ). length_count (len_form_at n)) (sym (head_same c p.1 len p.2 tails))))
@@ -153,7 +153,7 @@ module _ (role : Role) (bounds : Bounds) (group : List Frame) (reason : Reason) 
         ]
       ]
 
-  payload_evidence : (seen : List ℕ) → Decided ((p : IntoPayload seen) × RowInto group reason p)
+  unfoldable pub payload_evidence : (seen : List ℕ) → Decided ((p : IntoPayload seen) × RowInto group reason p)
   unfolding RowInto
   payload_evidence seen =
       elim (into_payload seen) [
@@ -164,7 +164,7 @@ module _ (role : Role) (bounds : Bounds) (group : List Frame) (reason : Reason) 
         ]
       ]
 
-  pub evidence_decided : (seen : List ℕ) → Decided (Evidence role bounds group reason seen)
+  unfoldable pub evidence_decided : (seen : List ℕ) → Decided (Evidence role bounds group reason seen)
   unfolding LengthEvidence RowInto
   evidence_decided seen =
       elim (first_evidence seen) [

@@ -30,21 +30,21 @@ module _ (role : Role) (bounds : Bounds) (range : InRange bounds) (bytes : List 
     pub verdict : Verdict
     pub is : IsVerdict role bounds bytes frames verdict
 
-  refused : (fs : List Frame) (rest : List ℕ) (whole : bytes ≡ stream fs ++ rest) → IsLawful role bounds fs → HasNoClose fs → LeastShown role bounds bytes fs rest whole → HasVerdict
+  unfoldable pub refused : (fs : List Frame) (rest : List ℕ) (whole : bytes ≡ stream fs ++ rest) → IsLawful role bounds fs → HasNoClose fs → LeastShown role bounds bytes fs rest whole → HasVerdict
   refused fs rest whole lawful none p = record {
     frames = fs;
     verdict = Refused (record { place = p.place; reason = p.reason });
     is = record { lawful = lawful; no_close = none; shown = p.shown; least = p.least };
   }
 
-  cut : (fs : List Frame) (rest : List ℕ) (whole : bytes ≡ stream fs ++ rest) → IsLawful role bounds fs → HasNoClose fs → ((p : ℕ) (r : Reason) → Shown role bounds bytes fs p r → ⊥) → EndsWithinFrame rest → (rest ≢ []) ⊎ (unfinished fs ≢ []) → HasVerdict
+  unfoldable pub cut : (fs : List Frame) (rest : List ℕ) (whole : bytes ≡ stream fs ++ rest) → IsLawful role bounds fs → HasNoClose fs → ((p : ℕ) (r : Reason) → Shown role bounds bytes fs p r → ⊥) → EndsWithinFrame rest → (rest ≢ []) ⊎ (unfinished fs ≢ []) → HasVerdict
   cut fs rest whole lawful none unshown within more = record {
     frames = fs;
     verdict = Cut (counted fs (length bytes) 0);
     is = (record { lawful = lawful; no_close = none; rest = rest; whole = whole; within = within; unshown = unshown; more = more }, refl);
   }
 
-  accepted : (fs : List Frame) → IsAccepted role bounds bytes fs → HasVerdict
+  unfoldable pub accepted : (fs : List Frame) → IsAccepted role bounds bytes fs → HasVerdict
   accepted fs is = record {
     frames = fs;
     verdict = Accepted (counted fs (length (stream fs)) (length bytes - length (stream fs)));
@@ -52,7 +52,7 @@ module _ (role : Role) (bounds : Bounds) (range : InRange bounds) (bytes : List 
   }
 
   -- nothing is shown, and the rest is within a frame
-  ended : (fs : List Frame) (rest : List ℕ) (whole : bytes ≡ stream fs ++ rest) → IsLawful role bounds fs → HasNoClose fs → ((p : ℕ) (r : Reason) → Shown role bounds bytes fs p r → ⊥) → EndsWithinFrame rest → HasVerdict
+  unfoldable pub ended : (fs : List Frame) (rest : List ℕ) (whole : bytes ≡ stream fs ++ rest) → IsLawful role bounds fs → HasNoClose fs → ((p : ℕ) (r : Reason) → Shown role bounds bytes fs p r → ⊥) → EndsWithinFrame rest → HasVerdict
   ended fs (b ∷ rest) whole lawful none unshown within = cut fs (b ∷ rest) whole lawful none unshown within (inl (λ e. nil-cons b rest (sym e)))
   ended fs [] whole lawful none unshown within = by_group (unfinished fs) refl
     where
@@ -61,7 +61,7 @@ module _ (role : Role) (bounds : Bounds) (range : InRange bounds) (bytes : List 
       by_group (f ∷ group) is = cut fs [] whole lawful none unshown within (inr (λ e. nil-cons f group (sym e ∙ is)))
 
   -- a row of a whole layout at the front of the rest is shown
-  row_shown : (fs : List Frame) (xs behind : List ℕ) → bytes ≡ stream fs ++ (xs ++ behind) → (l : HasLayout xs) (reason : Reason) → RowAt role bounds (unfinished fs) reason l → (p : ℕ) × Shown role bounds bytes fs p reason
+  pub row_shown : (fs : List Frame) (xs behind : List ℕ) → bytes ≡ stream fs ++ (xs ++ behind) → (l : HasLayout xs) (reason : Reason) → RowAt role bounds (unfinished fs) reason l → (p : ℕ) × Shown role bounds bytes fs p reason
   row_shown fs xs behind whole l reason row =
       let front = row_has_evidence role bounds (unfinished fs) reason xs l row in
       let some = evidence_is_some role bounds (unfinished fs) reason front.seen front.evidence in (
@@ -79,12 +79,12 @@ module _ (role : Role) (bounds : Bounds) (range : InRange bounds) (bytes : List 
       placed h n some = omega arith
 
   -- a whole layout behind lawful frames that shows nothing
-  pub unshown_frame : (fs : List Frame) (xs behind : List ℕ) → bytes ≡ stream fs ++ (xs ++ behind) → IsLawful role bounds fs → (l : HasLayout xs) → ((p : ℕ) (r : Reason) → Shown role bounds bytes fs p r → ⊥) → IsLawfulFrame role bounds fs xs
+  unfoldable pub unshown_frame : (fs : List Frame) (xs behind : List ℕ) → bytes ≡ stream fs ++ (xs ++ behind) → IsLawful role bounds fs → (l : HasLayout xs) → ((p : ℕ) (r : Reason) → Shown role bounds bytes fs p r → ⊥) → IsLawfulFrame role bounds fs xs
   unshown_frame fs xs behind whole lawful l unshown =
       unshown_is_lawful role bounds range fs (group_of_lawful role bounds fs lawful) l
       (λ reason row. let shown = row_shown fs xs behind whole l reason row in unshown shown.0 reason shown.1)
 
-  from : (steps : ℕ) (fs : List Frame) (rest : List ℕ) → length rest < steps → bytes ≡ stream fs ++ rest → IsBytes rest → IsLawful role bounds fs → HasNoClose fs → HasVerdict
+  unfoldable pub from : (steps : ℕ) (fs : List Frame) (rest : List ℕ) → length rest < steps → bytes ≡ stream fs ++ rest → IsBytes rest → IsLawful role bounds fs → HasNoClose fs → HasVerdict
   from zero fs rest within whole in_bytes lawful none = absurd (omega arith)
   from (suc steps) fs rest within whole in_bytes lawful none =
       elim (least_shown role bounds bytes fs rest whole) [
@@ -107,5 +107,5 @@ module _ (role : Role) (bounds : Bounds) (range : InRange bounds) (bytes : List 
         ]
       ]
 
-  pub has_verdict : IsBytes bytes → HasVerdict
+  unfoldable pub has_verdict : IsBytes bytes → HasVerdict
   has_verdict in_bytes = from (suc (length bytes)) [] bytes (omega arith) refl in_bytes (lawful_nil role bounds) no_close_nil

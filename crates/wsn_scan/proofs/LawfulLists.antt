@@ -11,7 +11,7 @@ use Rattle.wsn_scan.specs.Behind.{AreLawfulBehind}
 use Rattle.wsn_scan.specs.Accepted.{HasNoClose, EndsWithClose, IsAccepted}
 use Rattle.wsn_scan.proofs.Fronts.{nil-push, nil-cons, split_push, push-append, tail_same, head_same}
 
-pub close_or_not : (op : Op) → (op ≡ Close) ⊎ (op ≡ Close → ⊥)
+unfoldable pub close_or_not : (op : Op) → (op ≡ Close) ⊎ (op ≡ Close → ⊥)
 close_or_not Close = inl refl
 close_or_not Continue = inr (λ e. cc)
 close_or_not Text = inr (λ e. cc)

@@ -1,6 +1,6 @@
 -- Bytes begin with a whole layout, or end within a frame.
 use Rattle.std.proofs.Common.{◌≡◌, ◌≢◌, ℕ, zero, suc, ◌+◌, ◌-◌, ◌<◌, List, [], ◌∷◌, ◌++◌, ◌⊎◌, length, take, drop, refl, sym, ap, ◌∙◌, subst, inl, inr, append_assoc, arith}
-use Rattle.std.proofs.lemmas.Bool.{cases_lt}
+use Rattle.wsn_text.proofs.Numbers.{less_or_not, same_or_not}
 use Rattle.std.proofs.lemmas.List.{take-append-drop, length-take-le, length-append}
 use Rattle.wsn_wire.specs.Frame.{IsBytes}
 use Rattle.wsn_wire.specs.Layout.{HasLayout, len_form_at, length_count, length_told, key_count}
@@ -8,36 +8,36 @@ use Rattle.wsn_wire.proofs.FrameLemmas.{IsBytes-append, IsBytes-left}
 use Rattle.wsn_scan.specs.Verdict.{EndsWithinFrame}
 use Rattle.wsn_scan.proofs.Fronts.{nil-cons, nil-parts}
 
-zeros : ℕ → List ℕ
+pub zeros : ℕ → List ℕ
 zeros zero = []
 zeros (suc n) = 0 ∷ zeros n
 
-length-zeros : (n : ℕ) → length (zeros n) ≡ n
+pub length-zeros : (n : ℕ) → length (zeros n) ≡ n
 unfolding zeros
 length-zeros zero = refl
 length-zeros (suc n) = ap suc (length-zeros n)
 
-zeros_bytes : (n : ℕ) → IsBytes (zeros n)
+pub zeros_bytes : (n : ℕ) → IsBytes (zeros n)
 unfolding zeros
 zeros_bytes zero = tt
 zeros_bytes (suc n) = (omega arith, zeros_bytes n)
 
 -- The bytes begin with so many, or something is missing of so many.
-record Front (n : ℕ) (bytes : List ℕ) : Type 0 where
-  front : List ℕ
-  behind : List ℕ
-  whole : bytes ≡ front ++ behind
-  count : length front ≡ n
+pub record Front (n : ℕ) (bytes : List ℕ) : Type 0 where
+  pub front : List ℕ
+  pub behind : List ℕ
+  pub whole : bytes ≡ front ++ behind
+  pub count : length front ≡ n
 
-record Missing (n : ℕ) (bytes : List ℕ) : Type 0 where
-  missing : List ℕ
-  some : missing ≢ []
-  in_bytes : IsBytes missing
-  count : length (bytes ++ missing) ≡ n
+pub record Missing (n : ℕ) (bytes : List ℕ) : Type 0 where
+  pub missing : List ℕ
+  pub some : missing ≢ []
+  pub in_bytes : IsBytes missing
+  pub count : length (bytes ++ missing) ≡ n
 
-front_or_missing : (n : ℕ) (bytes : List ℕ) → Front n bytes ⊎ Missing n bytes
+unfoldable pub front_or_missing : (n : ℕ) (bytes : List ℕ) → Front n bytes ⊎ Missing n bytes
 front_or_missing n bytes =
-    elim (cases_lt (length bytes) n) [
+    elim (less_or_not (length bytes) n) [
       | inr long ↦ inl (record { front = take n bytes; behind = drop n bytes; whole = sym (take-append-drop n bytes); count = length-take-le n bytes long })
       | inl short ↦ inr (record {
         missing = zeros (n - length bytes);
@@ -61,10 +61,10 @@ pub record BeginsWithLayout (rest : List ℕ) : Type 0 where
   pub layout : HasLayout bytes
   pub some : 0 < length bytes
 
-some_left : (xs ys : List ℕ) → xs ≢ [] → xs ++ ys ≢ []
+pub some_left : (xs ys : List ℕ) → xs ≢ [] → xs ++ ys ≢ []
 some_left xs ys some none = some (nil-parts xs ys (sym none)).0
 
-layout_of : (first second : ℕ) (len key payload : List ℕ) (bytes : List ℕ) → bytes ≡ first ∷ second ∷ (len ++ (key ++ payload)) → IsBytes bytes →
+unfoldable pub layout_of : (first second : ℕ) (len key payload : List ℕ) (bytes : List ℕ) → bytes ≡ first ∷ second ∷ (len ++ (key ++ payload)) → IsBytes bytes →
     length len ≡ length_count (len_form_at second) → length key ≡ key_count second → length payload ≡ length_told (len_form_at second) len → HasLayout bytes
 layout_of first second len key payload bytes whole in_bytes len_count key_counted payload_count = record {
   first = first;
@@ -79,7 +79,7 @@ layout_of first second len key payload bytes whole in_bytes len_count key_counte
   payload_count = payload_count;
 }
 
-pub layout_or_within : (rest : List ℕ) → IsBytes rest → BeginsWithLayout rest ⊎ EndsWithinFrame rest
+unfoldable pub layout_or_within : (rest : List ℕ) → IsBytes rest → BeginsWithLayout rest ⊎ EndsWithinFrame rest
 layout_or_within [] all = inr (0 ∷ 0 ∷ [], (λ e. nil-cons 0 (0 ∷ []) (sym e)), layout_of 0 0 [] [] [] (0 ∷ 0 ∷ []) refl (omega arith, (omega arith, tt)) refl refl refl)
 layout_or_within (first ∷ []) all = inr (0 ∷ [], (λ e. nil-cons 0 [] (sym e)), layout_of first 0 [] [] [] (first ∷ 0 ∷ []) refl (all.0, (omega arith, tt)) refl refl refl)
 layout_or_within (first ∷ second ∷ rest) all =

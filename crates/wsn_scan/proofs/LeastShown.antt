@@ -2,7 +2,8 @@
 -- show nothing.
 use Rattle.std.proofs.Common.{◌≡◌, ℕ, zero, suc, ◌+◌, ◌-◌, ◌<◌, ◌≤◌, List, ◌++◌, ◌⊎◌, length, take, drop, refl, sym, ap, ◌∙◌, subst, inl, inr, arith, if◌then◌else◌}
 use Rattle.std.specs.Prelude.{◌==◌}
-use Rattle.std.proofs.lemmas.Bool.{cases_lt, cases_eq, cases_order}
+use Rattle.std.proofs.lemmas.Bool.{cases_order}
+use Rattle.wsn_text.proofs.Numbers.{less_or_not, same_or_not}
 use Rattle.std.proofs.lemmas.List.{take-append-drop, length-take-le, length-append, take_at}
 use Rattle.wsn_wire.specs.declared.endpoint.Role.{Role}
 use Rattle.wsn_wire.specs.declared.refusal.Reason.{Reason}
@@ -23,14 +24,14 @@ use Rattle.wsn_scan.proofs.DecidedEvidence.{evidence_decided}
 abbrev pub LeastBelow : (ℕ → Type 0) → ℕ → Type 0
 LeastBelow P n = (k : ℕ) × (k < n) × P k × ((j : ℕ) → j < k → P j → ⊥)
 
-pub least_or_none : (P : ℕ → Type 0) → ((k : ℕ) → Decided (P k)) → (n : ℕ) → LeastBelow P n ⊎ ((k : ℕ) → k < n → P k → ⊥)
+unfoldable pub least_or_none : (P : ℕ → Type 0) → ((k : ℕ) → Decided (P k)) → (n : ℕ) → LeastBelow P n ⊎ ((k : ℕ) → k < n → P k → ⊥)
 least_or_none P decided zero = inr (λ k below. absurd (omega arith))
 least_or_none P decided (suc n) =
     elim (least_or_none P decided n) [
       | inl p ↦ inl (p.0, omega (arith, p.1), p.2, p.3)
       | inr none ↦ elim (decided n) [
         | inl here ↦ inl (n, omega arith, here, none)
-        | inr not ↦ inr (λ k below holds. elim (cases_lt k n) [
+        | inr not ↦ inr (λ k below holds. elim (less_or_not k n) [
           | inl less ↦ none k less holds
           | inr from ↦ let last : k ≡ n = omega arith in not (subst P last holds)
         ])
@@ -39,14 +40,14 @@ least_or_none P decided (suc n) =
 
 -- ---- the reason that a number is of
 
-reason_at : ℕ → Reason
+unfoldable pub reason_at : ℕ → Reason
 reason_at n =
     if n == 1 then ReservedBits else (if n == 2 then ReservedOpcode else (if n == 3 then ControlNotFinal else (if n == 4 then NothingToContinue else
     (if n == 5 then MessageOpen else (if n == 6 then MaskMissing else (if n == 7 then MaskPresent else (if n == 8 then ControlTooLong else
     (if n == 9 then CloseOneByte else (if n == 10 then LengthTopBit else (if n == 11 then LengthNotMinimal else (if n == 12 then MessageTooBig else
     (if n == 13 then CloseCode else (if n == 14 then CloseReason else (if n == 15 then TextBad else (if n == 16 then TextCut else TooManyFrames)))))))))))))))
 
-reason_at-number_of : (r : Reason) → reason_at (number_of r) ≡ r
+pub reason_at-number_of : (r : Reason) → reason_at (number_of r) ≡ r
 unfolding reason_at
 reason_at-number_of ReservedBits = refl
 reason_at-number_of ReservedOpcode = refl
@@ -70,7 +71,7 @@ reason_at-number_of TooManyFrames = refl
 pub same_number : (r s : Reason) → number_of r ≡ number_of s → r ≡ s
 same_number r s e = sym (reason_at-number_of r) ∙ ap reason_at e ∙ reason_at-number_of s
 
-number_below : (r : Reason) → number_of r < 18
+pub number_below : (r : Reason) → number_of r < 18
 number_below ReservedBits = omega arith
 number_below ReservedOpcode = omega arith
 number_below ControlNotFinal = omega arith
@@ -101,13 +102,13 @@ module _ (role : Role) (bounds : Bounds) (group : List Frame) where
   abbrev pub LeastReason : List ℕ → Type 0
   LeastReason seen = (r : Reason) × Evidence role bounds group r seen × ((s : Reason) → Evidence role bounds group s seen → number_of r ≤ number_of s)
 
-  Numbered : List ℕ → ℕ → Type 0
+  pub Numbered : List ℕ → ℕ → Type 0
   Numbered seen n = (r : Reason) × (number_of r ≡ n) × Evidence role bounds group r seen
 
-  numbered : (seen : List ℕ) (n : ℕ) → Decided (Numbered seen n)
+  unfoldable pub numbered : (seen : List ℕ) (n : ℕ) → Decided (Numbered seen n)
   unfolding Numbered
   numbered seen n =
-      elim (cases_eq (number_of (reason_at n)) n) [
+      elim (same_or_not (number_of (reason_at n)) n) [
         | inr other ↦ inr (λ p. other (ap (λ (m : ℕ). number_of (reason_at m)) (sym p.1) ∙ ap number_of (reason_at-number_of p.0) ∙ p.1))
         | inl same ↦ elim (evidence_decided role bounds group (reason_at n) seen) [
           | inl e ↦ inl (reason_at n, same, e)
@@ -115,7 +116,7 @@ module _ (role : Role) (bounds : Bounds) (group : List Frame) where
         ]
       ]
 
-  pub least_reason : (seen : List ℕ) → LeastReason seen ⊎ ((s : Reason) → Evidence role bounds group s seen → ⊥)
+  unfoldable pub least_reason : (seen : List ℕ) → LeastReason seen ⊎ ((s : Reason) → Evidence role bounds group s seen → ⊥)
   unfolding Numbered
   least_reason seen =
       elim (least_or_none (Numbered seen) (numbered seen) 18) [
@@ -124,14 +125,14 @@ module _ (role : Role) (bounds : Bounds) (group : List Frame) where
       ]
     where
       from_least : (k : ℕ) (r s : Reason) → number_of r ≡ k → (number_of s < k → ⊥) → number_of r ≤ number_of s
-      from_least k r s is least = elim (cases_lt (number_of s) k) [ inl less ↦ absurd (least less) | inr from ↦ omega arith ]
+      from_least k r s is least = elim (less_or_not (number_of s) k) [ inl less ↦ absurd (least less) | inr from ↦ omega arith ]
 
   -- ---- fronts of the rest
 
-  FrontShowsSome : List ℕ → ℕ → Type 0
+  pub FrontShowsSome : List ℕ → ℕ → Type 0
   FrontShowsSome rest m = (r : Reason) × Evidence role bounds group r (take m rest)
 
-  front_decided : (rest : List ℕ) (m : ℕ) → Decided (FrontShowsSome rest m)
+  unfoldable pub front_decided : (rest : List ℕ) (m : ℕ) → Decided (FrontShowsSome rest m)
   unfolding FrontShowsSome
   front_decided rest m =
       elim (least_reason (take m rest)) [
@@ -148,7 +149,7 @@ module _ (role : Role) (bounds : Bounds) (group : List Frame) where
     pub least_reason_is : (s : Reason) → Evidence role bounds group s (take count rest) → number_of reason ≤ number_of s
     pub shorter : (m : ℕ) (s : Reason) → m < count → Evidence role bounds group s (take m rest) → ⊥
 
-  pub least_front : (rest : List ℕ) → LeastFront rest ⊎ ((m : ℕ) (s : Reason) → m ≤ length rest → Evidence role bounds group s (take m rest) → ⊥)
+  unfoldable pub least_front : (rest : List ℕ) → LeastFront rest ⊎ ((m : ℕ) (s : Reason) → m ≤ length rest → Evidence role bounds group s (take m rest) → ⊥)
   unfolding FrontShowsSome
   least_front rest =
       elim (least_or_none (FrontShowsSome rest) (front_decided rest) (suc (length rest))) [
@@ -197,7 +198,7 @@ module _ (role : Role) (bounds : Bounds) (bytes : List ℕ) (fs : List Frame) (r
     pub shown : Shown role bounds bytes fs place reason
     pub least : (p : ℕ) (r : Reason) → Shown role bounds bytes fs p r → ComesFirst place reason p r
 
-  pub least_shown : LeastShown ⊎ ((p : ℕ) (r : Reason) → Shown role bounds bytes fs p r → ⊥)
+  unfoldable pub least_shown : LeastShown ⊎ ((p : ℕ) (r : Reason) → Shown role bounds bytes fs p r → ⊥)
   least_shown =
       elim (least_front role bounds (unfinished fs) rest) [
         | inr none ↦ inr (λ p r s. let front = shown_front p r s in none front.count r front.within front.evidence)

@@ -1,7 +1,7 @@
 -- Of a message's text and a Close's body: the opcodes that they go by, and where a bad byte shows.
 use Rattle.std.proofs.Common.{◌≡◌, ◌≢◌, ℕ, zero, suc, ◌+◌, ◌-◌, ◌<◌, ◌≤◌, true, not, List, [], ◌∷◌, ◌++◌, ◌⊎◌, length, take, drop, refl, sym, ap, ◌∙◌, subst, inl, inr, append_assoc, append-nil, arith, true≢false}
 use Rattle.std.specs.Int.{from_be_bytes, to_be_bytes, w16}
-use Rattle.std.proofs.lemmas.Bool.{cases_lt}
+use Rattle.wsn_text.proofs.Numbers.{less_or_not, same_or_not}
 use Rattle.std.proofs.lemmas.List.{take-append-drop, length-append, length-take-le, take_all}
 use Rattle.std.proofs.lemmas.List.Concat.{flat_map-append}
 use Rattle.std.proofs.lemmas.Nat.{be_bytes_2, from_be_bytes-to_be_bytes_2}
@@ -100,7 +100,7 @@ group_from_of_text (g ∷ group) f text = (data_from_opcode f.op text.0, text.1)
 -- of bytes behind a front that begins text, the first bad one is behind the front
 pub bad_behind_front : (front bytes : List ℕ) (i : ℕ) → BeginsText front → IsFirstBad (front ++ bytes) i → (n : ℕ) × (n ≤ length bytes) × EndsBad (front ++ take n bytes)
 bad_behind_front front bytes i begins bad =
-    elim (cases_lt i (length front)) [
+    elim (less_or_not i (length front)) [
       | inl within ↦ absurd (bad_ends front i (first_bad_front front bytes i within bad) begins)
       | inr behind ↦
           let n = i + 1 - length front in
@@ -121,26 +121,38 @@ begins_not_bad front bytes n begins bad =
 
 -- ---- a Close's body
 
-pub accepted_code_or_not : (code : ℕ) → IsAcceptedCode code ⊎ (IsAcceptedCode code → ⊥)
+pub below_accepted : (code : ℕ) → code < 1000 → IsAcceptedCode code → ⊥
+below_accepted code below is = grind arith
+
+pub first_gap : (code : ℕ) → 1003 < code → code < 1007 → IsAcceptedCode code → ⊥
+first_gap code above below is = grind arith
+
+pub second_gap : (code : ℕ) → 1014 < code → code < 3000 → IsAcceptedCode code → ⊥
+second_gap code above below is = grind arith
+
+pub above_accepted : (code : ℕ) → 4999 < code → IsAcceptedCode code → ⊥
+above_accepted code above is = grind arith
+
+unfoldable pub accepted_code_or_not : (code : ℕ) → IsAcceptedCode code ⊎ (IsAcceptedCode code → ⊥)
 accepted_code_or_not code =
-    elim (cases_lt code 1000) [
-      | inl below ↦ inr (λ is. grind arith)
-      | inr from_1000 ↦ elim (cases_lt 1003 code) [
-        | inr to_1003 ↦ inl (inl (from_1000, to_1003))
-        | inl above_1003 ↦ elim (cases_lt code 1007) [
-          | inl below_1007 ↦ inr (λ is. grind arith)
-          | inr from_1007 ↦ elim (cases_lt 1014 code) [
-            | inr to_1014 ↦ inl (inr (inl (from_1007, to_1014)))
-            | inl above_1014 ↦ elim (cases_lt code 3000) [
-              | inl below_3000 ↦ inr (λ is. grind arith)
-              | inr from_3000 ↦ elim (cases_lt 4999 code) [
-                | inr to_4999 ↦ inl (inr (inr (from_3000, to_4999)))
-                | inl above_4999 ↦ inr (λ is. grind arith)
-              ]
+    elim (less_or_not code 1000) [
+      | inl below ↦ inr (below_accepted code below)
+      | inr from_1000 ↦ elim (less_or_not 1003 code) [
+          | inr to_1003 ↦ inl (inl (from_1000, to_1003))
+          | inl above_1003 ↦ elim (less_or_not code 1007) [
+              | inl below_1007 ↦ inr (first_gap code above_1003 below_1007)
+              | inr from_1007 ↦ elim (less_or_not 1014 code) [
+                  | inr to_1014 ↦ inl (inr (inl (from_1007, to_1014)))
+                  | inl above_1014 ↦ elim (less_or_not code 3000) [
+                      | inl below_3000 ↦ inr (second_gap code above_1014 below_3000)
+                      | inr from_3000 ↦ elim (less_or_not 4999 code) [
+                          | inr to_4999 ↦ inl (inr (inr (from_3000, to_4999)))
+                          | inl above_4999 ↦ inr (above_accepted code above_4999)
+                        ]
+                    ]
+                ]
             ]
-          ]
         ]
-      ]
     ]
 
 accepted_fits : (code : ℕ) → IsAcceptedCode code → code < 65536

@@ -45,7 +45,7 @@ module _ (role : Role) (bounds : Bounds) (range : InRange bounds) (before : List
   no_length LengthNotMinimal row = unshown LengthNotMinimal (LengthShows row)
   no_length reason row = row
 
-  head_shows_nothing : ShowsNothing role bounds.lengths l.first l.second l.len
+  pub head_shows_nothing : ShowsNothing role bounds.lengths l.first l.second l.len
   head_shows_nothing = record {
     by_first = no_first;
     by_second = λ reason row. unshown reason (SecondShows row);
@@ -81,7 +81,7 @@ module _ (role : Role) (bounds : Bounds) (range : InRange bounds) (before : List
           | inr shows ↦ absurd (no_body close shows)
         ]
 
-    frame_law : FrameLaw role bounds.lengths f
+    pub frame_law : FrameLaw role bounds.lengths f
     frame_law = record {
       spellable = spelled.owed.spellable;
       masked = spelled.owed.masked;
@@ -155,7 +155,7 @@ module _ (role : Role) (bounds : Bounds) (range : InRange bounds) (before : List
           | inr not ↦ absurd (no_payload TextCut (length f.payload) (omega arith) (of_text, sym spelled.fin_is ∙ final, ap (λ (bs : List ℕ). length bs) all ∙ spelled.length_is, subst (λ (bs : List ℕ). EndsInside (text_of (unfinished before) ++ bs)) (sym all) (text_begins data_frame text, not)))
         ]
 
-    group_law : is_data f ≡ true → GroupLaw bounds (unfinished before) f
+    pub group_law : is_data f ≡ true → GroupLaw bounds (unfinished before) f
     group_law data_frame = record {
       continues = (λ is none. no_zero none is, goes_on data_frame);
       size = size_fits data_frame;
@@ -165,7 +165,7 @@ module _ (role : Role) (bounds : Bounds) (range : InRange bounds) (before : List
     }
 
   -- completeness of the table
-  pub unshown_is_lawful : IsLawfulFrame role bounds before bytes
+  unfoldable pub unshown_is_lawful : IsLawfulFrame role bounds before bytes
   unshown_is_lawful =
       let f = frame_at l.first l.second l.key l.payload in
       let spelled = frame_of_layout role bounds.lengths bytes l head_shows_nothing in

@@ -1,6 +1,6 @@
 -- Whether bytes are text, and whether they begin text, is decided byte by byte.
 use Rattle.std.proofs.Common.{ℕ, ◌<◌, ◌≤◌, ◌⊎◌, ◌↔◌, List, [], ◌∷◌, ◌++◌, Option, Some, None, inl, inr, sym, subst, append-nil, arith}
-use Rattle.std.proofs.lemmas.Bool.{cases_lt, cases_eq}
+use Rattle.wsn_text.proofs.Numbers.{less_or_not, same_or_not}
 use Rattle.std.specs.List.{AllByRecursion}
 use Rattle.wsn_text.specs.Utf8.{Range, ◌–◌, IsText, BeginsText}
 use Rattle.wsn_text.specs.Rest.{IsRest, Follows}
@@ -17,64 +17,64 @@ pub record Behind (before : Option (List Range)) (bytes : List ℕ) : Type 0 whe
   pub fillable : Fillable after
   pub same : (more : List ℕ) → Follows before (bytes ++ more) ↔ Follows after more
 
-nothing : (before : Option (List Range)) (bytes : List ℕ) → ((more : List ℕ) → ¬ (Follows before (bytes ++ more))) → Behind before bytes
+unfoldable pub nothing : (before : Option (List Range)) (bytes : List ℕ) → ((more : List ℕ) → ¬ (Follows before (bytes ++ more))) → Behind before bytes
 nothing before bytes never = record { after = None; fillable = tt; same = λ more. (never more, λ none. absurd none) }
 
-begun : (b : ℕ) (row : List Range) → Fillable (Some row) → ((more : List ℕ) → IsText (b ∷ more) ↔ IsRest row more) → Behind (Some []) (b ∷ [])
+unfoldable pub begun : (b : ℕ) (row : List Range) → Fillable (Some row) → ((more : List ℕ) → IsText (b ∷ more) ↔ IsRest row more) → Behind (Some []) (b ∷ [])
 begun b row fillable same = record { after = Some row; fillable = fillable; same = same }
 
-four_long : (b : ℕ) → 0xF0 ≤ b → Behind (Some []) (b ∷ [])
+unfoldable pub four_long : (b : ℕ) → 0xF0 ≤ b → Behind (Some []) (b ∷ [])
 four_long b low =
-    elim (cases_eq b 0xF0) [
+    elim (same_or_not b 0xF0) [
       | inl e ↦ begun b ((0x90 – 0xBF) ∷ any ∷ any ∷ []) (omega arith, (omega arith, (omega arith, tt))) (behind_F0 b e)
-      | inr n ↦ elim (cases_lt b 0xF4) [
+      | inr n ↦ elim (less_or_not b 0xF4) [
         | inl l ↦ begun b (any ∷ any ∷ any ∷ []) (omega arith, (omega arith, (omega arith, tt))) (behind_F1_to_F3 b (omega arith))
-        | inr l ↦ elim (cases_eq b 0xF4) [
+        | inr l ↦ elim (same_or_not b 0xF4) [
           | inl e ↦ begun b ((0x80 – 0x8F) ∷ any ∷ any ∷ []) (omega arith, (omega arith, (omega arith, tt))) (behind_F4 b e)
           | inr m ↦ nothing (Some []) (b ∷ []) (behind_none b (inr (omega arith)))
         ]
       ]
     ]
 
-three_long : (b : ℕ) → 0xE0 ≤ b → b < 0xF0 → Behind (Some []) (b ∷ [])
+unfoldable pub three_long : (b : ℕ) → 0xE0 ≤ b → b < 0xF0 → Behind (Some []) (b ∷ [])
 three_long b low high =
-    elim (cases_eq b 0xE0) [
+    elim (same_or_not b 0xE0) [
       | inl e ↦ begun b ((0xA0 – 0xBF) ∷ any ∷ []) (omega arith, (omega arith, tt)) (behind_E0 b e)
-      | inr n ↦ elim (cases_lt b 0xED) [
+      | inr n ↦ elim (less_or_not b 0xED) [
         | inl l ↦ begun b (any ∷ any ∷ []) (omega arith, (omega arith, tt)) (behind_E1_to_EC b (omega arith))
-        | inr l ↦ elim (cases_eq b 0xED) [
+        | inr l ↦ elim (same_or_not b 0xED) [
           | inl e ↦ begun b ((0x80 – 0x9F) ∷ any ∷ []) (omega arith, (omega arith, tt)) (behind_ED b e)
           | inr m ↦ begun b (any ∷ any ∷ []) (omega arith, (omega arith, tt)) (behind_EE_to_EF b (omega arith))
         ]
       ]
     ]
 
-behind_first : (b : ℕ) → Behind (Some []) (b ∷ [])
+unfoldable pub behind_first : (b : ℕ) → Behind (Some []) (b ∷ [])
 behind_first b =
-    elim (cases_lt b 0x80) [
+    elim (less_or_not b 0x80) [
       | inl a ↦ begun b [] tt (behind_ascii b (omega arith))
-      | inr a ↦ elim (cases_lt b 0xC2) [
+      | inr a ↦ elim (less_or_not b 0xC2) [
         | inl c ↦ nothing (Some []) (b ∷ []) (behind_none b (inl (omega arith)))
-        | inr c ↦ elim (cases_lt b 0xE0) [
+        | inr c ↦ elim (less_or_not b 0xE0) [
           | inl d ↦ begun b (any ∷ []) (omega arith, tt) (behind_two b (omega arith))
-          | inr d ↦ elim (cases_lt b 0xF0) [ inl e ↦ three_long b d e | inr e ↦ four_long b e ]
+          | inr d ↦ elim (less_or_not b 0xF0) [ inl e ↦ three_long b d e | inr e ↦ four_long b e ]
         ]
       ]
     ]
 
-behind_byte : (before : Option (List Range)) → Fillable before → (b : ℕ) → Behind before (b ∷ [])
+unfoldable pub behind_byte : (before : Option (List Range)) → Fillable before → (b : ℕ) → Behind before (b ∷ [])
 behind_byte None fillable b = nothing None (b ∷ []) (λ more none. none)
 behind_byte (Some []) fillable b = behind_first b
 behind_byte (Some (r ∷ row)) fillable b =
-    elim (cases_lt b r.low) [
+    elim (less_or_not b r.low) [
       | inl below ↦ nothing (Some (r ∷ row)) (b ∷ []) (λ more rest. absurd (omega (arith, rest.0)))
-      | inr above ↦ elim (cases_lt r.high b) [
+      | inr above ↦ elim (less_or_not r.high b) [
         | inl over ↦ nothing (Some (r ∷ row)) (b ∷ []) (λ more rest. absurd (omega (arith, rest.1)))
         | inr under ↦ record { after = Some row; fillable = fillable.1; same = λ more. (λ rest. rest.2, λ rest. (above, under, rest)) }
       ]
     ]
 
-pub behind : (bytes : List ℕ) (before : Option (List Range)) → Fillable before → Behind before bytes
+unfoldable pub behind : (bytes : List ℕ) (before : Option (List Range)) → Fillable before → Behind before bytes
 behind [] before fillable = record { after = before; fillable = fillable; same = λ more. (λ f. f, λ f. f) }
 behind (b ∷ bytes) before fillable =
     let one : Behind before (b ∷ []) = behind_byte before fillable b in
@@ -86,21 +86,21 @@ behind (b ∷ bytes) before fillable =
     }
 
 -- the least bytes that fill a row
-pub fill : (row : List Range) → AllByRecursion (λ r. r.low ≤ r.high) row → (bytes : List ℕ) × IsRest row bytes
+unfoldable pub fill : (row : List Range) → AllByRecursion (λ r. r.low ≤ r.high) row → (bytes : List ℕ) × IsRest row bytes
 fill [] each = ([], text-nil)
 fill (r ∷ row) each = let filled = fill row each.1 in (r.low ∷ filled.0, (omega arith, each.0, filled.1))
 
-begins_by : (bytes : List ℕ) (after : Option (List Range)) → Fillable after → ((more : List ℕ) → IsText (bytes ++ more) ↔ Follows after more) → BeginsText bytes ⊎ (BeginsText bytes → ⊥)
+unfoldable pub begins_by : (bytes : List ℕ) (after : Option (List Range)) → Fillable after → ((more : List ℕ) → IsText (bytes ++ more) ↔ Follows after more) → BeginsText bytes ⊎ (BeginsText bytes → ⊥)
 begins_by bytes None fillable same = inr (λ begins. (same begins.more).0 begins.text)
 begins_by bytes (Some row) fillable same = let filled = fill row fillable in inl (record { more = filled.0; text = (same filled.0).1 filled.1 })
 
-pub begins_decided : (bytes : List ℕ) → BeginsText bytes ⊎ (BeginsText bytes → ⊥)
+unfoldable pub begins_decided : (bytes : List ℕ) → BeginsText bytes ⊎ (BeginsText bytes → ⊥)
 begins_decided bytes = let b : Behind (Some []) bytes = behind bytes (Some []) tt in begins_by bytes b.after b.fillable b.same
 
-text_by : (bytes : List ℕ) (after : Option (List Range)) → IsText (bytes ++ []) ↔ Follows after [] → IsText bytes ⊎ (IsText bytes → ⊥)
+unfoldable pub text_by : (bytes : List ℕ) (after : Option (List Range)) → IsText (bytes ++ []) ↔ Follows after [] → IsText bytes ⊎ (IsText bytes → ⊥)
 text_by bytes None same = inr (λ text. same.0 (subst IsText (sym (append-nil bytes)) text))
 text_by bytes (Some []) same = inl (subst IsText (append-nil bytes) (same.1 text-nil))
 text_by bytes (Some (r ∷ row)) same = inr (λ text. same.0 (subst IsText (sym (append-nil bytes)) text))
 
-pub text_decided : (bytes : List ℕ) → IsText bytes ⊎ (IsText bytes → ⊥)
+unfoldable pub text_decided : (bytes : List ℕ) → IsText bytes ⊎ (IsText bytes → ⊥)
 text_decided bytes = let b : Behind (Some []) bytes = behind bytes (Some []) tt in text_by bytes b.after (b.same [])

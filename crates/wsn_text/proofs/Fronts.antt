@@ -65,7 +65,7 @@ first_bad_unique bytes i j first other =
       | inr le ↦ elim (cases_lt j i) [ inl more ↦ absurd (other.bad (first.least j more)) | inr same ↦ omega arith ]
     ]
 
-begins_or_bad : (bytes : List ℕ) (n : ℕ) → n ≤ length bytes → BeginsText (take n bytes) ⊎ ((i : ℕ) × (i < n) × IsFirstBad bytes i)
+unfoldable pub begins_or_bad : (bytes : List ℕ) (n : ℕ) → n ≤ length bytes → BeginsText (take n bytes) ⊎ ((i : ℕ) × (i < n) × IsFirstBad bytes i)
 begins_or_bad bytes zero le = inl begins-nil
 begins_or_bad bytes (suc n) le =
     elim (begins_or_bad bytes n (omega arith)) [
@@ -76,7 +76,7 @@ begins_or_bad bytes (suc n) le =
       ]
     ]
 
-pub begins_or_first_bad : (bytes : List ℕ) → BeginsText bytes ⊎ ((i : ℕ) × IsFirstBad bytes i)
+unfoldable pub begins_or_first_bad : (bytes : List ℕ) → BeginsText bytes ⊎ ((i : ℕ) × IsFirstBad bytes i)
 begins_or_first_bad bytes =
     elim (begins_or_bad bytes (length bytes) (omega arith)) [ inl begins ↦ inl (subst BeginsText (take-length bytes) begins) | inr bad ↦ inr (bad.0, bad.2) ]
 

@@ -6,3 +6,4 @@ pub mod Fronts
 pub mod Boundaries
 pub mod Taking
 pub mod States
+pub mod Numbers
