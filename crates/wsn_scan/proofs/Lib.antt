@@ -13,4 +13,4 @@ pub mod LayoutFronts
 pub mod EveryInput
 pub mod OneVerdict
 pub mod StaysRefused
-pub mod Examples
+pub mod Computed

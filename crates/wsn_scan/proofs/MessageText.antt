@@ -1,7 +1,7 @@
 -- Of a message's text and a Close's body: the opcodes that they go by, and where a bad byte shows.
 use Rattle.std.proofs.Common.{◌≡◌, ◌≢◌, ℕ, zero, suc, ◌+◌, ◌-◌, ◌<◌, ◌≤◌, true, not, List, [], ◌∷◌, ◌++◌, ◌⊎◌, length, take, drop, refl, sym, ap, ◌∙◌, subst, inl, inr, append_assoc, append-nil, arith, true≢false}
 use Rattle.std.specs.Int.{from_be_bytes, to_be_bytes, w16}
-use Rattle.wsn_text.proofs.Numbers.{less_or_not, same_or_not}
+use Rattle.wsn_text.proofs.Numbers.{less_or_not}
 use Rattle.std.proofs.lemmas.List.{take-append-drop, length-append, length-take-le, take_all}
 use Rattle.std.proofs.lemmas.List.Concat.{flat_map-append}
 use Rattle.std.proofs.lemmas.Nat.{be_bytes_2, from_be_bytes-to_be_bytes_2}
@@ -138,21 +138,21 @@ accepted_code_or_not code =
     elim (less_or_not code 1000) [
       | inl below ↦ inr (below_accepted code below)
       | inr from_1000 ↦ elim (less_or_not 1003 code) [
-          | inr to_1003 ↦ inl (inl (from_1000, to_1003))
-          | inl above_1003 ↦ elim (less_or_not code 1007) [
-              | inl below_1007 ↦ inr (first_gap code above_1003 below_1007)
-              | inr from_1007 ↦ elim (less_or_not 1014 code) [
-                  | inr to_1014 ↦ inl (inr (inl (from_1007, to_1014)))
-                  | inl above_1014 ↦ elim (less_or_not code 3000) [
-                      | inl below_3000 ↦ inr (second_gap code above_1014 below_3000)
-                      | inr from_3000 ↦ elim (less_or_not 4999 code) [
-                          | inr to_4999 ↦ inl (inr (inr (from_3000, to_4999)))
-                          | inl above_4999 ↦ inr (above_accepted code above_4999)
-                        ]
-                    ]
-                ]
+        | inr to_1003 ↦ inl (inl (from_1000, to_1003))
+        | inl above_1003 ↦ elim (less_or_not code 1007) [
+          | inl below_1007 ↦ inr (first_gap code above_1003 below_1007)
+          | inr from_1007 ↦ elim (less_or_not 1014 code) [
+            | inr to_1014 ↦ inl (inr (inl (from_1007, to_1014)))
+            | inl above_1014 ↦ elim (less_or_not code 3000) [
+              | inl below_3000 ↦ inr (second_gap code above_1014 below_3000)
+              | inr from_3000 ↦ elim (less_or_not 4999 code) [
+                | inr to_4999 ↦ inl (inr (inr (from_3000, to_4999)))
+                | inl above_4999 ↦ inr (above_accepted code above_4999)
+              ]
             ]
+          ]
         ]
+      ]
     ]
 
 accepted_fits : (code : ℕ) → IsAcceptedCode code → code < 65536

@@ -8,3 +8,4 @@ pub mod Meaning
 pub mod Evidence
 pub mod Summary
 pub mod Verdict
+pub mod Examples

@@ -4,6 +4,7 @@
 #![tactic(auto)]
 
 mod ceilings;
+pub mod examples;
 pub mod laws;
 mod outcome;
 
