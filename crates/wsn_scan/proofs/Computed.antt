@@ -9,10 +9,11 @@ use Rattle.wsn_text.proofs.Numbers.{less_or_not, same_or_not}
 use Rattle.wsn_text.proofs.Decide.{nothing, begun, four_long, three_long, behind_first, behind_byte, behind, fill, begins_by, begins_decided, text_by, text_decided}
 use Rattle.wsn_text.proofs.Fronts.{begins_or_bad, begins_or_first_bad}
 use Rattle.wsn_scan.specs.Bounds.{Bounds, InRange}
+use Rattle.wsn_scan.specs.Meaning.{MeantEvent, meaning}
 use Rattle.wsn_wire.specs.Refusal.{number_of}
 use Rattle.wsn_scan.specs.declared.outcome.Verdict.{Verdict}
 use Rattle.wsn_scan.specs.declared.outcome.Verdict.TheVariants.{Accepted, Cut, Refused}
-use Rattle.wsn_scan.specs.Examples.{Told, RefusedAt, CutAt, AcceptedTo, Counts, Tells, Judged}
+use Rattle.wsn_scan.specs.Examples.{Told, RefusedAt, CutAt, AcceptedTo, Counts, Tells, Judged, Means}
 use Rattle.wsn_scan.proofs.MessageText.{accepted_code_or_not}
 use Rattle.wsn_scan.proofs.DecidedRows.{both, either, denied, less, at_most, bool_is, role_is, only_shortest, no_group, limit_is, is_long, is_short_one, not_minimal, top_bit, op_is_text, of_text, ends_bad, ends_inside, by_first, by_second, by_length, by_payload}
 use Rattle.wsn_scan.proofs.DecidedEvidence.{into_payload, first_evidence, second_evidence, length_evidence, payload_evidence, evidence_decided}
@@ -125,3 +126,11 @@ pub judged : (role : Role) (bounds : Bounds) (bytes : List ℕ) (told : Told) (r
 judged role bounds bytes told range in_bytes test =
     let v = found role bounds (range_by_test bounds range) bytes (bytes_by_test bytes in_bytes) in
     record { frames = v.frames; verdict = v.verdict; is = v.is; tells = tells_by_test told v.verdict test }
+
+-- ---- the meaning
+
+pub means : (role : Role) (bounds : Bounds) (bytes : List ℕ) (events : List MeantEvent) (range : in_range bounds ≡ true) (in_bytes : all_bytes bytes ≡ true) →
+    meaning (found role bounds (range_by_test bounds range) bytes (bytes_by_test bytes in_bytes)).frames ≡ events → Means role bounds bytes events
+means role bounds bytes events range in_bytes is =
+    let v = found role bounds (range_by_test bounds range) bytes (bytes_by_test bytes in_bytes) in
+    record { frames = v.frames; verdict = v.verdict; is = v.is; means = is }

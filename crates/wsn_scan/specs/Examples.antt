@@ -7,6 +7,7 @@ use Rattle.wsn_wire.specs.Frame.{Frame}
 use Rattle.wsn_scan.specs.declared.outcome.Verdict.{Verdict}
 use Rattle.wsn_scan.specs.declared.outcome.Verdict.TheVariants.{Accepted, Cut, Refused}
 use Rattle.wsn_scan.specs.Bounds.{Bounds}
+use Rattle.wsn_scan.specs.Meaning.{MeantEvent, meaning}
 use Rattle.wsn_scan.specs.Verdict.{IsVerdict}
 
 -- Refused at a place, for a reason; cut, so many bytes used; accepted, so many bytes used, so many behind a
@@ -33,6 +34,13 @@ pub record Judged (role : Role) (bounds : Bounds) (bytes : List ℕ) (told : Tol
   pub verdict : Verdict
   pub is : IsVerdict role bounds bytes frames verdict
   pub tells : Tells told verdict
+
+-- The bytes, accepted or cut or refused, mean these events.
+pub record Means (role : Role) (bounds : Bounds) (bytes : List ℕ) (events : List MeantEvent) : Type 0 where
+  pub frames : List Frame
+  pub verdict : Verdict
+  pub is : IsVerdict role bounds bytes frames verdict
+  pub means : meaning frames ≡ events
 
 -- The greatest limits: on bytes alone, and with the shortest lengths.
 abbrev pub greatest : Bounds

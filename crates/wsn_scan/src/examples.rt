@@ -3,9 +3,12 @@
 
 ghost use Rattle.std.specs.Prelude.{None, Some, [], ◌∷◌};
 ghost use Rattle.wsn_wire.specs.declared.endpoint.Role.TheVariants.{Client, Server};
+ghost use Rattle.wsn_wire.specs.declared.opcode.Op.TheVariants.{Close, Ping, Pong};
+ghost use Rattle.wsn_wire.specs.declared.opcode.Kind.TheVariants as kind;
 ghost use Rattle.wsn_wire.specs.declared.spelling.Lengths.TheVariants.{Any};
 ghost use Rattle.wsn_wire.specs.declared.refusal.Reason.TheVariants.{CloseCode, CloseOneByte, CloseReason, ControlNotFinal, ControlTooLong, LengthNotMinimal, LengthTopBit, MaskMissing, MaskPresent, MessageOpen, MessageTooBig, NothingToContinue, ReservedBits, ReservedOpcode, TextBad, TextCut, TooManyFrames};
-ghost use Rattle.wsn_scan.specs.Examples.{Judged, greatest, RefusedAt, CutAt, AcceptedTo, Counts};
+ghost use Rattle.wsn_scan.specs.Meaning.{Message, Control};
+ghost use Rattle.wsn_scan.specs.Examples.{Judged, Means, greatest, RefusedAt, CutAt, AcceptedTo, Counts};
 
 /// An RSV bit.
 pub fn reserved_bits()
@@ -206,4 +209,14 @@ pub fn summaries()
     ensures each { Judged Server greatest (0x01 ∷ 0x00 ∷ 0x89 ∷ 0x00 ∷ 0x80 ∷ 0x00 ∷ 0x8a ∷ 0x00 ∷ 0x82 ∷ 0x00 ∷ 0x89 ∷ 0x00 ∷ 0x88 ∷ 0x02 ∷ 0x03 ∷ 0xe8 ∷ []) (Counts 7 2 2 1 (Some (Some 1000))) }
     ensures empty_close { Judged Server greatest (0x88 ∷ 0x00 ∷ 0x89 ∷ 0x00 ∷ []) (Counts 1 0 0 0 (Some None)) }
     ensures no_close { Judged Server greatest (0x81 ∷ 0x00 ∷ []) (Counts 1 1 0 0 None) }
+{}
+
+/// What a stream says: the message of each group, in the order in which they end.
+pub fn meanings()
+    ensures ping_between { Means Server greatest (0x01 ∷ 0x03 ∷ 0x48 ∷ 0x65 ∷ 0x6c ∷ 0x89 ∷ 0x00 ∷ 0x80 ∷ 0x02 ∷ 0x6c ∷ 0x6f ∷ []) (Control Ping [] ∷ Message kind.Text (0x48 ∷ 0x65 ∷ 0x6c ∷ 0x6c ∷ 0x6f ∷ []) ∷ []) }
+    ensures masked { Means Client greatest (0x82 ∷ 0x85 ∷ 0x37 ∷ 0xfa ∷ 0x21 ∷ 0x3d ∷ 0x7f ∷ 0x9f ∷ 0x4d ∷ 0x51 ∷ 0x58 ∷ []) (Message kind.Binary (0x48 ∷ 0x65 ∷ 0x6c ∷ 0x6c ∷ 0x6f ∷ []) ∷ []) }
+    ensures unfinished { Means Server greatest (0x01 ∷ 0x03 ∷ 0x48 ∷ 0x65 ∷ 0x6c ∷ 0x8a ∷ 0x01 ∷ 0x41 ∷ 0x88 ∷ 0x02 ∷ 0x03 ∷ 0xe8 ∷ []) (Control Pong (0x41 ∷ []) ∷ Control Close (0x03 ∷ 0xe8 ∷ []) ∷ []) }
+    ensures before_a_refusal { Means Server greatest (0x81 ∷ 0x01 ∷ 0x41 ∷ 0x82 ∷ 0x01 ∷ 0x42 ∷ 0xc1 ∷ []) (Message kind.Text (0x41 ∷ []) ∷ Message kind.Binary (0x42 ∷ []) ∷ []) }
+    ensures empty { Means Server greatest (0x01 ∷ 0x00 ∷ 0x00 ∷ 0x00 ∷ 0x80 ∷ 0x00 ∷ []) (Message kind.Text [] ∷ []) }
+    ensures nothing { Means Server greatest [] [] }
 {}
