@@ -15,7 +15,7 @@ use Rattle.wsn_scan.specs.declared.outcome.Verdict.{Verdict}
 use Rattle.wsn_scan.specs.declared.outcome.Verdict.TheVariants.{Accepted, Cut, Refused}
 use Rattle.wsn_scan.specs.Examples.{Told, RefusedAt, CutAt, AcceptedTo, Counts, Tells, Judged, Means}
 use Rattle.wsn_scan.proofs.MessageText.{accepted_code_or_not}
-use Rattle.wsn_scan.proofs.DecidedRows.{both, either, denied, less, at_most, bool_is, role_is, only_shortest, no_group, limit_is, is_long, is_short_one, not_minimal, top_bit, op_is_text, of_text, ends_bad, ends_inside, by_first, by_second, by_length, by_payload}
+use Rattle.wsn_scan.proofs.DecidedRows.{both, both_in_turn, either, denied, less, at_most, bool_is, role_is, only_shortest, no_group, limit_is, is_long, is_short_one, not_minimal, top_bit, op_is_text, of_text, ends_bad, ends_inside, by_first, by_second, by_length, by_payload}
 use Rattle.wsn_scan.proofs.DecidedEvidence.{into_payload, first_evidence, second_evidence, length_evidence, payload_evidence, evidence_decided}
 use Rattle.wsn_scan.proofs.LeastShown.{least_or_none, reason_at, numbered, least_reason, front_decided, least_front, least_shown, same_number}
 use Rattle.wsn_scan.proofs.LayoutFronts.{front_or_missing, layout_of, layout_or_within}
@@ -64,7 +64,7 @@ range_by_test bounds test =
 -- ---- the verdict
 
 unfoldable pub found : (role : Role) (bounds : Bounds) (range : InRange bounds) (bytes : List ℕ) → IsBytes bytes → HasVerdict role bounds range bytes
-unfolding less_or_not same_or_not nothing begun four_long three_long behind_first behind_byte behind fill begins_by begins_decided text_by text_decided begins_or_bad begins_or_first_bad accepted_code_or_not both either denied less at_most bool_is role_is only_shortest no_group limit_is is_long is_short_one not_minimal top_bit op_is_text of_text ends_bad ends_inside by_first by_second by_length by_payload into_payload first_evidence second_evidence length_evidence payload_evidence evidence_decided least_or_none reason_at numbered least_reason front_decided least_front least_shown front_or_missing layout_of layout_or_within close_or_not unshown_is_lawful refused cut accepted ended unshown_frame from has_verdict op_at form_at key_at frame_at
+unfolding less_or_not same_or_not nothing begun four_long three_long behind_first behind_byte behind fill begins_by begins_decided text_by text_decided begins_or_bad begins_or_first_bad accepted_code_or_not both both_in_turn either denied less at_most bool_is role_is only_shortest no_group limit_is is_long is_short_one not_minimal top_bit op_is_text of_text ends_bad ends_inside by_first by_second by_length by_payload into_payload first_evidence second_evidence length_evidence payload_evidence evidence_decided least_or_none reason_at numbered least_reason front_decided least_front least_shown front_or_missing layout_of layout_or_within close_or_not unshown_is_lawful refused cut accepted ended unshown_frame from has_verdict op_at form_at key_at frame_at
 found role bounds range bytes in_bytes = has_verdict role bounds range bytes in_bytes
 
 abbrev pub same_option : Option ℕ → Option ℕ → Bool

@@ -1,7 +1,7 @@
 //! Verdicts on inputs that are written out, computed from the definitions in `specs/`: for each reason to
 //! refuse, inputs that show it, with their places, and near ones that don't; and how streams end.
 
-ghost use Rattle.std.specs.Prelude.{None, Some, [], ◌∷◌};
+ghost use Rattle.std.specs.Prelude.{None, Some, [], ◌∷◌, replicate};
 ghost use Rattle.wsn_wire.specs.declared.endpoint.Role.TheVariants.{Client, Server};
 ghost use Rattle.wsn_wire.specs.declared.opcode.Op.TheVariants.{Close, Ping, Pong};
 ghost use Rattle.wsn_wire.specs.declared.opcode.Kind.TheVariants as kind;
@@ -219,4 +219,12 @@ pub fn meanings()
     ensures before_a_refusal { Means Server greatest (0x81 ∷ 0x01 ∷ 0x41 ∷ 0x82 ∷ 0x01 ∷ 0x42 ∷ 0xc1 ∷ []) (Message kind.Text (0x41 ∷ []) ∷ Message kind.Binary (0x42 ∷ []) ∷ []) }
     ensures empty { Means Server greatest (0x01 ∷ 0x00 ∷ 0x00 ∷ 0x00 ∷ 0x80 ∷ 0x00 ∷ []) (Message kind.Text [] ∷ []) }
     ensures nothing { Means Server greatest [] [] }
+{}
+
+/// The longest length that the second byte holds, in the shortest way and in two bytes; and the shortest that
+/// takes two.
+pub fn long_frames()
+    ensures ping { Judged Server greatest (0x89 ∷ 0x7d ∷ replicate 125 0xfe) (AcceptedTo 127 0 None) }
+    ensures longer_form { Judged Server (record greatest { lengths = Any }) (0x82 ∷ 0x7e ∷ 0x00 ∷ 0x7d ∷ replicate 125 0x2a) (AcceptedTo 129 0 None) }
+    ensures two { Judged Server greatest (0x82 ∷ 0x7e ∷ 0x00 ∷ 0x7e ∷ replicate 126 0x2a) (AcceptedTo 130 0 None) }
 {}
