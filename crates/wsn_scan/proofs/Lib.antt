@@ -14,3 +14,5 @@ pub mod EveryInput
 pub mod OneVerdict
 pub mod StaysRefused
 pub mod Computed
+pub mod Stages
+pub mod NextBytes
