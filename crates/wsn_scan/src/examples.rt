@@ -191,6 +191,23 @@ pub fn too_many_frames()
     ensures near_no_limit { Judged Server greatest (0x01 ∷ 0x00 ∷ 0x00 ∷ 0x00 ∷ 0x80 ∷ 0x00 ∷ []) (AcceptedTo 6 0 None) }
 {}
 
+/// An earlier place goes first, and at one place the reason with the least number.
+pub fn order_of_reasons()
+    ensures opcode_behind_bits { Judged Server greatest (0xc3 ∷ []) (RefusedAt 0 ReservedBits) }
+    ensures control_behind_bits { Judged Server greatest (0x49 ∷ []) (RefusedAt 0 ReservedBits) }
+    ensures continue_behind_bits { Judged Server greatest (0xc0 ∷ []) (RefusedAt 0 ReservedBits) }
+    ensures open_behind_bits { Judged Server greatest (0x01 ∷ 0x00 ∷ 0xc1 ∷ []) (RefusedAt 2 ReservedBits) }
+    ensures long_behind_mask { Judged Client greatest (0x89 ∷ 0x7e ∷ []) (RefusedAt 1 MaskMissing) }
+    ensures big_behind_mask { Judged Client (record greatest { message = 0 }) (0x81 ∷ 0x01 ∷ []) (RefusedAt 1 MaskMissing) }
+    ensures long_behind_no_mask { Judged Server greatest (0x89 ∷ 0xfe ∷ []) (RefusedAt 1 MaskPresent) }
+    ensures one_byte_behind_no_mask { Judged Server greatest (0x88 ∷ 0x81 ∷ []) (RefusedAt 1 MaskPresent) }
+    ensures big_behind_no_mask { Judged Server (record greatest { message = 0 }) (0x81 ∷ 0x81 ∷ []) (RefusedAt 1 MaskPresent) }
+    ensures big_behind_not_minimal { Judged Server (record greatest { message = 0 }) (0x82 ∷ 0x7e ∷ 0x00 ∷ 0x7d ∷ []) (RefusedAt 3 LengthNotMinimal) }
+    ensures mask_at_a_later_place { Judged Client greatest (0x09 ∷ 0x05 ∷ []) (RefusedAt 0 ControlNotFinal) }
+    ensures code_before_reason { Judged Server greatest (0x88 ∷ 0x04 ∷ 0x03 ∷ 0xed ∷ 0xff ∷ 0xff ∷ []) (RefusedAt 3 CloseCode) }
+    ensures bad_before_cut { Judged Server greatest (0x81 ∷ 0x02 ∷ 0xc0 ∷ 0xe2 ∷ []) (RefusedAt 2 TextBad) }
+{}
+
 /// How a stream may end.
 pub fn ends_of_streams()
     ensures empty { Judged Server greatest [] (AcceptedTo 0 0 None) }
