@@ -27,6 +27,11 @@ pub enum Usage {
 }
 
 impl From<AllocError> for Usage {
+    ghost use Rattle.std.specs.Prelude.{◌≡◌};
+    ghost use Rattle.wsn.specs.declared.command_line.Usage.TheVariants.{Memory};
+
+    ghost from_gives = { λ _ usage. usage ≡ Memory };
+
     fn from(_: AllocError) -> Self {
         Usage::Memory
     }

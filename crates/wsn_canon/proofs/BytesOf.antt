@@ -1,9 +1,8 @@
 -- Bytes taken apart: which numbers they are, and their first few.
-use Rattle.std.proofs.Common.{◌≡◌, ℕ, zero, suc, ◌+◌, ◌<◌, ◌≤◌, ◌-◌, List, [], ◌∷◌, ◌++◌, length, get_or, drop, take, refl, sym, subst, ap, arith, append-nil}
+use Rattle.std.proofs.Common.{◌≡◌, ℕ, zero, suc, ◌<◌, ◌≤◌, ◌-◌, List, [], ◌∷◌, ◌++◌, length, get_or, drop, take, refl, sym, subst, arith, append-nil}
 use Rattle.std.proofs.Math.Seq.{drop-length, take-length}
 use borrow.Rule.Slice.PartMut.{put_mid}
 use Rattle.std.specs.List.{AllByRecursion}
-use Rattle.wsn_wire.specs.Frame.{IsBytes}
 
 pub first_two : (xs : List ℕ) → 2 ≤ length xs → xs ≡ get_or xs 0 0 ∷ get_or xs 1 0 ∷ drop 2 xs
 first_two [] enough = absurd (omega arith)

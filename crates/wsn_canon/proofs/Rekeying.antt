@@ -1,8 +1,8 @@
 -- What clearing a key and unmasking leaves.
-use Rattle.std.proofs.Common.{◌≡◌, ℕ, suc, ◌+◌, ◌-◌, ◌<◌, ◌≤◌, ◌↔◌, List, [], ◌∷◌, ◌++◌, length, get_or, take, drop, None, Some, refl, sym, ap, ◌∙◌, subst, arith}
+use Rattle.std.proofs.Common.{◌≡◌, ℕ, suc, ◌-◌, ◌<◌, ◌≤◌, List, [], ◌∷◌, ◌++◌, length, get_or, take, drop, None, Some, refl, sym, ap, ◌∙◌, subst}
 use borrow.Rule.Slice.PartMut.{put_mid}
 use Rattle.wsn_wire.specs.declared.endpoint.Role.TheVariants.{Client, Server}
-use Rattle.wsn_wire.specs.Frame.{IsBytes, IsKey, masked}
+use Rattle.wsn_wire.specs.Frame.{IsKey, masked}
 use Rattle.wsn_wire.proofs.MaskLemmas.{masked-masked}
 use Rattle.wsn_canon.specs.Rewriting.{Rekeys, first_key}
 use Rattle.wsn_canon.proofs.BytesOf.{all_below, first_four, behind_zeros, rest_behind}

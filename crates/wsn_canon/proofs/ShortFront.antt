@@ -1,5 +1,5 @@
 -- A short message at the front, and the same front with the normal key.
-use Rattle.std.proofs.Common.{◌≡◌, ℕ, suc, ◌+◌, ◌-◌, ◌<◌, ◌≤◌, ◌↔◌, ◌⊎◌, Bool, true, false, cond, List, [], ◌∷◌, ◌++◌, length, get_or, take, drop, Option, None, Some, IsSome, IfSome, is_some, inl, inr, refl, sym, ap, ◌∙◌, subst, arith, append-nil, append_assoc, length-append, length-take, length-drop, take-append-drop, ltb}
+use Rattle.std.proofs.Common.{◌≡◌, ℕ, ◌+◌, ◌-◌, ◌<◌, ◌≤◌, ◌↔◌, ◌⊎◌, Bool, true, false, cond, List, [], ◌∷◌, ◌++◌, length, get_or, take, drop, Option, None, Some, IsSome, IfSome, is_some, inl, inr, refl, sym, ap, ◌∙◌, subst, arith, append-nil, append_assoc, length-append, length-take, length-drop, take-append-drop, ltb}
 use Rattle.std.proofs.lemmas.Bool.{lt-ltb}
 use Rattle.std.specs.List.{AllByRecursion}
 use lib.Seq.{drop-drop, drop-append_seam, take-append_seam}
@@ -11,7 +11,7 @@ use Rattle.wsn_wire.specs.declared.opcode.Op.TheVariants.{Text, Binary}
 use Rattle.wsn_wire.specs.declared.spelling.Form.TheVariants as form
 use Rattle.wsn_wire.specs.declared.spelling.LenForm.{LenForm}
 use Rattle.wsn_wire.specs.declared.spelling.LenForm.TheVariants as len_form
-use Rattle.wsn_wire.specs.Frame.{Frame, IsKey, IsSpellable, masked, head_bytes, first_byte, second_byte, len_form_of, length_bytes, key_bytes, wire_payload, frame_bytes, stream}
+use Rattle.wsn_wire.specs.Frame.{Frame, IsKey, IsSpellable, first_byte, second_byte, len_form_of, length_bytes, key_bytes, wire_payload, frame_bytes}
 use Rattle.wsn_wire.proofs.MaskLemmas.{length-masked, masked-zero}
 use Rattle.wsn_scan.specs.Bounds.{Bounds}
 use Rattle.wsn_scan.specs.Meaning.{meaning}

@@ -1,17 +1,15 @@
 -- A list of short messages is lawful and accepted: no message is open behind any of them.
-use Rattle.std.proofs.Common.{◌≡◌, ◌≢◌, ℕ, ◌+◌, ◌<◌, ◌≤◌, ◌↔◌, ◌⊎◌, Bool, true, false, not, cond, ◌||◌, List, [], ◌∷◌, ◌++◌, length, Option, Some, inl, inr, refl, sym, ap, ◌∙◌, subst, arith, append-nil}
+use Rattle.std.proofs.Common.{◌≡◌, ℕ, ◌≤◌, Bool, true, false, not, cond, ◌||◌, List, [], ◌∷◌, ◌++◌, length, inl, inr, refl, sym, ap, ◌∙◌, subst, append-nil}
 use Rattle.std.specs.Prelude.{filter}
-use Rattle.std.specs.List.{AllByRecursion, list_any, flat_map}
-use Rattle.std.specs.Option.{ForSome}
+use Rattle.std.specs.List.{AllByRecursion, list_any}
 use Rattle.wsn_wire.specs.declared.endpoint.Role.{Role}
-use Rattle.wsn_wire.specs.declared.opcode.Op.{Op}
-use Rattle.wsn_wire.specs.declared.opcode.Op.TheVariants.{Continue, Text, Binary, Close}
+use Rattle.wsn_wire.specs.declared.opcode.Op.TheVariants.{Continue, Text, Close}
 use Rattle.wsn_wire.specs.Frame.{Frame, is_control, stream}
 use Rattle.wsn_text.specs.Utf8.{IsText, BeginsText}
 use Rattle.wsn_text.proofs.Ascii.{ascii_text}
 use Rattle.wsn_scan.specs.Bounds.{Bounds, InRange}
-use Rattle.wsn_scan.specs.Group.{after_last, is_data, is_final, unfinished, first_op, text_of}
-use Rattle.wsn_scan.specs.FrameLaw.{FrameLaw, ControlLaw}
+use Rattle.wsn_scan.specs.Group.{after_last, is_data, is_final, unfinished, text_of}
+use Rattle.wsn_scan.specs.FrameLaw.{FrameLaw}
 use Rattle.wsn_scan.specs.Lawful.{GroupLaw, LawAt, IsLawful}
 use Rattle.wsn_scan.specs.Accepted.{HasNoClose, IsAccepted}
 use Rattle.wsn_canon.specs.ShortMessages.{IsShortMessage}

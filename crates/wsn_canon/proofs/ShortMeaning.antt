@@ -1,13 +1,12 @@
 -- The meaning of short messages is one message a frame, and its normal form the same frames with the normal key.
-use Rattle.std.proofs.Common.{◌≡◌, ℕ, Bool, true, false, cond, List, [], ◌∷◌, ◌++◌, map, Option, inl, inr, refl, sym, ap, ◌∙◌, append-nil}
+use Rattle.std.proofs.Common.{◌≡◌, Bool, true, cond, List, [], ◌∷◌, ◌++◌, map, inl, inr, refl, sym, ap, ◌∙◌, append-nil}
 use Rattle.std.specs.List.{AllByRecursion}
 use Rattle.wsn_wire.specs.declared.endpoint.Role.{Role}
 use Rattle.wsn_wire.specs.declared.opcode.Op.{Op}
-use Rattle.wsn_wire.specs.declared.opcode.Op.TheVariants as op
 use Rattle.wsn_wire.specs.declared.spelling.Form.TheVariants.{Shortest}
 use Rattle.wsn_wire.specs.Frame.{Frame, is_control, stream}
 use Rattle.wsn_scan.specs.Bounds.{Bounds}
-use Rattle.wsn_scan.specs.Group.{unfinished, kind_at, kind_of, text_of}
+use Rattle.wsn_scan.specs.Group.{kind_at, kind_of, text_of}
 use Rattle.wsn_scan.specs.Meaning.{MeantEvent, Message, Control, event_at, events_behind, meaning}
 use Rattle.wsn_canon.specs.ShortMessages.{IsShortMessage}
 use Rattle.wsn_canon.specs.NormalForm.{normal_key, op_of, normal_frame, normal_form}

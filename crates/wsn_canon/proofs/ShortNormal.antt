@@ -5,8 +5,6 @@ use Rattle.std.specs.Io.KnownBytes.{Appends}
 use Rattle.wsn_wire.specs.declared.endpoint.Role.{Role}
 use Rattle.wsn_wire.specs.Transfer.{Incoming, Outgoing}
 use Rattle.wsn_scan.specs.Bounds.{Bounds, InRange}
-use Rattle.wsn_scan.specs.Meaning.{meaning}
-use Rattle.wsn_canon.specs.NormalForm.{normal_form}
 use Rattle.wsn_canon.specs.Rewriting.{RewritesAll}
 use Rattle.wsn_canon.specs.Normalised.{ReadsAll, Normalises, WritesFront}
 use Rattle.wsn_canon.proofs.ShortLists.{accepted}

@@ -1,18 +1,18 @@
 -- What a short message at the front shows, and so what shows that none stands there.
-use Rattle.std.proofs.Common.{◌≡◌, ℕ, suc, ◌+◌, ◌-◌, ◌<◌, ◌≤◌, ◌↔◌, ◌⊎◌, Bool, true, List, [], ◌∷◌, ◌++◌, length, get_or, take, drop, Option, IfSome, IsSome, inl, inr, refl, sym, ap, ◌∙◌, subst, arith, append_assoc, length-append}
+use Rattle.std.proofs.Common.{◌≡◌, ℕ, suc, ◌+◌, ◌-◌, ◌<◌, ◌≤◌, ◌⊎◌, Bool, true, List, [], ◌∷◌, ◌++◌, length, get_or, take, drop, Option, inl, inr, sym, ap, ◌∙◌, subst, arith, append_assoc, length-append}
 use Rattle.std.specs.List.{AllByRecursion}
 use borrow.Rule.Slice.PartMut.{put_mid}
 use Rattle.wsn_wire.specs.declared.endpoint.Role.{Role}
 use Rattle.wsn_wire.specs.declared.opcode.Op.{Op}
-use Rattle.wsn_wire.specs.declared.opcode.Op.TheVariants.{Text, Binary}
+use Rattle.wsn_wire.specs.declared.opcode.Op.TheVariants.{Text}
 use Rattle.wsn_wire.specs.declared.spelling.Form.{Form}
 use Rattle.wsn_wire.specs.declared.spelling.Form.TheVariants as form
-use Rattle.wsn_wire.specs.Frame.{Frame, IsSpellable, head_bytes, first_byte, key_bytes, wire_payload, frame_bytes, stream}
+use Rattle.wsn_wire.specs.Frame.{Frame, head_bytes, first_byte, key_bytes, wire_payload, frame_bytes, stream}
 use Rattle.wsn_wire.proofs.FrameLemmas.{frame_bytes_determine, length-wire_payload}
 use Rattle.wsn_scan.specs.Bounds.{Bounds}
 use Rattle.wsn_canon.specs.ShortMessages.{IsShortMessage, AreShortMessages, HasNoneAtFront}
 use Rattle.wsn_canon.specs.Rewriting.{Rekeys, mask_flag, key_count}
-use Rattle.wsn_canon.proofs.ShortFront.{Says, counted, frame-short, Front, front_of, payload_at, payload_size}
+use Rattle.wsn_canon.proofs.ShortFront.{Says, counted, frame-short, front_of, payload_at}
 
 module _ (role : Role) (bounds : Bounds) where
   -- the bytes of a short message

@@ -1,5 +1,5 @@
 -- Rewriting one short message after another.
-use Rattle.std.proofs.Common.{◌≡◌, ℕ, ◌+◌, ◌-◌, ◌<◌, ◌≤◌, List, [], ◌∷◌, ◌++◌, length, take, drop, map, refl, sym, ap, ◌∙◌, subst, arith, append-nil, append_assoc, length-append, length-take, length-drop, take-append-drop}
+use Rattle.std.proofs.Common.{◌≡◌, ℕ, ◌+◌, ◌-◌, ◌≤◌, List, [], ◌∷◌, ◌++◌, length, take, drop, map, sym, ap, ◌∙◌, arith, append-nil, append_assoc, length-append, length-take, length-drop}
 use Rattle.std.specs.List.{AllByRecursion}
 use Rattle.std.proofs.lemmas.Grind.{flat_map-append}
 use Rattle.std.proofs.lemmas.List.{map-append}
@@ -12,7 +12,7 @@ use Rattle.wsn_scan.specs.Bounds.{Bounds}
 use Rattle.wsn_scan.specs.Meaning.{meaning}
 use Rattle.wsn_canon.specs.NormalForm.{normal_form}
 use Rattle.wsn_canon.specs.ShortMessages.{IsShortMessage}
-use Rattle.wsn_canon.specs.Rewriting.{RewritesFront, RewritesAll}
+use Rattle.wsn_canon.specs.Rewriting.{RewritesFront}
 use Rattle.wsn_canon.proofs.ShortMeaning.{rekeyed, all_push, normal_form-short}
 
 -- So far the bytes up to `at` are the normal form of the messages that stood there.

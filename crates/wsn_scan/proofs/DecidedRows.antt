@@ -35,6 +35,11 @@ both P Q (inl p) (inl q) = inl (p, q)
 both P Q (inl p) (inr not) = inr (λ pq. not pq.1)
 both P Q (inr not) q = inr (λ pq. not pq.0)
 
+-- the second part is looked at only where the first holds
+unfoldable pub both_in_turn : (P Q : Type 0) → Decided P → (P → Decided Q) → Decided (P × Q)
+both_in_turn P Q (inl p) next = elim (next p) [ inl q ↦ inl (p, q) | inr not ↦ inr (λ pq. not pq.1) ]
+both_in_turn P Q (inr not) next = inr (λ pq. not pq.0)
+
 unfoldable pub either : (P Q : Type 0) → Decided P → Decided Q → Decided (P ⊎ Q)
 either P Q (inl p) q = inl (inl p)
 either P Q (inr not) (inl q) = inl (inr q)
@@ -161,10 +166,11 @@ by_payload group CloseCode first total payload =
       | inr not ↦ inr (λ row. not (row.0, row.1))
     ]
 by_payload group CloseReason first total payload =
-    both _ _ (same_or_not (opcode_field first) 8) (either _ _ (ends_bad (drop 2 payload)) (both _ _ (same_or_not (length payload) total) (ends_inside (drop 2 payload))))
-by_payload group TextBad first total payload = both _ _ (of_text group (opcode_field first)) (ends_bad (text_of group ++ payload))
+    both_in_turn _ _ (same_or_not (opcode_field first) 8)
+    (λ _. either _ _ (ends_bad (drop 2 payload)) (both_in_turn _ _ (same_or_not (length payload) total) (λ _. ends_inside (drop 2 payload))))
+by_payload group TextBad first total payload = both_in_turn _ _ (of_text group (opcode_field first)) (λ _. ends_bad (text_of group ++ payload))
 by_payload group TextCut first total payload =
-    elim (both _ _ (both _ _ (of_text group (opcode_field first)) (bool_is (fin_bit first) true)) (both _ _ (same_or_not (length payload) total) (ends_inside (text_of group ++ payload)))) [
+    elim (both_in_turn _ _ (both _ _ (of_text group (opcode_field first)) (bool_is (fin_bit first) true)) (λ _. both_in_turn _ _ (same_or_not (length payload) total) (λ _. ends_inside (text_of group ++ payload)))) [
       | inl p ↦ inl (p.0.0, p.0.1, p.1.0, p.1.1)
       | inr not ↦ inr (λ row. not ((row.0, row.1), (row.2, row.3)))
     ]

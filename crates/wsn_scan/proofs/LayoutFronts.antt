@@ -1,6 +1,6 @@
 -- Bytes begin with a whole layout, or end within a frame.
 use Rattle.std.proofs.Common.{◌≡◌, ◌≢◌, ℕ, zero, suc, ◌+◌, ◌-◌, ◌<◌, List, [], ◌∷◌, ◌++◌, ◌⊎◌, length, take, drop, refl, sym, ap, ◌∙◌, subst, inl, inr, append_assoc, arith}
-use Rattle.wsn_text.proofs.Numbers.{less_or_not, same_or_not}
+use Rattle.wsn_text.proofs.Numbers.{less_or_not}
 use Rattle.std.proofs.lemmas.List.{take-append-drop, length-take-le, length-append}
 use Rattle.wsn_wire.specs.Frame.{IsBytes}
 use Rattle.wsn_wire.specs.Layout.{HasLayout, len_form_at, length_count, length_told, key_count}

@@ -13,4 +13,6 @@ pub mod LayoutFronts
 pub mod EveryInput
 pub mod OneVerdict
 pub mod StaysRefused
-pub mod Examples
+pub mod Computed
+pub mod Stages
+pub mod NextBytes

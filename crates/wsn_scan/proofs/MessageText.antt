@@ -1,7 +1,7 @@
 -- Of a message's text and a Close's body: the opcodes that they go by, and where a bad byte shows.
 use Rattle.std.proofs.Common.{◌≡◌, ◌≢◌, ℕ, zero, suc, ◌+◌, ◌-◌, ◌<◌, ◌≤◌, true, not, List, [], ◌∷◌, ◌++◌, ◌⊎◌, length, take, drop, refl, sym, ap, ◌∙◌, subst, inl, inr, append_assoc, append-nil, arith, true≢false}
 use Rattle.std.specs.Int.{from_be_bytes, to_be_bytes, w16}
-use Rattle.wsn_text.proofs.Numbers.{less_or_not, same_or_not}
+use Rattle.wsn_text.proofs.Numbers.{less_or_not}
 use Rattle.std.proofs.lemmas.List.{take-append-drop, length-append, length-take-le, take_all}
 use Rattle.std.proofs.lemmas.List.Concat.{flat_map-append}
 use Rattle.std.proofs.lemmas.Nat.{be_bytes_2, from_be_bytes-to_be_bytes_2}

@@ -1,5 +1,5 @@
 -- No list of bytes has two verdicts.
-use Rattle.std.proofs.Common.{◌≡◌, ℕ, List, [], ◌∷◌, ◌++◌, length, sym, ap, ◌∙◌, subst, inl, inr, append_assoc, append-nil, arith}
+use Rattle.std.proofs.Common.{◌≡◌, ℕ, List, [], ◌∷◌, ◌++◌, length, sym, ap, ◌∙◌, subst, inl, inr, append_assoc, append-nil, arith, refl}
 use Rattle.wsn_wire.specs.declared.endpoint.Role.{Role}
 use Rattle.wsn_wire.specs.declared.refusal.Reason.{Reason}
 use Rattle.wsn_wire.specs.Frame.{Frame, frame_bytes, stream}
@@ -175,3 +175,16 @@ module _ (role : Role) (bounds : Bounds) where
       let b = all_of_verdict (bytes ++ more) gs w also in
       let on = all_go_on (bytes ++ more) fs gs (a.rest ++ more) a.lawful (ap (λ (bs : List ℕ). bs ++ more) a.whole ∙ append_assoc (stream fs) a.rest more) b in
       (on.0, on.1, ap meaning on.1 ∙ meaning-append fs on.0)
+
+  -- ---- the same bytes
+
+  pub same_bytes : (fs gs : List Frame) → IsLawful role bounds fs → IsLawful role bounds gs → stream fs ≡ stream gs → fs ≡ gs
+  same_bytes fs gs lawful also same = same_frames (stream fs) fs gs (all fs lawful (stream fs) refl) (all gs also (stream fs) same)
+    where
+      all : (hs : List Frame) → IsLawful role bounds hs → (bytes : List ℕ) → bytes ≡ stream hs → AreAll bytes hs
+      all hs lawful bytes whole = record {
+        lawful = lawful;
+        rest = [];
+        whole = whole ∙ sym (append-nil (stream hs));
+        last = λ f gs behind more e. nil-cons _ _ e;
+      }

@@ -15,7 +15,8 @@ use Rattle.wsn_text.specs.CloseBody.{IsAcceptedCode}
 use Rattle.wsn_scan.specs.Bounds.{Bounds}
 use Rattle.wsn_scan.specs.Group.{text_of}
 
--- In all of these, group is what is unfinished before the frame: the open message's frames, or none.
+-- In all of these, group is what is unfinished before the frame: the open message's frames, or none. A row
+-- doesn't repeat what other rows exclude, since the one that comes first counts (specs/Verdict.antt).
 
 -- [5.2] opcodes 0, 1 and 2
 abbrev pub IsDataOpcode : ℕ → Type 0
@@ -41,7 +42,10 @@ abbrev pub EvidentByFirst : Bounds → List Frame → Reason → ℕ → Type 0
 EvidentByFirst bounds group NothingToContinue first = (opcode_field first ≡ 0) × (group ≡ [])
 EvidentByFirst bounds group MessageOpen first = ((opcode_field first ≡ 1) ⊎ (opcode_field first ≡ 2)) × (group ≢ [])
 EvidentByFirst bounds group TooManyFrames first = (opcode_field first ≡ 0) × (bounds.frames ≡ Some (length group))
+-- reserved bits, a reserved opcode, a control frame without FIN [5.2, 5.5]
 EvidentByFirst bounds group reason first = ShownByFirst reason first
+
+-- ---- shown by the second byte: ShownBySecond of wsn_wire alone [5.1, 5.5]
 
 -- ---- shown by the last byte of the length: the second byte, or the last of those behind it
 
@@ -49,6 +53,7 @@ EvidentByFirst bounds group reason first = ShownByFirst reason first
 abbrev pub EvidentByLength : Bounds → List Frame → Reason → ℕ → ℕ → List ℕ → Type 0
 EvidentByLength bounds group MessageTooBig first second len =
     IsDataOpcode (opcode_field first) × (bounds.message < length (text_of group) + length_told (len_form_at second) len)
+-- a length of 2^63 or more, one that fewer bytes would hold [5.2]
 EvidentByLength bounds group reason first second len = ShownByLength bounds.lengths reason (len_form_at second) len
 
 -- ---- shown by the payload so far
@@ -87,7 +92,11 @@ unmasked second key wire = if mask_bit second then masked key 0 wire else wire
 
 -- The bytes seen, from a frame's first on, show the reason by the last of them.
 pub data Evidence (role : Role) (bounds : Bounds) (group : List Frame) (reason : Reason) (seen : List ℕ) : Type 0 where
-  ByFirst : (first : ℕ) → seen ≡ first ∷ [] → EvidentByFirst bounds group reason first → Evidence role bounds group reason seen
-  BySecond : (first second : ℕ) → seen ≡ first ∷ second ∷ [] → ShownBySecond role reason first second → Evidence role bounds group reason seen
-  ByLength : (first second : ℕ) (len : List ℕ) → seen ≡ first ∷ second ∷ len → length len ≡ length_count (len_form_at second) → EvidentByLength bounds group reason first second len → Evidence role bounds group reason seen
-  ByPayload : (p : IntoPayload seen) → EvidentByPayload group reason p.first (length_told (len_form_at p.second) p.len) (unmasked p.second p.key p.wire) → Evidence role bounds group reason seen
+  ByFirst : (first : ℕ) → seen ≡ first ∷ [] →
+      EvidentByFirst bounds group reason first → Evidence role bounds group reason seen
+  BySecond : (first second : ℕ) → seen ≡ first ∷ second ∷ [] →
+      ShownBySecond role reason first second → Evidence role bounds group reason seen
+  ByLength : (first second : ℕ) (len : List ℕ) → seen ≡ first ∷ second ∷ len → length len ≡ length_count (len_form_at second) →
+      EvidentByLength bounds group reason first second len → Evidence role bounds group reason seen
+  ByPayload : (p : IntoPayload seen) →
+      EvidentByPayload group reason p.first (length_told (len_form_at p.second) p.len) (unmasked p.second p.key p.wire) → Evidence role bounds group reason seen

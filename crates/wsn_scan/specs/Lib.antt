@@ -8,7 +8,4 @@ pub mod Meaning
 pub mod Evidence
 pub mod Summary
 pub mod Verdict
-pub mod Unshown
-pub mod OpenMessages
-pub mod PartialHeads
-pub mod PayloadChecks
+pub mod Examples

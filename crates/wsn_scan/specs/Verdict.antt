@@ -5,6 +5,7 @@ use Rattle.wsn_wire.specs.declared.endpoint.Role.{Role}
 use Rattle.wsn_wire.specs.declared.refusal.Reason.{Reason}
 use Rattle.wsn_wire.specs.Frame.{Frame, stream}
 use Rattle.wsn_wire.specs.Layout.{HasLayout}
+use Rattle.wsn_wire.specs.Refusal.{number_of}
 use Rattle.wsn_scan.specs.declared.outcome.Verdict.{Verdict}
 use Rattle.wsn_scan.specs.declared.outcome.Verdict.TheVariants.{Accepted, Cut, Refused}
 use Rattle.wsn_scan.specs.Bounds.{Bounds}
@@ -12,7 +13,6 @@ use Rattle.wsn_scan.specs.Group.{unfinished, IsOpen}
 use Rattle.wsn_scan.specs.Lawful.{IsLawful}
 use Rattle.wsn_scan.specs.Accepted.{IsAccepted, HasNoClose}
 use Rattle.wsn_scan.specs.Evidence.{Evidence}
-use Rattle.wsn_wire.specs.Refusal.{number_of}
 use Rattle.wsn_scan.specs.Summary.{counted}
 
 -- ---- refused

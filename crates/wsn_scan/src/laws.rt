@@ -3,7 +3,7 @@
 ghost use Rattle.std.specs.Prelude.{◌≡◌, ◌≢◌, ℕ, ◌+◌, ◌≤◌, ◌⊎◌, ◌↔◌, true, false, List, [], ◌∷◌, ◌++◌, length, take, if◌then◌else◌};
 ghost use Rattle.std.specs.Option.{ForSome};
 ghost use Rattle.wsn_wire.specs.declared.endpoint.Role.{Role};
-ghost use Rattle.wsn_wire.specs.declared.opcode.Op.TheVariants.{Text, Binary};
+ghost use Rattle.wsn_wire.specs.declared.opcode.Op.TheVariants.{Text, Binary, Close};
 ghost use Rattle.wsn_wire.specs.declared.refusal.Reason.{Reason};
 ghost use Rattle.wsn_wire.specs.Frame.{Frame, IsBytes, frame_bytes, stream};
 ghost use Rattle.wsn_wire.specs.Layout.{HasLayout};
@@ -94,11 +94,32 @@ pub fn law_a_close_is_last()
         IsLawful role bounds (fs ++ f ∷ gs) → HasNoClose fs }
 {}
 
+/// A list without a Close stays so with a frame more that isn't one.
+pub fn law_no_close_goes_on()
+    ensures none { HasNoClose [] }
+    ensures one_more { (fs : List Frame) (f : Frame) → HasNoClose fs → (f.op ≡ Close → ⊥) → HasNoClose (fs ++ f ∷ []) }
+    ensures front { (fs gs : List Frame) → HasNoClose (fs ++ gs) → HasNoClose fs }
+{}
+
 /// Of two lists of lawful frames that one input begins with, one goes on where the other ends.
 pub fn law_two_lists_under_one_input()
     ensures { (role : Role) (bounds : Bounds) (fs gs : List Frame) (r s : List ℕ) →
         IsLawful role bounds fs → IsLawful role bounds gs → stream fs ++ r ≡ stream gs ++ s →
         ((more : List Frame) × (gs ≡ fs ++ more) × (r ≡ stream more ++ s)) ⊎ ((more : List Frame) × (fs ≡ gs ++ more) × (s ≡ stream more ++ r)) }
+{}
+
+/// The frames that a verdict speaks of are lawful, and the input begins with their bytes.
+pub fn law_frames_of_a_verdict()
+    ensures lawful { (role : Role) (bounds : Bounds) (bytes : List ℕ) (fs : List Frame) (verdict : Verdict) →
+        IsVerdict role bounds bytes fs verdict → IsLawful role bounds fs }
+    ensures front { (role : Role) (bounds : Bounds) (bytes : List ℕ) (fs : List Frame) (verdict : Verdict) →
+        IsVerdict role bounds bytes fs verdict → (rest : List ℕ) × (bytes ≡ stream fs ++ rest) }
+{}
+
+/// Lawful lists of frames with the same bytes are the same.
+pub fn law_bytes_determine_frames()
+    ensures { (role : Role) (bounds : Bounds) (fs gs : List Frame) →
+        IsLawful role bounds fs → IsLawful role bounds gs → stream fs ≡ stream gs → fs ≡ gs }
 {}
 
 /// The bytes of joined lists are the joined bytes.

@@ -1,14 +1,15 @@
 //! The frames of one endpoint's stream, and its verdict (RFC 6455 sections 5 and 7).
 //!
-//! `specs/` holds the definitions, from the law of one frame to accepted streams and their meaning.
+//! `specs/` holds the definitions, from the law of one frame to the verdict on a stream and its meaning:
+//! `Bounds`, `Group`, `FrameLaw` and `Lawful` say what a lawful list of frames is, `Evidence` what shows that
+//! a stream isn't one, and `Accepted`, `Verdict` and `Summary` what becomes of every list of bytes. [`laws`]
+//! has what holds of them, and [`examples`] the verdicts on inputs that are written out.
 #![tactic(auto)]
 
 mod ceilings;
+pub mod examples;
 pub mod laws;
-mod open_message;
 mod outcome;
-mod partial_head;
-mod payload_check;
 
 pub use ceilings::{INPUT_MAX, Limits, MESSAGE_MAX};
 pub use outcome::{Refusal, Summary, Verdict};

@@ -1,4 +1,4 @@
-use Rattle.std.proofs.Common.{◌++◌, drop, length, refl, rules}
+use Rattle.std.proofs.Common.{drop, length, refl, rules}
 use Rattle.wsn_canon.specs.Rewriting.{RewritesAll}
 use Rattle.wsn_canon.proofs.ShortNormal.{rewrites_vector, normalises, writes_front}
 use Rattle.wsn_canon.proofs.normal.normalise.Goals as goal

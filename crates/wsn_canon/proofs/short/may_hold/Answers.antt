@@ -1,8 +1,7 @@
-use Rattle.std.proofs.Common.{◌≡◌, ℕ, ◌<◌, ◌↔◌, Bool, true, false, List, IsTrue, get_or, refl, arith}
+use Rattle.std.proofs.Common.{◌≡◌, ℕ, ◌<◌, ◌↔◌, Bool, true, false, List, IsTrue, refl, arith}
 use Rattle.std.specs.Bool.{MatchBool}
 use Rattle.std.specs.List.{AllByRecursion}
 use Rattle.std.specs.Str.{IsAscii, IsNotAscii}
-use Rattle.wsn_wire.specs.declared.opcode.Op.TheVariants.{Text}
 use Rattle.wsn_canon.proofs.BytesOf.{all_below, each_below}
 use Rattle.wsn_canon.proofs.short.may_hold.Goals as goal
 

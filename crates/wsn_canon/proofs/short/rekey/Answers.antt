@@ -1,4 +1,4 @@
-use Rattle.std.proofs.Common.{◌≡◌, ◌∙◌, ℕ, List, Some, None, ap, subst, length, take, drop, ◌-◌, ◌++◌, arith}
+use Rattle.std.proofs.Common.{◌∙◌, ℕ, List, Some, None, ap, subst, length, take, drop, ◌-◌, ◌++◌, arith}
 use Rattle.wsn_wire.specs.Frame.{masked, IsKey}
 use Rattle.wsn_canon.specs.Rewriting.{first_key}
 use Rattle.wsn_canon.proofs.Rekeying.{rekeys_client, rekeys_server}

@@ -1,8 +1,7 @@
-use Rattle.std.proofs.Common.{◌≡◌, ◌≤◌, ◌-◌, ◌++◌, List, ℕ, length, take, drop, subst, sym, ap, ◌∙◌, arith, length-drop, rules}
-use borrow.Rule.Slice.PartMut.{put_mid}
+use Rattle.std.proofs.Common.{◌≡◌, List, ℕ, length, drop, subst, sym, ap, ◌∙◌, arith, length-drop, rules}
 use Rattle.std.proofs.lemmas.Slice.{between_to_end}
 use Rattle.wsn_canon.specs.Rewriting.{RewritesFront}
-use Rattle.wsn_canon.proofs.ShortRun.{Rewritten, put_rest, longer, rewritten_more}
+use Rattle.wsn_canon.proofs.ShortRun.{put_rest, longer, rewritten_more}
 use Rattle.wsn_canon.proofs.ShortRefused.{behind, none_there}
 use Rattle.wsn_canon.specs.ShortMessages.{HasNoneAtFront}
 use Rattle.wsn_canon.proofs.short.rewrite.Goals as goal

@@ -1,4 +1,4 @@
-use Rattle.std.proofs.Common.{◌≡◌, ℕ, ◌+◌, ◌≤◌, length, Option, None, Some, IfNone, false, true, sym, ◌∙◌, rules}
+use Rattle.std.proofs.Common.{◌≡◌, Option, None, Some, IfNone, false, true, sym, ◌∙◌, rules}
 use Rattle.wsn_canon.proofs.short.rewrite_front.Goals as goal
 use Rattle.wsn_canon.proofs.ShortFront.{rewritten}
 use Rattle.wsn_canon.specs.ShortMessages.{HasNoneAtFront}

@@ -1,4 +1,4 @@
-use Rattle.std.proofs.Common.{◌≡◌, ℕ, ◌<◌, ◌≤◌, ◌++◌, ◌+◌, length, take, vec_len, arith, length-append, length-take}
+use Rattle.std.proofs.Common.{◌≡◌, ◌++◌, length, take, vec_len, arith, length-append, length-take}
 use Rattle.std.proofs.KnownBytes.{Consumes-trans}
 use Rattle.wsn_canon.proofs.whole_input.read_whole.Goals as goal
 
