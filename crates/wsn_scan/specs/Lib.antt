@@ -9,3 +9,10 @@ pub mod Evidence
 pub mod Summary
 pub mod Verdict
 pub mod Examples
+pub mod Unshown
+pub mod OpenMessages
+pub mod PartialHeads
+pub mod PayloadChecks
+pub mod Tallies
+pub mod Scans
+pub mod Payloads

@@ -9,7 +9,16 @@
 mod ceilings;
 pub mod examples;
 pub mod laws;
+mod notices;
+mod open_message;
 mod outcome;
+mod partial_head;
+mod payload_check;
+mod progress;
+mod scanning;
+mod tally;
 
 pub use ceilings::{INPUT_MAX, Limits, MESSAGE_MAX};
+pub use notices::{HeadInfo, Notice};
 pub use outcome::{Refusal, Summary, Verdict};
+pub use scanning::Scan;

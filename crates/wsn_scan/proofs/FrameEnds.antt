@@ -1,0 +1,229 @@
+-- The last byte of a frame: what came is a lawful frame, and the scan stands behind it.
+use Rattle.std.proofs.Common.{◌≡◌, ◌≢◌, ℕ, ◌+◌, ◌<◌, ◌≤◌, ◌^◌, Bool, true, false, cond, not, Option, None, Some, is_some, List, [], ◌∷◌, ◌++◌, length, inl, inr, refl, sym, ap, ◌∙◌, subst, arith, append_assoc, append-nil, length-append}
+use Rattle.std.specs.Prelude.{filter}
+use Rattle.std.specs.List.{list_any}
+use Rattle.std.specs.Int.{to_be_bytes, w16}
+use Rattle.std.proofs.lemmas.List.Sums.{length-filter, count_by-le-length}
+use Rattle.wsn_wire.specs.declared.endpoint.Role.{Role}
+use Rattle.wsn_wire.specs.declared.opcode.Op.{Op}
+use Rattle.wsn_wire.specs.declared.opcode.Op.TheVariants.{Close}
+use Rattle.wsn_wire.specs.declared.refusal.Reason.{Reason}
+use Rattle.wsn_wire.specs.declared.spelling.LenForm.{LenForm}
+use Rattle.wsn_wire.specs.Frame.{Frame, IsBytes, is_control, first_byte, key_bytes, masked, frame_bytes, stream}
+use Rattle.wsn_wire.specs.Layout.{HasLayout, mask_bit, opcode_field, length_count, length_told}
+use Rattle.wsn_wire.proofs.FrameLemmas.{first_byte_fields, op_at, op_at-opcode, key_bytes_count, IsBytes-right, frame_at, frame_bytes_determine}
+use Rattle.wsn_wire.proofs.HeadLemmas.{frame_of_layout, close_from_opcode}
+use Rattle.wsn_text.specs.CloseBody.{IsCloseBody}
+use Rattle.wsn_scan.specs.declared.partial_head.Head.{Head}
+use Rattle.wsn_scan.specs.declared.payload_check.PayloadCheck.{PayloadCheck}
+use Rattle.wsn_scan.specs.declared.scanning.Scan.{Scan}
+use Rattle.wsn_scan.specs.Bounds.{Bounds, InRange}
+use Rattle.wsn_scan.specs.Group.{after_last, is_data, is_final, unfinished, text_of}
+use Rattle.wsn_scan.specs.Lawful.{LawAt, IsLawful}
+use Rattle.wsn_scan.specs.Accepted.{HasNoClose, EndsWithClose}
+use Rattle.wsn_scan.specs.Summary.{is_close, close_code, close_of}
+use Rattle.wsn_scan.specs.OpenMessages.{IsOpenMessage, group_after}
+use Rattle.wsn_scan.specs.PayloadChecks.{HasChecked}
+use Rattle.wsn_scan.specs.Tallies.{Tallies}
+use Rattle.wsn_scan.specs.Payloads.{unmasked_by}
+use Rattle.wsn_scan.specs.Scans.{Knows, HoldsPayload, EndsFrame, IsAt, taken_of}
+use Rattle.wsn_scan.proofs.LawfulLists.{law_at_split, lawful_push}
+use Rattle.wsn_scan.proofs.Groups.{group_of_lawful, unfinished_control, unfinished_final, unfinished_more}
+use Rattle.wsn_scan.proofs.ScanVerdicts.{other_op}
+use Rattle.wsn_scan.proofs.LayoutFronts.{layout_of}
+use Rattle.wsn_scan.proofs.MessageText.{text_of_push}
+use Rattle.wsn_scan.proofs.Walk.{stream_push}
+use Rattle.wsn_scan.proofs.RowsOfLayout.{RowAt, row_has_evidence}
+use Rattle.wsn_scan.proofs.UnshownLayouts.{unshown_is_lawful, head_shows_nothing}
+
+-- ---- a Close at the end
+
+-- the Close at the end is the first
+pub close_of-push : (fs : List Frame) (f : Frame) → HasNoClose fs → f.op ≡ Close → close_of (fs ++ f ∷ []) ≡ Some (close_code f.payload)
+close_of-push [] f none is = ap (λ (o : Op). cond (is_close o) (Some (close_code f.payload)) None) is
+close_of-push (g ∷ fs) f none is =
+    ap (λ (b : Bool). cond b (Some (close_code g.payload)) (close_of (fs ++ f ∷ []))) (other_op g.op (none [] fs g refl))
+    ∙ close_of-push fs f (λ before after h split. none (g ∷ before) after h (ap (λ (gs : List Frame). g ∷ gs) split)) is
+
+-- a lawful Close's body isn't one byte
+pub close_not_one : (role : Role) (bounds : Bounds) (fs : List Frame) (f : Frame) → IsLawful role bounds (fs ++ f ∷ []) → f.op ≡ Close → length f.payload ≢ 1
+close_not_one role bounds fs f lawful is one = of ((law_at_split role bounds fs f [] lawful).frame.close is)
+  where
+    of : IsCloseBody f.payload → ⊥
+    of (inl none) = let empty : length f.payload ≡ 0 = ap (λ (bs : List ℕ). length bs) none in absurd (omega arith)
+    of (inr body) =
+        let size : length f.payload ≡ 2 + length body.1 = ap (λ (bs : List ℕ). length bs) body.4 ∙ length-append (to_be_bytes w16 body.0) body.1 in
+        absurd (omega arith)
+
+-- a frame whose first byte has opcode 8 is a Close
+pub is_a_close : (f : Frame) → opcode_field (first_byte f.fin f.op) ≡ 8 → f.op ≡ Close
+is_a_close f is = close_from_opcode f.op (sym (first_byte_fields f.fin f.op).opcode_is ∙ is)
+
+pub ends_with_close : (fs : List Frame) (f : Frame) → f.op ≡ Close → EndsWithClose (fs ++ f ∷ [])
+ends_with_close fs f is = (fs, f, is, refl)
+
+pub close_is_final : (role : Role) (bounds : Bounds) (fs : List Frame) (f : Frame) → IsLawful role bounds (fs ++ f ∷ []) → f.op ≡ Close → f.fin ≡ true
+close_is_final role bounds fs f lawful is = ((law_at_split role bounds fs f [] lawful).frame.control (ap is_control is)).final
+
+-- what is unfinished behind one frame more
+pub unfinished_after : (fs : List Frame) (f : Frame) → unfinished (fs ++ f ∷ []) ≡ group_after (unfinished fs) f
+unfinished_after fs f = by_op (is_control f.op) refl
+  where
+    by_fin : (final : Bool) → f.fin ≡ final → is_control f.op ≡ false → unfinished (fs ++ f ∷ []) ≡ cond final [] (unfinished fs ++ f ∷ [])
+    by_fin true final data_frame = unfinished_final fs f (ap not data_frame) final
+    by_fin false final data_frame = unfinished_more fs f (ap not data_frame) final
+
+    by_op : (control : Bool) → is_control f.op ≡ control → unfinished (fs ++ f ∷ []) ≡ group_after (unfinished fs) f
+    by_op true is = unfinished_control fs f (ap not is) ∙ ap (λ (b : Bool). cond b (unfinished fs) (cond f.fin [] (unfinished fs ++ f ∷ []))) (sym is)
+    by_op false is = by_fin f.fin refl is ∙ ap (λ (b : Bool). cond b (unfinished fs) (cond f.fin [] (unfinished fs ++ f ∷ []))) (sym is)
+
+-- ---- the frame that came
+
+-- All of a frame's payload came: the bytes are those of a frame that is lawful there, with the head's fields.
+pub record IsWhole (role : Role) (bounds : Bounds) (fs : List Frame) (head : Head) (wire rest : List ℕ) : Type 0 where
+  pub frame : Frame
+  pub bytes_are : frame_bytes frame ≡ rest
+  pub law : LawAt role bounds fs frame
+  pub fin_is : frame.fin ≡ head.first.fin
+  pub op_is : frame.op ≡ head.first.op
+  pub payload_is : frame.payload ≡ unmasked_by head.key 0 wire
+  pub length_is : head.len ≡ length frame.payload
+
+module _ (role : Role) (bounds : Bounds) (scan : Scan) (bytes rest wire : List ℕ) (fs : List Frame) (head : Head) (check : PayloadCheck)
+    (knows : Knows role bounds scan bytes fs rest) (holds : HoldsPayload role bounds (unfinished fs) head check wire rest) (all : length wire ≡ head.len) where
+  abbrev first : ℕ
+  first = first_byte head.first.fin head.first.op
+
+  parts : rest ≡ first ∷ holds.is_head.second ∷ (holds.is_head.lengths ++ (key_bytes head.key ++ wire))
+  parts =
+      holds.whole ∙ ap (λ (bs : List ℕ). bs ++ wire) holds.is_head.whole
+      ∙ ap (λ (bs : List ℕ). first ∷ holds.is_head.second ∷ bs) (append_assoc holds.is_head.lengths (key_bytes head.key) wire)
+
+  layout : HasLayout rest
+  layout =
+      let h = holds.is_head in
+      layout_of first h.second h.lengths (key_bytes head.key) wire rest parts (IsBytes-right (stream fs) rest (subst IsBytes knows.whole knows.in_bytes))
+      (h.counted ∙ ap length_count h.spelled) (key_bytes_count head.key h.of_four ∙ ap (λ (b : Bool). cond b 4 0) (sym h.masked))
+      (all ∙ h.told ∙ ap (λ (f : LenForm). length_told f h.lengths) h.spelled)
+
+  no_row : (reason : Reason) → RowAt role bounds (unfinished fs) reason layout → ⊥
+  no_row reason row =
+      let front = row_has_evidence role bounds (unfinished fs) reason rest layout row in
+      holds.unshown.none front.seen front.later reason front.whole front.evidence
+
+  payload_by_key : (key : Option (List ℕ)) (second : ℕ) → mask_bit second ≡ is_some key → cond (mask_bit second) (masked (key_bytes key) 0 wire) wire ≡ unmasked_by key 0 wire
+  payload_by_key None second is = ap (λ (b : Bool). cond b (masked [] 0 wire) wire) is
+  payload_by_key (Some key) second is = ap (λ (b : Bool). cond b (masked key 0 wire) wire) is
+
+  pub whole_frame : IsWhole role bounds fs head wire rest
+  unfolding layout layout_of
+  whole_frame =
+      let h = holds.is_head in
+      let group = group_of_lawful role bounds fs knows.lawful in
+      let lawful = unshown_is_lawful role bounds knows.in_range fs group layout no_row in
+      let shows = head_shows_nothing role bounds knows.in_range fs group layout no_row in
+      let spelled = frame_of_layout role bounds.lengths rest layout shows in
+      let there = frame_at first h.second (key_bytes head.key) wire in
+      let same : lawful.frame ≡ there =
+      (frame_bytes_determine lawful.frame there [] [] lawful.law.frame.spellable spelled.owed.spellable
+      (append-nil (frame_bytes lawful.frame) ∙ lawful.bytes_are ∙ sym spelled.bytes_are ∙ sym (append-nil (frame_bytes there)))).0 in
+      let fields = first_byte_fields head.first.fin head.first.op in
+      record {
+        frame = there;
+        bytes_are = spelled.bytes_are;
+        law = subst (λ (f : Frame). LawAt role bounds fs f) same lawful.law;
+        fin_is = spelled.fin_is ∙ fields.fin_is;
+        op_is = sym (op_at-opcode there.op) ∙ ap op_at (spelled.opcode_is ∙ fields.opcode_is) ∙ op_at-opcode head.first.op;
+        payload_is = spelled.payload_is ∙ payload_by_key head.key h.second h.masked;
+        length_is = h.told ∙ ap (λ (f : LenForm). length_told f h.lengths) h.spelled ∙ sym spelled.length_is;
+      }
+
+  pub same_check : (f : Frame) → f.fin ≡ head.first.fin → f.op ≡ head.first.op → f.payload ≡ unmasked_by head.key 0 wire → HasChecked (unfinished fs) (first_byte f.fin f.op) check f.payload
+  same_check f fin_is op_is payload_is =
+      subst (λ (payload : List ℕ). HasChecked (unfinished fs) (first_byte f.fin f.op) check payload) (sym payload_is)
+      (subst (λ (op : Op). HasChecked (unfinished fs) (first_byte f.fin op) check (unmasked_by head.key 0 wire)) (sym op_is)
+      (subst (λ (fin : Bool). HasChecked (unfinished fs) (first_byte fin head.first.op) check (unmasked_by head.key 0 wire)) (sym fin_is) holds.checked))
+
+-- ---- how many, at most
+
+frames_few : (fs : List Frame) → length fs ≤ length (stream fs)
+frames_few [] = omega arith
+frames_few (f ∷ fs) =
+    let rest = frames_few fs in
+    let bytes : length (stream (f ∷ fs)) ≡ length (frame_bytes f) + length (stream fs) = length-append (frame_bytes f) (stream fs) in
+    let some : 0 < length (frame_bytes f) = omega arith in
+    omega arith
+
+after_last_few : (fs : List Frame) → length (after_last is_final fs) ≤ length fs
+after_last_few [] = omega arith
+after_last_few (f ∷ fs) = by (list_any is_final (f ∷ fs)) (after_last_few fs)
+  where
+    by : (b : Bool) → length (after_last is_final fs) ≤ length fs → length (cond b (after_last is_final fs) (f ∷ fs)) ≤ length (f ∷ fs)
+    by true fewer = omega arith
+    by false fewer = omega arith
+
+pub unfinished_few : (fs : List Frame) → length (unfinished fs) ≤ length (stream fs)
+unfinished_few fs = omega (arith, after_last_few (filter is_data fs), length-filter is_data fs, count_by-le-length is_data fs, frames_few fs)
+
+pub text_small : (role : Role) (bounds : Bounds) (fs : List Frame) (f : Frame) → InRange bounds → IsLawful role bounds fs → LawAt role bounds fs f → length (text_of (unfinished fs ++ f ∷ [])) < 2 ^ 32
+text_small role bounds fs f range lawful law = by_op (is_control f.op) refl
+  where
+    by_op : (control : Bool) → is_control f.op ≡ control → length (text_of (unfinished fs ++ f ∷ [])) < 2 ^ 32
+    by_op false is = let fits = (law.group (ap not is)).size in let most = range.message in omega arith
+    by_op true is =
+        let group = (group_of_lawful role bounds fs lawful).size in
+        let short = (law.frame.control is).short in
+        let most = range.message in
+        let joined : length (text_of (unfinished fs ++ f ∷ [])) ≡ length (text_of (unfinished fs)) + length f.payload =
+        ap (λ (bs : List ℕ). length bs) (text_of_push (unfinished fs) f) ∙ length-append (text_of (unfinished fs)) f.payload in
+        omega arith
+
+-- ---- the scan behind it
+
+-- What became of the scan's fields.
+pub record IsBehind (old new : Scan) (head : Head) (check : PayloadCheck) : Type 0 where
+  pub sender : new.role ≡ old.role
+  pub limits : new.limits ≡ old.limits
+  pub room : new.room ≡ old.room
+  pub used : new.used ≡ taken_of old
+  pub tally : (fs : List Frame) (f : Frame) → Tallies old.tally fs → length fs < 2 ^ 63 → f.fin ≡ head.first.fin → f.op ≡ head.first.op → Tallies new.tally (fs ++ f ∷ [])
+  pub message : (group : List Frame) (f : Frame) → IsOpenMessage old.message group → f.fin ≡ head.first.fin → f.op ≡ head.first.op → head.len ≡ length f.payload
+      → HasChecked group (first_byte f.fin f.op) check f.payload → length (text_of (group ++ f ∷ [])) < 2 ^ 32 → length group < 2 ^ 63 → IsOpenMessage new.message (group_after group f)
+  pub stage : (role : Role) (bounds : Bounds) (bytes : List ℕ) (fs : List Frame) (f : Frame) → IsLawful role bounds (fs ++ f ∷ []) → HasNoClose fs → f.fin ≡ head.first.fin
+      → HasChecked (unfinished fs) (first_byte f.fin f.op) check f.payload → IsAt role bounds new.stage bytes (fs ++ f ∷ []) []
+
+pub frame_ends : (role : Role) (bounds : Bounds) (old new : Scan) (bytes rest wire : List ℕ) (fs : List Frame) (head : Head) (check : PayloadCheck) → IsBehind old new head check
+    → Knows role bounds old bytes fs rest → HasNoClose fs → HoldsPayload role bounds (unfinished fs) head check wire rest → length wire ≡ head.len → EndsFrame role bounds new bytes fs
+frame_ends role bounds old new bytes rest wire fs head check behind knows none holds all =
+    let w = whole_frame role bounds old bytes rest wire fs head check knows holds all in
+    let f = w.frame in
+    let lawful = lawful_push role bounds fs f knows.lawful none w.law in
+    let checked = same_check role bounds old bytes rest wire fs head check knows holds all f w.fin_is w.op_is w.payload_is in
+    let joined : stream (fs ++ f ∷ []) ≡ stream fs ++ rest = stream_push fs f ∙ ap (λ (bs : List ℕ). stream fs ++ bs) w.bytes_are in
+    let whole : bytes ≡ stream (fs ++ f ∷ []) = knows.whole ∙ sym joined in
+    let counts : length bytes ≡ length (stream fs) + length rest = ap (λ (bs : List ℕ). length bs) knows.whole ∙ length-append (stream fs) rest in
+    let input = knows.in_range.input in
+    let room = knows.room in
+    let few : length fs < 2 ^ 63 = omega (arith, frames_few fs) in
+    let few_open : length (unfinished fs) < 2 ^ 63 = omega (arith, unfinished_few fs) in
+    let same_input : old.limits.input ≡ bounds.input = ap (λ (b : Bounds). b.input) knows.limits in
+    let taken : taken_of old ≡ length bytes = omega arith in
+    record {
+      frame = f;
+      stands = record {
+        knows = record {
+          sender = behind.sender ∙ knows.sender;
+          limits = behind.limits ∙ knows.limits;
+          in_range = knows.in_range;
+          lawful = lawful;
+          whole = whole ∙ sym (append-nil (stream (fs ++ f ∷ [])));
+          in_bytes = knows.in_bytes;
+          room = omega (arith, behind.room);
+          used = behind.used ∙ taken ∙ ap (λ (bs : List ℕ). length bs) whole;
+          tally = behind.tally fs f knows.tally few w.fin_is w.op_is;
+          message = subst (IsOpenMessage new.message) (sym (unfinished_after fs f))
+              (behind.message (unfinished fs) f knows.message w.fin_is w.op_is w.length_is checked (text_small role bounds fs f knows.in_range knows.lawful w.law) few_open);
+        };
+        at = behind.stage role bounds bytes fs f lawful none w.fin_is checked;
+      };
+    }

@@ -1,0 +1,44 @@
+use Rattle.std.proofs.Common.{◌≡◌, ◌∙◌, ℕ, false, true, List, [], inl, sym, subst, append-nil}
+use Rattle.wsn_scan.specs.declared.progress.Stage.{Stage}
+use Rattle.wsn_scan.specs.declared.partial_head.PartialHead.{PartialHead}
+use Rattle.wsn_wire.specs.Frame.{IsBytes, stream}
+use Rattle.wsn_wire.proofs.FrameLemmas.{IsBytes-right}
+use Rattle.wsn_scan.specs.PartialHeads.{StandsFor}
+use Rattle.wsn_scan.specs.Group.{unfinished}
+use Rattle.wsn_scan.specs.Verdict.{IsRefused}
+use Rattle.wsn_scan.specs.Scans.{IsAt}
+use Rattle.wsn_scan.proofs.ScanVerdicts.{cut_verdict, between_verdict, some_head, some_payload}
+use Rattle.wsn_scan.proofs.WithinFrames.{head_within, payload_within}
+use Rattle.wsn_scan.proofs.scanning.Scan.finish.Goals as goal
+
+pub returns-in-Refused : goal.returns-in-Refused
+returns-in-Refused c role limits bytes rest fs stands =
+    let refusal = c.in-Refused.refusal in
+    let at = subst (λ (stage : Stage). IsAt role limits stage bytes fs rest) c.in-Refused.is stands.at in
+    subst (λ (all : List ℕ). IsRefused role limits all fs refusal.place refusal.reason) (append-nil bytes) (at [])
+
+pub returns-in-Ended : goal.returns-in-Ended
+returns-in-Ended c role limits bytes rest fs stands =
+    let at = subst (λ (stage : Stage). IsAt role limits stage bytes fs rest) c.in-Ended.is stands.at in
+    rw c.between.ensures (between_verdict role limits c.args.self.now bytes rest fs c.args.self.now.stage stands at.0 at.2)
+
+pub returns-then-is_empty : goal.returns-then-is_empty
+returns-then-is_empty c role limits bytes rest fs stands =
+    let at = subst (λ (stage : Stage). IsAt role limits stage bytes fs rest) c.in-Head.is stands.at in
+    let empty = c.is_empty.ensures.0 c.if-is_empty.true in
+    let nothing = subst (λ (part : PartialHead). StandsFor role part rest) empty at.1.stands_for in
+    rw c.between-then-is_empty.ensures (between_verdict role limits c.args.self.now bytes rest fs c.args.self.now.stage stands at.0 nothing)
+
+pub returns-else-is_empty : goal.returns-else-is_empty
+returns-else-is_empty c role limits bytes rest fs stands =
+    let at = subst (λ (stage : Stage). IsAt role limits stage bytes fs rest) c.in-Head.is stands.at in
+    let part = c.in-Head.part in
+    let some = some_head role part rest at.1.stands_for (λ empty. let both : false ≡ true = sym c.if-is_empty.false ∙ c.is_empty.ensures.1 empty in cc) in
+    rw c.cut.ensures (cut_verdict role limits c.args.self.now bytes rest fs c.args.self.now.stage stands at.0 at.1.unshown (head_within role limits (unfinished fs) part rest at.1) (inl some))
+
+pub returns-in-Payload : goal.returns-in-Payload
+returns-in-Payload c role limits bytes rest fs stands =
+    let at = subst (λ (stage : Stage). IsAt role limits stage bytes fs rest) c.in-Payload.is stands.at in
+    let inside = c.in-Payload.field-0 in
+    let in_bytes = IsBytes-right (stream fs) rest (subst IsBytes stands.knows.whole stands.knows.in_bytes) in
+    rw c.cut-in-Payload.ensures (cut_verdict role limits c.args.self.now bytes rest fs c.args.self.now.stage stands at.0 at.1.holds.unshown (payload_within role limits (unfinished fs) inside rest in_bytes at.1) (inl (some_payload role limits (unfinished fs) inside rest at.1)))

@@ -1,0 +1,21 @@
+use Rattle.std.proofs.Common.{[], refl, arith}
+use Rattle.wsn_scan.proofs.LawfulLists.{lawful_nil, no_close_nil}
+use Rattle.wsn_scan.proofs.ScanVerdicts.{nothing_unshown}
+use Rattle.wsn_scan.proofs.scanning.Scan.new.Goals as goal
+
+pub returns : goal.returns
+returns c = record {
+  knows = record {
+    sender = refl;
+    limits = refl;
+    in_range = c.input.ensures.in_range;
+    lawful = lawful_nil c.args.role c.args.limits;
+    whole = refl;
+    in_bytes = tt;
+    room = omega (arith, c.input.ensures.value);
+    used = refl;
+    tally = c.new.ensures;
+    message = refl;
+  };
+  at = (no_close_nil, record { stands_for = refl; in_bytes = tt; unshown = nothing_unshown c.args.role c.args.limits [] });
+}

@@ -1,0 +1,107 @@
+use Rattle.std.proofs.Common.{◌≡◌, ◌+◌, ◌≤◌, ◌^◌, ℕ, List, [], ◌∷◌, ◌++◌, length, take, Ok, Err, refl, sym, ap, ◌∙◌, subst, arith, length-append}
+use Rattle.std.proofs.lemmas.List.{length-take-le, take-take}
+use Rattle.wsn_wire.specs.Frame.{first_byte}
+use Rattle.wsn_wire.proofs.FrameLemmas.{first_byte_fields}
+use Rattle.wsn_scan.specs.Group.{unfinished}
+use Rattle.wsn_scan.specs.Unshown.{IsShownLast}
+use Rattle.wsn_scan.specs.PayloadChecks.{IsChecked}
+use Rattle.wsn_scan.specs.Payloads.{unmasked_by}
+use Rattle.wsn_scan.proofs.HeadBytes.{bytes_taken}
+use Rattle.wsn_scan.proofs.MoreBytes.{knows_more}
+use Rattle.wsn_scan.proofs.PayloadMore.{holds_on, shown_last, checked_share, masked_again, length-unmasked_by}
+use Rattle.wsn_scan.proofs.Refusals.{refuses}
+use Rattle.wsn_scan.proofs.scanning.Scan.next_payload.Goals as goal
+
+pub returns-then-last-clause-taken : goal.returns-then-last-clause-taken
+returns-then-last-clause-taken c role bounds bytes rest fs in_bytes stands =
+    let head = c.args.inside.head in
+    let group = unfinished fs in
+    let piece = c.args.piece.now in
+    let count = c.min-count.result in
+    let w = take count piece in
+    let wire = stands.at.1.wire in
+    let h = stands.at.1.holds in
+    let within : count ≤ length piece = omega (arith, c.min-count.ensures) in
+    let size : length w ≡ count = length-take-le count piece within in
+    let fits : length wire + length w ≤ head.len = omega (arith, size, stands.at.1.done, stands.at.1.short, c.min-count.ensures, c.saturating_sub-left.ensures) in
+    let checked : IsChecked group (first_byte head.first.fin head.first.op) head.len (unmasked_by head.key 0 wire) (unmasked_by head.key (length wire) w) (Ok c.in-Ok.check) =
+    checked_share group (first_byte head.first.fin head.first.op) head.len head.key c.args.inside.done count c.saturating_sub-left.result wire piece c.unmask.new.bytes (Ok c.in-Ok.check) within
+    stands.at.1.done stands.at.1.short c.saturating_sub-left.ensures fits c.unmask.ensures
+    (c.in-Ok.ensures.checked group (first_byte head.first.fin head.first.op) head.len (unmasked_by head.key 0 wire) h.checked (first_byte_fields head.first.fin head.first.op).fin_is) in
+    let in_w = bytes_taken count piece in_bytes in
+    let all : length (wire ++ w) ≡ head.len = omega (arith, length-append wire w, size, stands.at.1.done, stands.at.1.short, c.if-last.true, c.saturating_sub-left.ensures) in
+    let ends = c.end.ensures.taken role bounds (bytes ++ w) (rest ++ w) (wire ++ w) fs
+    (knows_more role bounds c.args.self.now _ bytes rest w fs (record { sender = refl; limits = refl; room = omega (arith, c.requires, size, within); used = refl; tally = refl; message = refl }) in_w stands.knows)
+    stands.at.0 (holds_on role bounds group head c.args.inside.check wire rest h w fits c.in-Ok.check in_w checked) all in
+    record { frames = fs ++ ends.frame ∷ []; since = []; stands = ends.stands; tells = tt }
+
+pub returns-else-last-clause-taken : goal.returns-else-last-clause-taken
+returns-else-last-clause-taken c role bounds bytes rest fs in_bytes stands =
+    let head = c.args.inside.head in
+    let group = unfinished fs in
+    let piece = c.args.piece.now in
+    let count = c.min-count.result in
+    let w = take count piece in
+    let wire = stands.at.1.wire in
+    let h = stands.at.1.holds in
+    let within : count ≤ length piece = omega (arith, c.min-count.ensures) in
+    let size : length w ≡ count = length-take-le count piece within in
+    let fits : length wire + length w ≤ head.len = omega (arith, size, stands.at.1.done, stands.at.1.short, c.min-count.ensures, c.saturating_sub-left.ensures) in
+    let checked : IsChecked group (first_byte head.first.fin head.first.op) head.len (unmasked_by head.key 0 wire) (unmasked_by head.key (length wire) w) (Ok c.in-Ok.check) =
+    checked_share group (first_byte head.first.fin head.first.op) head.len head.key c.args.inside.done count c.saturating_sub-left.result wire piece c.unmask.new.bytes (Ok c.in-Ok.check) within
+    stands.at.1.done stands.at.1.short c.saturating_sub-left.ensures fits c.unmask.ensures
+    (c.in-Ok.ensures.checked group (first_byte head.first.fin head.first.op) head.len (unmasked_by head.key 0 wire) h.checked (first_byte_fields head.first.fin head.first.op).fin_is) in
+    let in_w = bytes_taken count piece in_bytes in
+    let other : (count ≡ c.saturating_sub-left.result) → ⊥ = c.if-last.false in
+    let joined : length (wire ++ w) ≡ length wire + length w = length-append wire w in
+    record {
+      frames = fs;
+      since = rest ++ w;
+      stands = record {
+        knows = knows_more role bounds c.args.self.now _ bytes rest w fs (record { sender = refl; limits = refl; room = omega (arith, c.requires, size, within); used = refl; tally = refl; message = refl }) in_w stands.knows;
+        at = (
+          stands.at.0,
+          record {
+            wire = wire ++ w;
+            holds = holds_on role bounds group head c.args.inside.check wire rest h w fits c.in-Ok.check in_w checked;
+            done = omega (arith, joined, size, stands.at.1.done);
+            short = omega (arith, joined, size, stands.at.1.done, stands.at.1.short, c.min-count.ensures, other, c.saturating_sub-left.ensures);
+          },
+        );
+      };
+      tells = tt;
+    }
+
+pub returns-in-Err-clause-taken : goal.returns-in-Err-clause-taken
+returns-in-Err-clause-taken c role bounds bytes rest fs in_bytes stands =
+    let head = c.args.inside.head in
+    let group = unfinished fs in
+    let piece = c.args.piece.now in
+    let count = c.min-count.result in
+    let w = take count piece in
+    let wire = stands.at.1.wire in
+    let h = stands.at.1.holds in
+    let bad = c.in-Err.bad in
+    let taken = c.min-taken.result in
+    let within : count ≤ length piece = omega (arith, c.min-count.ensures) in
+    let size : length w ≡ count = length-take-le count piece within in
+    let fits : length wire + length w ≤ head.len = omega (arith, size, stands.at.1.done, stands.at.1.short, c.min-count.ensures, c.saturating_sub-left.ensures) in
+    let checked : IsChecked group (first_byte head.first.fin head.first.op) head.len (unmasked_by head.key 0 wire) (unmasked_by head.key (length wire) w) (Err bad) =
+    checked_share group (first_byte head.first.fin head.first.op) head.len head.key c.args.inside.done count c.saturating_sub-left.result wire piece c.unmask.new.bytes (Err bad) within
+    stands.at.1.done stands.at.1.short c.saturating_sub-left.ensures fits c.unmask.ensures
+    (c.in-Err.ensures.checked group (first_byte head.first.fin head.first.op) head.len (unmasked_by head.key 0 wire) h.checked (first_byte_fields head.first.fin head.first.op).fin_is) in
+    let small : bad.at + 1 ≤ count = omega (arith, checked.0, length-unmasked_by head.key (length wire) w, size) in
+    let input : bounds.input ≤ 2 ^ 40 = stands.knows.in_range.input in
+    let is_taken : taken ≡ bad.at + 1 = omega (arith, c.min-taken.ensures, c.saturating_add.ensures, small, within, c.requires, stands.knows.room, input) in
+    let last = take taken piece in
+    let same : rest ++ take (bad.at + 1) w ≡ rest ++ last = ap (λ (bs : List ℕ). rest ++ bs) (take-take (bad.at + 1) count piece small ∙ ap (λ (n : ℕ). take n piece) (sym is_taken)) in
+    let shown : IsShownLast role bounds group bad.reason (rest ++ last) =
+    subst (λ (bs : List ℕ). IsShownLast role bounds group bad.reason bs) same (shown_last role bounds group head c.args.inside.check wire rest h w fits bad checked) in
+    rw (c.refuse.ensures.told, c.refuse.ensures.after)
+    (refuses role bounds c.args.self.now bytes rest last fs taken bad.reason stands.knows stands.at.0 (length-take-le taken piece (omega (arith, is_taken, small, within)))
+    (omega (arith, is_taken, small, within, c.requires)) (bytes_taken taken piece in_bytes) (omega (arith, is_taken)) shown)
+
+pub returns-in-Err-clause-kept : goal.returns-in-Err-clause-kept
+returns-in-Err-clause-kept c =
+    masked_again c.args.inside.head.key c.args.inside.done c.min-count.result c.args.piece.now c.unmask.new.bytes (omega (arith, c.min-count.ensures)) c.unmask.ensures
+    c.min-taken.result c.unmask-in-Err.new.bytes (omega (arith, c.min-taken.ensures)) c.unmask-in-Err.ensures

@@ -1,0 +1,81 @@
+-- How a head that comes byte by byte stands to the bytes that came. RFC 6455 sections 5.1 and 5.2.
+use Rattle.std.specs.Prelude.{◌≡◌, ℕ, ◌<◌, ◌↔◌, true, List, [], ◌∷◌, ◌++◌, length, IsSome, IfSome, is_some}
+use Rattle.wsn_wire.specs.declared.endpoint.Role.{Role}
+use Rattle.wsn_wire.specs.declared.endpoint.Role.TheVariants.{Client}
+use Rattle.wsn_wire.specs.declared.heads.FirstByte.{FirstByte}
+use Rattle.wsn_wire.specs.declared.refusal.Reason.{Reason}
+use Rattle.wsn_wire.specs.declared.spelling.LenForm.{LenForm}
+use Rattle.wsn_wire.specs.declared.spelling.LenForm.TheVariants as len_form
+use Rattle.wsn_wire.specs.Frame.{Frame, IsBytes, IsKey, first_byte, key_bytes}
+use Rattle.wsn_wire.specs.Layout.{mask_bit, len_form_at, length_count, length_told}
+use Rattle.wsn_wire.specs.Rows.{ShownBySecond, ShownByLength}
+use Rattle.wsn_scan.specs.declared.partial_head.PartialHead.{PartialHead}
+use Rattle.wsn_scan.specs.declared.partial_head.PartialHead.TheVariants.{Empty, First, Two, Eight, Key}
+use Rattle.wsn_scan.specs.declared.partial_head.Head.{Head}
+use Rattle.wsn_scan.specs.declared.partial_head.HeadStep.{HeadStep}
+use Rattle.wsn_scan.specs.declared.partial_head.HeadStep.TheVariants.{More, Whole, Refused}
+use Rattle.wsn_scan.specs.Bounds.{Bounds}
+use Rattle.wsn_scan.specs.Evidence.{Evidence, EvidentByPayload}
+use Rattle.wsn_scan.specs.Unshown.{IsUnshown, IsUnshownBefore, IsShownLast}
+
+-- The first two bytes, and those that came of the bytes that hold the length: not all.
+pub record IsInLength (role : Role) (f : FirstByte) (spelled : LenForm) (came : List ℕ) (bytes : List ℕ) : Type 0 where
+  pub second : ℕ
+  pub whole : bytes ≡ first_byte f.fin f.op ∷ second ∷ came
+  pub spelled_is : spelled ≡ len_form_at second
+  pub masked : (mask_bit second ≡ true) ↔ (role ≡ Client)
+  pub short : length came < length_count spelled
+
+-- The bytes that a part of a head stands for.
+abbrev pub StandsFor : Role → PartialHead → List ℕ → Type 0
+StandsFor role Empty bytes = bytes ≡ []
+StandsFor role (First f) bytes = bytes ≡ first_byte f.fin f.op ∷ []
+StandsFor role (Two f came) bytes = IsInLength role f len_form.Two came.items bytes
+StandsFor role (Eight f came) bytes = IsInLength role f len_form.Eight came.items bytes
+StandsFor role (Key f spelled len came) bytes =
+    (second : ℕ) × (lengths : List ℕ)
+    × (bytes ≡ first_byte f.fin f.op ∷ second ∷ (lengths ++ came.items)) × (spelled ≡ len_form_at second) × (mask_bit second ≡ true) × (role ≡ Client)
+    × (length lengths ≡ length_count spelled) × (len ≡ length_told spelled lengths) × (length came.items < 4)
+
+-- Part of a head came, and shows nothing.
+pub record IsInHead (role : Role) (bounds : Bounds) (group : List Frame) (part : PartialHead) (bytes : List ℕ) : Type 0 where
+  pub stands_for : StandsFor role part bytes
+  pub in_bytes : IsBytes bytes
+  pub unshown : IsUnshown role bounds group bytes
+
+-- The first two bytes came, and all that hold the length, which is len. They show nothing but that the message
+-- is too big or, with no payload, what the whole frame does.
+pub record HasLength (role : Role) (bounds : Bounds) (group : List Frame) (f : FirstByte) (spelled : LenForm) (len : ℕ) (bytes : List ℕ) : Type 0 where
+  pub second : ℕ
+  pub lengths : List ℕ
+  pub whole : bytes ≡ first_byte f.fin f.op ∷ second ∷ lengths
+  pub spelled_is : spelled ≡ len_form_at second
+  pub masked : (mask_bit second ≡ true) ↔ (role ≡ Client)
+  pub counted : length lengths ≡ length_count spelled
+  pub told : len ≡ length_told spelled lengths
+  pub in_bytes : IsBytes bytes
+  pub before : IsUnshownBefore role bounds group bytes
+  pub by_second : (reason : Reason) → lengths ≡ [] → ¬ (ShownBySecond role reason (first_byte f.fin f.op) second)
+  pub by_length : (reason : Reason) → ¬ (ShownByLength bounds.lengths reason spelled lengths)
+
+-- These bytes are this head, whole, and no part of it shows anything by itself: only that the frame ends there,
+-- with no payload, may.
+pub record IsHead (role : Role) (bounds : Bounds) (group : List Frame) (head : Head) (bytes : List ℕ) : Type 0 where
+  pub second : ℕ
+  pub lengths : List ℕ
+  pub whole : bytes ≡ first_byte head.first.fin head.first.op ∷ second ∷ (lengths ++ key_bytes head.key)
+  pub spelled : head.spelled ≡ len_form_at second
+  pub masked : mask_bit second ≡ is_some head.key
+  pub keyed : IsSome head.key ↔ (role ≡ Client)
+  pub of_four : IfSome head.key IsKey
+  pub counted : length lengths ≡ length_count head.spelled
+  pub told : head.len ≡ length_told head.spelled lengths
+  pub in_bytes : IsBytes bytes
+  pub unshown : (seen later : List ℕ) (reason : Reason) → bytes ≡ seen ++ later → Evidence role bounds group reason seen
+      → (later ≡ []) × EvidentByPayload group reason (first_byte head.first.fin head.first.op) head.len []
+
+-- What a byte made of the bytes so far.
+abbrev pub IsStep : Role → Bounds → List Frame → HeadStep → List ℕ → Type 0
+IsStep role bounds group (More part) bytes = IsInHead role bounds group part bytes
+IsStep role bounds group (Whole head) bytes = IsHead role bounds group head bytes
+IsStep role bounds group (Refused reason) bytes = IsShownLast role bounds group reason bytes

@@ -1,0 +1,51 @@
+ghost use Rattle.std.specs.Prelude.{◌≡◌, ℕ, List, [], ◌∷◌, ◌++◌};
+ghost use Rattle.wsn_wire.specs.Frame.{Frame, first_byte};
+ghost use Rattle.wsn_scan.specs.Group.{unfinished};
+ghost use Rattle.wsn_scan.specs.Lawful.{IsLawful};
+ghost use Rattle.wsn_scan.specs.Accepted.{HasNoClose};
+
+use crate::outcome::Refusal;
+use crate::partial_head::{Head, PartialHead};
+use crate::payload_check::PayloadCheck;
+
+/// A frame whose payload comes.
+#[derive(Clone, Copy, Debug)]
+pub struct Inside {
+    pub head: Head,
+    pub check: PayloadCheck,
+    /// How many bytes of the payload came; not all of them.
+    pub done: u64,
+}
+
+/// Where a scan is in the stream.
+#[derive(Debug, Drop)]
+pub enum Stage {
+    /// Between frames, or in a head.
+    Head(PartialHead),
+    /// In a payload.
+    Payload(Inside),
+    /// Behind a whole frame, no Close, whose end isn't told: whether it is final.
+    Ended(bool),
+    /// Behind a Close whose end isn't told: its code.
+    CloseEnded(Option<u16>),
+    /// Behind a Close whose end was told: its code.
+    Closed(Option<u16>),
+    /// Behind a byte that shows a refusal.
+    Refused(Refusal),
+}
+
+impl Stage {
+    ghost use Rattle.wsn_scan.specs.PayloadChecks.{HasChecked};
+    ghost use Rattle.wsn_scan.specs.Scans.{IsAt};
+
+    /// Behind a whole frame.
+    pub fn behind(fin: bool, check: &PayloadCheck) -> Stage
+        ensures { (role : _) (bounds : _) (bytes : List ℕ) (fs : List Frame) (f : Frame) → IsLawful role bounds (fs ++ f ∷ []) → HasNoClose fs → f.fin ≡ fin
+            → HasChecked (unfinished fs) (first_byte f.fin f.op) check.now f.payload → IsAt role bounds result bytes (fs ++ f ∷ []) [] }
+    {
+        match check {
+            PayloadCheck::Close(body) => Stage::CloseEnded(body.code()),
+            PayloadCheck::Free | PayloadCheck::Text(_) => Stage::Ended(fin),
+        }
+    }
+}
