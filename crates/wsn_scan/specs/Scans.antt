@@ -16,7 +16,7 @@ use Rattle.wsn_scan.specs.declared.notices.Notice.TheVariants as notices
 use Rattle.wsn_scan.specs.declared.scanning.Scan.{Scan}
 use Rattle.wsn_scan.specs.declared.outcome.Summary.{Summary}
 use Rattle.wsn_scan.specs.declared.outcome.Verdict.{Verdict}
-use Rattle.wsn_scan.specs.declared.outcome.Verdict.TheVariants.{Accepted, Cut}
+use Rattle.wsn_scan.specs.declared.outcome.Verdict.TheVariants.{Accepted, Cut, Refused}
 use Rattle.wsn_scan.specs.Bounds.{Bounds, InRange}
 use Rattle.wsn_scan.specs.Group.{unfinished}
 use Rattle.wsn_scan.specs.Lawful.{IsLawful}
@@ -122,6 +122,22 @@ abbrev pub untold : Stage → ℕ
 untold (stages.Ended event) = 1
 untold (stages.CloseEnded code) = 1
 untold stage = 0
+
+-- the refusal that a scan has answered, and the one that a notice tells
+abbrev pub refusal_at : Stage → Option Refusal
+refusal_at (stages.Refused refusal) = Some refusal
+refusal_at stage = None
+
+abbrev pub refusal_in : Scan → Option Refusal
+refusal_in scan = refusal_at scan.stage
+
+abbrev pub refusal_told : Notice → Option Refusal
+refusal_told (notices.Refused refusal) = Some refusal
+refusal_told notice = None
+
+abbrev pub refusal_judged : Verdict → Option Refusal
+refusal_judged (Refused refusal) = Some refusal
+refusal_judged verdict = None
 
 abbrev pub IsRefusal : Notice → Type 0
 IsRefusal (notices.Refused refusal) = ⊤

@@ -1,4 +1,4 @@
-ghost use Rattle.std.specs.Prelude.{◌≡◌, ℕ, List, [], ◌∷◌, ◌++◌};
+ghost use Rattle.std.specs.Prelude.{◌≡◌, ℕ, None, List, [], ◌∷◌, ◌++◌};
 ghost use Rattle.wsn_wire.specs.Frame.{Frame, first_byte};
 ghost use Rattle.wsn_scan.specs.Group.{unfinished};
 ghost use Rattle.wsn_scan.specs.Lawful.{IsLawful};
@@ -36,12 +36,13 @@ pub enum Stage {
 
 impl Stage {
     ghost use Rattle.wsn_scan.specs.PayloadChecks.{HasChecked};
-    ghost use Rattle.wsn_scan.specs.Scans.{IsAt};
+    ghost use Rattle.wsn_scan.specs.Scans.{IsAt, refusal_at};
 
     /// Behind a whole frame.
     pub fn behind(fin: bool, check: &PayloadCheck) -> Stage
-        ensures { (role : _) (bounds : _) (bytes : List ℕ) (fs : List Frame) (f : Frame) → IsLawful role bounds (fs ++ f ∷ []) → HasNoClose fs → f.fin ≡ fin
+        ensures stands { (role : _) (bounds : _) (bytes : List ℕ) (fs : List Frame) (f : Frame) → IsLawful role bounds (fs ++ f ∷ []) → HasNoClose fs → f.fin ≡ fin
             → HasChecked (unfinished fs) (first_byte f.fin f.op) check.now f.payload → IsAt role bounds result bytes (fs ++ f ∷ []) [] }
+        ensures told { refusal_at result ≡ None }
     {
         match check {
             PayloadCheck::Close(body) => Stage::CloseEnded(body.code()),

@@ -27,7 +27,7 @@ pub struct Scan {
 impl Scan {
     ghost use Rattle.std.specs.Prelude.{◌≡◌, ℕ, ◌+◌, ◌-◌, ◌<◌, ◌≤◌, List, [], Some, None, length, drop};
     ghost use Rattle.wsn_wire.specs.Frame.{Frame};
-    ghost use Rattle.wsn_scan.specs.Scans.{Stands, room_of, GetsOn, taken_of, summary_of, verdict_between, Advances, AdvancesFrom, BeginsFrame, Knows, HoldsPayload, EndsFrame, refusal_of};
+    ghost use Rattle.wsn_scan.specs.Scans.{Stands, room_of, GetsOn, refusal_in, refusal_told, refusal_judged, taken_of, summary_of, verdict_between, Advances, AdvancesFrom, BeginsFrame, Knows, HoldsPayload, EndsFrame, refusal_of};
     ghost use Rattle.wsn_wire.specs.declared.endpoint.Role.{Role};
     ghost use Rattle.wsn_scan.specs.Group.{unfinished};
     ghost use Rattle.wsn_scan.specs.Accepted.{HasNoClose};
@@ -73,6 +73,7 @@ impl Scan {
         ensures room { room_of self.new + result.0 ≡ room_of self.old }
         ensures gets_on { (role : Role) (limits : _) (bytes rest : List ℕ) (fs : List Frame) → Stands role limits self.old bytes fs rest →
             0 < length piece.old → GetsOn self.old self.new result.0 result.1 }
+        ensures told { refusal_in self.new ≡ refusal_told result.1 }
     {
         match mem::replace(&mut self.stage, Stage::Head(PartialHead::Empty)) {
             Stage::Head(part) => self.next_head(part, piece),
@@ -101,6 +102,7 @@ impl Scan {
         ensures within { result.0 ≤ length piece.now }
         ensures room { room_of self.new + result.0 ≡ room_of self.old }
         ensures some { 0 < length piece.now → 0 < result.0 }
+        ensures told { refusal_in self.new ≡ refusal_told result.1 }
     {
         for (i, &byte) in piece.iter().enumerate() {
             match part.with(byte, self.role, self.limits, self.message) {
@@ -122,6 +124,7 @@ impl Scan {
         ensures kept { drop result.0 piece.new ≡ drop result.0 piece.old }
         ensures room { room_of self.new + result.0 ≡ room_of self.old }
         ensures some { inside.done < inside.head.len → 0 < length piece.old → 0 < result.0 }
+        ensures told { refusal_in self.new ≡ refusal_told result.1 }
     {
         let left = inside.head.len.saturating_sub(inside.done);
         let count = left.min(piece.len() as u64) as usize;
@@ -180,6 +183,7 @@ impl Scan {
         requires { count ≤ room_of self.old }
         ensures taken { BeginsFrame self.old self.new count head result }
         ensures room { room_of self.new + count ≡ room_of self.old }
+        ensures told { refusal_in self.new ≡ refusal_told result }
     {
         let check = PayloadCheck::new(head.first, self.message);
         let info = head.info(self.used);
@@ -205,6 +209,7 @@ impl Scan {
         ensures taken { (role : Role) (bounds : _) (bytes rest wire : List ℕ) (fs : List Frame) → Knows role bounds self.old bytes fs rest → HasNoClose fs
             → HoldsPayload role bounds (unfinished fs) head.now check.now wire rest → length wire ≡ head.now.len → EndsFrame role bounds self.new bytes fs }
         ensures room { room_of self.new ≡ room_of self.old }
+        ensures told { refusal_in self.new ≡ None }
     {
         self.used = self.taken();
         self.tally = self.tally.with(head.first.fin, head.first.op);
@@ -214,7 +219,8 @@ impl Scan {
 
     /// The verdict on the bytes taken, as the whole input.
     pub fn finish(&self) -> Verdict
-        ensures { (role : _) (limits : _) (bytes rest : List ℕ) (fs : List Frame) → Stands role limits self.now bytes fs rest → IsVerdict role limits bytes fs result }
+        ensures verdict { (role : _) (limits : _) (bytes rest : List ℕ) (fs : List Frame) → Stands role limits self.now bytes fs rest → IsVerdict role limits bytes fs result }
+        ensures told { refusal_judged result ≡ refusal_in self.now }
     {
         match &self.stage {
             Stage::Refused(refusal) => Verdict::Refused(*refusal),

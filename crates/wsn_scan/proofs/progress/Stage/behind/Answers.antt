@@ -6,8 +6,8 @@ use Rattle.wsn_scan.specs.PayloadChecks.{HasChecked}
 use Rattle.wsn_scan.proofs.FrameEnds.{close_of-push, close_not_one, is_a_close, ends_with_close, close_is_final}
 use Rattle.wsn_scan.proofs.progress.Stage.behind.Goals as goal
 
-pub returns-in-Close : goal.returns-in-Close
-returns-in-Close c role bounds bytes fs f lawful none fin checked =
+pub returns-in-Close-clause-stands : goal.returns-in-Close-clause-stands
+returns-in-Close-clause-stands c role bounds bytes fs f lawful none fin checked =
     let at = subst (λ (check : PayloadCheck). HasChecked (unfinished fs) (first_byte f.fin f.op) check f.payload) c.in-Close.is checked in
     let is = is_a_close f at.0 in
     let code = c.code.ensures f.payload at.1 (close_not_one role bounds fs f lawful is) in

@@ -12,5 +12,5 @@ returns-clause-taken c role bounds bytes rest wire fs =
       used = c.taken-self.ensures;
       tally = c.with-self.ensures;
       message = c.message_after-self.ensures;
-      stage = c.behind-self.ensures;
+      stage = c.behind-self.ensures.stands;
     })
