@@ -75,16 +75,33 @@ fn with_limits<'a>(alloc: Global, command: Command<'a>) -> Result<Command<'a>, A
     command.arg(frames)?.arg(lengths)
 }
 
-fn normal<'a>(alloc: Global) -> Result<Command<'a>, AllocError> {
-    let command = Command::new(alloc, "normal").about("Write a stream's normal form");
+/// A command over one stream, on standard input.
+fn over_stream<'a>(
+    alloc: Global,
+    name: &'static str,
+    about: &'static str,
+) -> Result<Command<'a>, AllocError> {
+    let command = Command::new(alloc, name).about(about);
     with_limits(alloc, with_role(alloc, command)?)
 }
 
+/// The commands that tell of a stream.
+fn with_verdicts<'a>(alloc: Global, command: Command<'a>) -> Result<Command<'a>, AllocError> {
+    let frames = over_stream(
+        alloc,
+        "frames",
+        "List a stream's frames, and then its verdict",
+    )?;
+    let judge = over_stream(alloc, "judge", "Tell a stream's verdict")?;
+    command.subcommand(frames)?.subcommand(judge)
+}
+
 fn program<'a>(alloc: Global) -> Result<Command<'a>, AllocError> {
-    Command::new(alloc, "wsn")
+    let command = Command::new(alloc, "wsn")
         .about("Read what one endpoint of a WebSocket connection sent")
-        .subcommand_required(true)
-        .subcommand(normal(alloc)?)
+        .subcommand_required(true);
+    let normal = over_stream(alloc, "normal", "Write a stream's normal form")?;
+    with_verdicts(alloc, command)?.subcommand(normal)
 }
 
 fn role_of(matches: &ArgMatches<'_>) -> Role {
@@ -123,18 +140,30 @@ fn told(alloc: Global, error: &Error) -> Result<Request, Usage> {
     }
 }
 
-/// What the words ask for, the program's name first: `normal --role client|server [--limit BYTES]
-/// [--frames N] [--lengths shortest|any]`.
+/// The work that a command's name and its arguments spell.
+fn job_of(name: &str, matches: &ArgMatches<'_>) -> Option<Job> {
+    let role = role_of(matches);
+    let limits = limits_of(matches)?;
+    match name {
+        "frames" => Some(Job::Frames(role, limits)),
+        "judge" => Some(Job::Judge(role, limits)),
+        "normal" => Some(Job::Normal(role, limits)),
+        _ => None,
+    }
+}
+
+/// What the words ask for, the program's name first: one of `frames`, `judge` and `normal`, with
+/// `--role client|server [--limit BYTES] [--frames N] [--lengths shortest|any]`.
 pub fn asked(alloc: Global, words: &[String]) -> Result<Request, Usage> {
     let matches = match program(alloc)?.try_get_matches_from(words) {
         Ok(matches) => matches,
         Err(error) => return told(alloc, &error),
     };
-    let Some(("normal", command)) = matches.subcommand() else {
+    let Some((name, command)) = matches.subcommand() else {
         return Err(Usage::Own);
     };
-    match limits_of(command) {
-        Some(limits) => Ok(Request::Run(Job::Normal(role_of(command), limits))),
+    match job_of(name, command) {
+        Some(job) => Ok(Request::Run(job)),
         None => Err(Usage::Own),
     }
 }

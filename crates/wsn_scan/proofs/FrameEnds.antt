@@ -11,7 +11,7 @@ use Rattle.wsn_wire.specs.declared.refusal.Reason.{Reason}
 use Rattle.wsn_wire.specs.declared.spelling.LenForm.{LenForm}
 use Rattle.wsn_wire.specs.Frame.{Frame, IsBytes, is_control, first_byte, key_bytes, masked, frame_bytes, stream}
 use Rattle.wsn_wire.specs.Layout.{HasLayout, mask_bit, opcode_field, length_count, length_told}
-use Rattle.wsn_wire.proofs.FrameLemmas.{first_byte_fields, op_at, op_at-opcode, key_bytes_count, IsBytes-right, frame_at, frame_bytes_determine}
+use Rattle.wsn_wire.proofs.FrameLemmas.{first_byte_fields, op_at, op_at-opcode, key_at, key_at-key_bytes, form_at, key_bytes_count, IsBytes-right, frame_at, frame_bytes_determine}
 use Rattle.wsn_wire.proofs.HeadLemmas.{frame_of_layout, close_from_opcode}
 use Rattle.wsn_text.specs.CloseBody.{IsCloseBody}
 use Rattle.wsn_scan.specs.declared.partial_head.Head.{Head}
@@ -26,7 +26,11 @@ use Rattle.wsn_scan.specs.OpenMessages.{IsOpenMessage, group_after}
 use Rattle.wsn_scan.specs.PayloadChecks.{HasChecked}
 use Rattle.wsn_scan.specs.Tallies.{Tallies}
 use Rattle.wsn_scan.specs.Payloads.{unmasked_by}
-use Rattle.wsn_scan.specs.Scans.{Knows, HoldsPayload, EndsFrame, IsAt, taken_of}
+use Rattle.wsn_scan.specs.declared.notices.HeadInfo.{HeadInfo}
+use Rattle.wsn_scan.specs.PartialHeads.{form_spelled, info_at}
+use Rattle.wsn_scan.specs.Heads.{info_of, heads_of}
+use Rattle.wsn_scan.specs.Scans.{Knows, HoldsPayload, EndsFrame, IsAt, Told, ends_of, taken_of}
+use Rattle.wsn_scan.proofs.HeadsTold.{form_is_spelled, heads_push}
 use Rattle.wsn_scan.proofs.LawfulLists.{law_at_split, lawful_push}
 use Rattle.wsn_scan.proofs.Groups.{group_of_lawful, unfinished_control, unfinished_final, unfinished_more}
 use Rattle.wsn_scan.proofs.ScanVerdicts.{other_op}
@@ -86,8 +90,14 @@ pub record IsWhole (role : Role) (bounds : Bounds) (fs : List Frame) (head : Hea
   pub law : LawAt role bounds fs frame
   pub fin_is : frame.fin ≡ head.first.fin
   pub op_is : frame.op ≡ head.first.op
+  pub key_is : frame.key ≡ head.key
+  pub form_is : frame.form ≡ form_spelled head.spelled head.len
   pub payload_is : frame.payload ≡ unmasked_by head.key 0 wire
   pub length_is : head.len ≡ length frame.payload
+
+-- what is told of it is what its head says
+info_whole : (place : ℕ) (role : Role) (bounds : Bounds) (fs : List Frame) (head : Head) (wire rest : List ℕ) (w : IsWhole role bounds fs head wire rest) → info_of place w.frame ≡ info_at place head
+info_whole place role bounds fs head wire rest w = λ i. record { place = place; fin = w.fin_is i; op = w.op_is i; key = w.key_is i; form = w.form_is i; len = sym w.length_is i }
 
 module _ (role : Role) (bounds : Bounds) (scan : Scan) (bytes rest wire : List ℕ) (fs : List Frame) (head : Head) (check : PayloadCheck)
     (knows : Knows role bounds scan bytes fs rest) (holds : HoldsPayload role bounds (unfinished fs) head check wire rest) (all : length wire ≡ head.len) where
@@ -116,7 +126,7 @@ module _ (role : Role) (bounds : Bounds) (scan : Scan) (bytes rest wire : List �
   payload_by_key (Some key) second is = ap (λ (b : Bool). cond b (masked key 0 wire) wire) is
 
   pub whole_frame : IsWhole role bounds fs head wire rest
-  unfolding layout layout_of
+  unfolding layout layout_of frame_at
   whole_frame =
       let h = holds.is_head in
       let group = group_of_lawful role bounds fs knows.lawful in
@@ -134,6 +144,8 @@ module _ (role : Role) (bounds : Bounds) (scan : Scan) (bytes rest wire : List �
         law = subst (λ (f : Frame). LawAt role bounds fs f) same lawful.law;
         fin_is = spelled.fin_is ∙ fields.fin_is;
         op_is = sym (op_at-opcode there.op) ∙ ap op_at (spelled.opcode_is ∙ fields.opcode_is) ∙ op_at-opcode head.first.op;
+        key_is = ap (λ (mask : Bool). key_at mask (key_bytes head.key)) h.masked ∙ key_at-key_bytes head.key;
+        form_is = ap (λ (f : LenForm). form_at f (length wire)) (sym h.spelled) ∙ ap (λ (n : ℕ). form_at head.spelled n) all ∙ form_is_spelled head.spelled head.len;
         payload_is = spelled.payload_is ∙ payload_by_key head.key h.second h.masked;
         length_is = h.told ∙ ap (λ (f : LenForm). length_told f h.lengths) h.spelled ∙ sym spelled.length_is;
       }
@@ -143,6 +155,14 @@ module _ (role : Role) (bounds : Bounds) (scan : Scan) (bytes rest wire : List �
       subst (λ (payload : List ℕ). HasChecked (unfinished fs) (first_byte f.fin f.op) check payload) (sym payload_is)
       (subst (λ (op : Op). HasChecked (unfinished fs) (first_byte f.fin op) check (unmasked_by head.key 0 wire)) (sym op_is)
       (subst (λ (fin : Bool). HasChecked (unfinished fs) (first_byte fin head.first.op) check (unmasked_by head.key 0 wire)) (sym fin_is) holds.checked))
+
+-- the ends that were told, with one more
+ends_push : (fs : List Frame) (f : Frame) → ends_of (fs ++ f ∷ []) ≡ ends_of fs ++ f.fin ∷ []
+ends_push [] f = refl
+ends_push (g ∷ fs) f = ap (λ (ends : List Bool). g.fin ∷ ends) (ends_push fs f)
+
+ends_with : (fs : List Frame) (f : Frame) (ends : List Bool) (fin : Bool) → ends ≡ ends_of fs → f.fin ≡ fin → ends ++ fin ∷ [] ≡ ends_of (fs ++ f ∷ [])
+ends_with fs f ends fin so_far is = ap (λ (bs : List Bool). bs ++ fin ∷ []) so_far ∙ ap (λ (b : Bool). ends_of fs ++ b ∷ []) (sym is) ∙ sym (ends_push fs f)
 
 -- ---- how many, at most
 
@@ -189,12 +209,13 @@ pub record IsBehind (old new : Scan) (head : Head) (check : PayloadCheck) : Type
   pub tally : (fs : List Frame) (f : Frame) → Tallies old.tally fs → length fs < 2 ^ 63 → f.fin ≡ head.first.fin → f.op ≡ head.first.op → Tallies new.tally (fs ++ f ∷ [])
   pub message : (group : List Frame) (f : Frame) → IsOpenMessage old.message group → f.fin ≡ head.first.fin → f.op ≡ head.first.op → head.len ≡ length f.payload
       → HasChecked group (first_byte f.fin f.op) check f.payload → length (text_of (group ++ f ∷ [])) < 2 ^ 32 → length group < 2 ^ 63 → IsOpenMessage new.message (group_after group f)
-  pub stage : (role : Role) (bounds : Bounds) (bytes : List ℕ) (fs : List Frame) (f : Frame) → IsLawful role bounds (fs ++ f ∷ []) → HasNoClose fs → f.fin ≡ head.first.fin
-      → HasChecked (unfinished fs) (first_byte f.fin f.op) check f.payload → IsAt role bounds new.stage bytes (fs ++ f ∷ []) []
+  pub stage : (role : Role) (bounds : Bounds) (bytes : List ℕ) (fs : List Frame) (f : Frame) (told : Told) → IsLawful role bounds (fs ++ f ∷ []) → HasNoClose fs → f.fin ≡ head.first.fin
+      → HasChecked (unfinished fs) (first_byte f.fin f.op) check f.payload → told.heads ≡ heads_of (fs ++ f ∷ []) → told.ends ++ head.first.fin ∷ [] ≡ ends_of (fs ++ f ∷ []) → f.payload ≡ told.payload → IsAt role bounds new.stage bytes (fs ++ f ∷ []) [] told
 
-pub frame_ends : (role : Role) (bounds : Bounds) (old new : Scan) (bytes rest wire : List ℕ) (fs : List Frame) (head : Head) (check : PayloadCheck) → IsBehind old new head check
-    → Knows role bounds old bytes fs rest → HasNoClose fs → HoldsPayload role bounds (unfinished fs) head check wire rest → length wire ≡ head.len → EndsFrame role bounds new bytes fs
-frame_ends role bounds old new bytes rest wire fs head check behind knows none holds all =
+pub frame_ends : (role : Role) (bounds : Bounds) (old new : Scan) (bytes rest wire : List ℕ) (fs : List Frame) (told : Told) (head : Head) (check : PayloadCheck) → IsBehind old new head check
+    → Knows role bounds old bytes fs rest → HasNoClose fs → HoldsPayload role bounds (unfinished fs) head check wire rest → length wire ≡ head.len
+    → told.heads ≡ heads_of fs ++ info_at (length (stream fs)) head ∷ [] → told.ends ≡ ends_of fs → told.payload ≡ unmasked_by head.key 0 wire → EndsFrame role bounds new bytes fs told
+frame_ends role bounds old new bytes rest wire fs told head check behind knows none holds all heads ends payload =
     let w = whole_frame role bounds old bytes rest wire fs head check knows holds all in
     let f = w.frame in
     let lawful = lawful_push role bounds fs f knows.lawful none w.law in
@@ -224,6 +245,7 @@ frame_ends role bounds old new bytes rest wire fs head check behind knows none h
           message = subst (IsOpenMessage new.message) (sym (unfinished_after fs f))
               (behind.message (unfinished fs) f knows.message w.fin_is w.op_is w.length_is checked (text_small role bounds fs f knows.in_range knows.lawful w.law) few_open);
         };
-        at = behind.stage role bounds bytes fs f lawful none w.fin_is checked;
+        at = behind.stage role bounds bytes fs f told lawful none w.fin_is checked
+            (heads ∙ ap (λ (info : HeadInfo). heads_of fs ++ info ∷ []) (sym (info_whole (length (stream fs)) role bounds fs head wire rest w)) ∙ sym (heads_push fs f)) (ends_with fs f told.ends head.first.fin ends w.fin_is) (w.payload_is ∙ sym payload);
       };
     }

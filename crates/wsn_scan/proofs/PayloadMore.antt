@@ -33,6 +33,10 @@ pub unmasked_by-twice : (key : Option (List ℕ)) (start : ℕ) (bytes : List �
 unmasked_by-twice None start bytes = refl
 unmasked_by-twice (Some key) start bytes = masked-masked key start bytes
 
+pub unmasked_nothing : (key : Option (List ℕ)) → [] ≡ unmasked_by key 0 []
+unmasked_nothing None = refl
+unmasked_nothing (Some key) = refl
+
 -- two parts, from the first byte of all
 pub unmasked_by-joined : (key : Option (List ℕ)) (xs ys : List ℕ) → unmasked_by key 0 (xs ++ ys) ≡ unmasked_by key 0 xs ++ unmasked_by key (length xs) ys
 unmasked_by-joined key xs ys =
@@ -145,6 +149,12 @@ module _ (key : Option (List ℕ)) (start count : ℕ) (piece new : List ℕ) (w
 
   pub front_unmasked : take count (new ++ drop count piece) ≡ unmasked_by key start (take count piece)
   front_unmasked = take_at count new (drop count piece) size_new ∙ unmasked
+
+  -- the payload that came before, and those bytes
+  pub payload_on : (wire payload : List ℕ) → start ≡ length wire → payload ≡ unmasked_by key 0 wire → payload ++ take count (new ++ drop count piece) ≡ unmasked_by key 0 (wire ++ take count piece)
+  payload_on wire payload at is =
+      ap (λ (bs : List ℕ). bs ++ take count (new ++ drop count piece)) is ∙ ap (λ (bs : List ℕ). unmasked_by key 0 wire ++ bs) (front_unmasked ∙ ap (λ (n : ℕ). unmasked_by key n (take count piece)) at)
+      ∙ sym (unmasked_by-joined key wire (take count piece))
 
   -- masked again from some byte on, what stands there is as it was
   pub masked_again : (taken : ℕ) (again : List ℕ) → taken ≤ count → again ≡ unmasked_by key (start + taken) (take (count - taken) (drop taken (new ++ drop count piece)))

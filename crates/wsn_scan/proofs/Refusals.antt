@@ -14,7 +14,10 @@ use Rattle.wsn_scan.specs.Accepted.{HasNoClose}
 use Rattle.wsn_scan.specs.Evidence.{Evidence}
 use Rattle.wsn_scan.specs.Verdict.{IsRefused}
 use Rattle.wsn_scan.specs.Unshown.{IsShownLast}
-use Rattle.wsn_scan.specs.Scans.{Knows, Reaches, refusal_of}
+use Rattle.wsn_scan.specs.declared.notices.HeadInfo.{HeadInfo}
+use Rattle.wsn_scan.specs.Heads.{heads_of, IsBegun}
+use Rattle.wsn_scan.specs.Scans.{Knows, Reaches, Told, IsRefusedThere, ends_of, refusal_of}
+use Rattle.wsn_scan.proofs.HeadsTold.{begun_stays}
 use Rattle.wsn_scan.proofs.NextBytes.{refused_at}
 
 -- the bytes up to the place are refused, and so they stay
@@ -31,10 +34,11 @@ refused_here role bounds bytes seen later fs place reason lawful none whole at s
     earlier m r less evidence = shown.before (take m seen) (drop m seen) r (some m less) (sym (take-append-drop m seen)) evidence
 
 -- The scan that refuses.
-pub refuses : (role : Role) (bounds : Bounds) (old : Scan) (bytes rest last : List ℕ) (fs : List Frame) (count : ℕ) (reason : Reason) → Knows role bounds old bytes fs rest → HasNoClose fs
+pub refuses : (role : Role) (bounds : Bounds) (old : Scan) (bytes rest last : List ℕ) (fs : List Frame) (told : Told) (begun : List HeadInfo) (count : ℕ) (reason : Reason) → Knows role bounds old bytes fs rest → HasNoClose fs
     → length last ≡ count → count ≤ old.room → IsBytes last → 0 < count → IsShownLast role bounds (unfinished fs) reason (rest ++ last)
-    → Reaches role bounds (record old { room = old.room - count; stage = stages.Refused (refusal_of old count reason) }) (notices.Refused (refusal_of old count reason)) (bytes ++ last)
-refuses role bounds old bytes rest last fs count reason knows none size fits in_bytes some shown =
+    → IsBegun role bounds fs (rest ++ last) begun → told.heads ≡ heads_of fs ++ begun → told.ends ≡ ends_of fs
+    → Reaches role bounds (record old { room = old.room - count; stage = stages.Refused (refusal_of old count reason) }) (notices.Refused (refusal_of old count reason)) (bytes ++ last) told
+refuses role bounds old bytes rest last fs told begun count reason knows none size fits in_bytes some shown is_begun heads ends =
     let whole : bytes ++ last ≡ stream fs ++ (rest ++ last) = ap (λ (bs : List ℕ). bs ++ last) knows.whole ∙ append_assoc (stream fs) rest last in
     let same_input : old.limits.input ≡ bounds.input = ap (λ (b : Bounds). b.input) knows.limits in
     let room = knows.room in
@@ -42,6 +46,19 @@ refuses role bounds old bytes rest last fs count reason knows none size fits in_
     let place : old.limits.input - (old.room - count) - 1 + 1 ≡ length (bytes ++ last) = omega arith in
     let refused : (later : List ℕ) → IsRefused role bounds ((bytes ++ last) ++ later) fs (old.limits.input - (old.room - count) - 1) reason =
     λ later. refused_here role bounds (bytes ++ last) (rest ++ last) later fs (old.limits.input - (old.room - count) - 1) reason knows.lawful none whole place shown in
+    let there : IsRefusedThere role bounds (refusal_of old count reason) (bytes ++ last) fs told = record {
+      refused = refused;
+      place = place;
+      heads = λ later. record {
+        rest = (rest ++ last) ++ later;
+        begun = begun;
+        lawful = knows.lawful;
+        whole = ap (λ (bs : List ℕ). bs ++ later) whole ∙ append_assoc (stream fs) (rest ++ last) later;
+        is_begun = begun_stays role bounds fs (rest ++ last) later reason begun shown.shown is_begun;
+        all = heads;
+      };
+      ends = ends;
+    } in
     record {
       frames = fs;
       since = rest ++ last;
@@ -58,7 +75,7 @@ refuses role bounds old bytes rest last fs count reason knows none size fits in_
           tally = knows.tally;
           message = knows.message;
         };
-        at = refused;
+        at = there;
       };
-      tells = refused;
+      tells = there;
     }

@@ -21,7 +21,7 @@ use Rattle.wsn_scan.specs.Summary.{size_of_open, is_close, close_code, close_of,
 use Rattle.wsn_scan.specs.Verdict.{Shown, EndsWithinFrame, IsVerdict}
 use Rattle.wsn_scan.specs.Unshown.{IsUnshown}
 use Rattle.wsn_scan.specs.OpenMessages.{IsOpenMessage}
-use Rattle.wsn_scan.specs.Scans.{IsInPayload, StandsAt, taken_of, size_of_message, summary_of, verdict_between}
+use Rattle.wsn_scan.specs.Scans.{IsInPayload, StandsAt, taken_of, size_of_message, summary_of, verdict_between, Told}
 use Rattle.wsn_scan.proofs.LeastShown.{evidence_is_some}
 use Rattle.wsn_scan.proofs.LayoutFronts.{layout_or_within}
 
@@ -69,7 +69,7 @@ nothing_within =
       | inr within ↦ within
     ]
 
-module _ (role : Role) (bounds : Bounds) (scan : Scan) (bytes rest : List ℕ) (fs : List Frame) (stage : Stage) (stands : StandsAt role bounds scan stage bytes fs rest) where
+module _ (role : Role) (bounds : Bounds) (scan : Scan) (bytes rest : List ℕ) (fs : List Frame) (told : Told) (stage : Stage) (stands : StandsAt role bounds scan stage bytes fs rest told) where
   taken_is : taken_of scan ≡ length bytes
   taken_is = let input : scan.limits.input ≡ bounds.input = ap (λ (b : Bounds). b.input) stands.knows.limits in let room = stands.knows.room in omega arith
 
@@ -122,8 +122,8 @@ some_head role (Eight f came) bytes is other none = let both : first_byte f.fin 
 some_head role (Key f spelled len came) bytes is other none = let both : first_byte f.fin f.op ∷ is.0 ∷ (is.1 ++ came.items) ≡ [] = sym is.2 ∙ none in cc
 
 -- a whole head is some bytes
-pub some_payload : (role : Role) (bounds : Bounds) (group : List Frame) (inside : Inside) (rest : List ℕ) → IsInPayload role bounds group inside rest → rest ≢ []
-some_payload role bounds group inside rest p none =
+pub some_payload : (role : Role) (bounds : Bounds) (group : List Frame) (inside : Inside) (rest payload : List ℕ) → IsInPayload role bounds group inside rest payload → rest ≢ []
+some_payload role bounds group inside rest payload p none =
     let tail = p.holds.is_head.lengths ++ key_bytes inside.head.key in
     let both : first_byte inside.head.first.fin inside.head.first.op ∷ p.holds.is_head.second ∷ (tail ++ p.wire) ≡ [] = sym (p.holds.whole ∙ ap (λ (bs : List ℕ). bs ++ p.wire) p.holds.is_head.whole) ∙ none in
     cc

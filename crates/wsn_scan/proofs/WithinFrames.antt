@@ -71,8 +71,8 @@ head_within role bounds group part rest h = within_unless rest h.in_bytes (too_f
         let size : length (first_byte f.fin f.op ∷ second ∷ (lengths ++ came.items)) ≡ suc (suc (length lengths + length came.items)) = ap (λ (n : ℕ). suc (suc n)) (length-append lengths came.items) in
         absurd (omega (arith, at_least _ whole, length-layout whole.bytes whole.layout))
 
-pub payload_within : (role : Role) (bounds : Bounds) (group : List Frame) (inside : Inside) (rest : List ℕ) → IsBytes rest → IsInPayload role bounds group inside rest → EndsWithinFrame rest
-payload_within role bounds group inside rest in_bytes p = within_unless rest in_bytes short
+pub payload_within : (role : Role) (bounds : Bounds) (group : List Frame) (inside : Inside) (rest payload : List ℕ) → IsBytes rest → IsInPayload role bounds group inside rest payload → EndsWithinFrame rest
+payload_within role bounds group inside rest payload in_bytes p = within_unless rest in_bytes short
   where
     short : BeginsWithLayout rest → ⊥
     short b =

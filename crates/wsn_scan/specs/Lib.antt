@@ -14,5 +14,10 @@ pub mod OpenMessages
 pub mod PartialHeads
 pub mod PayloadChecks
 pub mod Tallies
+pub mod Heads
 pub mod Scans
+pub mod Feeding
+pub mod Judging
+pub mod Listing
 pub mod Payloads
+pub mod Lines

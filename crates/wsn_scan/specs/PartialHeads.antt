@@ -1,9 +1,11 @@
 -- How a head that comes byte by byte stands to the bytes that came. RFC 6455 sections 5.1 and 5.2.
-use Rattle.std.specs.Prelude.{◌≡◌, ℕ, ◌<◌, ◌↔◌, true, List, [], ◌∷◌, ◌++◌, length, IsSome, IfSome, is_some}
+use Rattle.std.specs.Prelude.{◌≡◌, ℕ, ◌+◌, ◌<◌, ◌≤◌, ◌↔◌, slice_index, true, nat_lt, if◌then◌else◌, Option, List, [], ◌∷◌, ◌++◌, length, take, IsSome, IfSome, is_some}
 use Rattle.wsn_wire.specs.declared.endpoint.Role.{Role}
 use Rattle.wsn_wire.specs.declared.endpoint.Role.TheVariants.{Client}
 use Rattle.wsn_wire.specs.declared.heads.FirstByte.{FirstByte}
 use Rattle.wsn_wire.specs.declared.refusal.Reason.{Reason}
+use Rattle.wsn_wire.specs.declared.spelling.Form.{Form}
+use Rattle.wsn_wire.specs.declared.spelling.Form.TheVariants as form
 use Rattle.wsn_wire.specs.declared.spelling.LenForm.{LenForm}
 use Rattle.wsn_wire.specs.declared.spelling.LenForm.TheVariants as len_form
 use Rattle.wsn_wire.specs.Frame.{Frame, IsBytes, IsKey, first_byte, key_bytes}
@@ -14,8 +16,11 @@ use Rattle.wsn_scan.specs.declared.partial_head.PartialHead.TheVariants.{Empty, 
 use Rattle.wsn_scan.specs.declared.partial_head.Head.{Head}
 use Rattle.wsn_scan.specs.declared.partial_head.HeadStep.{HeadStep}
 use Rattle.wsn_scan.specs.declared.partial_head.HeadStep.TheVariants.{More, Whole, Refused}
+use Rattle.wsn_scan.specs.declared.notices.HeadInfo.{HeadInfo}
 use Rattle.wsn_scan.specs.Bounds.{Bounds}
 use Rattle.wsn_scan.specs.Evidence.{Evidence, EvidentByPayload}
+use Rattle.wsn_scan.specs.declared.open_message.OpenMessage.{OpenMessage}
+use Rattle.wsn_scan.specs.OpenMessages.{IsOpenMessage}
 use Rattle.wsn_scan.specs.Unshown.{IsUnshown, IsUnshownBefore, IsShownLast}
 
 -- The first two bytes, and those that came of the bytes that hold the length: not all.
@@ -74,8 +79,34 @@ pub record IsHead (role : Role) (bounds : Bounds) (group : List Frame) (head : H
   pub unshown : (seen later : List ℕ) (reason : Reason) → bytes ≡ seen ++ later → Evidence role bounds group reason seen
       → (later ≡ []) × EvidentByPayload group reason (first_byte head.first.fin head.first.op) head.len []
 
+-- the form of a length that is spelled there: Shortest where fewer bytes would not do
+abbrev pub form_spelled : LenForm → ℕ → Form
+form_spelled (len_form.Short _) len = form.Shortest
+form_spelled len_form.Two len = if nat_lt len 126 then form.Two else form.Shortest
+form_spelled len_form.Eight len = if nat_lt len 65536 then form.Eight else form.Shortest
+
+-- what is told of a head that begins at the place
+abbrev pub info_at : ℕ → Head → HeadInfo
+info_at place head = record {
+  place = place;
+  fin = head.first.fin;
+  op = head.first.op;
+  key = head.key;
+  form = form_spelled head.spelled head.len;
+  len = head.len;
+}
+
 -- What a byte made of the bytes so far.
 abbrev pub IsStep : Role → Bounds → List Frame → HeadStep → List ℕ → Type 0
 IsStep role bounds group (More part) bytes = IsInHead role bounds group part bytes
 IsStep role bounds group (Whole head) bytes = IsHead role bounds group head bytes
 IsStep role bounds group (Refused reason) bytes = IsShownLast role bounds group reason bytes
+
+-- The first n bytes are this head, whole, behind the message that is open.
+abbrev pub IsHeadAtFront : Role → Bounds → Option OpenMessage → List ℕ → ℕ → Head → Type 0
+IsHeadAtFront role bounds message bytes n head =
+    (0 < n) × (n ≤ length bytes) × ((group : List Frame) → IsOpenMessage message group → IsHead role bounds group head (take n bytes))
+
+-- the four bytes that stand there
+abbrev pub key_in : List ℕ → ℕ → List ℕ
+key_in bytes at = slice_index bytes at ∷ slice_index bytes (at + 1) ∷ slice_index bytes (at + 2) ∷ slice_index bytes (at + 3) ∷ []

@@ -1,12 +1,13 @@
 //! Facts of the definitions in `specs/`. Each function does nothing: its contract is the fact.
 
-ghost use Rattle.std.specs.Prelude.{◌≡◌, ◌≢◌, ℕ, ◌+◌, ◌≤◌, ◌⊎◌, ◌↔◌, true, false, List, [], ◌∷◌, ◌++◌, length, take, if◌then◌else◌};
+ghost use Rattle.std.specs.Prelude.{◌≡◌, ◌≢◌, ℕ, ◌+◌, ◌≤◌, ◌⊎◌, ◌↔◌, true, false, Some, Result, List, [], ◌∷◌, ◌++◌, length, take, if◌then◌else◌};
 ghost use Rattle.std.specs.Option.{ForSome};
 ghost use Rattle.wsn_wire.specs.declared.endpoint.Role.{Role};
 ghost use Rattle.wsn_wire.specs.declared.opcode.Op.TheVariants.{Text, Binary, Close};
 ghost use Rattle.wsn_wire.specs.declared.refusal.Reason.{Reason};
 ghost use Rattle.wsn_wire.specs.Frame.{Frame, IsBytes, frame_bytes, stream};
 ghost use Rattle.wsn_wire.specs.Layout.{HasLayout};
+ghost use Rattle.wsn_wire.specs.Transfer.{Incoming};
 ghost use Rattle.wsn_text.specs.Utf8.{BeginsText};
 ghost use Rattle.wsn_scan.specs.Bounds.{Bounds, InRange};
 ghost use Rattle.wsn_scan.specs.Group.{is_data, unfinished, first_op, text_of};
@@ -17,6 +18,8 @@ ghost use Rattle.wsn_scan.specs.Meaning.{event_at, events_behind, meaning};
 ghost use Rattle.wsn_scan.specs.Verdict.{Shown, IsRefused, IsVerdict};
 ghost use Rattle.wsn_scan.specs.declared.outcome.Verdict.{Verdict};
 ghost use Rattle.wsn_scan.specs.declared.outcome.Verdict.TheVariants.{Refused};
+ghost use Rattle.wsn_scan.specs.declared.stopping.Stop.{Stop};
+ghost use Rattle.wsn_scan.specs.Judging.{IsJudged};
 
 /// Every list of bytes has exactly one verdict, accepted, cut or refused, with one list of frames; so a refused
 /// one has one place and one reason.
@@ -158,4 +161,12 @@ pub fn law_unfinished_group()
 pub fn law_finished_is_accepted()
     ensures { (role : Role) (bounds : Bounds) (fs : List Frame) →
         IsLawful role bounds fs → unfinished fs ≡ [] → IsAccepted role bounds (stream fs) fs }
+{}
+
+/// Of an input whose bytes are known only one answer of [`judge`](crate::judge) is right, in whatever pieces
+/// they come, unless a read fails.
+pub fn law_one_answer()
+    ensures { (role : Role) (bounds : Bounds) (old new other : Incoming) (all : List ℕ) (result same : Result Verdict Stop) →
+        old.remaining ≡ Some all → new.failed ≡ false → other.failed ≡ false →
+        IsJudged role bounds old new result → IsJudged role bounds old other same → result ≡ same }
 {}

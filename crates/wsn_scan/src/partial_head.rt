@@ -7,7 +7,7 @@ ghost use Rattle.wsn_scan.specs.Bounds.{Bounds};
 ghost use Rattle.wsn_scan.specs.Group.{text_of};
 ghost use Rattle.wsn_scan.specs.Evidence.{IsDataOpcode, EvidentByFirst};
 ghost use Rattle.wsn_scan.specs.OpenMessages.{IsOpenMessage};
-ghost use Rattle.wsn_scan.specs.PartialHeads.{IsInHead, HasLength, IsStep};
+ghost use Rattle.wsn_scan.specs.PartialHeads.{IsInHead, HasLength, IsStep, form_spelled, info_at};
 
 use crate::ceilings::Limits;
 use crate::notices::HeadInfo;
@@ -83,7 +83,7 @@ fn with_first(byte: u8, limits: Limits, open: Option<OpenMessage>) -> HeadStep
 
 // Why a frame may not stand behind the open message, by its opcode (RFC 6455 section 5.4), or by how many
 // frames the message has (section 10.4).
-fn misplaced(op: Op, limits: Limits, open: Option<OpenMessage>) -> Option<Reason>
+pub fn misplaced(op: Op, limits: Limits, open: Option<OpenMessage>) -> Option<Reason>
     ensures { (group : List Frame) (first : ℕ) → IsOpenMessage «open» group →
         opcode_field first ≡ opcode op → ((reason : Reason) → ¬ (ShownByFirst reason first)) →
         MatchOption result ((reason : Reason) → ¬ (EvidentByFirst limits group reason first)) (λ reason.
@@ -217,7 +217,7 @@ fn after_length(
 }
 
 // Whether the message passes the limit with a payload of `len` bytes more.
-fn is_too_big(op: Op, len: u64, limits: Limits, open: Option<OpenMessage>) -> bool
+pub fn is_too_big(op: Op, len: u64, limits: Limits, open: Option<OpenMessage>) -> bool
     ensures { (group : List Frame) → IsOpenMessage «open» group →
         IsTrue result ↔ (IsDataOpcode (opcode op) × (limits.message < length (text_of group) + len)) }
 {
@@ -268,7 +268,9 @@ impl PartialHead {
 
 impl Head {
     /// What is told of it, where the frame begins at `place`.
-    pub fn info(&self, place: u64) -> HeadInfo {
+    pub fn info(&self, place: u64) -> HeadInfo
+        ensures { result ≡ info_at place self.now }
+    {
         HeadInfo {
             place,
             fin: self.first.fin,
@@ -279,8 +281,10 @@ impl Head {
         }
     }
 
-    /// How the length is spelled.
-    fn form(&self) -> Form {
+    /// How the length is spelled: in a longer form only where fewer bytes would do.
+    fn form(&self) -> Form
+        ensures { result ≡ form_spelled self.now.spelled self.now.len }
+    {
         match self.spelled {
             LenForm::Two if self.len <= 125 => Form::Two,
             LenForm::Eight if self.len <= 65_535 => Form::Eight,

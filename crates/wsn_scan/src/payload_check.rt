@@ -68,6 +68,7 @@ impl PayloadCheck {
     /// # Errors
     ///
     /// The first byte that shows `CloseCode`, `CloseReason`, `TextBad` or `TextCut`.
+    #[inline(always)]
     pub fn feed(self, piece: &[u8], fin: bool, last: bool) -> Result<PayloadCheck, BadByte>
         requires { 0 < length piece.now }
         ensures within { IfErr result (λ bad. bad.at ≤ length piece.now) }

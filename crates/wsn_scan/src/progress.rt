@@ -20,7 +20,9 @@ pub struct Inside {
 /// Where a scan is in the stream.
 #[derive(Debug, Drop)]
 pub enum Stage {
-    /// Between frames, or in a head.
+    /// Between frames.
+    Between,
+    /// In a head, or before its first byte.
     Head(PartialHead),
     /// In a payload.
     Payload(Inside),
@@ -36,12 +38,14 @@ pub enum Stage {
 
 impl Stage {
     ghost use Rattle.wsn_scan.specs.PayloadChecks.{HasChecked};
-    ghost use Rattle.wsn_scan.specs.Scans.{IsAt, refusal_at};
+    ghost use Rattle.wsn_scan.specs.Heads.{heads_of};
+    ghost use Rattle.wsn_scan.specs.Scans.{IsAt, Told, ends_of, refusal_at};
 
     /// Behind a whole frame.
     pub fn behind(fin: bool, check: &PayloadCheck) -> Stage
-        ensures stands { (role : _) (bounds : _) (bytes : List ℕ) (fs : List Frame) (f : Frame) → IsLawful role bounds (fs ++ f ∷ []) → HasNoClose fs → f.fin ≡ fin
-            → HasChecked (unfinished fs) (first_byte f.fin f.op) check.now f.payload → IsAt role bounds result bytes (fs ++ f ∷ []) [] }
+        ensures stands { (role : _) (bounds : _) (bytes : List ℕ) (fs : List Frame) (f : Frame) (told : Told) → IsLawful role bounds (fs ++ f ∷ []) → HasNoClose fs → f.fin ≡ fin
+            → HasChecked (unfinished fs) (first_byte f.fin f.op) check.now f.payload → told.heads ≡ heads_of (fs ++ f ∷ []) → told.ends ++ fin ∷ [] ≡ ends_of (fs ++ f ∷ []) → f.payload ≡ told.payload
+            → IsAt role bounds result bytes (fs ++ f ∷ []) [] told }
         ensures told { refusal_at result ≡ None }
     {
         match check {

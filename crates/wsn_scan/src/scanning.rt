@@ -2,6 +2,7 @@ ghost use Rattle.std.specs.Prelude.{◌≡◌, ◌+◌, ◌<◌, ◌^◌, length
 ghost use Rattle.wsn_scan.specs.Payloads.{unmasked_by};
 
 use crate::ceilings::Limits;
+use crate::front::whole_head;
 use crate::notices::Notice;
 use crate::open_message::{OpenMessage, message_after};
 use crate::outcome::{Refusal, Summary, Verdict};
@@ -25,9 +26,11 @@ pub struct Scan {
 }
 
 impl Scan {
-    ghost use Rattle.std.specs.Prelude.{◌≡◌, ℕ, ◌+◌, ◌-◌, ◌<◌, ◌≤◌, List, [], Some, None, length, drop};
-    ghost use Rattle.wsn_wire.specs.Frame.{Frame};
-    ghost use Rattle.wsn_scan.specs.Scans.{Stands, room_of, GetsOn, refusal_in, refusal_told, refusal_judged, taken_of, summary_of, verdict_between, Advances, AdvancesFrom, BeginsFrame, Knows, HoldsPayload, EndsFrame, refusal_of};
+    ghost use Rattle.std.specs.Prelude.{◌≡◌, ℕ, ◌+◌, ◌-◌, ◌<◌, ◌≤◌, ◌⊎◌, List, [], ◌∷◌, ◌++◌, Some, None, length, drop};
+    ghost use Rattle.wsn_wire.specs.Frame.{Frame, stream};
+    ghost use Rattle.wsn_scan.specs.PartialHeads.{info_at};
+    ghost use Rattle.wsn_scan.specs.Heads.{heads_of, AreHeads};
+    ghost use Rattle.wsn_scan.specs.Scans.{Told, nothing_told, ends_of, IsHeadNotice, IsRefusal, Takes, TakesAt, Stands, room_of, GetsOn, refusal_in, refusal_told, refusal_judged, taken_of, summary_of, verdict_between, Advances, AdvancesFrom, BeginsFrame, Knows, HoldsPayload, EndsFrame, refusal_of};
     ghost use Rattle.wsn_wire.specs.declared.endpoint.Role.{Role};
     ghost use Rattle.wsn_scan.specs.Group.{unfinished};
     ghost use Rattle.wsn_scan.specs.Accepted.{HasNoClose};
@@ -35,7 +38,7 @@ impl Scan {
 
     /// A scan that has taken nothing.
     pub fn new(role: Role, limits: Limits) -> Scan
-        ensures { Stands role limits result [] [] [] }
+        ensures { Stands role limits result [] [] [] nothing_told }
     {
         Scan {
             role,
@@ -44,7 +47,7 @@ impl Scan {
             used: 0,
             tally: Tally::new(),
             message: None,
-            stage: Stage::Head(PartialHead::Empty),
+            stage: Stage::Between,
         }
     }
 
@@ -53,6 +56,16 @@ impl Scan {
         ensures { result ≡ room_of self.now }
     {
         self.room
+    }
+
+    /// The refusal that it has told.
+    pub(crate) fn refusal(&self) -> Option<Refusal>
+        ensures { result ≡ refusal_in self.now }
+    {
+        match self.stage {
+            Stage::Refused(refusal) => Some(refusal),
+            _ => None,
+        }
     }
 
     /// How many bytes it has taken.
@@ -65,40 +78,68 @@ impl Scan {
     /// Takes bytes from the front of the piece, which is no longer than `room`, and answers how many, and what
     /// they are. Payload is unmasked in place; the bytes behind those taken stay as they were. A refusal is
     /// answered by the call that takes the byte at its place, and again from then on.
+    #[inline(always)]
     pub fn next(&mut self, piece: &mut [u8]) -> (usize, Notice)
         requires { length piece.old ≤ room_of self.old }
-        ensures taken { Advances self.old self.new piece.old result.0 result.1 }
+        ensures taken { Advances self.old self.new piece.old piece.new result.0 result.1 }
+        ensures takes { Takes self.old (length piece.old) result.0 result.1 }
         ensures within { result.0 ≤ length piece.old }
         ensures kept { drop result.0 piece.new ≡ drop result.0 piece.old }
         ensures room { room_of self.new + result.0 ≡ room_of self.old }
-        ensures gets_on { (role : Role) (limits : _) (bytes rest : List ℕ) (fs : List Frame) → Stands role limits self.old bytes fs rest →
+        ensures gets_on { (role : Role) (limits : _) (bytes rest : List ℕ) (fs : List Frame) (told : Told) → Stands role limits self.old bytes fs rest told →
             0 < length piece.old → GetsOn self.old self.new result.0 result.1 }
         ensures told { refusal_in self.new ≡ refusal_told result.1 }
     {
-        match mem::replace(&mut self.stage, Stage::Head(PartialHead::Empty)) {
-            Stage::Head(part) => self.next_head(part, piece),
-            Stage::Payload(inside) => self.next_payload(inside, piece),
-            Stage::Ended(event) => (0, Notice::FrameEnd { event }),
+        match &mut self.stage {
+            Stage::Between => self.next_frame(piece),
+            Stage::Head(part) => {
+                let part = mem::replace(part, PartialHead::Empty);
+                self.next_head(part, piece)
+            }
+            Stage::Payload(inside) => {
+                let inside = *inside;
+                self.next_payload(inside, piece)
+            }
+            Stage::Ended(event) => {
+                let event = *event;
+                self.stage = Stage::Between;
+                (0, Notice::FrameEnd { event })
+            }
             Stage::CloseEnded(code) => {
-                self.stage = Stage::Closed(code);
+                self.stage = Stage::Closed(*code);
                 (0, Notice::FrameEnd { event: true })
             }
-            Stage::Closed(code) => {
-                self.stage = Stage::Closed(code);
+            Stage::Closed(_) => {
                 self.room -= piece.len() as u64;
                 (piece.len(), Notice::Closed)
             }
-            Stage::Refused(refusal) => {
-                self.stage = Stage::Refused(refusal);
-                (0, Notice::Refused(refusal))
-            }
+            Stage::Refused(refusal) => (0, Notice::Refused(*refusal)),
+        }
+    }
+
+    /// Before the first byte of a frame.
+    #[inline(always)]
+    fn next_frame(&mut self, piece: &[u8]) -> (usize, Notice)
+        requires { length piece.now ≤ room_of self.old }
+        ensures taken { AdvancesFrom Stage.Between self.old self.new piece.now piece.now result.0 result.1 }
+        ensures takes { TakesAt Stage.Between (length piece.now) result.0 result.1 }
+        ensures within { result.0 ≤ length piece.now }
+        ensures room { room_of self.new + result.0 ≡ room_of self.old }
+        ensures some { 0 < length piece.now → 0 < result.0 }
+        ensures told { refusal_in self.new ≡ refusal_told result.1 }
+    {
+        match whole_head(piece, self.role, self.limits, self.message) {
+            Some((count, head)) => (count, self.begin(count, head)),
+            None => self.next_head(PartialHead::Empty, piece),
         }
     }
 
     /// In a head, or before its first byte.
+    #[inline(always)]
     fn next_head(&mut self, mut part: PartialHead, piece: &[u8]) -> (usize, Notice)
         requires { length piece.now ≤ room_of self.old }
-        ensures taken { AdvancesFrom (Stage.Head part) self.old self.new piece.now result.0 result.1 }
+        ensures taken { AdvancesFrom (Stage.Head part) self.old self.new piece.now piece.now result.0 result.1 }
+        ensures takes { TakesAt (Stage.Head part) (length piece.now) result.0 result.1 }
         ensures within { result.0 ≤ length piece.now }
         ensures room { room_of self.new + result.0 ≡ room_of self.old }
         ensures some { 0 < length piece.now → 0 < result.0 }
@@ -117,9 +158,11 @@ impl Scan {
     }
 
     /// In a payload.
+    #[inline(always)]
     fn next_payload(&mut self, inside: Inside, piece: &mut [u8]) -> (usize, Notice)
         requires { length piece.old ≤ room_of self.old }
-        ensures taken { AdvancesFrom (Stage.Payload inside) self.old self.new piece.old result.0 result.1 }
+        ensures taken { AdvancesFrom (Stage.Payload inside) self.old self.new piece.old piece.new result.0 result.1 }
+        ensures takes { TakesAt (Stage.Payload inside) (length piece.old) result.0 result.1 }
         ensures within { result.0 ≤ length piece.old }
         ensures kept { drop result.0 piece.new ≡ drop result.0 piece.old }
         ensures room { room_of self.new + result.0 ≡ room_of self.old }
@@ -164,6 +207,7 @@ impl Scan {
     }
 
     /// The last of these bytes shows the reason.
+    #[inline(always)]
     fn refuse(&mut self, count: usize, reason: Reason) -> Notice
         requires { count ≤ room_of self.old }
         ensures told { result ≡ Notice.Refused (refusal_of self.old count reason) }
@@ -179,9 +223,11 @@ impl Scan {
     }
 
     /// The last of these bytes ends a head.
+    #[inline(always)]
     fn begin(&mut self, count: usize, head: Head) -> Notice
         requires { count ≤ room_of self.old }
         ensures taken { BeginsFrame self.old self.new count head result }
+        ensures takes { IsHeadNotice result ⊎ IsRefusal result }
         ensures room { room_of self.new + count ≡ room_of self.old }
         ensures told { refusal_in self.new ≡ refusal_told result }
     {
@@ -206,8 +252,9 @@ impl Scan {
 
     /// All of a frame came.
     fn end(&mut self, head: &Head, check: &PayloadCheck)
-        ensures taken { (role : Role) (bounds : _) (bytes rest wire : List ℕ) (fs : List Frame) → Knows role bounds self.old bytes fs rest → HasNoClose fs
-            → HoldsPayload role bounds (unfinished fs) head.now check.now wire rest → length wire ≡ head.now.len → EndsFrame role bounds self.new bytes fs }
+        ensures taken { (role : Role) (bounds : _) (bytes rest wire : List ℕ) (fs : List Frame) (told : Told) → Knows role bounds self.old bytes fs rest → HasNoClose fs
+            → HoldsPayload role bounds (unfinished fs) head.now check.now wire rest → length wire ≡ head.now.len
+            → told.heads ≡ heads_of fs ++ info_at (length (stream fs)) head.now ∷ [] → told.ends ≡ ends_of fs → told.payload ≡ unmasked_by head.now.key 0 wire → EndsFrame role bounds self.new bytes fs told }
         ensures room { room_of self.new ≡ room_of self.old }
         ensures told { refusal_in self.new ≡ None }
     {
@@ -218,8 +265,10 @@ impl Scan {
     }
 
     /// The verdict on the bytes taken, as the whole input.
+    #[tactic(auto, using(crate::proofs::HeadsSoFar::heads_told))]
     pub fn finish(&self) -> Verdict
-        ensures verdict { (role : _) (limits : _) (bytes rest : List ℕ) (fs : List Frame) → Stands role limits self.now bytes fs rest → IsVerdict role limits bytes fs result }
+        ensures verdict { (role : _) (limits : _) (bytes rest : List ℕ) (fs : List Frame) (told : Told) → Stands role limits self.now bytes fs rest told → IsVerdict role limits bytes fs result }
+        ensures heads { (role : _) (limits : _) (bytes rest : List ℕ) (fs : List Frame) (told : Told) → Stands role limits self.now bytes fs rest told → AreHeads role limits bytes fs told.heads }
         ensures told { refusal_judged result ≡ refusal_in self.now }
     {
         match &self.stage {
@@ -227,6 +276,7 @@ impl Scan {
             Stage::Closed(code) => self.closed(*code),
             Stage::CloseEnded(code) => self.closed(*code),
             Stage::Ended(_) => self.between(),
+            Stage::Between => self.between(),
             Stage::Head(part) => {
                 if part.is_empty() {
                     self.between()

@@ -3,6 +3,9 @@
 use std::alloc::Global;
 use std::io::{self, Error, ErrorKind, Read, Write};
 
+/// How many bytes a read gives at most, one size after another.
+pub const READS: [usize; 7] = [1, 2, 3, 4_095, 4_096, 4_097, usize::MAX];
+
 /// A reader that gives at most so many bytes a call, and fails at a call if it is told to.
 #[derive(Drop)]
 pub struct Chopped<'a> {

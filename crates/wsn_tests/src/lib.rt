@@ -3,6 +3,20 @@
 #![tactic(auto)]
 
 #[cfg(test)]
+mod commands;
+#[cfg(test)]
 mod ends;
 #[cfg(test)]
+mod judging;
+#[cfg(test)]
+mod lines;
+#[cfg(test)]
+mod listing;
+#[cfg(test)]
 mod normal;
+#[cfg(test)]
+mod scan_calls;
+#[cfg(test)]
+mod scan_pieces;
+#[cfg(test)]
+mod vectors;

@@ -1,5 +1,6 @@
 -- Bytes below 0x80 are characters of one byte each.
-use Rattle.std.proofs.Common.{◌≡◌, ℕ, ◌<◌, List, [], ◌∷◌, inl, refl, ap, arith}
+use Rattle.std.specs.Prelude.{slice_index}
+use Rattle.std.proofs.Common.{◌≡◌, ℕ, suc, ◌<◌, List, [], ◌∷◌, inl, refl, ap, arith}
 use Rattle.std.specs.List.{AllByRecursion, concat}
 use Rattle.wsn_text.specs.Utf8.{IsText, IsCharacter}
 
@@ -22,3 +23,8 @@ concat-singles (b ∷ bytes) = ap (λ (rest : List ℕ). b ∷ rest) (concat-sin
 
 pub ascii_text : (bytes : List ℕ) → AllByRecursion (λ b. b < 128) bytes → IsText bytes
 ascii_text bytes low = record { characters = singles bytes; each = each_single bytes low; whole = concat-singles bytes }
+
+-- byte by byte, or index by index
+pub each_below : (bytes : List ℕ) → ((i : ℕ) → slice_index bytes i < 128) → AllByRecursion (λ b. b < 128) bytes
+each_below [] below = tt
+each_below (b ∷ bytes) below = (below 0, each_below bytes (λ i. below (suc i)))

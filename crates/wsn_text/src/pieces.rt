@@ -196,11 +196,19 @@ impl Utf8 {
     }
 }
 
+/// Up to this length a look whether all is ASCII costs less than simdutf8's first step.
+const SHORT: usize = 128;
+
 /// The length of a front that is text: all but a last character that may be unfinished, if no byte is bad.
 fn text_front(bytes: &[u8]) -> usize
     ensures text { (result ≤ length bytes.now) × IsText (take result bytes.now) }
     ensures most { result + 6 < length bytes.now → ¬ (BeginsText bytes.now) }
 {
+    if bytes.len() <= SHORT {
+        if bytes.is_ascii() {
+            return bytes.len();
+        }
+    }
     match from_utf8(&bytes[..last_character(bytes)]) {
         Ok(text) => text.len(),
         Err(bad) => bad.valid_up_to(),

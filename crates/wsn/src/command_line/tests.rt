@@ -11,7 +11,7 @@ fn asked_by(alloc: Global, line: &str) -> Result<Result<Request, Usage>, Fail> {
     Ok(asked(alloc, words.as_slice()))
 }
 
-fn job_of(rt: &impl Abort, request: &Result<Request, Usage>) -> Job {
+fn job_in(rt: &impl Abort, request: &Result<Request, Usage>) -> Job {
     match request {
         Ok(Request::Run(job)) => *job,
         _ => panic!(rt; "not a job"),
@@ -21,7 +21,9 @@ fn job_of(rt: &impl Abort, request: &Result<Request, Usage>) -> Job {
 #[test]
 fn normal_has_the_greatest_limits(rt: HostRuntime) -> Result<(), Fail> {
     let asked = asked_by(rt.alloc(), "wsn normal --role client")?;
-    let Job::Normal(role, limits) = job_of(&rt, &asked);
+    let Job::Normal(role, limits) = job_in(&rt, &asked) else {
+        panic!(rt; "not normal");
+    };
     assert_eq!(rt; role, Role::Client);
     assert_eq!(rt; limits.message(), 16_777_216);
     assert_eq!(rt; limits.input(), 1_099_511_627_776);
@@ -32,13 +34,26 @@ fn normal_has_the_greatest_limits(rt: HostRuntime) -> Result<(), Fail> {
 
 #[test]
 fn limits_are_as_spelled(rt: HostRuntime) -> Result<(), Fail> {
-    let line = "wsn normal --frames 4294967295 --role=server --lengths any --limit 0";
+    let line = "wsn judge --frames 4294967295 --role=server --lengths any --limit 0";
     let asked = asked_by(rt.alloc(), line)?;
-    let Job::Normal(role, limits) = job_of(&rt, &asked);
+    let Job::Judge(role, limits) = job_in(&rt, &asked) else {
+        panic!(rt; "not judge");
+    };
     assert_eq!(rt; role, Role::Server);
     assert_eq!(rt; limits.message(), 0);
     assert_eq!(rt; limits.frames(), Some(4_294_967_295));
     assert_eq!(rt; limits.lengths(), Lengths::Any);
+    Ok(())
+}
+
+#[test]
+fn frames_is_asked_for(rt: HostRuntime) -> Result<(), Fail> {
+    let asked = asked_by(rt.alloc(), "wsn frames --role server --limit 7")?;
+    let Job::Frames(role, limits) = job_in(&rt, &asked) else {
+        panic!(rt; "not frames");
+    };
+    assert_eq!(rt; role, Role::Server);
+    assert_eq!(rt; limits.message(), 7);
     Ok(())
 }
 
@@ -55,6 +70,10 @@ fn other_words_are_refused(rt: HostRuntime) -> Result<(), Fail> {
         "wsn normal --role client --lengths long",
         "wsn normal --role client --role client",
         "wsn normal --role client file",
+        "wsn judge",
+        "wsn judge --role server --limit 16777217",
+        "wsn judge --role server --frames 0",
+        "wsn frames --lengths any",
         "wsn other --role client",
     ];
     for line in lines {
@@ -66,7 +85,12 @@ fn other_words_are_refused(rt: HostRuntime) -> Result<(), Fail> {
 
 #[test]
 fn help_is_shown(rt: HostRuntime) -> Result<(), Fail> {
-    for line in ["wsn --help", "wsn normal --help", "wsn help normal"] {
+    for line in [
+        "wsn --help",
+        "wsn normal --help",
+        "wsn help judge",
+        "wsn frames --help",
+    ] {
         let asked = asked_by(rt.alloc(), line)?;
         assert!(rt; matches!(asked, Ok(Request::Help(_))), "{line}");
     }

@@ -3,8 +3,8 @@ use Rattle.wsn_scan.proofs.FrameEnds.{frame_ends}
 use Rattle.wsn_scan.proofs.scanning.Scan.end.Goals as goal
 
 pub returns-clause-taken : goal.returns-clause-taken
-returns-clause-taken c role bounds bytes rest wire fs =
-    frame_ends role bounds c.args.self.now _ bytes rest wire fs c.args.head.now c.args.check.now
+returns-clause-taken c role bounds bytes rest wire fs told =
+    frame_ends role bounds c.args.self.now _ bytes rest wire fs told c.args.head.now c.args.check.now
     (record {
       sender = refl;
       limits = refl;

@@ -1,6 +1,5 @@
-use Rattle.std.proofs.Common.{[], refl, arith}
+use Rattle.std.proofs.Common.{refl, arith}
 use Rattle.wsn_scan.proofs.LawfulLists.{lawful_nil, no_close_nil}
-use Rattle.wsn_scan.proofs.ScanVerdicts.{nothing_unshown}
 use Rattle.wsn_scan.proofs.scanning.Scan.new.Goals as goal
 
 pub returns : goal.returns
@@ -17,5 +16,5 @@ returns c = record {
     tally = c.new.ensures;
     message = refl;
   };
-  at = (no_close_nil, record { stands_for = refl; in_bytes = tt; unshown = nothing_unshown c.args.role c.args.limits [] });
+  at = (no_close_nil, refl, refl, refl);
 }

@@ -1,19 +1,24 @@
-use Rattle.std.proofs.Common.{◌≡◌, ◌+◌, ◌≤◌, ◌^◌, ℕ, List, [], ◌∷◌, ◌++◌, length, take, Ok, Err, refl, sym, ap, ◌∙◌, subst, arith, length-append}
+use Rattle.std.proofs.Common.{◌≡◌, ◌+◌, ◌≤◌, ◌^◌, ℕ, List, [], ◌∷◌, ◌++◌, length, take, drop, Ok, Err, inr, refl, sym, ap, ◌∙◌, subst, arith, append_assoc, length-append}
 use Rattle.std.proofs.lemmas.List.{length-take-le, take-take}
-use Rattle.wsn_wire.specs.Frame.{first_byte}
+use Rattle.wsn_wire.specs.Frame.{first_byte, stream}
 use Rattle.wsn_wire.proofs.FrameLemmas.{first_byte_fields}
 use Rattle.wsn_scan.specs.Group.{unfinished}
-use Rattle.wsn_scan.specs.Unshown.{IsShownLast}
+use Rattle.wsn_scan.specs.Unshown.{IsUnshown, IsShownLast}
 use Rattle.wsn_scan.specs.PayloadChecks.{IsChecked}
 use Rattle.wsn_scan.specs.Payloads.{unmasked_by}
+use Rattle.wsn_scan.specs.declared.notices.Notice.TheVariants as notices
+use Rattle.wsn_scan.specs.PartialHeads.{info_at}
+use Rattle.wsn_scan.specs.Heads.{IsBegun}
+use Rattle.wsn_scan.specs.Scans.{told_after}
+use Rattle.wsn_scan.proofs.HeadsTold.{head_begins, front_unshown}
 use Rattle.wsn_scan.proofs.HeadBytes.{bytes_taken}
 use Rattle.wsn_scan.proofs.MoreBytes.{knows_more}
-use Rattle.wsn_scan.proofs.PayloadMore.{holds_on, shown_last, checked_share, masked_again, length-unmasked_by}
+use Rattle.wsn_scan.proofs.PayloadMore.{payload_on, holds_on, shown_last, checked_share, masked_again, length-unmasked_by}
 use Rattle.wsn_scan.proofs.Refusals.{refuses}
 use Rattle.wsn_scan.proofs.scanning.Scan.next_payload.Goals as goal
 
 pub returns-then-last-clause-taken : goal.returns-then-last-clause-taken
-returns-then-last-clause-taken c role bounds bytes rest fs in_bytes stands =
+returns-then-last-clause-taken c role bounds bytes rest fs told in_bytes stands =
     let head = c.args.inside.head in
     let group = unfinished fs in
     let piece = c.args.piece.now in
@@ -30,13 +35,16 @@ returns-then-last-clause-taken c role bounds bytes rest fs in_bytes stands =
     (c.in-Ok.ensures.checked group (first_byte head.first.fin head.first.op) head.len (unmasked_by head.key 0 wire) h.checked (first_byte_fields head.first.fin head.first.op).fin_is) in
     let in_w = bytes_taken count piece in_bytes in
     let all : length (wire ++ w) ≡ head.len = omega (arith, length-append wire w, size, stands.at.1.done, stands.at.1.short, c.if-last.true, c.saturating_sub-left.ensures) in
-    let ends = c.end.ensures.taken role bounds (bytes ++ w) (rest ++ w) (wire ++ w) fs
+    let payload : told.payload ++ take count (c.unmask.new.bytes ++ drop count piece) ≡ unmasked_by head.key 0 (wire ++ w) =
+    payload_on head.key c.args.inside.done count piece c.unmask.new.bytes within c.unmask.ensures wire told.payload stands.at.1.done stands.at.1.unmasked in
+    let after = told_after told notices.Payload (take count (c.unmask.new.bytes ++ drop count piece)) in
+    let ends = c.end.ensures.taken role bounds (bytes ++ w) (rest ++ w) (wire ++ w) fs after
     (knows_more role bounds c.args.self.now _ bytes rest w fs (record { sender = refl; limits = refl; room = omega (arith, c.requires, size, within); used = refl; tally = refl; message = refl }) in_w stands.knows)
-    stands.at.0 (holds_on role bounds group head c.args.inside.check wire rest h w fits c.in-Ok.check in_w checked) all in
+    stands.at.0 (holds_on role bounds group head c.args.inside.check wire rest h w fits c.in-Ok.check in_w checked) all stands.at.2 stands.at.3 payload in
     record { frames = fs ++ ends.frame ∷ []; since = []; stands = ends.stands; tells = tt }
 
 pub returns-else-last-clause-taken : goal.returns-else-last-clause-taken
-returns-else-last-clause-taken c role bounds bytes rest fs in_bytes stands =
+returns-else-last-clause-taken c role bounds bytes rest fs told in_bytes stands =
     let head = c.args.inside.head in
     let group = unfinished fs in
     let piece = c.args.piece.now in
@@ -66,14 +74,17 @@ returns-else-last-clause-taken c role bounds bytes rest fs in_bytes stands =
             holds = holds_on role bounds group head c.args.inside.check wire rest h w fits c.in-Ok.check in_w checked;
             done = omega (arith, joined, size, stands.at.1.done);
             short = omega (arith, joined, size, stands.at.1.done, stands.at.1.short, c.min-count.ensures, other, c.saturating_sub-left.ensures);
+            unmasked = payload_on head.key c.args.inside.done count piece c.unmask.new.bytes within c.unmask.ensures wire told.payload stands.at.1.done stands.at.1.unmasked;
           },
+          stands.at.2,
+          stands.at.3,
         );
       };
       tells = tt;
     }
 
 pub returns-in-Err-clause-taken : goal.returns-in-Err-clause-taken
-returns-in-Err-clause-taken c role bounds bytes rest fs in_bytes stands =
+returns-in-Err-clause-taken c role bounds bytes rest fs told in_bytes stands =
     let head = c.args.inside.head in
     let group = unfinished fs in
     let piece = c.args.piece.now in
@@ -97,9 +108,13 @@ returns-in-Err-clause-taken c role bounds bytes rest fs in_bytes stands =
     let same : rest ++ take (bad.at + 1) w ≡ rest ++ last = ap (λ (bs : List ℕ). rest ++ bs) (take-take (bad.at + 1) count piece small ∙ ap (λ (n : ℕ). take n piece) (sym is_taken)) in
     let shown : IsShownLast role bounds group bad.reason (rest ++ last) =
     subst (λ (bs : List ℕ). IsShownLast role bounds group bad.reason bs) same (shown_last role bounds group head c.args.inside.check wire rest h w fits bad checked) in
+    let unshown = front_unshown role bounds group h.head_bytes wire (subst (IsUnshown role bounds group) h.whole h.unshown) in
+    let whole : rest ++ last ≡ h.head_bytes ++ (wire ++ last) = ap (λ (bs : List ℕ). bs ++ last) h.whole ∙ append_assoc h.head_bytes wire last in
+    let begun : IsBegun role bounds fs (rest ++ last) (info_at (length (stream fs)) head ∷ []) =
+    inr (inr (stands.at.0, (info_at (length (stream fs)) head, refl, head_begins role bounds fs head h.head_bytes (wire ++ last) (rest ++ last) h.is_head unshown whole))) in
     rw (c.refuse.ensures.told, c.refuse.ensures.after)
-    (refuses role bounds c.args.self.now bytes rest last fs taken bad.reason stands.knows stands.at.0 (length-take-le taken piece (omega (arith, is_taken, small, within)))
-    (omega (arith, is_taken, small, within, c.requires)) (bytes_taken taken piece in_bytes) (omega (arith, is_taken)) shown)
+    (refuses role bounds c.args.self.now bytes rest last fs told (info_at (length (stream fs)) head ∷ []) taken bad.reason stands.knows stands.at.0 (length-take-le taken piece (omega (arith, is_taken, small, within)))
+    (omega (arith, is_taken, small, within, c.requires)) (bytes_taken taken piece in_bytes) (omega (arith, is_taken)) shown begun stands.at.2 stands.at.3)
 
 pub returns-in-Err-clause-kept : goal.returns-in-Err-clause-kept
 returns-in-Err-clause-kept c =

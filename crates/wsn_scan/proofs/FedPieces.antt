@@ -1,0 +1,122 @@
+-- A piece that is handed to a scan share by share.
+use Rattle.std.proofs.Common.{◌≡◌, ℕ, suc, ◌+◌, ◌-◌, ◌*◌, ◌<◌, ◌≤◌, None, List, [], ◌∷◌, ◌++◌, length, take, drop, get_or, inl, inr, refl, sym, ap, ◌∙◌, subst, append_assoc, append-nil, arith, length-drop, take-append-drop}
+use Rattle.std.proofs.Math.Seq.{take-add, drop-append-add}
+use Rattle.std.proofs.lemmas.List.{take_all, length-take-le, drop-append-le}
+use borrow.Rule.Slice.PartMut.{mid_of, post_of, put_mid, put_same}
+use Rattle.wsn_wire.specs.declared.endpoint.Role.{Role}
+use Rattle.wsn_wire.specs.Frame.{IsBytes}
+use Rattle.wsn_wire.proofs.FrameLemmas.{IsBytes-right}
+use Rattle.wsn_scan.specs.declared.notices.Notice.{Notice}
+use Rattle.wsn_scan.specs.declared.notices.Notice.TheVariants as notices
+use Rattle.wsn_scan.specs.declared.outcome.Refusal.{Refusal}
+use Rattle.wsn_scan.specs.declared.progress.Stage.{Stage}
+use Rattle.wsn_scan.specs.declared.progress.Stage.TheVariants as stages
+use Rattle.wsn_scan.specs.declared.scanning.Scan.{Scan}
+use Rattle.wsn_scan.specs.Bounds.{Bounds}
+use Rattle.wsn_scan.specs.declared.notices.HeadInfo.{HeadInfo}
+use Rattle.wsn_scan.specs.Scans.{Told, told_after, Reaches, Advances, GetsOn, IsRefusal, ends_untold_at, ends_untold, refusal_told}
+use Rattle.wsn_scan.specs.Feeding.{HasTaken, TakesFront, heads_in}
+
+-- a bound on each byte, index by index
+pub bytes_below : (xs : List ℕ) → ((i : ℕ) → get_or xs i 0 < 256) → IsBytes xs
+bytes_below [] below = tt
+bytes_below (x ∷ xs) below = (below 0, bytes_below xs (λ i. below (suc i)))
+
+-- what is handed on is all that stands behind the first so many
+pub share_is : (at : ℕ) (xs : List ℕ) → mid_of at (length xs - at) xs ≡ drop at xs
+share_is at xs = take_all (length xs - at) (drop at xs) (omega (arith, length-drop at xs))
+
+-- what stands behind n more bytes, once a share is back
+behind_share : (at k n : ℕ) (xs ys : List ℕ) → at ≤ length xs → n ≤ length ys → drop (at + n) (put_mid at k xs ys) ≡ drop n ys ++ post_of at k xs
+behind_share at k n xs ys within fits =
+    let front : length (take at xs) ≡ at = length-take-le at xs within in
+    ap (λ (m : ℕ). drop (m + n) (put_mid at k xs ys)) (sym front) ∙ drop-append-add (take at xs) (ys ++ post_of at k xs) n ∙ drop-append-le n ys (post_of at k xs) fits
+
+-- what a share leaves behind its first n stays in the piece
+pub kept_behind : (at k n : ℕ) (xs ys : List ℕ) → at ≤ length xs → n ≤ length (mid_of at k xs) → length ys ≡ length (mid_of at k xs) → drop n ys ≡ drop n (mid_of at k xs)
+    → drop (at + n) (put_mid at k xs ys) ≡ drop (at + n) xs
+kept_behind at k n xs ys within fits size same =
+    behind_share at k n xs ys within (omega arith)
+    ∙ ap (λ (zs : List ℕ). zs ++ post_of at k xs) same
+    ∙ sym (behind_share at k n xs (mid_of at k xs) within fits)
+    ∙ ap (drop (at + n)) (put_same at k xs)
+
+-- lists that are the same behind their first bytes are so further on
+pub same_further : (at n : ℕ) (xs ys : List ℕ) → at ≤ length xs → at ≤ length ys → drop at xs ≡ drop at ys → drop (at + n) xs ≡ drop (at + n) ys
+same_further at n xs ys in_xs in_ys same = further xs in_xs ∙ ap (drop n) same ∙ sym (further ys in_ys)
+  where
+    further : (zs : List ℕ) → at ≤ length zs → drop (at + n) zs ≡ drop n (drop at zs)
+    further zs within =
+        let front : length (take at zs) ≡ at = length-take-le at zs within in
+        ap (drop (at + n)) (sym (take-append-drop at zs)) ∙ ap (λ (m : ℕ). drop (m + n) (take at zs ++ drop at zs)) (sym front) ∙ drop-append-add (take at zs) (drop at zs) n
+
+-- ---- what the scan has taken
+
+pub takes_none : (scan : Scan) (piece : List ℕ) → TakesFront scan scan piece 0 []
+takes_none scan piece role bounds bytes heads taken =
+    subst (λ (hs : List HeadInfo). HasTaken role bounds scan (bytes ++ take 0 piece) hs) (sym (append-nil heads))
+    (subst (λ (bs : List ℕ). HasTaken role bounds scan bs heads) (sym (append-nil bytes)) taken)
+
+heads_after : (told : Told) (notice : Notice) (bytes : List ℕ) → (told_after told notice bytes).heads ≡ told.heads ++ heads_in notice
+heads_after told notices.More bytes = sym (append-nil told.heads)
+heads_after told (notices.Head info) bytes = refl
+heads_after told notices.Payload bytes = sym (append-nil told.heads)
+heads_after told (notices.FrameEnd event) bytes = sym (append-nil told.heads)
+heads_after told notices.Closed bytes = sym (append-nil told.heads)
+heads_after told (notices.Refused refusal) bytes = sym (append-nil told.heads)
+
+has_taken : (role : Role) (bounds : Bounds) (scan : Scan) (bytes : List ℕ) (notice : Notice) (told : Told) → Reaches role bounds scan notice bytes told → HasTaken role bounds scan bytes told.heads
+has_taken role bounds scan bytes notice told reached = record { frames = reached.frames; since = reached.since; payload = told.payload; ends = told.ends; stands = reached.stands }
+
+pub takes_on : (old mid new : Scan) (notice : Notice) (piece share after : List ℕ) (at n : ℕ) (more : List HeadInfo) → IsBytes piece → share ≡ drop at piece → TakesFront old mid piece at more
+    → Advances mid new share after n notice → TakesFront old new piece (at + n) (more ++ heads_in notice)
+takes_on old mid new notice piece share after at n more in_bytes is takes advances role bounds bytes heads taken =
+    let before = takes role bounds bytes heads taken in
+    let told : Told = record { heads = heads ++ more; payload = before.payload; ends = before.ends } in
+    let in_share : IsBytes share = subst IsBytes (sym is) (IsBytes-right (take at piece) (drop at piece) (subst IsBytes (sym (take-append-drop at piece)) in_bytes)) in
+    let reached = advances role bounds (bytes ++ take at piece) before.since before.frames told in_share before.stands in
+    let came = has_taken role bounds new ((bytes ++ take at piece) ++ take n share) notice (told_after told notice (take n after)) reached in
+    let all : (told_after told notice (take n after)).heads ≡ heads ++ (more ++ heads_in notice) = heads_after told notice (take n after) ∙ append_assoc heads more (heads_in notice) in
+    let joined : (bytes ++ take at piece) ++ take n share ≡ bytes ++ take (at + n) piece =
+    append_assoc bytes (take at piece) (take n share) ∙ ap (λ (bs : List ℕ). bytes ++ (take at piece ++ take n bs)) is ∙ ap (λ (bs : List ℕ). bytes ++ bs) (sym (take-add at n piece)) in
+    subst (λ (bs : List ℕ). HasTaken role bounds new bs (heads ++ (more ++ heads_in notice))) joined (subst (λ (hs : List HeadInfo). HasTaken role bounds new ((bytes ++ take at piece) ++ take n share) hs) all came)
+
+-- ---- a call gets on
+
+untold_few : (stage : Stage) → ends_untold_at stage ≤ 1
+untold_few stages.Between = omega arith
+untold_few (stages.Head part) = omega arith
+untold_few (stages.Payload inside) = omega arith
+untold_few (stages.Ended event) = omega arith
+untold_few (stages.CloseEnded code) = omega arith
+untold_few (stages.Closed code) = omega arith
+untold_few (stages.Refused refusal) = omega arith
+
+pub no_refusal : (notice : Notice) → ((refusal : Refusal) → notice ≡ notices.Refused refusal → ⊥) → (IsRefusal notice → ⊥) × (refusal_told notice ≡ None)
+no_refusal notices.More other = (λ is. is, refl)
+no_refusal (notices.Head info) other = (λ is. is, refl)
+no_refusal notices.Payload other = (λ is. is, refl)
+no_refusal (notices.FrameEnd event) other = (λ is. is, refl)
+no_refusal notices.Closed other = (λ is. is, refl)
+no_refusal (notices.Refused refusal) other = absurd (other refusal refl)
+
+pub none_told : (notice : Notice) → refusal_told notice ≡ None → IsRefusal notice → ⊥
+none_told notices.More told is = is
+none_told (notices.Head info) told is = is
+none_told notices.Payload told is = is
+none_told (notices.FrameEnd event) told is = is
+none_told notices.Closed told is = is
+none_told (notices.Refused refusal) told is = absurd cc
+
+-- each byte taken counts twice, so that a frame's end that is not told yet counts less
+pub falls : (old new : Scan) (notice : Notice) (at n size : ℕ) → at < size → at + n ≤ size → (IsRefusal notice → ⊥) → GetsOn old new n notice
+    → 2 * (size - (at + n)) + ends_untold new < 2 * (size - at) + ends_untold old
+falls old new notice at n size less fits other gets_on =
+    let few = untold_few new.stage in
+    elim gets_on [
+      | inl some ↦ omega arith
+      | inr rest ↦ elim rest [
+        | inl fewer ↦ omega arith
+        | inr is ↦ absurd (other is)
+      ]
+    ]

@@ -1,0 +1,69 @@
+use Rattle.std.proofs.Common.{◌≡◌, ◌∙◌, ◌+◌, ◌-◌, ◌<◌, ◌≤◌, ℕ, List, [], ◌++◌, length, drop, refl, sym, arith, ap, length-drop}
+use borrow.Rule.Slice.PartMut.{mid_of, same_len_mid}
+use Rattle.wsn_scan.specs.Feeding.{heads_in}
+use Rattle.wsn_scan.proofs.FedPieces.{bytes_below, share_is, kept_behind, same_further, takes_none, takes_on, none_told, falls}
+use Rattle.wsn_scan.proofs.judging.feed.Goals as goal
+
+pub loop-at-init : goal.loop-at-init
+loop-at-init c = record {
+  in_bytes = bytes_below c.args.piece.now (λ i. let below = c.type_inv.piece i in omega (arith, below));
+  within = omega arith;
+  size = refl;
+  kept = refl;
+  room = omega arith;
+  takes = ([], takes_none c.args.scan.now c.args.piece.now);
+  told = λ none. none;
+}
+
+pub returns-in-Some : goal.returns-in-Some
+returns-in-Some c =
+    let at = c.loop-at.at in
+    let taken = c.next-taken.result.0 in
+    let share = mid_of at (length c.loop-at.piece - at) c.loop-at.piece in
+    let is : share ≡ drop at c.args.piece.now = share_is at c.loop-at.piece ∙ c.loop-at.invariant.kept in
+    record {
+      count = at + taken;
+      within = omega (arith, length-drop at c.args.piece.now, ap (λ (bs : List ℕ). length bs) is, c.next-taken.ensures.within);
+      room = omega (arith, c.next-taken.ensures.room);
+      heads = c.loop-at.invariant.takes.0 ++ heads_in c.next-taken.result.1;
+      takes = takes_on c.args.scan.now c.loop-at.scan c.next-taken.new.self c.next-taken.result.1 c.args.piece.now share c.next-taken.new.piece at taken c.loop-at.invariant.takes.0 c.loop-at.invariant.in_bytes is c.loop-at.invariant.takes.1 c.next-taken.ensures.taken;
+      all = λ none. cc;
+      told = λ none. sym c.refusal.ensures ∙ c.in-Some.is;
+    }
+
+pub loop-at-smaller : goal.loop-at-smaller
+loop-at-smaller c =
+    let at = c.loop-at.at in
+    let piece = c.args.piece.now in
+    let taken = c.next-taken.result.0 in
+    let share = mid_of at (length c.loop-at.piece - at) c.loop-at.piece in
+    let is : share ≡ drop at piece = share_is at c.loop-at.piece ∙ c.loop-at.invariant.kept in
+    let size : length share ≡ length (drop at piece) = ap (λ (bs : List ℕ). length bs) is in
+    let some : 0 < length share = omega (arith, length-drop at piece) in
+    let before = c.loop-at.invariant.takes.1 c.requires.begun.role c.requires.begun.bounds c.requires.begun.bytes c.requires.begun.heads c.requires.begun.taken in
+    falls c.loop-at.scan c.next-taken.new.self c.next-taken.result.1 at taken (length piece) (omega arith) (omega (arith, length-drop at piece, c.next-taken.ensures.within))
+    (none_told c.next-taken.result.1 (sym c.next-taken.ensures.told ∙ sym c.refusal.ensures ∙ c.in_default.is))
+    (c.next-taken.ensures.gets_on c.requires.begun.role c.requires.begun.bounds _ before.since before.frames _ before.stands some)
+
+pub loop-at-preserved : goal.loop-at-preserved
+loop-at-preserved c =
+    let at = c.loop-at.at in
+    let piece = c.args.piece.now in
+    let here = c.loop-at.piece in
+    let taken = c.next-taken.result.0 in
+    let share = mid_of at (length here - at) here in
+    let is : share ≡ drop at piece = share_is at here ∙ c.loop-at.invariant.kept in
+    let size : length share ≡ length (drop at piece) = ap (λ (bs : List ℕ). length bs) is in
+    let within : taken ≤ length share = c.next-taken.ensures.within in
+    let in_here : at ≤ length here = omega arith in
+    let same_size : length c.next-taken.new.piece ≡ length share = c.next-taken.auto.piece in
+    record {
+      in_bytes = c.loop-at.invariant.in_bytes;
+      within = omega (arith, length-drop at piece);
+      size = same_len_mid at (length here - at) here c.next-taken.new.piece same_size ∙ c.loop-at.invariant.size;
+      kept = kept_behind at (length here - at) taken here c.next-taken.new.piece in_here within same_size c.next-taken.ensures.kept
+          ∙ same_further at taken here piece in_here c.loop-at.invariant.within c.loop-at.invariant.kept;
+      room = omega (arith, c.next-taken.ensures.room);
+      takes = (c.loop-at.invariant.takes.0 ++ heads_in c.next-taken.result.1, takes_on c.args.scan.now c.loop-at.scan c.next-taken.new.self c.next-taken.result.1 piece share c.next-taken.new.piece at taken c.loop-at.invariant.takes.0 c.loop-at.invariant.in_bytes is c.loop-at.invariant.takes.1 c.next-taken.ensures.taken);
+      told = λ none. sym c.refusal.ensures ∙ c.in_default.is;
+    }

@@ -1,0 +1,69 @@
+use Rattle.std.proofs.Common.{◌≡◌, ◌∙◌, ℕ, Option, [], length, take, drop, refl, sym, subst, arith, length-append, length-drop, length-take-le}
+use Rattle.std.proofs.KnownBytes.{Appends-nil}
+use Rattle.std.specs.Io.KnownBytes.{Consumes}
+use Rattle.wsn_scan.specs.declared.outcome.Refusal.{Refusal}
+use Rattle.wsn_scan.specs.Listing.{IsListedPiece}
+use Rattle.wsn_scan.proofs.JudgedInputs.{begins}
+use Rattle.wsn_scan.proofs.ListedInputs.{list_stopped, list_ended, list_failed, list_refused, list_passes, list_goes_on}
+use Rattle.wsn_scan.proofs.listing.list.Goals as goal
+
+pub loop-count-init : goal.loop-count-init
+loop-count-init g c = record {
+  read = ([], [], begins c.args.role c.args.limits c.args.input.now c.new-scan.result c.new-scan.ensures c.requires.readable, Appends-nil c.args.output.now.written);
+  unfailed = c.requires.writable;
+  size = refl;
+}
+
+pub returns-in_default : goal.returns-in_default
+returns-in_default g c =
+    let read = c.loop-count.invariant.read in
+    list_stopped c.args.role c.args.limits c.args.input.now c.loop-count.input c.read_piece.new.input c.args.output.now c.loop-count.output c.loop-count.scan read.0 read.1 read.2 read.3
+    c.loop-count.invariant.unfailed c.in_default.ensures.none.1 c.in_default.ensures.none.0
+
+pub returns-then-count-eq0 : goal.returns-then-count-eq0
+returns-then-count-eq0 g c =
+    let read = c.loop-count.invariant.read in
+    let nothing = subst (λ (n : ℕ). Consumes c.loop-count.input.remaining c.read_piece.new.input.remaining (take n c.read_piece.new.buffer)) c.if-count-eq0.true c.in-Some.ensures.bytes in
+    list_ended c.args.role c.args.limits c.args.input.now c.loop-count.input c.read_piece.new.input c.args.output.now c.loop-count.output c.end.new.output c.loop-count.scan read.0 read.1 c.finish.result c.end.result
+    read.2 read.3 nothing (c.in-Some.ensures.end c.if-count-eq0.true) c.in-Some.ensures.some
+    (c.finish.ensures.verdict c.args.role c.args.limits read.0 read.2.taken.since read.2.taken.frames _ read.2.taken.stands)
+    (c.finish.ensures.heads c.args.role c.args.limits read.0 read.2.taken.since read.2.taken.frames _ read.2.taken.stands) c.finish.ensures.told c.end.ensures
+
+pub returns-then-failed : goal.returns-then-failed
+returns-then-failed g c =
+    let read = c.loop-count.invariant.read in
+    list_failed c.args.role c.args.limits c.args.input.now c.loop-count.input c.read_piece.new.input c.args.output.now c.loop-count.output c.list_piece-refusal.new.output
+    c.loop-count.scan c.list_piece-refusal.new.scan c.read_piece.new.buffer c.in-Some.count c.min-fits.result read.0 read.1 read.2 read.3 c.loop-count.invariant.unfailed
+    c.in-Some.ensures.bytes c.in-Some.ensures.some (omega (arith, c.in-Some.ensures.within)) (omega arith) (omega (arith, c.in-Some.ensures.within)) (λ less. omega arith) (λ more. omega arith)
+    c.list_piece-refusal.result c.list_piece-refusal.ensures (sym c.failed.ensures ∙ c.if-failed.true)
+
+pub returns-in-Some-refusal : goal.returns-in-Some-refusal
+returns-in-Some-refusal g c =
+    let read = c.loop-count.invariant.read in
+    let piece = subst (λ (r : Option Refusal). IsListedPiece c.loop-count.scan c.list_piece-refusal.new.scan c.loop-count.output c.list_piece-refusal.new.output (take c.min-fits.result c.read_piece.new.buffer) r)
+    c.in-Some-refusal.is c.list_piece-refusal.ensures in
+    list_refused c.args.role c.args.limits c.args.input.now c.loop-count.input c.read_piece.new.input c.args.output.now c.loop-count.output c.list_piece-refusal.new.output
+    c.loop-count.scan c.list_piece-refusal.new.scan c.read_piece.new.buffer c.in-Some.count c.min-fits.result read.0 read.1 read.2 read.3 c.loop-count.invariant.unfailed
+    c.in-Some.ensures.bytes c.in-Some.ensures.some (omega (arith, c.in-Some.ensures.within)) (omega arith) (omega (arith, c.in-Some.ensures.within)) (λ less. omega arith) (λ more. omega arith)
+    c.end-in-Some-refusal.new.output c.in-Some-refusal.refusal c.end-in-Some-refusal.result piece (sym c.failed.ensures ∙ c.if-failed.false) c.end-in-Some-refusal.ensures
+
+pub returns-then-count-fits : goal.returns-then-count-fits
+returns-then-count-fits g c =
+    let read = c.loop-count.invariant.read in
+    list_passes c.args.role c.args.limits c.args.input.now c.loop-count.input c.read_piece.new.input c.args.output.now c.loop-count.output c.list_piece-refusal.new.output
+    c.loop-count.scan c.list_piece-refusal.new.scan c.read_piece.new.buffer c.in-Some.count c.min-fits.result read.0 read.1 read.2 read.3 c.loop-count.invariant.unfailed
+    c.in-Some.ensures.bytes c.in-Some.ensures.some (omega (arith, c.in-Some.ensures.within)) (omega arith) (omega (arith, c.in-Some.ensures.within)) (λ less. omega arith) (λ more. omega arith)
+    (omega (arith, c.in-Some.ensures.within)) c.in_default-refusal.ensures (sym c.failed.ensures ∙ c.if-failed.false)
+
+pub loop-count-preserved : goal.loop-count-preserved
+loop-count-preserved g c =
+    let read = c.loop-count.invariant.read in
+    let within : length (take c.min-fits.result c.read_piece.new.buffer) ≡ c.min-fits.result = length-take-le c.min-fits.result c.read_piece.new.buffer (omega (arith, c.in-Some.ensures.within)) in
+    record {
+      read = list_goes_on c.args.role c.args.limits c.args.input.now c.loop-count.input c.read_piece.new.input c.args.output.now c.loop-count.output c.list_piece-refusal.new.output
+          c.loop-count.scan c.list_piece-refusal.new.scan c.read_piece.new.buffer c.in-Some.count c.min-fits.result read.0 read.1 read.2 read.3 c.loop-count.invariant.unfailed
+          c.in-Some.ensures.bytes c.in-Some.ensures.some (omega (arith, c.in-Some.ensures.within)) (omega arith) (omega (arith, c.in-Some.ensures.within)) (λ less. omega arith) (λ more. omega arith)
+          (omega arith) c.in_default-refusal.ensures (sym c.failed.ensures ∙ c.if-failed.false);
+      unfailed = sym c.failed.ensures ∙ c.if-failed.false;
+      size = omega (arith, c.list_piece-refusal.auto.piece, length-append c.list_piece-refusal.new.piece (drop c.min-fits.result c.read_piece.new.buffer), length-drop c.min-fits.result c.read_piece.new.buffer, c.in-Some.ensures.within);
+    }
