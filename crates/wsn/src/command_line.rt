@@ -11,8 +11,19 @@ use wsn_wire::{Lengths, Role};
 pub enum Request {
     /// Do this work over the standard streams.
     Run(Job),
+    /// Compare the streams in two files.
+    Same(Pair),
     /// Show this text, which was asked for.
     Help(String),
+}
+
+/// Two files, and how the streams in them are read.
+#[derive(Drop)]
+pub struct Pair {
+    pub role: Role,
+    pub limits: Limits,
+    pub first: String,
+    pub second: String,
 }
 
 /// Why the words ask for nothing.
@@ -85,6 +96,22 @@ fn over_stream<'a>(
     with_limits(alloc, with_role(alloc, command)?)
 }
 
+/// The command over the streams in two files.
+fn over_files<'a>(alloc: Global) -> Result<Command<'a>, AllocError> {
+    let first = Arg::new(alloc, "first")
+        .required(true)
+        .action(ArgAction::Set)
+        .value_name("A")
+        .help("The file with the first stream");
+    let second = Arg::new(alloc, "second")
+        .required(true)
+        .action(ArgAction::Set)
+        .value_name("B")
+        .help("The file with the second stream");
+    let command = over_stream(alloc, "same", "Tell whether two streams mean the same")?;
+    command.arg(first)?.arg(second)
+}
+
 /// The commands that tell of a stream.
 fn with_verdicts<'a>(alloc: Global, command: Command<'a>) -> Result<Command<'a>, AllocError> {
     let frames = over_stream(
@@ -100,8 +127,13 @@ fn program<'a>(alloc: Global) -> Result<Command<'a>, AllocError> {
     let command = Command::new(alloc, "wsn")
         .about("Read what one endpoint of a WebSocket connection sent")
         .subcommand_required(true);
-    let normal = over_stream(alloc, "normal", "Write a stream's normal form")?;
-    with_verdicts(alloc, command)?.subcommand(normal)
+    let normal = over_stream(
+        alloc,
+        "normal",
+        "Write a stream's normal form; a verdict that isn't accepted goes to standard error",
+    )?;
+    let command = with_verdicts(alloc, command)?;
+    command.subcommand(normal)?.subcommand(over_files(alloc)?)
 }
 
 fn role_of(matches: &ArgMatches<'_>) -> Role {
@@ -152,8 +184,25 @@ fn job_of(name: &str, matches: &ArgMatches<'_>) -> Option<Job> {
     }
 }
 
-/// What the words ask for, the program's name first: one of `frames`, `judge` and `normal`, with
-/// `--role client|server [--limit BYTES] [--frames N] [--lengths shortest|any]`.
+/// The two files that the arguments name, and how they are read.
+fn pair_of(alloc: Global, matches: &ArgMatches<'_>) -> Result<Request, Usage> {
+    let (Some(limits), Some(first), Some(second)) = (
+        limits_of(matches),
+        matches.get_str("first"),
+        matches.get_str("second"),
+    ) else {
+        return Err(Usage::Own);
+    };
+    Ok(Request::Same(Pair {
+        role: role_of(matches),
+        limits,
+        first: String::from_str(alloc, first)?,
+        second: String::from_str(alloc, second)?,
+    }))
+}
+
+/// What the words ask for, the program's name first: one of `frames`, `judge`, `normal` and `same`, with
+/// `--role client|server [--limit BYTES] [--frames N] [--lengths shortest|any]`; for `same` two files too.
 pub fn asked(alloc: Global, words: &[String]) -> Result<Request, Usage> {
     let matches = match program(alloc)?.try_get_matches_from(words) {
         Ok(matches) => matches,
@@ -162,6 +211,9 @@ pub fn asked(alloc: Global, words: &[String]) -> Result<Request, Usage> {
     let Some((name, command)) = matches.subcommand() else {
         return Err(Usage::Own);
     };
+    if name == "same" {
+        return pair_of(alloc, command);
+    }
     match job_of(name, command) {
         Some(job) => Ok(Request::Run(job)),
         None => Err(Usage::Own),

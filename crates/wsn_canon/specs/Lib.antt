@@ -1,5 +1,9 @@
 pub mod Events
 pub mod NormalForm
-pub mod ShortMessages
+pub mod EventsMeant
+pub mod Gathering
+pub mod Sources
+pub mod Readings
+pub mod Comparing
+pub mod Putting
 pub mod Normalised
-pub mod Rewriting

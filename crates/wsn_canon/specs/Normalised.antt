@@ -1,34 +1,29 @@
--- What normalising did: the whole input was read, it is accepted, and the normal form of its meaning went out.
-use Rattle.std.specs.Prelude.{◌≡◌, ℕ, ◌<◌, false, List, length, take}
-use Rattle.std.specs.Io.KnownBytes.{Consumes, IsAtEnd, Appends}
+-- What normalising took of an input, what its answer says of that, and what went out.
+use Rattle.std.specs.Prelude.{◌≡◌, ℕ, ◌+◌, ◌≤◌, true, false, Result, Err, List, length, take}
+use Rattle.std.specs.Io.KnownBytes.{Consumes, Appends}
 use Rattle.wsn_wire.specs.declared.endpoint.Role.{Role}
-use Rattle.wsn_wire.specs.Frame.{Frame}
 use Rattle.wsn_wire.specs.Transfer.{Incoming, Outgoing}
+use Rattle.wsn_scan.specs.declared.outcome.Verdict.{Verdict}
+use Rattle.wsn_scan.specs.declared.stopping.Stop.{Stop}
+use Rattle.wsn_scan.specs.declared.stopping.Stop.TheVariants as stop
 use Rattle.wsn_scan.specs.Bounds.{Bounds}
-use Rattle.wsn_scan.specs.Accepted.{IsAccepted}
-use Rattle.wsn_scan.specs.Meaning.{meaning}
+use Rattle.wsn_scan.specs.Meaning.{MeantEvent}
 use Rattle.wsn_canon.specs.NormalForm.{normal_form}
+use Rattle.wsn_canon.specs.Sources.{IsMeaningOf, IsLast}
 
--- The bytes that came are all that the input had, and it has not failed.
-pub record ReadsAll (old new : Incoming) (came : List ℕ) : Type 0 where
+-- What an answer says of the bytes that came, and what went out of them: the normal form of the events that an event
+-- source gives with that answer. At a verdict these are the bytes' meaning. Where a write failed, it is some front of
+-- the normal form of what the bytes mean, at most `input` of them.
+abbrev pub IsWritten : Role → Bounds → Incoming → List ℕ → Outgoing → Outgoing → Result Verdict Stop → Type 0
+IsWritten role bounds new came before after (Err stop.Write) =
+    (new.failed ≡ false) × (after.failed ≡ true) × ((verdict : Verdict) × (events : List MeantEvent)
+    × IsMeaningOf role bounds (take bounds.input came) verdict events × ((k : ℕ) × Appends before.written after.written (take k (normal_form role events))))
+IsWritten role bounds new came before after result =
+    (after.failed ≡ false) × ((events : List MeantEvent) × IsLast role bounds new came events result × Appends before.written after.written (normal_form role events))
+
+-- The bytes that came from the input, one more than its limit at most, what the answer says of them, and what went out.
+pub record IsNormalised (role : Role) (bounds : Bounds) (old new : Incoming) (before after : Outgoing) (result : Result Verdict Stop) : Type 0 where
+  pub came : List ℕ
   pub consumed : Consumes old.remaining new.remaining came
-  pub ended : IsAtEnd new.remaining
-  pub unfailed : new.failed ≡ false
-
-pub record Normalises (role : Role) (bounds : Bounds) (old new : Incoming) (before after : Outgoing) : Type 0 where
-  pub came : List ℕ
-  pub all : ReadsAll old new came
-  pub frames : List Frame
-  pub accepted : IsAccepted role bounds came frames
-  pub written : Appends before.written after.written (normal_form role (meaning frames))
-  pub unfailed : after.failed ≡ false
-
--- Some bytes at the front of the normal form went out, and not all.
-pub record WritesFront (role : Role) (bounds : Bounds) (old new : Incoming) (before after : Outgoing) : Type 0 where
-  pub came : List ℕ
-  pub all : ReadsAll old new came
-  pub frames : List Frame
-  pub accepted : IsAccepted role bounds came frames
-  pub count : ℕ
-  pub not_all : count < length (normal_form role (meaning frames))
-  pub written : Appends before.written after.written (take count (normal_form role (meaning frames)))
+  pub few : length came ≤ bounds.input + 1
+  pub written : IsWritten role bounds new came before after result

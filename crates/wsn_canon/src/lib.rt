@@ -1,11 +1,27 @@
 //! What a stream means, and its normal form (RFC 6455 sections 5.4 to 5.6).
 //!
-//! `specs/Events.antt` defines lawful events and `specs/NormalForm.antt` the normal form. [`normalise`]
-//! handles, so far, whole messages of at most 125 bytes in one frame each (`specs/ShortMessages.antt`).
+//! An [`Event`] is a message, a ping, a pong or the close. A [`Source`] gives the events of a stream, each at the
+//! frame that ends it, and then its verdict. [`is_lawful`] tells whether a stream can mean an event, and
+//! [`put_event`] writes its normal form, one frame. [`normalise`] writes that of all of a stream's events, and
+//! [`same`] tells whether two streams mean the same.
+//!
+//! `specs/Events.antt` defines lawful events, `specs/EventsMeant.antt` what an [`Event`] stands for,
+//! `specs/Sources.antt` which events a stream means, and `specs/NormalForm.antt` the normal form. [`laws`] has what
+//! holds of these.
 #![tactic(auto)]
 
+mod comparing;
+mod events;
+pub mod examples;
+mod gathering;
+pub mod laws;
 mod normal;
-mod short;
-mod whole_input;
+mod putting;
+mod reading;
+mod sources;
 
-pub use normal::{Fault, normalise};
+pub use comparing::{Compared, same};
+pub use events::{Event, Small, is_lawful};
+pub use normal::normalise;
+pub use putting::put_event;
+pub use sources::{Next, Source};

@@ -1,36 +1,41 @@
 -- What a command's work did.
-use Rattle.std.specs.Prelude.{◌≡◌, ℕ, ◌⊎◌, true, Ok, Err, take}
+use Rattle.std.specs.Prelude.{◌≡◌, ℕ, true, false, Result, Ok, Err, take}
 use Rattle.std.specs.Io.KnownBytes.{Appends}
 use Rattle.wsn_wire.specs.Transfer.{Incoming, Outgoing}
 use Rattle.wsn_scan.specs.declared.outcome.Verdict.{Verdict}
 use Rattle.wsn_scan.specs.declared.outcome.Verdict.TheVariants.{Accepted}
 use Rattle.wsn_scan.specs.declared.stopping.Stop.{Stop}
+use Rattle.wsn_scan.specs.declared.stopping.Stop.TheVariants as stop
 use Rattle.wsn_scan.specs.Judging.{IsJudged}
 use Rattle.wsn_scan.specs.Lines.{verdict_line}
-use Rattle.wsn_scan.specs.Listing.{IsListed}
+use Rattle.wsn_scan.specs.Listing.{IsListed, Prints}
+use Rattle.wsn_canon.specs.Normalised.{IsNormalised}
 use Rattle.wsn_job.specs.declared.jobs.Job.{Job}
 use Rattle.wsn_job.specs.declared.jobs.Job.TheVariants.{Judge, Frames, Normal}
-use Rattle.wsn_canon.specs.Normalised.{Normalises}
+use Rattle.wsn_job.specs.Lines.{stop_line}
 
--- the status of a verdict: 0 where the stream is accepted
-abbrev pub status_of : Verdict → ℕ
-status_of (Accepted summary) = 0
-status_of verdict = 1
+-- What a job's verdict or stop says of the input and the first output. `judge`: the verdict's line was printed, and
+-- before a stop nothing; where a write failed, there is a verdict, and some front of its line was. `frames`: so were
+-- the lines of the frames. `normal`: the normal form of what the input means was written.
+abbrev pub IsDone : Job → Incoming → Incoming → Outgoing → Outgoing → Result Verdict Stop → Type 0
+IsDone (Judge role limits) old new before after (Ok verdict) =
+    IsJudged role limits old new (Ok verdict) × (after.failed ≡ false) × Appends before.written after.written (verdict_line verdict)
+IsDone (Judge role limits) old new before after (Err stop.Write) =
+    (verdict : Verdict) × IsJudged role limits old new (Ok verdict) × (after.failed ≡ true) × ((k : ℕ) × Appends before.written after.written (take k (verdict_line verdict)))
+IsDone (Judge role limits) old new before after (Err stopped) = IsJudged role limits old new (Err stopped) × (after ≡ before)
+IsDone (Frames role limits) old new before after done = IsListed role limits old new before after done
+IsDone (Normal role limits) old new before after done = IsNormalised role limits old new before after done
 
--- Where the status is 0 or 1. `judge`: the verdict on the whole input was printed. `frames`: so were the lines of the
--- frames before it. `normal`: the whole input was read and is accepted, and the normal form of its meaning went out.
-abbrev pub Succeeds : Job → Incoming → Incoming → Outgoing → Outgoing → ℕ → Type 0
-Succeeds (Judge role limits) old new before after status =
-    (verdict : Verdict) × IsJudged role limits old new (Ok verdict) × Appends before.written after.written (verdict_line verdict) × (status ≡ status_of verdict)
-Succeeds (Frames role limits) old new before after status =
-    (verdict : Verdict) × IsListed role limits old new before after (Ok verdict) × (status ≡ status_of verdict)
-Succeeds (Normal role limits) old new before after status = Normalises role limits old new before after × (status ≡ 0)
+-- 0 for an accepted stream, 1 for any other verdict, 2 for a stop
+abbrev pub status_of : Result Verdict Stop → ℕ
+status_of (Ok (Accepted summary)) = 0
+status_of (Ok verdict) = 1
+status_of (Err stopped) = 2
 
--- Where the status is 2. `judge`: there is no verdict, and nothing was printed, or its line couldn't be. `frames`:
--- the lines of the frames that came were printed, or couldn't be. `normal`: nothing was written, or it couldn't be.
-abbrev pub Fails : Job → Incoming → Incoming → Outgoing → Outgoing → Type 0
-Fails (Judge role limits) old new before after =
-    ((stop : Stop) × IsJudged role limits old new (Err stop) × (after ≡ before))
-    ⊎ ((verdict : Verdict) × IsJudged role limits old new (Ok verdict) × (after.failed ≡ true) × ((k : ℕ) × Appends before.written after.written (take k (verdict_line verdict))))
-Fails (Frames role limits) old new before after = (stop : Stop) × IsListed role limits old new before after (Err stop)
-Fails (Normal role limits) old new before after = (after.failed ≡ true) ⊎ (after ≡ before)
+-- What is told on the second output: a stop's line, and for `normal` the line of a verdict that isn't accepted. Where
+-- a write there fails, it is some front of the line.
+abbrev pub IsTold : Job → Result Verdict Stop → Outgoing → Outgoing → Type 0
+IsTold job (Ok (Accepted summary)) old new = new ≡ old
+IsTold (Normal role limits) (Ok verdict) old new = old.failed ≡ false → Prints old new (verdict_line verdict)
+IsTold job (Ok verdict) old new = new ≡ old
+IsTold job (Err stopped) old new = old.failed ≡ false → Prints old new (stop_line stopped)

@@ -1,9 +1,9 @@
-ghost use Rattle.std.specs.Prelude.{◌≡◌, ◌≢◌, ℕ, ◌⊎◌, false, true, take, OnOk, OnErr, MatchResult, IfOk};
-ghost use Rattle.std.specs.Io.KnownBytes.{Appends};
+ghost use Rattle.std.specs.Prelude.{◌≡◌, ◌⊎◌, false, true, Result};
 ghost use Rattle.wsn_scan.specs.declared.outcome.Verdict.{Verdict};
-ghost use Rattle.wsn_job.specs.Jobs.{Succeeds, Fails, status_of};
+ghost use Rattle.wsn_scan.specs.declared.stopping.Stop.{Stop};
+ghost use Rattle.wsn_job.specs.Jobs.{IsDone, IsTold, status_of};
 
-use crate::faults::{line_of, line_of_stop};
+use crate::telling::tell;
 use std::alloc::Allocator;
 use std::io::{Read, Write};
 use wsn_canon::normalise;
@@ -17,16 +17,14 @@ pub enum Job {
     Judge(Role, Limits),
     /// Print a line for each of its frames, and then the verdict.
     Frames(Role, Limits),
-    /// Write its normal form.
+    /// Write the normal form of what it means.
     Normal(Role, Limits),
 }
 
-/// The exit status of a fault.
-const FAULT: u8 = 2;
-
 /// Does a command's work and answers the program's exit status: 0 for an accepted stream, 1 for any other
-/// verdict, or 2 after one line on `errors` that tells the fault. What can't be written there is dropped.
-pub fn run<A: Allocator, R: Read, W: Write, E: Write>(
+/// verdict, which `normal` tells in one line on `errors`, or 2 after one line there that tells the fault. What
+/// can't be written there is dropped.
+pub fn run<A: Allocator + Copy, R: Read, W: Write, E: Write>(
     alloc: A,
     job: &Job,
     input: &mut Input<R>,
@@ -35,22 +33,34 @@ pub fn run<A: Allocator, R: Read, W: Write, E: Write>(
 ) -> u8
     requires readable { input.old.failed ≡ false }
     requires writable { output.old.failed ≡ false }
-    ensures success { result ≢ 2 → Succeeds job.now input.old input.new output.old output.new result }
-    ensures fault { result ≡ 2 → Fails job.now input.old input.new output.old output.new }
+    ensures done { (done : Result Verdict Stop) × IsDone job.now input.old input.new output.old output.new done
+        × (result ≡ status_of done) × IsTold job.now done errors.old errors.new }
     ensures status { (result ≡ 0) ⊎ (result ≡ 1) ⊎ (result ≡ 2) }
-    ensures quiet { result ≢ 2 → errors.new ≡ errors.old }
 
     // The faults of reading and writing are never lost.
     ensures read { input.new.failed ≡ true → result ≡ 2 }
     ensures write { output.new.failed ≡ true → result ≡ 2 }
 {
+    let done = work(alloc, job, input, output);
+    tell(job, done, errors);
+    status(done)
+}
+
+/// Does a command's work over the input and its first output.
+fn work<A: Allocator + Copy, R: Read, W: Write>(
+    alloc: A,
+    job: &Job,
+    input: &mut Input<R>,
+    output: &mut Output<W>,
+) -> Result<Verdict, Stop>
+    requires readable { input.old.failed ≡ false }
+    requires writable { output.old.failed ≡ false }
+    ensures { IsDone job.now input.old input.new output.old output.new result }
+{
     match *job {
-        Job::Judge(role, limits) => status(print_verdict(input, output, role, limits), errors),
-        Job::Frames(role, limits) => status(list(input, output, role, limits), errors),
-        Job::Normal(role, limits) => match normalise(alloc, input, output, role, limits) {
-            Ok(()) => 0,
-            Err(fault) => tell(errors, line_of(fault)),
-        },
+        Job::Judge(role, limits) => print_verdict(input, output, role, limits),
+        Job::Frames(role, limits) => list(input, output, role, limits),
+        Job::Normal(role, limits) => normalise(alloc, input, output, role, limits),
     }
 }
 
@@ -63,31 +73,20 @@ fn print_verdict<R: Read, W: Write>(
 ) -> Result<Verdict, Stop>
     requires readable { input.old.failed ≡ false }
     requires writable { output.old.failed ≡ false }
-    ensures done { MatchResult result (λ verdict. Succeeds (Job.Judge role limits) input.old input.new output.old output.new (status_of verdict)) (λ _. Fails (Job.Judge role limits) input.old input.new output.old output.new) }
-    ensures read { OnOk result (input.new.failed ≡ false) }
-    ensures write { OnOk result (output.new.failed ≡ false) }
+    ensures { IsDone (Job.Judge role limits) input.old input.new output.old output.new result }
 {
     let verdict = judge(input, role, limits)?;
     put_verdict(output, &verdict)?;
     Ok(verdict)
 }
 
-/// The status of a verdict, or of a stop, which is told.
-fn status<E: Write>(done: Result<Verdict, Stop>, errors: &mut Output<E>) -> u8
-    ensures verdict { IfOk done (λ verdict. (result ≡ status_of verdict) × (errors.new ≡ errors.old)) }
-    ensures stop { OnErr done (result ≡ 2) }
+/// The exit status of a verdict or a stop.
+fn status(done: Result<Verdict, Stop>) -> u8
+    ensures { result ≡ status_of done }
 {
     match done {
         Ok(Verdict::Accepted(_)) => 0,
         Ok(Verdict::Cut(_) | Verdict::Refused(_)) => 1,
-        Err(stop) => tell(errors, line_of_stop(stop)),
+        Err(_) => 2,
     }
-}
-
-/// Tells a fault in one line, and answers its status.
-fn tell<E: Write>(errors: &mut Output<E>, line: &str) -> u8
-    ensures { result ≡ 2 }
-{
-    let _ = errors.put(line.as_bytes());
-    FAULT
 }

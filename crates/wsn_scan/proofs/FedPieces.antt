@@ -1,8 +1,9 @@
 -- A piece that is handed to a scan share by share.
 use Rattle.std.proofs.Common.{◌≡◌, ℕ, suc, ◌+◌, ◌-◌, ◌*◌, ◌<◌, ◌≤◌, None, List, [], ◌∷◌, ◌++◌, length, take, drop, get_or, inl, inr, refl, sym, ap, ◌∙◌, subst, append_assoc, append-nil, arith, length-drop, take-append-drop}
+use Rattle.std.proofs.lemmas.Bool.{cases_eq}
 use Rattle.std.proofs.Math.Seq.{take-add, drop-append-add}
 use Rattle.std.proofs.lemmas.List.{take_all, length-take-le, drop-append-le}
-use borrow.Rule.Slice.PartMut.{mid_of, post_of, put_mid, put_same}
+use borrow.Rule.Slice.PartMut.{mid_of, post_of, put_mid, put_same, same_len_mid}
 use Rattle.wsn_wire.specs.declared.endpoint.Role.{Role}
 use Rattle.wsn_wire.specs.Frame.{IsBytes}
 use Rattle.wsn_wire.proofs.FrameLemmas.{IsBytes-right}
@@ -14,7 +15,7 @@ use Rattle.wsn_scan.specs.declared.progress.Stage.TheVariants as stages
 use Rattle.wsn_scan.specs.declared.scanning.Scan.{Scan}
 use Rattle.wsn_scan.specs.Bounds.{Bounds}
 use Rattle.wsn_scan.specs.declared.notices.HeadInfo.{HeadInfo}
-use Rattle.wsn_scan.specs.Scans.{Told, told_after, Reaches, Advances, GetsOn, IsRefusal, ends_untold_at, ends_untold, refusal_told}
+use Rattle.wsn_scan.specs.Scans.{Told, told_after, Reaches, Advances, GetsOn, IsRefusal, ends_untold_at, ends_untold, refusal_told, room_of}
 use Rattle.wsn_scan.specs.Feeding.{HasTaken, TakesFront, heads_in}
 
 -- a bound on each byte, index by index
@@ -57,6 +58,20 @@ takes_none scan piece role bounds bytes heads taken =
     subst (λ (hs : List HeadInfo). HasTaken role bounds scan (bytes ++ take 0 piece) hs) (sym (append-nil heads))
     (subst (λ (bs : List ℕ). HasTaken role bounds scan bs heads) (sym (append-nil bytes)) taken)
 
+-- a piece that is taken in two parts
+pub takes_further : (old mid new : Scan) (piece share : List ℕ) (at n : ℕ) (more heads : List HeadInfo) → share ≡ drop at piece → TakesFront old mid piece at more → TakesFront mid new share n heads
+    → TakesFront old new piece (at + n) (more ++ heads)
+takes_further old mid new piece share at n more next is first second role bounds bytes heads taken =
+    let came = second role bounds (bytes ++ take at piece) (heads ++ more) (first role bounds bytes heads taken) in
+    let joined : (bytes ++ take at piece) ++ take n share ≡ bytes ++ take (at + n) piece =
+    append_assoc bytes (take at piece) (take n share) ∙ ap (λ (bs : List ℕ). bytes ++ (take at piece ++ take n bs)) is ∙ ap (λ (bs : List ℕ). bytes ++ bs) (sym (take-add at n piece)) in
+    subst (λ (bs : List ℕ). HasTaken role bounds new bs (heads ++ (more ++ next))) joined
+    (subst (λ (hs : List HeadInfo). HasTaken role bounds new ((bytes ++ take at piece) ++ take n share) hs) (append_assoc heads more next) came)
+
+-- what stands behind some bytes are bytes
+pub bytes_behind : (at : ℕ) (piece : List ℕ) → IsBytes piece → IsBytes (drop at piece)
+bytes_behind at piece in_bytes = IsBytes-right (take at piece) (drop at piece) (subst IsBytes (sym (take-append-drop at piece)) in_bytes)
+
 heads_after : (told : Told) (notice : Notice) (bytes : List ℕ) → (told_after told notice bytes).heads ≡ told.heads ++ heads_in notice
 heads_after told notices.More bytes = sym (append-nil told.heads)
 heads_after told (notices.Head info) bytes = refl
@@ -68,22 +83,53 @@ heads_after told (notices.Refused refusal) bytes = sym (append-nil told.heads)
 has_taken : (role : Role) (bounds : Bounds) (scan : Scan) (bytes : List ℕ) (notice : Notice) (told : Told) → Reaches role bounds scan notice bytes told → HasTaken role bounds scan bytes told.heads
 has_taken role bounds scan bytes notice told reached = record { frames = reached.frames; since = reached.since; payload = told.payload; ends = told.ends; stands = reached.stands }
 
+-- what a call takes
+pub takes_by : (old new : Scan) (notice : Notice) (piece after : List ℕ) (n : ℕ) → Advances old new piece after n notice → IsBytes piece → TakesFront old new piece n (heads_in notice)
+takes_by old new notice piece after n advances in_bytes role bounds bytes heads taken =
+    let told : Told = record { heads = heads; payload = taken.payload; ends = taken.ends } in
+    let reached = advances role bounds bytes taken.since taken.frames told in_bytes taken.stands in
+    subst (λ (hs : List HeadInfo). HasTaken role bounds new (bytes ++ take n piece) hs) (heads_after told notice (take n after))
+    (has_taken role bounds new (bytes ++ take n piece) notice (told_after told notice (take n after)) reached)
+
 pub takes_on : (old mid new : Scan) (notice : Notice) (piece share after : List ℕ) (at n : ℕ) (more : List HeadInfo) → IsBytes piece → share ≡ drop at piece → TakesFront old mid piece at more
     → Advances mid new share after n notice → TakesFront old new piece (at + n) (more ++ heads_in notice)
-takes_on old mid new notice piece share after at n more in_bytes is takes advances role bounds bytes heads taken =
-    let before = takes role bounds bytes heads taken in
-    let told : Told = record { heads = heads ++ more; payload = before.payload; ends = before.ends } in
-    let in_share : IsBytes share = subst IsBytes (sym is) (IsBytes-right (take at piece) (drop at piece) (subst IsBytes (sym (take-append-drop at piece)) in_bytes)) in
-    let reached = advances role bounds (bytes ++ take at piece) before.since before.frames told in_share before.stands in
-    let came = has_taken role bounds new ((bytes ++ take at piece) ++ take n share) notice (told_after told notice (take n after)) reached in
-    let all : (told_after told notice (take n after)).heads ≡ heads ++ (more ++ heads_in notice) = heads_after told notice (take n after) ∙ append_assoc heads more (heads_in notice) in
-    let joined : (bytes ++ take at piece) ++ take n share ≡ bytes ++ take (at + n) piece =
-    append_assoc bytes (take at piece) (take n share) ∙ ap (λ (bs : List ℕ). bytes ++ (take at piece ++ take n bs)) is ∙ ap (λ (bs : List ℕ). bytes ++ bs) (sym (take-add at n piece)) in
-    subst (λ (bs : List ℕ). HasTaken role bounds new bs (heads ++ (more ++ heads_in notice))) joined (subst (λ (hs : List HeadInfo). HasTaken role bounds new ((bytes ++ take at piece) ++ take n share) hs) all came)
+takes_on old mid new notice piece share after at n more in_bytes is takes advances =
+    takes_further old mid new piece share at n more (heads_in notice) is takes (takes_by mid new notice share after n advances (subst IsBytes (sym is) (bytes_behind at piece in_bytes)))
+
+-- ---- a piece so far
+
+-- The scan has taken the piece up to this byte, and the piece as it is now is the same from there on.
+pub record IsFedTo (old scan : Scan) (piece here : List ℕ) (at : ℕ) : Type 0 where
+  pub in_bytes : IsBytes piece
+  pub within : at ≤ length piece
+  pub size : length here ≡ length piece
+  pub kept : drop at here ≡ drop at piece
+  pub room : room_of scan + at ≡ room_of old
+  pub takes : (more : List HeadInfo) × TakesFront old scan piece at more
+
+-- some bytes further
+pub fed_further : (old scan new : Scan) (piece here after : List ℕ) (at n : ℕ) → IsFedTo old scan piece here at → n ≤ length (mid_of at (length here - at) here)
+    → length after ≡ length (mid_of at (length here - at) here) → drop n after ≡ drop n (mid_of at (length here - at) here) → room_of new + n ≡ room_of scan
+    → (IsBytes (mid_of at (length here - at) here) → (heads : List HeadInfo) × TakesFront scan new (mid_of at (length here - at) here) n heads) → IsFedTo old new piece (put_mid at (length here - at) here after) (at + n)
+fed_further old scan new piece here after at n fed fits same_size same room takes =
+    let share = mid_of at (length here - at) here in
+    let is : share ≡ drop at piece = share_is at here ∙ fed.kept in
+    let in_here : at ≤ length here = omega (arith, fed.within, fed.size) in
+    let in_share : IsBytes share = subst IsBytes (sym is) (bytes_behind at piece fed.in_bytes) in
+    let size : length share ≡ length (drop at piece) = ap (λ (bs : List ℕ). length bs) is in
+    let more = takes in_share in
+    record {
+      in_bytes = fed.in_bytes;
+      within = omega (arith, fits, size, length-drop at piece, fed.within);
+      size = same_len_mid at (length here - at) here after same_size ∙ fed.size;
+      kept = kept_behind at (length here - at) n here after in_here fits same_size same ∙ same_further at n here piece in_here fed.within fed.kept;
+      room = omega (arith, room, fed.room);
+      takes = (fed.takes.0 ++ more.0, takes_further old scan new piece share at n fed.takes.0 more.0 is fed.takes.1 more.1);
+    }
 
 -- ---- a call gets on
 
-untold_few : (stage : Stage) → ends_untold_at stage ≤ 1
+pub untold_few : (stage : Stage) → ends_untold_at stage ≤ 1
 untold_few stages.Between = omega arith
 untold_few (stages.Head part) = omega arith
 untold_few (stages.Payload inside) = omega arith
@@ -119,4 +165,12 @@ falls old new notice at n size less fits other gets_on =
         | inl fewer ↦ omega arith
         | inr is ↦ absurd (other is)
       ]
+    ]
+
+-- the same where more bytes are taken, or none and the scan stays as it is
+pub falls_further : (old new : Scan) (at n size most : ℕ) → at + n ≤ size → 2 * (size - at) + ends_untold old < most → (n ≡ 0 → new ≡ old) → 2 * (size - (at + n)) + ends_untold new < most
+falls_further old new at n size most fits less same =
+    elim (cases_eq n 0) [
+      | inl none ↦ let ends : ends_untold new ≡ ends_untold old = ap (λ (scan : Scan). ends_untold scan) (same none) in omega (arith, ends, none, less)
+      | inr some ↦ let few = untold_few new.stage in omega (arith, few, some, less, fits)
     ]

@@ -32,6 +32,7 @@ pub mod FrameEnds
 pub mod Refusals
 pub mod PayloadBytes
 pub mod FrameStarts
+pub mod FramesAtOnce
 pub mod MoreBytes
 pub mod FedPieces
 pub mod Printing
@@ -40,3 +41,4 @@ pub mod Unrefused
 pub mod JudgedInputs
 pub mod OneAnswer
 pub mod PayloadMore
+pub mod FramesTold

@@ -101,7 +101,7 @@ text_cut_or_not reason =
       | inr other ↦ inr (λ is. other (ap number_of is))
     ]
 
-unmasked_by-nil : (key : Option (List ℕ)) → unmasked_by key 0 [] ≡ []
+pub unmasked_by-nil : (key : Option (List ℕ)) → unmasked_by key 0 [] ≡ []
 unmasked_by-nil None = refl
 unmasked_by-nil (Some key) = refl
 

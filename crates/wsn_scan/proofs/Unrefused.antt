@@ -80,6 +80,9 @@ module _ (role : Role) (bounds : Bounds) where
       record { verdict = Accepted (summary_of scan scan.used (taken_of scan - scan.used) (Some code)); is = closed_verdict role bounds scan bytes rest fs told (stages.Closed code) stands code stands.at.0 stands.at.1; other = refl }
   not_refused_at scan bytes rest fs told (stages.Refused refusal) stands none = absurd cc
 
+  pub not_refused : (scan : Scan) (bytes rest : List ℕ) (fs : List Frame) (told : Told) → StandsAt role bounds scan scan.stage bytes fs rest told → refusal_in scan ≡ None → (verdict : Verdict) × IsVerdict role bounds bytes fs verdict
+  not_refused scan bytes rest fs told stands none = let not = not_refused_at scan bytes rest fs told scan.stage stands none in (not.verdict, not.is)
+
   -- bytes with another verdict show no refusal
   no_refusal_of : (bytes : List ℕ) (fs : List Frame) → NotRefused role bounds bytes fs → IsUnrefused role bounds bytes
   no_refusal_of bytes fs not gs place reason refused =

@@ -21,3 +21,4 @@ pub mod Judging
 pub mod Listing
 pub mod Payloads
 pub mod Lines
+pub mod FramesTold

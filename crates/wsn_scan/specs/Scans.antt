@@ -218,10 +218,10 @@ IsHeadNotice (notices.Head info) = ⊤
 IsHeadNotice notice = ⊥
 
 abbrev pub TakesAt : Stage → ℕ → ℕ → Notice → Type 0
-TakesAt stages.Between size n notice = ((notice ≡ notices.More) × (n ≡ size)) ⊎ IsHeadNotice notice ⊎ IsRefusal notice
-TakesAt (stages.Head part) size n notice = ((notice ≡ notices.More) × (n ≡ size)) ⊎ IsHeadNotice notice ⊎ IsRefusal notice
+TakesAt stages.Between size n notice = ((notice ≡ notices.More) × (n ≡ size)) ⊎ (IsHeadNotice notice × (0 < n)) ⊎ IsRefusal notice
+TakesAt (stages.Head part) size n notice = ((notice ≡ notices.More) × (n ≡ size)) ⊎ (IsHeadNotice notice × (0 < n)) ⊎ IsRefusal notice
 TakesAt (stages.Payload inside) size n notice =
-    ((notice ≡ notices.More) × (n ≡ 0) × IsMost size (inside.head.len - inside.done) n) ⊎ ((notice ≡ notices.Payload) × IsMost size (inside.head.len - inside.done) n) ⊎ IsRefusal notice
+    ((notice ≡ notices.More) × (n ≡ 0) × IsMost size (inside.head.len - inside.done) n) ⊎ ((notice ≡ notices.Payload) × (0 < n) × IsMost size (inside.head.len - inside.done) n) ⊎ IsRefusal notice
 TakesAt (stages.Ended event) size n notice = (n ≡ 0) × (notice ≡ notices.FrameEnd event)
 TakesAt (stages.CloseEnded code) size n notice = (n ≡ 0) × (notice ≡ notices.FrameEnd true)
 TakesAt (stages.Closed code) size n notice = (n ≡ size) × (notice ≡ notices.Closed)

@@ -46,11 +46,7 @@ pub fn judge<R: Read>(input: &mut Input<R>, role: Role, limits: Limits) -> Resul
 
 /// Reads once, into the front of the buffer, and no more than a byte past the room. It answers how many bytes
 /// came: 0 only at the end. `None` where the reader answered an error.
-pub(crate) fn read_piece<R: Read>(
-    input: &mut Input<R>,
-    room: u64,
-    buffer: &mut [u8],
-) -> Option<usize>
+pub fn read_piece<R: Read>(input: &mut Input<R>, room: u64, buffer: &mut [u8]) -> Option<usize>
     requires { 0 < length buffer.old }
     ensures within { IfSome result (λ n. (n ≤ room + 1) × (n ≤ length buffer.new)) }
     ensures bytes { IfSome result (λ n. Consumes input.old.remaining input.new.remaining (take n buffer.new)) }
@@ -75,6 +71,7 @@ pub(crate) fn feed(scan: &mut Scan, piece: &mut [u8]) -> Option<Refusal>
         if let Some(refusal) = scan.refusal() {
             return Some(refusal);
         }
+        at += scan.take_frames(&mut piece[at..]);
     }
     None
 }

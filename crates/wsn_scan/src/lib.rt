@@ -26,7 +26,7 @@ mod stopping;
 mod tally;
 
 pub use ceilings::{INPUT_MAX, Limits, MESSAGE_MAX};
-pub use judging::judge;
+pub use judging::{judge, read_piece};
 pub use lines::put_verdict;
 pub use listing::list;
 pub use notices::{HeadInfo, Notice};

@@ -171,6 +171,7 @@ fn feed_reason(reason: Utf8, piece: &[u8], last: bool) -> Result<Utf8, BadByte>
 
 /// Takes more of a text, which ends with this piece if `ends` is true. The reason is `bad` where a byte can't
 /// follow, and `cut` where the text ends inside a character (RFC 6455 section 8.1).
+#[inline(always)]
 fn feed_text(
     mut utf8: Utf8,
     piece: &[u8],

@@ -1,4 +1,4 @@
-ghost use Rattle.std.specs.Prelude.{◌≡◌, ℕ, None, List, [], ◌∷◌, ◌++◌};
+ghost use Rattle.std.specs.Prelude.{◌≡◌, ℕ, None, List, [], ◌∷◌, ◌++◌, IsTrue};
 ghost use Rattle.wsn_wire.specs.Frame.{Frame, first_byte};
 ghost use Rattle.wsn_scan.specs.Group.{unfinished};
 ghost use Rattle.wsn_scan.specs.Lawful.{IsLawful};
@@ -52,5 +52,15 @@ impl Stage {
             PayloadCheck::Close(body) => Stage::CloseEnded(body.code()),
             PayloadCheck::Free | PayloadCheck::Text(_) => Stage::Ended(fin),
         }
+    }
+
+    /// Whether no byte of a frame came since the last one, which is no Close.
+    #[inline(always)]
+    pub fn is_between(&self) -> bool
+        ensures between { IsTrue result → (role : _) (bounds : _) (bytes rest : List ℕ) (fs : List Frame) (told : Told) → IsAt role bounds self.now bytes fs rest told
+            → HasNoClose fs × (rest ≡ []) × (told.heads ≡ heads_of fs) }
+        ensures told { IsTrue result → refusal_at self.now ≡ None }
+    {
+        matches!(self, Stage::Between | Stage::Ended(_))
     }
 }

@@ -1,77 +1,37 @@
 //! `judge` and `frames` as commands: the status, what goes out and what is said, with no memory to be had.
 
 use crate::ends::{Chopped, Full, Narrow};
+use crate::outcomes::{Outcome, outcome_on, status_of};
 use crate::vectors::{Stream, streams};
 use linked_list_allocator::LocalHeap;
 use std::alloc::{AllocError, Global};
 use std::process::Abort;
 use std::test::Fail;
-use wsn_job::{Job, run};
-use wsn_wire::{Input, Output};
-
-/// What a run left: its status, what went out, and what it said.
-#[derive(Drop)]
-struct Outcome {
-    status: u8,
-    out: Vec<u8>,
-    said: Vec<u8>,
-}
+use wsn_job::Job;
 
 /// Runs a command whose every wish for memory is refused.
 fn outcome_of(
     alloc: Global,
     job: &Job,
-    mut reader: Chopped,
-    mut writer: Narrow,
+    reader: Chopped,
+    writer: Narrow,
 ) -> Result<Outcome, AllocError> {
-    let heap = LocalHeap::new(alloc, 0)?;
-    let mut said = Vec::new(alloc);
-    let status = run(
-        &heap,
-        job,
-        &mut Input::new(&mut reader),
-        &mut Output::new(&mut writer),
-        &mut Output::new(&mut said),
-    );
-    Ok(Outcome {
-        status,
-        out: writer.taken,
-        said,
-    })
-}
-
-fn expect(rt: &impl Abort, outcome: &Outcome, status: u8, out: &[u8], said: &[u8]) {
-    assert_eq!(rt; outcome.status, status);
-    assert_eq!(rt; outcome.out.as_slice(), out);
-    assert_eq!(rt; outcome.said.as_slice(), said);
-}
-
-/// The status that a line of a verdict calls for; 2 for a fault.
-fn status_of(line: &str) -> u8 {
-    if line.starts_with("accepted") {
-        0
-    } else if line.starts_with("cut") || line.starts_with("refused") {
-        1
-    } else {
-        2
-    }
-}
-
-fn wide(alloc: Global) -> Narrow {
-    Narrow::new(alloc, usize::MAX, usize::MAX, Full::Fails)
+    let heap = LocalHeap::new(alloc, 16)?;
+    let _taken = Vec::<u8, &LocalHeap>::with_capacity(&heap, 16)?;
+    Ok(outcome_on(&heap, alloc, job, reader, writer))
 }
 
 fn expect_judged(rt: &impl Abort, alloc: Global, stream: &Stream) -> Result<(), Fail> {
     let job = Job::Judge(stream.role, stream.limits);
     let reader = Chopped::new(stream.bytes.as_slice(), 4_096);
-    let outcome = outcome_of(alloc, &job, reader, wide(alloc))?;
+    let outcome = outcome_of(alloc, &job, reader, Narrow::wide(alloc))?;
     let status = status_of(stream.verdict);
     let verdict = stream.verdict;
     let line = format!(in alloc; "{verdict}\n")?;
     if status == 2 {
-        expect(rt, &outcome, status, &[], line.as_bytes());
+        outcome.expect(rt, status, &[], line.as_bytes());
     } else {
-        expect(rt, &outcome, status, line.as_bytes(), &[]);
+        outcome.expect(rt, status, line.as_bytes(), &[]);
     }
     Ok(())
 }
@@ -84,10 +44,10 @@ fn expect_listed(
 ) -> Result<(), Fail> {
     let job = Job::Frames(stream.role, stream.limits);
     let reader = Chopped::new(stream.bytes.as_slice(), 4_096);
-    let outcome = outcome_of(alloc, &job, reader, wide(alloc))?;
+    let outcome = outcome_of(alloc, &job, reader, Narrow::wide(alloc))?;
     let verdict = stream.verdict;
     let lines = format!(in alloc; "{frames}{verdict}\n")?;
-    expect(rt, &outcome, status_of(verdict), lines.as_bytes(), &[]);
+    outcome.expect(rt, status_of(verdict), lines.as_bytes(), &[]);
     Ok(())
 }
 
@@ -117,14 +77,14 @@ fn faults_are_told_in_one_line(rt: HostRuntime) -> Result<(), Fail> {
     for stream in streams(alloc)?.iter() {
         let judge = Job::Judge(stream.role, stream.limits);
         let reader = Chopped::failing(stream.bytes.as_slice(), 1, 0);
-        let outcome = outcome_of(alloc, &judge, reader, wide(alloc))?;
-        expect(&rt, &outcome, 2, &[], b"read failed\n");
+        let outcome = outcome_of(alloc, &judge, reader, Narrow::wide(alloc))?;
+        outcome.expect(&rt, 2, &[], b"read failed\n");
         let frames = Job::Frames(stream.role, stream.limits);
         let reader = Chopped::new(stream.bytes.as_slice(), usize::MAX);
         let writer = Narrow::new(alloc, 1, 0, Full::TakesNothing);
         let outcome = outcome_of(alloc, &frames, reader, writer)?;
         if status_of(stream.verdict) != 2 {
-            expect(&rt, &outcome, 2, &[], b"write failed\n");
+            outcome.expect(&rt, 2, &[], b"write failed\n");
         }
     }
     Ok(())

@@ -6,12 +6,13 @@ use std::io::{self, Error, ErrorKind, Read, Write};
 /// How many bytes a read gives at most, one size after another.
 pub const READS: [usize; 7] = [1, 2, 3, 4_095, 4_096, 4_097, usize::MAX];
 
-/// A reader that gives at most so many bytes a call, and fails at a call if it is told to.
+/// A reader that gives at most so many bytes a call, and fails at a call, or behind its bytes, if it is told to.
 #[derive(Drop)]
 pub struct Chopped<'a> {
     rest: &'a [u8],
     most: usize,
     calls_left: Option<usize>,
+    breaks: bool,
 }
 
 impl<'a> Chopped<'a> {
@@ -20,6 +21,7 @@ impl<'a> Chopped<'a> {
             rest: bytes,
             most,
             calls_left: None,
+            breaks: false,
         }
     }
 
@@ -29,7 +31,23 @@ impl<'a> Chopped<'a> {
             rest: bytes,
             most,
             calls_left: Some(calls),
+            breaks: false,
         }
+    }
+
+    /// One that fails behind its last byte.
+    pub fn breaking(bytes: &'a [u8], most: usize) -> Self {
+        Chopped {
+            rest: bytes,
+            most,
+            calls_left: None,
+            breaks: true,
+        }
+    }
+
+    /// How many bytes it hasn't given yet.
+    pub fn left(&self) -> usize {
+        self.rest.len()
     }
 }
 
@@ -40,9 +58,41 @@ impl Read for Chopped<'_> {
             Some(calls) => self.calls_left = Some(calls - 1),
             None => {}
         }
+        if self.breaks && self.rest.is_empty() {
+            return Err(Error::from(ErrorKind::Other));
+        }
         let count = self.most.min(buf.len()).min(self.rest.len());
         buf[..count].copy_from_slice(&self.rest[..count]);
         self.rest = &self.rest[count..];
+        Ok(count)
+    }
+}
+
+/// A reader of empty pings without end, and how many bytes it gave.
+#[derive(Drop)]
+pub struct EndlessPings {
+    rest: &'static [u8],
+    pub given: usize,
+}
+
+impl EndlessPings {
+    pub fn new() -> Self {
+        EndlessPings {
+            rest: &[],
+            given: 0,
+        }
+    }
+}
+
+impl Read for EndlessPings {
+    fn read(&mut self, buf: &mut [u8]) -> io::Result<usize> {
+        if self.rest.is_empty() {
+            self.rest = &[0x89, 0x00];
+        }
+        let count = buf.len().min(self.rest.len());
+        buf[..count].copy_from_slice(&self.rest[..count]);
+        self.rest = &self.rest[count..];
+        self.given = self.given.saturating_add(count);
         Ok(count)
     }
 }
@@ -71,6 +121,11 @@ impl Narrow {
             room,
             full,
         }
+    }
+
+    /// One that takes all.
+    pub fn wide(alloc: Global) -> Self {
+        Narrow::new(alloc, usize::MAX, usize::MAX, Full::Fails)
     }
 }
 

@@ -5,7 +5,13 @@
 #[cfg(test)]
 mod commands;
 #[cfg(test)]
+mod comparing;
+#[cfg(test)]
 mod ends;
+#[cfg(test)]
+mod events;
+#[cfg(test)]
+mod growths;
 #[cfg(test)]
 mod judging;
 #[cfg(test)]
@@ -15,8 +21,14 @@ mod listing;
 #[cfg(test)]
 mod normal;
 #[cfg(test)]
+mod normalising;
+#[cfg(test)]
+mod outcomes;
+#[cfg(test)]
 mod scan_calls;
 #[cfg(test)]
 mod scan_pieces;
+#[cfg(test)]
+mod sourcing;
 #[cfg(test)]
 mod vectors;

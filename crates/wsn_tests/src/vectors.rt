@@ -14,12 +14,14 @@ use std::test::Fail;
 use wsn_scan::{INPUT_MAX, Limits, MESSAGE_MAX};
 use wsn_wire::{Lengths, Role};
 
-/// A stream and the line of its verdict, or `input limit` where it is longer than an input may be.
+/// A stream, the line of its verdict, or `input limit` where it is longer than an input may be, and the normal form
+/// of its events.
 #[derive(Clone, Copy, Debug)]
 pub struct Vector {
     pub name: &'static str,
     pub bytes: &'static [u8],
     pub verdict: &'static str,
+    pub normal: &'static [u8],
 }
 
 /// A server's stream and what it is read under.
@@ -30,6 +32,7 @@ pub struct BoundedVector {
 }
 
 /// A server's stream with one byte many times over between its first bytes and its last, and the lines of its frames.
+/// In its normal form that byte stands many times over behind the first bytes.
 #[derive(Clone, Copy, Debug)]
 pub struct LongVector {
     pub name: &'static str,
@@ -39,9 +42,11 @@ pub struct LongVector {
     pub last: &'static [u8],
     pub frames: &'static str,
     pub verdict: &'static str,
+    pub normal_first: &'static [u8],
+    pub normal_count: usize,
 }
 
-/// A stream with the lines of its frames, and its payload unmasked, frame after frame.
+/// A stream with the lines of its frames, its payload unmasked, frame after frame, and its normal form.
 #[derive(Clone, Copy, Debug)]
 pub struct ListedVector {
     pub name: &'static str,
@@ -51,6 +56,7 @@ pub struct ListedVector {
     pub frames: &'static str,
     pub payload: &'static [u8],
     pub verdict: &'static str,
+    pub normal: &'static [u8],
 }
 
 /// What a stream is read under.
@@ -86,6 +92,7 @@ pub struct Stream {
     pub frames: Option<&'static str>,
     pub payload: Option<&'static [u8]>,
     pub verdict: &'static str,
+    pub normal: Vec<u8>,
 }
 
 impl Stream {
@@ -143,14 +150,12 @@ fn stream_of(alloc: Global, role: Role, under: Under, vector: &Vector) -> Result
         frames: None,
         payload: None,
         verdict: vector.verdict,
+        normal: vector.normal.to_vec(alloc)?,
     })
 }
 
 fn long_stream_of(alloc: Global, vector: &LongVector) -> Result<Stream, Fail> {
-    let mut bytes = vector.first.to_vec(alloc)?;
-    for _ in 0..vector.count {
-        bytes.push(vector.byte)?;
-    }
+    let mut bytes = repeated(alloc, vector.first, vector.byte, vector.count)?;
     bytes.extend_from_slice(vector.last)?;
     Ok(Stream {
         name: vector.name,
@@ -160,7 +165,17 @@ fn long_stream_of(alloc: Global, vector: &LongVector) -> Result<Stream, Fail> {
         frames: Some(vector.frames),
         payload: None,
         verdict: vector.verdict,
+        normal: repeated(alloc, vector.normal_first, vector.byte, vector.normal_count)?,
     })
+}
+
+/// The first bytes, and one byte so many times behind them.
+fn repeated(alloc: Global, first: &[u8], byte: u8, count: usize) -> Result<Vec<u8>, Fail> {
+    let mut bytes = first.to_vec(alloc)?;
+    for _ in 0..count {
+        bytes.push(byte)?;
+    }
+    Ok(bytes)
 }
 
 fn listed_stream_of(alloc: Global, vector: &ListedVector) -> Result<Stream, Fail> {
@@ -172,5 +187,6 @@ fn listed_stream_of(alloc: Global, vector: &ListedVector) -> Result<Stream, Fail
         frames: Some(vector.frames),
         payload: Some(vector.payload),
         verdict: vector.verdict,
+        normal: vector.normal.to_vec(alloc)?,
     })
 }

@@ -1,6 +1,6 @@
 -- Bytes below 0x80 are characters of one byte each.
-use Rattle.std.specs.Prelude.{slice_index}
-use Rattle.std.proofs.Common.{◌≡◌, ℕ, suc, ◌<◌, List, [], ◌∷◌, inl, refl, ap, arith}
+use Rattle.std.specs.Prelude.{slice_index, MatchBool, IsTrue}
+use Rattle.std.proofs.Common.{◌≡◌, ℕ, Bool, true, false, suc, ◌<◌, List, [], ◌∷◌, inl, refl, ap, arith}
 use Rattle.std.specs.List.{AllByRecursion, concat}
 use Rattle.wsn_text.specs.Utf8.{IsText, IsCharacter}
 
@@ -28,3 +28,8 @@ ascii_text bytes low = record { characters = singles bytes; each = each_single b
 pub each_below : (bytes : List ℕ) → ((i : ℕ) → slice_index bytes i < 128) → AllByRecursion (λ b. b < 128) bytes
 each_below [] below = tt
 each_below (b ∷ bytes) below = (below 0, each_below bytes (λ i. below (suc i)))
+
+-- what a look at each byte found
+pub text_if_ascii : (Q : Type 0) (bytes : List ℕ) (result : Bool) → IsTrue result → MatchBool result ((i : ℕ) → slice_index bytes i < 128) Q → IsText bytes
+text_if_ascii Q bytes true low cases = ascii_text bytes (each_below bytes cases)
+text_if_ascii Q bytes false low cases = cc

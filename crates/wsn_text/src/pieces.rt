@@ -133,6 +133,7 @@ impl Utf8 {
     /// # Errors
     ///
     /// The offset in this piece of the first bad byte of all bytes taken. Once a bad byte has come, 0.
+    #[inline(always)]
     pub fn feed(&mut self, piece: &[u8]) -> Result<(), usize>
         ensures within { IfErr result (λ i. (i ≡ 0) ⊎ (i < length piece.now)) }
 
@@ -143,6 +144,9 @@ impl Utf8 {
             → IfErr result (λ i. IsFirstBad (taken ++ piece.now) (length taken + i)) }
         ensures after_bad { (taken : List ℕ) → HasTaken self.old taken → ¬ (BeginsText taken) → result ≡ Err 0 }
     {
+        if self.goes_on_in_ascii(piece) {
+            return Ok(());
+        }
         if self.is_bad() {
             return Err(0);
         }
@@ -156,6 +160,17 @@ impl Utf8 {
         ensures { (taken : List ℕ) → HasTaken self.now taken → (IsTrue result ↔ IsText taken) }
     {
         matches!(self.expected, Expected::Character)
+    }
+
+    /// Whether no character is unfinished and the piece is ASCII; a quick look at short pieces alone.
+    #[inline(always)]
+    fn goes_on_in_ascii(&self, piece: &[u8]) -> bool
+        ensures { IsTrue result → Takes self.now self.now piece.now }
+    {
+        if !self.is_whole() {
+            return false;
+        }
+        piece.len() <= SHORT && piece.is_ascii()
     }
 
     /// Whether a bad byte has come, so that nothing may follow.
@@ -204,11 +219,6 @@ fn text_front(bytes: &[u8]) -> usize
     ensures text { (result ≤ length bytes.now) × IsText (take result bytes.now) }
     ensures most { result + 6 < length bytes.now → ¬ (BeginsText bytes.now) }
 {
-    if bytes.len() <= SHORT {
-        if bytes.is_ascii() {
-            return bytes.len();
-        }
-    }
     match from_utf8(&bytes[..last_character(bytes)]) {
         Ok(text) => text.len(),
         Err(bad) => bad.valid_up_to(),

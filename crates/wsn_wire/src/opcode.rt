@@ -32,7 +32,7 @@ impl Op {
     }
 
     // Close, Ping and Pong are control frames (RFC 6455 section 5.5).
-    pub(crate) fn is_control(self) -> bool
+    pub fn is_control(self) -> bool
         ensures { result ≡ is_control self }
     {
         match self {

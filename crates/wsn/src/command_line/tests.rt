@@ -58,6 +58,19 @@ fn frames_is_asked_for(rt: HostRuntime) -> Result<(), Fail> {
 }
 
 #[test]
+fn same_is_asked_for(rt: HostRuntime) -> Result<(), Fail> {
+    let asked = asked_by(rt.alloc(), "wsn same --role client a --limit 7 b")?;
+    let Ok(Request::Same(pair)) = &asked else {
+        panic!(rt; "not same");
+    };
+    assert_eq!(rt; pair.role, Role::Client);
+    assert_eq!(rt; pair.limits.message(), 7);
+    assert_eq!(rt; pair.first.as_str(), "a");
+    assert_eq!(rt; pair.second.as_str(), "b");
+    Ok(())
+}
+
+#[test]
 fn other_words_are_refused(rt: HostRuntime) -> Result<(), Fail> {
     let lines = [
         "wsn",
@@ -74,6 +87,11 @@ fn other_words_are_refused(rt: HostRuntime) -> Result<(), Fail> {
         "wsn judge --role server --limit 16777217",
         "wsn judge --role server --frames 0",
         "wsn frames --lengths any",
+        "wsn same --role client",
+        "wsn same --role client a",
+        "wsn same --role client a b c",
+        "wsn same --role client --limit 16777217 a b",
+        "wsn same a b",
         "wsn other --role client",
     ];
     for line in lines {
@@ -90,6 +108,7 @@ fn help_is_shown(rt: HostRuntime) -> Result<(), Fail> {
         "wsn normal --help",
         "wsn help judge",
         "wsn frames --help",
+        "wsn same --help",
     ] {
         let asked = asked_by(rt.alloc(), line)?;
         assert!(rt; matches!(asked, Ok(Request::Help(_))), "{line}");

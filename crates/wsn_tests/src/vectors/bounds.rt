@@ -54,6 +54,7 @@ pub static BOUNDED: [BoundedVector; 17] = [
             name: "an empty text at a limit of 0",
             bytes: &[0x81, 0x00],
             verdict: "accepted 2 tail 0 unfinished -",
+            normal: &[0x81, 0x00],
         },
     },
     BoundedVector {
@@ -62,6 +63,7 @@ pub static BOUNDED: [BoundedVector; 17] = [
             name: "a byte of text at a limit of 0",
             bytes: &[0x81, 0x01],
             verdict: "refused 1 message-too-big 1009",
+            normal: &[],
         },
     },
     BoundedVector {
@@ -70,6 +72,7 @@ pub static BOUNDED: [BoundedVector; 17] = [
             name: "0 in two bytes at a limit of 0",
             bytes: &[0x81, 0x7e, 0x00, 0x00],
             verdict: "accepted 4 tail 0 unfinished -",
+            normal: &[0x81, 0x00],
         },
     },
     BoundedVector {
@@ -78,6 +81,7 @@ pub static BOUNDED: [BoundedVector; 17] = [
             name: "1 in two bytes at a limit of 0",
             bytes: &[0x81, 0x7e, 0x00, 0x01],
             verdict: "refused 3 message-too-big 1009",
+            normal: &[],
         },
     },
     BoundedVector {
@@ -86,6 +90,7 @@ pub static BOUNDED: [BoundedVector; 17] = [
             name: "five bytes in two fragments at a limit of 4",
             bytes: &[0x01, 0x03, 0x48, 0x65, 0x6c, 0x80, 0x02],
             verdict: "refused 6 message-too-big 1009",
+            normal: &[],
         },
     },
     BoundedVector {
@@ -94,6 +99,7 @@ pub static BOUNDED: [BoundedVector; 17] = [
             name: "five bytes in two fragments at a limit of 5",
             bytes: &[0x01, 0x03, 0x48, 0x65, 0x6c, 0x80, 0x02, 0x6c, 0x6f],
             verdict: "accepted 9 tail 0 unfinished -",
+            normal: &[0x81, 0x05, 0x48, 0x65, 0x6c, 0x6c, 0x6f],
         },
     },
     BoundedVector {
@@ -102,6 +108,7 @@ pub static BOUNDED: [BoundedVector; 17] = [
             name: "two texts of one frame",
             bytes: &[0x81, 0x00, 0x81, 0x00],
             verdict: "accepted 4 tail 0 unfinished -",
+            normal: &[0x81, 0x00, 0x81, 0x00],
         },
     },
     BoundedVector {
@@ -110,6 +117,7 @@ pub static BOUNDED: [BoundedVector; 17] = [
             name: "a second frame",
             bytes: &[0x01, 0x00, 0x80],
             verdict: "refused 2 too-many-frames 1008",
+            normal: &[],
         },
     },
     BoundedVector {
@@ -118,6 +126,7 @@ pub static BOUNDED: [BoundedVector; 17] = [
             name: "a second frame with a reserved bit",
             bytes: &[0x01, 0x00, 0xc0],
             verdict: "refused 2 reserved-bits 1002",
+            normal: &[],
         },
     },
     BoundedVector {
@@ -126,6 +135,7 @@ pub static BOUNDED: [BoundedVector; 17] = [
             name: "a second text in place of a second frame",
             bytes: &[0x01, 0x00, 0x81],
             verdict: "refused 2 message-open 1002",
+            normal: &[],
         },
     },
     BoundedVector {
@@ -134,6 +144,7 @@ pub static BOUNDED: [BoundedVector; 17] = [
             name: "a Close in place of a second frame",
             bytes: &[0x01, 0x00, 0x88, 0x00],
             verdict: "accepted 4 tail 0 unfinished 0",
+            normal: &[0x88, 0x00],
         },
     },
     BoundedVector {
@@ -142,6 +153,7 @@ pub static BOUNDED: [BoundedVector; 17] = [
             name: "three fragments, where two may be",
             bytes: &[0x01, 0x01, 0xe2, 0x00, 0x01, 0x82, 0x80, 0x01, 0xac],
             verdict: "refused 6 too-many-frames 1008",
+            normal: &[],
         },
     },
     BoundedVector {
@@ -150,6 +162,7 @@ pub static BOUNDED: [BoundedVector; 17] = [
             name: "three fragments, where three may be",
             bytes: &[0x01, 0x01, 0xe2, 0x00, 0x01, 0x82, 0x80, 0x01, 0xac],
             verdict: "accepted 9 tail 0 unfinished -",
+            normal: &[0x81, 0x03, 0xe2, 0x82, 0xac],
         },
     },
     BoundedVector {
@@ -158,6 +171,7 @@ pub static BOUNDED: [BoundedVector; 17] = [
             name: "nothing at an input limit of 0",
             bytes: &[],
             verdict: "accepted 0 tail 0 unfinished -",
+            normal: &[],
         },
     },
     BoundedVector {
@@ -166,6 +180,7 @@ pub static BOUNDED: [BoundedVector; 17] = [
             name: "a Close of 4 bytes at an input limit of 4",
             bytes: &[0x88, 0x02, 0x03, 0xe8],
             verdict: "accepted 4 tail 0 unfinished -",
+            normal: &[0x88, 0x02, 0x03, 0xe8],
         },
     },
     BoundedVector {
@@ -174,6 +189,7 @@ pub static BOUNDED: [BoundedVector; 17] = [
             name: "a fifth byte behind a Close",
             bytes: &[0x88, 0x02, 0x03, 0xe8, 0x81],
             verdict: "input limit",
+            normal: &[0x88, 0x02, 0x03, 0xe8],
         },
     },
     BoundedVector {
@@ -182,6 +198,7 @@ pub static BOUNDED: [BoundedVector; 17] = [
             name: "a refusal before the fifth byte",
             bytes: &[0xc1, 0x00, 0x00, 0x00, 0x00],
             verdict: "refused 0 reserved-bits 1002",
+            normal: &[],
         },
     },
 ];

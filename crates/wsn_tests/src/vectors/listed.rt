@@ -14,6 +14,9 @@ pub static LISTED: [ListedVector; 14] = [
         frames: "0 fin text 37fa213d 5\n",
         payload: b"Hello",
         verdict: "accepted 11 tail 0 unfinished -",
+        normal: &[
+            0x81, 0x85, 0x00, 0x00, 0x00, 0x00, 0x48, 0x65, 0x6c, 0x6c, 0x6f,
+        ],
     },
     ListedVector {
         name: "Hello in two fragments, and a ping between them",
@@ -25,6 +28,7 @@ pub static LISTED: [ListedVector; 14] = [
         frames: "0 more text - 3\n5 fin ping - 0\n7 fin cont - 2\n",
         payload: b"Hello",
         verdict: "accepted 11 tail 0 unfinished -",
+        normal: &[0x89, 0x00, 0x81, 0x05, 0x48, 0x65, 0x6c, 0x6c, 0x6f],
     },
     ListedVector {
         name: "a character in three fragments under three keys, and a ping among them",
@@ -37,6 +41,10 @@ pub static LISTED: [ListedVector; 14] = [
         frames: "0 more text 37fa213d 1\n7 fin ping 00000001 0\n13 more cont ff000000 1\n20 fin cont 00000000 1\n",
         payload: &[0xe2, 0x82, 0xac],
         verdict: "accepted 27 tail 0 unfinished -",
+        normal: &[
+            0x89, 0x80, 0x00, 0x00, 0x00, 0x00, 0x81, 0x83, 0x00, 0x00, 0x00, 0x00, 0xe2, 0x82,
+            0xac,
+        ],
     },
     ListedVector {
         name: "half a character, whose last frame is not told",
@@ -46,6 +54,7 @@ pub static LISTED: [ListedVector; 14] = [
         frames: "0 more text - 1\n",
         payload: &[0xe2],
         verdict: "refused 4 text-cut 1007",
+        normal: &[],
     },
     ListedVector {
         name: "a Close, and frames behind it that are not told",
@@ -55,6 +64,7 @@ pub static LISTED: [ListedVector; 14] = [
         frames: "0 fin close - 2\n",
         payload: &[0x03, 0xe8],
         verdict: "accepted 4 tail 3 unfinished -",
+        normal: &[0x88, 0x02, 0x03, 0xe8],
     },
     ListedVector {
         name: "a head that is refused at its second byte",
@@ -64,6 +74,7 @@ pub static LISTED: [ListedVector; 14] = [
         frames: "0 fin pong - 1\n",
         payload: b"A",
         verdict: "refused 4 mask-present 1002",
+        normal: &[0x8a, 0x01, 0x41],
     },
     ListedVector {
         name: "the head of 125 bytes",
@@ -73,6 +84,7 @@ pub static LISTED: [ListedVector; 14] = [
         frames: "0 fin binary - 125\n",
         payload: &[],
         verdict: "cut 2",
+        normal: &[],
     },
     ListedVector {
         name: "the head of 126 bytes",
@@ -82,6 +94,7 @@ pub static LISTED: [ListedVector; 14] = [
         frames: "0 fin binary - 126\n",
         payload: &[],
         verdict: "cut 4",
+        normal: &[],
     },
     ListedVector {
         name: "the head of 65,535 bytes",
@@ -91,6 +104,7 @@ pub static LISTED: [ListedVector; 14] = [
         frames: "0 fin binary - 65535\n",
         payload: &[],
         verdict: "cut 4",
+        normal: &[],
     },
     ListedVector {
         name: "the head of 65,536 bytes",
@@ -100,6 +114,7 @@ pub static LISTED: [ListedVector; 14] = [
         frames: "0 fin binary - 65536\n",
         payload: &[],
         verdict: "cut 10",
+        normal: &[],
     },
     ListedVector {
         name: "a head without its key",
@@ -109,6 +124,7 @@ pub static LISTED: [ListedVector; 14] = [
         frames: "",
         payload: &[],
         verdict: "cut 7",
+        normal: &[],
     },
     ListedVector {
         name: "a text of one byte, its length in two",
@@ -118,6 +134,7 @@ pub static LISTED: [ListedVector; 14] = [
         frames: "0 fin text - 1 two\n",
         payload: b"A",
         verdict: "accepted 5 tail 0 unfinished -",
+        normal: &[0x81, 0x01, 0x41],
     },
     ListedVector {
         name: "a text of one byte, its length in eight",
@@ -129,6 +146,7 @@ pub static LISTED: [ListedVector; 14] = [
         frames: "0 fin text - 1 eight\n",
         payload: b"A",
         verdict: "accepted 11 tail 0 unfinished -",
+        normal: &[0x81, 0x01, 0x41],
     },
     ListedVector {
         name: "the shortest length in two bytes, under any spelling",
@@ -138,5 +156,6 @@ pub static LISTED: [ListedVector; 14] = [
         frames: "0 fin binary - 126\n",
         payload: &[],
         verdict: "cut 4",
+        normal: &[],
     },
 ];

@@ -11,6 +11,8 @@ pub static LONG: [LongVector; 6] = [
         last: &[],
         frames: "0 fin binary - 125\n",
         verdict: "accepted 127 tail 0 unfinished -",
+        normal_first: &[0x82, 0x7d],
+        normal_count: 125,
     },
     LongVector {
         name: "a binary message of 126 bytes",
@@ -20,6 +22,8 @@ pub static LONG: [LongVector; 6] = [
         last: &[],
         frames: "0 fin binary - 126\n",
         verdict: "accepted 130 tail 0 unfinished -",
+        normal_first: &[0x82, 0x7e, 0x00, 0x7e],
+        normal_count: 126,
     },
     LongVector {
         name: "a binary message of 65,536 bytes",
@@ -29,6 +33,8 @@ pub static LONG: [LongVector; 6] = [
         last: &[],
         frames: "0 fin binary - 65536\n",
         verdict: "accepted 65546 tail 0 unfinished -",
+        normal_first: &[0x82, 0x7f, 0x00, 0x00, 0x00, 0x00, 0x00, 0x01, 0x00, 0x00],
+        normal_count: 65_536,
     },
     LongVector {
         name: "fragments of 65,535 bytes and of one",
@@ -38,6 +44,8 @@ pub static LONG: [LongVector; 6] = [
         last: &[0x80, 0x01, 0x2a],
         frames: "0 more binary - 65535\n65539 fin cont - 1\n",
         verdict: "accepted 65542 tail 0 unfinished -",
+        normal_first: &[0x82, 0x7f, 0x00, 0x00, 0x00, 0x00, 0x00, 0x01, 0x00, 0x00],
+        normal_count: 65_536,
     },
     LongVector {
         name: "a ping of 125 bytes",
@@ -47,6 +55,8 @@ pub static LONG: [LongVector; 6] = [
         last: &[],
         frames: "0 fin ping - 125\n",
         verdict: "accepted 127 tail 0 unfinished -",
+        normal_first: &[0x89, 0x7d],
+        normal_count: 125,
     },
     LongVector {
         name: "a Close with a reason of 123 bytes",
@@ -56,5 +66,7 @@ pub static LONG: [LongVector; 6] = [
         last: &[],
         frames: "0 fin close - 125\n",
         verdict: "accepted 127 tail 0 unfinished -",
+        normal_first: &[0x88, 0x7d, 0x03, 0xe8],
+        normal_count: 123,
     },
 ];

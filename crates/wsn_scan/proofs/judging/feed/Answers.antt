@@ -1,7 +1,7 @@
-use Rattle.std.proofs.Common.{◌≡◌, ◌∙◌, ◌+◌, ◌-◌, ◌<◌, ◌≤◌, ℕ, List, [], ◌++◌, length, drop, refl, sym, arith, ap, length-drop}
-use borrow.Rule.Slice.PartMut.{mid_of, same_len_mid}
+use Rattle.std.proofs.Common.{◌≡◌, ◌∙◌, ◌+◌, ◌-◌, ◌<◌, ℕ, List, [], ◌++◌, length, drop, refl, sym, arith, ap, length-drop}
+use borrow.Rule.Slice.PartMut.{mid_of, put_mid}
 use Rattle.wsn_scan.specs.Feeding.{heads_in}
-use Rattle.wsn_scan.proofs.FedPieces.{bytes_below, share_is, kept_behind, same_further, takes_none, takes_on, none_told, falls}
+use Rattle.wsn_scan.proofs.FedPieces.{IsFedTo, bytes_below, share_is, takes_none, takes_by, takes_on, fed_further, none_told, falls, falls_further}
 use Rattle.wsn_scan.proofs.judging.feed.Goals as goal
 
 pub loop-at-init : goal.loop-at-init
@@ -35,35 +35,47 @@ pub loop-at-smaller : goal.loop-at-smaller
 loop-at-smaller c =
     let at = c.loop-at.at in
     let piece = c.args.piece.now in
+    let here = c.loop-at.piece in
+    let known = c.loop-at.invariant in
     let taken = c.next-taken.result.0 in
-    let share = mid_of at (length c.loop-at.piece - at) c.loop-at.piece in
-    let is : share ≡ drop at piece = share_is at c.loop-at.piece ∙ c.loop-at.invariant.kept in
+    let mid = c.next-taken.new.self in
+    let share = mid_of at (length here - at) here in
+    let is : share ≡ drop at piece = share_is at here ∙ known.kept in
     let size : length share ≡ length (drop at piece) = ap (λ (bs : List ℕ). length bs) is in
     let some : 0 < length share = omega (arith, length-drop at piece) in
-    let before = c.loop-at.invariant.takes.1 c.requires.begun.role c.requires.begun.bounds c.requires.begun.bytes c.requires.begun.heads c.requires.begun.taken in
-    falls c.loop-at.scan c.next-taken.new.self c.next-taken.result.1 at taken (length piece) (omega arith) (omega (arith, length-drop at piece, c.next-taken.ensures.within))
+    let before = known.takes.1 c.requires.begun.role c.requires.begun.bounds c.requires.begun.bytes c.requires.begun.heads c.requires.begun.taken in
+    let first = falls c.loop-at.scan mid c.next-taken.result.1 at taken (length piece) (omega arith) (omega (arith, length-drop at piece, c.next-taken.ensures.within))
     (none_told c.next-taken.result.1 (sym c.next-taken.ensures.told ∙ sym c.refusal.ensures ∙ c.in_default.is))
-    (c.next-taken.ensures.gets_on c.requires.begun.role c.requires.begun.bounds _ before.since before.frames _ before.stands some)
+    (c.next-taken.ensures.gets_on c.requires.begun.role c.requires.begun.bounds _ before.since before.frames _ before.stands some) in
+    let fed : IsFedTo c.args.scan.now c.loop-at.scan piece here at = record { in_bytes = known.in_bytes; within = known.within; size = known.size; kept = known.kept; room = known.room; takes = known.takes } in
+    let there = put_mid at (length here - at) here c.next-taken.new.piece in
+    let next = fed_further c.args.scan.now c.loop-at.scan mid piece here c.next-taken.new.piece at taken fed c.next-taken.ensures.within c.next-taken.auto.piece c.next-taken.ensures.kept c.next-taken.ensures.room
+    (λ in_bytes. (heads_in c.next-taken.result.1, takes_by c.loop-at.scan mid c.next-taken.result.1 share c.next-taken.new.piece taken c.next-taken.ensures.taken in_bytes)) in
+    let more = c.take_frames-at.result in
+    let all = share_is (at + taken) there ∙ next.kept in
+    falls_further mid c.take_frames-at.new.self (at + taken) more (length piece) _ (omega (arith, next.within, length-drop (at + taken) piece, ap (λ (bs : List ℕ). length bs) all, c.take_frames-at.ensures.within)) first c.take_frames-at.ensures.none
 
 pub loop-at-preserved : goal.loop-at-preserved
 loop-at-preserved c =
     let at = c.loop-at.at in
     let piece = c.args.piece.now in
     let here = c.loop-at.piece in
+    let known = c.loop-at.invariant in
     let taken = c.next-taken.result.0 in
+    let mid = c.next-taken.new.self in
     let share = mid_of at (length here - at) here in
-    let is : share ≡ drop at piece = share_is at here ∙ c.loop-at.invariant.kept in
-    let size : length share ≡ length (drop at piece) = ap (λ (bs : List ℕ). length bs) is in
-    let within : taken ≤ length share = c.next-taken.ensures.within in
-    let in_here : at ≤ length here = omega arith in
-    let same_size : length c.next-taken.new.piece ≡ length share = c.next-taken.auto.piece in
+    let fed : IsFedTo c.args.scan.now c.loop-at.scan piece here at = record { in_bytes = known.in_bytes; within = known.within; size = known.size; kept = known.kept; room = known.room; takes = known.takes } in
+    let there = put_mid at (length here - at) here c.next-taken.new.piece in
+    let next = fed_further c.args.scan.now c.loop-at.scan mid piece here c.next-taken.new.piece at taken fed c.next-taken.ensures.within c.next-taken.auto.piece c.next-taken.ensures.kept c.next-taken.ensures.room
+    (λ in_bytes. (heads_in c.next-taken.result.1, takes_by c.loop-at.scan mid c.next-taken.result.1 share c.next-taken.new.piece taken c.next-taken.ensures.taken in_bytes)) in
+    let frames = c.take_frames-at in
+    let last = fed_further c.args.scan.now mid frames.new.self piece there frames.new.piece (at + taken) frames.result next frames.ensures.within frames.auto.piece frames.ensures.kept frames.ensures.room frames.ensures.taken in
     record {
-      in_bytes = c.loop-at.invariant.in_bytes;
-      within = omega (arith, length-drop at piece);
-      size = same_len_mid at (length here - at) here c.next-taken.new.piece same_size ∙ c.loop-at.invariant.size;
-      kept = kept_behind at (length here - at) taken here c.next-taken.new.piece in_here within same_size c.next-taken.ensures.kept
-          ∙ same_further at taken here piece in_here c.loop-at.invariant.within c.loop-at.invariant.kept;
-      room = omega (arith, c.next-taken.ensures.room);
-      takes = (c.loop-at.invariant.takes.0 ++ heads_in c.next-taken.result.1, takes_on c.args.scan.now c.loop-at.scan c.next-taken.new.self c.next-taken.result.1 piece share c.next-taken.new.piece at taken c.loop-at.invariant.takes.0 c.loop-at.invariant.in_bytes is c.loop-at.invariant.takes.1 c.next-taken.ensures.taken);
-      told = λ none. sym c.refusal.ensures ∙ c.in_default.is;
+      in_bytes = last.in_bytes;
+      within = last.within;
+      size = last.size;
+      kept = last.kept;
+      room = last.room;
+      takes = last.takes;
+      told = λ none. frames.ensures.told (sym c.refusal.ensures ∙ c.in_default.is);
     }

@@ -1,14 +1,7 @@
 use Rattle.std.proofs.Common.{ℕ, ◌≤◌, length, take, sym, subst, arith}
-use Rattle.std.proofs.Math.Seq.{take-length}
 use Rattle.wsn_text.specs.Utf8.{IsText}
 use Rattle.wsn_text.proofs.Boundaries.{text_of_all, text_of_valid, ends_behind_valid}
-use Rattle.wsn_text.proofs.Ascii.{ascii_text, each_below}
 use Rattle.wsn_text.proofs.pieces.text_front.Goals as goal
-
-pub returns-then-is_ascii-clause-text : goal.returns-then-is_ascii-clause-text
-returns-then-is_ascii-clause-text c =
-    let bytes = c.args.bytes.now in
-    (omega arith, subst IsText (sym (take-length bytes)) (ascii_text bytes (each_below bytes c.if-is_ascii.ensures.cases)))
 
 pub returns-in-Ok-clause-text : goal.returns-in-Ok-clause-text
 returns-in-Ok-clause-text c = text_of_all c.args.bytes.now c.in-Ok.text.now c.last_character.result c.last_character.ensures.0 c.in-Ok.ensures.cases.0 c.in-Ok.ensures.cases.1

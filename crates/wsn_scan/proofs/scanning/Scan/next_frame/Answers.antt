@@ -1,4 +1,4 @@
-use Rattle.std.proofs.Common.{◌≡◌, List, ℕ, [], ◌++◌, take, inr, sym, subst}
+use Rattle.std.proofs.Common.{◌≡◌, List, ℕ, [], ◌++◌, take, inl, inr, sym, subst}
 use Rattle.std.proofs.lemmas.List.{length-take-le}
 use Rattle.wsn_wire.specs.declared.endpoint.Role.{Role}
 use Rattle.wsn_scan.specs.Bounds.{Bounds}
@@ -23,7 +23,7 @@ returns-in-Some-clause-taken c role bounds bytes rest fs told in_bytes stands =
     (subst (λ (bs : List ℕ). IsHead role bounds group head (bs ++ last)) (sym nothing) is_head)
 
 pub returns-in-Some-clause-takes : goal.returns-in-Some-clause-takes
-returns-in-Some-clause-takes c = inr c.begin.ensures.takes
+returns-in-Some-clause-takes c = elim c.begin.ensures.takes [ inl head ↦ inr (inl (head, c.in-Some.ensures.0)) | inr refused ↦ inr (inr refused) ]
 
 pub returns-in-None-clause-taken : goal.returns-in-None-clause-taken
 returns-in-None-clause-taken c role bounds bytes rest fs told in_bytes stands =

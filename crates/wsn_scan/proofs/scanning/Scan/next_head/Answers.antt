@@ -40,7 +40,7 @@ returns-in-Whole-clause-taken c role bounds bytes rest fs told in_bytes stands =
     c.begin.ensures.taken role bounds bytes rest last last fs told knows stands.at.0 stands.at.2 stands.at.3 (length-take-le count c.args.piece.now (omega (arith, c.loop-i-test.true))) (omega arith) (bytes_taken count c.args.piece.now in_bytes) head
 
 pub returns-in-Whole-clause-takes : goal.returns-in-Whole-clause-takes
-returns-in-Whole-clause-takes c = inr c.begin.ensures.takes
+returns-in-Whole-clause-takes c = elim c.begin.ensures.takes [ inl head ↦ inr (inl (head, omega arith)) | inr refused ↦ inr (inr refused) ]
 
 pub loop-i-preserved : goal.loop-i-preserved
 loop-i-preserved c = record {

@@ -1,0 +1,109 @@
+ghost use Rattle.std.specs.Prelude.{◌≡◌, ℕ, ◌<◌, ◌≤◌, ◌^◌, false, true, length, take, OnOk, OnErr, IfErr};
+ghost use Rattle.std.specs.Io.KnownBytes.{Appends};
+ghost use Rattle.wsn_wire.specs.Frame.{frame_bytes, is_control};
+ghost use Rattle.wsn_scan.specs.Meaning.{Message, Control};
+ghost use Rattle.wsn_canon.specs.Events.{IsLawfulEvent};
+ghost use Rattle.wsn_canon.specs.EventsMeant.{meant, close_body};
+ghost use Rattle.wsn_canon.specs.NormalForm.{normal_frame, normal_key, op_of};
+ghost use Rattle.wsn_canon.specs.Putting.{Puts};
+
+use crate::events::{Event, Small};
+use arrayvec::ArrayVec;
+use std::alloc::Allocator;
+use std::io::Write;
+use wsn_scan::Stop;
+use wsn_wire::{Kind, Op, Output, Role, head};
+
+/// Writes an event's normal form: one final frame, its length in the shortest spelling, under a key of zeros for a
+/// client and under none for a server (RFC 6455 sections 5.2 and 5.3). `Stop::Write` if the writer fails: of the
+/// frame only some bytes at its front went out.
+pub fn put_event<A: Allocator, W: Write>(
+    to: &mut Output<W>,
+    role: Role,
+    event: &Event<A>,
+) -> Result<(), Stop>
+    requires unfailed { to.old.failed ≡ false }
+    requires lawful { IsLawfulEvent (meant event.now) }
+    ensures all { OnOk result (Appends to.old.written to.new.written (frame_bytes (normal_frame role (meant event.now)))) }
+    ensures same { OnOk result (to.new.failed ≡ false) }
+    ensures stop { IfErr result (λ stop. stop ≡ Stop.Write) }
+    ensures failed { OnErr result (to.new.failed ≡ true) }
+    ensures front { OnErr result ((k : ℕ) × Appends to.old.written to.new.written (take k (frame_bytes (normal_frame role (meant event.now))))) }
+{
+    match event {
+        Event::Message(kind, text) => put_message(to, role, *kind, text),
+        Event::Ping(body) => put_control(to, role, Op::Ping, body),
+        Event::Pong(body) => put_control(to, role, Op::Pong, body),
+        Event::Close(held) => put_control(to, role, Op::Close, &body_of_close(held)),
+    }
+}
+
+fn put_message<W: Write>(
+    to: &mut Output<W>,
+    role: Role,
+    kind: Kind,
+    text: &[u8],
+) -> Result<(), Stop>
+    requires unfailed { to.old.failed ≡ false }
+    requires size { length text.now < 2 ^ 63 }
+    ensures { Puts to.old to.new (frame_bytes (normal_frame role (Message kind text.now))) result }
+{
+    let head = head(true, op_of(kind), key_of(role), text.len() as u64);
+    if to.put(&head) && to.put(text) {
+        Ok(())
+    } else {
+        Err(Stop::Write)
+    }
+}
+
+/// The bytes of the longest control frame: two of head, a key, and its body.
+const CONTROL_MAX: usize = 131;
+
+/// Writes a control frame in one piece.
+fn put_control<W: Write>(to: &mut Output<W>, role: Role, op: Op, body: &[u8]) -> Result<(), Stop>
+    requires unfailed { to.old.failed ≡ false }
+    requires size { length body.now ≤ 125 }
+    ensures { Puts to.old to.new (frame_bytes (normal_frame role (Control op body.now))) result }
+{
+    let mut frame: ArrayVec<u8, CONTROL_MAX> = ArrayVec::new();
+    let _fits = frame.try_extend_from_slice(&head(true, op, key_of(role), body.len() as u64));
+    let _fits = frame.try_extend_from_slice(body);
+    if to.put(&frame) {
+        Ok(())
+    } else {
+        Err(Stop::Write)
+    }
+}
+
+/// A Close's body: nothing, or its code, the higher byte first, and its reason (RFC 6455 section 5.5.1).
+fn body_of_close(held: &Option<(u16, Small)>) -> Small
+    requires { length (close_body held.now) ≤ 125 }
+    ensures { result.items ≡ close_body held.now }
+{
+    let mut body = Small::new();
+    if let Some((code, reason)) = held {
+        let _fits = body.try_extend_from_slice(&code.to_be_bytes());
+        let _fits = body.try_extend_from_slice(reason);
+    }
+    body
+}
+
+/// The opcode that begins a message.
+fn op_of(kind: Kind) -> Op
+    ensures op { result ≡ op_of kind }
+    ensures data { is_control result ≡ false }
+{
+    match kind {
+        Kind::Text => Op::Text,
+        Kind::Binary => Op::Binary,
+    }
+}
+
+fn key_of(role: Role) -> Option<[u8; 4]>
+    ensures { result ≡ normal_key role }
+{
+    match role {
+        Role::Client => Some([0; 4]),
+        Role::Server => None,
+    }
+}

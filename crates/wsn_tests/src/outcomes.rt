@@ -1,0 +1,84 @@
+//! What a command leaves, run over readers and writers of the tests.
+
+use crate::ends::{Chopped, Narrow};
+use std::alloc::{Allocator, Global};
+use std::process::Abort;
+use wsn_job::{Job, run, run_same};
+use wsn_scan::Limits;
+use wsn_wire::{Input, Output, Role};
+
+/// What a run left: its status, what went out, and what it said.
+#[derive(Drop)]
+pub struct Outcome {
+    pub status: u8,
+    pub out: Vec<u8>,
+    pub said: Vec<u8>,
+}
+
+impl Outcome {
+    pub fn expect(&self, rt: &impl Abort, status: u8, out: &[u8], said: &[u8]) {
+        assert_eq!(rt; self.out.as_slice(), out);
+        assert_eq!(rt; self.said.as_slice(), said);
+        assert_eq!(rt; self.status, status);
+    }
+}
+
+/// Runs a command that takes its memory from this heap.
+pub fn outcome_on<A: Allocator + Copy>(
+    heap: A,
+    alloc: Global,
+    job: &Job,
+    mut reader: Chopped,
+    mut writer: Narrow,
+) -> Outcome {
+    let mut said = Vec::new(alloc);
+    let status = run(
+        heap,
+        job,
+        &mut Input::new(&mut reader),
+        &mut Output::new(&mut writer),
+        &mut Output::new(&mut said),
+    );
+    Outcome {
+        status,
+        out: writer.taken,
+        said,
+    }
+}
+
+/// Compares two streams of a server by the command, which takes its memory from this heap.
+pub fn compared_on<A: Allocator + Copy>(
+    heap: A,
+    alloc: Global,
+    limits: Limits,
+    mut first: Chopped,
+    mut second: Chopped,
+    mut writer: Narrow,
+) -> Outcome {
+    let mut said = Vec::new(alloc);
+    let status = run_same(
+        heap,
+        &mut Input::new(&mut first),
+        &mut Input::new(&mut second),
+        Role::Server,
+        limits,
+        &mut Output::new(&mut writer),
+        &mut Output::new(&mut said),
+    );
+    Outcome {
+        status,
+        out: writer.taken,
+        said,
+    }
+}
+
+/// The status that a line of a verdict calls for; 2 for a stop.
+pub fn status_of(line: &str) -> u8 {
+    if line.starts_with("accepted") {
+        0
+    } else if line.starts_with("cut") || line.starts_with("refused") {
+        1
+    } else {
+        2
+    }
+}
