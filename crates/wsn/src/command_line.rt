@@ -1,7 +1,10 @@
+mod help;
+
+use crate::shown::Shown;
 use clap::builder::ValueParser;
 use clap::error::ErrorKind;
 use clap::{Arg, ArgAction, ArgMatches, Command, Error, value_parser};
-use std::alloc::{AllocError, Global};
+use std::alloc::{AllocError, AllocFailed, Global};
 use wsn_job::Job;
 use wsn_scan::{INPUT_MAX, Limits, MESSAGE_MAX};
 use wsn_wire::{Lengths, Role};
@@ -13,7 +16,7 @@ pub enum Request {
     Run(Job),
     /// Compare the streams in two files.
     Same(Pair),
-    /// Show this text, which was asked for.
+    /// Show this text, help or the version.
     Help(String),
 }
 
@@ -48,6 +51,17 @@ impl From<AllocError> for Usage {
     }
 }
 
+impl<T: Drop> From<AllocFailed<T>> for Usage {
+    ghost use Rattle.std.specs.Prelude.{◌≡◌};
+    ghost use Rattle.wsn.specs.declared.command_line.Usage.TheVariants.{Memory};
+
+    ghost from_gives = { λ _ usage. usage ≡ Memory };
+
+    fn from(_: AllocFailed<T>) -> Self {
+        Usage::Memory
+    }
+}
+
 static ROLES: [&str; 2] = ["client", "server"];
 
 static SPELLINGS: [&str; 2] = ["shortest", "any"];
@@ -59,13 +73,15 @@ fn with_role<'a>(alloc: Global, command: Command<'a>) -> Result<Command<'a>, All
         .required(true)
         .action(ArgAction::Set)
         .value_parser(ROLES.as_slice())
+        .value_name("client|server")
+        .hide_possible_values(true)
         .help("The endpoint that sent the stream");
     let limit = Arg::new(alloc, "limit")
         .long("limit")
         .action(ArgAction::Set)
         .value_parser(value_parser!(u32).range(0..16_777_217))
         .value_name("BYTES")
-        .help("The most bytes of a message, 0 to 16777216 [default: 16777216]");
+        .help("The most bytes of a message, 0 to 16777216\n[default: 16777216]");
     command.arg(role)?.arg(limit)
 }
 
@@ -75,24 +91,28 @@ fn with_limits<'a>(alloc: Global, command: Command<'a>) -> Result<Command<'a>, A
         .long("frames")
         .action(ArgAction::Set)
         .value_parser(value_parser!(u32).range(1..))
-        .value_name("N")
-        .help("The most frames of a message, 1 to 4294967295 [default: any number]");
+        .value_name("COUNT")
+        .help("The most frames of a message, 1 to 4294967295;\nwithout it any number is taken");
     let lengths = Arg::new(alloc, "lengths")
         .long("lengths")
         .action(ArgAction::Set)
         .value_parser(SPELLINGS.as_slice())
+        .value_name("shortest|any")
+        .hide_possible_values(true)
         .default_value("shortest")
-        .help("Which spellings of a length are taken");
+        .hide_default_value(true)
+        .help("Which spellings of a length are taken\n[default: shortest]");
     command.arg(frames)?.arg(lengths)
 }
 
-/// A command over one stream, on standard input.
-fn over_stream<'a>(
+/// A command, with the options that all have.
+fn command<'a>(
     alloc: Global,
     name: &'static str,
     about: &'static str,
+    details: &'static str,
 ) -> Result<Command<'a>, AllocError> {
-    let command = Command::new(alloc, name).about(about);
+    let command = Command::new(alloc, name).about(about).after_help(details);
     with_limits(alloc, with_role(alloc, command)?)
 }
 
@@ -101,39 +121,33 @@ fn over_files<'a>(alloc: Global) -> Result<Command<'a>, AllocError> {
     let first = Arg::new(alloc, "first")
         .required(true)
         .action(ArgAction::Set)
-        .value_name("A")
+        .value_name("FIRST")
         .help("The file with the first stream");
     let second = Arg::new(alloc, "second")
         .required(true)
         .action(ArgAction::Set)
-        .value_name("B")
+        .value_name("SECOND")
         .help("The file with the second stream");
-    let command = over_stream(alloc, "same", "Tell whether two streams mean the same")?;
-    command.arg(first)?.arg(second)
+    let same = command(alloc, "same", help::SAME, help::SAME_DETAILS)?;
+    same.arg(first)?.arg(second)
 }
 
 /// The commands that tell of a stream.
-fn with_verdicts<'a>(alloc: Global, command: Command<'a>) -> Result<Command<'a>, AllocError> {
-    let frames = over_stream(
-        alloc,
-        "frames",
-        "List a stream's frames, and then its verdict",
-    )?;
-    let judge = over_stream(alloc, "judge", "Tell a stream's verdict")?;
-    command.subcommand(frames)?.subcommand(judge)
+fn with_verdicts<'a>(alloc: Global, program: Command<'a>) -> Result<Command<'a>, AllocError> {
+    let judge = command(alloc, "judge", help::JUDGE, help::JUDGE_DETAILS)?;
+    let frames = command(alloc, "frames", help::FRAMES, help::FRAMES_DETAILS)?;
+    program.subcommand(judge)?.subcommand(frames)
 }
 
 fn program<'a>(alloc: Global) -> Result<Command<'a>, AllocError> {
-    let command = Command::new(alloc, "wsn")
-        .about("Read what one endpoint of a WebSocket connection sent")
+    let program = Command::new(alloc, "wsn")
+        .about(help::PROGRAM)
+        .after_help(help::PROGRAM_DETAILS)
+        .version(help::VERSION)
         .subcommand_required(true);
-    let normal = over_stream(
-        alloc,
-        "normal",
-        "Write a stream's normal form; a verdict that isn't accepted goes to standard error",
-    )?;
-    let command = with_verdicts(alloc, command)?;
-    command.subcommand(normal)?.subcommand(over_files(alloc)?)
+    let normal = command(alloc, "normal", help::NORMAL, help::NORMAL_DETAILS)?;
+    let program = with_verdicts(alloc, program)?;
+    program.subcommand(normal)?.subcommand(over_files(alloc)?)
 }
 
 fn role_of(matches: &ArgMatches<'_>) -> Role {
@@ -159,17 +173,58 @@ fn limits_of(matches: &ArgMatches<'_>) -> Option<Limits> {
     }
 }
 
-/// What clap's error says: help that was asked for, or the rule that the words break.
-fn told(alloc: Global, error: &Error) -> Result<Request, Usage> {
+/// What clap answers in the place of matches: a text that was asked for, or a rule that the words break.
+fn answered(alloc: Global, words: &[String], error: &Error) -> Result<Request, Usage> {
+    match error.kind() {
+        ErrorKind::OutOfMemory => Err(Usage::Memory),
+        ErrorKind::DisplayVersion => Ok(Request::Help(error.to_string(alloc)?)),
+        ErrorKind::DisplayHelp => {
+            let mut text = error.to_string(alloc)?;
+            text.push_str(help::SHARED)?;
+            Ok(Request::Help(text))
+        }
+        _ => {
+            let words = shown(alloc, words)?;
+            Err(refusal(alloc, words.as_slice())?)
+        }
+    }
+}
+
+/// Which rule the words break.
+fn refusal(alloc: Global, words: &[String]) -> Result<Usage, AllocError> {
+    let error = match program(alloc)?.try_get_matches_from(words) {
+        Ok(_matches) => return Ok(Usage::Own),
+        Err(error) => error,
+    };
     if error.kind() == ErrorKind::OutOfMemory {
-        return Err(Usage::Memory);
+        return Ok(Usage::Memory);
     }
-    let text = error.to_string(alloc)?;
-    if error.use_stderr() {
-        Err(Usage::Clap(text))
-    } else {
-        Ok(Request::Help(text))
+    Ok(Usage::Clap(error.to_string(alloc)?))
+}
+
+/// The words without what a terminal would obey, to be told in a text.
+fn shown(alloc: Global, words: &[String]) -> Result<Vec<String>, AllocError> {
+    let mut shown = Vec::new(alloc);
+    for word in words {
+        let word = Shown::new(word.as_str());
+        shown.push(format!(in alloc; "{word}")?)?;
     }
+    Ok(shown)
+}
+
+/// Refuses a number that is spelled by more than digits, as `+5` is.
+fn check_digits(alloc: Global, matches: &ArgMatches<'_>) -> Result<(), Usage> {
+    for (option, value_name) in [("limit", "BYTES"), ("frames", "COUNT")] {
+        let value = matches.get_str(option).unwrap_or("");
+        if !value.bytes().all(|byte| byte.is_ascii_digit()) {
+            let text = format!(in alloc;
+                "error: invalid value '{value}' for '--{option} <{value_name}>': digits alone are taken\n\n\
+                For more information, try '--help'.\n"
+            )?;
+            return Err(Usage::Clap(text));
+        }
+    }
+    Ok(())
 }
 
 /// The work that a command's name and its arguments spell.
@@ -201,16 +256,17 @@ fn pair_of(alloc: Global, matches: &ArgMatches<'_>) -> Result<Request, Usage> {
     }))
 }
 
-/// What the words ask for, the program's name first: one of `frames`, `judge`, `normal` and `same`, with
-/// `--role client|server [--limit BYTES] [--frames N] [--lengths shortest|any]`; for `same` two files too.
+/// What the words ask for, the program's name first: one of `judge`, `frames`, `normal` and `same`, with
+/// `--role client|server [--limit BYTES] [--frames COUNT] [--lengths shortest|any]`; for `same` two files too.
 pub fn asked(alloc: Global, words: &[String]) -> Result<Request, Usage> {
     let matches = match program(alloc)?.try_get_matches_from(words) {
         Ok(matches) => matches,
-        Err(error) => return told(alloc, &error),
+        Err(error) => return answered(alloc, words, &error),
     };
     let Some((name, command)) = matches.subcommand() else {
         return Err(Usage::Own);
     };
+    check_digits(alloc, command)?;
     if name == "same" {
         return pair_of(alloc, command);
     }

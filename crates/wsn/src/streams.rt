@@ -1,11 +1,18 @@
 use crate::FAULT;
 use crate::command_line::Pair;
+use crate::shown::Shown;
 use arrayvec::ArrayVec;
-use std::io::{self, BufWriter, Write};
+use std::alloc::Allocator;
+use std::cell::RefCell;
+use std::io::{self, Read, Write};
 use std::rt::Runtime;
 use std::{fs, str};
 use wsn_job::{Job, run, run_same};
+use wsn_streams::{BlockReader, BlockWriter, TiedReader, TiedWriter};
 use wsn_wire::{Input, Output};
+
+/// A line that waits to be printed, of an answer, a verdict or a fault.
+type Lines = ArrayVec<u8, 128>;
 
 /// Prints a text on standard error, and answers the status of a fault. What can't be written is dropped.
 pub fn tell<R: Eprint>(rt: &R, text: &str) -> u8 {
@@ -24,59 +31,72 @@ pub fn show<R: Print + Eprint>(rt: &R, text: &str) -> u8 {
 
 /// Does a command's work over the standard streams, and answers the exit status.
 pub fn perform<R: Runtime + AllocGlobal>(rt: &R, job: &Job) -> u8 {
-    let mut reader = rt.reader();
-    let Ok(mut writer) = BufWriter::new(rt.alloc(), io::writer(rt)) else {
-        return tell(rt, "out of memory\n");
-    };
-    let mut lines = ArrayVec::<u8, 128>::new();
+    let mut lines = Lines::new();
+    match work(rt.alloc(), job, rt.reader(), io::writer(rt), &mut lines) {
+        Some(status) => finish(rt, &lines, status),
+        None => tell(rt, "write failed\n"),
+    }
+}
+
+/// Does a command's work over an input and an output that are tied: what was told goes out before the input is asked
+/// for more. It answers the exit status, and leaves in `lines` what is to be told on standard error; `None` where the
+/// output failed.
+fn work<A: Allocator + Copy, R: Read + Drop, W: Write + Drop>(
+    alloc: A,
+    job: &Job,
+    input: R,
+    output: W,
+    lines: &mut Lines,
+) -> Option<u8> {
+    let output = RefCell::new(BlockWriter::new(output));
+    let mut reader = BlockReader::new(TiedReader::new(input, &output));
+    let mut writer = TiedWriter::new(&output);
     let status = run(
-        rt.alloc(),
+        alloc,
         job,
         &mut Input::new(&mut reader),
         &mut Output::new(&mut writer),
-        &mut Output::new(&mut lines),
+        &mut Output::new(lines),
     );
-    finish(rt, &mut writer, lines.as_slice(), status)
+    writer.flush().is_ok().then_some(status)
 }
 
 /// Compares the streams in two files, and answers the exit status. Both files are opened before either is read;
 /// where one can't be, the line `cannot read` and its name goes to standard error.
 pub fn compare<R: Runtime + AllocGlobal>(rt: &R, pair: &Pair) -> u8 {
-    let Ok(mut first) = fs::open(rt, &pair.first) else {
+    let Ok(first) = fs::open(rt, &pair.first) else {
         return tell_unread(rt, pair.first.as_str());
     };
-    let Ok(mut second) = fs::open(rt, &pair.second) else {
+    let Ok(second) = fs::open(rt, &pair.second) else {
         return tell_unread(rt, pair.second.as_str());
     };
-    let Ok(mut writer) = BufWriter::new(rt.alloc(), io::writer(rt)) else {
-        return tell(rt, "out of memory\n");
-    };
-    let mut lines = ArrayVec::<u8, 128>::new();
+    let mut answer = Lines::new();
+    let mut lines = Lines::new();
     let status = run_same(
         rt.alloc(),
-        &mut Input::new(&mut first),
-        &mut Input::new(&mut second),
+        &mut Input::new(&mut BlockReader::new(first)),
+        &mut Input::new(&mut BlockReader::new(second)),
         pair.role,
         pair.limits,
-        &mut Output::new(&mut writer),
+        &mut Output::new(&mut answer),
         &mut Output::new(&mut lines),
     );
-    finish(rt, &mut writer, lines.as_slice(), status)
+    if Print::write_all(rt, answer.as_slice()).is_err() {
+        return tell(rt, "write failed\n");
+    }
+    finish(rt, &lines, status)
 }
 
 /// Says that a file can't be read, and answers the status of a fault.
 fn tell_unread<R: Eprint>(rt: &R, file: &str) -> u8 {
-    let _ = eprintln!(rt; "cannot read {file}");
+    let name = Shown::new(file);
+    let _ = eprintln!(rt; "cannot read {name}");
     FAULT
 }
 
-/// Flushes standard output, and then says on standard error what waited for it. If it can't be flushed,
-/// `write failed` takes the place of that.
-fn finish<R: Eprint, W: Write>(rt: &R, writer: &mut W, lines: &[u8], status: u8) -> u8 {
-    if writer.flush().is_err() {
-        return tell(rt, "write failed\n");
-    }
-    if let Ok(text) = str::from_utf8(lines) {
+/// Says on standard error what waited for standard output, and answers the exit status.
+fn finish<R: Eprint>(rt: &R, lines: &Lines, status: u8) -> u8 {
+    if let Ok(text) = str::from_utf8(lines.as_slice()) {
         let _ = rt.eprint(text);
     }
     status

@@ -10,7 +10,7 @@ two_bytes a b high low (suc (suc i)) = omega arith
 
 -- a body is the code that its first two bytes tell, and what stands behind them
 pub code_and_rest : (body : List ℕ) (code : ℕ) → 2 ≤ length body → ((i : ℕ) → get_or body i 0 < 256) → code ≡ from_be_bytes w16 (take 2 body) → to_be_bytes w16 code ++ drop 2 body ≡ body
-code_and_rest [] code enough below told = absurd (omega arith)
-code_and_rest (a ∷ []) code enough below told = absurd (omega arith)
-code_and_rest (a ∷ b ∷ rest) code enough below told =
-    ap (λ (front : List ℕ). front ++ rest) (be_bytes_2 (a ∷ b ∷ []) code refl (two_bytes a b (below 0) (below 1)) told)
+code_and_rest [] code enough below reported = absurd (omega arith)
+code_and_rest (a ∷ []) code enough below reported = absurd (omega arith)
+code_and_rest (a ∷ b ∷ rest) code enough below reported =
+    ap (λ (front : List ℕ). front ++ rest) (be_bytes_2 (a ∷ b ∷ []) code refl (two_bytes a b (below 0) (below 1)) reported)

@@ -3,17 +3,15 @@ use Rattle.std.proofs.Common.{◌≡◌, ℕ, ◌+◌, ◌^◌, ◌<◌, ◌≤�
 use Rattle.std.specs.Option.{option_or}
 use Rattle.wsn_wire.specs.declared.endpoint.Role.{Role}
 use Rattle.wsn_wire.specs.Transfer.{Incoming}
-use Rattle.wsn_scan.specs.declared.outcome.Verdict.{Verdict}
-use Rattle.wsn_scan.specs.declared.progress.Stage.{Stage}
-use Rattle.wsn_scan.specs.declared.progress.Stage.TheVariants as stages
-use Rattle.wsn_scan.specs.declared.stopping.Stop.{Stop}
-use Rattle.wsn_scan.specs.Bounds.{Bounds}
-use Rattle.wsn_scan.specs.Meaning.{MeantEvent}
-use Rattle.wsn_scan.specs.Scans.{ends_untold_at}
+use Rattle.wsn_rules.specs.declared.verdict.Verdict.{Verdict}
+use Rattle.wsn_scan.specs.declared.stop.Stop.{Stop}
+use Rattle.wsn_rules.specs.Limits.{Limits}
+use Rattle.wsn_rules.specs.Meaning.{MeantEvent}
+use Rattle.wsn_scan.proofs.ReaderTold.{left_few}
 use Rattle.wsn_canon.specs.declared.comparing.Round.TheVariants.{Alike, Unlike}
 use Rattle.wsn_canon.specs.declared.reading.Reading.{Reading}
-use Rattle.wsn_canon.specs.declared.sources.Next.{Next}
-use Rattle.wsn_canon.specs.declared.sources.Next.TheVariants as nexts
+use Rattle.wsn_canon.specs.declared.source.Next.{Next}
+use Rattle.wsn_canon.specs.declared.source.Next.TheVariants as nexts
 use Rattle.wsn_canon.specs.EventsMeant.{meant}
 use Rattle.wsn_canon.specs.Readings.{HasGiven, answered, left_of}
 use Rattle.wsn_canon.specs.Comparing.{DifferAt, IsRoundOf}
@@ -35,15 +33,10 @@ IsDifferenceSoFar reading other index events others None =
 IsDifferenceSoFar reading other index events others (Some k) =
     DifferAt k events others × (answered reading ≡ None → k < length events) × (answered other ≡ None → k < length others)
 
-one_end : (stage : Stage) → ends_untold_at stage ≤ 1
-one_end (stages.Ended event) = omega arith
-one_end (stages.CloseEnded code) = omega arith
-one_end stage = omega arith
-
-module _ {A : Type 0} (role : Role) (bounds : Bounds) where
+module _ {A : Type 0} (role : Role) (limits : Limits) where
   -- the first difference stays
   differ_on : (new : Incoming) (before reading : Reading A) (came : List ℕ) (given events others : List MeantEvent) (next : Next A) (k : ℕ)
-      → Gives role bounds new before reading came given events next → (answered before ≡ None → k < length given) → DifferAt k given others
+      → Gives role limits new before reading came given events next → (answered before ≡ None → k < length given) → DifferAt k given others
       → DifferAt k events others × (answered reading ≡ None → k < length events)
   differ_on new before reading came given events others (nexts.Event event) k gives within differ =
       let more = differ_more k given others (meant event ∷ []) (within gives.1) differ in
@@ -60,9 +53,9 @@ module _ {A : Type 0} (role : Role) (bounds : Bounds) where
   pending_done reading answer done = ap (λ (a : Option (Result Verdict Stop)). rounds_left a (left_of reading)) done
 
   -- no more than two rounds a byte of the input limit
-  pub few_rounds : (reading : Reading A) → HasGiven role bounds reading [] [] → pending reading ≤ 2 ^ 41 + 2
+  pub few_rounds : (reading : Reading A) → HasGiven role limits reading [] [] → pending reading ≤ 2 ^ 41 + 2
   few_rounds reading has =
-      omega (arith, pending_going reading has.going, has.stands.knows.room, has.stands.knows.in_range.input, one_end reading.scan.stage)
+      omega (arith, pending_going reading has.going, left_few role limits reading.reader [] has.done has.at has.told, has.told.stands.knows.in_range.input)
 
   -- 1 for an event
   abbrev falls_by : Next A → ℕ
@@ -70,7 +63,7 @@ module _ {A : Type 0} (role : Role) (bounds : Bounds) where
   falls_by (nexts.Done verdict) = 0
 
   falls : (new : Incoming) (before reading : Reading A) (came : List ℕ) (given events : List MeantEvent) (next : Next A)
-      → Gives role bounds new before reading came given events next → pending reading + falls_by next ≤ pending before
+      → Gives role limits new before reading came given events next → pending reading + falls_by next ≤ pending before
   falls new before reading came given events (nexts.Event event) gives = omega (arith, pending_going before gives.1, pending_going reading gives.2, gives.3)
   falls new before reading came given events (nexts.Done verdict) gives = omega (arith, pending_done reading (Ok verdict) gives.1.0)
 
@@ -90,7 +83,7 @@ module _ {A : Type 0} (role : Role) (bounds : Bounds) where
 
   -- both sides of a first difference
   differ_still : (new other_new : Incoming) (before reading other_before other : Reading A) (came other_came : List ℕ) (given events other_given others : List MeantEvent) (next other_next : Next A) (k : ℕ)
-      → Gives role bounds new before reading came given events next → Gives role bounds other_new other_before other other_came other_given others other_next
+      → Gives role limits new before reading came given events next → Gives role limits other_new other_before other other_came other_given others other_next
       → DifferAt k given other_given → (answered before ≡ None → k < length given) → (answered other_before ≡ None → k < length other_given)
       → DifferAt k events others × (answered reading ≡ None → k < length events) × (answered other ≡ None → k < length others)
   differ_still new other_new before reading other_before other came other_came given events other_given others next other_next k gives other_gives differ within other_within =
@@ -99,7 +92,7 @@ module _ {A : Type 0} (role : Role) (bounds : Bounds) where
       (differ_sym k others events two.0, one.1, two.1)
 
   same_next : (new other_new : Incoming) (before reading other_before other : Reading A) (came other_came : List ℕ) (given events other_given others : List MeantEvent) (next other_next : Next A) (index : ℕ)
-      → Gives role bounds new before reading came given events next → Gives role bounds other_new other_before other other_came other_given others other_next
+      → Gives role limits new before reading came given events next → Gives role limits other_new other_before other other_came other_given others other_next
       → given ≡ other_given → length given ≡ index → IsRoundOf next other_next Alike → IsDifferenceSoFar reading other (index + 1) events others None
   same_next new other_new before reading other_before other came other_came given events other_given others (nexts.Event event) (nexts.Event that) index gives other_gives same size is = (
     gives.2,
@@ -112,7 +105,7 @@ module _ {A : Type 0} (role : Role) (bounds : Bounds) where
   same_next new other_new before reading other_before other came other_came given events other_given others (nexts.Done verdict) (nexts.Done that) index gives other_gives same size is = absurd is
 
   unlike_next : (new other_new : Incoming) (before reading other_before other : Reading A) (came other_came : List ℕ) (given events other_given others : List MeantEvent) (next other_next : Next A) (index : ℕ)
-      → Gives role bounds new before reading came given events next → Gives role bounds other_new other_before other other_came other_given others other_next
+      → Gives role limits new before reading came given events next → Gives role limits other_new other_before other other_came other_given others other_next
       → given ≡ other_given → length given ≡ index → IsRoundOf next other_next Unlike → IsDifferenceSoFar reading other (index + 1) events others (Some index)
   unlike_next new other_new before reading other_before other came other_came given events other_given others (nexts.Event event) (nexts.Event that) index gives other_gives same size is = (
     differ_first given events other_given others (meant event ∷ []) (meant that ∷ []) index gives.0 other_gives.0 same size (differ_next given (meant event) (meant that) is),
@@ -136,7 +129,7 @@ module _ {A : Type 0} (role : Role) (bounds : Bounds) where
   -- ---- one round
 
   module _ (old other_old new other_new : Incoming) (before reading other_before other : Reading A) (given other_given : List MeantEvent) (next other_next : Next A)
-      (one : HasGivenNext role bounds old new before reading given next) (two : HasGivenNext role bounds other_old other_new other_before other other_given other_next) where
+      (one : HasGivenNext role limits old new before reading given next) (two : HasGivenNext role limits other_old other_new other_before other other_given other_next) where
     fewer : 0 < falls_by next + falls_by other_next → pending reading + pending other < pending before + pending other_before
     fewer some = omega (arith, some, falls new before reading one.came given one.events next one.gives, falls other_new other_before other two.came other_given two.events other_next two.gives)
 

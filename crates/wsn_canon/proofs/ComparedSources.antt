@@ -4,63 +4,63 @@ use Rattle.std.proofs.KnownBytes.{Consumes-trans, Consumes-nil}
 use Rattle.std.specs.Io.KnownBytes.{Consumes}
 use Rattle.wsn_wire.specs.declared.endpoint.Role.{Role}
 use Rattle.wsn_wire.specs.Transfer.{Incoming}
-use Rattle.wsn_scan.specs.declared.outcome.Verdict.{Verdict}
-use Rattle.wsn_scan.specs.declared.stopping.Stop.{Stop}
-use Rattle.wsn_scan.specs.Bounds.{Bounds}
-use Rattle.wsn_scan.specs.Meaning.{MeantEvent}
+use Rattle.wsn_rules.specs.declared.verdict.Verdict.{Verdict}
+use Rattle.wsn_scan.specs.declared.stop.Stop.{Stop}
+use Rattle.wsn_rules.specs.Limits.{Limits}
+use Rattle.wsn_rules.specs.Meaning.{MeantEvent}
 use Rattle.wsn_canon.specs.declared.reading.Reading.{Reading}
-use Rattle.wsn_canon.specs.declared.sources.Next.{Next}
-use Rattle.wsn_canon.specs.declared.sources.Next.TheVariants as nexts
+use Rattle.wsn_canon.specs.declared.source.Next.{Next}
+use Rattle.wsn_canon.specs.declared.source.Next.TheVariants as nexts
 use Rattle.wsn_canon.specs.EventsMeant.{meant}
 use Rattle.wsn_canon.specs.Sources.{IsLast}
 use Rattle.wsn_canon.specs.Readings.{HasGiven, IsNext, GoesOn, IsEvent, answered, left_of, next_of}
 use Rattle.wsn_canon.specs.Comparing.{HasStopped}
 
 -- A source goes on, and its input hasn't failed.
-abbrev pub IsGoing : {A : Type 0} → Role → Bounds → Incoming → Reading A → List ℕ → List MeantEvent → Type 0
-IsGoing role bounds now reading came given = HasGiven role bounds reading came given × (now.failed ≡ false)
+abbrev pub IsGoing : {A : Type 0} → Role → Limits → Incoming → Reading A → List ℕ → List MeantEvent → Type 0
+IsGoing role limits now reading came given = HasGiven role limits reading came given × (now.failed ≡ false)
 
 -- It has answered this verdict, behind all of its events.
-abbrev pub IsDone : {A : Type 0} → Role → Bounds → Incoming → Reading A → List ℕ → List MeantEvent → Verdict → Type 0
-IsDone role bounds now reading came given verdict = (answered reading ≡ Some (Ok verdict)) × IsLast role bounds now came given (Ok verdict)
+abbrev pub IsDone : {A : Type 0} → Role → Limits → Incoming → Reading A → List ℕ → List MeantEvent → Verdict → Type 0
+IsDone role limits now reading came given verdict = (answered reading ≡ Some (Ok verdict)) × IsLast role limits now came given (Ok verdict)
 
 -- A source, the bytes that came and the events that it has given.
-pub record HasFollowed {A : Type 0} (role : Role) (bounds : Bounds) (old now : Incoming) (reading : Reading A) (came : List ℕ) (given : List MeantEvent) : Type 0 where
+pub record HasFollowed {A : Type 0} (role : Role) (limits : Limits) (old now : Incoming) (reading : Reading A) (came : List ℕ) (given : List MeantEvent) : Type 0 where
   pub consumed : Consumes old.remaining now.remaining came
-  pub few : length came ≤ bounds.input + 1
-  pub state : IsGoing role bounds now reading came given ⊎ ((verdict : Verdict) × IsDone role bounds now reading came given verdict)
+  pub few : length came ≤ limits.input + 1
+  pub state : IsGoing role limits now reading came given ⊎ ((verdict : Verdict) × IsDone role limits now reading came given verdict)
 
 -- What a source gave in a round, behind the events that it had given.
-abbrev pub Gives : {A : Type 0} → Role → Bounds → Incoming → Reading A → Reading A → List ℕ → List MeantEvent → List MeantEvent → Next A → Type 0
-Gives role bounds new old reading came given events (nexts.Event event) =
+abbrev pub Gives : {A : Type 0} → Role → Limits → Incoming → Reading A → Reading A → List ℕ → List MeantEvent → List MeantEvent → Next A → Type 0
+Gives role limits new old reading came given events (nexts.Event event) =
     (events ≡ given ++ meant event ∷ []) × (answered old ≡ None) × (answered reading ≡ None) × (left_of reading < left_of old)
-Gives role bounds new old reading came given events (nexts.Done verdict) =
-    (events ≡ given) × IsDone role bounds new reading came events verdict
+Gives role limits new old reading came given events (nexts.Done verdict) =
+    (events ≡ given) × IsDone role limits new reading came events verdict
 
 -- A round: the source has given its next event, or its verdict.
-pub record HasGivenNext {A : Type 0} (role : Role) (bounds : Bounds) (old new : Incoming) (before reading : Reading A) (given : List MeantEvent) (next : Next A) : Type 0 where
+pub record HasGivenNext {A : Type 0} (role : Role) (limits : Limits) (old new : Incoming) (before reading : Reading A) (given : List MeantEvent) (next : Next A) : Type 0 where
   pub came : List ℕ
   pub events : List MeantEvent
-  pub followed : HasFollowed role bounds old new reading came events
-  pub gives : Gives role bounds new before reading came given events next
+  pub followed : HasFollowed role limits old new reading came events
+  pub gives : Gives role limits new before reading came given events next
 
-module _ (role : Role) (bounds : Bounds) where
-  pub begins : {A : Type 0} (input : Incoming) (reading : Reading A) → HasGiven role bounds reading [] [] → input.failed ≡ false → HasFollowed role bounds input input reading [] []
+module _ (role : Role) (limits : Limits) where
+  pub begins : {A : Type 0} (input : Incoming) (reading : Reading A) → HasGiven role limits reading [] [] → input.failed ≡ false → HasFollowed role limits input input reading [] []
   begins input reading has unfailed = record { consumed = Consumes-nil input.remaining; few = omega arith; state = inl (has, unfailed) }
 
   -- One call of a source.
   module _ {A : Type 0} (old mid new : Incoming) (before reading : Reading A) (came : List ℕ) (given : List MeantEvent) (result : Result (Next A) Stop)
-      (followed : HasFollowed role bounds old mid before came given)
-      (next : HasGiven role bounds before came given → GoesOn role bounds mid new reading came given result)
+      (followed : HasFollowed role limits old mid before came given)
+      (next : HasGiven role limits before came given → GoesOn role limits mid new reading came given result)
       (falls : IsEvent result → left_of reading < left_of before)
       (again : (answer : Result Verdict Stop) → answered before ≡ Some answer → (result ≡ next_of answer) × (reading ≡ before) × (new ≡ mid)) where
     all_consumed : (more : List ℕ) → Consumes mid.remaining new.remaining more → Consumes old.remaining new.remaining (came ++ more)
     all_consumed more consumed = Consumes-trans old.remaining mid.remaining new.remaining came more followed.consumed consumed
 
-    goes_on : HasGiven role bounds before came given → (n : Next A) → result ≡ Ok n → HasGivenNext role bounds old new before reading given n
+    goes_on : HasGiven role limits before came given → (n : Next A) → result ≡ Ok n → HasGivenNext role limits old new before reading given n
     goes_on has (nexts.Event event) is =
         let went = next has in
-        let now = subst (λ (r : Result (Next A) Stop). IsNext role bounds new reading (came ++ went.more) given r) is went.next in
+        let now = subst (λ (r : Result (Next A) Stop). IsNext role limits new reading (came ++ went.more) given r) is went.next in
         record {
           came = came ++ went.more;
           events = given ++ meant event ∷ [];
@@ -69,7 +69,7 @@ module _ (role : Role) (bounds : Bounds) where
         }
     goes_on has (nexts.Done verdict) is =
         let went = next has in
-        let now = subst (λ (r : Result (Next A) Stop). IsNext role bounds new reading (came ++ went.more) given r) is went.next in
+        let now = subst (λ (r : Result (Next A) Stop). IsNext role limits new reading (came ++ went.more) given r) is went.next in
         record {
           came = came ++ went.more;
           events = given;
@@ -78,40 +78,40 @@ module _ (role : Role) (bounds : Bounds) where
         }
 
     -- a source that is done has read nothing
-    same_state : (at : Reading A) (now : Incoming) → at ≡ before → now ≡ mid → HasFollowed role bounds old now at came given
+    same_state : (at : Reading A) (now : Incoming) → at ≡ before → now ≡ mid → HasFollowed role limits old now at came given
     same_state at now is_at is_now =
-        subst (λ (i : Incoming). HasFollowed role bounds old i at came given) (sym is_now) (subst (λ (r : Reading A). HasFollowed role bounds old mid r came given) (sym is_at) followed)
+        subst (λ (i : Incoming). HasFollowed role limits old i at came given) (sym is_now) (subst (λ (r : Reading A). HasFollowed role limits old mid r came given) (sym is_at) followed)
 
-    stays : (verdict : Verdict) → IsDone role bounds mid before came given verdict → (n : Next A) → result ≡ Ok n → HasGivenNext role bounds old new before reading given n
+    stays : (verdict : Verdict) → IsDone role limits mid before came given verdict → (n : Next A) → result ≡ Ok n → HasGivenNext role limits old new before reading given n
     stays verdict done (nexts.Event event) is =
-        let told = again (Ok verdict) done.0 in
-        let both : Ok (nexts.Event event) ≡ Ok (nexts.Done verdict) = sym is ∙ told.0 in absurd cc
+        let reported = again (Ok verdict) done.0 in
+        let both : Ok (nexts.Event event) ≡ Ok (nexts.Done verdict) = sym is ∙ reported.0 in absurd cc
     stays verdict done (nexts.Done v) is =
-        let told = again (Ok verdict) done.0 in
-        let both : Ok (nexts.Done v) ≡ Ok (nexts.Done verdict) = sym is ∙ told.0 in
+        let reported = again (Ok verdict) done.0 in
+        let both : Ok (nexts.Done v) ≡ Ok (nexts.Done verdict) = sym is ∙ reported.0 in
         let one : verdict ≡ v = cc in
-        let answer : answered reading ≡ Some (Ok v) = ap (λ (r : Reading A). answered r) told.1 ∙ done.0 ∙ ap (λ (w : Verdict). Some (Ok w)) one in
-        let last : IsLast role bounds mid came given (Ok v) = subst (λ (w : Verdict). IsLast role bounds mid came given (Ok w)) one done.1 in
+        let answer : answered reading ≡ Some (Ok v) = ap (λ (r : Reading A). answered r) reported.1 ∙ done.0 ∙ ap (λ (w : Verdict). Some (Ok w)) one in
+        let last : IsLast role limits mid came given (Ok v) = subst (λ (w : Verdict). IsLast role limits mid came given (Ok w)) one done.1 in
         record {
           came = came;
           events = given;
-          followed = same_state reading new told.1 told.2;
-          gives = (refl, (answer, subst (λ (i : Incoming). IsLast role bounds i came given (Ok v)) (sym told.2) last));
+          followed = same_state reading new reported.1 reported.2;
+          gives = (refl, (answer, subst (λ (i : Incoming). IsLast role limits i came given (Ok v)) (sym reported.2) last));
         }
 
-    pub gives_next : (n : Next A) → result ≡ Ok n → HasGivenNext role bounds old new before reading given n
+    pub gives_next : (n : Next A) → result ≡ Ok n → HasGivenNext role limits old new before reading given n
     gives_next n is = elim followed.state [ inl going ↦ goes_on going.0 n is | inr done ↦ stays done.0 done.1 n is ]
 
-    pub stops : (stop : Stop) → result ≡ Err stop → (all : List ℕ) × Consumes old.remaining new.remaining all × (length all ≤ bounds.input + 1) × HasStopped role bounds new all stop
+    pub stops : (stop : Stop) → result ≡ Err stop → (all : List ℕ) × Consumes old.remaining new.remaining all × (length all ≤ limits.input + 1) × HasStopped role limits new all stop
     stops stop is = elim followed.state [ inl going ↦ halts going.0 | inr done ↦ never done.0 done.1 ]
       where
-        halts : HasGiven role bounds before came given → (all : List ℕ) × Consumes old.remaining new.remaining all × (length all ≤ bounds.input + 1) × HasStopped role bounds new all stop
+        halts : HasGiven role limits before came given → (all : List ℕ) × Consumes old.remaining new.remaining all × (length all ≤ limits.input + 1) × HasStopped role limits new all stop
         halts has =
             let went = next has in
-            let now = subst (λ (r : Result (Next A) Stop). IsNext role bounds new reading (came ++ went.more) given r) is went.next in
+            let now = subst (λ (r : Result (Next A) Stop). IsNext role limits new reading (came ++ went.more) given r) is went.next in
             (came ++ went.more, all_consumed went.more went.consumed, went.few, (given, now.0))
 
-        never : (verdict : Verdict) → IsDone role bounds mid before came given verdict → (all : List ℕ) × Consumes old.remaining new.remaining all × (length all ≤ bounds.input + 1) × HasStopped role bounds new all stop
+        never : (verdict : Verdict) → IsDone role limits mid before came given verdict → (all : List ℕ) × Consumes old.remaining new.remaining all × (length all ≤ limits.input + 1) × HasStopped role limits new all stop
         never verdict done =
-            let told = again (Ok verdict) done.0 in
-            let both : Err stop ≡ Ok (nexts.Done verdict) = sym is ∙ told.0 in absurd cc
+            let reported = again (Ok verdict) done.0 in
+            let both : Err stop ≡ Ok (nexts.Done verdict) = sym is ∙ reported.0 in absurd cc

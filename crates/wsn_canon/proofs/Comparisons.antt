@@ -3,18 +3,18 @@ use Rattle.std.proofs.Common.{◌≡◌, ℕ, ◌+◌, ◌≤◌, Option, None, 
 use Rattle.std.specs.Io.KnownBytes.{Consumes}
 use Rattle.wsn_wire.specs.declared.endpoint.Role.{Role}
 use Rattle.wsn_wire.specs.Transfer.{Incoming}
-use Rattle.wsn_scan.specs.declared.outcome.Summary.{Summary}
-use Rattle.wsn_scan.specs.declared.outcome.Verdict.{Verdict}
-use Rattle.wsn_scan.specs.declared.outcome.Verdict.TheVariants.{Accepted, Cut, Refused}
-use Rattle.wsn_scan.specs.declared.stopping.Stop.{Stop}
-use Rattle.wsn_scan.specs.Bounds.{Bounds}
-use Rattle.wsn_scan.specs.Meaning.{MeantEvent}
+use Rattle.wsn_rules.specs.declared.verdict.Summary.{Summary}
+use Rattle.wsn_rules.specs.declared.verdict.Verdict.{Verdict}
+use Rattle.wsn_rules.specs.declared.verdict.Verdict.TheVariants.{Accepted, Cut, Refused}
+use Rattle.wsn_scan.specs.declared.stop.Stop.{Stop}
+use Rattle.wsn_rules.specs.Limits.{Limits}
+use Rattle.wsn_rules.specs.Meaning.{MeantEvent}
 use Rattle.wsn_canon.specs.declared.comparing.Compared.{Compared}
 use Rattle.wsn_canon.specs.declared.comparing.Compared.TheVariants.{Equal, Different, NotAccepted}
 use Rattle.wsn_canon.specs.declared.comparing.Round.TheVariants.{Over}
 use Rattle.wsn_canon.specs.declared.reading.Reading.{Reading}
-use Rattle.wsn_canon.specs.declared.sources.Next.{Next}
-use Rattle.wsn_canon.specs.declared.sources.Next.TheVariants as nexts
+use Rattle.wsn_canon.specs.declared.source.Next.{Next}
+use Rattle.wsn_canon.specs.declared.source.Next.TheVariants as nexts
 use Rattle.wsn_canon.specs.Sources.{IsLast}
 use Rattle.wsn_canon.specs.Comparing.{IsFirstDifference, IsRoundOf, IsAnAccepted, HasStopped, IsComparison, IsCompared}
 use Rattle.wsn_canon.proofs.ComparedSources.{HasFollowed, HasGivenNext}
@@ -23,9 +23,9 @@ use Rattle.wsn_canon.proofs.ComparedRounds.{IsDifferenceSoFar}
 -- What an answer is to say, for two verdicts and the first difference of the events before them.
 abbrev pub Compares : Verdict → Verdict → Option ℕ → Compared → Type 0
 Compares verdict other difference result =
-    (role : Role) (bounds : Bounds) (new : Incoming) (came : List ℕ) (events : List MeantEvent) (other_new : Incoming) (other_came : List ℕ) (others : List MeantEvent)
-    → IsLast role bounds new came events (Ok verdict) → IsLast role bounds other_new other_came others (Ok other)
-    → IsFirstDifference difference events others → IsComparison role bounds new came other_new other_came (Ok result)
+    (role : Role) (limits : Limits) (new : Incoming) (came : List ℕ) (events : List MeantEvent) (other_new : Incoming) (other_came : List ℕ) (others : List MeantEvent)
+    → IsLast role limits new came events (Ok verdict) → IsLast role limits other_new other_came others (Ok other)
+    → IsFirstDifference difference events others → IsComparison role limits new came other_new other_came (Ok result)
 
 first_difference : {A : Type 0} (reading other : Reading A) (index : ℕ) (given other_given : List MeantEvent) (difference : Option ℕ)
     → IsDifferenceSoFar reading other index given other_given difference → IsFirstDifference difference given other_given
@@ -37,16 +37,16 @@ same_difference : (given events other_given others : List MeantEvent) (differenc
 same_difference given events other_given others difference is others_is first =
     subst (λ (es : List MeantEvent). IsFirstDifference difference events es) (sym others_is) (subst (λ (es : List MeantEvent). IsFirstDifference difference es other_given) (sym is) first)
 
-module _ {A : Type 0} (role : Role) (bounds : Bounds) where
+module _ {A : Type 0} (role : Role) (limits : Limits) where
   -- both have given their verdicts
   pub compares : (old other_old new other_new : Incoming) (before reading other_before other : Reading A) (given other_given : List MeantEvent) (next other_next : Next A)
-      → HasGivenNext role bounds old new before reading given next → HasGivenNext role bounds other_old other_new other_before other other_given other_next
+      → HasGivenNext role limits old new before reading given next → HasGivenNext role limits other_old other_new other_before other other_given other_next
       → (index : ℕ) (difference : Option ℕ) → IsDifferenceSoFar before other_before index given other_given difference
       → (verdict other_verdict : Verdict) → IsRoundOf next other_next (Over verdict other_verdict)
-      → (result : Compared) → Compares verdict other_verdict difference result → IsCompared role bounds old new other_old other_new (Ok result)
-  compares old other_old new other_new before reading other_before other given other_given (nexts.Done v) (nexts.Done w) one two index difference so_far verdict other_verdict is result told =
-      let last = subst (λ (x : Verdict). IsLast role bounds new one.came one.events (Ok x)) (sym is.0) one.gives.1.1 in
-      let other_last = subst (λ (x : Verdict). IsLast role bounds other_new two.came two.events (Ok x)) (sym is.1) two.gives.1.1 in
+      → (result : Compared) → Compares verdict other_verdict difference result → IsCompared role limits old new other_old other_new (Ok result)
+  compares old other_old new other_new before reading other_before other given other_given (nexts.Done v) (nexts.Done w) one two index difference so_far verdict other_verdict is result reported =
+      let last = subst (λ (x : Verdict). IsLast role limits new one.came one.events (Ok x)) (sym is.0) one.gives.1.1 in
+      let other_last = subst (λ (x : Verdict). IsLast role limits other_new two.came two.events (Ok x)) (sym is.1) two.gives.1.1 in
       let first = first_difference before other_before index given other_given difference so_far in
       record {
         came = one.came;
@@ -55,16 +55,16 @@ module _ {A : Type 0} (role : Role) (bounds : Bounds) where
         other_came = two.came;
         other_consumed = two.followed.consumed;
         other_few = two.followed.few;
-        answer = told role bounds new one.came one.events other_new two.came two.events last other_last (same_difference given one.events other_given two.events difference one.gives.0 two.gives.0 first);
+        answer = reported role limits new one.came one.events other_new two.came two.events last other_last (same_difference given one.events other_given two.events difference one.gives.0 two.gives.0 first);
       }
-  compares old other_old new other_new before reading other_before other given other_given (nexts.Done v) (nexts.Event event) one two index difference so_far verdict other_verdict is result told = absurd is
-  compares old other_old new other_new before reading other_before other given other_given (nexts.Event event) (nexts.Done w) one two index difference so_far verdict other_verdict is result told = absurd is
-  compares old other_old new other_new before reading other_before other given other_given (nexts.Event event) (nexts.Event that) one two index difference so_far verdict other_verdict is result told = absurd is
+  compares old other_old new other_new before reading other_before other given other_given (nexts.Done v) (nexts.Event event) one two index difference so_far verdict other_verdict is result reported = absurd is
+  compares old other_old new other_new before reading other_before other given other_given (nexts.Event event) (nexts.Done w) one two index difference so_far verdict other_verdict is result reported = absurd is
+  compares old other_old new other_new before reading other_before other given other_given (nexts.Event event) (nexts.Event that) one two index difference so_far verdict other_verdict is result reported = absurd is
 
   -- the first stream has stopped
-  pub first_stops : (old new other_old other_new : Incoming) (other : Reading A) (other_came : List ℕ) (other_given : List MeantEvent) → HasFollowed role bounds other_old other_new other other_came other_given
-      → (stop : Stop) → (all : List ℕ) × Consumes old.remaining new.remaining all × (length all ≤ bounds.input + 1) × HasStopped role bounds new all stop
-      → IsCompared role bounds old new other_old other_new (Err stop)
+  pub first_stops : (old new other_old other_new : Incoming) (other : Reading A) (other_came : List ℕ) (other_given : List MeantEvent) → HasFollowed role limits other_old other_new other other_came other_given
+      → (stop : Stop) → (all : List ℕ) × Consumes old.remaining new.remaining all × (length all ≤ limits.input + 1) × HasStopped role limits new all stop
+      → IsCompared role limits old new other_old other_new (Err stop)
   first_stops old new other_old other_new other other_came other_given followed stop stops = record {
     came = stops.0;
     consumed = stops.1;
@@ -76,9 +76,9 @@ module _ {A : Type 0} (role : Role) (bounds : Bounds) where
   }
 
   -- the second stream has stopped
-  pub second_stops : (old new other_old other_new : Incoming) (before reading : Reading A) (given : List MeantEvent) (next : Next A) → HasGivenNext role bounds old new before reading given next
-      → (stop : Stop) → (all : List ℕ) × Consumes other_old.remaining other_new.remaining all × (length all ≤ bounds.input + 1) × HasStopped role bounds other_new all stop
-      → IsCompared role bounds old new other_old other_new (Err stop)
+  pub second_stops : (old new other_old other_new : Incoming) (before reading : Reading A) (given : List MeantEvent) (next : Next A) → HasGivenNext role limits old new before reading given next
+      → (stop : Stop) → (all : List ℕ) × Consumes other_old.remaining other_new.remaining all × (length all ≤ limits.input + 1) × HasStopped role limits other_new all stop
+      → IsCompared role limits old new other_old other_new (Err stop)
   second_stops old new other_old other_new before reading given next one stop stops = record {
     came = one.came;
     consumed = one.followed.consumed;
@@ -96,35 +96,35 @@ not_accepted (Accepted summary) none is = none summary refl
 not_accepted (Cut summary) none is = is
 not_accepted (Refused refusal) none is = is
 
-accepted : (role : Role) (bounds : Bounds) (new : Incoming) (came : List ℕ) (events : List MeantEvent) (verdict : Verdict) (summary : Summary)
-    → verdict ≡ Accepted summary → IsLast role bounds new came events (Ok verdict) → IsLast role bounds new came events (Ok (Accepted summary))
-accepted role bounds new came events verdict summary is last = subst (λ (v : Verdict). IsLast role bounds new came events (Ok v)) is last
+accepted : (role : Role) (limits : Limits) (new : Incoming) (came : List ℕ) (events : List MeantEvent) (verdict : Verdict) (summary : Summary)
+    → verdict ≡ Accepted summary → IsLast role limits new came events (Ok verdict) → IsLast role limits new came events (Ok (Accepted summary))
+accepted role limits new came events verdict summary is last = subst (λ (v : Verdict). IsLast role limits new came events (Ok v)) is last
 
 pub first_not_accepted : (verdict other : Verdict) (difference : Option ℕ) → ((summary : Summary) → verdict ≡ Accepted summary → ⊥) → Compares verdict other difference (NotAccepted false verdict)
-first_not_accepted verdict other difference none role bounds new came events other_new other_came others last other_last first =
+first_not_accepted verdict other difference none role limits new came events other_new other_came others last other_last first =
     ((events, last), not_accepted verdict none, (other, (others, other_last)))
 
 pub second_not_accepted : (verdict other : Verdict) (difference : Option ℕ) (summary : Summary) → verdict ≡ Accepted summary → ((s : Summary) → other ≡ Accepted s → ⊥)
     → Compares verdict other difference (NotAccepted true other)
-second_not_accepted verdict other difference summary is none role bounds new came events other_new other_came others last other_last first =
-    ((summary, (events, accepted role bounds new came events verdict summary is last)), (others, other_last), not_accepted other none)
+second_not_accepted verdict other difference summary is none role limits new came events other_new other_came others last other_last first =
+    ((summary, (events, accepted role limits new came events verdict summary is last)), (others, other_last), not_accepted other none)
 
 pub are_equal : (verdict other : Verdict) (difference : Option ℕ) (summary other_summary : Summary) → verdict ≡ Accepted summary → other ≡ Accepted other_summary → difference ≡ None
     → Compares verdict other difference Equal
-are_equal verdict other difference summary other_summary is other_is none role bounds new came events other_new other_came others last other_last first = (
+are_equal verdict other difference summary other_summary is other_is none role limits new came events other_new other_came others last other_last first = (
   events,
   others,
-  (summary, accepted role bounds new came events verdict summary is last),
-  (other_summary, accepted role bounds other_new other_came others other other_summary other_is other_last),
+  (summary, accepted role limits new came events verdict summary is last),
+  (other_summary, accepted role limits other_new other_came others other other_summary other_is other_last),
   subst (λ (d : Option ℕ). IsFirstDifference d events others) none first,
 )
 
 pub are_different : (verdict other : Verdict) (difference : Option ℕ) (summary other_summary : Summary) (k : ℕ) → verdict ≡ Accepted summary → other ≡ Accepted other_summary → difference ≡ Some k
     → Compares verdict other difference (Different k)
-are_different verdict other difference summary other_summary k is other_is some role bounds new came events other_new other_came others last other_last first = (
+are_different verdict other difference summary other_summary k is other_is some role limits new came events other_new other_came others last other_last first = (
   events,
   others,
-  (summary, accepted role bounds new came events verdict summary is last),
-  (other_summary, accepted role bounds other_new other_came others other other_summary other_is other_last),
+  (summary, accepted role limits new came events verdict summary is last),
+  (other_summary, accepted role limits other_new other_came others other other_summary other_is other_last),
   subst (λ (d : Option ℕ). IsFirstDifference d events others) some first,
 )

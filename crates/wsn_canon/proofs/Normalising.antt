@@ -1,27 +1,27 @@
 -- A stream's events, written one behind the other: what went out at each answer.
-use Rattle.std.proofs.Common.{◌≡◌, ℕ, ◌+◌, ◌≤◌, Result, Ok, Err, false, true, List, [], ◌∷◌, ◌++◌, length, take, map, sym, ap, ◌∙◌, subst, append-nil, arith}
+use Rattle.std.proofs.Common.{◌≡◌, ℕ, ◌+◌, ◌≤◌, Result, Ok, Err, false, List, [], ◌∷◌, ◌++◌, length, take, map, sym, ap, ◌∙◌, subst, append-nil, arith}
 use Rattle.std.proofs.lemmas.List.{map-append}
 use Rattle.std.proofs.KnownBytes.{Consumes-nil, Consumes-trans, Appends-nil, Appends-trans}
 use Rattle.std.proofs.Math.Seq.{take-append-add}
 use Rattle.std.specs.Io.KnownBytes.{Consumes, Appends}
 use Rattle.wsn_wire.specs.declared.endpoint.Role.{Role}
 use Rattle.wsn_wire.specs.Frame.{frame_bytes, stream}
-use Rattle.wsn_wire.specs.Transfer.{Incoming, Outgoing}
-use Rattle.wsn_scan.specs.declared.outcome.Verdict.{Verdict}
-use Rattle.wsn_scan.specs.declared.stopping.Stop.{Stop}
-use Rattle.wsn_scan.specs.declared.stopping.Stop.TheVariants as stop
-use Rattle.wsn_scan.specs.Bounds.{Bounds}
-use Rattle.wsn_scan.specs.Meaning.{MeantEvent}
+use Rattle.wsn_wire.specs.Transfer.{Incoming, Outgoing, IsWritten, IsPartlyWritten}
+use Rattle.wsn_rules.specs.declared.verdict.Verdict.{Verdict}
+use Rattle.wsn_scan.specs.declared.stop.Stop.{Stop}
+use Rattle.wsn_scan.specs.declared.stop.Stop.TheVariants as stop
+use Rattle.wsn_rules.specs.Limits.{Limits}
+use Rattle.wsn_rules.specs.Meaning.{MeantEvent}
 use Rattle.wsn_scan.proofs.Printing.{front_of_more}
-use Rattle.wsn_scan.proofs.Walk.{stream-append}
-use Rattle.wsn_canon.specs.declared.events.Event.{Event}
+use Rattle.wsn_rules.proofs.Walk.{stream-append}
+use Rattle.wsn_canon.specs.declared.event.Event.{Event}
 use Rattle.wsn_canon.specs.declared.reading.Reading.{Reading}
-use Rattle.wsn_canon.specs.declared.sources.Next.{Next}
-use Rattle.wsn_canon.specs.declared.sources.Next.TheVariants as nexts
-use Rattle.wsn_canon.specs.Events.{IsLawfulEvent}
+use Rattle.wsn_canon.specs.declared.source.Next.{Next}
+use Rattle.wsn_canon.specs.declared.source.Next.TheVariants as nexts
+use Rattle.wsn_rules.specs.LawfulEvents.{IsLawfulEvent}
 use Rattle.wsn_canon.specs.EventsMeant.{meant}
-use Rattle.wsn_canon.specs.NormalForm.{normal_frame, normal_form}
-use Rattle.wsn_canon.specs.Normalised.{IsNormalised, IsWritten}
+use Rattle.wsn_rules.specs.NormalForm.{normal_frame, normal_form}
+use Rattle.wsn_canon.specs.Normalised.{IsNormalised, IsNormalFormWritten}
 use Rattle.wsn_canon.specs.Readings.{HasGiven, GoesOn}
 use Rattle.wsn_canon.specs.Sources.{AreFirstOf, IsLast}
 
@@ -36,19 +36,19 @@ normal_form_push role events e =
     normal_form-append role events (e ∷ []) ∙ ap (λ (bs : List ℕ). normal_form role events ++ bs) (append-nil (frame_bytes (normal_frame role e)))
 
 -- The source has read all that came, and the normal form of the events that it gave went out.
-pub record HasWritten {A : Type 0} (role : Role) (bounds : Bounds) (old new : Incoming) (before after : Outgoing) (source : Reading A) : Type 0 where
+pub record HasWritten {A : Type 0} (role : Role) (limits : Limits) (old new : Incoming) (before after : Outgoing) (source : Reading A) : Type 0 where
   pub came : List ℕ
   pub given : List MeantEvent
-  pub has : HasGiven role bounds source came given
+  pub has : HasGiven role limits source came given
   pub consumed : Consumes old.remaining new.remaining came
-  pub few : length came ≤ bounds.input + 1
+  pub few : length came ≤ limits.input + 1
   pub out : Appends before.written after.written (normal_form role given)
   pub readable : new.failed ≡ false
   pub writable : after.failed ≡ false
 
-module _ {A : Type 0} (role : Role) (bounds : Bounds) (old : Incoming) (before : Outgoing) where
+module _ {A : Type 0} (role : Role) (limits : Limits) (old : Incoming) (before : Outgoing) where
   -- nothing came yet
-  pub begins : (source : Reading A) → HasGiven role bounds source [] [] → old.failed ≡ false → before.failed ≡ false → HasWritten role bounds old old before before source
+  pub begins : (source : Reading A) → HasGiven role limits source [] [] → old.failed ≡ false → before.failed ≡ false → HasWritten role limits old old before before source
   begins source has readable writable = record {
     came = [];
     given = [];
@@ -61,24 +61,24 @@ module _ {A : Type 0} (role : Role) (bounds : Bounds) (old : Incoming) (before :
   }
 
   -- the source's next answer
-  module _ (mid new : Incoming) (after : Outgoing) (source next : Reading A) (written : HasWritten role bounds old mid before after source) where
-    all_consumed : (result : Result (Next A) Stop) (on : GoesOn role bounds mid new next written.came written.given result) → Consumes old.remaining new.remaining (written.came ++ on.more)
+  module _ (mid new : Incoming) (after : Outgoing) (source next : Reading A) (written : HasWritten role limits old mid before after source) where
+    all_consumed : (result : Result (Next A) Stop) (on : GoesOn role limits mid new next written.came written.given result) → Consumes old.remaining new.remaining (written.came ++ on.more)
     all_consumed result on = Consumes-trans old.remaining mid.remaining new.remaining written.came on.more written.consumed on.consumed
 
     -- the verdict
-    pub is_done : (answer : Next A) (verdict : Verdict) → answer ≡ nexts.Done verdict → GoesOn role bounds mid new next written.came written.given (Ok answer) → IsNormalised role bounds old new before after (Ok verdict)
+    pub is_done : (answer : Next A) (verdict : Verdict) → answer ≡ nexts.Done verdict → GoesOn role limits mid new next written.came written.given (Ok answer) → IsNormalised role limits old new before after (Ok verdict)
     is_done answer verdict is goes = record {
       came = written.came ++ on.more;
       consumed = all_consumed (Ok (nexts.Done verdict)) on;
       few = on.few;
-      written = (written.writable, (written.given, on.next.0, written.out));
+      written = (written.given, on.next.0, (written.writable, written.out));
     }
       where
-        on : GoesOn role bounds mid new next written.came written.given (Ok (nexts.Done verdict))
-        on = subst (λ (n : Next A). GoesOn role bounds mid new next written.came written.given (Ok n)) is goes
+        on : GoesOn role limits mid new next written.came written.given (Ok (nexts.Done verdict))
+        on = subst (λ (n : Next A). GoesOn role limits mid new next written.came written.given (Ok n)) is goes
 
     -- a stop
-    pub is_stopped : (stopped : Stop) → GoesOn role bounds mid new next written.came written.given (Err stopped) → IsNormalised role bounds old new before after (Err stopped)
+    pub is_stopped : (stopped : Stop) → GoesOn role limits mid new next written.came written.given (Err stopped) → IsNormalised role limits old new before after (Err stopped)
     is_stopped stopped on = record {
       came = written.came ++ on.more;
       consumed = all_consumed (Err stopped) on;
@@ -86,22 +86,22 @@ module _ {A : Type 0} (role : Role) (bounds : Bounds) (old : Incoming) (before :
       written = of stopped on.next.0;
     }
       where
-        of : (s : Stop) → IsLast role bounds new (written.came ++ on.more) written.given (Err s) → IsWritten role bounds new (written.came ++ on.more) before after (Err s)
-        of stop.Read last = (written.writable, (written.given, last, written.out))
-        of stop.InputLimit last = (written.writable, (written.given, last, written.out))
-        of stop.Memory last = (written.writable, (written.given, last, written.out))
+        of : (s : Stop) → IsLast role limits new (written.came ++ on.more) written.given (Err s) → IsNormalFormWritten role limits new (written.came ++ on.more) before after (Err s)
+        of stop.Read last = (written.given, last, (written.writable, written.out))
+        of stop.InputLimit last = (written.given, last, (written.writable, written.out))
+        of stop.Memory last = (written.given, last, (written.writable, written.out))
         of stop.Write last = absurd last.0
 
     -- an event, which is written
-    module _ (answer : Next A) (event : Event A) (is : answer ≡ nexts.Event event) (goes : GoesOn role bounds mid new next written.came written.given (Ok answer)) where
-      on : GoesOn role bounds mid new next written.came written.given (Ok (nexts.Event event))
-      on = subst (λ (n : Next A). GoesOn role bounds mid new next written.came written.given (Ok n)) is goes
+    module _ (answer : Next A) (event : Event A) (is : answer ≡ nexts.Event event) (goes : GoesOn role limits mid new next written.came written.given (Ok answer)) where
+      on : GoesOn role limits mid new next written.came written.given (Ok (nexts.Event event))
+      on = subst (λ (n : Next A). GoesOn role limits mid new next written.came written.given (Ok n)) is goes
 
       pub is_lawful_event : IsLawfulEvent (meant event)
       is_lawful_event = on.next.1.lawful
 
-      pub goes_on : (last : Outgoing) → last.failed ≡ false → Appends after.written last.written (frame_bytes (normal_frame role (meant event))) → HasWritten role bounds old new before last next
-      goes_on last writable out = record {
+      pub goes_on : (last : Outgoing) → IsWritten after last (frame_bytes (normal_frame role (meant event))) → HasWritten role limits old new before last next
+      goes_on last (writable, out) = record {
         came = written.came ++ on.more;
         given = written.given ++ meant event ∷ [];
         has = on.next.0;
@@ -114,16 +114,16 @@ module _ {A : Type 0} (role : Role) (bounds : Bounds) (old : Incoming) (before :
       }
 
       -- or isn't, or not all of it
-      pub write_failed : (last : Outgoing) → last.failed ≡ true → (k : ℕ) × Appends after.written last.written (take k (frame_bytes (normal_frame role (meant event))))
-          → IsNormalised role bounds old new before last (Err stop.Write)
-      write_failed last failed (k, out) = record {
+      pub write_failed : (last : Outgoing) → IsPartlyWritten after last (frame_bytes (normal_frame role (meant event)))
+          → IsNormalised role limits old new before last (Err stop.Write)
+      write_failed last (failed, (k, out)) = record {
         came = written.came ++ on.more;
         consumed = all_consumed (Ok (nexts.Event event)) on;
         few = on.few;
-        written = (on.next.2, failed, (first.0, (written.given ++ meant event ∷ []) ++ first.1, first.2, (front.0, subst (λ (bs : List ℕ). Appends before.written last.written bs) same went)));
+        written = (on.next.2, (first.0, (written.given ++ meant event ∷ []) ++ first.1, first.2, (failed, (front.0, subst (λ (bs : List ℕ). Appends before.written last.written bs) same went))));
       }
         where
-          first : AreFirstOf role bounds (take bounds.input (written.came ++ on.more)) (written.given ++ meant event ∷ [])
+          first : AreFirstOf role limits (take limits.input (written.came ++ on.more)) (written.given ++ meant event ∷ [])
           first = on.next.1.first
 
           frame : List ℕ

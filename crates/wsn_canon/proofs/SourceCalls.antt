@@ -1,114 +1,226 @@
--- What a call of an event source reads and answers, step by step.
-use Rattle.std.specs.Prelude.{nat_lt, if◌then◌else◌}
-use Rattle.std.proofs.lemmas.Bool.{le-ltb}
-use Rattle.std.proofs.Common.{◌≡◌, ℕ, ◌+◌, ◌≤◌, Bool, true, false, arith, None, Some, Result, Ok, Err, List, [], ◌∷◌, ◌++◌, length, sym, ap, ◌∙◌, subst, append_assoc, append-nil}
+-- What a call of an event source reads and answers, notice by notice.
+use Rattle.std.proofs.Common.{◌≡◌, ℕ, ◌+◌, ◌≤◌, Bool, true, false, cond, arith, Option, None, Some, Result, Ok, Err, List, [], ◌∷◌, ◌++◌, length, drop, refl, sym, ap, ◌∙◌, subst, append_assoc, append-nil}
 use Rattle.std.proofs.KnownBytes.{Consumes-nil, Consumes-trans}
 use Rattle.std.specs.Io.KnownBytes.{Consumes}
 use Rattle.wsn_wire.specs.declared.endpoint.Role.{Role}
+use Rattle.wsn_wire.specs.declared.opcode.Op.{Op}
+use Rattle.wsn_wire.specs.Frame.{Frame, is_control, stream}
 use Rattle.wsn_wire.specs.Transfer.{Incoming}
-use Rattle.wsn_scan.specs.declared.outcome.Refusal.{Refusal}
-use Rattle.wsn_scan.specs.declared.outcome.Verdict.{Verdict}
-use Rattle.wsn_scan.specs.declared.outcome.Verdict.TheVariants.{Refused}
-use Rattle.wsn_scan.specs.declared.stopping.Stop.{Stop}
-use Rattle.wsn_scan.specs.Bounds.{Bounds}
-use Rattle.wsn_scan.specs.Meaning.{MeantEvent}
-use Rattle.wsn_scan.specs.Verdict.{IsRefused}
-use Rattle.wsn_canon.specs.declared.events.Event.{Event}
+use Rattle.wsn_rules.specs.declared.head_info.HeadInfo.{HeadInfo}
+use Rattle.wsn_rules.specs.declared.verdict.Verdict.{Verdict}
+use Rattle.wsn_rules.specs.Group.{unfinished, text_of}
+use Rattle.wsn_rules.specs.Heads.{info_of}
+use Rattle.wsn_rules.specs.Lawful.{IsLawful}
+use Rattle.wsn_rules.specs.LawfulEvents.{IsLawfulEvent, IsLawfulControl}
+use Rattle.wsn_rules.specs.Limits.{Limits}
+use Rattle.wsn_rules.specs.Meaning.{MeantEvent, event_at, meaning}
+use Rattle.wsn_rules.proofs.Groups.{meaning_push, group_of_lawful}
+use Rattle.wsn_rules.proofs.LawfulMeaning.{lawful_event}
+use Rattle.wsn_scan.specs.declared.notice_reader.NextNotice.{NextNotice}
+use Rattle.wsn_scan.specs.declared.notice_reader.NextNotice.TheVariants as notices
+use Rattle.wsn_scan.specs.declared.notice_reader.NoticeReader.{NoticeReader}
+use Rattle.wsn_scan.specs.declared.stop.Stop.{Stop}
+use Rattle.wsn_scan.specs.declared.stop.Stop.TheVariants as stops
+use Rattle.wsn_scan.specs.FramesTold.{Position, BetweenFrames, InFrame, IsToldOf}
+use Rattle.wsn_scan.specs.NoticeReaders.{HasTold, IsReading, payload_of}
+use Rattle.wsn_scan.specs.ReadNotices.{ReadsOn, TellsEnd, IsHaltedAt, IsNotice, IsNext as IsNextNotice}
+use Rattle.wsn_scan.proofs.ReaderTold.{told_of}
+use Rattle.wsn_canon.specs.declared.event.Event.{Event}
 use Rattle.wsn_canon.specs.declared.reading.Reading.{Reading}
-use Rattle.wsn_canon.specs.declared.sources.Next.{Next}
-use Rattle.wsn_canon.specs.declared.sources.Next.TheVariants as nexts
+use Rattle.wsn_canon.specs.declared.reassembly.Reassembly.{Reassembly}
+use Rattle.wsn_canon.specs.declared.source.Next.{Next}
+use Rattle.wsn_canon.specs.declared.source.Next.TheVariants as nexts
 use Rattle.wsn_canon.specs.EventsMeant.{meant}
-use Rattle.wsn_canon.specs.Readings.{HasGiven, HasBegun, IsGiven, IsRefusedBy, IsNext, GoesOn, IsFilled, answered, held_of, next_of, IsEvent, idle}
-use Rattle.wsn_canon.specs.Sources.{IsLast}
-use Rattle.wsn_canon.proofs.GivenSoFar.{came_few, begun_sound}
+use Rattle.wsn_canon.specs.Readings.{HasGiven, IsAtWork, IsNext, GoesOn, answered, held_of, next_of, IsEvent}
+use Rattle.wsn_canon.specs.Reassembly.{IsReassembled, IsBetweenFrames, IsInFrame, IsEventOf}
+use Rattle.wsn_canon.specs.Sources.{IsLast, IsHalted}
+use Rattle.wsn_canon.proofs.GivenSoFar.{all_came, given_first, data_came, begun_sound}
+use Rattle.wsn_canon.proofs.ReassembledFrames.{lawful_body}
 
 -- A call has read so much, and given no event yet.
-pub record HasRead {A : Type 0} (role : Role) (bounds : Bounds) (old new : Incoming) (reading : Reading A) (came : List ℕ) (given : List MeantEvent) : Type 0 where
+pub record HasRead {A : Type 0} (role : Role) (limits : Limits) (old new : Incoming) (reading : Reading A) (came : List ℕ) (given : List MeantEvent) : Type 0 where
   pub more : List ℕ
   pub consumed : Consumes old.remaining new.remaining more
-  pub has : HasGiven role bounds reading (came ++ more) given
+  pub has : HasGiven role limits reading (came ++ more) given
 
 -- what the last answer is
-last_next : {A : Type 0} (role : Role) (bounds : Bounds) (new : Incoming) (reading : Reading A) (came : List ℕ) (given : List MeantEvent) (answer : Result Verdict Stop)
-    → IsLast role bounds new came given answer → answered reading ≡ Some answer → held_of reading ≡ 0 → IsNext role bounds new reading came given (next_of answer)
-last_next role bounds new reading came given (Ok verdict) last is held = (last, is, held)
-last_next role bounds new reading came given (Err halted) last is held = (last, is, held)
+last_next : {A : Type 0} (role : Role) (limits : Limits) (new : Incoming) (reading : Reading A) (came : List ℕ) (given : List MeantEvent) (answer : Result Verdict Stop)
+    → IsLast role limits new came given answer → answered reading ≡ Some answer → held_of reading ≡ 0 → IsNext role limits new reading came given (next_of answer)
+last_next role limits new reading came given (Ok verdict) last is held = (last, is, held)
+last_next role limits new reading came given (Err halted) last is held = (last, is, held)
 
 pub last_is_none : {A : Type 0} (answer : Result Verdict Stop) (result : Result (Next A) Stop) → result ≡ next_of answer → IsEvent result → ⊥
 last_is_none {A} (Ok verdict) result is event = subst (λ (r : Result (Next A) Stop). IsEvent r) is event
 last_is_none {A} (Err halted) result is event = subst (λ (r : Result (Next A) Stop). IsEvent r) is event
 
-module _ {A : Type 0} (role : Role) (bounds : Bounds) (old : Incoming) (came : List ℕ) (given : List MeantEvent) where
-  pub begins : (reading : Reading A) → HasGiven role bounds reading came given → HasRead role bounds old old reading came given
-  begins reading has = record { more = []; consumed = Consumes-nil old.remaining; has = subst (λ (bs : List ℕ). HasGiven role bounds reading bs given) (sym (append-nil came)) has }
+no_end : (xs ys : List ℕ) → xs ++ ys ≡ [] → ys ≡ []
+no_end [] ys none = none
+no_end (x ∷ xs) ys none = absurd cc
 
-  module _ (mid : Incoming) (reading : Reading A) (read : HasRead role bounds old mid reading came given) where
-    pub goes_on : (next : Reading A) → HasGiven role bounds next (came ++ read.more) given → HasRead role bounds old mid next came given
-    goes_on next has = record { more = read.more; consumed = read.consumed; has = has }
+-- a reader's stop is the source's
+halted_of : (role : Role) (limits : Limits) (new : Incoming) (came : List ℕ) (done : List Frame) (given : List MeantEvent) (halted : Stop) → given ≡ meaning done → IsHaltedAt role limits new came done halted → IsHalted role limits new came given halted
+halted_of role limits new came done given stops.Memory events is = absurd is.0
+halted_of role limits new came done given stops.Read events is = (is.0, (is.1.0, (done, is.1.1, events)))
+halted_of role limits new came done given stops.InputLimit events is = (is.0, (is.1.0, (done, is.1.1, events)))
+halted_of role limits new came done given stops.Write events is = (is.0, (is.1.0, (done, is.1.1, events)))
 
-    pub gives : (next : Reading A) (event : Event A) → mid.failed ≡ false → HasGiven role bounds next (came ++ read.more) (given ++ meant event ∷ []) × IsGiven role bounds next (came ++ read.more) given event
-        → GoesOn role bounds old mid next came given (Ok (nexts.Event event))
-    gives next event unfailed has = record {
-      more = read.more;
-      consumed = read.consumed;
-      few = came_few role bounds reading (came ++ read.more) given read.has;
-      next = (has.0, has.1, unfailed);
+pub reading_of : {A : Type 0} (reading : Reading A) → IsAtWork reading → IsReading reading.reader
+reading_of reading b = record { role = b.role; limits = b.limits; came = b.came; done = b.has.done; at = b.has.at; told = b.has.told }
+
+module _ {A : Type 0} (role : Role) (limits : Limits) (old : Incoming) (came : List ℕ) (given : List MeantEvent) where
+  pub begins : (reading : Reading A) → HasGiven role limits reading came given → HasRead role limits old old reading came given
+  begins reading has = record { more = []; consumed = Consumes-nil old.remaining; has = subst (λ (bs : List ℕ). HasGiven role limits reading bs given) (sym (append-nil came)) has }
+
+  -- The reader was called once more.
+  module _ (mid new : Incoming) (reading : Reading A) (reader : NoticeReader) (read : HasRead role limits old mid reading came given) (result : Result NextNotice Stop)
+      (reads : ReadsOn role limits mid new reader (came ++ read.more) read.has.done read.has.at result) where
+    abbrev done : List Frame
+    done = read.has.done
+
+    abbrev now : List ℕ
+    now = (came ++ read.more) ++ reads.more
+
+    all : now ≡ came ++ (read.more ++ reads.more)
+    all = append_assoc came read.more reads.more
+
+    consumed : Consumes old.remaining new.remaining (read.more ++ reads.more)
+    consumed = Consumes-trans old.remaining mid.remaining new.remaining read.more reads.more read.consumed reads.consumed
+
+    answers : (next : Reading A) (answer : Result (Next A) Stop) → IsNext role limits new next now given answer → GoesOn role limits old new next came given answer
+    answers next answer is = record {
+      more = read.more ++ reads.more;
+      consumed = consumed;
+      few = subst (λ (bs : List ℕ). length bs ≤ limits.input + 1) all reads.few;
+      next = subst (λ (bs : List ℕ). IsNext role limits new next bs given answer) all is;
     }
 
-    -- it ends with what came
-    pub ends : (next : Reading A) (answer : Result Verdict Stop) (result : Result (Next A) Stop) → IsLast role bounds mid (came ++ read.more) given answer → answered next ≡ Some answer → held_of next ≡ 0
-        → result ≡ next_of answer → GoesOn role bounds old mid next came given result
-    ends next answer result last is held same = record {
-      more = read.more;
-      consumed = read.consumed;
-      few = came_few role bounds reading (came ++ read.more) given read.has;
-      next = subst (λ (r : Result (Next A) Stop). IsNext role bounds mid next (came ++ read.more) given r) (sym same) (last_next role bounds mid next (came ++ read.more) given answer last is held);
+    -- what it told
+    told : (notice : Result NextNotice Stop) → result ≡ notice → IsNextNotice role limits new reader now done read.has.at notice
+    told notice is = subst (λ (r : Result NextNotice Stop). IsNextNotice role limits new reader now done read.has.at r) is reads.next
+
+    pub unfailed : IsNotice result → new.failed ≡ false
+    unfailed is = of result is reads.next
+      where
+        of : (notice : Result NextNotice Stop) → IsNotice notice → IsNextNotice role limits new reader now done read.has.at notice → new.failed ≡ false
+        of (Ok (notices.Head info)) some said = said.1
+        of (Ok notices.Payload) some said = said.1
+        of (Ok (notices.FrameEnd event)) some said = said.1
+        of (Ok (notices.Done verdict)) some said = absurd some
+        of (Err halted) some said = absurd some
+
+    was_at : (at : Position) → read.has.at ≡ at → IsReassembled reading.reassembly done at
+    was_at at is = subst (IsReassembled reading.reassembly done) is read.has.reassembly
+
+    -- the source then, with what it has reassembled
+    abbrev moved : Reassembly A → Reading A
+    moved g = record { reader = reader; reassembly = g; answer = reading.answer }
+
+    goes_on : (g : Reassembly A) (ended : List Frame) (at : Position) → HasTold role limits reader now ended at → IsReassembled g ended at → given ≡ meaning ended → HasRead role limits old new (moved g) came given
+    goes_on g ended at has reassembly means = record {
+      more = read.more ++ reads.more;
+      consumed = consumed;
+      has = subst (λ (bs : List ℕ). HasGiven role limits (moved g) bs given) all (record { done = ended; at = at; told = has; reassembly = reassembly; events = means; going = read.has.going });
     }
 
-    pub refused_last : (refusal : Refusal) → IsRefusedBy role bounds (came ++ read.more) given refusal → mid.failed ≡ false → IsLast role bounds mid (came ++ read.more) given (Ok (Refused refusal))
-    refused_last refusal by unfailed = (
-      (by.frames, by.refused, by.soon, by.within, unfailed),
-      (by.frames, subst (λ (bs : List ℕ). IsRefused role bounds bs by.frames refusal.place refusal.reason) (append-nil (came ++ read.more)) (by.refused []), by.events),
-    )
+    -- ---- what it goes on with
 
-    -- one read more
-    module _ (new : Incoming) (next : Reading A) where
-      pub fills : IsFilled role bounds mid new next (came ++ read.more) given None → HasRead role bounds old new next came given
-      fills filled = record {
-        more = read.more ++ filled.more;
-        consumed = Consumes-trans old.remaining mid.remaining new.remaining read.more filled.more read.consumed filled.consumed;
-        has = subst (λ (bs : List ℕ). HasGiven role bounds next bs given) (append_assoc came read.more filled.more) filled.next.0;
-      }
+    pub head : (info : HeadInfo) → result ≡ Ok (notices.Head info) → (g : Reassembly A) → ((before : List Frame) → IsBetweenFrames reading.reassembly before → IsInFrame g before info.op []) → HasRead role limits old new (moved g) came given
+    head info is g begin =
+        let tells = (told (Ok (notices.Head info)) is).0 in
+        goes_on g done (InFrame info []) tells.1 (begin done (was_at BetweenFrames tells.0)) read.has.events
 
-      pub fills_last : (last : Reading A) (answer : Result Verdict Stop) (result : Result (Next A) Stop) → IsFilled role bounds mid new next (came ++ read.more) given (Some answer) → answered last ≡ Some answer → held_of last ≡ 0
-          → result ≡ next_of answer → GoesOn role bounds old new last came given result
-      fills_last last answer result filled is held same =
-          let all = append_assoc came read.more filled.more in
-          record {
-            more = read.more ++ filled.more;
-            consumed = Consumes-trans old.remaining mid.remaining new.remaining read.more filled.more read.consumed filled.consumed;
-            few = subst (λ (bs : List ℕ). length bs ≤ bounds.input + 1) all filled.few;
-            next = subst (λ (r : Result (Next A) Stop). IsNext role bounds new last (came ++ (read.more ++ filled.more)) given r) (sym same)
-                (last_next role bounds new last (came ++ (read.more ++ filled.more)) given answer (subst (λ (bs : List ℕ). IsLast role bounds new bs given answer) all filled.next) is held);
-          }
+    pub payload : result ≡ Ok notices.Payload → (g : Reassembly A)
+        → ((before : List Frame) (op : Op) (front : List ℕ) → IsInFrame reading.reassembly before op front → IsInFrame g before op (front ++ payload_of reader)) → HasRead role limits old new (moved g) came given
+    payload is g take =
+        let tells = (told (Ok notices.Payload) is).0 in
+        let info = tells.0 in
+        let front = tells.1 in
+        goes_on g done (InFrame info (front ++ payload_of reader)) tells.3 (take done info.op front (was_at (InFrame info front) tells.2)) read.has.events
 
--- ---- the calls of the scan and the reads come to an end
+    -- ---- what it ends with
 
-pub idle_few : (at end : ℕ) (past : Bool) → idle at end past ≤ 1
-idle_few at end true = omega arith
-idle_few at end false = few (nat_lt at end)
-  where
-    few : (less : Bool) → (if less then 0 else 1) ≤ 1
-    few true = omega arith
-    few false = omega arith
+    pub ends : (last : Reading A) (answer : Result Verdict Stop) (final : Result (Next A) Stop) → IsLast role limits new now given answer → answered last ≡ Some answer → held_of last ≡ 0 → final ≡ next_of answer → GoesOn role limits old new last came given final
+    ends last answer final is answered_is held same = answers last final (subst (λ (r : Result (Next A) Stop). IsNext role limits new last now given r) (sym same) (last_next role limits new last now given answer is answered_is held))
 
-pub all_scanned : (at end : ℕ) (past : Bool) → at ≡ end → past ≡ false → idle at end past ≡ 1
-all_scanned at end past all none =
-    ap (λ (b : Bool). idle at end b) none ∙ ap (λ (less : Bool). if less then 0 else 1) (le-ltb at end (omega (arith, all)))
+    pub finished : (verdict : Verdict) → result ≡ Ok (notices.Done verdict) → IsLast role limits new now given (Ok verdict)
+    finished verdict is = let last = told (Ok (notices.Done verdict)) is in (last.0, (done, last.1, read.has.events))
+
+    pub stopped : (halted : Stop) → result ≡ Err halted → IsLast role limits new now given (Err halted)
+    stopped halted is = halted_of role limits new now done given halted read.has.events (told (Err halted) is)
+
+    -- memory was refused for data
+    pub no_memory : result ≡ Ok notices.Payload → is_control reading.reassembly.op ≡ false → IsLast role limits new now given (Err stops.Memory)
+    no_memory is other =
+        let tells = told (Ok notices.Payload) is in
+        let info = tells.0.0 in
+        let front = tells.0.1 in
+        let longer = front ++ payload_of reader in
+        let stands = told_of role limits reader now done (InFrame info longer) tells.0.3 in
+        let within : IsInFrame reading.reassembly done info.op front = was_at (InFrame info front) tells.0.2 in (
+          data_came role limits now done (InFrame info longer) stands info longer refl (λ none. tells.0.4 (no_end front (payload_of reader) none)) (sym (ap is_control within.op) ∙ other),
+          given_first role limits now done (InFrame info longer) stands given read.has.events,
+          tells.1,
+        )
+
+    -- ---- the end of a frame
+
+    module _ (event : Bool) (is : result ≡ Ok (notices.FrameEnd event)) where
+      tells : TellsEnd role limits reader now done read.has.at event
+      tells = (told (Ok (notices.FrameEnd event)) is).0
+
+      abbrev frame : Frame
+      frame = tells.0
+
+      abbrev ended : List Frame
+      ended = done ++ frame ∷ []
+
+      stands : IsToldOf role limits now ended BetweenFrames
+      stands = told_of role limits reader now ended BetweenFrames tells.3
+
+      whole : IsInFrame reading.reassembly done frame.op frame.payload
+      whole = was_at (InFrame (info_of (length (stream done)) frame) frame.payload) tells.2
+
+      pub end_lawful : is_control reading.reassembly.op ≡ true → IsLawfulControl reading.reassembly.op reading.reassembly.body.items
+      end_lawful control = lawful_body role limits reading.reassembly done frame stands.lawful whole control
+
+      module _ (g : Reassembly A) (outcome : Option (Event A))
+          (end : (before : List Frame) (f : Frame) → f.fin ≡ event → IsLawful role limits (before ++ f ∷ []) → IsInFrame reading.reassembly before f.op f.payload → IsEventOf before f outcome × IsBetweenFrames g (before ++ f ∷ [])) where
+        ends_it : IsEventOf done frame outcome × IsBetweenFrames g ended
+        ends_it = end done frame tells.1 stands.lawful whole
+
+        pub fragment : outcome ≡ None → HasRead role limits old new (moved g) came given
+        fragment none =
+            let more : frame.fin ≡ false = subst (λ (o : Option (Event A)). IsEventOf done frame o) none ends_it.0 in
+            goes_on g ended BetweenFrames tells.3 ends_it.1
+            (read.has.events ∙ sym (append-nil (meaning done)) ∙ ap (λ (b : Bool). meaning done ++ cond b (event_at done frame ∷ []) []) (sym more) ∙ sym (meaning_push done frame))
+
+        pub gives : (e : Event A) → outcome ≡ Some e → GoesOn role limits old new (moved g) came given (Ok (nexts.Event e))
+        gives e some =
+            let of : (frame.fin ≡ true) × (meant e ≡ event_at done frame) = subst (λ (o : Option (Event A)). IsEventOf done frame o) some ends_it.0 in
+            let means : given ++ meant e ∷ [] ≡ meaning ended =
+            ap (λ (es : List MeantEvent). es ++ meant e ∷ []) read.has.events ∙ ap (λ (m : MeantEvent). meaning done ++ m ∷ []) of.1
+            ∙ ap (λ (b : Bool). meaning done ++ cond b (event_at done frame ∷ []) []) (sym of.0) ∙ sym (meaning_push done frame) in
+            let held : held_of (moved g) ≡ length (text_of (unfinished ended)) = ap (λ (bs : List ℕ). length bs) ends_it.1.message in
+            answers (moved g) (Ok (nexts.Event e)) (
+              record { done = ended; at = BetweenFrames; told = tells.3; reassembly = ends_it.1; events = means; going = read.has.going },
+              record {
+                lawful = subst IsLawfulEvent (sym of.1) (lawful_event role limits done frame stands.in_range stands.lawful of.0);
+                frames = ended;
+                are_lawful = stands.lawful;
+                rest = stands.rest ++ drop limits.input now;
+                whole = all_came role limits now ended BetweenFrames stands;
+                ends = record { before = done; frame = frame; last = refl; final = of.0; ended = of.1 };
+                last = means;
+                first = given_first role limits now ended BetweenFrames stands (given ++ meant e ∷ []) means;
+                held = held;
+                within = let within = (group_of_lawful role limits ended stands.lawful).size in omega (arith, held, within);
+              },
+              (told (Ok (notices.FrameEnd event)) is).1,
+            )
 
 -- behind an event the source goes on
-pub begun_behind : {A : Type 0} (role : Role) (bounds : Bounds) (old new : Incoming) (reading : Reading A) (came : List ℕ) (given : List MeantEvent) (result : Result (Next A) Stop)
-    → GoesOn role bounds old new reading came given result → IsEvent result → HasBegun reading
-begun_behind role bounds old new reading came given (Ok (nexts.Event event)) on is = begun_sound role bounds reading (came ++ on.more) (given ++ meant event ∷ []) on.next.0
-begun_behind role bounds old new reading came given (Ok (nexts.Done verdict)) on is = absurd is
-begun_behind role bounds old new reading came given (Err halted) on is = absurd is
+pub begun_behind : {A : Type 0} (role : Role) (limits : Limits) (old new : Incoming) (reading : Reading A) (came : List ℕ) (given : List MeantEvent) (result : Result (Next A) Stop)
+    → GoesOn role limits old new reading came given result → IsEvent result → IsAtWork reading
+begun_behind role limits old new reading came given (Ok (nexts.Event event)) on is = begun_sound role limits reading (came ++ on.more) (given ++ meant event ∷ []) on.next.0
+begun_behind role limits old new reading came given (Ok (nexts.Done verdict)) on is = absurd is
+begun_behind role limits old new reading came given (Err halted) on is = absurd is

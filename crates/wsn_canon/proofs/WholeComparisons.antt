@@ -4,20 +4,20 @@ use Rattle.std.specs.Io.KnownBytes.{Consumes, IsAtEnd}
 use Rattle.wsn_wire.specs.declared.endpoint.Role.{Role}
 use Rattle.wsn_wire.specs.Frame.{Frame, stream}
 use Rattle.wsn_wire.specs.Transfer.{Incoming}
-use Rattle.wsn_scan.specs.declared.outcome.Verdict.{Verdict}
-use Rattle.wsn_scan.specs.declared.outcome.Verdict.TheVariants.{Accepted}
-use Rattle.wsn_scan.specs.Accepted.{IsAccepted}
-use Rattle.wsn_scan.specs.Bounds.{Bounds}
-use Rattle.wsn_scan.specs.Meaning.{MeantEvent, meaning}
-use Rattle.wsn_scan.specs.Verdict.{IsVerdict}
-use Rattle.wsn_scan.specs.Summary.{counted}
+use Rattle.wsn_rules.specs.declared.verdict.Verdict.{Verdict}
+use Rattle.wsn_rules.specs.declared.verdict.Verdict.TheVariants.{Accepted}
+use Rattle.wsn_rules.specs.Accepted.{IsAccepted}
+use Rattle.wsn_rules.specs.Limits.{Limits}
+use Rattle.wsn_rules.specs.Meaning.{MeantEvent, meaning}
+use Rattle.wsn_rules.specs.Verdict.{IsVerdict}
+use Rattle.wsn_rules.specs.Summary.{counted}
 use Rattle.wsn_scan.proofs.JudgedInputs.{whole_verdict}
-use Rattle.wsn_scan.proofs.OneVerdict.{one_verdict}
+use Rattle.wsn_rules.proofs.OneVerdict.{one_verdict}
 use Rattle.wsn_canon.specs.declared.comparing.Compared.{Compared}
 use Rattle.wsn_canon.specs.declared.comparing.Compared.TheVariants.{Equal, Different, NotAccepted}
 use Rattle.wsn_canon.specs.Comparing.{DifferAt, IsAnAccepted, HasVerdict, IsAcceptedOf, IsCompared, IsAnswerOf}
 use Rattle.wsn_canon.proofs.ComparedEvents.{differ_not_equal, differ_once}
-use Rattle.wsn_canon.proofs.NormalLaws.{accepted_meaning}
+use Rattle.wsn_rules.proofs.NormalLaws.{accepted_meaning}
 
 -- at the end, all of the bytes came
 all_came : (old new : Option (List ℕ)) (came all : List ℕ) → Consumes old new came → IsAtEnd new → old ≡ Some all → all ≡ came
@@ -26,22 +26,22 @@ all_came (Some whole) None came all consumed at_end known = absurd consumed
 all_came (Some whole) (Some rest) came all consumed at_end known =
     let is : whole ≡ all = cc in sym is ∙ consumed ∙ ap (λ (bs : List ℕ). came ++ bs) at_end ∙ append-nil came
 
-module _ (role : Role) (bounds : Bounds) where
+module _ (role : Role) (limits : Limits) where
   -- an accepted stream's events are the meaning of all of its bytes
-  whole_accepted : (old new : Incoming) (came all : List ℕ) (events : List MeantEvent) → Consumes old.remaining new.remaining came → old.remaining ≡ Some all → IsAcceptedOf role bounds new came events
-      → (fs : List Frame) × IsAccepted role bounds all fs × (events ≡ meaning fs)
+  whole_accepted : (old new : Incoming) (came all : List ℕ) (events : List MeantEvent) → Consumes old.remaining new.remaining came → old.remaining ≡ Some all → IsAcceptedOf role limits new came events
+      → (fs : List Frame) × IsAccepted role limits all fs × (events ≡ meaning fs)
   whole_accepted old new came all events consumed known accepted =
       let is : all ≡ came = all_came old.remaining new.remaining came all consumed accepted.1.0.2 known in
       let meant = accepted.1.1 in
-      (meant.0, subst (λ (bs : List ℕ). IsAccepted role bounds bs meant.0) (sym is) meant.1.0, meant.2)
+      (meant.0, subst (λ (bs : List ℕ). IsAccepted role limits bs meant.0) (sym is) meant.1.0, meant.2)
 
-  whole_of : (old new : Incoming) (came all : List ℕ) (verdict : Verdict) → Consumes old.remaining new.remaining came → length came ≤ bounds.input + 1 → old.remaining ≡ Some all → HasVerdict role bounds new came verdict
-      → (fs : List Frame) × IsVerdict role bounds all fs verdict
+  whole_of : (old new : Incoming) (came all : List ℕ) (verdict : Verdict) → Consumes old.remaining new.remaining came → length came ≤ limits.input + 1 → old.remaining ≡ Some all → HasVerdict role limits new came verdict
+      → (fs : List Frame) × IsVerdict role limits all fs verdict
   whole_of old new came all verdict consumed few known has =
-      whole_verdict role bounds old new verdict all (came, record { consumed = consumed; few = few; answer = has.1.0 }) known
+      whole_verdict role limits old new verdict all (came, record { consumed = consumed; few = few; answer = has.1.0 }) known
 
-  pub whole_comparison : (old new other_old other_new : Incoming) (compared : Compared) → IsCompared role bounds old new other_old other_new (Ok compared)
-      → (all others : List ℕ) → old.remaining ≡ Some all → other_old.remaining ≡ Some others → IsAnswerOf role bounds all others compared
+  pub whole_comparison : (old new other_old other_new : Incoming) (compared : Compared) → IsCompared role limits old new other_old other_new (Ok compared)
+      → (all others : List ℕ) → old.remaining ≡ Some all → other_old.remaining ≡ Some others → IsAnswerOf role limits all others compared
   whole_comparison old new other_old other_new Equal is all others known other_known =
       let one = whole_accepted old new is.came all is.answer.0 is.consumed known is.answer.2 in
       let two = whole_accepted other_old other_new is.other_came others is.answer.1 is.other_consumed other_known is.answer.3 in
@@ -60,20 +60,20 @@ module _ (role : Role) (bounds : Bounds) where
   -- ---- one answer
 
   -- an accepted stream has no other verdict
-  not_both : (bytes : List ℕ) (fs gs : List Frame) (verdict : Verdict) → IsAccepted role bounds bytes fs → IsVerdict role bounds bytes gs verdict → (IsAnAccepted verdict → ⊥) → ⊥
+  not_both : (bytes : List ℕ) (fs gs : List Frame) (verdict : Verdict) → IsAccepted role limits bytes fs → IsVerdict role limits bytes gs verdict → (IsAnAccepted verdict → ⊥) → ⊥
   not_both bytes fs gs verdict accepted is none =
       let summary = counted fs (length (stream fs)) (length bytes - length (stream fs)) in
-      let same = one_verdict role bounds bytes fs gs (Accepted summary) verdict (accepted, refl) is in
+      let same = one_verdict role limits bytes fs gs (Accepted summary) verdict (accepted, refl) is in
       none (subst (λ (v : Verdict). IsAnAccepted v) same.1 tt)
 
   -- the lists that differ are the meanings of the accepted streams
-  differ_of : (bytes others : List ℕ) (fs gs hs is : List Frame) (k : ℕ) → IsAccepted role bounds bytes fs → IsAccepted role bounds others gs → IsAccepted role bounds bytes hs → IsAccepted role bounds others is
+  differ_of : (bytes others : List ℕ) (fs gs hs is : List Frame) (k : ℕ) → IsAccepted role limits bytes fs → IsAccepted role limits others gs → IsAccepted role limits bytes hs → IsAccepted role limits others is
       → DifferAt k (meaning hs) (meaning is) → DifferAt k (meaning fs) (meaning gs)
   differ_of bytes others fs gs hs is k one two three four differ =
-      let first : DifferAt k (meaning fs) (meaning is) = subst (λ (es : List MeantEvent). DifferAt k es (meaning is)) (accepted_meaning role bounds bytes hs fs three one) differ in
-      subst (λ (es : List MeantEvent). DifferAt k (meaning fs) es) (accepted_meaning role bounds others is gs four two) first
+      let first : DifferAt k (meaning fs) (meaning is) = subst (λ (es : List MeantEvent). DifferAt k es (meaning is)) (accepted_meaning role limits bytes hs fs three one) differ in
+      subst (λ (es : List MeantEvent). DifferAt k (meaning fs) es) (accepted_meaning role limits others is gs four two) first
 
-  pub one_answer : (bytes others : List ℕ) (answer other : Compared) → IsAnswerOf role bounds bytes others answer → IsAnswerOf role bounds bytes others other → answer ≡ other
+  pub one_answer : (bytes others : List ℕ) (answer other : Compared) → IsAnswerOf role limits bytes others answer → IsAnswerOf role limits bytes others other → answer ≡ other
   one_answer bytes others Equal Equal a b = refl
   one_answer bytes others Equal (Different k) a b = absurd (differ_not_equal k (meaning a.0) (meaning a.1) (differ_of bytes others a.0 a.1 b.0 b.1 k a.2 a.3 b.2 b.3 b.4) a.4)
   one_answer bytes others Equal (NotAccepted false v) a b = absurd (not_both bytes a.0 b.0.0 v a.2 b.0.1 b.1)
@@ -85,9 +85,9 @@ module _ (role : Role) (bounds : Bounds) where
   one_answer bytes others (Different k) (NotAccepted true v) a b = absurd (not_both others a.1 b.1.0 v a.3 b.1.1 b.2)
   one_answer bytes others (NotAccepted false v) Equal a b = absurd (not_both bytes b.0 a.0.0 v b.2 a.0.1 a.1)
   one_answer bytes others (NotAccepted false v) (Different k) a b = absurd (not_both bytes b.0 a.0.0 v b.2 a.0.1 a.1)
-  one_answer bytes others (NotAccepted false v) (NotAccepted false w) a b = ap (λ (u : Verdict). NotAccepted false u) (one_verdict role bounds bytes a.0.0 b.0.0 v w a.0.1 b.0.1).1
+  one_answer bytes others (NotAccepted false v) (NotAccepted false w) a b = ap (λ (u : Verdict). NotAccepted false u) (one_verdict role limits bytes a.0.0 b.0.0 v w a.0.1 b.0.1).1
   one_answer bytes others (NotAccepted false v) (NotAccepted true w) a b = absurd (not_both bytes b.0.0 a.0.0 v b.0.1 a.0.1 a.1)
   one_answer bytes others (NotAccepted true v) Equal a b = absurd (not_both others b.1 a.1.0 v b.3 a.1.1 a.2)
   one_answer bytes others (NotAccepted true v) (Different k) a b = absurd (not_both others b.1 a.1.0 v b.3 a.1.1 a.2)
   one_answer bytes others (NotAccepted true v) (NotAccepted false w) a b = absurd (not_both bytes a.0.0 b.0.0 w a.0.1 b.0.1 b.1)
-  one_answer bytes others (NotAccepted true v) (NotAccepted true w) a b = ap (λ (u : Verdict). NotAccepted true u) (one_verdict role bounds others a.1.0 b.1.0 v w a.1.1 b.1.1).1
+  one_answer bytes others (NotAccepted true v) (NotAccepted true w) a b = ap (λ (u : Verdict). NotAccepted true u) (one_verdict role limits others a.1.0 b.1.0 v w a.1.1 b.1.1).1

@@ -4,9 +4,9 @@ use Rattle.std.specs.Prelude.{ℕ, Option, None, Some, List, [], ◌++◌}
 use Rattle.std.specs.Int.{to_be_bytes, w16}
 use Rattle.arrayvec.specs.ArrayVec.{ArrayVec}
 use Rattle.wsn_wire.specs.declared.opcode.Op.TheVariants as op
-use Rattle.wsn_canon.specs.declared.events.Event.{Event}
-use Rattle.wsn_canon.specs.declared.events.Event.TheVariants as events
-use Rattle.wsn_scan.specs.Meaning.{MeantEvent, Message, Control}
+use Rattle.wsn_canon.specs.declared.event.Event.{Event}
+use Rattle.wsn_canon.specs.declared.event.Event.TheVariants as events
+use Rattle.wsn_rules.specs.Meaning.{MeantEvent, Message, Control}
 
 -- nothing, or a code and a reason
 abbrev pub close_body : Option (ℕ × ArrayVec ℕ) → List ℕ

@@ -1,9 +1,6 @@
-pub mod Events
-pub mod NormalForm
 pub mod EventsMeant
-pub mod Gathering
+pub mod Reassembly
 pub mod Sources
 pub mod Readings
 pub mod Comparing
-pub mod Putting
 pub mod Normalised

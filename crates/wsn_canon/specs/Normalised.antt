@@ -1,29 +1,61 @@
 -- What normalising took of an input, what its answer says of that, and what went out.
-use Rattle.std.specs.Prelude.{◌≡◌, ℕ, ◌+◌, ◌≤◌, true, false, Result, Err, List, length, take}
-use Rattle.std.specs.Io.KnownBytes.{Consumes, Appends}
+use Rattle.std.specs.Prelude.{◌≡◌, ℕ, ◌+◌, ◌≤◌, false, Result, Err, List, length, take, ◌<◌, Ok, ⊤}
+use Rattle.std.specs.Io.KnownBytes.{Consumes}
 use Rattle.wsn_wire.specs.declared.endpoint.Role.{Role}
-use Rattle.wsn_wire.specs.Transfer.{Incoming, Outgoing}
-use Rattle.wsn_scan.specs.declared.outcome.Verdict.{Verdict}
-use Rattle.wsn_scan.specs.declared.stopping.Stop.{Stop}
-use Rattle.wsn_scan.specs.declared.stopping.Stop.TheVariants as stop
-use Rattle.wsn_scan.specs.Bounds.{Bounds}
-use Rattle.wsn_scan.specs.Meaning.{MeantEvent}
-use Rattle.wsn_canon.specs.NormalForm.{normal_form}
+use Rattle.wsn_wire.specs.Transfer.{Incoming, Outgoing, IsWritten, IsPartlyWritten}
+use Rattle.wsn_rules.specs.declared.verdict.Verdict.{Verdict}
+use Rattle.wsn_scan.specs.declared.stop.Stop.{Stop}
+use Rattle.wsn_scan.specs.declared.stop.Stop.TheVariants as stop
+use Rattle.wsn_rules.specs.Limits.{Limits}
+use Rattle.wsn_rules.specs.Meaning.{MeantEvent, meaning}
+use Rattle.wsn_rules.specs.NormalForm.{normal_form}
 use Rattle.wsn_canon.specs.Sources.{IsMeaningOf, IsLast}
+use Rattle.wsn_wire.specs.Frame.{Frame}
+use Rattle.wsn_rules.specs.Verdict.{IsVerdict}
+use Rattle.wsn_rules.specs.declared.verdict.Verdict.TheVariants.{Refused}
+use Rattle.wsn_scan.specs.Judging.{IsUnrefused}
 
 -- What an answer says of the bytes that came, and what went out of them: the normal form of the events that an event
 -- source gives with that answer. At a verdict these are the bytes' meaning. Where a write failed, it is some front of
 -- the normal form of what the bytes mean, at most `input` of them.
-abbrev pub IsWritten : Role → Bounds → Incoming → List ℕ → Outgoing → Outgoing → Result Verdict Stop → Type 0
-IsWritten role bounds new came before after (Err stop.Write) =
-    (new.failed ≡ false) × (after.failed ≡ true) × ((verdict : Verdict) × (events : List MeantEvent)
-    × IsMeaningOf role bounds (take bounds.input came) verdict events × ((k : ℕ) × Appends before.written after.written (take k (normal_form role events))))
-IsWritten role bounds new came before after result =
-    (after.failed ≡ false) × ((events : List MeantEvent) × IsLast role bounds new came events result × Appends before.written after.written (normal_form role events))
+abbrev pub IsNormalFormWritten : Role → Limits → Incoming → List ℕ → Outgoing → Outgoing → Result Verdict Stop → Type 0
+IsNormalFormWritten role limits new came before after (Err stop.Write) =
+    (new.failed ≡ false) × ((verdict : Verdict) × (events : List MeantEvent) × IsMeaningOf role limits
+    (take limits.input came) verdict events × IsPartlyWritten before after (normal_form role events))
+IsNormalFormWritten role limits new came before after result =
+    (events : List MeantEvent) × IsLast role limits new came events result
+    × IsWritten before after (normal_form role events)
 
 -- The bytes that came from the input, one more than its limit at most, what the answer says of them, and what went out.
-pub record IsNormalised (role : Role) (bounds : Bounds) (old new : Incoming) (before after : Outgoing) (result : Result Verdict Stop) : Type 0 where
+pub record IsNormalised (role : Role) (limits : Limits) (old new : Incoming) (before after : Outgoing)
+    (result : Result Verdict Stop) : Type 0 where
   pub came : List ℕ
   pub consumed : Consumes old.remaining new.remaining came
-  pub few : length came ≤ bounds.input + 1
-  pub written : IsWritten role bounds new came before after result
+  pub few : length came ≤ limits.input + 1
+  pub written : IsNormalFormWritten role limits new came before after result
+
+-- ---- of an input whose bytes are known
+
+-- The verdict is told within the limit: at its place, or at the end of the input.
+abbrev pub IsWithinLimit : Limits → List ℕ → Verdict → Type 0
+IsWithinLimit limits all (Refused refusal) = refusal.place < limits.input
+IsWithinLimit limits all verdict = length all ≤ limits.input
+
+-- What an answer says of all the bytes of an input. The verdict is theirs, and the normal form of what they mean was
+-- written; or there are more than the limit, the first `input` of them show no refusal, and the normal form of what
+-- those mean was written. Where a read, a write or memory failed this says nothing.
+abbrev pub IsNormalisedWhole : Role → Limits → List ℕ → Outgoing → Outgoing → Result Verdict Stop → Type 0
+IsNormalisedWhole role limits all before after (Ok verdict) =
+    (fs : List Frame) × IsVerdict role limits all fs verdict × IsWithinLimit limits all verdict
+    × IsWritten before after (normal_form role (meaning fs))
+IsNormalisedWhole role limits all before after (Err stop.InputLimit) =
+    (limits.input < length all) × IsUnrefused role limits (take limits.input all)
+    × ((verdict : Verdict) × (fs : List Frame) × IsVerdict role limits (take limits.input all) fs verdict
+    × IsWritten before after (normal_form role (meaning fs)))
+IsNormalisedWhole role limits all before after (Err stopped) = ⊤
+
+-- No read, no write and no growth failed.
+abbrev pub AnswersAll : Result Verdict Stop → Type 0
+AnswersAll (Ok verdict) = ⊤
+AnswersAll (Err stop.InputLimit) = ⊤
+AnswersAll (Err stopped) = ⊥

@@ -1,20 +1,20 @@
 ghost use Rattle.std.specs.Prelude.{◌≡◌, ℕ, List, Some, IfOk, false, Ok};
 ghost use Rattle.wsn_wire.specs.declared.endpoint.Role.{Role};
 ghost use Rattle.wsn_wire.specs.Transfer.{Incoming};
-ghost use Rattle.wsn_scan.specs.Bounds.{Bounds};
-ghost use Rattle.wsn_scan.specs.Meaning.{MeantEvent};
+ghost use Rattle.wsn_rules.specs.Limits.{Limits};
+ghost use Rattle.wsn_rules.specs.Meaning.{MeantEvent};
 ghost use Rattle.wsn_canon.specs.Sources.{IsLast};
-ghost use Rattle.wsn_canon.specs.Comparing.{IsFirstDifference, IsRoundOf, IsComparison, IsCompared, IsAnswerOf};
+ghost use Rattle.wsn_canon.specs.Comparing.{IsOutcome, IsFirstDifference, IsRoundOf, IsComparison, IsCompared, IsAnswerOf};
 
-use crate::events::is_same;
-use crate::sources::{Next, Source};
+use crate::event::is_same;
+use crate::source::{Next, Source};
 use std::alloc::Allocator;
 use std::io::Read;
 use wsn_scan::{Limits, Stop, Verdict};
 use wsn_wire::{Input, Role};
 
 /// What comparing two streams answers.
-#[derive(Clone, Copy, Debug)]
+#[derive(Clone, Copy, Debug, PartialEq, Eq)]
 pub enum Compared {
     /// Both are accepted and mean the same.
     Equal,
@@ -39,7 +39,8 @@ pub fn same<A: Allocator + Copy, R: Read, S: Read>(
     requires first { first.old.failed ≡ false }
     requires second { second.old.failed ≡ false }
     ensures compared { IsCompared role limits first.old first.new second.old second.new result }
-    ensures whole { IfOk result (λ compared. (all others : List ℕ) → first.old.remaining ≡ Some all → second.old.remaining ≡ Some others →
+    ensures whole { IfOk result (λ compared. (all others : List ℕ) → first.old.remaining ≡ Some all →
+        second.old.remaining ≡ Some others →
         IsAnswerOf role limits all others compared) }
 {
     let mut events = Source::new(alloc, role, limits);
@@ -79,9 +80,7 @@ fn round_of<A: Allocator>(next: Next<A>, other: Next<A>) -> Round
 
 /// What both verdicts and the first difference come to.
 fn outcome(verdict: Verdict, other: Verdict, difference: Option<u64>) -> Compared
-    ensures { (role : Role) (bounds : Bounds) (new : Incoming) (came : List ℕ) (events : List MeantEvent) (other_new : Incoming) (other_came : List ℕ) (others : List MeantEvent) →
-        IsLast role bounds new came events (Ok verdict) → IsLast role bounds other_new other_came others (Ok other) →
-        IsFirstDifference difference events others → IsComparison role bounds new came other_new other_came (Ok result) }
+    ensures { IsOutcome verdict other difference result }
 {
     let Verdict::Accepted(_) = verdict else {
         return Compared::NotAccepted {

@@ -11,17 +11,16 @@
 #![tactic(auto)]
 
 mod comparing;
-mod events;
-pub mod examples;
-mod gathering;
+mod event;
 pub mod laws;
 mod normal;
 mod putting;
 mod reading;
-mod sources;
+mod reassembly;
+mod source;
 
 pub use comparing::{Compared, same};
-pub use events::{Event, Small, is_lawful};
+pub use event::{Event, Small, is_lawful};
 pub use normal::normalise;
 pub use putting::put_event;
-pub use sources::{Next, Source};
+pub use source::{Next, Source};

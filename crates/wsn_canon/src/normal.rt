@@ -1,8 +1,8 @@
-ghost use Rattle.std.specs.Prelude.{◌≡◌, false};
-ghost use Rattle.wsn_canon.specs.Normalised.{IsNormalised};
+ghost use Rattle.std.specs.Prelude.{◌≡◌, false, ℕ, List, Some};
+ghost use Rattle.wsn_canon.specs.Normalised.{IsNormalised, IsNormalisedWhole};
 
 use crate::putting::put_event;
-use crate::sources::{Next, Source};
+use crate::source::{Next, Source};
 use std::alloc::Allocator;
 use std::io::{Read, Write};
 use wsn_scan::{Limits, Stop, Verdict};
@@ -22,7 +22,9 @@ pub fn normalise<A: Allocator + Copy, R: Read, W: Write>(
 ) -> Result<Verdict, Stop>
     requires readable { input.old.failed ≡ false }
     requires writable { output.old.failed ≡ false }
-    ensures { IsNormalised role limits input.old input.new output.old output.new result }
+    ensures normalised { IsNormalised role limits input.old input.new output.old output.new result }
+    ensures whole { (all : List ℕ) → input.old.remaining ≡ Some all →
+        IsNormalisedWhole role limits all output.old output.new result }
 {
     let mut source = Source::new(alloc, role, limits);
     loop {

@@ -1,13 +1,13 @@
 ghost use Rattle.std.specs.Prelude.{◌≡◌, ℕ, ◌<◌, ◌≤◌, ◌^◌, false, true, length, take, OnOk, OnErr, IfErr};
 ghost use Rattle.std.specs.Io.KnownBytes.{Appends};
 ghost use Rattle.wsn_wire.specs.Frame.{frame_bytes, is_control};
-ghost use Rattle.wsn_scan.specs.Meaning.{Message, Control};
-ghost use Rattle.wsn_canon.specs.Events.{IsLawfulEvent};
+ghost use Rattle.wsn_rules.specs.Meaning.{Message, Control};
+ghost use Rattle.wsn_rules.specs.LawfulEvents.{IsLawfulEvent};
 ghost use Rattle.wsn_canon.specs.EventsMeant.{meant, close_body};
-ghost use Rattle.wsn_canon.specs.NormalForm.{normal_frame, normal_key, op_of};
-ghost use Rattle.wsn_canon.specs.Putting.{Puts};
+ghost use Rattle.wsn_rules.specs.NormalForm.{normal_frame, normal_key, op_of};
+ghost use Rattle.wsn_scan.specs.Stops.{IsPut};
 
-use crate::events::{Event, Small};
+use crate::event::{Event, Small};
 use arrayvec::ArrayVec;
 use std::alloc::Allocator;
 use std::io::Write;
@@ -24,11 +24,7 @@ pub fn put_event<A: Allocator, W: Write>(
 ) -> Result<(), Stop>
     requires unfailed { to.old.failed ≡ false }
     requires lawful { IsLawfulEvent (meant event.now) }
-    ensures all { OnOk result (Appends to.old.written to.new.written (frame_bytes (normal_frame role (meant event.now)))) }
-    ensures same { OnOk result (to.new.failed ≡ false) }
-    ensures stop { IfErr result (λ stop. stop ≡ Stop.Write) }
-    ensures failed { OnErr result (to.new.failed ≡ true) }
-    ensures front { OnErr result ((k : ℕ) × Appends to.old.written to.new.written (take k (frame_bytes (normal_frame role (meant event.now))))) }
+    ensures { IsPut to.old to.new (frame_bytes (normal_frame role (meant event.now))) result }
 {
     match event {
         Event::Message(kind, text) => put_message(to, role, *kind, text),
@@ -46,7 +42,7 @@ fn put_message<W: Write>(
 ) -> Result<(), Stop>
     requires unfailed { to.old.failed ≡ false }
     requires size { length text.now < 2 ^ 63 }
-    ensures { Puts to.old to.new (frame_bytes (normal_frame role (Message kind text.now))) result }
+    ensures { IsPut to.old to.new (frame_bytes (normal_frame role (Message kind text.now))) result }
 {
     let head = head(true, op_of(kind), key_of(role), text.len() as u64);
     if to.put(&head) && to.put(text) {
@@ -63,7 +59,7 @@ const CONTROL_MAX: usize = 131;
 fn put_control<W: Write>(to: &mut Output<W>, role: Role, op: Op, body: &[u8]) -> Result<(), Stop>
     requires unfailed { to.old.failed ≡ false }
     requires size { length body.now ≤ 125 }
-    ensures { Puts to.old to.new (frame_bytes (normal_frame role (Control op body.now))) result }
+    ensures { IsPut to.old to.new (frame_bytes (normal_frame role (Control op body.now))) result }
 {
     let mut frame: ArrayVec<u8, CONTROL_MAX> = ArrayVec::new();
     let _fits = frame.try_extend_from_slice(&head(true, op, key_of(role), body.len() as u64));

@@ -1,17 +1,16 @@
 -- What comparing two streams prints, and the exit status.
-use Rattle.std.specs.Prelude.{◌≡◌, ℕ, true, false, Result, Ok, Err, List, ◌++◌, take, codes, decimal}
-use Rattle.std.specs.Io.KnownBytes.{Appends}
+use Rattle.std.specs.Prelude.{◌≡◌, ℕ, true, false, Result, Ok, Err, List, ◌++◌, codes, decimal}
 use Rattle.wsn_wire.specs.declared.endpoint.Role.{Role}
-use Rattle.wsn_wire.specs.Transfer.{Incoming, Outgoing}
-use Rattle.wsn_scan.specs.declared.stopping.Stop.{Stop}
-use Rattle.wsn_scan.specs.declared.stopping.Stop.TheVariants as stop
-use Rattle.wsn_scan.specs.Bounds.{Bounds}
-use Rattle.wsn_scan.specs.Lines.{verdict_line}
-use Rattle.wsn_scan.specs.Listing.{Prints}
+use Rattle.wsn_wire.specs.Transfer.{Incoming, Outgoing, IsWritten, IsPartlyWritten}
+use Rattle.wsn_scan.specs.declared.stop.Stop.{Stop}
+use Rattle.wsn_scan.specs.declared.stop.Stop.TheVariants as stop
+use Rattle.wsn_rules.specs.Limits.{Limits}
+use Rattle.wsn_rules.specs.Lines.{verdict_line}
 use Rattle.wsn_canon.specs.declared.comparing.Compared.{Compared}
 use Rattle.wsn_canon.specs.declared.comparing.Compared.TheVariants.{Equal, Different, NotAccepted}
 use Rattle.wsn_canon.specs.Comparing.{IsCompared}
 use Rattle.wsn_job.specs.Lines.{stop_line}
+use Rattle.wsn_job.specs.Telling.{IsToldOn}
 
 -- The line of an answer; numbers are decimal.
 abbrev pub comparison_line : Compared → List ℕ
@@ -20,27 +19,17 @@ comparison_line (Different k) = codes "different " ++ decimal k ++ codes "\n"
 comparison_line (NotAccepted false verdict) = codes "first " ++ verdict_line verdict
 comparison_line (NotAccepted true verdict) = codes "second " ++ verdict_line verdict
 
--- The text went out; or a write failed, behind some of its front.
-abbrev pub HasPut : Outgoing → Outgoing → List ℕ → Type 0
-HasPut before after text = (after.failed ≡ false) × Appends before.written after.written text
-
-abbrev pub HasPutFront : Outgoing → Outgoing → List ℕ → Type 0
-HasPutFront before after text = (after.failed ≡ true) × ((k : ℕ) × Appends before.written after.written (take k text))
-
--- What a call that prints a text answers.
-abbrev pub IsPut : {A : Type 0} → Outgoing → Outgoing → List ℕ → Result A Stop → Type 0
-IsPut before after text (Ok done) = HasPut before after text
-IsPut before after text (Err stopped) = (stopped ≡ stop.Write) × HasPutFront before after text
-
 -- What an answer or a stop says of the two streams and of the first output: the answer's line was printed, and before
 -- a stop nothing; where a write failed, there is an answer, and some front of its line was.
-abbrev pub IsComparisonDone : Role → Bounds → Incoming → Incoming → Incoming → Incoming → Outgoing → Outgoing → Result Compared Stop → Type 0
-IsComparisonDone role bounds old new other_old other_new before after (Ok compared) =
-    IsCompared role bounds old new other_old other_new (Ok compared) × HasPut before after (comparison_line compared)
-IsComparisonDone role bounds old new other_old other_new before after (Err stop.Write) =
-    (compared : Compared) × IsCompared role bounds old new other_old other_new (Ok compared) × HasPutFront before after (comparison_line compared)
-IsComparisonDone role bounds old new other_old other_new before after (Err stopped) =
-    IsCompared role bounds old new other_old other_new (Err stopped) × (after ≡ before)
+abbrev pub IsComparisonDone : Role → Limits → Incoming → Incoming → Incoming → Incoming → Outgoing → Outgoing →
+    Result Compared Stop → Type 0
+IsComparisonDone role limits old new other_old other_new before after (Ok compared) =
+    IsCompared role limits old new other_old other_new (Ok compared) × IsWritten before after (comparison_line compared)
+IsComparisonDone role limits old new other_old other_new before after (Err stop.Write) =
+    (compared : Compared) × IsCompared role limits old new other_old other_new (Ok compared)
+    × IsPartlyWritten before after (comparison_line compared)
+IsComparisonDone role limits old new other_old other_new before after (Err stopped) =
+    IsCompared role limits old new other_old other_new (Err stopped) × (after ≡ before)
 
 -- 0 where both are accepted and mean the same, 1 at any other answer, 2 at a stop
 abbrev pub comparison_status : Result Compared Stop → ℕ
@@ -51,4 +40,4 @@ comparison_status (Err stopped) = 2
 -- A stop is told on the second output, in its line; where a write there fails, in some front of it.
 abbrev pub IsStopTold : Result Compared Stop → Outgoing → Outgoing → Type 0
 IsStopTold (Ok compared) old new = new ≡ old
-IsStopTold (Err stopped) old new = old.failed ≡ false → Prints old new (stop_line stopped)
+IsStopTold (Err stopped) old new = IsToldOn old new (stop_line stopped)

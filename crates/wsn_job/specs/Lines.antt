@@ -1,7 +1,7 @@
 -- The lines that tell a stop on standard error.
 use Rattle.std.specs.Prelude.{ℕ, List, codes}
-use Rattle.wsn_scan.specs.declared.stopping.Stop.{Stop}
-use Rattle.wsn_scan.specs.declared.stopping.Stop.TheVariants as stop
+use Rattle.wsn_scan.specs.declared.stop.Stop.{Stop}
+use Rattle.wsn_scan.specs.declared.stop.Stop.TheVariants as stop
 
 abbrev pub stop_line : Stop → List ℕ
 stop_line stop.Read = codes "read failed\n"

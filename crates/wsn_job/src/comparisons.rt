@@ -1,8 +1,10 @@
 ghost use Rattle.std.specs.Prelude.{◌≡◌, ◌⊎◌, ◌+◌, ◌≤◌, false, true, length, Result, codes, decimal, ◌++◌};
-ghost use Rattle.wsn_scan.specs.declared.stopping.Stop.{Stop};
-ghost use Rattle.wsn_scan.specs.Lines.{verdict_line};
+ghost use Rattle.wsn_scan.specs.declared.stop.Stop.{Stop};
+ghost use Rattle.wsn_rules.specs.Lines.{verdict_line};
 ghost use Rattle.wsn_canon.specs.declared.comparing.Compared.{Compared};
-ghost use Rattle.wsn_job.specs.Comparisons.{IsComparisonDone, IsPut, IsStopTold, comparison_line, comparison_status};
+ghost use Rattle.wsn_job.specs.Comparisons.{IsComparisonDone, IsStopTold, comparison_line, comparison_status};
+ghost use Rattle.wsn_wire.specs.Transfer.{IsWrittenUpToFailure};
+ghost use Rattle.wsn_scan.specs.Stops.{IsPut};
 
 use crate::telling::tell_stop;
 use itoa::Buffer;
@@ -28,7 +30,8 @@ pub fn run_same<A: Allocator + Copy, R: Read, S: Read, W: Write, E: Write>(
     requires first { first.old.failed ≡ false }
     requires second { second.old.failed ≡ false }
     requires writable { output.old.failed ≡ false }
-    ensures done { (done : Result Compared Stop) × IsComparisonDone role limits first.old first.new second.old second.new output.old output.new done
+    ensures done { (done : Result Compared Stop)
+        × IsComparisonDone role limits first.old first.new second.old second.new output.old output.new done
         × (result ≡ comparison_status done) × IsStopTold done errors.old errors.new }
     ensures status { (result ≡ 0) ⊎ (result ≡ 1) ⊎ (result ≡ 2) }
 
@@ -67,7 +70,7 @@ fn compare<A: Allocator + Copy, R: Read, S: Read, W: Write>(
     Ok(compared)
 }
 
-/// Prints an answer's line. `Write` if the writer fails.
+/// IsWrittenUpToFailure an answer's line. `Write` if the writer fails.
 fn put_compared<W: Write>(output: &mut Output<W>, compared: Compared) -> Result<(), Stop>
     requires { output.old.failed ≡ false }
     ensures { IsPut output.old output.new (comparison_line compared) result }
@@ -81,7 +84,7 @@ fn put_compared<W: Write>(output: &mut Output<W>, compared: Compared) -> Result<
     }
 }
 
-/// Prints which stream a verdict is of, and the verdict's line.
+/// IsWrittenUpToFailure which stream a verdict is of, and the verdict's line.
 fn put_verdict_of<W: Write>(
     output: &mut Output<W>,
     stream: &str,

@@ -1,7 +1,8 @@
 ghost use Rattle.std.specs.Prelude.{◌≡◌, ◌⊎◌, false, true, Result};
-ghost use Rattle.wsn_scan.specs.declared.outcome.Verdict.{Verdict};
-ghost use Rattle.wsn_scan.specs.declared.stopping.Stop.{Stop};
+ghost use Rattle.wsn_rules.specs.declared.verdict.Verdict.{Verdict};
+ghost use Rattle.wsn_scan.specs.declared.stop.Stop.{Stop};
 ghost use Rattle.wsn_job.specs.Jobs.{IsDone, IsTold, status_of};
+ghost use Rattle.wsn_wire.specs.Transfer.{IsWrittenUpToFailure};
 
 use crate::telling::tell;
 use std::alloc::Allocator;
@@ -64,7 +65,7 @@ fn work<A: Allocator + Copy, R: Read, W: Write>(
     }
 }
 
-/// Prints the verdict on the input.
+/// IsWrittenUpToFailure the verdict on the input.
 fn print_verdict<R: Read, W: Write>(
     input: &mut Input<R>,
     output: &mut Output<W>,

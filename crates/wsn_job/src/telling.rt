@@ -1,8 +1,8 @@
 ghost use Rattle.std.specs.Prelude.{◌≡◌, false};
-ghost use Rattle.wsn_scan.specs.Lines.{verdict_line};
-ghost use Rattle.wsn_scan.specs.Listing.{Prints};
+ghost use Rattle.wsn_rules.specs.Lines.{verdict_line};
 ghost use Rattle.wsn_job.specs.Jobs.{IsTold};
 ghost use Rattle.wsn_job.specs.Lines.{stop_line};
+ghost use Rattle.wsn_job.specs.Telling.{IsToldOn};
 
 use crate::jobs::Job;
 use std::io::Write;
@@ -23,7 +23,7 @@ pub fn tell<E: Write>(job: &Job, done: Result<Verdict, Stop>, errors: &mut Outpu
 }
 
 fn tell_verdict<E: Write>(verdict: Verdict, errors: &mut Output<E>)
-    ensures { errors.old.failed ≡ false → Prints errors.old errors.new (verdict_line verdict) }
+    ensures { IsToldOn errors.old errors.new (verdict_line verdict) }
 {
     if !errors.failed() {
         let _ = put_verdict(errors, &verdict);
@@ -31,9 +31,11 @@ fn tell_verdict<E: Write>(verdict: Verdict, errors: &mut Output<E>)
 }
 
 pub fn tell_stop<E: Write>(stop: Stop, errors: &mut Output<E>)
-    ensures { errors.old.failed ≡ false → Prints errors.old errors.new (stop_line stop) }
+    ensures { IsToldOn errors.old errors.new (stop_line stop) }
 {
-    let _ = errors.put(line_of_stop(stop).as_bytes());
+    if !errors.failed() {
+        let _ = errors.put(line_of_stop(stop).as_bytes());
+    }
 }
 
 /// The line that tells a stop on standard error.

@@ -7,15 +7,16 @@ use borrow.Rule.Slice.PartMut.{mid_of, post_of, put_mid, put_same, same_len_mid}
 use Rattle.wsn_wire.specs.declared.endpoint.Role.{Role}
 use Rattle.wsn_wire.specs.Frame.{IsBytes}
 use Rattle.wsn_wire.proofs.FrameLemmas.{IsBytes-right}
-use Rattle.wsn_scan.specs.declared.notices.Notice.{Notice}
-use Rattle.wsn_scan.specs.declared.notices.Notice.TheVariants as notices
-use Rattle.wsn_scan.specs.declared.outcome.Refusal.{Refusal}
-use Rattle.wsn_scan.specs.declared.progress.Stage.{Stage}
-use Rattle.wsn_scan.specs.declared.progress.Stage.TheVariants as stages
-use Rattle.wsn_scan.specs.declared.scanning.Scan.{Scan}
-use Rattle.wsn_scan.specs.Bounds.{Bounds}
-use Rattle.wsn_scan.specs.declared.notices.HeadInfo.{HeadInfo}
-use Rattle.wsn_scan.specs.Scans.{Told, told_after, Reaches, Advances, GetsOn, IsRefusal, ends_untold_at, ends_untold, refusal_told, room_of}
+use Rattle.wsn_scan.specs.declared.notice.Notice.{Notice}
+use Rattle.wsn_scan.specs.declared.notice.Notice.TheVariants as notices
+use Rattle.wsn_rules.specs.declared.verdict.Refusal.{Refusal}
+use Rattle.wsn_scan.specs.declared.stage.Stage.{Stage}
+use Rattle.wsn_scan.specs.declared.stage.Stage.TheVariants as stages
+use Rattle.wsn_scan.specs.declared.scan.Scan.{Scan}
+use Rattle.wsn_rules.specs.Limits.{Limits}
+use Rattle.wsn_rules.specs.declared.head_info.HeadInfo.{HeadInfo}
+use Rattle.wsn_scan.specs.Scans.{Reaches, Advances, GetsOn, ends_pending_at, ends_pending, room_of}
+use Rattle.wsn_scan.specs.Reports.{Reported, reported_after, IsRefusal, refusal_in_notice}
 use Rattle.wsn_scan.specs.Feeding.{HasTaken, TakesFront, heads_in}
 
 -- a bound on each byte, index by index
@@ -54,42 +55,42 @@ same_further at n xs ys in_xs in_ys same = further xs in_xs ∙ ap (drop n) same
 -- ---- what the scan has taken
 
 pub takes_none : (scan : Scan) (piece : List ℕ) → TakesFront scan scan piece 0 []
-takes_none scan piece role bounds bytes heads taken =
-    subst (λ (hs : List HeadInfo). HasTaken role bounds scan (bytes ++ take 0 piece) hs) (sym (append-nil heads))
-    (subst (λ (bs : List ℕ). HasTaken role bounds scan bs heads) (sym (append-nil bytes)) taken)
+takes_none scan piece role limits bytes heads taken =
+    subst (λ (hs : List HeadInfo). HasTaken role limits scan (bytes ++ take 0 piece) hs) (sym (append-nil heads))
+    (subst (λ (bs : List ℕ). HasTaken role limits scan bs heads) (sym (append-nil bytes)) taken)
 
 -- a piece that is taken in two parts
 pub takes_further : (old mid new : Scan) (piece share : List ℕ) (at n : ℕ) (more heads : List HeadInfo) → share ≡ drop at piece → TakesFront old mid piece at more → TakesFront mid new share n heads
     → TakesFront old new piece (at + n) (more ++ heads)
-takes_further old mid new piece share at n more next is first second role bounds bytes heads taken =
-    let came = second role bounds (bytes ++ take at piece) (heads ++ more) (first role bounds bytes heads taken) in
+takes_further old mid new piece share at n more next is first second role limits bytes heads taken =
+    let came = second role limits (bytes ++ take at piece) (heads ++ more) (first role limits bytes heads taken) in
     let joined : (bytes ++ take at piece) ++ take n share ≡ bytes ++ take (at + n) piece =
     append_assoc bytes (take at piece) (take n share) ∙ ap (λ (bs : List ℕ). bytes ++ (take at piece ++ take n bs)) is ∙ ap (λ (bs : List ℕ). bytes ++ bs) (sym (take-add at n piece)) in
-    subst (λ (bs : List ℕ). HasTaken role bounds new bs (heads ++ (more ++ next))) joined
-    (subst (λ (hs : List HeadInfo). HasTaken role bounds new ((bytes ++ take at piece) ++ take n share) hs) (append_assoc heads more next) came)
+    subst (λ (bs : List ℕ). HasTaken role limits new bs (heads ++ (more ++ next))) joined
+    (subst (λ (hs : List HeadInfo). HasTaken role limits new ((bytes ++ take at piece) ++ take n share) hs) (append_assoc heads more next) came)
 
 -- what stands behind some bytes are bytes
 pub bytes_behind : (at : ℕ) (piece : List ℕ) → IsBytes piece → IsBytes (drop at piece)
 bytes_behind at piece in_bytes = IsBytes-right (take at piece) (drop at piece) (subst IsBytes (sym (take-append-drop at piece)) in_bytes)
 
-heads_after : (told : Told) (notice : Notice) (bytes : List ℕ) → (told_after told notice bytes).heads ≡ told.heads ++ heads_in notice
-heads_after told notices.More bytes = sym (append-nil told.heads)
-heads_after told (notices.Head info) bytes = refl
-heads_after told notices.Payload bytes = sym (append-nil told.heads)
-heads_after told (notices.FrameEnd event) bytes = sym (append-nil told.heads)
-heads_after told notices.Closed bytes = sym (append-nil told.heads)
-heads_after told (notices.Refused refusal) bytes = sym (append-nil told.heads)
+heads_after : (reported : Reported) (notice : Notice) (bytes : List ℕ) → (reported_after reported notice bytes).heads ≡ reported.heads ++ heads_in notice
+heads_after reported notices.More bytes = sym (append-nil reported.heads)
+heads_after reported (notices.Head info) bytes = refl
+heads_after reported notices.Payload bytes = sym (append-nil reported.heads)
+heads_after reported (notices.FrameEnd event) bytes = sym (append-nil reported.heads)
+heads_after reported notices.Closed bytes = sym (append-nil reported.heads)
+heads_after reported (notices.Refused refusal) bytes = sym (append-nil reported.heads)
 
-has_taken : (role : Role) (bounds : Bounds) (scan : Scan) (bytes : List ℕ) (notice : Notice) (told : Told) → Reaches role bounds scan notice bytes told → HasTaken role bounds scan bytes told.heads
-has_taken role bounds scan bytes notice told reached = record { frames = reached.frames; since = reached.since; payload = told.payload; ends = told.ends; stands = reached.stands }
+has_taken : (role : Role) (limits : Limits) (scan : Scan) (bytes : List ℕ) (notice : Notice) (reported : Reported) → Reaches role limits scan notice bytes reported → HasTaken role limits scan bytes reported.heads
+has_taken role limits scan bytes notice reported reached = record { frames = reached.frames; since = reached.since; payload = reported.payload; ends = reported.ends; stands = reached.stands }
 
 -- what a call takes
 pub takes_by : (old new : Scan) (notice : Notice) (piece after : List ℕ) (n : ℕ) → Advances old new piece after n notice → IsBytes piece → TakesFront old new piece n (heads_in notice)
-takes_by old new notice piece after n advances in_bytes role bounds bytes heads taken =
-    let told : Told = record { heads = heads; payload = taken.payload; ends = taken.ends } in
-    let reached = advances role bounds bytes taken.since taken.frames told in_bytes taken.stands in
-    subst (λ (hs : List HeadInfo). HasTaken role bounds new (bytes ++ take n piece) hs) (heads_after told notice (take n after))
-    (has_taken role bounds new (bytes ++ take n piece) notice (told_after told notice (take n after)) reached)
+takes_by old new notice piece after n advances in_bytes role limits bytes heads taken =
+    let reported : Reported = record { heads = heads; payload = taken.payload; ends = taken.ends } in
+    let reached = advances role limits bytes taken.since taken.frames reported in_bytes taken.stands in
+    subst (λ (hs : List HeadInfo). HasTaken role limits new (bytes ++ take n piece) hs) (heads_after reported notice (take n after))
+    (has_taken role limits new (bytes ++ take n piece) notice (reported_after reported notice (take n after)) reached)
 
 pub takes_on : (old mid new : Scan) (notice : Notice) (piece share after : List ℕ) (at n : ℕ) (more : List HeadInfo) → IsBytes piece → share ≡ drop at piece → TakesFront old mid piece at more
     → Advances mid new share after n notice → TakesFront old new piece (at + n) (more ++ heads_in notice)
@@ -129,7 +130,7 @@ fed_further old scan new piece here after at n fed fits same_size same room take
 
 -- ---- a call gets on
 
-pub untold_few : (stage : Stage) → ends_untold_at stage ≤ 1
+pub untold_few : (stage : Stage) → ends_pending_at stage ≤ 1
 untold_few stages.Between = omega arith
 untold_few (stages.Head part) = omega arith
 untold_few (stages.Payload inside) = omega arith
@@ -138,7 +139,7 @@ untold_few (stages.CloseEnded code) = omega arith
 untold_few (stages.Closed code) = omega arith
 untold_few (stages.Refused refusal) = omega arith
 
-pub no_refusal : (notice : Notice) → ((refusal : Refusal) → notice ≡ notices.Refused refusal → ⊥) → (IsRefusal notice → ⊥) × (refusal_told notice ≡ None)
+pub no_refusal : (notice : Notice) → ((refusal : Refusal) → notice ≡ notices.Refused refusal → ⊥) → (IsRefusal notice → ⊥) × (refusal_in_notice notice ≡ None)
 no_refusal notices.More other = (λ is. is, refl)
 no_refusal (notices.Head info) other = (λ is. is, refl)
 no_refusal notices.Payload other = (λ is. is, refl)
@@ -146,17 +147,17 @@ no_refusal (notices.FrameEnd event) other = (λ is. is, refl)
 no_refusal notices.Closed other = (λ is. is, refl)
 no_refusal (notices.Refused refusal) other = absurd (other refusal refl)
 
-pub none_told : (notice : Notice) → refusal_told notice ≡ None → IsRefusal notice → ⊥
-none_told notices.More told is = is
-none_told (notices.Head info) told is = is
-none_told notices.Payload told is = is
-none_told (notices.FrameEnd event) told is = is
-none_told notices.Closed told is = is
-none_told (notices.Refused refusal) told is = absurd cc
+pub none_told : (notice : Notice) → refusal_in_notice notice ≡ None → IsRefusal notice → ⊥
+none_told notices.More reported is = is
+none_told (notices.Head info) reported is = is
+none_told notices.Payload reported is = is
+none_told (notices.FrameEnd event) reported is = is
+none_told notices.Closed reported is = is
+none_told (notices.Refused refusal) reported is = absurd cc
 
--- each byte taken counts twice, so that a frame's end that is not told yet counts less
+-- each byte taken counts twice, so that a frame's end that is not reported yet counts less
 pub falls : (old new : Scan) (notice : Notice) (at n size : ℕ) → at < size → at + n ≤ size → (IsRefusal notice → ⊥) → GetsOn old new n notice
-    → 2 * (size - (at + n)) + ends_untold new < 2 * (size - at) + ends_untold old
+    → 2 * (size - (at + n)) + ends_pending new < 2 * (size - at) + ends_pending old
 falls old new notice at n size less fits other gets_on =
     let few = untold_few new.stage in
     elim gets_on [
@@ -168,9 +169,9 @@ falls old new notice at n size less fits other gets_on =
     ]
 
 -- the same where more bytes are taken, or none and the scan stays as it is
-pub falls_further : (old new : Scan) (at n size most : ℕ) → at + n ≤ size → 2 * (size - at) + ends_untold old < most → (n ≡ 0 → new ≡ old) → 2 * (size - (at + n)) + ends_untold new < most
+pub falls_further : (old new : Scan) (at n size most : ℕ) → at + n ≤ size → 2 * (size - at) + ends_pending old < most → (n ≡ 0 → new ≡ old) → 2 * (size - (at + n)) + ends_pending new < most
 falls_further old new at n size most fits less same =
     elim (cases_eq n 0) [
-      | inl none ↦ let ends : ends_untold new ≡ ends_untold old = ap (λ (scan : Scan). ends_untold scan) (same none) in omega (arith, ends, none, less)
+      | inl none ↦ let ends : ends_pending new ≡ ends_pending old = ap (λ (scan : Scan). ends_pending scan) (same none) in omega (arith, ends, none, less)
       | inr some ↦ let few = untold_few new.stage in omega (arith, few, some, less, fits)
     ]

@@ -16,29 +16,30 @@ use Rattle.wsn_wire.proofs.HeadLemmas.{frame_of_layout, close_from_opcode}
 use Rattle.wsn_text.specs.CloseBody.{IsCloseBody}
 use Rattle.wsn_scan.specs.declared.partial_head.Head.{Head}
 use Rattle.wsn_scan.specs.declared.payload_check.PayloadCheck.{PayloadCheck}
-use Rattle.wsn_scan.specs.declared.scanning.Scan.{Scan}
-use Rattle.wsn_scan.specs.Bounds.{Bounds, InRange}
-use Rattle.wsn_scan.specs.Group.{after_last, is_data, is_final, unfinished, text_of}
-use Rattle.wsn_scan.specs.Lawful.{LawAt, IsLawful}
-use Rattle.wsn_scan.specs.Accepted.{HasNoClose, EndsWithClose}
-use Rattle.wsn_scan.specs.Summary.{is_close, close_code, close_of}
+use Rattle.wsn_scan.specs.declared.scan.Scan.{Scan}
+use Rattle.wsn_rules.specs.Limits.{Limits, InRange}
+use Rattle.wsn_rules.specs.Group.{after_last, is_data, is_final, unfinished, text_of}
+use Rattle.wsn_rules.specs.Lawful.{LawAt, IsLawful}
+use Rattle.wsn_rules.specs.Accepted.{HasNoClose, EndsWithClose}
+use Rattle.wsn_rules.specs.Summary.{is_close, close_code, close_of}
 use Rattle.wsn_scan.specs.OpenMessages.{IsOpenMessage, group_after}
 use Rattle.wsn_scan.specs.PayloadChecks.{HasChecked}
-use Rattle.wsn_scan.specs.Tallies.{Tallies}
+use Rattle.wsn_scan.specs.Counts.{AreCounts}
 use Rattle.wsn_scan.specs.Payloads.{unmasked_by}
-use Rattle.wsn_scan.specs.declared.notices.HeadInfo.{HeadInfo}
+use Rattle.wsn_rules.specs.declared.head_info.HeadInfo.{HeadInfo}
 use Rattle.wsn_scan.specs.PartialHeads.{form_spelled, info_at}
-use Rattle.wsn_scan.specs.Heads.{info_of, heads_of}
-use Rattle.wsn_scan.specs.Scans.{Knows, HoldsPayload, EndsFrame, IsAt, Told, ends_of, taken_of}
-use Rattle.wsn_scan.proofs.HeadsTold.{form_is_spelled, heads_push}
-use Rattle.wsn_scan.proofs.LawfulLists.{law_at_split, lawful_push}
-use Rattle.wsn_scan.proofs.Groups.{group_of_lawful, unfinished_control, unfinished_final, unfinished_more}
+use Rattle.wsn_rules.specs.Heads.{info_of, heads_of}
+use Rattle.wsn_scan.specs.Scans.{Knows, HoldsPayload, EndsFrame, IsAt, taken_of}
+use Rattle.wsn_scan.specs.Reports.{Reported, ends_of}
+use Rattle.wsn_scan.proofs.HeadsReported.{form_is_spelled, heads_push}
+use Rattle.wsn_rules.proofs.LawfulLists.{law_at_split, lawful_push}
+use Rattle.wsn_rules.proofs.Groups.{group_of_lawful, unfinished_control, unfinished_final, unfinished_more}
 use Rattle.wsn_scan.proofs.ScanVerdicts.{other_op}
-use Rattle.wsn_scan.proofs.LayoutFronts.{layout_of}
-use Rattle.wsn_scan.proofs.MessageText.{text_of_push}
-use Rattle.wsn_scan.proofs.Walk.{stream_push}
-use Rattle.wsn_scan.proofs.RowsOfLayout.{RowAt, row_has_evidence}
-use Rattle.wsn_scan.proofs.UnshownLayouts.{unshown_is_lawful, head_shows_nothing}
+use Rattle.wsn_rules.proofs.LayoutFronts.{layout_of}
+use Rattle.wsn_rules.proofs.MessageText.{text_of_push}
+use Rattle.wsn_rules.proofs.Walk.{stream_push}
+use Rattle.wsn_rules.proofs.RowsOfLayout.{RowAt, row_has_evidence}
+use Rattle.wsn_rules.proofs.UnshownLayouts.{unshown_is_lawful, head_shows_nothing}
 
 -- ---- a Close at the end
 
@@ -50,8 +51,8 @@ close_of-push (g ∷ fs) f none is =
     ∙ close_of-push fs f (λ before after h split. none (g ∷ before) after h (ap (λ (gs : List Frame). g ∷ gs) split)) is
 
 -- a lawful Close's body isn't one byte
-pub close_not_one : (role : Role) (bounds : Bounds) (fs : List Frame) (f : Frame) → IsLawful role bounds (fs ++ f ∷ []) → f.op ≡ Close → length f.payload ≢ 1
-close_not_one role bounds fs f lawful is one = of ((law_at_split role bounds fs f [] lawful).frame.close is)
+pub close_not_one : (role : Role) (limits : Limits) (fs : List Frame) (f : Frame) → IsLawful role limits (fs ++ f ∷ []) → f.op ≡ Close → length f.payload ≢ 1
+close_not_one role limits fs f lawful is one = of ((law_at_split role limits fs f [] lawful).frame.close is)
   where
     of : IsCloseBody f.payload → ⊥
     of (inl none) = let empty : length f.payload ≡ 0 = ap (λ (bs : List ℕ). length bs) none in absurd (omega arith)
@@ -66,8 +67,8 @@ is_a_close f is = close_from_opcode f.op (sym (first_byte_fields f.fin f.op).opc
 pub ends_with_close : (fs : List Frame) (f : Frame) → f.op ≡ Close → EndsWithClose (fs ++ f ∷ [])
 ends_with_close fs f is = (fs, f, is, refl)
 
-pub close_is_final : (role : Role) (bounds : Bounds) (fs : List Frame) (f : Frame) → IsLawful role bounds (fs ++ f ∷ []) → f.op ≡ Close → f.fin ≡ true
-close_is_final role bounds fs f lawful is = ((law_at_split role bounds fs f [] lawful).frame.control (ap is_control is)).final
+pub close_is_final : (role : Role) (limits : Limits) (fs : List Frame) (f : Frame) → IsLawful role limits (fs ++ f ∷ []) → f.op ≡ Close → f.fin ≡ true
+close_is_final role limits fs f lawful is = ((law_at_split role limits fs f [] lawful).frame.control (ap is_control is)).final
 
 -- what is unfinished behind one frame more
 pub unfinished_after : (fs : List Frame) (f : Frame) → unfinished (fs ++ f ∷ []) ≡ group_after (unfinished fs) f
@@ -84,10 +85,10 @@ unfinished_after fs f = by_op (is_control f.op) refl
 -- ---- the frame that came
 
 -- All of a frame's payload came: the bytes are those of a frame that is lawful there, with the head's fields.
-pub record IsWhole (role : Role) (bounds : Bounds) (fs : List Frame) (head : Head) (wire rest : List ℕ) : Type 0 where
+pub record IsWhole (role : Role) (limits : Limits) (fs : List Frame) (head : Head) (wire rest : List ℕ) : Type 0 where
   pub frame : Frame
   pub bytes_are : frame_bytes frame ≡ rest
-  pub law : LawAt role bounds fs frame
+  pub law : LawAt role limits fs frame
   pub fin_is : frame.fin ≡ head.first.fin
   pub op_is : frame.op ≡ head.first.op
   pub key_is : frame.key ≡ head.key
@@ -95,12 +96,12 @@ pub record IsWhole (role : Role) (bounds : Bounds) (fs : List Frame) (head : Hea
   pub payload_is : frame.payload ≡ unmasked_by head.key 0 wire
   pub length_is : head.len ≡ length frame.payload
 
--- what is told of it is what its head says
-info_whole : (place : ℕ) (role : Role) (bounds : Bounds) (fs : List Frame) (head : Head) (wire rest : List ℕ) (w : IsWhole role bounds fs head wire rest) → info_of place w.frame ≡ info_at place head
-info_whole place role bounds fs head wire rest w = λ i. record { place = place; fin = w.fin_is i; op = w.op_is i; key = w.key_is i; form = w.form_is i; len = sym w.length_is i }
+-- what is reported of it is what its head says
+info_whole : (place : ℕ) (role : Role) (limits : Limits) (fs : List Frame) (head : Head) (wire rest : List ℕ) (w : IsWhole role limits fs head wire rest) → info_of place w.frame ≡ info_at place head
+info_whole place role limits fs head wire rest w = λ i. record { place = place; fin = w.fin_is i; op = w.op_is i; key = w.key_is i; form = w.form_is i; len = sym w.length_is i }
 
-module _ (role : Role) (bounds : Bounds) (scan : Scan) (bytes rest wire : List ℕ) (fs : List Frame) (head : Head) (check : PayloadCheck)
-    (knows : Knows role bounds scan bytes fs rest) (holds : HoldsPayload role bounds (unfinished fs) head check wire rest) (all : length wire ≡ head.len) where
+module _ (role : Role) (limits : Limits) (scan : Scan) (bytes rest wire : List ℕ) (fs : List Frame) (head : Head) (check : PayloadCheck)
+    (knows : Knows role limits scan bytes fs rest) (holds : HoldsPayload role limits (unfinished fs) head check wire rest) (all : length wire ≡ head.len) where
   abbrev first : ℕ
   first = first_byte head.first.fin head.first.op
 
@@ -114,25 +115,25 @@ module _ (role : Role) (bounds : Bounds) (scan : Scan) (bytes rest wire : List �
       let h = holds.is_head in
       layout_of first h.second h.lengths (key_bytes head.key) wire rest parts (IsBytes-right (stream fs) rest (subst IsBytes knows.whole knows.in_bytes))
       (h.counted ∙ ap length_count h.spelled) (key_bytes_count head.key h.of_four ∙ ap (λ (b : Bool). cond b 4 0) (sym h.masked))
-      (all ∙ h.told ∙ ap (λ (f : LenForm). length_told f h.lengths) h.spelled)
+      (all ∙ h.reported ∙ ap (λ (f : LenForm). length_told f h.lengths) h.spelled)
 
-  no_row : (reason : Reason) → RowAt role bounds (unfinished fs) reason layout → ⊥
+  no_row : (reason : Reason) → RowAt role limits (unfinished fs) reason layout → ⊥
   no_row reason row =
-      let front = row_has_evidence role bounds (unfinished fs) reason rest layout row in
+      let front = row_has_evidence role limits (unfinished fs) reason rest layout row in
       holds.unshown.none front.seen front.later reason front.whole front.evidence
 
   payload_by_key : (key : Option (List ℕ)) (second : ℕ) → mask_bit second ≡ is_some key → cond (mask_bit second) (masked (key_bytes key) 0 wire) wire ≡ unmasked_by key 0 wire
   payload_by_key None second is = ap (λ (b : Bool). cond b (masked [] 0 wire) wire) is
   payload_by_key (Some key) second is = ap (λ (b : Bool). cond b (masked key 0 wire) wire) is
 
-  pub whole_frame : IsWhole role bounds fs head wire rest
+  pub whole_frame : IsWhole role limits fs head wire rest
   unfolding layout layout_of frame_at
   whole_frame =
       let h = holds.is_head in
-      let group = group_of_lawful role bounds fs knows.lawful in
-      let lawful = unshown_is_lawful role bounds knows.in_range fs group layout no_row in
-      let shows = head_shows_nothing role bounds knows.in_range fs group layout no_row in
-      let spelled = frame_of_layout role bounds.lengths rest layout shows in
+      let group = group_of_lawful role limits fs knows.lawful in
+      let lawful = unshown_is_lawful role limits knows.in_range fs group layout no_row in
+      let shows = head_shows_nothing role limits knows.in_range fs group layout no_row in
+      let spelled = frame_of_layout role limits.lengths rest layout shows in
       let there = frame_at first h.second (key_bytes head.key) wire in
       let same : lawful.frame ≡ there =
       (frame_bytes_determine lawful.frame there [] [] lawful.law.frame.spellable spelled.owed.spellable
@@ -141,13 +142,13 @@ module _ (role : Role) (bounds : Bounds) (scan : Scan) (bytes rest wire : List �
       record {
         frame = there;
         bytes_are = spelled.bytes_are;
-        law = subst (λ (f : Frame). LawAt role bounds fs f) same lawful.law;
+        law = subst (λ (f : Frame). LawAt role limits fs f) same lawful.law;
         fin_is = spelled.fin_is ∙ fields.fin_is;
         op_is = sym (op_at-opcode there.op) ∙ ap op_at (spelled.opcode_is ∙ fields.opcode_is) ∙ op_at-opcode head.first.op;
         key_is = ap (λ (mask : Bool). key_at mask (key_bytes head.key)) h.masked ∙ key_at-key_bytes head.key;
         form_is = ap (λ (f : LenForm). form_at f (length wire)) (sym h.spelled) ∙ ap (λ (n : ℕ). form_at head.spelled n) all ∙ form_is_spelled head.spelled head.len;
         payload_is = spelled.payload_is ∙ payload_by_key head.key h.second h.masked;
-        length_is = h.told ∙ ap (λ (f : LenForm). length_told f h.lengths) h.spelled ∙ sym spelled.length_is;
+        length_is = h.reported ∙ ap (λ (f : LenForm). length_told f h.lengths) h.spelled ∙ sym spelled.length_is;
       }
 
   pub same_check : (f : Frame) → f.fin ≡ head.first.fin → f.op ≡ head.first.op → f.payload ≡ unmasked_by head.key 0 wire → HasChecked (unfinished fs) (first_byte f.fin f.op) check f.payload
@@ -156,7 +157,7 @@ module _ (role : Role) (bounds : Bounds) (scan : Scan) (bytes rest wire : List �
       (subst (λ (op : Op). HasChecked (unfinished fs) (first_byte f.fin op) check (unmasked_by head.key 0 wire)) (sym op_is)
       (subst (λ (fin : Bool). HasChecked (unfinished fs) (first_byte fin head.first.op) check (unmasked_by head.key 0 wire)) (sym fin_is) holds.checked))
 
--- the ends that were told, with one more
+-- the ends that were reported, with one more
 ends_push : (fs : List Frame) (f : Frame) → ends_of (fs ++ f ∷ []) ≡ ends_of fs ++ f.fin ∷ []
 ends_push [] f = refl
 ends_push (g ∷ fs) f = ap (λ (ends : List Bool). g.fin ∷ ends) (ends_push fs f)
@@ -185,13 +186,13 @@ after_last_few (f ∷ fs) = by (list_any is_final (f ∷ fs)) (after_last_few fs
 pub unfinished_few : (fs : List Frame) → length (unfinished fs) ≤ length (stream fs)
 unfinished_few fs = omega (arith, after_last_few (filter is_data fs), length-filter is_data fs, count_by-le-length is_data fs, frames_few fs)
 
-pub text_small : (role : Role) (bounds : Bounds) (fs : List Frame) (f : Frame) → InRange bounds → IsLawful role bounds fs → LawAt role bounds fs f → length (text_of (unfinished fs ++ f ∷ [])) < 2 ^ 32
-text_small role bounds fs f range lawful law = by_op (is_control f.op) refl
+pub text_small : (role : Role) (limits : Limits) (fs : List Frame) (f : Frame) → InRange limits → IsLawful role limits fs → LawAt role limits fs f → length (text_of (unfinished fs ++ f ∷ [])) < 2 ^ 32
+text_small role limits fs f range lawful law = by_op (is_control f.op) refl
   where
     by_op : (control : Bool) → is_control f.op ≡ control → length (text_of (unfinished fs ++ f ∷ [])) < 2 ^ 32
     by_op false is = let fits = (law.group (ap not is)).size in let most = range.message in omega arith
     by_op true is =
-        let group = (group_of_lawful role bounds fs lawful).size in
+        let group = (group_of_lawful role limits fs lawful).size in
         let short = (law.frame.control is).short in
         let most = range.message in
         let joined : length (text_of (unfinished fs ++ f ∷ [])) ≡ length (text_of (unfinished fs)) + length f.payload =
@@ -202,24 +203,24 @@ text_small role bounds fs f range lawful law = by_op (is_control f.op) refl
 
 -- What became of the scan's fields.
 pub record IsBehind (old new : Scan) (head : Head) (check : PayloadCheck) : Type 0 where
-  pub sender : new.role ≡ old.role
-  pub limits : new.limits ≡ old.limits
+  pub sender : new.context.role ≡ old.context.role
+  pub under : new.context.limits ≡ old.context.limits
   pub room : new.room ≡ old.room
   pub used : new.used ≡ taken_of old
-  pub tally : (fs : List Frame) (f : Frame) → Tallies old.tally fs → length fs < 2 ^ 63 → f.fin ≡ head.first.fin → f.op ≡ head.first.op → Tallies new.tally (fs ++ f ∷ [])
-  pub message : (group : List Frame) (f : Frame) → IsOpenMessage old.message group → f.fin ≡ head.first.fin → f.op ≡ head.first.op → head.len ≡ length f.payload
-      → HasChecked group (first_byte f.fin f.op) check f.payload → length (text_of (group ++ f ∷ [])) < 2 ^ 32 → length group < 2 ^ 63 → IsOpenMessage new.message (group_after group f)
-  pub stage : (role : Role) (bounds : Bounds) (bytes : List ℕ) (fs : List Frame) (f : Frame) (told : Told) → IsLawful role bounds (fs ++ f ∷ []) → HasNoClose fs → f.fin ≡ head.first.fin
-      → HasChecked (unfinished fs) (first_byte f.fin f.op) check f.payload → told.heads ≡ heads_of (fs ++ f ∷ []) → told.ends ++ head.first.fin ∷ [] ≡ ends_of (fs ++ f ∷ []) → f.payload ≡ told.payload → IsAt role bounds new.stage bytes (fs ++ f ∷ []) [] told
+  pub counts : (fs : List Frame) (f : Frame) → AreCounts old.counts fs → length fs < 2 ^ 63 → f.fin ≡ head.first.fin → f.op ≡ head.first.op → AreCounts new.counts (fs ++ f ∷ [])
+  pub message : (group : List Frame) (f : Frame) → IsOpenMessage old.context.message group → f.fin ≡ head.first.fin → f.op ≡ head.first.op → head.len ≡ length f.payload
+      → HasChecked group (first_byte f.fin f.op) check f.payload → length (text_of (group ++ f ∷ [])) < 2 ^ 32 → length group < 2 ^ 63 → IsOpenMessage new.context.message (group_after group f)
+  pub stage : (role : Role) (limits : Limits) (bytes : List ℕ) (fs : List Frame) (f : Frame) (reported : Reported) → IsLawful role limits (fs ++ f ∷ []) → HasNoClose fs → f.fin ≡ head.first.fin
+      → HasChecked (unfinished fs) (first_byte f.fin f.op) check f.payload → reported.heads ≡ heads_of (fs ++ f ∷ []) → reported.ends ++ head.first.fin ∷ [] ≡ ends_of (fs ++ f ∷ []) → f.payload ≡ reported.payload → IsAt role limits new.stage bytes (fs ++ f ∷ []) [] reported
 
-pub frame_ends : (role : Role) (bounds : Bounds) (old new : Scan) (bytes rest wire : List ℕ) (fs : List Frame) (told : Told) (head : Head) (check : PayloadCheck) → IsBehind old new head check
-    → Knows role bounds old bytes fs rest → HasNoClose fs → HoldsPayload role bounds (unfinished fs) head check wire rest → length wire ≡ head.len
-    → told.heads ≡ heads_of fs ++ info_at (length (stream fs)) head ∷ [] → told.ends ≡ ends_of fs → told.payload ≡ unmasked_by head.key 0 wire → EndsFrame role bounds new bytes fs told
-frame_ends role bounds old new bytes rest wire fs told head check behind knows none holds all heads ends payload =
-    let w = whole_frame role bounds old bytes rest wire fs head check knows holds all in
+pub frame_ends : (role : Role) (limits : Limits) (old new : Scan) (bytes rest wire : List ℕ) (fs : List Frame) (reported : Reported) (head : Head) (check : PayloadCheck) → IsBehind old new head check
+    → Knows role limits old bytes fs rest → HasNoClose fs → HoldsPayload role limits (unfinished fs) head check wire rest → length wire ≡ head.len
+    → reported.heads ≡ heads_of fs ++ info_at (length (stream fs)) head ∷ [] → reported.ends ≡ ends_of fs → reported.payload ≡ unmasked_by head.key 0 wire → EndsFrame role limits new bytes fs reported
+frame_ends role limits old new bytes rest wire fs reported head check behind knows none holds all heads ends payload =
+    let w = whole_frame role limits old bytes rest wire fs head check knows holds all in
     let f = w.frame in
-    let lawful = lawful_push role bounds fs f knows.lawful none w.law in
-    let checked = same_check role bounds old bytes rest wire fs head check knows holds all f w.fin_is w.op_is w.payload_is in
+    let lawful = lawful_push role limits fs f knows.lawful none w.law in
+    let checked = same_check role limits old bytes rest wire fs head check knows holds all f w.fin_is w.op_is w.payload_is in
     let joined : stream (fs ++ f ∷ []) ≡ stream fs ++ rest = stream_push fs f ∙ ap (λ (bs : List ℕ). stream fs ++ bs) w.bytes_are in
     let whole : bytes ≡ stream (fs ++ f ∷ []) = knows.whole ∙ sym joined in
     let counts : length bytes ≡ length (stream fs) + length rest = ap (λ (bs : List ℕ). length bs) knows.whole ∙ length-append (stream fs) rest in
@@ -227,25 +228,25 @@ frame_ends role bounds old new bytes rest wire fs told head check behind knows n
     let room = knows.room in
     let few : length fs < 2 ^ 63 = omega (arith, frames_few fs) in
     let few_open : length (unfinished fs) < 2 ^ 63 = omega (arith, unfinished_few fs) in
-    let same_input : old.limits.input ≡ bounds.input = ap (λ (b : Bounds). b.input) knows.limits in
+    let same_input : old.context.limits.input ≡ limits.input = ap (λ (b : Limits). b.input) knows.under in
     let taken : taken_of old ≡ length bytes = omega arith in
     record {
       frame = f;
       stands = record {
         knows = record {
           sender = behind.sender ∙ knows.sender;
-          limits = behind.limits ∙ knows.limits;
+          under = behind.under ∙ knows.under;
           in_range = knows.in_range;
           lawful = lawful;
           whole = whole ∙ sym (append-nil (stream (fs ++ f ∷ [])));
           in_bytes = knows.in_bytes;
           room = omega (arith, behind.room);
           used = behind.used ∙ taken ∙ ap (λ (bs : List ℕ). length bs) whole;
-          tally = behind.tally fs f knows.tally few w.fin_is w.op_is;
-          message = subst (IsOpenMessage new.message) (sym (unfinished_after fs f))
-              (behind.message (unfinished fs) f knows.message w.fin_is w.op_is w.length_is checked (text_small role bounds fs f knows.in_range knows.lawful w.law) few_open);
+          counts = behind.counts fs f knows.counts few w.fin_is w.op_is;
+          message = subst (IsOpenMessage new.context.message) (sym (unfinished_after fs f))
+              (behind.message (unfinished fs) f knows.message w.fin_is w.op_is w.length_is checked (text_small role limits fs f knows.in_range knows.lawful w.law) few_open);
         };
-        at = behind.stage role bounds bytes fs f told lawful none w.fin_is checked
-            (heads ∙ ap (λ (info : HeadInfo). heads_of fs ++ info ∷ []) (sym (info_whole (length (stream fs)) role bounds fs head wire rest w)) ∙ sym (heads_push fs f)) (ends_with fs f told.ends head.first.fin ends w.fin_is) (w.payload_is ∙ sym payload);
+        at = behind.stage role limits bytes fs f reported lawful none w.fin_is checked
+            (heads ∙ ap (λ (info : HeadInfo). heads_of fs ++ info ∷ []) (sym (info_whole (length (stream fs)) role limits fs head wire rest w)) ∙ sym (heads_push fs f)) (ends_with fs f reported.ends head.first.fin ends w.fin_is) (w.payload_is ∙ sym payload);
       };
     }

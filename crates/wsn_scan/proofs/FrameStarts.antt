@@ -8,14 +8,14 @@ use Rattle.wsn_wire.specs.Frame.{Frame, opcode, first_byte, key_bytes}
 use Rattle.wsn_wire.specs.Layout.{opcode_field}
 use Rattle.wsn_wire.proofs.FrameLemmas.{first_byte_fields}
 use Rattle.wsn_scan.specs.declared.partial_head.Head.{Head}
-use Rattle.wsn_scan.specs.Bounds.{Bounds}
-use Rattle.wsn_scan.specs.Evidence.{EvidentByFirst}
-use Rattle.wsn_scan.specs.Evidence.Evidence.{ByFirst}
+use Rattle.wsn_rules.specs.Limits.{Limits}
+use Rattle.wsn_rules.specs.Evidence.{EvidentByFirst}
+use Rattle.wsn_rules.specs.Evidence.Evidence.{ByFirst}
 use Rattle.wsn_scan.specs.PartialHeads.{IsHead}
 
-module _ (role : Role) (bounds : Bounds) (group : List Frame) (head : Head) (head_bytes : List ℕ) (h : IsHead role bounds group head head_bytes) where
+module _ (role : Role) (limits : Limits) (group : List Frame) (head : Head) (head_bytes : List ℕ) (h : IsHead role limits group head head_bytes) where
   -- the first byte showed nothing
-  no_first : (reason : Reason) → EvidentByFirst bounds group reason (first_byte head.first.fin head.first.op) → ⊥
+  no_first : (reason : Reason) → EvidentByFirst limits group reason (first_byte head.first.fin head.first.op) → ⊥
   no_first reason row =
       let first = first_byte head.first.fin head.first.op in
       let behind = h.second ∷ (h.lengths ++ key_bytes head.key) in

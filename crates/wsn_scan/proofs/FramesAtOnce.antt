@@ -8,7 +8,7 @@ use Rattle.wsn_wire.specs.Frame.{Frame, IsBytes, first_byte}
 use Rattle.wsn_scan.specs.declared.partial_head.Head.{Head}
 use Rattle.wsn_scan.specs.declared.payload_check.BadByte.{BadByte}
 use Rattle.wsn_scan.specs.declared.payload_check.PayloadCheck.{PayloadCheck}
-use Rattle.wsn_scan.specs.Bounds.{Bounds}
+use Rattle.wsn_rules.specs.Limits.{Limits}
 use Rattle.wsn_scan.specs.PartialHeads.{IsHead}
 use Rattle.wsn_scan.specs.PayloadChecks.{HasChecked, IsChecked}
 use Rattle.wsn_scan.specs.Payloads.{unmasked_by}
@@ -60,13 +60,13 @@ fed_at_once group first total key wire fed result is size found =
     subst (λ (bs : List ℕ). IsChecked group first total [] bs result) is (found ((λ yes. count), (λ all. refl)) (omega (arith, count)))
 
 -- All of the payload was checked and shows nothing.
-pub holds_at_once : (role : Role) (bounds : Bounds) (group : List Frame) (head : Head) (check next : PayloadCheck) (head_bytes wire rest : List ℕ) → rest ≡ head_bytes ++ wire → IsBytes wire
-    → IsHead role bounds group head head_bytes → HasChecked group (first_byte head.first.fin head.first.op) check [] → 0 < head.len → length wire ≡ head.len
-    → IsChecked group (first_byte head.first.fin head.first.op) head.len [] (unmasked_by head.key 0 wire) (Ok next) → HoldsPayload role bounds group head next wire rest
-holds_at_once role bounds group head check next head_bytes wire rest whole in_bytes is_head checked some all fed =
+pub holds_at_once : (role : Role) (limits : Limits) (group : List Frame) (head : Head) (check next : PayloadCheck) (head_bytes wire rest : List ℕ) → rest ≡ head_bytes ++ wire → IsBytes wire
+    → IsHead role limits group head head_bytes → HasChecked group (first_byte head.first.fin head.first.op) check [] → 0 < head.len → length wire ≡ head.len
+    → IsChecked group (first_byte head.first.fin head.first.op) head.len [] (unmasked_by head.key 0 wire) (Ok next) → HoldsPayload role limits group head next wire rest
+holds_at_once role limits group head check next head_bytes wire rest whole in_bytes is_head checked some all fed =
     let first = first_byte head.first.fin head.first.op in
     let before : IsChecked group first head.len (unmasked_by head.key 0 []) (unmasked_by head.key 0 wire) (Ok next) =
     subst (λ (bs : List ℕ). IsChecked group first head.len bs (unmasked_by head.key 0 wire) (Ok next)) (sym (unmasked_by-nil head.key)) fed in
-    let begun = starts role bounds group head head_bytes is_head check checked some in
-    subst (λ (bs : List ℕ). HoldsPayload role bounds group head next wire bs) (sym whole)
-    (holds_on role bounds group head check [] head_bytes begun wire (omega (arith, all)) next in_bytes before)
+    let begun = starts role limits group head head_bytes is_head check checked some in
+    subst (λ (bs : List ℕ). HoldsPayload role limits group head next wire bs) (sym whole)
+    (holds_on role limits group head check [] head_bytes begun wire (omega (arith, all)) next in_bytes before)

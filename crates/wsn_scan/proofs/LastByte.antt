@@ -4,16 +4,17 @@ use Rattle.wsn_wire.specs.declared.endpoint.Role.{Role}
 use Rattle.wsn_wire.specs.declared.refusal.Reason.{Reason}
 use Rattle.wsn_wire.specs.Frame.{Frame}
 use Rattle.wsn_wire.specs.Refusal.{IsFirstShown}
-use Rattle.wsn_scan.specs.Bounds.{Bounds}
-use Rattle.wsn_scan.specs.Evidence.{Evidence}
-use Rattle.wsn_scan.specs.Unshown.{IsUnshown, IsUnshownBefore, IsShownLast}
-use Rattle.wsn_scan.proofs.Fronts.{nil_or_last, nil-push, split_push}
+use Rattle.wsn_rules.specs.Limits.{Limits}
+use Rattle.wsn_rules.specs.Evidence.{Evidence}
+use Rattle.wsn_rules.specs.Unshown.{IsUnshown}
+use Rattle.wsn_scan.specs.ShownLast.{IsUnshownBefore, IsShownLast}
+use Rattle.wsn_rules.proofs.Prefixes.{nil_or_last, nil-push, split_push}
 
-module _ (role : Role) (bounds : Bounds) (group : List Frame) where
-  pub unshown_before_push : (bytes : List ℕ) (b : ℕ) → IsUnshown role bounds group bytes → IsUnshownBefore role bounds group (bytes ++ b ∷ [])
+module _ (role : Role) (limits : Limits) (group : List Frame) where
+  pub unshown_before_push : (bytes : List ℕ) (b : ℕ) → IsUnshown role limits group bytes → IsUnshownBefore role limits group (bytes ++ b ∷ [])
   unshown_before_push bytes b unshown = record { none = none }
     where
-      none : (seen later : List ℕ) (reason : Reason) → bytes ++ b ∷ [] ≡ seen ++ later → Evidence role bounds group reason seen → later ≡ []
+      none : (seen later : List ℕ) (reason : Reason) → bytes ++ b ∷ [] ≡ seen ++ later → Evidence role limits group reason seen → later ≡ []
       none seen later reason whole evidence =
           elim (nil_or_last later) [
             | inl is ↦ is
@@ -27,17 +28,17 @@ module _ (role : Role) (bounds : Bounds) (group : List Frame) where
           ]
 
   -- evidence by a front is evidence by all
-  by_all : (bytes seen later : List ℕ) (reason : Reason) → bytes ≡ seen ++ later → later ≡ [] → Evidence role bounds group reason seen → Evidence role bounds group reason bytes
+  by_all : (bytes seen later : List ℕ) (reason : Reason) → bytes ≡ seen ++ later → later ≡ [] → Evidence role limits group reason seen → Evidence role limits group reason bytes
   by_all bytes seen later reason whole none evidence =
       let same : bytes ≡ seen = whole ∙ ap (λ (bs : List ℕ). seen ++ bs) none ∙ append-nil seen in
-      subst (λ (bs : List ℕ). Evidence role bounds group reason bs) (sym same) evidence
+      subst (λ (bs : List ℕ). Evidence role limits group reason bs) (sym same) evidence
 
-  pub unshown_by_all : (bytes : List ℕ) → IsUnshownBefore role bounds group bytes → ((r : Reason) → Evidence role bounds group r bytes → ⊥) → IsUnshown role bounds group bytes
+  pub unshown_by_all : (bytes : List ℕ) → IsUnshownBefore role limits group bytes → ((r : Reason) → Evidence role limits group r bytes → ⊥) → IsUnshown role limits group bytes
   unshown_by_all bytes before not = record {
     none = λ seen later reason whole evidence. not reason (by_all bytes seen later reason whole (before.none seen later reason whole evidence) evidence);
   }
 
-  pub shown_by_all : (bytes : List ℕ) (reason : Reason) → IsUnshownBefore role bounds group bytes → IsFirstShown (λ r. Evidence role bounds group r bytes) reason → IsShownLast role bounds group reason bytes
+  pub shown_by_all : (bytes : List ℕ) (reason : Reason) → IsUnshownBefore role limits group bytes → IsFirstShown (λ r. Evidence role limits group r bytes) reason → IsShownLast role limits group reason bytes
   shown_by_all bytes reason before is = record {
     before = λ seen later r some whole evidence. some (before.none seen later r whole evidence);
     shown = is.shown;
@@ -45,8 +46,8 @@ module _ (role : Role) (bounds : Bounds) (group : List Frame) where
   }
 
   -- what all of them show is known
-  pub shown_only_by_all : (P : Reason → Type 0) (bytes : List ℕ) → IsUnshownBefore role bounds group bytes → ((r : Reason) → Evidence role bounds group r bytes → P r) →
-      (seen later : List ℕ) (reason : Reason) → bytes ≡ seen ++ later → Evidence role bounds group reason seen → (later ≡ []) × P reason
+  pub shown_only_by_all : (P : Reason → Type 0) (bytes : List ℕ) → IsUnshownBefore role limits group bytes → ((r : Reason) → Evidence role limits group r bytes → P r) →
+      (seen later : List ℕ) (reason : Reason) → bytes ≡ seen ++ later → Evidence role limits group reason seen → (later ≡ []) × P reason
   shown_only_by_all P bytes before known seen later reason whole evidence =
       let none = before.none seen later reason whole evidence in
       (none, known reason (by_all bytes seen later reason whole none evidence))

@@ -5,18 +5,18 @@ use Rattle.std.specs.Io.KnownBytes.{Consumes, IsAtEnd}
 use Rattle.wsn_wire.specs.declared.endpoint.Role.{Role}
 use Rattle.wsn_wire.specs.Frame.{Frame}
 use Rattle.wsn_wire.specs.Transfer.{Incoming}
-use Rattle.wsn_scan.specs.declared.outcome.Verdict.{Verdict}
-use Rattle.wsn_scan.specs.declared.outcome.Verdict.TheVariants.{Accepted, Cut, Refused}
-use Rattle.wsn_scan.specs.declared.stopping.Stop.{Stop}
-use Rattle.wsn_scan.specs.declared.stopping.Stop.TheVariants as stop
-use Rattle.wsn_scan.specs.Bounds.{Bounds}
-use Rattle.wsn_scan.specs.Verdict.{IsVerdict}
+use Rattle.wsn_rules.specs.declared.verdict.Verdict.{Verdict}
+use Rattle.wsn_rules.specs.declared.verdict.Verdict.TheVariants.{Accepted, Cut, Refused}
+use Rattle.wsn_scan.specs.declared.stop.Stop.{Stop}
+use Rattle.wsn_scan.specs.declared.stop.Stop.TheVariants as stop
+use Rattle.wsn_rules.specs.Limits.{Limits}
+use Rattle.wsn_rules.specs.Verdict.{IsVerdict}
 use Rattle.wsn_scan.specs.Judging.{IsJudged, IsReached, IsUnrefused}
-use Rattle.wsn_scan.proofs.OneVerdict.{one_verdict}
-use Rattle.wsn_scan.proofs.StaysRefused.{refused_alike}
+use Rattle.wsn_rules.proofs.OneVerdict.{one_verdict}
+use Rattle.wsn_rules.proofs.StaysRefused.{refused_alike}
 use Rattle.wsn_scan.proofs.JudgedInputs.{whole_verdict, whole_limit}
 
-module _ (role : Role) (bounds : Bounds) (old : Incoming) (all : List ℕ) (known : old.remaining ≡ Some all) where
+module _ (role : Role) (limits : Limits) (old : Incoming) (all : List ℕ) (known : old.remaining ≡ Some all) where
   -- what came up to the end is all of it
   all_came : (new : Incoming) (came : List ℕ) → Consumes old.remaining new.remaining came → IsAtEnd new.remaining → all ≡ came
   all_came new came consumed at_end = by_rest new.remaining (subst (λ (a : Option (List ℕ)). Consumes a new.remaining came) known consumed) at_end
@@ -26,33 +26,33 @@ module _ (role : Role) (bounds : Bounds) (old : Incoming) (all : List ℕ) (know
       by_rest (Some rest) is end = is ∙ ap (λ (bs : List ℕ). came ++ bs) end ∙ append-nil came
 
   -- a verdict, or more bytes than the limit allows that show no refusal within it
-  not_both : (new other : Incoming) (verdict : Verdict) → IsJudged role bounds old new (Ok verdict) → IsJudged role bounds old other (Err stop.InputLimit) → ⊥
+  not_both : (new other : Incoming) (verdict : Verdict) → IsJudged role limits old new (Ok verdict) → IsJudged role limits old other (Err stop.InputLimit) → ⊥
   not_both new other verdict judged stopped =
-      let limit = whole_limit role bounds old other all stopped known in
-      let whole = whole_verdict role bounds old new verdict all judged known in
+      let limit = whole_limit role limits old other all stopped known in
+      let whole = whole_verdict role limits old new verdict all judged known in
       by_verdict verdict judged.1.answer whole.0 whole.1 limit.0 limit.1
     where
-      by_verdict : (v : Verdict) → IsReached role bounds new judged.0 v → (fs : List Frame) → IsVerdict role bounds all fs v → bounds.input < length all → IsUnrefused role bounds (take bounds.input all) → ⊥
+      by_verdict : (v : Verdict) → IsReached role limits new judged.0 v → (fs : List Frame) → IsVerdict role limits all fs v → limits.input < length all → IsUnrefused role limits (take limits.input all) → ⊥
       by_verdict (Accepted s) reached fs is more none = let size = ap (λ (bs : List ℕ). length bs) (all_came new judged.0 judged.1.consumed reached.2) in omega (arith, reached.3)
       by_verdict (Cut s) reached fs is more none = let size = ap (λ (bs : List ℕ). length bs) (all_came new judged.0 judged.1.consumed reached.2) in omega (arith, reached.3)
       by_verdict (Refused r) reached fs is more none =
-          none fs r.place r.reason (refused_alike role bounds fs all (take bounds.input all) r.place r.reason (take-take (r.place + 1) bounds.input all (omega (arith, reached.3))) is)
+          none fs r.place r.reason (refused_alike role limits fs all (take limits.input all) r.place r.reason (take-take (r.place + 1) limits.input all (omega (arith, reached.3))) is)
 
-  pub one_answer : (new other : Incoming) (result same : Result Verdict Stop) → new.failed ≡ false → other.failed ≡ false → IsJudged role bounds old new result → IsJudged role bounds old other same → result ≡ same
+  pub one_answer : (new other : Incoming) (result same : Result Verdict Stop) → new.failed ≡ false → other.failed ≡ false → IsJudged role limits old new result → IsJudged role limits old other same → result ≡ same
   one_answer new other (Ok v) (Ok w) unfailed also judged again =
-      let first = whole_verdict role bounds old new v all judged known in
-      let second = whole_verdict role bounds old other w all again known in
-      ap (λ (u : Verdict). let answer : Result Verdict Stop = Ok u in answer) (one_verdict role bounds all first.0 second.0 v w first.1 second.1).1
+      let first = whole_verdict role limits old new v all judged known in
+      let second = whole_verdict role limits old other w all again known in
+      ap (λ (u : Verdict). let answer : Result Verdict Stop = Ok u in answer) (one_verdict role limits all first.0 second.0 v w first.1 second.1).1
   one_answer new other (Ok v) (Err stopped) unfailed also judged again = by_stop stopped again
     where
-      by_stop : (s : Stop) → IsJudged role bounds old other (Err s) → Ok v ≡ Err s
+      by_stop : (s : Stop) → IsJudged role limits old other (Err s) → Ok v ≡ Err s
       by_stop stop.Read is = let both : false ≡ true = sym also ∙ is.1.answer.0 in cc
       by_stop stop.InputLimit is = absurd (not_both new other v judged is)
       by_stop stop.Memory is = absurd is.1.answer
       by_stop stop.Write is = absurd is.1.answer
   one_answer new other (Err stopped) same unfailed also judged again = by_stop stopped same judged again
     where
-      by_stop : (s : Stop) (r : Result Verdict Stop) → IsJudged role bounds old new (Err s) → IsJudged role bounds old other r → Err s ≡ r
+      by_stop : (s : Stop) (r : Result Verdict Stop) → IsJudged role limits old new (Err s) → IsJudged role limits old other r → Err s ≡ r
       by_stop stop.Read r is that = let both : false ≡ true = sym unfailed ∙ is.1.answer.0 in cc
       by_stop stop.InputLimit (Ok w) is that = absurd (not_both other new w that is)
       by_stop stop.InputLimit (Err stop.Read) is that = let both : false ≡ true = sym also ∙ that.1.answer.0 in cc

@@ -12,25 +12,25 @@ use Rattle.wsn_wire.proofs.FrameLemmas.{key_bytes_count}
 use Rattle.wsn_scan.specs.declared.partial_head.Head.{Head}
 use Rattle.wsn_scan.specs.declared.payload_check.PayloadCheck.{PayloadCheck}
 use Rattle.wsn_scan.specs.declared.payload_check.PayloadCheck.TheVariants.{Free, Text, Close}
-use Rattle.wsn_scan.specs.Bounds.{Bounds}
-use Rattle.wsn_scan.specs.Group.{text_of}
-use Rattle.wsn_scan.specs.Evidence.{IsOfText, EvidentByPayload, unmasked, Evidence}
-use Rattle.wsn_scan.specs.Evidence.Evidence.{ByPayload}
-use Rattle.wsn_scan.specs.Unshown.{IsShownLast}
+use Rattle.wsn_rules.specs.Limits.{Limits}
+use Rattle.wsn_rules.specs.Group.{text_of}
+use Rattle.wsn_rules.specs.Evidence.{IsOfText, EvidentByPayload, unmasked, Evidence}
+use Rattle.wsn_rules.specs.Evidence.Evidence.{ByPayload}
+use Rattle.wsn_scan.specs.ShownLast.{IsShownLast}
 use Rattle.wsn_scan.specs.PartialHeads.{IsHead}
 use Rattle.wsn_scan.specs.PayloadChecks.{HasChecked}
 use Rattle.wsn_scan.specs.Payloads.{unmasked_by}
 use Rattle.wsn_scan.specs.Scans.{HoldsPayload}
-use Rattle.wsn_scan.proofs.MessageText.{begins_not_bad}
-use Rattle.wsn_scan.proofs.LeastShown.{same_number}
-use Rattle.wsn_scan.proofs.Stages.{payload_shows}
+use Rattle.wsn_rules.proofs.MessageText.{begins_not_bad}
+use Rattle.wsn_rules.proofs.LeastShown.{same_number}
+use Rattle.wsn_rules.proofs.Stages.{payload_shows}
 
 -- unmasking by the bit that MASK sets, or by the key
 pub unmasked-key : (second : ℕ) (key : Option (List ℕ)) (wire : List ℕ) → mask_bit second ≡ is_some key → unmasked second (key_bytes key) wire ≡ unmasked_by key 0 wire
 unmasked-key second None wire is = ap (λ (b : Bool). cond b (masked [] 0 wire) wire) is
 unmasked-key second (Some key) wire is = ap (λ (b : Bool). cond b (masked key 0 wire) wire) is
 
-module _ (role : Role) (bounds : Bounds) (group : List Frame) (head : Head) (head_bytes : List ℕ) (h : IsHead role bounds group head head_bytes) where
+module _ (role : Role) (limits : Limits) (group : List Frame) (head : Head) (head_bytes : List ℕ) (h : IsHead role limits group head head_bytes) where
   abbrev first_of : ℕ
   first_of = first_byte head.first.fin head.first.op
 
@@ -44,10 +44,10 @@ module _ (role : Role) (bounds : Bounds) (group : List Frame) (head : Head) (hea
   counted_is = h.counted ∙ ap length_count h.spelled
 
   told_is : head.len ≡ length_told (len_form_at h.second) h.lengths
-  told_is = h.told ∙ ap (λ (f : LenForm). length_told f h.lengths) h.spelled
+  told_is = h.reported ∙ ap (λ (f : LenForm). length_told f h.lengths) h.spelled
 
   -- what the payload so far shows is evidence
-  pub payload_evident : (wire : List ℕ) (reason : Reason) → length wire ≤ head.len → EvidentByPayload group reason first_of head.len (unmasked_by head.key 0 wire) → Evidence role bounds group reason (head_bytes ++ wire)
+  pub payload_evident : (wire : List ℕ) (reason : Reason) → length wire ≤ head.len → EvidentByPayload group reason first_of head.len (unmasked_by head.key 0 wire) → Evidence role limits group reason (head_bytes ++ wire)
   payload_evident wire reason within row =
       ByPayload (record {
         first = first_of;
@@ -58,16 +58,16 @@ module _ (role : Role) (bounds : Bounds) (group : List Frame) (head : Head) (hea
         whole = with_payload wire;
         len_count = counted_is;
         key_counted = keyed;
-        within = let told = told_is in omega arith;
+        within = let reported = told_is in omega arith;
       })
       (subst (λ (total : ℕ). EvidentByPayload group reason first_of total (unmasked h.second (key_bytes head.key) wire)) told_is
       (subst (λ (payload : List ℕ). EvidentByPayload group reason first_of head.len payload) (sym (unmasked-key h.second head.key wire h.masked)) row))
 
   -- and behind some payload there is no other
-  pub evident_by_payload : (wire : List ℕ) (reason : Reason) → 0 < length wire → Evidence role bounds group reason (head_bytes ++ wire) → EvidentByPayload group reason first_of head.len (unmasked_by head.key 0 wire)
+  pub evident_by_payload : (wire : List ℕ) (reason : Reason) → 0 < length wire → Evidence role limits group reason (head_bytes ++ wire) → EvidentByPayload group reason first_of head.len (unmasked_by head.key 0 wire)
   evident_by_payload wire reason some evidence =
-      let there = subst (λ (bs : List ℕ). Evidence role bounds group reason bs) (with_payload wire) evidence in
-      let row = payload_shows role bounds group reason first_of h.second h.lengths (key_bytes head.key) wire counted_is keyed (omega arith) there in
+      let there = subst (λ (bs : List ℕ). Evidence role limits group reason bs) (with_payload wire) evidence in
+      let row = payload_shows role limits group reason first_of h.second h.lengths (key_bytes head.key) wire counted_is keyed (omega arith) there in
       subst (λ (total : ℕ). EvidentByPayload group reason first_of total (unmasked_by head.key 0 wire)) (sym told_is)
       (subst (λ (payload : List ℕ). EvidentByPayload group reason first_of (length_told (len_form_at h.second) h.lengths) payload) (unmasked-key h.second head.key wire h.masked) row)
 
@@ -105,10 +105,10 @@ pub unmasked_by-nil : (key : Option (List ℕ)) → unmasked_by key 0 [] ≡ []
 unmasked_by-nil None = refl
 unmasked_by-nil (Some key) = refl
 
-module _ (role : Role) (bounds : Bounds) (group : List Frame) (head : Head) (head_bytes : List ℕ) (h : IsHead role bounds group head head_bytes) (check : PayloadCheck)
+module _ (role : Role) (limits : Limits) (group : List Frame) (head : Head) (head_bytes : List ℕ) (h : IsHead role limits group head head_bytes) (check : PayloadCheck)
     (checked : HasChecked group (first_byte head.first.fin head.first.op) check []) where
   -- a head that shows nothing by its payload
-  holds_nothing : ((reason : Reason) → EvidentByPayload group reason (first_byte head.first.fin head.first.op) head.len [] → ⊥) → HoldsPayload role bounds group head check [] head_bytes
+  holds_nothing : ((reason : Reason) → EvidentByPayload group reason (first_byte head.first.fin head.first.op) head.len [] → ⊥) → HoldsPayload role limits group head check [] head_bytes
   holds_nothing quiet = record {
     head_bytes = head_bytes;
     whole = sym (append-nil head_bytes);
@@ -118,12 +118,12 @@ module _ (role : Role) (bounds : Bounds) (group : List Frame) (head : Head) (hea
     unshown = record { none = λ seen later reason is evidence. quiet reason (h.unshown seen later reason is evidence).1 };
   }
 
-  pub starts : 0 < head.len → HoldsPayload role bounds group head check [] head_bytes
+  pub starts : 0 < head.len → HoldsPayload role limits group head check [] head_bytes
   starts some = holds_nothing (quiet_start group (first_byte head.first.fin head.first.op) head.len check checked some)
 
   -- an empty payload that doesn't cut the text, and one that does
   pub starts_empty : head.len ≡ 0 → (EvidentByPayload group TextCut (first_byte head.first.fin head.first.op) 0 [] → ⊥)
-      → ((reason : Reason) → (reason ≡ TextCut → ⊥) → EvidentByPayload group reason (first_byte head.first.fin head.first.op) 0 [] → ⊥) → HoldsPayload role bounds group head check [] head_bytes
+      → ((reason : Reason) → (reason ≡ TextCut → ⊥) → EvidentByPayload group reason (first_byte head.first.fin head.first.op) 0 [] → ⊥) → HoldsPayload role limits group head check [] head_bytes
   starts_empty empty no_cut others = holds_nothing quiet
     where
       quiet : (reason : Reason) → EvidentByPayload group reason (first_byte head.first.fin head.first.op) head.len [] → ⊥
@@ -135,12 +135,12 @@ module _ (role : Role) (bounds : Bounds) (group : List Frame) (head : Head) (hea
           ]
 
   pub cut_at_start : head.len ≡ 0 → EvidentByPayload group TextCut (first_byte head.first.fin head.first.op) 0 []
-      → ((reason : Reason) → (reason ≡ TextCut → ⊥) → EvidentByPayload group reason (first_byte head.first.fin head.first.op) 0 [] → ⊥) → IsShownLast role bounds group TextCut head_bytes
+      → ((reason : Reason) → (reason ≡ TextCut → ⊥) → EvidentByPayload group reason (first_byte head.first.fin head.first.op) 0 [] → ⊥) → IsShownLast role limits group TextCut head_bytes
   cut_at_start empty cut others = record {
     before = λ seen later r some is evidence. some (h.unshown seen later r is evidence).0;
     shown =
-        subst (λ (bs : List ℕ). Evidence role bounds group TextCut bs) (append-nil head_bytes)
-        (payload_evident role bounds group head head_bytes h [] TextCut (omega arith)
+        subst (λ (bs : List ℕ). Evidence role limits group TextCut bs) (append-nil head_bytes)
+        (payload_evident role limits group head head_bytes h [] TextCut (omega arith)
         (subst (λ (payload : List ℕ). EvidentByPayload group TextCut (first_byte head.first.fin head.first.op) head.len payload) (sym (unmasked_by-nil head.key))
         (subst (λ (total : ℕ). EvidentByPayload group TextCut (first_byte head.first.fin head.first.op) total []) (sym empty) cut)));
     least = λ r evidence. least r (h.unshown head_bytes [] r (sym (append-nil head_bytes)) evidence).1;

@@ -10,13 +10,13 @@ use Rattle.wsn_wire.proofs.MaskLemmas.{length-masked, masked-append, masked-mask
 use Rattle.wsn_scan.specs.declared.partial_head.Head.{Head}
 use Rattle.wsn_scan.specs.declared.payload_check.BadByte.{BadByte}
 use Rattle.wsn_scan.specs.declared.payload_check.PayloadCheck.{PayloadCheck}
-use Rattle.wsn_scan.specs.Bounds.{Bounds}
-use Rattle.wsn_scan.specs.Evidence.{EvidentByPayload, Evidence}
-use Rattle.wsn_scan.specs.Unshown.{IsShownLast}
+use Rattle.wsn_rules.specs.Limits.{Limits}
+use Rattle.wsn_rules.specs.Evidence.{EvidentByPayload, Evidence}
+use Rattle.wsn_scan.specs.ShownLast.{IsShownLast}
 use Rattle.wsn_scan.specs.PayloadChecks.{HasChecked, IsQuiet, IsChecked}
 use Rattle.wsn_scan.specs.Payloads.{unmasked_by}
 use Rattle.wsn_scan.specs.Scans.{HoldsPayload}
-use Rattle.wsn_scan.proofs.Fronts.{two_fronts}
+use Rattle.wsn_rules.proofs.Prefixes.{two_fronts}
 use Rattle.wsn_scan.proofs.PayloadBytes.{payload_evident, evident_by_payload}
 
 -- ---- unmasking in parts
@@ -52,7 +52,7 @@ take-unmasked_by key start n bytes within =
     let count : n ≡ length front = sym (length-unmasked_by key start (take n bytes) ∙ length-take-le n bytes within) in
     ap (λ (bs : List ℕ). take n bs) split ∙ ap (λ (m : ℕ). take m (front ++ behind)) count ∙ take-append_seam front behind
 
-module _ (role : Role) (bounds : Bounds) (group : List Frame) (head : Head) (check : PayloadCheck) (wire rest : List ℕ) (h : HoldsPayload role bounds group head check wire rest)
+module _ (role : Role) (limits : Limits) (group : List Frame) (head : Head) (check : PayloadCheck) (wire rest : List ℕ) (h : HoldsPayload role limits group head check wire rest)
     (w : List ℕ) (fits : length wire + length w ≤ head.len) where
   abbrev first : ℕ
   first = first_byte head.first.fin head.first.op
@@ -71,15 +71,15 @@ module _ (role : Role) (bounds : Bounds) (group : List Frame) (head : Head) (che
   front_is n = ap (λ (bs : List ℕ). bs ++ take n w) h.whole ∙ append_assoc h.head_bytes wire (take n w)
 
   -- what a front behind the old bytes shows, its payload shows
-  shows : (n : ℕ) (reason : Reason) → 0 < n → n ≤ length w → Evidence role bounds group reason (rest ++ take n w) → EvidentByPayload group reason first head.len (before ++ take n share)
+  shows : (n : ℕ) (reason : Reason) → 0 < n → n ≤ length w → Evidence role limits group reason (rest ++ take n w) → EvidentByPayload group reason first head.len (before ++ take n share)
   shows n reason some within evidence =
       subst (λ (bs : List ℕ). EvidentByPayload group reason first head.len bs) (joined n within)
-      (evident_by_payload role bounds group head h.head_bytes h.is_head (wire ++ take n w) reason (omega (arith, length-append wire (take n w), length-take-le n w within, some))
-      (subst (λ (bs : List ℕ). Evidence role bounds group reason bs) (front_is n) evidence))
+      (evident_by_payload role limits group head h.head_bytes h.is_head (wire ++ take n w) reason (omega (arith, length-append wire (take n w), length-take-le n w within, some))
+      (subst (λ (bs : List ℕ). Evidence role limits group reason bs) (front_is n) evidence))
 
   -- a front of the first n bytes that leaves enough behind shows nothing, where the first m are quiet
   front_shows : (n m : ℕ) → n ≤ length w → IsQuiet group first head.len before share m → (seen later : List ℕ) (reason : Reason) → rest ++ take n w ≡ seen ++ later → n ≤ m + length later
-      → Evidence role bounds group reason seen → ⊥
+      → Evidence role limits group reason seen → ⊥
   front_shows n m within quiet seen later reason whole enough evidence =
       elim (two_fronts rest seen (take n w) later whole) [
         | inl p ↦ of p.0 p.1 p.2
@@ -94,13 +94,13 @@ module _ (role : Role) (bounds : Bounds) (group : List Frame) (head : Head) (che
           let taken : take (length more) w ≡ more = ap (λ (bs : List ℕ). take (length more) bs) whole_w ∙ take-append_seam more (later ++ drop n w) in
           let counts : n ≡ length more + length later = sym (length-take-le n w within) ∙ ap (λ (bs : List ℕ). length bs) front ∙ length-append more later in
           let small : length more ≤ m = omega (arith, counts, enough) in
-          let there : Evidence role bounds group reason (rest ++ take (length more) w) =
-          subst (λ (bs : List ℕ). Evidence role bounds group reason bs) (is ∙ ap (λ (bs : List ℕ). rest ++ bs) (sym taken)) evidence in
+          let there : Evidence role limits group reason (rest ++ take (length more) w) =
+          subst (λ (bs : List ℕ). Evidence role limits group reason bs) (is ∙ ap (λ (bs : List ℕ). rest ++ bs) (sym taken)) evidence in
           quiet (length more) reason (omega arith) small (shows (length more) reason (omega arith) (omega (arith, counts, within)) there)
 
   -- ---- what the check found
 
-  pub holds_on : (next : PayloadCheck) → IsBytes w → IsChecked group first head.len before share (Ok next) → HoldsPayload role bounds group head next (wire ++ w) (rest ++ w)
+  pub holds_on : (next : PayloadCheck) → IsBytes w → IsChecked group first head.len before share (Ok next) → HoldsPayload role limits group head next (wire ++ w) (rest ++ w)
   holds_on next in_bytes checked =
       let all : rest ++ take (length w) w ≡ rest ++ w = ap (λ (bs : List ℕ). rest ++ bs) (take-length w) in
       let quiet : IsQuiet group first head.len before share (length w) =
@@ -116,15 +116,15 @@ module _ (role : Role) (bounds : Bounds) (group : List Frame) (head : Head) (che
         };
       }
 
-  pub shown_last : (bad : BadByte) → IsChecked group first head.len before share (Err bad) → IsShownLast role bounds group bad.reason (rest ++ take (bad.at + 1) w)
+  pub shown_last : (bad : BadByte) → IsChecked group first head.len before share (Err bad) → IsShownLast role limits group bad.reason (rest ++ take (bad.at + 1) w)
   shown_last bad checked =
       let n = bad.at + 1 in
       let within : n ≤ length w = omega (arith, checked.0, length-unmasked_by head.key (length wire) w) in
       record {
         before = λ seen later r some whole evidence. front_shows n bad.at within checked.1 seen later r whole (behind later some) evidence;
         shown =
-            subst (λ (bs : List ℕ). Evidence role bounds group bad.reason bs) (sym (front_is n))
-            (payload_evident role bounds group head h.head_bytes h.is_head (wire ++ take n w) bad.reason
+            subst (λ (bs : List ℕ). Evidence role limits group bad.reason bs) (sym (front_is n))
+            (payload_evident role limits group head h.head_bytes h.is_head (wire ++ take n w) bad.reason
             (omega (arith, fits, within, length-append wire (take n w), length-take-le n w within))
             (subst (λ (bs : List ℕ). EvidentByPayload group bad.reason first head.len bs) (sym (joined n within)) checked.2));
         least = λ r evidence. checked.3 r (shows n r (omega arith) within evidence);

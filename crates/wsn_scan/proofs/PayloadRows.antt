@@ -9,21 +9,21 @@ use Rattle.wsn_wire.specs.declared.refusal.Reason.TheVariants.{CloseCode, CloseR
 use Rattle.wsn_wire.specs.Refusal.{number_of}
 use Rattle.wsn_wire.specs.Frame.{Frame}
 use Rattle.wsn_wire.specs.Layout.{fin_bit, opcode_field}
-use Rattle.wsn_text.specs.Taken.{HasTaken}
+use Rattle.wsn_text.specs.Validated.{HasValidated}
 use Rattle.wsn_text.specs.Utf8.{Range, IsText, BeginsText, IsFirstBad}
 use Rattle.wsn_text.specs.CloseBody.{IsAcceptedCode}
 use Rattle.wsn_text.proofs.Numbers.{less_or_not}
 use Rattle.wsn_text.proofs.Rests.{text-nil}
 use Rattle.wsn_text.proofs.Fronts.{bad_ends, first_bad_front}
-use Rattle.wsn_scan.specs.Evidence.{IsOfText, EndsBad, EndsInside, EvidentByPayload}
-use Rattle.wsn_scan.specs.Group.{text_of}
+use Rattle.wsn_rules.specs.Evidence.{IsOfText, EndsBad, EndsInside, EvidentByPayload}
+use Rattle.wsn_rules.specs.Group.{text_of}
 use Rattle.wsn_scan.specs.declared.payload_check.BadByte.{BadByte}
 use Rattle.wsn_scan.specs.declared.payload_check.PayloadCheck.{PayloadCheck}
 use Rattle.wsn_scan.specs.declared.payload_check.PayloadCheck.TheVariants.{Text, Close}
 use Rattle.wsn_scan.specs.declared.payload_check.CloseBody.{CloseBody}
 use Rattle.wsn_scan.specs.declared.payload_check.CloseBody.TheVariants.{Empty, HalfCode, Code}
 use Rattle.wsn_scan.specs.PayloadChecks.{HasChecked, IsQuiet, IsChecked, IsBody, IsBodyChecked, IsTextTaken}
-use Rattle.wsn_scan.proofs.MessageText.{begins_not_bad}
+use Rattle.wsn_rules.proofs.MessageText.{begins_not_bad}
 
 -- ---- fronts of a text
 
@@ -276,19 +276,19 @@ text_at_end : (first total count : ℕ) (ends fin last : Bool) → EndsWith ends
 text_at_end first total count ends fin last both final at_end =
     ((λ end. let parts : (fin ≡ true) × (last ≡ true) = both.0 end in (final ∙ parts.0, at_end.0 parts.1)), λ parts. both.1 (sym final ∙ parts.0, at_end.1 parts.1))
 
-pub text_checked : (utf8 new : Option (List Range)) (piece : List ℕ) (ends fin last : Bool) → EndsWith ends fin last → ((taken : List ℕ) → HasTaken utf8 taken → BeginsText taken → IsTextTaken taken piece ends TextBad TextCut (Ok new)) → (group : List Frame) (first total : ℕ) (before : List ℕ) → HasChecked group first (Text utf8) before → fin_bit first ≡ fin → last ≡ true ↔ (length before + length piece ≡ total) → length before + length piece ≤ total → IsChecked group first total before piece (Ok (Text new))
+pub text_checked : (utf8 new : Option (List Range)) (piece : List ℕ) (ends fin last : Bool) → EndsWith ends fin last → ((taken : List ℕ) → HasValidated utf8 taken → BeginsText taken → IsTextTaken taken piece ends TextBad TextCut (Ok new)) → (group : List Frame) (first total : ℕ) (before : List ℕ) → HasChecked group first (Text utf8) before → fin_bit first ≡ fin → last ≡ true ↔ (length before + length piece ≡ total) → length before + length piece ≤ total → IsChecked group first total before piece (Ok (Text new))
 text_checked utf8 new piece ends fin last both takes group first total before checked final at_end within =
     let found : IsTextTaken (text_of group ++ before) piece ends TextBad TextCut (Ok new) = takes (text_of group ++ before) checked.1 checked.2 in
     let joined : (text_of group ++ before) ++ piece ≡ text_of group ++ (before ++ piece) = append_assoc (text_of group) before piece in
     let quiet : IsQuiet group first total before piece (length piece) =
     good_text_shows_nothing (λ (reason : Reason) (k : ℕ). EvidentByPayload group reason first total (before ++ take k piece)) (text_of group ++ before) piece ends TextBad TextCut (text_rows group first total before piece ends checked.0 within (text_at_end first total (length before + length piece) ends fin last both final at_end)) found.1 found.2 in
-    ((checked.0, subst (HasTaken new) joined found.0, subst BeginsText joined found.1), quiet)
+    ((checked.0, subst (HasValidated new) joined found.0, subst BeginsText joined found.1), quiet)
 
-pub text_refused : (utf8 : Option (List Range)) (fault : BadByte) (piece : List ℕ) (ends fin last : Bool) → EndsWith ends fin last → ((taken : List ℕ) → HasTaken utf8 taken → BeginsText taken → IsTextTaken taken piece ends TextBad TextCut (Err fault)) → (group : List Frame) (first total : ℕ) (before : List ℕ) → HasChecked group first (Text utf8) before → fin_bit first ≡ fin → last ≡ true ↔ (length before + length piece ≡ total) → length before + length piece ≤ total → IsChecked group first total before piece (Err fault)
+pub text_refused : (utf8 : Option (List Range)) (fault : BadByte) (piece : List ℕ) (ends fin last : Bool) → EndsWith ends fin last → ((taken : List ℕ) → HasValidated utf8 taken → BeginsText taken → IsTextTaken taken piece ends TextBad TextCut (Err fault)) → (group : List Frame) (first total : ℕ) (before : List ℕ) → HasChecked group first (Text utf8) before → fin_bit first ≡ fin → last ≡ true ↔ (length before + length piece ≡ total) → length before + length piece ≤ total → IsChecked group first total before piece (Err fault)
 text_refused utf8 fault piece ends fin last both takes group first total before checked final at_end within =
     text_fault_shows_first (λ (reason : Reason) (k : ℕ). EvidentByPayload group reason first total (before ++ take k piece)) (text_of group ++ before) piece ends TextBad TextCut fault (text_rows group first total before piece ends checked.0 within (text_at_end first total (length before + length piece) ends fin last both final at_end)) (takes (text_of group ++ before) checked.1 checked.2)
 
-pub reason_checked : (utf8 new : Option (List Range)) (code : ℕ) (piece : List ℕ) (last : Bool) → ((taken : List ℕ) → HasTaken utf8 taken → BeginsText taken → IsTextTaken taken piece last CloseReason CloseReason (Ok new)) → (before : List ℕ) → IsBody (Code code utf8) before → IsBodyChecked before piece last (Ok (Close (Code code new)))
+pub reason_checked : (utf8 new : Option (List Range)) (code : ℕ) (piece : List ℕ) (last : Bool) → ((taken : List ℕ) → HasValidated utf8 taken → BeginsText taken → IsTextTaken taken piece last CloseReason CloseReason (Ok new)) → (before : List ℕ) → IsBody (Code code utf8) before → IsBodyChecked before piece last (Ok (Close (Code code new)))
 reason_checked utf8 new code piece last takes before body group first total close at_end within =
     let text = body.0 in
     let found : IsTextTaken body.0 piece last CloseReason CloseReason (Ok new) = takes body.0 body.4 body.5 in
@@ -297,7 +297,7 @@ reason_checked utf8 new code piece last takes before body group first total clos
     good_text_shows_nothing (λ (reason : Reason) (k : ℕ). EvidentByPayload group reason first total (before ++ take k piece)) body.0 piece last CloseReason CloseReason (reason_rows group first total code before body.0 piece last close body.1 within at_end) found.1 found.2 in
     ((close, (body.0 ++ piece, joined, body.2, body.3, found.0, found.1)), quiet)
 
-pub reason_refused : (utf8 : Option (List Range)) (fault : BadByte) (code : ℕ) (piece : List ℕ) (last : Bool) → ((taken : List ℕ) → HasTaken utf8 taken → BeginsText taken → IsTextTaken taken piece last CloseReason CloseReason (Err fault)) → (before : List ℕ) → IsBody (Code code utf8) before → IsBodyChecked before piece last (Err fault)
+pub reason_refused : (utf8 : Option (List Range)) (fault : BadByte) (code : ℕ) (piece : List ℕ) (last : Bool) → ((taken : List ℕ) → HasValidated utf8 taken → BeginsText taken → IsTextTaken taken piece last CloseReason CloseReason (Err fault)) → (before : List ℕ) → IsBody (Code code utf8) before → IsBodyChecked before piece last (Err fault)
 reason_refused utf8 fault code piece last takes before body group first total close at_end within =
     text_fault_shows_first (λ (reason : Reason) (k : ℕ). EvidentByPayload group reason first total (before ++ take k piece)) body.0 piece last CloseReason CloseReason fault (reason_rows group first total code before body.0 piece last close body.1 within at_end) (takes body.0 body.4 body.5)
 

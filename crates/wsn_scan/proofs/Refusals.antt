@@ -1,52 +1,55 @@
 -- A refusal at the byte that shows it, for whatever follows.
-use Rattle.std.proofs.Common.{◌≡◌, ◌≢◌, ℕ, ◌+◌, ◌-◌, ◌<◌, ◌≤◌, List, [], ◌++◌, length, take, drop, sym, ap, ◌∙◌, arith, append_assoc, length-append, length-drop, take-append-drop}
+use Rattle.std.proofs.Common.{◌≡◌, ◌≢◌, ℕ, ◌+◌, ◌-◌, ◌<◌, ◌≤◌, List, [], ◌++◌, length, take, drop, sym, ap, ◌∙◌, arith, append_assoc, length-append, length-drop, take-append-drop, ◌∷◌}
 use Rattle.wsn_wire.specs.declared.endpoint.Role.{Role}
 use Rattle.wsn_wire.specs.declared.refusal.Reason.{Reason}
 use Rattle.wsn_wire.specs.Frame.{Frame, IsBytes, stream}
 use Rattle.wsn_wire.proofs.FrameLemmas.{IsBytes-append}
-use Rattle.wsn_scan.specs.declared.notices.Notice.TheVariants as notices
-use Rattle.wsn_scan.specs.declared.progress.Stage.TheVariants as stages
-use Rattle.wsn_scan.specs.declared.scanning.Scan.{Scan}
-use Rattle.wsn_scan.specs.Bounds.{Bounds}
-use Rattle.wsn_scan.specs.Group.{unfinished}
-use Rattle.wsn_scan.specs.Lawful.{IsLawful}
-use Rattle.wsn_scan.specs.Accepted.{HasNoClose}
-use Rattle.wsn_scan.specs.Evidence.{Evidence}
-use Rattle.wsn_scan.specs.Verdict.{IsRefused}
-use Rattle.wsn_scan.specs.Unshown.{IsShownLast}
-use Rattle.wsn_scan.specs.declared.notices.HeadInfo.{HeadInfo}
-use Rattle.wsn_scan.specs.Heads.{heads_of, IsBegun}
-use Rattle.wsn_scan.specs.Scans.{Knows, Reaches, Told, IsRefusedThere, ends_of, refusal_of}
-use Rattle.wsn_scan.proofs.HeadsTold.{begun_stays}
-use Rattle.wsn_scan.proofs.NextBytes.{refused_at}
+use Rattle.wsn_scan.specs.declared.notice.Notice.TheVariants as notices
+use Rattle.wsn_scan.specs.declared.stage.Stage.TheVariants as stages
+use Rattle.wsn_scan.specs.declared.scan.Scan.{Scan}
+use Rattle.wsn_rules.specs.Limits.{Limits}
+use Rattle.wsn_rules.specs.Group.{unfinished}
+use Rattle.wsn_rules.specs.Lawful.{IsLawful}
+use Rattle.wsn_rules.specs.Accepted.{HasNoClose}
+use Rattle.wsn_rules.specs.Evidence.{Evidence}
+use Rattle.wsn_rules.specs.Verdict.{IsRefused}
+use Rattle.wsn_scan.specs.ShownLast.{IsShownLast}
+use Rattle.wsn_rules.specs.declared.head_info.HeadInfo.{HeadInfo}
+use Rattle.wsn_rules.specs.Heads.{heads_of, IsBegun}
+use Rattle.wsn_scan.specs.Scans.{Knows, Reaches, IsRefusedThere, refusal_of}
+use Rattle.wsn_scan.specs.Reports.{Reported, ends_of}
+use Rattle.wsn_scan.proofs.HeadsReported.{begun_stays}
+use Rattle.wsn_rules.proofs.NextBytes.{refused_at}
+use Rattle.wsn_scan.specs.Payloads.{IsPayloadPrefix}
 
 -- the bytes up to the place are refused, and so they stay
-pub refused_here : (role : Role) (bounds : Bounds) (bytes seen later : List ℕ) (fs : List Frame) (place : ℕ) (reason : Reason) → IsLawful role bounds fs → HasNoClose fs
-    → bytes ≡ stream fs ++ seen → place + 1 ≡ length bytes → IsShownLast role bounds (unfinished fs) reason seen → IsRefused role bounds (bytes ++ later) fs place reason
-refused_here role bounds bytes seen later fs place reason lawful none whole at shown =
-    refused_at role bounds fs (bytes ++ later) seen later place reason (ap (λ (bs : List ℕ). bs ++ later) whole ∙ append_assoc (stream fs) seen later)
+pub refused_here : (role : Role) (limits : Limits) (bytes seen later : List ℕ) (fs : List Frame) (place : ℕ) (reason : Reason) → IsLawful role limits fs → HasNoClose fs
+    → bytes ≡ stream fs ++ seen → place + 1 ≡ length bytes → IsShownLast role limits (unfinished fs) reason seen → IsRefused role limits (bytes ++ later) fs place reason
+refused_here role limits bytes seen later fs place reason lawful none whole at shown =
+    refused_at role limits fs (bytes ++ later) seen later place reason (ap (λ (bs : List ℕ). bs ++ later) whole ∙ append_assoc (stream fs) seen later)
     (at ∙ ap length whole ∙ length-append (stream fs) seen) lawful none earlier (record { shown = shown.shown; least = shown.least })
   where
     some : (m : ℕ) → m < length seen → drop m seen ≢ []
     some m less none_left = let left : length (drop m seen) ≡ 0 = ap length none_left in absurd (omega (arith, length-drop m seen))
 
-    earlier : (m : ℕ) (r : Reason) → m < length seen → Evidence role bounds (unfinished fs) r (take m seen) → ⊥
+    earlier : (m : ℕ) (r : Reason) → m < length seen → Evidence role limits (unfinished fs) r (take m seen) → ⊥
     earlier m r less evidence = shown.before (take m seen) (drop m seen) r (some m less) (sym (take-append-drop m seen)) evidence
 
 -- The scan that refuses.
-pub refuses : (role : Role) (bounds : Bounds) (old : Scan) (bytes rest last : List ℕ) (fs : List Frame) (told : Told) (begun : List HeadInfo) (count : ℕ) (reason : Reason) → Knows role bounds old bytes fs rest → HasNoClose fs
-    → length last ≡ count → count ≤ old.room → IsBytes last → 0 < count → IsShownLast role bounds (unfinished fs) reason (rest ++ last)
-    → IsBegun role bounds fs (rest ++ last) begun → told.heads ≡ heads_of fs ++ begun → told.ends ≡ ends_of fs
-    → Reaches role bounds (record old { room = old.room - count; stage = stages.Refused (refusal_of old count reason) }) (notices.Refused (refusal_of old count reason)) (bytes ++ last) told
-refuses role bounds old bytes rest last fs told begun count reason knows none size fits in_bytes some shown is_begun heads ends =
+pub refuses : (role : Role) (limits : Limits) (old : Scan) (bytes rest last : List ℕ) (fs : List Frame) (reported : Reported) (begun : List HeadInfo) (count : ℕ) (reason : Reason) → Knows role limits old bytes fs rest → HasNoClose fs
+    → length last ≡ count → count ≤ old.room → IsBytes last → 0 < count → IsShownLast role limits (unfinished fs) reason (rest ++ last)
+    → IsBegun role limits fs (rest ++ last) begun → reported.heads ≡ heads_of fs ++ begun → reported.ends ≡ ends_of fs
+    → ((info : HeadInfo) → reported.heads ≡ heads_of fs ++ info ∷ [] → IsPayloadPrefix fs (bytes ++ last) info reported.payload)
+    → Reaches role limits (record old { room = old.room - count; stage = stages.Refused (refusal_of old count reason) }) (notices.Refused (refusal_of old count reason)) (bytes ++ last) reported
+refuses role limits old bytes rest last fs reported begun count reason knows none size fits in_bytes some shown is_begun heads ends payload =
     let whole : bytes ++ last ≡ stream fs ++ (rest ++ last) = ap (λ (bs : List ℕ). bs ++ last) knows.whole ∙ append_assoc (stream fs) rest last in
-    let same_input : old.limits.input ≡ bounds.input = ap (λ (b : Bounds). b.input) knows.limits in
+    let same_input : old.context.limits.input ≡ limits.input = ap (λ (b : Limits). b.input) knows.under in
     let room = knows.room in
     let joined = length-append bytes last in
-    let place : old.limits.input - (old.room - count) - 1 + 1 ≡ length (bytes ++ last) = omega arith in
-    let refused : (later : List ℕ) → IsRefused role bounds ((bytes ++ last) ++ later) fs (old.limits.input - (old.room - count) - 1) reason =
-    λ later. refused_here role bounds (bytes ++ last) (rest ++ last) later fs (old.limits.input - (old.room - count) - 1) reason knows.lawful none whole place shown in
-    let there : IsRefusedThere role bounds (refusal_of old count reason) (bytes ++ last) fs told = record {
+    let place : old.context.limits.input - (old.room - count) - 1 + 1 ≡ length (bytes ++ last) = omega arith in
+    let refused : (later : List ℕ) → IsRefused role limits ((bytes ++ last) ++ later) fs (old.context.limits.input - (old.room - count) - 1) reason =
+    λ later. refused_here role limits (bytes ++ last) (rest ++ last) later fs (old.context.limits.input - (old.room - count) - 1) reason knows.lawful none whole place shown in
+    let there : IsRefusedThere role limits (refusal_of old count reason) (bytes ++ last) fs reported = record {
       refused = refused;
       place = place;
       heads = λ later. record {
@@ -54,9 +57,10 @@ refuses role bounds old bytes rest last fs told begun count reason knows none si
         begun = begun;
         lawful = knows.lawful;
         whole = ap (λ (bs : List ℕ). bs ++ later) whole ∙ append_assoc (stream fs) (rest ++ last) later;
-        is_begun = begun_stays role bounds fs (rest ++ last) later reason begun shown.shown is_begun;
+        is_begun = begun_stays role limits fs (rest ++ last) later reason begun shown.shown is_begun;
         all = heads;
       };
+      payload = payload;
       ends = ends;
     } in
     record {
@@ -65,14 +69,14 @@ refuses role bounds old bytes rest last fs told begun count reason knows none si
       stands = record {
         knows = record {
           sender = knows.sender;
-          limits = knows.limits;
+          under = knows.under;
           in_range = knows.in_range;
           lawful = knows.lawful;
           whole = whole;
           in_bytes = IsBytes-append bytes last knows.in_bytes in_bytes;
           room = omega arith;
           used = knows.used;
-          tally = knows.tally;
+          counts = knows.counts;
           message = knows.message;
         };
         at = there;

@@ -7,23 +7,24 @@ use Rattle.wsn_wire.specs.declared.refusal.Reason.{Reason}
 use Rattle.wsn_wire.specs.Frame.{Frame, first_byte, key_bytes, stream}
 use Rattle.wsn_wire.proofs.FrameLemmas.{fronts_agree}
 use Rattle.wsn_scan.specs.declared.open_message.OpenMessage.{OpenMessage}
-use Rattle.wsn_scan.specs.declared.outcome.Verdict.TheVariants.{Accepted, Cut}
-use Rattle.wsn_scan.specs.declared.scanning.Scan.{Scan}
+use Rattle.wsn_rules.specs.declared.verdict.Verdict.TheVariants.{Accepted, Cut}
+use Rattle.wsn_scan.specs.declared.scan.Scan.{Scan}
 use Rattle.wsn_scan.specs.declared.partial_head.PartialHead.{PartialHead}
 use Rattle.wsn_scan.specs.declared.partial_head.PartialHead.TheVariants.{Empty, First, Two, Eight, Key}
-use Rattle.wsn_scan.specs.declared.progress.Inside.{Inside}
-use Rattle.wsn_scan.specs.declared.progress.Stage.{Stage}
+use Rattle.wsn_scan.specs.declared.stage.Inside.{Inside}
+use Rattle.wsn_scan.specs.declared.stage.Stage.{Stage}
 use Rattle.wsn_scan.specs.PartialHeads.{StandsFor}
-use Rattle.wsn_scan.specs.Bounds.{Bounds}
-use Rattle.wsn_scan.specs.Group.{unfinished}
-use Rattle.wsn_scan.specs.Accepted.{HasNoClose, EndsWithClose}
-use Rattle.wsn_scan.specs.Summary.{size_of_open, is_close, close_code, close_of, counted}
-use Rattle.wsn_scan.specs.Verdict.{Shown, EndsWithinFrame, IsVerdict}
-use Rattle.wsn_scan.specs.Unshown.{IsUnshown}
+use Rattle.wsn_rules.specs.Limits.{Limits}
+use Rattle.wsn_rules.specs.Group.{unfinished}
+use Rattle.wsn_rules.specs.Accepted.{HasNoClose, EndsWithClose}
+use Rattle.wsn_rules.specs.Summary.{size_of_open, is_close, close_code, close_of, counted}
+use Rattle.wsn_rules.specs.Verdict.{Shown, EndsWithinFrame, IsVerdict}
+use Rattle.wsn_rules.specs.Unshown.{IsUnshown}
 use Rattle.wsn_scan.specs.OpenMessages.{IsOpenMessage}
-use Rattle.wsn_scan.specs.Scans.{IsInPayload, StandsAt, taken_of, size_of_message, summary_of, verdict_between, Told}
-use Rattle.wsn_scan.proofs.LeastShown.{evidence_is_some}
-use Rattle.wsn_scan.proofs.LayoutFronts.{layout_or_within}
+use Rattle.wsn_scan.specs.Scans.{IsInPayload, StandsAt, taken_of, size_of_message, summary_of, verdict_between}
+use Rattle.wsn_scan.specs.Reports.{Reported}
+use Rattle.wsn_rules.proofs.LeastShown.{evidence_is_some}
+use Rattle.wsn_rules.proofs.LayoutFronts.{layout_or_within}
 
 size_kept : (m : Option OpenMessage) (group : List Frame) → IsOpenMessage m group → size_of_message m ≡ size_of_open group
 size_kept None group is = ap size_of_open (sym is)
@@ -46,17 +47,17 @@ close_of_none (f ∷ fs) none =
     ∙ close_of_none fs (λ before after g is. none (f ∷ before) after g (ap (λ (gs : List Frame). f ∷ gs) is))
 
 -- what is unshown of the rest is unshown of the whole
-pub nothing_shown : (role : Role) (bounds : Bounds) (bytes rest : List ℕ) (fs : List Frame) → bytes ≡ stream fs ++ rest → IsUnshown role bounds (unfinished fs) rest
-    → (p : ℕ) (r : Reason) → Shown role bounds bytes fs p r → ⊥
-nothing_shown role bounds bytes rest fs whole unshown p r shown =
+pub nothing_shown : (role : Role) (limits : Limits) (bytes rest : List ℕ) (fs : List Frame) → bytes ≡ stream fs ++ rest → IsUnshown role limits (unfinished fs) rest
+    → (p : ℕ) (r : Reason) → Shown role limits bytes fs p r → ⊥
+nothing_shown role limits bytes rest fs whole unshown p r shown =
     let same = fronts_agree (stream fs) (stream fs) rest (shown.seen ++ shown.later) refl (sym whole ∙ shown.whole) in
     unshown.none shown.seen shown.later r same.1 shown.evidence
 
-pub nothing_unshown : (role : Role) (bounds : Bounds) (group : List Frame) → IsUnshown role bounds group []
-nothing_unshown role bounds group = record {
+pub nothing_unshown : (role : Role) (limits : Limits) (group : List Frame) → IsUnshown role limits group []
+nothing_unshown role limits group = record {
   none = λ seen later r is shown.
       let empty : 0 ≡ length seen + length later = ap (λ (bs : List ℕ). length bs) is ∙ length-append seen later in
-      absurd (omega (arith, evidence_is_some role bounds group r seen shown));
+      absurd (omega (arith, evidence_is_some role limits group r seen shown));
 }
 
 -- no bytes end within a frame: all of it is missing
@@ -69,39 +70,39 @@ nothing_within =
       | inr within ↦ within
     ]
 
-module _ (role : Role) (bounds : Bounds) (scan : Scan) (bytes rest : List ℕ) (fs : List Frame) (told : Told) (stage : Stage) (stands : StandsAt role bounds scan stage bytes fs rest told) where
+module _ (role : Role) (limits : Limits) (scan : Scan) (bytes rest : List ℕ) (fs : List Frame) (reported : Reported) (stage : Stage) (stands : StandsAt role limits scan stage bytes fs rest reported) where
   taken_is : taken_of scan ≡ length bytes
-  taken_is = let input : scan.limits.input ≡ bounds.input = ap (λ (b : Bounds). b.input) stands.knows.limits in let room = stands.knows.room in omega arith
+  taken_is = let input : scan.context.limits.input ≡ limits.input = ap (λ (b : Limits). b.input) stands.knows.under in let room = stands.knows.room in omega arith
 
   counted_is : (used tail : ℕ) (close : Option (Option ℕ)) → close ≡ close_of fs → summary_of scan used tail close ≡ counted fs used tail
   counted_is used tail close is =
       λ i. record {
         used = used;
         tail = tail;
-        unfinished = size_kept scan.message (unfinished fs) stands.knows.message i;
-        frames = stands.knows.tally.frames i;
-        messages = stands.knows.tally.messages i;
-        pings = stands.knows.tally.pings i;
-        pongs = stands.knows.tally.pongs i;
+        unfinished = size_kept scan.context.message (unfinished fs) stands.knows.message i;
+        frames = stands.knows.counts.frames i;
+        messages = stands.knows.counts.messages i;
+        pings = stands.knows.counts.pings i;
+        pongs = stands.knows.counts.pongs i;
         close = is i;
       }
 
-  pub closed_verdict : (code : Option ℕ) → EndsWithClose fs → close_of fs ≡ Some code → IsVerdict role bounds bytes fs (Accepted (summary_of scan scan.used (taken_of scan - scan.used) (Some code)))
+  pub closed_verdict : (code : Option ℕ) → EndsWithClose fs → close_of fs ≡ Some code → IsVerdict role limits bytes fs (Accepted (summary_of scan scan.used (taken_of scan - scan.used) (Some code)))
   closed_verdict code ends is = (
     record { lawful = stands.knows.lawful; ends = inr (ends, (rest, stands.knows.whole)) },
     counted_is scan.used (taken_of scan - scan.used) (Some code) (sym is) ∙ ap (λ (n : ℕ). counted fs n (taken_of scan - n)) stands.knows.used ∙ ap (λ (n : ℕ). counted fs (length (stream fs)) (n - length (stream fs))) taken_is,
   )
 
-  pub cut_verdict : HasNoClose fs → IsUnshown role bounds (unfinished fs) rest → EndsWithinFrame rest → (rest ≢ []) ⊎ (unfinished fs ≢ []) → IsVerdict role bounds bytes fs (Cut (summary_of scan (taken_of scan) 0 None))
+  pub cut_verdict : HasNoClose fs → IsUnshown role limits (unfinished fs) rest → EndsWithinFrame rest → (rest ≢ []) ⊎ (unfinished fs ≢ []) → IsVerdict role limits bytes fs (Cut (summary_of scan (taken_of scan) 0 None))
   cut_verdict none unshown within more = (
-    record { lawful = stands.knows.lawful; no_close = none; rest = rest; whole = stands.knows.whole; within = within; unshown = nothing_shown role bounds bytes rest fs stands.knows.whole unshown; more = more },
+    record { lawful = stands.knows.lawful; no_close = none; rest = rest; whole = stands.knows.whole; within = within; unshown = nothing_shown role limits bytes rest fs stands.knows.whole unshown; more = more },
     counted_is (taken_of scan) 0 None (sym (close_of_none fs none)) ∙ ap (λ (n : ℕ). counted fs n 0) taken_is,
   )
 
-  pub between_verdict : HasNoClose fs → rest ≡ [] → IsVerdict role bounds bytes fs (verdict_between scan scan.message)
-  between_verdict none is = by_message scan.message stands.knows.message
+  pub between_verdict : HasNoClose fs → rest ≡ [] → IsVerdict role limits bytes fs (verdict_between scan scan.context.message)
+  between_verdict none is = by_message scan.context.message stands.knows.message
     where
-      by_message : (m : Option OpenMessage) → IsOpenMessage m (unfinished fs) → IsVerdict role bounds bytes fs (verdict_between scan m)
+      by_message : (m : Option OpenMessage) → IsOpenMessage m (unfinished fs) → IsVerdict role limits bytes fs (verdict_between scan m)
       by_message None closed =
           let whole : bytes ≡ stream fs = stands.knows.whole ∙ ap (λ (bs : List ℕ). stream fs ++ bs) is ∙ append-nil (stream fs) in
           let all : length bytes ≡ length (stream fs) = ap length whole in
@@ -110,7 +111,7 @@ module _ (role : Role) (bounds : Bounds) (scan : Scan) (bytes rest : List ℕ) (
             counted_is (taken_of scan) 0 None (sym (close_of_none fs none)) ∙ ap (λ (n : ℕ). counted fs n 0) (taken_is ∙ all) ∙ ap (λ (n : ℕ). counted fs (length (stream fs)) n) no_tail,
           )
       by_message (Some m) keeps =
-          cut_verdict none (subst (IsUnshown role bounds (unfinished fs)) (sym is) (nothing_unshown role bounds (unfinished fs)))
+          cut_verdict none (subst (IsUnshown role limits (unfinished fs)) (sym is) (nothing_unshown role limits (unfinished fs)))
           (subst EndsWithinFrame (sym is) nothing_within) (inr keeps.some)
 
 -- part of a head that isn't empty is some bytes
@@ -122,8 +123,8 @@ some_head role (Eight f came) bytes is other none = let both : first_byte f.fin 
 some_head role (Key f spelled len came) bytes is other none = let both : first_byte f.fin f.op ∷ is.0 ∷ (is.1 ++ came.items) ≡ [] = sym is.2 ∙ none in cc
 
 -- a whole head is some bytes
-pub some_payload : (role : Role) (bounds : Bounds) (group : List Frame) (inside : Inside) (rest payload : List ℕ) → IsInPayload role bounds group inside rest payload → rest ≢ []
-some_payload role bounds group inside rest payload p none =
+pub some_payload : (role : Role) (limits : Limits) (group : List Frame) (inside : Inside) (rest payload : List ℕ) → IsInPayload role limits group inside rest payload → rest ≢ []
+some_payload role limits group inside rest payload p none =
     let tail = p.holds.is_head.lengths ++ key_bytes inside.head.key in
     let both : first_byte inside.head.first.fin inside.head.first.op ∷ p.holds.is_head.second ∷ (tail ++ p.wire) ≡ [] = sym (p.holds.whole ∙ ap (λ (bs : List ℕ). bs ++ p.wire) p.holds.is_head.whole) ∙ none in
     cc

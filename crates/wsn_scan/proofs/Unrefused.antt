@@ -7,33 +7,34 @@ use Rattle.wsn_wire.specs.declared.refusal.Reason.{Reason}
 use Rattle.wsn_wire.specs.Frame.{Frame, IsBytes, stream}
 use Rattle.wsn_wire.proofs.FrameLemmas.{IsBytes-right}
 use Rattle.wsn_scan.specs.declared.open_message.OpenMessage.{OpenMessage}
-use Rattle.wsn_scan.specs.declared.outcome.Refusal.{Refusal}
-use Rattle.wsn_scan.specs.declared.outcome.Verdict.{Verdict}
-use Rattle.wsn_scan.specs.declared.outcome.Verdict.TheVariants.{Accepted, Cut, Refused}
+use Rattle.wsn_rules.specs.declared.verdict.Refusal.{Refusal}
+use Rattle.wsn_rules.specs.declared.verdict.Verdict.{Verdict}
+use Rattle.wsn_rules.specs.declared.verdict.Verdict.TheVariants.{Accepted, Cut, Refused}
 use Rattle.wsn_scan.specs.declared.partial_head.PartialHead.{PartialHead}
 use Rattle.wsn_scan.specs.declared.partial_head.PartialHead.TheVariants.{Empty, First, Two, Eight, Key}
-use Rattle.wsn_scan.specs.declared.progress.Stage.{Stage}
-use Rattle.wsn_scan.specs.declared.progress.Stage.TheVariants as stages
-use Rattle.wsn_scan.specs.declared.scanning.Scan.{Scan}
-use Rattle.wsn_scan.specs.Bounds.{Bounds}
-use Rattle.wsn_scan.specs.Group.{unfinished}
+use Rattle.wsn_scan.specs.declared.stage.Stage.{Stage}
+use Rattle.wsn_scan.specs.declared.stage.Stage.TheVariants as stages
+use Rattle.wsn_scan.specs.declared.scan.Scan.{Scan}
+use Rattle.wsn_rules.specs.Limits.{Limits}
+use Rattle.wsn_rules.specs.Group.{unfinished}
 use Rattle.wsn_scan.specs.PartialHeads.{StandsFor}
-use Rattle.wsn_scan.specs.Verdict.{IsRefused, IsVerdict}
-use Rattle.wsn_scan.specs.Scans.{StandsAt, summary_of, taken_of, verdict_between, refusal_at, refusal_in, refusal_judged, Told, IsRefusedThere}
+use Rattle.wsn_rules.specs.Verdict.{IsRefused, IsVerdict}
+use Rattle.wsn_scan.specs.Scans.{StandsAt, summary_of, taken_of, verdict_between, refusal_at, refusal_in, IsRefusedThere}
+use Rattle.wsn_scan.specs.Reports.{refusal_judged, Reported}
 use Rattle.wsn_scan.specs.Judging.{IsUnrefused}
-use Rattle.wsn_scan.specs.declared.notices.HeadInfo.{HeadInfo}
+use Rattle.wsn_rules.specs.declared.head_info.HeadInfo.{HeadInfo}
 use Rattle.wsn_scan.specs.Feeding.{HasTaken}
-use Rattle.wsn_scan.specs.Listing.{IsToldOf}
+use Rattle.wsn_scan.specs.Listing.{HasVerdictAndHeads}
 use Rattle.wsn_scan.proofs.HeadsSoFar.{heads_told}
-use Rattle.wsn_scan.proofs.OneVerdict.{one_verdict}
-use Rattle.wsn_scan.proofs.StaysRefused.{place_within, refused_alike}
+use Rattle.wsn_rules.proofs.OneVerdict.{one_verdict}
+use Rattle.wsn_rules.proofs.StaysRefused.{place_within, refused_alike}
 use Rattle.wsn_scan.proofs.ScanVerdicts.{closed_verdict, cut_verdict, between_verdict, some_head, some_payload}
 use Rattle.wsn_scan.proofs.WithinFrames.{head_within, payload_within}
 
 -- A verdict that is no refusal.
-record NotRefused (role : Role) (bounds : Bounds) (bytes : List ℕ) (fs : List Frame) : Type 0 where
+record NotRefused (role : Role) (limits : Limits) (bytes : List ℕ) (fs : List Frame) : Type 0 where
   pub verdict : Verdict
-  pub is : IsVerdict role bounds bytes fs verdict
+  pub is : IsVerdict role limits bytes fs verdict
   pub other : refusal_judged verdict ≡ None
 
 between_other : (scan : Scan) (m : Option OpenMessage) → refusal_judged (verdict_between scan m) ≡ None
@@ -47,102 +48,102 @@ empty_or_some (Two f came) = inr (λ is. cc)
 empty_or_some (Eight f came) = inr (λ is. cc)
 empty_or_some (Key f spelled len came) = inr (λ is. cc)
 
-module _ (role : Role) (bounds : Bounds) where
+module _ (role : Role) (limits : Limits) where
   -- at each stage but a refusal
-  not_refused_at : (scan : Scan) (bytes rest : List ℕ) (fs : List Frame) (told : Told) (stage : Stage) → StandsAt role bounds scan stage bytes fs rest told → refusal_at stage ≡ None → NotRefused role bounds bytes fs
-  not_refused_at scan bytes rest fs told (stages.Head part) stands none =
+  not_refused_at : (scan : Scan) (bytes rest : List ℕ) (fs : List Frame) (reported : Reported) (stage : Stage) → StandsAt role limits scan stage bytes fs rest reported → refusal_at stage ≡ None → NotRefused role limits bytes fs
+  not_refused_at scan bytes rest fs reported (stages.Head part) stands none =
       elim (empty_or_some part) [
         | inl empty ↦
             let nothing : rest ≡ [] = subst (λ (p : PartialHead). StandsFor role p rest) empty stands.at.1.stands_for in
-            record { verdict = verdict_between scan scan.message; is = between_verdict role bounds scan bytes rest fs told (stages.Head part) stands stands.at.0 nothing; other = between_other scan scan.message }
+            record { verdict = verdict_between scan scan.context.message; is = between_verdict role limits scan bytes rest fs reported (stages.Head part) stands stands.at.0 nothing; other = between_other scan scan.context.message }
         | inr other ↦ record {
           verdict = Cut (summary_of scan (taken_of scan) 0 None);
-          is = cut_verdict role bounds scan bytes rest fs told (stages.Head part) stands stands.at.0 stands.at.1.unshown (head_within role bounds (unfinished fs) part rest stands.at.1)
+          is = cut_verdict role limits scan bytes rest fs reported (stages.Head part) stands stands.at.0 stands.at.1.unshown (head_within role limits (unfinished fs) part rest stands.at.1)
               (inl (some_head role part rest stands.at.1.stands_for other));
           other = refl;
         }
       ]
-  not_refused_at scan bytes rest fs told (stages.Payload inside) stands none =
+  not_refused_at scan bytes rest fs reported (stages.Payload inside) stands none =
       let in_bytes = IsBytes-right (stream fs) rest (subst IsBytes stands.knows.whole stands.knows.in_bytes) in
       record {
         verdict = Cut (summary_of scan (taken_of scan) 0 None);
-        is = cut_verdict role bounds scan bytes rest fs told (stages.Payload inside) stands stands.at.0 stands.at.1.holds.unshown (payload_within role bounds (unfinished fs) inside rest told.payload in_bytes stands.at.1)
-            (inl (some_payload role bounds (unfinished fs) inside rest told.payload stands.at.1));
+        is = cut_verdict role limits scan bytes rest fs reported (stages.Payload inside) stands stands.at.0 stands.at.1.holds.unshown (payload_within role limits (unfinished fs) inside rest reported.payload in_bytes stands.at.1)
+            (inl (some_payload role limits (unfinished fs) inside rest reported.payload stands.at.1));
         other = refl;
       }
-  not_refused_at scan bytes rest fs told stages.Between stands none =
-      record { verdict = verdict_between scan scan.message; is = between_verdict role bounds scan bytes rest fs told stages.Between stands stands.at.0 stands.at.1; other = between_other scan scan.message }
-  not_refused_at scan bytes rest fs told (stages.Ended event) stands none =
-      record { verdict = verdict_between scan scan.message; is = between_verdict role bounds scan bytes rest fs told (stages.Ended event) stands stands.at.0 stands.at.2; other = between_other scan scan.message }
-  not_refused_at scan bytes rest fs told (stages.CloseEnded code) stands none =
-      record { verdict = Accepted (summary_of scan scan.used (taken_of scan - scan.used) (Some code)); is = closed_verdict role bounds scan bytes rest fs told (stages.CloseEnded code) stands code stands.at.0 stands.at.1; other = refl }
-  not_refused_at scan bytes rest fs told (stages.Closed code) stands none =
-      record { verdict = Accepted (summary_of scan scan.used (taken_of scan - scan.used) (Some code)); is = closed_verdict role bounds scan bytes rest fs told (stages.Closed code) stands code stands.at.0 stands.at.1; other = refl }
-  not_refused_at scan bytes rest fs told (stages.Refused refusal) stands none = absurd cc
+  not_refused_at scan bytes rest fs reported stages.Between stands none =
+      record { verdict = verdict_between scan scan.context.message; is = between_verdict role limits scan bytes rest fs reported stages.Between stands stands.at.0 stands.at.1; other = between_other scan scan.context.message }
+  not_refused_at scan bytes rest fs reported (stages.Ended event) stands none =
+      record { verdict = verdict_between scan scan.context.message; is = between_verdict role limits scan bytes rest fs reported (stages.Ended event) stands stands.at.0 stands.at.2; other = between_other scan scan.context.message }
+  not_refused_at scan bytes rest fs reported (stages.CloseEnded code) stands none =
+      record { verdict = Accepted (summary_of scan scan.used (taken_of scan - scan.used) (Some code)); is = closed_verdict role limits scan bytes rest fs reported (stages.CloseEnded code) stands code stands.at.0 stands.at.1; other = refl }
+  not_refused_at scan bytes rest fs reported (stages.Closed code) stands none =
+      record { verdict = Accepted (summary_of scan scan.used (taken_of scan - scan.used) (Some code)); is = closed_verdict role limits scan bytes rest fs reported (stages.Closed code) stands code stands.at.0 stands.at.1; other = refl }
+  not_refused_at scan bytes rest fs reported (stages.Refused refusal) stands none = absurd cc
 
-  pub not_refused : (scan : Scan) (bytes rest : List ℕ) (fs : List Frame) (told : Told) → StandsAt role bounds scan scan.stage bytes fs rest told → refusal_in scan ≡ None → (verdict : Verdict) × IsVerdict role bounds bytes fs verdict
-  not_refused scan bytes rest fs told stands none = let not = not_refused_at scan bytes rest fs told scan.stage stands none in (not.verdict, not.is)
+  pub not_refused : (scan : Scan) (bytes rest : List ℕ) (fs : List Frame) (reported : Reported) → StandsAt role limits scan scan.stage bytes fs rest reported → refusal_in scan ≡ None → (verdict : Verdict) × IsVerdict role limits bytes fs verdict
+  not_refused scan bytes rest fs reported stands none = let not = not_refused_at scan bytes rest fs reported scan.stage stands none in (not.verdict, not.is)
 
   -- bytes with another verdict show no refusal
-  no_refusal_of : (bytes : List ℕ) (fs : List Frame) → NotRefused role bounds bytes fs → IsUnrefused role bounds bytes
+  no_refusal_of : (bytes : List ℕ) (fs : List Frame) → NotRefused role limits bytes fs → IsUnrefused role limits bytes
   no_refusal_of bytes fs not gs place reason refused =
-      let one = one_verdict role bounds bytes fs gs not.verdict (Refused (record { place = place; reason = reason })) not.is refused in
-      let told : refusal_judged not.verdict ≡ Some (record { place = place; reason = reason }) = ap (λ (v : Verdict). refusal_judged v) one.1 in
-      let both : Some (record { place = place; reason = reason }) ≡ None = sym told ∙ not.other in
+      let one = one_verdict role limits bytes fs gs not.verdict (Refused (record { place = place; reason = reason })) not.is refused in
+      let reported : refusal_judged not.verdict ≡ Some (record { place = place; reason = reason }) = ap (λ (v : Verdict). refusal_judged v) one.1 in
+      let both : Some (record { place = place; reason = reason }) ≡ None = sym reported ∙ not.other in
       cc
 
   -- a scan that has not refused
-  pub unrefused : (scan : Scan) (bytes : List ℕ) (heads : List HeadInfo) → HasTaken role bounds scan bytes heads → refusal_in scan ≡ None → IsUnrefused role bounds bytes
+  pub unrefused : (scan : Scan) (bytes : List ℕ) (heads : List HeadInfo) → HasTaken role limits scan bytes heads → refusal_in scan ≡ None → IsUnrefused role limits bytes
   unrefused scan bytes heads taken none = no_refusal_of bytes taken.frames (not_refused_at scan bytes taken.since taken.frames (record { heads = heads; payload = taken.payload; ends = taken.ends }) scan.stage taken.stands none)
 
-  refused_at_stage : (scan : Scan) (bytes rest : List ℕ) (fs : List Frame) (told : Told) (stage : Stage) (refusal : Refusal) → StandsAt role bounds scan stage bytes fs rest told → refusal_at stage ≡ Some refusal
-      → IsRefusedThere role bounds refusal bytes fs told
-  refused_at_stage scan bytes rest fs told stages.Between refusal stands is = absurd cc
-  refused_at_stage scan bytes rest fs told (stages.Head part) refusal stands is = absurd cc
-  refused_at_stage scan bytes rest fs told (stages.Payload inside) refusal stands is = absurd cc
-  refused_at_stage scan bytes rest fs told (stages.Ended event) refusal stands is = absurd cc
-  refused_at_stage scan bytes rest fs told (stages.CloseEnded code) refusal stands is = absurd cc
-  refused_at_stage scan bytes rest fs told (stages.Closed code) refusal stands is = absurd cc
-  refused_at_stage scan bytes rest fs told (stages.Refused held) refusal stands is =
+  refused_at_stage : (scan : Scan) (bytes rest : List ℕ) (fs : List Frame) (reported : Reported) (stage : Stage) (refusal : Refusal) → StandsAt role limits scan stage bytes fs rest reported → refusal_at stage ≡ Some refusal
+      → IsRefusedThere role limits refusal bytes fs reported
+  refused_at_stage scan bytes rest fs reported stages.Between refusal stands is = absurd cc
+  refused_at_stage scan bytes rest fs reported (stages.Head part) refusal stands is = absurd cc
+  refused_at_stage scan bytes rest fs reported (stages.Payload inside) refusal stands is = absurd cc
+  refused_at_stage scan bytes rest fs reported (stages.Ended event) refusal stands is = absurd cc
+  refused_at_stage scan bytes rest fs reported (stages.CloseEnded code) refusal stands is = absurd cc
+  refused_at_stage scan bytes rest fs reported (stages.Closed code) refusal stands is = absurd cc
+  refused_at_stage scan bytes rest fs reported (stages.Refused held) refusal stands is =
       let same : held ≡ refusal = cc in
-      subst (λ (r : Refusal). IsRefusedThere role bounds r bytes fs told) same stands.at
+      subst (λ (r : Refusal). IsRefusedThere role limits r bytes fs reported) same stands.at
 
   -- a scan that has refused
-  pub refused : (scan : Scan) (bytes : List ℕ) (heads : List HeadInfo) (refusal : Refusal) → (taken : HasTaken role bounds scan bytes heads) → refusal_in scan ≡ Some refusal
-      → IsRefusedThere role bounds refusal bytes taken.frames (record { heads = heads; payload = taken.payload; ends = taken.ends })
+  pub refused : (scan : Scan) (bytes : List ℕ) (heads : List HeadInfo) (refusal : Refusal) → (taken : HasTaken role limits scan bytes heads) → refusal_in scan ≡ Some refusal
+      → IsRefusedThere role limits refusal bytes taken.frames (record { heads = heads; payload = taken.payload; ends = taken.ends })
   refused scan bytes heads refusal taken is = refused_at_stage scan bytes taken.since taken.frames (record { heads = heads; payload = taken.payload; ends = taken.ends }) scan.stage refusal taken.stands is
 
   -- no bytes, no refusal
-  pub unrefused_first : (scan : Scan) (heads : List HeadInfo) → HasTaken role bounds scan [] heads → refusal_in scan ≡ None
+  pub unrefused_first : (scan : Scan) (heads : List HeadInfo) → HasTaken role limits scan [] heads → refusal_in scan ≡ None
   unrefused_first scan heads taken = by_refusal (refusal_in scan) refl
     where
-      by_refusal : (told : Option Refusal) → refusal_in scan ≡ told → refusal_in scan ≡ None
+      by_refusal : (reported : Option Refusal) → refusal_in scan ≡ reported → refusal_in scan ≡ None
       by_refusal None is = is
       by_refusal (Some refusal) is =
           let shown = ((refused scan [] heads refusal taken is).refused []).shown in
-          absurd (omega (arith, place_within role bounds taken.frames [] refusal.place refusal.reason shown))
+          absurd (omega (arith, place_within role limits taken.frames [] refusal.place refusal.reason shown))
 
-  -- ---- what was told
+  -- ---- what was reported
 
-  -- a scan that has not refused has a verdict, and has told the heads
-  pub told_so_far : (scan : Scan) (bytes : List ℕ) (heads : List HeadInfo) → HasTaken role bounds scan bytes heads → refusal_in scan ≡ None → (verdict : Verdict) × IsToldOf role bounds bytes heads verdict
+  -- a scan that has not refused has a verdict, and has reported the heads
+  pub told_so_far : (scan : Scan) (bytes : List ℕ) (heads : List HeadInfo) → HasTaken role limits scan bytes heads → refusal_in scan ≡ None → (verdict : Verdict) × HasVerdictAndHeads role limits bytes heads verdict
   told_so_far scan bytes heads taken none =
-      let told : Told = record { heads = heads; payload = taken.payload; ends = taken.ends } in
-      let not = not_refused_at scan bytes taken.since taken.frames told scan.stage taken.stands none in
-      (not.verdict, record { frames = taken.frames; is_verdict = not.is; are_heads = heads_told role bounds scan bytes taken.since taken.frames told taken.stands })
+      let reported : Reported = record { heads = heads; payload = taken.payload; ends = taken.ends } in
+      let not = not_refused_at scan bytes taken.since taken.frames reported scan.stage taken.stands none in
+      (not.verdict, record { frames = taken.frames; is_verdict = not.is; are_heads = heads_told role limits scan bytes taken.since taken.frames reported taken.stands })
 
   -- and one that has refused, whatever follows
-  pub told_refused : (scan : Scan) (bytes later : List ℕ) (heads : List HeadInfo) (refusal : Refusal) → HasTaken role bounds scan bytes heads → refusal_in scan ≡ Some refusal
-      → IsToldOf role bounds (bytes ++ later) heads (Refused refusal)
+  pub told_refused : (scan : Scan) (bytes later : List ℕ) (heads : List HeadInfo) (refusal : Refusal) → HasTaken role limits scan bytes heads → refusal_in scan ≡ Some refusal
+      → HasVerdictAndHeads role limits (bytes ++ later) heads (Refused refusal)
   told_refused scan bytes later heads refusal taken is =
       let there = refused scan bytes heads refusal taken is in
       record { frames = taken.frames; is_verdict = there.refused later; are_heads = there.heads later }
 
   -- the place of a refusal is not among bytes that show none
-  pub place_behind : (before more : List ℕ) (fs : List Frame) (place : ℕ) (reason : Reason) → IsUnrefused role bounds before → IsRefused role bounds (before ++ more) fs place reason → length before ≤ place
+  pub place_behind : (before more : List ℕ) (fs : List Frame) (place : ℕ) (reason : Reason) → IsUnrefused role limits before → IsRefused role limits (before ++ more) fs place reason → length before ≤ place
   place_behind before more fs place reason none shown =
       elim (cases_lt place (length before)) [
         | inl less ↦
-            absurd (none fs place reason (refused_alike role bounds fs (before ++ more) before place reason (sym (take-append-le (place + 1) before more (omega arith))) shown))
+            absurd (none fs place reason (refused_alike role limits fs (before ++ more) before place reason (sym (take-append-le (place + 1) before more (omega arith))) shown))
         | inr within ↦ within
       ]

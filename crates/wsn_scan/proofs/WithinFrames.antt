@@ -9,12 +9,12 @@ use Rattle.wsn_wire.specs.declared.spelling.LenForm.{LenForm}
 use Rattle.wsn_wire.specs.declared.spelling.LenForm.TheVariants as len_form
 use Rattle.wsn_scan.specs.declared.partial_head.PartialHead.{PartialHead}
 use Rattle.wsn_scan.specs.declared.partial_head.PartialHead.TheVariants.{Empty, First, Two, Eight, Key}
-use Rattle.wsn_scan.specs.Bounds.{Bounds}
-use Rattle.wsn_scan.specs.Verdict.{EndsWithinFrame}
+use Rattle.wsn_rules.specs.Limits.{Limits}
+use Rattle.wsn_rules.specs.Verdict.{EndsWithinFrame}
 use Rattle.wsn_scan.specs.PartialHeads.{IsInLength, StandsFor, IsInHead}
-use Rattle.wsn_scan.specs.declared.progress.Inside.{Inside}
+use Rattle.wsn_scan.specs.declared.stage.Inside.{Inside}
 use Rattle.wsn_scan.specs.Scans.{IsInPayload}
-use Rattle.wsn_scan.proofs.LayoutFronts.{BeginsWithLayout, layout_or_within}
+use Rattle.wsn_rules.proofs.LayoutFronts.{BeginsWithLayout, layout_or_within}
 
 -- how long a layout is
 pub length-layout : (bytes : List ℕ) (l : HasLayout bytes) → length bytes ≡ suc (suc (length_count (len_form_at l.second) + (key_count l.second + length_told (len_form_at l.second) l.len)))
@@ -42,8 +42,8 @@ same_second first second tail b =
     let tail_is : tail ≡ (l.len ++ (l.key ++ l.payload)) ++ b.behind = cc in
     (second_is, tail_is ∙ append_assoc l.len (l.key ++ l.payload) b.behind)
 
-pub head_within : (role : Role) (bounds : Bounds) (group : List Frame) (part : PartialHead) (rest : List ℕ) → IsInHead role bounds group part rest → EndsWithinFrame rest
-head_within role bounds group part rest h = within_unless rest h.in_bytes (too_few part h.stands_for)
+pub head_within : (role : Role) (limits : Limits) (group : List Frame) (part : PartialHead) (rest : List ℕ) → IsInHead role limits group part rest → EndsWithinFrame rest
+head_within role limits group part rest h = within_unless rest h.in_bytes (too_few part h.stands_for)
   where
     in_length : (f : FirstByte) (spelled : LenForm) (came : List ℕ) → IsInLength role f spelled came rest → BeginsWithLayout rest → ⊥
     in_length f spelled came is b =
@@ -71,8 +71,8 @@ head_within role bounds group part rest h = within_unless rest h.in_bytes (too_f
         let size : length (first_byte f.fin f.op ∷ second ∷ (lengths ++ came.items)) ≡ suc (suc (length lengths + length came.items)) = ap (λ (n : ℕ). suc (suc n)) (length-append lengths came.items) in
         absurd (omega (arith, at_least _ whole, length-layout whole.bytes whole.layout))
 
-pub payload_within : (role : Role) (bounds : Bounds) (group : List Frame) (inside : Inside) (rest payload : List ℕ) → IsBytes rest → IsInPayload role bounds group inside rest payload → EndsWithinFrame rest
-payload_within role bounds group inside rest payload in_bytes p = within_unless rest in_bytes short
+pub payload_within : (role : Role) (limits : Limits) (group : List Frame) (inside : Inside) (rest payload : List ℕ) → IsBytes rest → IsInPayload role limits group inside rest payload → EndsWithinFrame rest
+payload_within role limits group inside rest payload in_bytes p = within_unless rest in_bytes short
   where
     short : BeginsWithLayout rest → ⊥
     short b =
@@ -87,9 +87,9 @@ payload_within role bounds group inside rest payload in_bytes p = within_unless 
         let count : length h.lengths ≡ length whole.layout.len =
         h.counted ∙ ap length_count h.spelled ∙ ap (λ (n : ℕ). length_count (len_form_at n)) (sym same.0) ∙ sym whole.layout.len_count in
         let lens = (fronts_agree h.lengths whole.layout.len (kb ++ p.wire) ((whole.layout.key ++ whole.layout.payload) ++ whole.behind) count same.1).0 in
-        let told : length_told (len_form_at whole.layout.second) whole.layout.len ≡ inside.head.len =
+        let reported : length_told (len_form_at whole.layout.second) whole.layout.len ≡ inside.head.len =
         ap (λ (n : ℕ). length_told (len_form_at n) whole.layout.len) same.0 ∙ ap (λ (bs : List ℕ). length_told (len_form_at h.second) bs) (sym lens)
-        ∙ ap (λ f. length_told f h.lengths) (sym h.spelled) ∙ sym h.told in
+        ∙ ap (λ f. length_told f h.lengths) (sym h.spelled) ∙ sym h.reported in
         let counts : length_count (len_form_at whole.layout.second) ≡ length h.lengths = sym whole.layout.len_count ∙ sym count in
         let key : key_count whole.layout.second ≡ length kb =
         ap key_count same.0 ∙ ap (λ (b : Bool). cond b 4 0) h.masked ∙ sym (key_bytes_count inside.head.key h.of_four) in

@@ -1,131 +1,123 @@
 -- How a scan stands to the bytes that it has taken and doesn't keep.
-use Rattle.std.specs.Prelude.{map, ◌≡◌, ℕ, ◌+◌, ◌-◌, ◌<◌, ◌≤◌, ◌⊎◌, Bool, true, Option, None, Some, List, [], ◌∷◌, ◌++◌, length, take, ⊤}
+use Rattle.std.specs.Prelude.{◌≡◌, ℕ, ◌+◌, ◌-◌, ◌<◌, ◌⊎◌, Bool, true, Option, None, Some, List, [], ◌∷◌, ◌++◌, length, take, ⊤}
 use Rattle.wsn_wire.specs.declared.endpoint.Role.{Role}
 use Rattle.wsn_wire.specs.Frame.{Frame, IsBytes, first_byte, stream}
 use Rattle.wsn_scan.specs.declared.open_message.OpenMessage.{OpenMessage}
 use Rattle.wsn_wire.specs.declared.refusal.Reason.{Reason}
-use Rattle.wsn_scan.specs.declared.outcome.Refusal.{Refusal}
+use Rattle.wsn_rules.specs.declared.verdict.Refusal.{Refusal}
 use Rattle.wsn_scan.specs.declared.partial_head.Head.{Head}
 use Rattle.wsn_scan.specs.declared.payload_check.PayloadCheck.{PayloadCheck}
-use Rattle.wsn_scan.specs.Payloads.{unmasked_by}
-use Rattle.wsn_scan.specs.declared.progress.Inside.{Inside}
-use Rattle.wsn_scan.specs.declared.progress.Stage.{Stage}
-use Rattle.wsn_scan.specs.declared.progress.Stage.TheVariants as stages
-use Rattle.wsn_scan.specs.declared.notices.Notice.{Notice}
-use Rattle.wsn_scan.specs.declared.notices.Notice.TheVariants as notices
-use Rattle.wsn_scan.specs.declared.scanning.Scan.{Scan}
-use Rattle.wsn_scan.specs.declared.outcome.Summary.{Summary}
-use Rattle.wsn_scan.specs.declared.outcome.Verdict.{Verdict}
-use Rattle.wsn_scan.specs.declared.outcome.Verdict.TheVariants.{Accepted, Cut, Refused}
-use Rattle.wsn_scan.specs.Bounds.{Bounds, InRange}
-use Rattle.wsn_scan.specs.Group.{unfinished}
-use Rattle.wsn_scan.specs.Lawful.{IsLawful}
-use Rattle.wsn_scan.specs.Accepted.{HasNoClose, EndsWithClose}
-use Rattle.wsn_scan.specs.Summary.{close_of}
-use Rattle.wsn_scan.specs.Verdict.{IsRefused}
-use Rattle.wsn_scan.specs.Unshown.{IsUnshown}
+use Rattle.wsn_scan.specs.Payloads.{unmasked_by, IsPayloadPrefix}
+use Rattle.wsn_scan.specs.declared.stage.Inside.{Inside}
+use Rattle.wsn_scan.specs.declared.stage.Stage.{Stage}
+use Rattle.wsn_scan.specs.declared.stage.Stage.TheVariants as stages
+use Rattle.wsn_scan.specs.declared.notice.Notice.{Notice}
+use Rattle.wsn_scan.specs.declared.notice.Notice.TheVariants as notices
+use Rattle.wsn_scan.specs.declared.scan.Scan.{Scan}
+use Rattle.wsn_rules.specs.declared.verdict.Summary.{Summary}
+use Rattle.wsn_rules.specs.declared.verdict.Verdict.{Verdict}
+use Rattle.wsn_rules.specs.declared.verdict.Verdict.TheVariants.{Accepted, Cut}
+use Rattle.wsn_rules.specs.Limits.{Limits, InRange}
+use Rattle.wsn_rules.specs.Group.{unfinished}
+use Rattle.wsn_rules.specs.Lawful.{IsLawful}
+use Rattle.wsn_rules.specs.Accepted.{HasNoClose, EndsWithClose}
+use Rattle.wsn_rules.specs.Summary.{close_of}
+use Rattle.wsn_rules.specs.Verdict.{IsRefused}
+use Rattle.wsn_rules.specs.Unshown.{IsUnshown}
 use Rattle.wsn_scan.specs.OpenMessages.{IsOpenMessage}
-use Rattle.wsn_scan.specs.declared.notices.HeadInfo.{HeadInfo}
+use Rattle.wsn_rules.specs.declared.head_info.HeadInfo.{HeadInfo}
 use Rattle.wsn_scan.specs.PartialHeads.{IsInHead, IsHead, info_at}
-use Rattle.wsn_scan.specs.Heads.{heads_of, AreHeads}
+use Rattle.wsn_rules.specs.Heads.{heads_of, AreHeads}
 use Rattle.wsn_scan.specs.PayloadChecks.{HasChecked}
-use Rattle.wsn_scan.specs.Tallies.{Tallies}
+use Rattle.wsn_scan.specs.Counts.{AreCounts}
+use Rattle.wsn_scan.specs.Reports.{Reported, reported_after, ends_of, IsRefusal, IsMost, IsHeadNotice}
 
 -- A whole head came, and this much of the payload, as it goes over the wire; nothing is shown.
-pub record HoldsPayload (role : Role) (bounds : Bounds) (group : List Frame) (head : Head) (check : PayloadCheck) (wire rest : List ℕ) : Type 0 where
+pub record HoldsPayload (role : Role) (limits : Limits) (group : List Frame) (head : Head) (check : PayloadCheck)
+    (wire rest : List ℕ) : Type 0 where
   pub head_bytes : List ℕ
   pub whole : rest ≡ head_bytes ++ wire
-  pub is_head : IsHead role bounds group head head_bytes
+  pub is_head : IsHead role limits group head head_bytes
   pub in_bytes : IsBytes wire
   pub checked : HasChecked group (first_byte head.first.fin head.first.op) check (unmasked_by head.key 0 wire)
-  pub unshown : IsUnshown role bounds group rest
+  pub unshown : IsUnshown role limits group rest
 
--- What a scan has told so far: the heads, as much of the last frame's payload as came, and of each frame's end that
--- was told whether the frame is final.
-pub record Told : Type 0 where
-  pub heads : List HeadInfo
-  pub payload : List ℕ
-  pub ends : List Bool
-
--- nothing
-abbrev pub nothing_told : Told
-nothing_told = record { heads = []; payload = []; ends = [] }
-
--- what is told with one notice more, behind which the bytes that were taken are these
-abbrev pub told_after : Told → Notice → List ℕ → Told
-told_after told (notices.Head info) taken = record { heads = told.heads ++ info ∷ []; payload = []; ends = told.ends }
-told_after told notices.Payload taken = record { heads = told.heads; payload = told.payload ++ taken; ends = told.ends }
-told_after told (notices.FrameEnd event) taken = record { heads = told.heads; payload = told.payload; ends = told.ends ++ event ∷ [] }
-told_after told notice taken = told
-
--- of each frame, whether it is final
-abbrev pub ends_of : List Frame → List Bool
-ends_of fs = map (λ f. f.fin) fs
-
--- Part of the payload came, and was told unmasked.
-pub record IsInPayload (role : Role) (bounds : Bounds) (group : List Frame) (inside : Inside) (rest payload : List ℕ) : Type 0 where
+-- Part of the payload came, and was reported unmasked.
+pub record IsInPayload (role : Role) (limits : Limits) (group : List Frame) (inside : Inside) (rest payload : List ℕ)
+    : Type 0 where
   pub wire : List ℕ
-  pub holds : HoldsPayload role bounds group inside.head inside.check wire rest
+  pub holds : HoldsPayload role limits group inside.head inside.check wire rest
   pub done : inside.done ≡ length wire
   pub short : length wire < inside.head.len
   pub unmasked : payload ≡ unmasked_by inside.head.key 0 wire
 
 -- The last frame is final, or not, and this is its payload.
 abbrev pub EndsWith : Bool → List ℕ → List Frame → Type 0
-EndsWith fin payload fs = (before : List Frame) × (f : Frame) × (f.fin ≡ fin) × (f.payload ≡ payload) × (fs ≡ before ++ f ∷ [])
+EndsWith fin payload fs =
+    (before : List Frame) × (f : Frame) × (f.fin ≡ fin) × (f.payload ≡ payload) × (fs ≡ before ++ f ∷ [])
 
--- Whatever follows, the stream is refused at the last of these bytes, and its heads are those that were told.
-pub record IsRefusedThere (role : Role) (bounds : Bounds) (refusal : Refusal) (bytes : List ℕ) (fs : List Frame) (told : Told) : Type 0 where
-  pub refused : (later : List ℕ) → IsRefused role bounds (bytes ++ later) fs refusal.place refusal.reason
+-- Whatever follows, the stream is refused at the last of these bytes, and its heads are those that were reported.
+pub record IsRefusedThere (role : Role) (limits : Limits) (refusal : Refusal) (bytes : List ℕ) (fs : List Frame)
+    (reported : Reported) : Type 0 where
+  pub refused : (later : List ℕ) → IsRefused role limits (bytes ++ later) fs refusal.place refusal.reason
   pub place : refusal.place + 1 ≡ length bytes
-  pub heads : (later : List ℕ) → AreHeads role bounds (bytes ++ later) fs told.heads
-  pub ends : told.ends ≡ ends_of fs
+  pub heads : (later : List ℕ) → AreHeads role limits (bytes ++ later) fs reported.heads
+  pub payload : (info : HeadInfo) → reported.heads ≡ heads_of fs ++ info ∷ [] →
+      IsPayloadPrefix fs bytes info reported.payload
+  pub ends : reported.ends ≡ ends_of fs
 
--- The stage, behind the whole frames fs and in front of the bytes that came since, and what was told: the last
--- frame's end isn't told yet at Ended and CloseEnded alone.
-abbrev pub IsAt : Role → Bounds → Stage → List ℕ → List Frame → List ℕ → Told → Type 0
-IsAt role bounds stages.Between bytes fs rest told = HasNoClose fs × (rest ≡ []) × (told.heads ≡ heads_of fs) × (told.ends ≡ ends_of fs)
-IsAt role bounds (stages.Head part) bytes fs rest told =
-    HasNoClose fs × IsInHead role bounds (unfinished fs) part rest × (told.heads ≡ heads_of fs) × (told.ends ≡ ends_of fs)
-IsAt role bounds (stages.Payload inside) bytes fs rest told =
-    HasNoClose fs × IsInPayload role bounds (unfinished fs) inside rest told.payload × (told.heads ≡ heads_of fs ++ info_at (length (stream fs)) inside.head ∷ [])
-    × (told.ends ≡ ends_of fs)
-IsAt role bounds (stages.Ended event) bytes fs rest told =
-    HasNoClose fs × EndsWith event told.payload fs × (rest ≡ []) × (told.heads ≡ heads_of fs) × (told.ends ++ event ∷ [] ≡ ends_of fs)
-IsAt role bounds (stages.CloseEnded code) bytes fs rest told =
-    EndsWithClose fs × (close_of fs ≡ Some code) × EndsWith true told.payload fs × (rest ≡ []) × (told.heads ≡ heads_of fs) × (told.ends ++ true ∷ [] ≡ ends_of fs)
-IsAt role bounds (stages.Closed code) bytes fs rest told =
-    EndsWithClose fs × (close_of fs ≡ Some code) × (told.heads ≡ heads_of fs) × (told.ends ≡ ends_of fs)
-IsAt role bounds (stages.Refused refusal) bytes fs rest told = IsRefusedThere role bounds refusal bytes fs told
+-- The stage, behind the whole frames fs and in front of the bytes that came since, and what was reported: the last
+-- frame's end isn't reported yet at Ended and CloseEnded alone.
+abbrev pub IsAt : Role → Limits → Stage → List ℕ → List Frame → List ℕ → Reported → Type 0
+IsAt role limits stages.Between bytes fs rest reported =
+    HasNoClose fs × (rest ≡ []) × (reported.heads ≡ heads_of fs) × (reported.ends ≡ ends_of fs)
+IsAt role limits (stages.Head part) bytes fs rest reported =
+    HasNoClose fs × IsInHead role limits (unfinished fs) part rest × (reported.heads ≡ heads_of fs)
+    × (reported.ends ≡ ends_of fs)
+IsAt role limits (stages.Payload inside) bytes fs rest reported =
+    HasNoClose fs × IsInPayload role limits (unfinished fs) inside rest reported.payload
+    × (reported.heads ≡ heads_of fs ++ info_at (length (stream fs)) inside.head ∷ [])
+    × (reported.ends ≡ ends_of fs)
+IsAt role limits (stages.Ended event) bytes fs rest reported =
+    HasNoClose fs × EndsWith event reported.payload fs × (rest ≡ []) × (reported.heads ≡ heads_of fs)
+    × (reported.ends ++ event ∷ [] ≡ ends_of fs)
+IsAt role limits (stages.CloseEnded code) bytes fs rest reported =
+    EndsWithClose fs × (close_of fs ≡ Some code) × EndsWith true reported.payload fs × (rest ≡ [])
+    × (reported.heads ≡ heads_of fs) × (reported.ends ++ true ∷ [] ≡ ends_of fs)
+IsAt role limits (stages.Closed code) bytes fs rest reported =
+    EndsWithClose fs × (close_of fs ≡ Some code) × (reported.heads ≡ heads_of fs) × (reported.ends ≡ ends_of fs)
+IsAt role limits (stages.Refused refusal) bytes fs rest reported = IsRefusedThere role limits refusal bytes fs reported
 
 -- how many bytes a scan may take yet, and how many it has taken
 abbrev pub room_of : Scan → ℕ
 room_of scan = scan.room
 
 abbrev pub taken_of : Scan → ℕ
-taken_of scan = scan.limits.input - scan.room
+taken_of scan = scan.context.limits.input - scan.room
 
 -- Whatever the stage, the scan has taken these bytes: whole lawful frames, and a rest that came since.
-pub record Knows (role : Role) (bounds : Bounds) (scan : Scan) (bytes : List ℕ) (fs : List Frame) (rest : List ℕ) : Type 0 where
-  pub sender : scan.role ≡ role
-  pub limits : scan.limits ≡ bounds
-  pub in_range : InRange bounds
-  pub lawful : IsLawful role bounds fs
+pub record Knows (role : Role) (limits : Limits) (scan : Scan) (bytes : List ℕ) (fs : List Frame) (rest : List ℕ)
+    : Type 0 where
+  pub sender : scan.context.role ≡ role
+  pub under : scan.context.limits ≡ limits
+  pub in_range : InRange limits
+  pub lawful : IsLawful role limits fs
   pub whole : bytes ≡ stream fs ++ rest
   pub in_bytes : IsBytes bytes
-  pub room : scan.room + length bytes ≡ bounds.input
+  pub room : scan.room + length bytes ≡ limits.input
   pub used : scan.used ≡ length (stream fs)
-  pub tally : Tallies scan.tally fs
-  pub message : IsOpenMessage scan.message (unfinished fs)
+  pub counts : AreCounts scan.counts fs
+  pub message : IsOpenMessage scan.context.message (unfinished fs)
 
 -- The same at a stage.
-pub record StandsAt (role : Role) (bounds : Bounds) (scan : Scan) (stage : Stage) (bytes : List ℕ) (fs : List Frame) (rest : List ℕ) (told : Told) : Type 0 where
-  pub knows : Knows role bounds scan bytes fs rest
-  pub at : IsAt role bounds stage bytes fs rest told
+pub record StandsAt (role : Role) (limits : Limits) (scan : Scan) (stage : Stage) (bytes : List ℕ) (fs : List Frame)
+    (rest : List ℕ) (reported : Reported) : Type 0 where
+  pub knows : Knows role limits scan bytes fs rest
+  pub at : IsAt role limits stage bytes fs rest reported
 
--- A scan that has taken these bytes, whole lawful frames and a rest that came since, and told so much of them.
-abbrev pub Stands : Role → Bounds → Scan → List ℕ → List Frame → List ℕ → Told → Type 0
-Stands role bounds scan bytes fs rest told = StandsAt role bounds scan scan.stage bytes fs rest told
+-- A scan that has taken these bytes, whole lawful frames and a rest that came since, and reported so much of them.
+abbrev pub Stands : Role → Limits → Scan → List ℕ → List Frame → List ℕ → Reported → Type 0
+Stands role limits scan bytes fs rest reported = StandsAt role limits scan scan.stage bytes fs rest reported
 
 -- the size of the message that is kept as open
 abbrev pub size_of_message : Option OpenMessage → Option ℕ
@@ -137,11 +129,11 @@ abbrev pub summary_of : Scan → ℕ → ℕ → Option (Option ℕ) → Summary
 summary_of scan used tail close = record {
   used = used;
   tail = tail;
-  unfinished = size_of_message scan.message;
-  frames = scan.tally.frames;
-  messages = scan.tally.messages;
-  pings = scan.tally.pings;
-  pongs = scan.tally.pongs;
+  unfinished = size_of_message scan.context.message;
+  frames = scan.counts.frames;
+  messages = scan.counts.messages;
+  pings = scan.counts.pings;
+  pongs = scan.counts.pongs;
   close = close;
 }
 
@@ -150,18 +142,20 @@ abbrev pub verdict_between : Scan → Option OpenMessage → Verdict
 verdict_between scan None = Accepted (summary_of scan (taken_of scan) 0 None)
 verdict_between scan (Some m) = Cut (summary_of scan (taken_of scan) 0 None)
 
--- What a notice says, where the scan stands behind the frames fs and the bytes since, and has told so much. What a
--- head and a payload say, told_after says.
-abbrev pub Tells : Role → Bounds → Notice → List ℕ → List Frame → List ℕ → Told → Type 0
-Tells role bounds (notices.FrameEnd event) bytes fs since told = EndsWith event told.payload fs × (since ≡ [])
-Tells role bounds notices.Closed bytes fs since told = EndsWithClose fs
-Tells role bounds (notices.Refused refusal) bytes fs since told = IsRefusedThere role bounds refusal bytes fs told
-Tells role bounds notice bytes fs since told = ⊤
+-- What a notice says, where the scan stands behind the frames fs and the bytes since, and has reported so much. What a
+-- head and a payload say, reported_after says.
+abbrev pub NoticeHolds : Role → Limits → Notice → List ℕ → List Frame → List ℕ → Reported → Type 0
+NoticeHolds role limits (notices.FrameEnd event) bytes fs since reported =
+    EndsWith event reported.payload fs × (since ≡ [])
+NoticeHolds role limits notices.Closed bytes fs since reported = EndsWithClose fs
+NoticeHolds role limits (notices.Refused refusal) bytes fs since reported =
+    IsRefusedThere role limits refusal bytes fs reported
+NoticeHolds role limits notice bytes fs since reported = ⊤
 
-abbrev pub ends_untold_at : Stage → ℕ
-ends_untold_at (stages.Ended event) = 1
-ends_untold_at (stages.CloseEnded code) = 1
-ends_untold_at stage = 0
+abbrev pub ends_pending_at : Stage → ℕ
+ends_pending_at (stages.Ended event) = 1
+ends_pending_at (stages.CloseEnded code) = 1
+ends_pending_at stage = 0
 
 -- the refusal that a scan has answered, and the one that a notice tells
 abbrev pub refusal_at : Stage → Option Refusal
@@ -171,57 +165,43 @@ refusal_at stage = None
 abbrev pub refusal_in : Scan → Option Refusal
 refusal_in scan = refusal_at scan.stage
 
-abbrev pub refusal_told : Notice → Option Refusal
-refusal_told (notices.Refused refusal) = Some refusal
-refusal_told notice = None
-
-abbrev pub refusal_judged : Verdict → Option Refusal
-refusal_judged (Refused refusal) = Some refusal
-refusal_judged verdict = None
-
-abbrev pub IsRefusal : Notice → Type 0
-IsRefusal (notices.Refused refusal) = ⊤
-IsRefusal notice = ⊥
-
--- Behind these bytes the scan stands, has told so much, and the notice holds.
-pub record Reaches (role : Role) (bounds : Bounds) (new : Scan) (notice : Notice) (bytes : List ℕ) (told : Told) : Type 0 where
+-- Behind these bytes the scan stands, has reported so much, and the notice holds.
+pub record Reaches (role : Role) (limits : Limits) (new : Scan) (notice : Notice) (bytes : List ℕ) (reported : Reported)
+    : Type 0 where
   pub frames : List Frame
   pub since : List ℕ
-  pub stands : Stands role bounds new bytes frames since told
-  pub tells : Tells role bounds notice bytes frames since told
+  pub stands : Stands role limits new bytes frames since reported
+  pub tells : NoticeHolds role limits notice bytes frames since reported
 
--- Whatever the scan has taken and told, from this stage it stands behind those bytes and the first n of the piece,
--- and has told the notice more, with what the first n bytes are then.
+-- Whatever the scan has taken and reported, from this stage it stands behind those bytes and the first n of the piece,
+-- and has reported the notice more, with what the first n bytes are then.
 abbrev pub AdvancesFrom : Stage → Scan → Scan → List ℕ → List ℕ → ℕ → Notice → Type 0
 AdvancesFrom stage old new piece after n notice =
-    (role : Role) (bounds : Bounds) (bytes rest : List ℕ) (fs : List Frame) (told : Told) → IsBytes piece → StandsAt role bounds old stage bytes fs rest told
-    → Reaches role bounds new notice (bytes ++ take n piece) (told_after told notice (take n after))
+    (role : Role) (limits : Limits) (bytes rest : List ℕ) (fs : List Frame) (reported : Reported) → IsBytes piece →
+    StandsAt role limits old stage bytes fs rest reported
+    → Reaches role limits new notice (bytes ++ take n piece) (reported_after reported notice (take n after))
 
 abbrev pub Advances : Scan → Scan → List ℕ → List ℕ → ℕ → Notice → Type 0
 Advances old new piece after n notice = AdvancesFrom old.stage old new piece after n notice
 
--- a frame's end that isn't told yet
-abbrev pub ends_untold : Scan → ℕ
-ends_untold scan = ends_untold_at scan.stage
+-- a frame's end that isn't reported yet
+abbrev pub ends_pending : Scan → ℕ
+ends_pending scan = ends_pending_at scan.stage
 
 -- A call gets on: it takes a byte, tells a frame's end, or refuses.
 abbrev pub GetsOn : Scan → Scan → ℕ → Notice → Type 0
-GetsOn old new n notice = (0 < n) ⊎ (ends_untold new < ends_untold old) ⊎ IsRefusal notice
+GetsOn old new n notice = (0 < n) ⊎ (ends_pending new < ends_pending old) ⊎ IsRefusal notice
 
--- Which notice a stage leads to, and how many bytes it takes of a piece of this size: all that it can. left is what
--- the frame has left of its payload. In a head or a payload a refusal may stand in the place of the notice.
-abbrev pub IsMost : ℕ → ℕ → ℕ → Type 0
-IsMost size left n = (n ≤ size) × (n ≤ left) × ((n ≡ size) ⊎ (n ≡ left))
-
-abbrev pub IsHeadNotice : Notice → Type 0
-IsHeadNotice (notices.Head info) = ⊤
-IsHeadNotice notice = ⊥
-
+-- Which notice a stage leads to, and how many bytes it takes of a piece of this size. In a head or a payload a refusal
+-- may stand in the place of the notice.
 abbrev pub TakesAt : Stage → ℕ → ℕ → Notice → Type 0
-TakesAt stages.Between size n notice = ((notice ≡ notices.More) × (n ≡ size)) ⊎ (IsHeadNotice notice × (0 < n)) ⊎ IsRefusal notice
-TakesAt (stages.Head part) size n notice = ((notice ≡ notices.More) × (n ≡ size)) ⊎ (IsHeadNotice notice × (0 < n)) ⊎ IsRefusal notice
+TakesAt stages.Between size n notice =
+    ((notice ≡ notices.More) × (n ≡ size)) ⊎ (IsHeadNotice notice × (0 < n)) ⊎ IsRefusal notice
+TakesAt (stages.Head part) size n notice =
+    ((notice ≡ notices.More) × (n ≡ size)) ⊎ (IsHeadNotice notice × (0 < n)) ⊎ IsRefusal notice
 TakesAt (stages.Payload inside) size n notice =
-    ((notice ≡ notices.More) × (n ≡ 0) × IsMost size (inside.head.len - inside.done) n) ⊎ ((notice ≡ notices.Payload) × (0 < n) × IsMost size (inside.head.len - inside.done) n) ⊎ IsRefusal notice
+    ((notice ≡ notices.More) × (n ≡ 0) × IsMost size (inside.head.len - inside.done) n)
+    ⊎ ((notice ≡ notices.Payload) × (0 < n) × IsMost size (inside.head.len - inside.done) n) ⊎ IsRefusal notice
 TakesAt (stages.Ended event) size n notice = (n ≡ 0) × (notice ≡ notices.FrameEnd event)
 TakesAt (stages.CloseEnded code) size n notice = (n ≡ 0) × (notice ≡ notices.FrameEnd true)
 TakesAt (stages.Closed code) size n notice = (n ≡ size) × (notice ≡ notices.Closed)
@@ -233,15 +213,37 @@ Takes old size n notice = TakesAt old.stage size n notice
 -- The count bytes that came last end this head.
 abbrev pub BeginsFrame : Scan → Scan → ℕ → Head → Notice → Type 0
 BeginsFrame old new count head notice =
-    (role : Role) (bounds : Bounds) (bytes rest last taken : List ℕ) (fs : List Frame) (told : Told) → Knows role bounds old bytes fs rest → HasNoClose fs
-    → told.heads ≡ heads_of fs → told.ends ≡ ends_of fs → length last ≡ count → 0 < count → IsBytes last
-    → IsHead role bounds (unfinished fs) head (rest ++ last) → Reaches role bounds new notice (bytes ++ last) (told_after told notice taken)
+    (role : Role) (limits : Limits) (bytes rest last taken : List ℕ) (fs : List Frame) (reported : Reported) →
+    Knows role limits old bytes fs rest → HasNoClose fs
+    → reported.heads ≡ heads_of fs → reported.ends ≡ ends_of fs → length last ≡ count → 0 < count → IsBytes last
+    → IsHead role limits (unfinished fs) head (rest ++ last) →
+    Reaches role limits new notice (bytes ++ last) (reported_after reported notice taken)
 
 -- A frame's last byte came: it ends the list of whole frames.
-pub record EndsFrame (role : Role) (bounds : Bounds) (new : Scan) (bytes : List ℕ) (fs : List Frame) (told : Told) : Type 0 where
+pub record EndsFrame (role : Role) (limits : Limits) (new : Scan) (bytes : List ℕ) (fs : List Frame)
+    (reported : Reported) : Type 0 where
   pub frame : Frame
-  pub stands : Stands role bounds new bytes (fs ++ frame ∷ []) [] told
+  pub stands : Stands role limits new bytes (fs ++ frame ∷ []) [] reported
+
+-- This head came last, and all of its frame's payload, checked so far: behind it the scan has a whole frame more.
+abbrev pub EndsWithPayload : Scan → Scan → Head → PayloadCheck → Type 0
+EndsWithPayload old new head check =
+    (role : Role) (limits : Limits) (bytes rest wire : List ℕ) (fs : List Frame) (reported : Reported) →
+    Knows role limits old bytes fs rest → HasNoClose fs
+    → HoldsPayload role limits (unfinished fs) head check wire rest → length wire ≡ head.len → reported.heads
+    ≡ heads_of fs ++ info_at (length (stream fs)) head ∷ []
+    → reported.ends ≡ ends_of fs → reported.payload ≡ unmasked_by head.key 0 wire →
+    EndsFrame role limits new bytes fs reported
+
+-- The stage behind a frame whose payload was checked so, and whose end is pending.
+abbrev pub IsStageBehind : Bool → PayloadCheck → Stage → Type 0
+IsStageBehind fin check stage =
+    (role : Role) (limits : Limits) (bytes : List ℕ) (fs : List Frame) (f : Frame) (reported : Reported) →
+    IsLawful role limits (fs ++ f ∷ []) → HasNoClose fs → f.fin ≡ fin
+    → HasChecked (unfinished fs) (first_byte f.fin f.op) check f.payload → reported.heads ≡ heads_of (fs ++ f ∷ []) →
+    reported.ends ++ fin ∷ [] ≡ ends_of (fs ++ f ∷ [])
+    → f.payload ≡ reported.payload → IsAt role limits stage bytes (fs ++ f ∷ []) [] reported
 
 -- a scan that refuses behind so many bytes more
 abbrev pub refusal_of : Scan → ℕ → Reason → Refusal
-refusal_of scan count reason = record { place = scan.limits.input - (scan.room - count) - 1; reason = reason }
+refusal_of scan count reason = record { place = scan.context.limits.input - (scan.room - count) - 1; reason = reason }

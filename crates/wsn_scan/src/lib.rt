@@ -1,35 +1,31 @@
 //! The frames of one endpoint's stream, and its verdict (RFC 6455 sections 5 and 7).
 //!
-//! `specs/` holds the definitions, from the law of one frame to the verdict on a stream and its meaning:
-//! `Bounds`, `Group`, `FrameLaw` and `Lawful` say what a lawful list of frames is, `Evidence` what shows that
-//! a stream isn't one, and `Accepted`, `Verdict` and `Summary` what becomes of every list of bytes; `Lines` is
-//! how verdicts and heads are printed. [`laws`] has what holds of them, [`examples`] the verdicts on inputs that
-//! are written out, and [`printed_lines`] lines that are.
+//! [`Scan`] reads a stream in pieces and keeps none of it. [`judge`] reads an input to its verdict, [`list`] prints
+//! a line for each of its frames first, and [`put_verdict`] prints a verdict. What a stream means, and which verdict
+//! it has, `wsn_rules` defines; `specs/` says how a scan stands to the bytes that it has taken.
 #![tactic(auto)]
 
-mod ceilings;
-pub mod examples;
-mod front;
+mod buffered_head;
+mod counts;
+mod frame_context;
 mod judging;
 pub mod laws;
 mod lines;
 mod listing;
-mod notices;
+mod notice;
+mod notice_reader;
 mod open_message;
-mod outcome;
 mod partial_head;
 mod payload_check;
-pub mod printed_lines;
-mod progress;
-mod scanning;
-mod stopping;
-mod tally;
+mod scan;
+mod stage;
+mod stop;
 
-pub use ceilings::{INPUT_MAX, Limits, MESSAGE_MAX};
-pub use judging::{judge, read_piece};
+pub use judging::{PIECE, judge};
 pub use lines::put_verdict;
 pub use listing::list;
-pub use notices::{HeadInfo, Notice};
-pub use outcome::{Refusal, Summary, Verdict};
-pub use scanning::Scan;
-pub use stopping::Stop;
+pub use notice::Notice;
+pub use notice_reader::{NextNotice, NoticeReader};
+pub use scan::Scan;
+pub use stop::Stop;
+pub use wsn_rules::{HeadInfo, INPUT_MAX, Limits, MESSAGE_MAX, Refusal, Summary, Verdict};

@@ -1,40 +1,34 @@
 ghost use Rattle.std.specs.Prelude.{◌≡◌, ℕ, ◌+◌, ◌≤◌, [], ◌++◌, true, false, length, take, decimal, OnOk, OnErr, IfErr};
 ghost use Rattle.std.specs.Io.KnownBytes.{Appends};
 ghost use Rattle.arrayvec.specs.ArrayVec.{array_vec_len};
-ghost use Rattle.wsn_scan.specs.Lines.{verdict_line, head_line, size_text, fin_word, op_word, key_text, form_text};
+ghost use Rattle.wsn_rules.specs.Lines.{verdict_line, head_line, size_text, fin_word, op_word, key_text, form_text};
+ghost use Rattle.wsn_wire.specs.Transfer.{IsWrittenUpToFailure};
+ghost use Rattle.wsn_scan.specs.Stops.{IsPut};
 
-use crate::notices::HeadInfo;
-use crate::outcome::{Refusal, Summary, Verdict};
-use crate::stopping::Stop;
+use crate::stop::Stop;
 use arrayvec::ArrayVec;
 use itoa::Buffer;
 use std::io::Write;
+use wsn_rules::{HeadInfo, Refusal, Summary, Verdict};
 use wsn_wire::{Form, Op, Output};
 
-/// Prints a verdict in one line, such as `accepted 11 tail 0 unfinished -`, `cut 2` or
+/// IsWrittenUpToFailure a verdict in one line, such as `accepted 11 tail 0 unfinished -`, `cut 2` or
 /// `refused 5 text-bad 1007`. `Stop::Write` if the writer fails: of the line only some bytes at its front went
 /// out.
 pub fn put_verdict<W: Write>(to: &mut Output<W>, verdict: &Verdict) -> Result<(), Stop>
     requires { to.old.failed ≡ false }
-    ensures all { OnOk result (Appends to.old.written to.new.written (verdict_line verdict.now)) }
-    ensures same { OnOk result (to.new.failed ≡ false) }
-    ensures stop { IfErr result (λ stop. stop ≡ Stop.Write) }
-    ensures failed { OnErr result (to.new.failed ≡ true) }
-    ensures front { OnErr result ((k : ℕ) × Appends to.old.written to.new.written (take k (verdict_line verdict.now))) }
+    ensures { IsPut to.old to.new (verdict_line verdict.now) result }
 {
     line_of_verdict(verdict).put(to)
 }
 
-/// Prints a frame's head in one line, such as `0 fin text 37fa213d 5` or `0 fin binary - 0 two`: its place, its
+/// IsWrittenUpToFailure a frame's head in one line, such as `0 fin text 37fa213d 5` or `0 fin binary - 0 two`: its
+/// place, its
 /// fields, and how its length is spelled if that isn't the shortest way. `Stop::Write` if the writer fails: of
 /// the line only some bytes at its front went out.
 pub fn put_head<W: Write>(to: &mut Output<W>, head: &HeadInfo) -> Result<(), Stop>
     requires { to.old.failed ≡ false }
-    ensures all { OnOk result (Appends to.old.written to.new.written (head_line head.now)) }
-    ensures same { OnOk result (to.new.failed ≡ false) }
-    ensures stop { IfErr result (λ stop. stop ≡ Stop.Write) }
-    ensures failed { OnErr result (to.new.failed ≡ true) }
-    ensures front { OnErr result ((k : ℕ) × Appends to.old.written to.new.written (take k (head_line head.now))) }
+    ensures { IsPut to.old to.new (head_line head.now) result }
 {
     line_of_head(head).put(to)
 }
@@ -199,11 +193,7 @@ impl Line {
 
     fn put<W: Write>(&self, to: &mut Output<W>) -> Result<(), Stop>
         requires { to.old.failed ≡ false }
-        ensures all { OnOk result (Appends to.old.written to.new.written self.now.text.items) }
-        ensures same { OnOk result (to.new.failed ≡ false) }
-        ensures stop { IfErr result (λ stop. stop ≡ Stop.Write) }
-        ensures failed { OnErr result (to.new.failed ≡ true) }
-        ensures front { OnErr result ((k : ℕ) × Appends to.old.written to.new.written (take k self.now.text.items)) }
+        ensures { IsPut to.old to.new self.now.text.items result }
     {
         if to.put(self.text.as_slice()) {
             Ok(())

@@ -1,18 +1,17 @@
 ghost use Rattle.std.specs.Prelude.{◌≡◌, ℕ, ◌≤◌, List, ◌++◌, length, false, Ok};
-ghost use Rattle.wsn_wire.specs.Transfer.{Outgoing};
+ghost use Rattle.wsn_wire.specs.Transfer.{Outgoing, IsWrittenUpToFailure};
 ghost use Rattle.wsn_scan.specs.Scans.{room_of};
-ghost use Rattle.wsn_scan.specs.Feeding.{HasBegun, heads_in};
-ghost use Rattle.wsn_scan.specs.Lines.{head_lines};
-ghost use Rattle.wsn_scan.specs.Listing.{Prints, IsEnded, IsListedPiece, IsListed};
+ghost use Rattle.wsn_scan.specs.Feeding.{IsRunning, heads_in};
+ghost use Rattle.wsn_rules.specs.Lines.{head_lines};
+ghost use Rattle.wsn_scan.specs.Listing.{IsEnded, IsListedPiece, IsListed};
 
-use crate::ceilings::Limits;
-use crate::judging::read_piece;
+use crate::judging::{PIECE, read_piece};
 use crate::lines::{put_head, put_verdict};
-use crate::notices::Notice;
-use crate::outcome::{Refusal, Verdict};
-use crate::scanning::Scan;
-use crate::stopping::Stop;
+use crate::notice::Notice;
+use crate::scan::Scan;
+use crate::stop::Stop;
 use std::io::{Read, Write};
+use wsn_rules::{Limits, Refusal, Verdict};
 use wsn_wire::{Input, Output, Role};
 
 /// Reads an input to its verdict, as [`judge`](crate::judge) does, and prints a line for each frame whose head
@@ -30,7 +29,7 @@ pub fn list<R: Read, W: Write>(
     ensures { IsListed role limits input.old input.new output.old output.new result }
 {
     let mut scan = Scan::new(role, limits);
-    let mut buffer = [0; 4096];
+    let mut buffer = [0; PIECE];
     loop {
         let room = scan.room();
         let Some(count) = read_piece(input, room, &mut buffer) else {
@@ -53,7 +52,7 @@ pub fn list<R: Read, W: Write>(
     }
 }
 
-/// Prints the verdict and answers it.
+/// IsWrittenUpToFailure the verdict and answers it.
 fn end<W: Write>(output: &mut Output<W>, verdict: Verdict) -> Result<Verdict, Stop>
     requires { output.old.failed ≡ false }
     ensures { IsEnded output.old output.new verdict result }
@@ -69,7 +68,7 @@ fn list_piece<W: Write>(
     piece: &mut [u8],
     output: &mut Output<W>,
 ) -> Option<Refusal>
-    requires begun { HasBegun scan.old }
+    requires begun { IsRunning scan.old }
     requires fits { length piece.old ≤ room_of scan.old }
     requires writable { output.old.failed ≡ false }
     ensures { IsListedPiece scan.old scan.new output.old output.new piece.old result }
@@ -86,9 +85,10 @@ fn list_piece<W: Write>(
     None
 }
 
-/// Prints the head that a notice tells, unless a write has failed.
+/// IsWrittenUpToFailure the head that a notice tells, unless a write has failed.
 fn print<W: Write>(output: &mut Output<W>, notice: &Notice)
-    ensures { (before : Outgoing) (text : List ℕ) → Prints before output.old text → Prints before output.new (text ++ head_lines (heads_in notice.now)) }
+    ensures { (before : Outgoing) (text : List ℕ) → IsWrittenUpToFailure before output.old text →
+        IsWrittenUpToFailure before output.new (text ++ head_lines (heads_in notice.now)) }
 {
     if let Notice::Head(head) = notice {
         if !output.failed() {

@@ -1,6 +1,4 @@
-ghost use Rattle.std.specs.Prelude.{◌≡◌, ◌<◌, ◌^◌, true, List, [], ◌∷◌, ◌++◌, length};
-ghost use Rattle.wsn_wire.specs.Frame.{Frame, first_byte};
-ghost use Rattle.wsn_scan.specs.Group.{is_data, text_of};
+ghost use Rattle.wsn_scan.specs.OpenMessages.{IsMessageAfter, IsOneFragmentMore};
 
 use crate::partial_head::Head;
 use crate::payload_check::PayloadCheck;
@@ -17,18 +15,13 @@ pub struct OpenMessage {
     pub frames: u64,
 }
 
-ghost use Rattle.wsn_scan.specs.OpenMessages.{Keeps, IsOpenMessage, group_after};
-ghost use Rattle.wsn_scan.specs.PayloadChecks.{HasChecked};
-
 /// The message that is open behind one frame more, whose payload was checked so.
 pub fn message_after(
     message: Option<OpenMessage>,
     head: &Head,
     check: &PayloadCheck,
 ) -> Option<OpenMessage>
-    ensures { (group : List Frame) (f : Frame) → IsOpenMessage message group → f.fin ≡ head.now.first.fin → f.op ≡ head.now.first.op → head.now.len ≡ length f.payload
-        → HasChecked group (first_byte f.fin f.op) check.now f.payload → length (text_of (group ++ f ∷ [])) < 2 ^ 32 → length group < 2 ^ 63
-        → IsOpenMessage result (group_after group f) }
+    ensures { IsMessageAfter message head.now check.now result }
 {
     match head.first.op {
         Op::Close | Op::Ping | Op::Pong => message,
@@ -44,8 +37,7 @@ pub fn message_after(
 
 /// The message with one fragment more.
 fn longer(message: Option<OpenMessage>, len: u64, check: &PayloadCheck) -> OpenMessage
-    ensures { (group : List Frame) (f : Frame) → IsOpenMessage message group → is_data f ≡ true → HasChecked group (first_byte f.fin f.op) check.now f.payload → len ≡ length f.payload
-        → length (text_of (group ++ f ∷ [])) < 2 ^ 32 → length group < 2 ^ 63 → Keeps result (group ++ f ∷ []) }
+    ensures { IsOneFragmentMore message len check.now result }
 {
     let (size, frames) = match message {
         Some(message) => (message.size, message.frames),

@@ -3,16 +3,15 @@ ghost use Rattle.wsn_wire.specs.Frame.{Frame, opcode};
 ghost use Rattle.wsn_wire.specs.Layout.{opcode_field};
 ghost use Rattle.wsn_wire.specs.Refusal.{IsFirstShown};
 ghost use Rattle.wsn_wire.specs.Rows.{ShownByFirst};
-ghost use Rattle.wsn_scan.specs.Bounds.{Bounds};
-ghost use Rattle.wsn_scan.specs.Group.{text_of};
-ghost use Rattle.wsn_scan.specs.Evidence.{IsDataOpcode, EvidentByFirst};
+ghost use Rattle.wsn_rules.specs.Limits.{Limits};
+ghost use Rattle.wsn_rules.specs.Group.{text_of};
+ghost use Rattle.wsn_rules.specs.Evidence.{IsDataOpcode, EvidentByFirst};
 ghost use Rattle.wsn_scan.specs.OpenMessages.{IsOpenMessage};
 ghost use Rattle.wsn_scan.specs.PartialHeads.{IsInHead, HasLength, IsStep, form_spelled, info_at};
 
-use crate::ceilings::Limits;
-use crate::notices::HeadInfo;
-use crate::open_message::OpenMessage;
+use crate::frame_context::FrameContext;
 use arrayvec::ArrayVec;
+use wsn_rules::HeadInfo;
 use wsn_wire::{FirstByte, Form, LenForm, Op, Reason, Role};
 
 /// A frame's head that has come in part (RFC 6455 section 5.2).
@@ -50,15 +49,16 @@ pub enum HeadStep {
 impl PartialHead {
     /// What one byte more makes of the head of a frame behind the message that is open (RFC 6455 sections 5.2
     /// and 5.4): more of a head, a whole one, or the first reason to refuse it that the byte shows.
-    pub fn with(self, byte: u8, role: Role, limits: Limits, open: Option<OpenMessage>) -> HeadStep
-        ensures { (group : List Frame) (bytes : List ℕ) → IsOpenMessage «open» group →
-            IsInHead role limits group self bytes → IsStep role limits group result (bytes ++ byte ∷ []) }
+    pub fn with(self, byte: u8, context: &FrameContext) -> HeadStep
+        ensures { (group : List Frame) (bytes : List ℕ) → IsOpenMessage context.now.message group →
+            IsInHead context.now.role context.now.limits group self bytes →
+            IsStep context.now.role context.now.limits group result (bytes ++ byte ∷ []) }
     {
         match self {
-            PartialHead::Empty => with_first(byte, limits, open),
-            PartialHead::First(first) => with_second(first, byte, role, limits, open),
-            PartialHead::Two(first, came) => with_two(first, came, byte, role, limits, open),
-            PartialHead::Eight(first, came) => with_eight(first, came, byte, role, limits, open),
+            PartialHead::Empty => with_first(byte, context),
+            PartialHead::First(first) => with_second(first, byte, context),
+            PartialHead::Two(first, came) => with_two(first, came, byte, context),
+            PartialHead::Eight(first, came) => with_eight(first, came, byte, context),
             PartialHead::Key(first, spelled, len, came) => with_key(
                 first, spelled, len, came, byte,
             ),
@@ -67,75 +67,33 @@ impl PartialHead {
 }
 
 // The first byte (RFC 6455 section 5.2), behind the open message (section 5.4).
-fn with_first(byte: u8, limits: Limits, open: Option<OpenMessage>) -> HeadStep
-    ensures { (role : Role) (group : List Frame) (bytes : List ℕ) → IsOpenMessage «open» group →
-        IsInHead role limits group PartialHead.Empty bytes → IsStep role limits group result (bytes ++ byte ∷ []) }
+fn with_first(byte: u8, context: &FrameContext) -> HeadStep
+    ensures { (role : Role) (group : List Frame) (bytes : List ℕ) → IsOpenMessage context.now.message group →
+        IsInHead role context.now.limits group PartialHead.Empty bytes →
+        IsStep role context.now.limits group result (bytes ++ byte ∷ []) }
 {
     let first = match wsn_wire::first(byte) {
         Ok(first) => first,
         Err(reason) => return HeadStep::Refused(reason),
     };
-    match misplaced(first.op, limits, open) {
+    match context.misplaced(first.op) {
         Some(reason) => HeadStep::Refused(reason),
         None => HeadStep::More(PartialHead::First(first)),
     }
 }
 
-// Why a frame may not stand behind the open message, by its opcode (RFC 6455 section 5.4), or by how many
-// frames the message has (section 10.4).
-pub fn misplaced(op: Op, limits: Limits, open: Option<OpenMessage>) -> Option<Reason>
-    ensures { (group : List Frame) (first : ℕ) → IsOpenMessage «open» group →
-        opcode_field first ≡ opcode op → ((reason : Reason) → ¬ (ShownByFirst reason first)) →
-        MatchOption result ((reason : Reason) → ¬ (EvidentByFirst limits group reason first)) (λ reason.
-        IsFirstShown (λ other. EvidentByFirst limits group other first) reason) }
-{
-    match open {
-        None => match op {
-            Op::Continue => Some(Reason::NothingToContinue),
-            _ => None,
-        },
-        Some(message) => match op {
-            Op::Text | Op::Binary => Some(Reason::MessageOpen),
-            Op::Continue => {
-                if has_all_frames(message, limits) {
-                    Some(Reason::TooManyFrames)
-                } else {
-                    None
-                }
-            }
-            Op::Close | Op::Ping | Op::Pong => None,
-        },
-    }
-}
-
-// Whether the message has as many frames as it may (RFC 6455 section 10.4).
-fn has_all_frames(message: OpenMessage, limits: Limits) -> bool
-    ensures { IsTrue result ↔ (limits.frames ≡ Some message.frames) }
-{
-    match limits.frames() {
-        Some(most) => message.frames == u64::from(most),
-        None => false,
-    }
-}
-
 // The second byte (RFC 6455 sections 5.1 and 5.2).
-fn with_second(
-    first: FirstByte,
-    byte: u8,
-    role: Role,
-    limits: Limits,
-    open: Option<OpenMessage>,
-) -> HeadStep
-    ensures { (group : List Frame) (bytes : List ℕ) → IsOpenMessage «open» group →
-        IsInHead role limits group (PartialHead.First first) bytes →
-        IsStep role limits group result (bytes ++ byte ∷ []) }
+fn with_second(first: FirstByte, byte: u8, context: &FrameContext) -> HeadStep
+    ensures { (group : List Frame) (bytes : List ℕ) → IsOpenMessage context.now.message group →
+        IsInHead context.now.role context.now.limits group (PartialHead.First first) bytes →
+        IsStep context.now.role context.now.limits group result (bytes ++ byte ∷ []) }
 {
-    let spelled = match wsn_wire::second(first, role, byte) {
+    let spelled = match wsn_wire::second(first, context.role, byte) {
         Ok(spelled) => spelled,
         Err(reason) => return HeadStep::Refused(reason),
     };
     match spelled {
-        LenForm::Short(len) => after_length(first, spelled, u64::from(len), role, limits, open),
+        LenForm::Short(len) => after_length(first, spelled, u64::from(len), context),
         LenForm::Two => HeadStep::More(PartialHead::Two(first, ArrayVec::new())),
         LenForm::Eight => HeadStep::More(PartialHead::Eight(first, ArrayVec::new())),
     }
@@ -146,21 +104,19 @@ fn with_two(
     first: FirstByte,
     mut came: ArrayVec<u8, 2>,
     byte: u8,
-    role: Role,
-    limits: Limits,
-    open: Option<OpenMessage>,
+    context: &FrameContext,
 ) -> HeadStep
-    ensures { (group : List Frame) (bytes : List ℕ) → IsOpenMessage «open» group →
-        IsInHead role limits group (PartialHead.Two first came) bytes →
-        IsStep role limits group result (bytes ++ byte ∷ []) }
+    ensures { (group : List Frame) (bytes : List ℕ) → IsOpenMessage context.now.message group →
+        IsInHead context.now.role context.now.limits group (PartialHead.Two first came) bytes →
+        IsStep context.now.role context.now.limits group result (bytes ++ byte ∷ []) }
 {
     let _fits = came.try_push(byte);
     let whole = match came.into_inner() {
         Ok(whole) => whole,
         Err(came) => return HeadStep::More(PartialHead::Two(first, came)),
     };
-    match wsn_wire::two(whole, limits.lengths()) {
-        Ok(len) => after_length(first, LenForm::Two, len, role, limits, open),
+    match wsn_wire::two(whole, context.limits.lengths()) {
+        Ok(len) => after_length(first, LenForm::Two, len, context),
         Err(reason) => HeadStep::Refused(reason),
     }
 }
@@ -170,42 +126,34 @@ fn with_eight(
     first: FirstByte,
     mut came: ArrayVec<u8, 8>,
     byte: u8,
-    role: Role,
-    limits: Limits,
-    open: Option<OpenMessage>,
+    context: &FrameContext,
 ) -> HeadStep
-    ensures { (group : List Frame) (bytes : List ℕ) → IsOpenMessage «open» group →
-        IsInHead role limits group (PartialHead.Eight first came) bytes →
-        IsStep role limits group result (bytes ++ byte ∷ []) }
+    ensures { (group : List Frame) (bytes : List ℕ) → IsOpenMessage context.now.message group →
+        IsInHead context.now.role context.now.limits group (PartialHead.Eight first came) bytes →
+        IsStep context.now.role context.now.limits group result (bytes ++ byte ∷ []) }
 {
     let _fits = came.try_push(byte);
     let whole = match came.into_inner() {
         Ok(whole) => whole,
         Err(came) => return HeadStep::More(PartialHead::Eight(first, came)),
     };
-    match wsn_wire::eight(whole, limits.lengths()) {
-        Ok(len) => after_length(first, LenForm::Eight, len, role, limits, open),
+    match wsn_wire::eight(whole, context.limits.lengths()) {
+        Ok(len) => after_length(first, LenForm::Eight, len, context),
         Err(reason) => HeadStep::Refused(reason),
     }
 }
 
 // What a whole length means: the message is too big (RFC 6455 section 10.4), or a client's key follows
 // (section 5.3), or the head is whole.
-fn after_length(
-    first: FirstByte,
-    spelled: LenForm,
-    len: u64,
-    role: Role,
-    limits: Limits,
-    open: Option<OpenMessage>,
-) -> HeadStep
-    ensures { (group : List Frame) (bytes : List ℕ) → IsOpenMessage «open» group →
-        HasLength role limits group first spelled len bytes → IsStep role limits group result bytes }
+fn after_length(first: FirstByte, spelled: LenForm, len: u64, context: &FrameContext) -> HeadStep
+    ensures { (group : List Frame) (bytes : List ℕ) → IsOpenMessage context.now.message group →
+        HasLength context.now.role context.now.limits group first spelled len bytes →
+        IsStep context.now.role context.now.limits group result bytes }
 {
-    if is_too_big(first.op, len, limits, open) {
+    if context.is_too_big(first.op, len) {
         return HeadStep::Refused(Reason::MessageTooBig);
     }
-    match role {
+    match context.role {
         Role::Client => HeadStep::More(PartialHead::Key(first, spelled, len, ArrayVec::new())),
         Role::Server => HeadStep::Whole(Head {
             first,
@@ -213,23 +161,6 @@ fn after_length(
             len,
             key: None,
         }),
-    }
-}
-
-// Whether the message passes the limit with a payload of `len` bytes more.
-pub fn is_too_big(op: Op, len: u64, limits: Limits, open: Option<OpenMessage>) -> bool
-    ensures { (group : List Frame) → IsOpenMessage «open» group →
-        IsTrue result ↔ (IsDataOpcode (opcode op) × (limits.message < length (text_of group) + len)) }
-{
-    let size = match open {
-        Some(message) => u64::from(message.size),
-        None => 0,
-    };
-    match op {
-        Op::Continue | Op::Text | Op::Binary => {
-            size.saturating_add(len) > u64::from(limits.message())
-        }
-        Op::Close | Op::Ping | Op::Pong => false,
     }
 }
 
@@ -241,9 +172,9 @@ fn with_key(
     mut came: ArrayVec<u8, 4>,
     byte: u8,
 ) -> HeadStep
-    ensures { (role : Role) (bounds : Bounds) (group : List Frame) (bytes : List ℕ) →
-        IsInHead role bounds group (PartialHead.Key first spelled len came) bytes →
-        IsStep role bounds group result (bytes ++ byte ∷ []) }
+    ensures { (role : Role) (limits : Limits) (group : List Frame) (bytes : List ℕ) →
+        IsInHead role limits group (PartialHead.Key first spelled len came) bytes →
+        IsStep role limits group result (bytes ++ byte ∷ []) }
 {
     let _fits = came.try_push(byte);
     match came.into_inner() {
@@ -267,7 +198,7 @@ impl PartialHead {
 }
 
 impl Head {
-    /// What is told of it, where the frame begins at `place`.
+    /// What is reported of it, where the frame begins at `place`.
     pub fn info(&self, place: u64) -> HeadInfo
         ensures { result ≡ info_at place self.now }
     {

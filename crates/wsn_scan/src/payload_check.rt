@@ -1,13 +1,13 @@
 ghost use Rattle.std.specs.Prelude.{◌≡◌, ◌≢◌, ℕ, ◌+◌, ◌<◌, ◌≤◌, ◌^◌, ◌⊎◌, ◌↔◌, true, None, List, [], ◌++◌, length, IsTrue, IsSome, IfErr};
-ghost use Rattle.wsn_scan.specs.Summary.{close_code};
+ghost use Rattle.wsn_rules.specs.Summary.{close_code};
 ghost use Rattle.wsn_wire.specs.declared.opcode.Op.TheVariants.{Continue, Text, Binary};
 ghost use Rattle.wsn_wire.specs.declared.refusal.Reason.{Reason};
 ghost use Rattle.wsn_wire.specs.declared.refusal.Reason.TheVariants.{CloseReason, TextCut};
 ghost use Rattle.wsn_wire.specs.Frame.{Frame, first_byte};
 ghost use Rattle.wsn_wire.specs.Layout.{fin_bit};
 ghost use Rattle.wsn_text.specs.Utf8.{BeginsText};
-ghost use Rattle.wsn_text.specs.Taken.{HasTaken};
-ghost use Rattle.wsn_scan.specs.Evidence.{EvidentByPayload};
+ghost use Rattle.wsn_text.specs.Validated.{HasValidated};
+ghost use Rattle.wsn_rules.specs.Evidence.{EvidentByPayload};
 ghost use Rattle.wsn_scan.specs.OpenMessages.{IsOpenMessage};
 ghost use Rattle.wsn_scan.specs.PayloadChecks.{HasChecked, IsChecked, IsBody, IsBodyChecked, IsTextTaken};
 
@@ -162,7 +162,7 @@ fn feed_code(code: [u8; 2], at: usize, rest: &[u8], last: bool) -> Result<Payloa
 fn feed_reason(reason: Utf8, piece: &[u8], last: bool) -> Result<Utf8, BadByte>
     requires { 0 < length piece.now }
     ensures within { IfErr result (λ bad. bad.at ≤ length piece.now) }
-    ensures taken { (taken : List ℕ) → HasTaken reason taken → BeginsText taken
+    ensures taken { (taken : List ℕ) → HasValidated reason taken → BeginsText taken
         → IsTextTaken taken piece.now last CloseReason CloseReason result }
 {
     let shown = Reason::CloseReason;
@@ -181,7 +181,7 @@ fn feed_text(
 ) -> Result<Utf8, BadByte>
     requires { 0 < length piece.now }
     ensures within { IfErr result (λ bad. bad.at ≤ length piece.now) }
-    ensures taken { (taken : List ℕ) → HasTaken utf8 taken → BeginsText taken
+    ensures taken { (taken : List ℕ) → HasValidated utf8 taken → BeginsText taken
         → IsTextTaken taken piece.now ends bad cut result }
 {
     utf8.feed(piece).map_err(|at| BadByte { at, reason: bad })?;

@@ -1,7 +1,7 @@
 //! `put_event` and `is_lawful`: the examples of RFC 6455 section 5.7, each spelling of a length, a close, and a write
 //! that fails.
 
-use crate::ends::{Full, Narrow};
+use crate::doubles::{Full, Narrow};
 use std::alloc::Global;
 use std::process::Abort;
 use std::test::Fail;
@@ -30,9 +30,28 @@ fn put(rt: &impl Abort, alloc: Global, role: Role, event: &Event) -> Vec<u8> {
     writer.taken
 }
 
-fn expect_front(rt: &impl Abort, out: &[u8], len: usize, front: &[u8]) {
-    assert_eq!(rt; out.len(), len);
-    assert!(rt; out.starts_with(front));
+/// A payload of so many bytes, of which none is like those beside it.
+fn payload_of(alloc: Global, size: usize) -> Result<Vec<u8>, Fail> {
+    let mut payload = Vec::new(alloc);
+    for i in 0..size {
+        payload.push((i % 251) as u8)?;
+    }
+    Ok(payload)
+}
+
+/// A server's binary message of so many bytes is this head and its payload.
+fn expect_binary(rt: &impl Abort, alloc: Global, size: usize, head: &[u8]) -> Result<(), Fail> {
+    let payload = payload_of(alloc, size)?;
+    let mut wanted = head.to_vec(alloc)?;
+    wanted.extend_from_slice(payload.as_slice())?;
+    let out = put(
+        rt,
+        alloc,
+        Role::Server,
+        &Event::Message(Kind::Binary, payload),
+    );
+    assert!(rt; out.as_slice() == wanted.as_slice(), "{size} bytes");
+    Ok(())
 }
 
 #[test]
@@ -40,30 +59,25 @@ fn the_examples_of_the_rfc(rt: HostRuntime) -> Result<(), Fail> {
     let alloc = rt.alloc();
     let hello = message(alloc, Kind::Text, b"Hello")?;
     let out = put(&rt, alloc, Role::Server, &hello);
-    expect_front(&rt, &out, 7, b"\x81\x05Hello");
+    assert_eq!(rt; out.as_slice(), b"\x81\x05Hello".as_slice());
     let ping = Event::Ping(small(b"Hello")?);
     let out = put(&rt, alloc, Role::Server, &ping);
-    expect_front(&rt, &out, 7, b"\x89\x05Hello");
+    assert_eq!(rt; out.as_slice(), b"\x89\x05Hello".as_slice());
     let pong = Event::Pong(small(b"Hello")?);
     let out = put(&rt, alloc, Role::Client, &pong);
-    expect_front(&rt, &out, 11, b"\x8a\x85\0\0\0\0Hello");
-    let long = message(alloc, Kind::Binary, [7; 256].as_slice())?;
-    let out = put(&rt, alloc, Role::Server, &long);
-    expect_front(&rt, &out, 260, &[0x82, 0x7e, 1, 0, 7]);
-    let longer = message(alloc, Kind::Binary, [7; 65_536].as_slice())?;
-    let out = put(&rt, alloc, Role::Server, &longer);
-    expect_front(&rt, &out, 65_546, &[0x82, 0x7f, 0, 0, 0, 0, 0, 1, 0, 0, 7]);
-    Ok(())
+    assert_eq!(rt; out.as_slice(), b"\x8a\x85\0\0\0\0Hello".as_slice());
+    expect_binary(&rt, alloc, 256, &[0x82, 0x7e, 1, 0])?;
+    expect_binary(&rt, alloc, 65_536, &[0x82, 0x7f, 0, 0, 0, 0, 0, 1, 0, 0])
 }
 
 #[test]
 fn a_close_with_and_without_a_code(rt: HostRuntime) -> Result<(), Fail> {
     let alloc = rt.alloc();
     let out = put(&rt, alloc, Role::Server, &Event::Close(None));
-    expect_front(&rt, &out, 2, &[0x88, 0]);
+    assert_eq!(rt; out.as_slice(), [0x88, 0].as_slice());
     let close = Event::Close(Some((1002, small(b"bye")?)));
     let out = put(&rt, alloc, Role::Client, &close);
-    expect_front(&rt, &out, 11, b"\x88\x85\0\0\0\0\x03\xeabye");
+    assert_eq!(rt; out.as_slice(), b"\x88\x85\0\0\0\0\x03\xeabye".as_slice());
     Ok(())
 }
 

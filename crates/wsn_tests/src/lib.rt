@@ -1,34 +1,60 @@
-//! Tests that cross crates: the program's work over readers and writers that chop, fail and stall, and with
-//! memory refused. Nothing here is a library.
+//! Tests that cross crates. Nothing here is a library.
+//!
+//! Each command has a file: `judge`, `frames`, `normal`, `same`. Each rule has one, with the streams that show it,
+//! read in every way: `heads`, `masking`, `fragmentation`, `text`, `close`, `lengths`, `limits`. `endings` is of
+//! streams that are cut short, go on or never end, `stops` of readers and writers that fail, `memory` of memory that
+//! is refused. `scanner`, `source` and `events` are of what the commands are made of.
+//!
+//! `rows` says what a stream is that is written out, and `every_way` how it is read. `doubles` has the readers,
+//! writers and heaps that chop, fail and stall; `engines`, `outcomes` and `lines` say a call, a command's run and a
+//! printed line once.
 #![tactic(auto)]
 
 #[cfg(test)]
-mod commands;
+mod close;
 #[cfg(test)]
-mod comparing;
+mod doubles;
 #[cfg(test)]
-mod ends;
+mod endings;
+#[cfg(test)]
+mod engines;
 #[cfg(test)]
 mod events;
 #[cfg(test)]
-mod growths;
+mod every_way;
 #[cfg(test)]
-mod judging;
+mod fragmentation;
+#[cfg(test)]
+mod frames;
+#[cfg(test)]
+mod heads;
+#[cfg(test)]
+mod judge;
+#[cfg(test)]
+mod lengths;
+#[cfg(test)]
+mod limits;
 #[cfg(test)]
 mod lines;
 #[cfg(test)]
-mod listing;
+mod masking;
+#[cfg(test)]
+mod memory;
 #[cfg(test)]
 mod normal;
 #[cfg(test)]
-mod normalising;
-#[cfg(test)]
 mod outcomes;
 #[cfg(test)]
-mod scan_calls;
+mod plan_text;
 #[cfg(test)]
-mod scan_pieces;
+mod rows;
 #[cfg(test)]
-mod sourcing;
+mod same;
 #[cfg(test)]
-mod vectors;
+mod scanner;
+#[cfg(test)]
+mod source;
+#[cfg(test)]
+mod stops;
+#[cfg(test)]
+mod text;

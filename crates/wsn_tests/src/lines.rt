@@ -1,6 +1,8 @@
-//! The lines that verdicts and frames are printed as, written for the tests alone.
+//! The lines that answers and frames are printed as, written for the tests alone.
 
+use crate::rows::Stream;
 use std::alloc::{AllocError, Global};
+use wsn_canon::Compared;
 use wsn_scan::{HeadInfo, Refusal, Stop, Summary, Verdict};
 use wsn_wire::{Form, Op};
 
@@ -21,6 +23,31 @@ pub fn answer_line(alloc: Global, answer: &Result<Verdict, Stop>) -> Result<Stri
     match answer {
         Ok(verdict) => verdict_line(alloc, verdict),
         Err(stop) => format!(in alloc; "{stop}"),
+    }
+}
+
+/// The line of what `same` answered, or of what ended its work.
+pub fn compared_line(alloc: Global, answer: &Result<Compared, Stop>) -> Result<String, AllocError> {
+    match answer {
+        Ok(Compared::Equal) => format!(in alloc; "equal"),
+        Ok(Compared::Different(index)) => format!(in alloc; "different {index}"),
+        Ok(Compared::NotAccepted { second, verdict }) => {
+            let which = if *second { "second" } else { "first" };
+            let line = verdict_line(alloc, verdict)?;
+            format!(in alloc; "{which} {line}")
+        }
+        Err(stop) => format!(in alloc; "{stop}"),
+    }
+}
+
+/// What `list` writes of a stream: the lines of its frames, and its verdict's if it has one.
+pub fn listing(alloc: Global, stream: &Stream) -> Result<String, AllocError> {
+    let frames = stream.frames;
+    let verdict = stream.verdict;
+    if stream.is_too_long() {
+        format!(in alloc; "{frames}")
+    } else {
+        format!(in alloc; "{frames}{verdict}\n")
     }
 }
 

@@ -1,6 +1,6 @@
 //! What a command leaves, run over readers and writers of the tests.
 
-use crate::ends::{Chopped, Narrow};
+use crate::doubles::{Chopped, Narrow};
 use std::alloc::{Allocator, Global};
 use std::process::Abort;
 use wsn_job::{Job, run, run_same};
@@ -69,16 +69,5 @@ pub fn compared_on<A: Allocator + Copy>(
         status,
         out: writer.taken,
         said,
-    }
-}
-
-/// The status that a line of a verdict calls for; 2 for a stop.
-pub fn status_of(line: &str) -> u8 {
-    if line.starts_with("accepted") {
-        0
-    } else if line.starts_with("cut") || line.starts_with("refused") {
-        1
-    } else {
-        2
     }
 }

@@ -2,7 +2,7 @@
 use Rattle.std.proofs.Common.{◌≡◌, ◌≢◌, ℕ, List, [], ◌∷◌, Option, refl, sym, subst, append-nil, arith}
 use Rattle.wsn_text.specs.Utf8.{Range, ◌–◌, IsText}
 use Rattle.wsn_text.specs.Rest.{Follows}
-use Rattle.wsn_text.specs.Taken.{HasTaken}
+use Rattle.wsn_text.specs.Validated.{HasValidated}
 use Rattle.wsn_text.specs.Expected.{awaited}
 use Rattle.wsn_text.specs.declared.pieces.Expected.{Expected}
 use Rattle.wsn_text.specs.declared.pieces.Expected.TheVariants.{Character, One, Two, TwoFromA0, TwoUpTo9F, Three, ThreeFrom90, ThreeUpTo8F, Nothing}
@@ -20,12 +20,12 @@ not_at_end ThreeFrom90 other follows = follows
 not_at_end ThreeUpTo8F other follows = follows
 not_at_end Nothing other follows = follows
 
-pub text_between : (expected : Expected) (state : Option (List Range)) (taken : List ℕ) → awaited expected ≡ state → expected ≡ Character → HasTaken state taken → IsText taken
+pub text_between : (expected : Expected) (state : Option (List Range)) (taken : List ℕ) → awaited expected ≡ state → expected ≡ Character → HasValidated state taken → IsText taken
 text_between expected state taken seen between has =
     let follows : Follows (awaited expected) [] = subst (λ (e : Expected). Follows (awaited e) []) (sym between) text-nil in
     subst IsText (append-nil taken) ((has.continues []).1 (subst (λ (ranges : Option (List Range)). Follows ranges []) seen follows))
 
-pub no_text_inside : (expected : Expected) (state : Option (List Range)) (taken : List ℕ) → awaited expected ≡ state → expected ≢ Character → HasTaken state taken → ¬ (IsText taken)
+pub no_text_inside : (expected : Expected) (state : Option (List Range)) (taken : List ℕ) → awaited expected ≡ state → expected ≢ Character → HasValidated state taken → ¬ (IsText taken)
 no_text_inside expected state taken seen inside has text =
     let follows : Follows state [] = (has.continues []).0 (subst IsText (sym (append-nil taken)) text) in
     not_at_end expected inside (subst (λ (ranges : Option (List Range)). Follows ranges []) (sym seen) follows)

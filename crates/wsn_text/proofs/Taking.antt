@@ -5,8 +5,8 @@ use Rattle.std.proofs.lemmas.List.{take-append-drop, take_more, length-append}
 use Rattle.std.specs.Result.{MatchResult, IfErr, IsOk}
 use Rattle.wsn_text.specs.Utf8.{Range, IsText, BeginsText, IsFirstBad}
 use Rattle.wsn_text.specs.Rest.{Follows}
-use Rattle.wsn_text.specs.Taken.{HasTaken}
-use Rattle.wsn_text.specs.Piece.{Takes, Breaks}
+use Rattle.wsn_text.specs.Validated.{HasValidated}
+use Rattle.wsn_text.specs.Piece.{Validates, Breaks}
 use Rattle.wsn_text.proofs.Boundaries.{text_behind}
 use Rattle.wsn_text.proofs.Fronts.{text-append, text_begins, begins_front, begins_shorter, first_bad-append}
 
@@ -21,22 +21,22 @@ Live state = (more : List ℕ) × Follows state more
 abbrev pub Dead : State → Type 0
 Dead state = (more : List ℕ) → ¬ (Follows state more)
 
-begins_live : (state : State) (taken : List ℕ) → HasTaken state taken → Live state → BeginsText taken
+begins_live : (state : State) (taken : List ℕ) → HasValidated state taken → Live state → BeginsText taken
 begins_live state taken has live = record { more = live.0; text = (has.continues live.0).1 live.1 }
 
-ends_dead : (state : State) (taken : List ℕ) → HasTaken state taken → Dead state → ¬ (BeginsText taken)
+ends_dead : (state : State) (taken : List ℕ) → HasValidated state taken → Dead state → ¬ (BeginsText taken)
 ends_dead state taken has dead begins = dead begins.more ((has.continues begins.more).0 begins.text)
 
-dead_state : (state : State) (taken : List ℕ) → HasTaken state taken → ¬ (BeginsText taken) → Dead state
+dead_state : (state : State) (taken : List ℕ) → HasValidated state taken → ¬ (BeginsText taken) → Dead state
 dead_state state taken has ends more follows = ends (record { more = more; text = (has.continues more).1 follows })
 
-stays_dead : (state : State) (taken back : List ℕ) → HasTaken state taken → Dead state → HasTaken state (taken ++ back)
+stays_dead : (state : State) (taken back : List ℕ) → HasValidated state taken → Dead state → HasValidated state (taken ++ back)
 stays_dead state taken back has dead =
     record { continues = λ more. (λ text. absurd (ends_dead state taken has dead (begins_front taken (back ++ more) (text_begins _ (subst IsText (append_assoc taken back more) text)))), λ follows. absurd (dead more follows)) }
 
 -- one byte
 
-pushed : (old new : State) (b : ℕ) → ((more : List ℕ) → Follows old (b ∷ more) ↔ Follows new more) → (taken : List ℕ) → HasTaken old taken → HasTaken new (taken ++ b ∷ [])
+pushed : (old new : State) (b : ℕ) → ((more : List ℕ) → Follows old (b ∷ more) ↔ Follows new more) → (taken : List ℕ) → HasValidated old taken → HasValidated new (taken ++ b ∷ [])
 pushed old new b same taken has =
     record {
       continues = λ more.
@@ -46,13 +46,13 @@ pushed old new b same taken has =
 
 -- `new` has taken the first n of the bytes where `old` had taken none of them
 abbrev pub TakesFirst : State → State → List ℕ → ℕ → Type 0
-TakesFirst old new bytes n = (taken : List ℕ) → HasTaken old taken → HasTaken new (taken ++ take n bytes)
+TakesFirst old new bytes n = (taken : List ℕ) → HasValidated old taken → HasValidated new (taken ++ take n bytes)
 
 pub takes_next : (old before new : State) (bytes : List ℕ) (i : ℕ) → i < length bytes → TakesFirst old before bytes i
     → ((more : List ℕ) → Follows before (get_or bytes i 0 ∷ more) ↔ Follows new more) → TakesFirst old new bytes (i + 1)
 takes_next old before new bytes i less takes same taken has =
     let e : (taken ++ take i bytes) ++ get_or bytes i 0 ∷ [] ≡ taken ++ take (i + 1) bytes = append_assoc taken (take i bytes) (get_or bytes i 0 ∷ []) ∙ ap (λ (front : List ℕ). taken ++ front) (sym (take_more bytes i 0 less)) in
-    subst (HasTaken new) e (pushed before new (get_or bytes i 0) same (taken ++ take i bytes) (takes taken has))
+    subst (HasValidated new) e (pushed before new (get_or bytes i 0) same (taken ++ take i bytes) (takes taken has))
 
 pub breaks_at : (old before new : State) (bytes : List ℕ) (i : ℕ) → i < length bytes → TakesFirst old before bytes i → Live before
     → ((more : List ℕ) → Follows before (get_or bytes i 0 ∷ more) ↔ Follows new more) → Dead new → Breaks old new bytes i
@@ -61,10 +61,10 @@ breaks_at old before new bytes i less takes live same dead =
     let front_of : (taken : List ℕ) (n : ℕ) → take (length taken + n) (taken ++ bytes) ≡ taken ++ take n bytes = λ taken n. take-append-add taken bytes n in
     let whole : (taken : List ℕ) → (taken ++ take (i + 1) bytes) ++ drop (i + 1) bytes ≡ taken ++ bytes =
     λ taken. append_assoc taken (take (i + 1) bytes) (drop (i + 1) bytes) ∙ ap (λ (piece : List ℕ). taken ++ piece) (take-append-drop (i + 1) bytes) in
-    let good : (taken : List ℕ) → HasTaken old taken → BeginsText (taken ++ take i bytes) = λ taken has. begins_live before (taken ++ take i bytes) (takes taken has) live in
-    let bad : (taken : List ℕ) → HasTaken old taken → ¬ (BeginsText (taken ++ take (i + 1) bytes)) = λ taken has. ends_dead new (taken ++ take (i + 1) bytes) (next taken has) dead in
+    let good : (taken : List ℕ) → HasValidated old taken → BeginsText (taken ++ take i bytes) = λ taken has. begins_live before (taken ++ take i bytes) (takes taken has) live in
+    let bad : (taken : List ℕ) → HasValidated old taken → ¬ (BeginsText (taken ++ take (i + 1) bytes)) = λ taken has. ends_dead new (taken ++ take (i + 1) bytes) (next taken has) dead in
     record {
-      taken = λ taken has. subst (HasTaken new) (whole taken) (stays_dead new (taken ++ take (i + 1) bytes) (drop (i + 1) bytes) (next taken has) dead);
+      taken = λ taken has. subst (HasValidated new) (whole taken) (stays_dead new (taken ++ take (i + 1) bytes) (drop (i + 1) bytes) (next taken has) dead);
       ends = λ taken has begins. bad taken has (begins_front (taken ++ take (i + 1) bytes) (drop (i + 1) bytes) (subst BeginsText (sym (whole taken)) begins));
       first = λ taken has begins. record {
         within = omega (arith, length-append taken bytes);
@@ -76,9 +76,9 @@ breaks_at old before new bytes i less takes live same dead =
 
 -- a text, where text was taken
 
-pub takes_text : (state : State) (text : List ℕ) → ((taken : List ℕ) → HasTaken state taken → IsText taken) → IsText text → Takes state state text
+pub takes_text : (state : State) (text : List ℕ) → ((taken : List ℕ) → HasValidated state taken → IsText taken) → IsText text → Validates state state text
 takes_text state text whole is_text =
-    let both : (taken : List ℕ) → HasTaken state taken → IsText (taken ++ text) = λ taken has. text-append taken text (whole taken has) is_text in
+    let both : (taken : List ℕ) → HasValidated state taken → IsText (taken ++ text) = λ taken has. text-append taken text (whole taken has) is_text in
     record {
       taken = λ taken has. record {
         continues = λ more. (
@@ -91,19 +91,19 @@ takes_text state text whole is_text =
 
 -- one piece behind another
 
-pub takes_then_takes : (old mid new : State) (front back bytes : List ℕ) → bytes ≡ front ++ back → Takes old mid front → Takes mid new back → Takes old new bytes
+pub takes_then_takes : (old mid new : State) (front back bytes : List ℕ) → bytes ≡ front ++ back → Validates old mid front → Validates mid new back → Validates old new bytes
 takes_then_takes old mid new front back bytes joined first second =
     let whole : (taken : List ℕ) → (taken ++ front) ++ back ≡ taken ++ bytes = λ taken. append_assoc taken front back ∙ ap (λ (piece : List ℕ). taken ++ piece) (sym joined) in
     record {
-      taken = λ taken has. subst (HasTaken new) (whole taken) (second.taken (taken ++ front) (first.taken taken has));
+      taken = λ taken has. subst (HasValidated new) (whole taken) (second.taken (taken ++ front) (first.taken taken has));
       begins = λ taken has. subst BeginsText (whole taken) (second.begins (taken ++ front) (first.taken taken has));
     }
 
-pub takes_then_breaks : (old mid new : State) (front back bytes : List ℕ) (i : ℕ) → bytes ≡ front ++ back → Takes old mid front → Breaks mid new back i → Breaks old new bytes (length front + i)
+pub takes_then_breaks : (old mid new : State) (front back bytes : List ℕ) (i : ℕ) → bytes ≡ front ++ back → Validates old mid front → Breaks mid new back i → Breaks old new bytes (length front + i)
 takes_then_breaks old mid new front back bytes i joined first second =
     let whole : (taken : List ℕ) → (taken ++ front) ++ back ≡ taken ++ bytes = λ taken. append_assoc taken front back ∙ ap (λ (piece : List ℕ). taken ++ piece) (sym joined) in
     record {
-      taken = λ taken has. subst (HasTaken new) (whole taken) (second.taken (taken ++ front) (first.taken taken has));
+      taken = λ taken has. subst (HasValidated new) (whole taken) (second.taken (taken ++ front) (first.taken taken has));
       ends = λ taken has begins. second.ends (taken ++ front) (first.taken taken has) (subst BeginsText (sym (whole taken)) begins);
       first = λ taken has begins.
           let place : length (taken ++ front) + i ≡ length taken + (length front + i) = omega (arith, length-append taken front) in
@@ -117,8 +117,8 @@ breaks_then old new front back bytes i joined first =
     let whole : (taken : List ℕ) → (taken ++ front) ++ back ≡ taken ++ bytes = λ taken. append_assoc taken front back ∙ ap (λ (piece : List ℕ). taken ++ piece) (sym joined) in
     record {
       taken = λ taken has.
-          let now : HasTaken new (taken ++ front) = first.taken taken has in
-          subst (HasTaken new) (whole taken) (stays_dead new (taken ++ front) back now (dead_state new (taken ++ front) now (first.ends taken has)));
+          let now : HasValidated new (taken ++ front) = first.taken taken has in
+          subst (HasValidated new) (whole taken) (stays_dead new (taken ++ front) back now (dead_state new (taken ++ front) now (first.ends taken has)));
       ends = λ taken has begins. first.ends taken has (begins_front (taken ++ front) back (subst BeginsText (sym (whole taken)) begins));
       first = λ taken has begins. subst (λ (all : List ℕ). IsFirstBad all (length taken + i)) (whole taken) (first_bad-append (taken ++ front) back (length taken + i) (first.first taken has begins));
       later = first.later;
@@ -129,36 +129,36 @@ breaks_then old new front back bytes i joined first =
 abbrev pub Shifted : {T : Type 0} → Result T ℕ → Result T ℕ → ℕ → Type 0
 Shifted answer shifted n = MatchResult answer (λ x. shifted ≡ Ok x) (λ i. shifted ≡ Err (n + i))
 
-pub answers_behind : {T : Type 0} (old mid new : State) (front back bytes : List ℕ) (answer shifted : Result T ℕ) → bytes ≡ front ++ back → Takes old mid front → Shifted answer shifted (length front)
-    → MatchResult answer (λ _. Takes mid new back) (Breaks mid new back) → MatchResult shifted (λ _. Takes old new bytes) (Breaks old new bytes)
+pub answers_behind : {T : Type 0} (old mid new : State) (front back bytes : List ℕ) (answer shifted : Result T ℕ) → bytes ≡ front ++ back → Validates old mid front → Shifted answer shifted (length front)
+    → MatchResult answer (λ _. Validates mid new back) (Breaks mid new back) → MatchResult shifted (λ _. Validates old new bytes) (Breaks old new bytes)
 answers_behind old mid new front back bytes (Ok x) shifted joined first is second =
-    subst (λ (r : Result _ ℕ). MatchResult r (λ _. Takes old new bytes) (Breaks old new bytes)) (sym is) (takes_then_takes old mid new front back bytes joined first second)
+    subst (λ (r : Result _ ℕ). MatchResult r (λ _. Validates old new bytes) (Breaks old new bytes)) (sym is) (takes_then_takes old mid new front back bytes joined first second)
 answers_behind old mid new front back bytes (Err i) shifted joined first is second =
-    subst (λ (r : Result _ ℕ). MatchResult r (λ _. Takes old new bytes) (Breaks old new bytes)) (sym is) (takes_then_breaks old mid new front back bytes i joined first second)
+    subst (λ (r : Result _ ℕ). MatchResult r (λ _. Validates old new bytes) (Breaks old new bytes)) (sym is) (takes_then_breaks old mid new front back bytes i joined first second)
 
 pub answers_before : {T : Type 0} (old new : State) (front back bytes : List ℕ) (answer : Result T ℕ) (i : ℕ) → bytes ≡ front ++ back → answer ≡ Err i → Breaks old new front i
-    → MatchResult answer (λ _. Takes old new bytes) (Breaks old new bytes)
+    → MatchResult answer (λ _. Validates old new bytes) (Breaks old new bytes)
 answers_before old new front back bytes answer i joined is first =
-    subst (λ (r : Result _ ℕ). MatchResult r (λ _. Takes old new bytes) (Breaks old new bytes)) (sym is) (breaks_then old new front back bytes i joined first)
+    subst (λ (r : Result _ ℕ). MatchResult r (λ _. Validates old new bytes) (Breaks old new bytes)) (sym is) (breaks_then old new front back bytes i joined first)
 
 -- what `feed` says of its answer
 
-pub taken_of : {T : Type 0} (old new : State) (piece : List ℕ) (answer : Result T ℕ) → MatchResult answer (λ _. Takes old new piece) (Breaks old new piece)
-    → (taken : List ℕ) → HasTaken old taken → HasTaken new (taken ++ piece)
+pub taken_of : {T : Type 0} (old new : State) (piece : List ℕ) (answer : Result T ℕ) → MatchResult answer (λ _. Validates old new piece) (Breaks old new piece)
+    → (taken : List ℕ) → HasValidated old taken → HasValidated new (taken ++ piece)
 taken_of old new piece (Ok x) takes taken has = takes.taken taken has
 taken_of old new piece (Err i) breaks taken has = breaks.taken taken has
 
-pub ok_of : {T : Type 0} (old new : State) (piece : List ℕ) (answer : Result T ℕ) → MatchResult answer (λ _. Takes old new piece) (Breaks old new piece)
-    → (taken : List ℕ) → HasTaken old taken → IsOk answer ↔ BeginsText (taken ++ piece)
+pub ok_of : {T : Type 0} (old new : State) (piece : List ℕ) (answer : Result T ℕ) → MatchResult answer (λ _. Validates old new piece) (Breaks old new piece)
+    → (taken : List ℕ) → HasValidated old taken → IsOk answer ↔ BeginsText (taken ++ piece)
 ok_of old new piece (Ok x) takes taken has = (λ ok. takes.begins taken has, λ begins. refl)
 ok_of old new piece (Err i) breaks taken has = (λ ok. cc, λ begins. absurd (breaks.ends taken has begins))
 
-pub first_bad_of : {T : Type 0} (old new : State) (piece : List ℕ) (answer : Result T ℕ) → MatchResult answer (λ _. Takes old new piece) (Breaks old new piece)
-    → (taken : List ℕ) → HasTaken old taken → BeginsText taken → IfErr answer (λ i. IsFirstBad (taken ++ piece) (length taken + i))
+pub first_bad_of : {T : Type 0} (old new : State) (piece : List ℕ) (answer : Result T ℕ) → MatchResult answer (λ _. Validates old new piece) (Breaks old new piece)
+    → (taken : List ℕ) → HasValidated old taken → BeginsText taken → IfErr answer (λ i. IsFirstBad (taken ++ piece) (length taken + i))
 first_bad_of old new piece (Ok x) takes taken has begins = tt
 first_bad_of old new piece (Err i) breaks taken has begins = breaks.first taken has begins
 
-pub after_bad_of : {T : Type 0} (old new : State) (piece : List ℕ) (answer : Result T ℕ) → MatchResult answer (λ _. Takes old new piece) (Breaks old new piece)
-    → (taken : List ℕ) → HasTaken old taken → ¬ (BeginsText taken) → answer ≡ Err 0
+pub after_bad_of : {T : Type 0} (old new : State) (piece : List ℕ) (answer : Result T ℕ) → MatchResult answer (λ _. Validates old new piece) (Breaks old new piece)
+    → (taken : List ℕ) → HasValidated old taken → ¬ (BeginsText taken) → answer ≡ Err 0
 after_bad_of old new piece (Ok x) takes taken has ends = absurd (ends (begins_front taken piece (takes.begins taken has)))
 after_bad_of old new piece (Err i) breaks taken has ends = ap (λ (n : ℕ). Err n) (breaks.later taken has ends)

@@ -11,4 +11,5 @@ IsAcceptedCode code =
 -- Nothing, or two bytes of an accepted code, the higher first, and a reason in UTF-8.
 abbrev pub IsCloseBody : List ℕ → Type 0
 IsCloseBody body =
-    (body ≡ []) ⊎ ((code : ℕ) × (reason : List ℕ) × IsAcceptedCode code × IsText reason × (body ≡ to_be_bytes w16 code ++ reason))
+    (body ≡ []) ⊎ ((code : ℕ) × (reason : List ℕ) × IsAcceptedCode code × IsText reason ×
+    (body ≡ to_be_bytes w16 code ++ reason))

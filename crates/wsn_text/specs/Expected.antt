@@ -21,7 +21,8 @@ expecting None = Nothing
 expecting (Some []) = Character
 expecting (Some (r ∷ [])) = One
 expecting (Some (r ∷ s ∷ [])) = if r.low == 0xA0 then TwoFromA0 else (if r.high == 0x9F then TwoUpTo9F else Two)
-expecting (Some (r ∷ s ∷ t ∷ row)) = if r.low == 0x90 then ThreeFrom90 else (if r.high == 0x8F then ThreeUpTo8F else Three)
+expecting (Some (r ∷ s ∷ t ∷ row)) =
+    if r.low == 0x90 then ThreeFrom90 else (if r.high == 0x8F then ThreeUpTo8F else Three)
 
 pub expecting-awaited : (expected : Expected) → expecting (awaited expected) ≡ expected
 expecting-awaited Character = refl

@@ -1,6 +1,6 @@
 pub mod Utf8
 pub mod CloseBody
 pub mod Rest
-pub mod Taken
+pub mod Validated
 pub mod Piece
 pub mod Expected

@@ -1,8 +1,8 @@
 ghost use Rattle.std.specs.Prelude.{◌≡◌, ℕ, ◌+◌, ◌<◌, ◌≤◌, ◌⊎◌, ◌↔◌, List, [], ◌∷◌, ◌++◌, length, take, IsTrue, IsFalse, IsOk, IfSome, IfErr, MatchResult};
 ghost use Rattle.wsn_text.specs.Utf8.{IsText, BeginsText, IsFirstBad};
 ghost use Rattle.wsn_text.specs.Rest.{Follows};
-ghost use Rattle.wsn_text.specs.Taken.{HasTaken};
-ghost use Rattle.wsn_text.specs.Piece.{Takes, Breaks};
+ghost use Rattle.wsn_text.specs.Validated.{HasValidated};
+ghost use Rattle.wsn_text.specs.Piece.{Validates, Breaks};
 ghost use Rattle.wsn_text.specs.Expected.{awaited};
 
 use simdutf8::compat::from_utf8;
@@ -121,14 +121,14 @@ impl Model for Utf8 {
 impl Utf8 {
     /// No byte is taken yet.
     pub fn new() -> Self
-        ensures { HasTaken result [] }
+        ensures { HasValidated result [] }
     {
         Utf8 {
             expected: Expected::Character,
         }
     }
 
-    /// Takes the next piece, which may be empty.
+    /// Validates the next piece, which may be empty.
     ///
     /// # Errors
     ///
@@ -138,11 +138,11 @@ impl Utf8 {
         ensures within { IfErr result (λ i. (i ≡ 0) ⊎ (i < length piece.now)) }
 
         // Whatever was taken before:
-        ensures taken { (taken : List ℕ) → HasTaken self.old taken → HasTaken self.new (taken ++ piece.now) }
-        ensures ok { (taken : List ℕ) → HasTaken self.old taken → (IsOk result ↔ BeginsText (taken ++ piece.now)) }
-        ensures first_bad { (taken : List ℕ) → HasTaken self.old taken → BeginsText taken
+        ensures taken { (taken : List ℕ) → HasValidated self.old taken → HasValidated self.new (taken ++ piece.now) }
+        ensures ok { (taken : List ℕ) → HasValidated self.old taken → (IsOk result ↔ BeginsText (taken ++ piece.now)) }
+        ensures first_bad { (taken : List ℕ) → HasValidated self.old taken → BeginsText taken
             → IfErr result (λ i. IsFirstBad (taken ++ piece.now) (length taken + i)) }
-        ensures after_bad { (taken : List ℕ) → HasTaken self.old taken → ¬ (BeginsText taken) → result ≡ Err 0 }
+        ensures after_bad { (taken : List ℕ) → HasValidated self.old taken → ¬ (BeginsText taken) → result ≡ Err 0 }
     {
         if self.goes_on_in_ascii(piece) {
             return Ok(());
@@ -157,7 +157,7 @@ impl Utf8 {
 
     /// Whether the bytes taken are UTF-8. Never again true after a bad byte.
     pub fn is_whole(&self) -> bool
-        ensures { (taken : List ℕ) → HasTaken self.now taken → (IsTrue result ↔ IsText taken) }
+        ensures { (taken : List ℕ) → HasValidated self.now taken → (IsTrue result ↔ IsText taken) }
     {
         matches!(self.expected, Expected::Character)
     }
@@ -165,7 +165,7 @@ impl Utf8 {
     /// Whether no character is unfinished and the piece is ASCII; a quick look at short pieces alone.
     #[inline(always)]
     fn goes_on_in_ascii(&self, piece: &[u8]) -> bool
-        ensures { IsTrue result → Takes self.now self.now piece.now }
+        ensures { IsTrue result → Validates self.now self.now piece.now }
     {
         if !self.is_whole() {
             return false;
@@ -181,12 +181,13 @@ impl Utf8 {
         matches!(self.expected, Expected::Nothing)
     }
 
-    /// Takes bytes one by one.
+    /// Validates bytes one by one.
     fn take_each(&mut self, bytes: &[u8]) -> Result<(), usize>
         requires { (more : List ℕ) × Follows self.old more }
         ensures within { IfErr result (λ i. i < length bytes.now) }
         ensures good { IsOk result → (more : List ℕ) × Follows self.new more }
-        ensures steps { MatchResult result (λ _. Takes self.old self.new bytes.now) (Breaks self.old self.new bytes.now) }
+        ensures steps { MatchResult result (λ _. Validates self.old self.new bytes.now)
+            (Breaks self.old self.new bytes.now) }
     {
         for (i, &byte) in bytes.iter().enumerate() {
             self.expected = self.expected.after(byte);
@@ -197,11 +198,12 @@ impl Utf8 {
         Ok(())
     }
 
-    /// Takes the bytes behind a character: those that are text at once, and what is left one by one.
+    /// Validates the bytes behind a character: those that are text at once, and what is left one by one.
     fn take_rest(&mut self, bytes: &[u8]) -> Result<(), usize>
         requires { (more : List ℕ) × Follows self.old more }
         ensures within { IfErr result (λ i. i < length bytes.now) }
-        ensures steps { MatchResult result (λ _. Takes self.old self.new bytes.now) (Breaks self.old self.new bytes.now) }
+        ensures steps { MatchResult result (λ _. Validates self.old self.new bytes.now)
+            (Breaks self.old self.new bytes.now) }
     {
         if !self.is_whole() {
             return self.take_each(bytes);

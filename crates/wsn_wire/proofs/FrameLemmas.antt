@@ -234,7 +234,7 @@ layout_of_frame f spellable =
       payload_count = length-wire_payload f.key f.payload ∙ (sym of_length.told ∙ ap (λ g. length_told g len_bytes) (sym of_second.field_is));
     }
 
-frames_equal : (f g : Frame) → f.fin ≡ g.fin → f.op ≡ g.op → f.key ≡ g.key → f.form ≡ g.form → f.payload ≡ g.payload → f ≡ g
+pub frames_equal : (f g : Frame) → f.fin ≡ g.fin → f.op ≡ g.op → f.key ≡ g.key → f.form ≡ g.form → f.payload ≡ g.payload → f ≡ g
 frames_equal f g fin op key form payload = λ i. record { fin = fin i; op = op i; key = key i; form = form i; payload = payload i }
 
 -- what is read from a frame's bytes is the frame

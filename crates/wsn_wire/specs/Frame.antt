@@ -48,7 +48,8 @@ first_byte fin op = (if fin then 128 else 0) + opcode op
 -- Where a form puts a length: in the second byte up to 125, in two bytes up to 65,535, else in eight.
 -- The forms Two and Eight take two and eight bytes for a length that needs fewer.
 abbrev pub len_form_of : Form → ℕ → LenForm
-len_form_of form.Shortest len = if nat_lt len 126 then len_form.Short len else (if nat_lt len 65536 then len_form.Two else len_form.Eight)
+len_form_of form.Shortest len =
+    if nat_lt len 126 then len_form.Short len else (if nat_lt len 65536 then len_form.Two else len_form.Eight)
 len_form_of form.Two len = len_form.Two
 len_form_of form.Eight len = len_form.Eight
 

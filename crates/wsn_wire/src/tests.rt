@@ -241,3 +241,44 @@ fn an_output_that_is_full_fails(rt: HostRuntime) {
     assert!(rt; output.failed());
     assert_eq!(rt; full.as_slice(), b"abcd".as_slice());
 }
+
+// Takes nothing, or fails, at its first call, and would take all at the next.
+#[derive(Drop)]
+struct Stalls {
+    got: ArrayVec<u8, 16>,
+    calls: u8,
+    fails: bool,
+}
+
+impl Write for Stalls {
+    fn write(&mut self, buf: &[u8]) -> io::Result<usize> {
+        self.calls = self.calls.saturating_add(1);
+        if self.calls > 1 {
+            return self.got.write(buf);
+        }
+        if self.fails {
+            return Err(io::ErrorKind::Interrupted.into());
+        }
+        Ok(0)
+    }
+
+    fn flush(&mut self) -> io::Result<()> {
+        Ok(())
+    }
+}
+
+#[test]
+fn an_output_tries_nothing_again(rt: HostRuntime) {
+    for fails in [false, true] {
+        let mut writer = Stalls {
+            got: ArrayVec::new(),
+            calls: 0,
+            fails,
+        };
+        let mut output = Output::new(&mut writer);
+        assert!(rt; !output.put(b"ab"), "{fails}");
+        assert!(rt; output.failed(), "{fails}");
+        assert_eq!(rt; writer.calls, 1, "{fails}");
+        assert!(rt; writer.got.is_empty(), "{fails}");
+    }
+}

@@ -44,7 +44,8 @@ impl<W: Write> Output<W> {
     pub fn put(&mut self, bytes: &[u8]) -> bool
         ensures all { result ≡ true → Appends self.old.written self.new.written bytes.now }
         ensures same { result ≡ true → self.new.failed ≡ self.old.failed }
-        ensures front { result ≡ false → (k : ℕ) × (k < length bytes.now) × Appends self.old.written self.new.written (take k bytes.now) }
+        ensures front { result ≡ false → (k : ℕ) × (k < length bytes.now)
+            × Appends self.old.written self.new.written (take k bytes.now) }
         ensures failed { result ≡ false → self.new.failed ≡ true }
     {
         let mut taken = 0;

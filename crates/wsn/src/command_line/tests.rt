@@ -47,6 +47,20 @@ fn limits_are_as_spelled(rt: HostRuntime) -> Result<(), Fail> {
 }
 
 #[test]
+fn the_ends_of_the_ranges_are_taken(rt: HostRuntime) -> Result<(), Fail> {
+    let line = "wsn normal --role server --limit 16777216 --frames 1 --lengths shortest";
+    let asked = asked_by(rt.alloc(), line)?;
+    let Job::Normal(role, limits) = job_in(&rt, &asked) else {
+        panic!(rt; "not normal");
+    };
+    assert_eq!(rt; role, Role::Server);
+    assert_eq!(rt; limits.message(), 16_777_216);
+    assert_eq!(rt; limits.frames(), Some(1));
+    assert_eq!(rt; limits.lengths(), Lengths::Shortest);
+    Ok(())
+}
+
+#[test]
 fn frames_is_asked_for(rt: HostRuntime) -> Result<(), Fail> {
     let asked = asked_by(rt.alloc(), "wsn frames --role server --limit 7")?;
     let Job::Frames(role, limits) = job_in(&rt, &asked) else {
@@ -78,6 +92,10 @@ fn other_words_are_refused(rt: HostRuntime) -> Result<(), Fail> {
         "wsn normal --role both",
         "wsn normal --role client --limit 16777217",
         "wsn normal --role client --limit -1",
+        "wsn normal --role client --limit=-0",
+        "wsn normal --role client --limit +5",
+        "wsn normal --role client --limit 0x10",
+        "wsn normal --role client --frames +1",
         "wsn normal --role client --frames 0",
         "wsn normal --role client --frames 4294967296",
         "wsn normal --role client --lengths long",
@@ -102,16 +120,55 @@ fn other_words_are_refused(rt: HostRuntime) -> Result<(), Fail> {
 }
 
 #[test]
-fn help_is_shown(rt: HostRuntime) -> Result<(), Fail> {
-    for line in [
-        "wsn --help",
-        "wsn normal --help",
-        "wsn help judge",
-        "wsn frames --help",
-        "wsn same --help",
-    ] {
-        let asked = asked_by(rt.alloc(), line)?;
-        assert!(rt; matches!(asked, Ok(Request::Help(_))), "{line}");
+fn a_refusal_shows_words_without_what_a_terminal_obeys(rt: HostRuntime) -> Result<(), Fail> {
+    let asked = asked_by(rt.alloc(), "wsn judge --role \x1b[31m\n")?;
+    let Err(Usage::Clap(text)) = &asked else {
+        panic!(rt; "not refused");
+    };
+    assert!(rt;
+        text.as_str().contains("invalid value '\\x1b[31m\\x0a'"),
+        "{text}"
+    );
+    Ok(())
+}
+
+/// The text that a line asks for.
+fn text_by(rt: &impl Abort, alloc: Global, line: &str) -> Result<String, Fail> {
+    match asked_by(alloc, line)? {
+        Ok(Request::Help(text)) => Ok(text),
+        _ => panic!(rt; "no text: {line}"),
     }
+}
+
+#[test]
+fn help_names_every_command_and_option(rt: HostRuntime) -> Result<(), Fail> {
+    let program = text_by(&rt, rt.alloc(), "wsn --help")?;
+    for command in ["judge", "frames", "normal", "same"] {
+        assert!(rt; program.as_str().contains(command), "{command}");
+        let line = format!(in rt.alloc(); "wsn {command} --help")?;
+        let text = text_by(&rt, rt.alloc(), line.as_str())?;
+        for option in [
+            "--role <client|server>",
+            "--limit <BYTES>",
+            "--frames <COUNT>",
+            "--lengths <shortest|any>",
+            "Exit status:",
+        ] {
+            assert!(rt; text.as_str().contains(option), "{command}: {option}");
+        }
+        let line = format!(in rt.alloc(); "wsn help {command}")?;
+        assert_eq!(rt;
+            text_by(&rt, rt.alloc(), line.as_str())?.as_str(),
+            text.as_str()
+        );
+    }
+    Ok(())
+}
+
+#[test]
+fn the_version_is_shown(rt: HostRuntime) -> Result<(), Fail> {
+    let text = text_by(&rt, rt.alloc(), "wsn --version")?;
+    assert!(rt; text.as_str().starts_with("wsn "), "{text}");
+    assert!(rt; text.as_str().contains("rattle-kit"), "{text}");
     Ok(())
 }

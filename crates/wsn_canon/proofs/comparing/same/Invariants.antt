@@ -1,5 +1,5 @@
 use Rattle.std.proofs.Common.{◌+◌, ◌^◌, ◌≤◌, ℕ, List}
-use Rattle.wsn_scan.specs.Meaning.{MeantEvent}
+use Rattle.wsn_rules.specs.Meaning.{MeantEvent}
 use Rattle.wsn_canon.proofs.ComparedSources.{HasFollowed}
 use Rattle.wsn_canon.proofs.ComparedRounds.{IsDifferenceSoFar, pending}
 use Rattle.wsn_canon.proofs.comparing.same.Given as goal

@@ -1,6 +1,7 @@
-use Rattle.std.proofs.Common.{◌≡◌, Err, refl, rules}
-use Rattle.wsn_scan.specs.declared.stopping.Stop.TheVariants as stop
+use Rattle.std.proofs.Common.{◌≡◌, Ok, Err, refl, rules}
+use Rattle.wsn_scan.specs.declared.stop.Stop.TheVariants as stop
 use Rattle.wsn_canon.proofs.Normalising.{begins, is_done, is_stopped, is_lawful_event, goes_on, write_failed}
+use Rattle.wsn_canon.proofs.WholeNormalForms.{whole_normal_form}
 use Rattle.wsn_canon.proofs.normal.normalise.Goals as goal
 
 pub loop-source-init : goal.loop-source-init
@@ -10,8 +11,12 @@ pub returns-in_err-event : goal.returns-in_err-event
 returns-in_err-event g c =
     let written = c.loop-source.invariant in
     let is : c.from_residual.result ≡ Err c.in_err-event.field-0.0 = search rules in
-    rw is (is_stopped c.args.role c.args.limits c.args.input.now c.args.output.now c.loop-source.input c.next.new.input c.loop-source.output c.loop-source.source c.next.new.self written
-    c.in_err-event.field-0.0 (c.in_err-event.ensures.next c.args.role c.args.limits written.came written.given written.has))
+    let stops = is_stopped c.args.role c.args.limits c.args.input.now c.args.output.now c.loop-source.input c.next.new.input c.loop-source.output c.loop-source.source c.next.new.self written
+    c.in_err-event.field-0.0 (c.in_err-event.ensures.next c.args.role c.args.limits written.came written.given written.has) in
+    rw is (record {
+      normalised = stops;
+      whole = λ all known. whole_normal_form c.args.role c.args.limits c.args.input.now c.next.new.input c.args.output.now c.loop-source.output (Err c.in_err-event.field-0.0) all stops known;
+    })
 
 pub put_event-requires-clause-lawful : goal.put_event-requires-clause-lawful
 put_event-requires-clause-lawful g c =
@@ -23,11 +28,12 @@ pub returns-in_err-put_event-in-Event : goal.returns-in_err-put_event-in-Event
 returns-in_err-put_event-in-Event g c =
     let written = c.loop-source.invariant in
     let failed = c.in_err-put_event-in-Event.ensures in
-    let told : c.from_residual-in_err-put_event-in-Event.result ≡ Err c.in_err-put_event-in-Event.field-0.0 = search rules in
-    let is : c.from_residual-in_err-put_event-in-Event.result ≡ Err stop.Write = rw told (rw failed.stop refl) in
-    rw is (write_failed c.args.role c.args.limits c.args.input.now c.args.output.now c.loop-source.input c.next.new.input c.loop-source.output c.loop-source.source c.next.new.self written
+    let reported : c.from_residual-in_err-put_event-in-Event.result ≡ Err c.in_err-put_event-in-Event.field-0.0 = search rules in
+    let is : c.from_residual-in_err-put_event-in-Event.result ≡ Err stop.Write = rw reported (rw failed.0 refl) in
+    let fails = write_failed c.args.role c.args.limits c.args.input.now c.args.output.now c.loop-source.input c.next.new.input c.loop-source.output c.loop-source.source c.next.new.self written
     c.in_ok-event.field-0 c.in-Event.event c.in-Event.is (c.in_ok-event.ensures.next c.args.role c.args.limits written.came written.given written.has)
-    c.put_event.new.to failed.failed failed.front)
+    c.put_event.new.to failed.1 in
+    rw is (record { normalised = fails; whole = λ all known. tt })
 
 pub loop-source-preserved-in_ok-put_event-in-Event : goal.loop-source-preserved-in_ok-put_event-in-Event
 loop-source-preserved-in_ok-put_event-in-Event g c =
@@ -35,7 +41,7 @@ loop-source-preserved-in_ok-put_event-in-Event g c =
     let put = c.in_ok-put_event-in-Event.ensures in
     goes_on c.args.role c.args.limits c.args.input.now c.args.output.now c.loop-source.input c.next.new.input c.loop-source.output c.loop-source.source c.next.new.self written
     c.in_ok-event.field-0 c.in-Event.event c.in-Event.is (c.in_ok-event.ensures.next c.args.role c.args.limits written.came written.given written.has)
-    c.put_event.new.to put.same put.all
+    c.put_event.new.to put
 
 pub loop-source-preserved : goal.loop-source-preserved
 loop-source-preserved g c =
@@ -43,10 +49,14 @@ loop-source-preserved g c =
     let put = c.in_ok-put_event-in-Event.ensures in
     goes_on c.args.role c.args.limits c.args.input.now c.args.output.now c.loop-source.input c.next.new.input c.loop-source.output c.loop-source.source c.next.new.self written
     c.in_ok-event.field-0 c.in-Event.event c.in-Event.is (c.in_ok-event.ensures.next c.args.role c.args.limits written.came written.given written.has)
-    c.put_event.new.to put.same put.all
+    c.put_event.new.to put
 
 pub returns-in-Done : goal.returns-in-Done
 returns-in-Done g c =
     let written = c.loop-source.invariant in
-    is_done c.args.role c.args.limits c.args.input.now c.args.output.now c.loop-source.input c.next.new.input c.loop-source.output c.loop-source.source c.next.new.self written
-    c.in_ok-event.field-0 c.in-Done.verdict c.in-Done.is (c.in_ok-event.ensures.next c.args.role c.args.limits written.came written.given written.has)
+    let done = is_done c.args.role c.args.limits c.args.input.now c.args.output.now c.loop-source.input c.next.new.input c.loop-source.output c.loop-source.source c.next.new.self written
+    c.in_ok-event.field-0 c.in-Done.verdict c.in-Done.is (c.in_ok-event.ensures.next c.args.role c.args.limits written.came written.given written.has) in
+    record {
+      normalised = done;
+      whole = λ all known. whole_normal_form c.args.role c.args.limits c.args.input.now c.next.new.input c.args.output.now c.loop-source.output (Ok c.in-Done.verdict) all done known;
+    }

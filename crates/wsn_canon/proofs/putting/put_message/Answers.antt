@@ -1,5 +1,5 @@
 use Rattle.std.proofs.Common.{◌≡◌, length, rules}
-use Rattle.wsn_canon.specs.NormalForm.{op_of}
+use Rattle.wsn_rules.specs.NormalForm.{op_of}
 use Rattle.wsn_canon.proofs.NormalBytes.{normal_head, both_out, head_and_front, front_of_head}
 use Rattle.wsn_canon.proofs.putting.put_message.Goals as goal
 use Rattle.wsn_canon.proofs.putting.put_message.Goals.{else-put-via-then-put+else-put-2, else-put-via-else-put}

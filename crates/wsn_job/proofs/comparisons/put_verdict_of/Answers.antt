@@ -1,6 +1,6 @@
 use Rattle.std.proofs.Common.{◌≡◌, Err, rules}
-use Rattle.wsn_scan.specs.Lines.{verdict_line}
-use Rattle.wsn_job.proofs.PutTexts.{put_of, put_more, put_no_more}
+use Rattle.wsn_rules.specs.Lines.{verdict_line}
+use Rattle.wsn_job.proofs.PutTexts.{put_more, put_no_more}
 use Rattle.wsn_job.proofs.comparisons.put_verdict_of.Goals as goal
 
 pub returns-in_err-put_text : goal.returns-in_err-put_text
@@ -10,6 +10,4 @@ returns-in_err-put_text g c =
 
 pub returns : goal.returns
 returns g c =
-    let line = put_of c.put_text.new.output c.put_verdict.new.to (verdict_line c.args.verdict) c.put_verdict.result
-    c.put_verdict.ensures.all c.put_verdict.ensures.same c.put_verdict.ensures.stop c.put_verdict.ensures.failed c.put_verdict.ensures.front in
-    put_more c.args.output.now c.put_text.new.output c.put_verdict.new.to c.args.stream.now (verdict_line c.args.verdict) c.put_verdict.result c.in_ok-put_text.ensures line
+    put_more c.args.output.now c.put_text.new.output c.put_verdict.new.to c.args.stream.now (verdict_line c.args.verdict) c.put_verdict.result c.in_ok-put_text.ensures c.put_verdict.ensures

@@ -1,6 +1,6 @@
 use Rattle.std.proofs.Common.{◌≡◌, ℕ, [], ◌++◌, length, take, drop, refl, subst, arith, length-append, length-drop, length-take-le}
 use Rattle.std.specs.Io.KnownBytes.{Consumes}
-use Rattle.wsn_scan.specs.declared.outcome.Verdict.TheVariants.{Refused}
+use Rattle.wsn_rules.specs.declared.verdict.Verdict.TheVariants.{Refused}
 use Rattle.wsn_scan.proofs.JudgedInputs.{begins, stopped, ended, goes_on, passes_limit, refuses_input, whole_verdict, whole_limit}
 use Rattle.wsn_scan.proofs.judging.judge.Goals as goal
 
@@ -18,7 +18,7 @@ returns-then-count-eq0-clause-judged g c =
     let nothing = subst (λ (n : ℕ). Consumes c.loop-count.input.remaining c.read_piece.new.input.remaining (take n c.read_piece.new.buffer)) c.if-count-eq0.true c.in-Some.ensures.bytes in (
       read.0,
       ended c.args.role c.args.limits c.args.input.now c.loop-count.input c.read_piece.new.input c.loop-count.scan read.0 read.1 c.finish.result read.2 nothing (c.in-Some.ensures.end c.if-count-eq0.true) c.in-Some.ensures.some
-          (c.finish.ensures.verdict c.args.role c.args.limits read.0 read.2.taken.since read.2.taken.frames _ read.2.taken.stands) c.finish.ensures.told,
+          (c.finish.ensures.verdict c.args.role c.args.limits read.0 read.2.taken.since read.2.taken.frames _ read.2.taken.stands) c.finish.ensures.reported,
     )
 
 pub returns-then-count-eq0-clause-whole : goal.returns-then-count-eq0-clause-whole
@@ -29,7 +29,7 @@ pub returns-in-Some-feed-clause-judged : goal.returns-in-Some-feed-clause-judged
 returns-in-Some-feed-clause-judged g c =
     let read = c.loop-count.invariant.read in (
       read.0 ++ take c.in-Some.count c.read_piece.new.buffer,
-      refuses_input c.args.role c.args.limits c.args.input.now c.loop-count.input c.read_piece.new.input c.loop-count.scan c.feed.new.scan c.read_piece.new.buffer c.in-Some.count c.min-fits.result
+      refuses_input c.args.role c.args.limits c.args.input.now c.loop-count.input c.read_piece.new.input c.loop-count.scan c.feed.new.self c.read_piece.new.buffer c.in-Some.count c.min-fits.result
           read.0 read.1 read.2 c.in-Some.ensures.bytes c.in-Some.ensures.some (omega (arith, c.in-Some.ensures.within)) (omega arith) (omega (arith, c.in-Some.ensures.within)) c.in-Some-feed.refusal (omega arith) c.in-Some-feed.ensures,
     )
 
@@ -41,7 +41,7 @@ pub returns-then-count-fits-clause-judged : goal.returns-then-count-fits-clause-
 returns-then-count-fits-clause-judged g c =
     let read = c.loop-count.invariant.read in (
       read.0 ++ take c.in-Some.count c.read_piece.new.buffer,
-      passes_limit c.args.role c.args.limits c.args.input.now c.loop-count.input c.read_piece.new.input c.loop-count.scan c.feed.new.scan c.read_piece.new.buffer c.in-Some.count c.min-fits.result
+      passes_limit c.args.role c.args.limits c.args.input.now c.loop-count.input c.read_piece.new.input c.loop-count.scan c.feed.new.self c.read_piece.new.buffer c.in-Some.count c.min-fits.result
           read.0 read.1 read.2 c.in-Some.ensures.bytes c.in-Some.ensures.some (omega (arith, c.in-Some.ensures.within)) (omega arith) (omega (arith, c.in-Some.ensures.within)) (omega arith) (omega (arith, c.in-Some.ensures.within)) c.in_default-feed.ensures,
     )
 
@@ -57,7 +57,7 @@ loop-count-preserved g c =
       read = (
         read.0 ++ take c.in-Some.count c.read_piece.new.buffer,
         read.1 ++ c.in_default-feed.ensures.heads,
-        goes_on c.args.role c.args.limits c.args.input.now c.loop-count.input c.read_piece.new.input c.loop-count.scan c.feed.new.scan c.read_piece.new.buffer c.in-Some.count c.min-fits.result
+        goes_on c.args.role c.args.limits c.args.input.now c.loop-count.input c.read_piece.new.input c.loop-count.scan c.feed.new.self c.read_piece.new.buffer c.in-Some.count c.min-fits.result
             read.0 read.1 read.2 c.in-Some.ensures.bytes c.in-Some.ensures.some (omega (arith, c.in-Some.ensures.within)) (omega arith) (omega (arith, c.in-Some.ensures.within)) (omega arith) c.in_default-feed.ensures,
       );
       size = omega (arith, c.feed.auto.piece, length-append c.feed.new.piece (drop c.min-fits.result c.read_piece.new.buffer), length-drop c.min-fits.result c.read_piece.new.buffer, c.in-Some.ensures.within);

@@ -1,7 +1,7 @@
 use Rattle.std.proofs.Common.{◌≡◌, ◌∙◌, ℕ, Option, [], length, take, drop, refl, sym, subst, arith, length-append, length-drop, length-take-le}
 use Rattle.std.proofs.KnownBytes.{Appends-nil}
 use Rattle.std.specs.Io.KnownBytes.{Consumes}
-use Rattle.wsn_scan.specs.declared.outcome.Refusal.{Refusal}
+use Rattle.wsn_rules.specs.declared.verdict.Refusal.{Refusal}
 use Rattle.wsn_scan.specs.Listing.{IsListedPiece}
 use Rattle.wsn_scan.proofs.JudgedInputs.{begins}
 use Rattle.wsn_scan.proofs.ListedInputs.{list_stopped, list_ended, list_failed, list_refused, list_passes, list_goes_on}
@@ -27,7 +27,7 @@ returns-then-count-eq0 g c =
     list_ended c.args.role c.args.limits c.args.input.now c.loop-count.input c.read_piece.new.input c.args.output.now c.loop-count.output c.end.new.output c.loop-count.scan read.0 read.1 c.finish.result c.end.result
     read.2 read.3 nothing (c.in-Some.ensures.end c.if-count-eq0.true) c.in-Some.ensures.some
     (c.finish.ensures.verdict c.args.role c.args.limits read.0 read.2.taken.since read.2.taken.frames _ read.2.taken.stands)
-    (c.finish.ensures.heads c.args.role c.args.limits read.0 read.2.taken.since read.2.taken.frames _ read.2.taken.stands) c.finish.ensures.told c.end.ensures
+    (c.finish.ensures.heads c.args.role c.args.limits read.0 read.2.taken.since read.2.taken.frames _ read.2.taken.stands) c.finish.ensures.reported c.end.ensures
 
 pub returns-then-failed : goal.returns-then-failed
 returns-then-failed g c =

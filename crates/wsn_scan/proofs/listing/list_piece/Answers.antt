@@ -1,10 +1,10 @@
 use Rattle.std.proofs.Common.{◌≡◌, ◌∙◌, ◌+◌, ◌-◌, ◌<◌, ◌≤◌, ℕ, List, [], ◌++◌, length, drop, refl, arith, ap, length-drop}
 use borrow.Rule.Slice.PartMut.{mid_of, same_len_mid}
-use Rattle.wsn_scan.specs.Scans.{refusal_told}
+use Rattle.wsn_scan.specs.Reports.{refusal_in_notice}
 use Rattle.wsn_scan.specs.Feeding.{heads_in}
-use Rattle.wsn_scan.specs.declared.notices.Notice.{Notice}
+use Rattle.wsn_scan.specs.declared.notice.Notice.{Notice}
 use Rattle.wsn_scan.proofs.FedPieces.{bytes_below, share_is, kept_behind, same_further, takes_none, takes_on, no_refusal, falls}
-use Rattle.wsn_scan.specs.Lines.{head_lines}
+use Rattle.wsn_rules.specs.Lines.{head_lines}
 use Rattle.wsn_scan.proofs.Printing.{prints_nothing, lines_on}
 use Rattle.wsn_scan.proofs.listing.list_piece.Goals as goal
 
@@ -16,7 +16,7 @@ loop-at-init g c = record {
   kept = refl;
   room = omega arith;
   takes = ([], takes_none c.args.scan.now c.args.piece.now, prints_nothing c.args.output.now c.requires.writable);
-  told = λ none. none;
+  reported = λ none. none;
 }
 
 pub returns-in-Refused : goal.returns-in-Refused
@@ -35,7 +35,7 @@ returns-in-Refused g c =
         heads = c.loop-at.invariant.takes.0 ++ heads_in c.next-taken.result.1;
         takes = takes_on c.args.scan.now c.loop-at.scan c.next-taken.new.self c.next-taken.result.1 c.args.piece.now share c.next-taken.new.piece at taken c.loop-at.invariant.takes.0 c.loop-at.invariant.in_bytes is c.loop-at.invariant.takes.1 c.next-taken.ensures.taken;
         all = λ none. cc;
-        told = λ none. c.next-taken.ensures.told ∙ ap (λ (notice : Notice). refusal_told notice) c.in-Refused.is;
+        reported = λ none. c.next-taken.ensures.reported ∙ ap (λ (notice : Notice). refusal_in_notice notice) c.in-Refused.is;
       };
       printed = printed;
     }
@@ -49,10 +49,10 @@ loop-at-smaller g c =
     let is : share ≡ drop at piece = share_is at c.loop-at.piece ∙ c.loop-at.invariant.kept in
     let size : length share ≡ length (drop at piece) = ap (λ (bs : List ℕ). length bs) is in
     let some : 0 < length share = omega (arith, length-drop at piece) in
-    let before = c.loop-at.invariant.takes.1 c.requires.begun.role c.requires.begun.bounds c.requires.begun.bytes c.requires.begun.heads c.requires.begun.taken in
+    let before = c.loop-at.invariant.takes.1 c.requires.begun.role c.requires.begun.limits c.requires.begun.bytes c.requires.begun.heads c.requires.begun.taken in
     falls c.loop-at.scan c.next-taken.new.self c.next-taken.result.1 at taken (length piece) (omega arith) (omega (arith, length-drop at piece, c.next-taken.ensures.within))
     (no_refusal c.next-taken.result.1 c.in_default.not-Refused).0
-    (c.next-taken.ensures.gets_on c.requires.begun.role c.requires.begun.bounds _ before.since before.frames _ before.stands some)
+    (c.next-taken.ensures.gets_on c.requires.begun.role c.requires.begun.limits _ before.since before.frames _ before.stands some)
 
 pub loop-at-preserved : goal.loop-at-preserved
 loop-at-preserved g c =
@@ -78,7 +78,7 @@ loop-at-preserved g c =
         takes_on c.args.scan.now c.loop-at.scan c.next-taken.new.self c.next-taken.result.1 piece share c.next-taken.new.piece at taken c.loop-at.invariant.takes.0 c.loop-at.invariant.in_bytes is c.loop-at.invariant.takes.1 c.next-taken.ensures.taken,
         lines_on c.args.output.now c.print.new.output c.loop-at.invariant.takes.0 (heads_in c.next-taken.result.1) (c.print.ensures c.args.output.now (head_lines c.loop-at.invariant.takes.0) c.loop-at.invariant.takes.2),
       );
-      told = λ none. c.next-taken.ensures.told ∙ (no_refusal c.next-taken.result.1 c.in_default.not-Refused).1;
+      reported = λ none. c.next-taken.ensures.reported ∙ (no_refusal c.next-taken.result.1 c.in_default.not-Refused).1;
     }
 
 pub returns : goal.returns
@@ -90,7 +90,7 @@ returns g c = record {
     heads = c.loop-at.invariant.takes.0;
     takes = c.loop-at.invariant.takes.1;
     all = λ none. omega (arith, c.loop-at.invariant.within, c.loop-at.invariant.size);
-    told = c.loop-at.invariant.told;
+    reported = c.loop-at.invariant.reported;
   };
   printed = c.loop-at.invariant.takes.2;
 }

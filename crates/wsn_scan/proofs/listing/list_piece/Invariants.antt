@@ -1,13 +1,13 @@
 use Rattle.std.proofs.Common.{◌≡◌, ◌+◌, ◌-◌, ◌*◌, ◌≤◌, None, List, length, drop}
 use Rattle.wsn_wire.specs.Frame.{IsBytes}
-use Rattle.wsn_scan.specs.declared.notices.HeadInfo.{HeadInfo}
-use Rattle.wsn_scan.specs.Scans.{ends_untold, refusal_in}
+use Rattle.wsn_rules.specs.declared.head_info.HeadInfo.{HeadInfo}
+use Rattle.wsn_scan.specs.Scans.{ends_pending, refusal_in}
 use Rattle.wsn_scan.specs.Feeding.{TakesFront}
-use Rattle.wsn_scan.specs.Lines.{head_lines}
-use Rattle.wsn_scan.specs.Listing.{Prints}
+use Rattle.wsn_rules.specs.Lines.{head_lines}
 use Rattle.wsn_scan.proofs.listing.list_piece.Given as goal
+use Rattle.wsn_wire.specs.Transfer.{IsWrittenUpToFailure}
 
--- the scan has taken the piece so far, the heads that it told went out, and the rest of the piece is as it was
+-- the scan has taken the piece so far, the heads that it reported went out, and the rest of the piece is as it was
 abbrev pub invariant-loop-at : goal.invariant-loop-at
 invariant-loop-at g l = record {
   in_bytes : IsBytes l.fn.piece;
@@ -15,9 +15,9 @@ invariant-loop-at g l = record {
   size : length l.piece ≡ length l.fn.piece;
   kept : drop l.at l.piece ≡ drop l.at l.fn.piece;
   room : l.scan.room + l.at ≡ l.fn.scan.room;
-  takes : (more : List HeadInfo) × TakesFront l.fn.scan l.scan l.fn.piece l.at more × Prints l.fn.output l.output (head_lines more);
-  told : refusal_in l.fn.scan ≡ None → refusal_in l.scan ≡ None;
+  takes : (more : List HeadInfo) × TakesFront l.fn.scan l.scan l.fn.piece l.at more × IsWrittenUpToFailure l.fn.output l.output (head_lines more);
+  reported : refusal_in l.fn.scan ≡ None → refusal_in l.scan ≡ None;
 }
 
 abbrev pub decreases-loop-at : goal.decreases-loop-at
-decreases-loop-at g l = 2 * (length l.initial.piece - l.at) + ends_untold l.scan
+decreases-loop-at g l = 2 * (length l.initial.piece - l.at) + ends_pending l.scan

@@ -1,19 +1,19 @@
 use Rattle.std.proofs.Common.{◌≡◌, ◌∙◌, ◌++◌, List, ℕ, sym, ap, append-nil, subst}
-use Rattle.wsn_scan.specs.declared.notices.Notice.{Notice}
+use Rattle.wsn_scan.specs.declared.notice.Notice.{Notice}
 use Rattle.wsn_scan.specs.Feeding.{heads_in}
-use Rattle.wsn_scan.specs.Lines.{head_line, head_lines}
-use Rattle.wsn_scan.specs.Listing.{Prints}
+use Rattle.wsn_rules.specs.Lines.{head_line, head_lines}
 use Rattle.wsn_scan.proofs.Printing.{prints_on, prints_no_more, went_out}
 use Rattle.wsn_scan.proofs.listing.print.Goals as goal
+use Rattle.wsn_wire.specs.Transfer.{IsWrittenUpToFailure}
 
 pub returns-then-not-failed : goal.returns-then-not-failed
 returns-then-not-failed g c before text printed =
     let line = head_line c.in-Head.head in
     let out = c.put_head-stop.ensures in
     let same : line ≡ head_lines (heads_in c.args.notice.now) = sym (append-nil line) ∙ ap (λ (notice : Notice). head_lines (heads_in notice)) (sym c.in-Head.is) in
-    subst (λ (more : List ℕ). Prints before c.put_head-stop.new.to (text ++ more)) same
+    subst (λ (more : List ℕ). IsWrittenUpToFailure before c.put_head-stop.new.to (text ++ more)) same
     (prints_on before c.args.output.now c.put_head-stop.new.to text line (sym c.failed.ensures ∙ c.if-not-failed.true) printed
-    (went_out c.args.output.now c.put_head-stop.new.to line c.put_head-stop.result out.all out.same out.failed out.front))
+    (went_out c.args.output.now c.put_head-stop.new.to line c.put_head-stop.result out))
 
 pub returns-else-not-failed : goal.returns-else-not-failed
 returns-else-not-failed g c before text printed =

@@ -1,11 +1,11 @@
 use Rattle.std.proofs.Common.{◌≡◌, Err, length, rules}
 use Rattle.std.specs.Result.{MatchResult}
-use Rattle.wsn_text.specs.Piece.{Takes, Breaks}
+use Rattle.wsn_text.specs.Piece.{Validates, Breaks}
 use Rattle.wsn_text.proofs.Taking.{Shifted, answers_behind, answers_before, taken_of, ok_of, first_bad_of, after_bad_of}
 use Rattle.wsn_text.proofs.pieces.Utf8.feed.Goals as goal
 
 -- the character that was begun breaks
-broken : (c : goal.After-from_residual) → MatchResult c.from_residual.result (λ _. Takes c.args.self.now c.take_each.new.self c.args.piece.now) (Breaks c.args.self.now c.take_each.new.self c.args.piece.now)
+broken : (c : goal.After-from_residual) → MatchResult c.from_residual.result (λ _. Validates c.args.self.now c.take_each.new.self c.args.piece.now) (Breaks c.args.self.now c.take_each.new.self c.args.piece.now)
 broken c =
     let is : c.from_residual.result ≡ Err c.in_err-take_each.field-0.0 = search rules in
     answers_before c.args.self.now c.take_each.new.self c.split_at.result.0.now c.split_at.result.1.now c.args.piece.now c.from_residual.result c.in_err-take_each.field-0.0 c.split_at.ensures.by_index.0 is c.in_err-take_each.ensures.steps
@@ -23,7 +23,7 @@ pub returns-in_err-take_each-clause-after_bad : goal.returns-in_err-take_each-cl
 returns-in_err-take_each-clause-after_bad c = after_bad_of c.args.self.now c.take_each.new.self c.args.piece.now c.from_residual.result (broken c)
 
 -- it is completed, and the rest comes behind it
-whole : (c : goal.After-map_err) → MatchResult c.map_err.result (λ _. Takes c.args.self.now c.take_rest.new.self c.args.piece.now) (Breaks c.args.self.now c.take_rest.new.self c.args.piece.now)
+whole : (c : goal.After-map_err) → MatchResult c.map_err.result (λ _. Validates c.args.self.now c.take_rest.new.self c.args.piece.now) (Breaks c.args.self.now c.take_rest.new.self c.args.piece.now)
 whole c =
     let shifted : Shifted c.take_rest.result c.map_err.result (length c.split_at.result.0.now) = search rules in
     answers_behind c.args.self.now c.take_each.new.self c.take_rest.new.self c.split_at.result.0.now c.split_at.result.1.now c.args.piece.now c.take_rest.result c.map_err.result c.split_at.ensures.by_index.0

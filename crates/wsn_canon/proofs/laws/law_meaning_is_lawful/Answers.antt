@@ -1,5 +1,0 @@
-use Rattle.wsn_canon.proofs.LawfulMeaning.{lawful_meaning}
-use Rattle.wsn_canon.proofs.laws.law_meaning_is_lawful.Goals as goal
-
-pub returns : goal.returns
-returns c = lawful_meaning

@@ -1,0 +1,150 @@
+-- Where a Close ends, as lines come on.
+use Rattle.std.proofs.Common.{◌≡◌, ℕ, suc, ◌-◌, ◌<◌, ◌≤◌, ◌⊎◌, Option, None, Some, List, [], ◌∷◌, ◌++◌, length, is_some, inl, inr, refl, sym, ap, ◌∙◌, subst, append_assoc, append-nil, arith, length-append}
+use Rattle.std.proofs.lemmas.Bool.{cases_lt}
+use Rattle.std.proofs.lemmas.List.{take_all, take-append-le, take_at}
+use Rattle.std.proofs.lemmas.List.Concat.{flat_map-append}
+use Rattle.wsn_wire.specs.declared.endpoint.Role.{Role}
+use Rattle.wsn_wire.specs.Frame.{Frame, stream}
+use Rattle.wsn_rules.specs.declared.verdict.Summary.{Summary}
+use Rattle.wsn_rules.specs.declared.verdict.Verdict.{Verdict}
+use Rattle.wsn_rules.specs.declared.verdict.Verdict.TheVariants.{Accepted, Cut, Refused}
+use Rattle.wsn_rules.specs.declared.verdict.Refusal.{Refusal}
+use Rattle.wsn_rules.specs.Limits.{Limits}
+use Rattle.wsn_rules.specs.Lawful.{IsLawful}
+use Rattle.wsn_rules.specs.Accepted.{IsAccepted, EndsWithClose}
+use Rattle.wsn_rules.specs.Summary.{close_of, close_code, counted}
+use Rattle.wsn_rules.specs.Verdict.{IsVerdict}
+use Rattle.wsn_rules.proofs.OneVerdict.{one_verdict}
+use Rattle.wsn_rules.proofs.LawfulLists.{no_close_before, close_is_last}
+use Rattle.wsn_rules.proofs.Prefixes.{two_fronts}
+use Rattle.wsn_scan.proofs.FrameEnds.{close_of-push}
+use Rattle.wsn_scan.proofs.ScanVerdicts.{close_of_none}
+use Rattle.wsn_capture.specs.Entries.{Entry}
+use Rattle.wsn_capture.specs.Sides.{bytes_in, sent}
+use Rattle.wsn_capture.specs.Reports.{ClosesIn}
+use Rattle.wsn_capture.specs.Captures.{IsUnclosed, IsClosedBy, IsCloseLine, IsNoted}
+
+module _ (role : Role) (limits : Limits) where
+  -- ---- whether a stream has a Close
+
+  -- frames that end with a Close have its code
+  pub close_counted : (fs : List Frame) → IsLawful role limits fs → EndsWithClose fs → (code : Option ℕ) × (close_of fs ≡ Some code)
+  close_counted fs lawful ends =
+      let none = no_close_before role limits ends.0 ends.1 [] (subst (IsLawful role limits) ends.3 lawful) in
+      (close_code ends.1.payload, ap close_of ends.3 ∙ close_of-push ends.0 ends.1 none ends.2)
+
+  by_close : (bytes : List ℕ) (fs : List Frame) (close : Option (Option ℕ)) → IsAccepted role limits bytes fs → close ≡ close_of fs → IsClosedBy role limits bytes (is_some close)
+  by_close bytes fs (Some code) is counts =
+      elim (close_is_last role limits fs is.lawful) [
+        | inl none ↦ let both : Some code ≡ None = counts ∙ close_of_none fs none in absurd (cc both)
+        | inr ends ↦ (fs, is, ends)
+      ]
+  by_close bytes fs None is counts = λ gs also ends.
+      let same = (one_verdict role limits bytes fs gs (Accepted (counted fs (length (stream fs)) (length bytes - length (stream fs)))) (Accepted (counted gs (length (stream gs)) (length bytes - length (stream gs)))) (is, refl) (also, refl)).0 in
+      let code = close_counted gs also.lawful ends in
+      let both : None ≡ Some code.0 = counts ∙ ap close_of same ∙ code.1 in
+      cc
+
+  pub accepted_closed : (bytes : List ℕ) (fs : List Frame) (summary : Summary) → IsVerdict role limits bytes fs (Accepted summary) → IsClosedBy role limits bytes (is_some summary.close)
+  accepted_closed bytes fs summary is = by_close bytes fs summary.close is.0 (ap (λ (s : Summary). s.close) is.1)
+
+  not_accepted : (bytes : List ℕ) (fs : List Frame) (verdict : Verdict) → IsVerdict role limits bytes fs verdict → ((summary : Summary) → verdict ≡ Accepted summary → ⊥) → IsUnclosed role limits bytes
+  not_accepted bytes fs verdict is other gs also ends =
+      other (counted gs (length (stream gs)) (length bytes - length (stream gs)))
+      (one_verdict role limits bytes fs gs verdict (Accepted (counted gs (length (stream gs)) (length bytes - length (stream gs)))) is (also, refl)).1
+
+  pub cut_unclosed : (bytes : List ℕ) (fs : List Frame) (verdict : Verdict) → IsVerdict role limits bytes fs verdict
+      → ((summary : Summary) × (verdict ≡ Cut summary)) ⊎ ((refusal : Refusal) × (verdict ≡ Refused refusal)) → IsUnclosed role limits bytes
+  cut_unclosed bytes fs verdict is (inl cut) = not_accepted bytes fs verdict is (λ summary accepted. let both : Cut cut.0 ≡ Accepted summary = sym cut.1 ∙ accepted in cc)
+  cut_unclosed bytes fs verdict is (inr refused) = not_accepted bytes fs verdict is (λ summary accepted. let both : Refused refused.0 ≡ Accepted summary = sym refused.1 ∙ accepted in cc)
+
+  -- ---- a stream that goes on
+
+  -- what comes behind a Close is its tail
+  pub accepted_longer : (bytes more : List ℕ) (fs : List Frame) → IsAccepted role limits bytes fs → EndsWithClose fs → IsAccepted role limits (bytes ++ more) fs
+  accepted_longer bytes more fs is closes = record {
+    lawful = is.lawful;
+    ends = elim is.ends [
+      | inl whole ↦ absurd (whole.0 closes.0 [] closes.1 closes.3 closes.2)
+      | inr tail ↦ inr (closes, (tail.1.0 ++ more, ap (λ (bs : List ℕ). bs ++ more) tail.1.1 ∙ append_assoc (stream fs) tail.1.0 more))
+    ];
+  }
+
+  used : (bytes : List ℕ) (fs : List Frame) → IsAccepted role limits bytes fs → EndsWithClose fs → (tail : List ℕ) × (bytes ≡ stream fs ++ tail)
+  used bytes fs is closes =
+      elim is.ends [
+        | inl whole ↦ absurd (whole.0 closes.0 [] closes.1 closes.3 closes.2)
+        | inr tail ↦ tail.1
+      ]
+
+  -- the Close of a stream that had none ends behind what had come
+  pub ends_behind : (bytes more : List ℕ) (fs : List Frame) → IsUnclosed role limits bytes → IsAccepted role limits (bytes ++ more) fs → EndsWithClose fs → length bytes < length (stream fs)
+  ends_behind bytes more fs unclosed is closes =
+      let tail = used (bytes ++ more) fs is closes in
+      elim (two_fronts bytes (stream fs) more tail.0 tail.1) [
+        | inl further ↦ some_more further.0 further.1
+        | inr within ↦ absurd (unclosed fs (record { lawful = is.lawful; ends = inr (closes, (within.0, within.1)) }) closes)
+      ]
+    where
+      some_more : (m : List ℕ) → stream fs ≡ bytes ++ m → length bytes < length (stream fs)
+      some_more [] same = absurd (unclosed fs (record { lawful = is.lawful; ends = inr (closes, ([], sym (append-nil bytes) ∙ sym same ∙ sym (append-nil (stream fs)))) }) closes)
+      some_more (b ∷ m) longer = let size = ap (λ (bs : List ℕ). length bs) longer ∙ length-append bytes (b ∷ m) in omega (arith, size)
+
+  -- ---- lines that go on
+
+  pub sent-push : (given : List Entry) (entry : Entry) → sent role (given ++ entry ∷ []) ≡ sent role given ++ bytes_in role entry
+  sent-push given entry = flat_map-append (bytes_in role) given (entry ∷ []) ∙ ap (λ (bs : List ℕ). sent role given ++ bs) (append-nil (bytes_in role entry))
+
+  -- a Close ends in one of the lines
+  pub closes_within : (given : List Entry) (line : ℕ) → ClosesIn role limits given line → line < length given
+  closes_within given line is =
+      elim (cases_lt line (length given)) [
+        | inl within ↦ within
+        | inr past ↦
+            let all = ap (λ (es : List Entry). length (sent role es)) (take_all line given past) in
+            let more = ap (λ (es : List Entry). length (sent role es)) (take_all (suc line) given (omega (arith, past))) in
+            absurd (omega (arith, all, more, is.before, is.behind))
+      ]
+
+  pub closes_longer : (given : List Entry) (entry : Entry) (line : ℕ) → ClosesIn role limits given line → ClosesIn role limits (given ++ entry ∷ []) line
+  closes_longer given entry line is =
+      let within = closes_within given line is in
+      let before = ap (λ (es : List Entry). length (sent role es)) (take-append-le line given (entry ∷ []) (omega (arith, within))) in
+      let behind = ap (λ (es : List Entry). length (sent role es)) (take-append-le (suc line) given (entry ∷ []) (omega (arith, within))) in
+      record {
+        frames = is.frames;
+        accepted = subst (λ (bs : List ℕ). IsAccepted role limits bs is.frames) (sym (sent-push given entry)) (accepted_longer (sent role given) (bytes_in role entry) is.frames is.accepted is.closes);
+        closes = is.closes;
+        before = omega (arith, before, is.before);
+        behind = omega (arith, behind, is.behind);
+      }
+
+  pub closes_last : (given : List Entry) (entry : Entry) (fs : List Frame) → IsUnclosed role limits (sent role given) → IsAccepted role limits (sent role given ++ bytes_in role entry) fs → EndsWithClose fs → ClosesIn role limits (given ++ entry ∷ []) (length given)
+  closes_last given entry fs unclosed is closes =
+      let front = ap (λ (es : List Entry). length (sent role es)) (take_at given (entry ∷ []) (length given) refl) in
+      let size : length (given ++ entry ∷ []) ≤ suc (length given) = omega (arith, length-append given (entry ∷ [])) in
+      let all = ap (λ (es : List Entry). length (sent role es)) (take_all (suc (length given)) (given ++ entry ∷ []) size) in
+      let tail = used (sent role given ++ bytes_in role entry) fs is closes in
+      let sizes = ap (λ (bs : List ℕ). length bs) tail.1 ∙ length-append (stream fs) tail.0 in
+      let pushed = ap (λ (bs : List ℕ). length bs) (sent-push given entry) in
+      let late = ends_behind (sent role given) (bytes_in role entry) fs unclosed is closes in
+      record {
+        frames = fs;
+        accepted = subst (λ (bs : List ℕ). IsAccepted role limits bs fs) (sym (sent-push given entry)) is;
+        closes = closes;
+        before = omega (arith, front, late);
+        behind = omega (arith, all, pushed, sizes);
+      }
+
+  -- the line that is kept, where an entry came that adds these bytes
+  pub line_noted : (given : List Entry) (entry : Entry) (lines : ℕ) (known noted : Option ℕ) → lines ≡ length given → IsCloseLine role limits given known → IsNoted role limits (sent role given ++ bytes_in role entry) known lines noted
+      → IsCloseLine role limits (given ++ entry ∷ []) noted
+  line_noted given entry lines (Some line) noted count is stays = subst (IsCloseLine role limits (given ++ entry ∷ [])) (sym stays) (closes_longer given entry line is)
+  line_noted given entry lines None (Some line) count is closes = subst (ClosesIn role limits (given ++ entry ∷ [])) (sym count ∙ sym closes.0) (closes_last given entry closes.1.0 is closes.1.1 closes.1.2)
+  line_noted given entry lines None None count is unclosed = subst (IsUnclosed role limits) (sym (sent-push given entry)) unclosed
+
+  -- the same where it adds none
+  pub line_kept : (given : List Entry) (entry : Entry) (known : Option ℕ) → bytes_in role entry ≡ [] → IsCloseLine role limits given known → IsCloseLine role limits (given ++ entry ∷ []) known
+  line_kept given entry (Some line) none is = closes_longer given entry line is
+  line_kept given entry None none is =
+      subst (IsUnclosed role limits) (sym (sent-push given entry ∙ ap (λ (bs : List ℕ). sent role given ++ bs) none ∙ append-nil (sent role given))) is

@@ -1,0 +1,12 @@
+pub mod OneEntry
+pub mod TextLines
+pub mod OneFault
+pub mod OneReport
+pub mod StreamSteps
+pub mod LineEnds
+pub mod ClosingLines
+pub mod SentEntries
+pub mod TakenTexts
+pub mod ReportedLines
+pub mod SplitLines
+pub mod JudgedCaptures

@@ -1,0 +1,264 @@
+-- A line is taken, or has one first fault.
+use Rattle.std.proofs.Common.{◌≡◌, ◌≢◌, ℕ, zero, suc, ◌+◌, ◌<◌, ◌≤◌, ◌⊎◌, Bool, true, false, Result, Ok, Err, List, [], ◌∷◌, ◌++◌, length, inl, inr, refl, sym, ap, ◌∙◌, subst, arith}
+use Rattle.std.proofs.lemmas.Bool.{cases_eq, cases_lt}
+use Rattle.hex.specs.Hex.{decode_of}
+use Rattle.hex.specs.declared.error.FromHexError.{FromHexError}
+use Rattle.wsn_wire.specs.declared.endpoint.Role.{Role}
+use Rattle.wsn_wire.specs.declared.endpoint.Role.TheVariants.{Client, Server}
+use Rattle.wsn_rules.specs.Limits.{Limits}
+use Rattle.wsn_rules.proofs.Prefixes.{head_same, tail_same}
+use Rattle.wsn_capture.specs.declared.line_fault.LineFault.{LineFault}
+use Rattle.wsn_capture.specs.declared.line_fault.LineFault.TheVariants.{TooManyLines, TooLong, BadForm, BadHex, AfterEnd, InputLimit}
+use Rattle.wsn_capture.specs.CaptureLines.{without_cr}
+use Rattle.wsn_capture.specs.Entries.{Entry, IsHex, IsGiven, bytes_front, end_mark}
+use Rattle.wsn_capture.specs.Entries.Entry.{Nothing, Bytes, Mark}
+use Rattle.wsn_capture.specs.Sides.{sent, has_ended}
+use Rattle.wsn_capture.specs.LineFaults.{order_of, IsOf, HasNoForm, HasFault, IsFirstFault, IsTaken, most_lines, most_bytes}
+use Rattle.wsn_capture.proofs.OneEntry.{letter_of, front_is, mark_is, not_nothing, same_bytes_line, not_mark, same_mark, one_given}
+
+-- ---- the order of the faults
+
+abbrev fault_at : ℕ → LineFault
+fault_at zero = TooManyLines
+fault_at (suc zero) = TooLong
+fault_at (suc (suc zero)) = BadForm
+fault_at (suc (suc (suc zero))) = BadHex
+fault_at (suc (suc (suc (suc zero)))) = AfterEnd
+fault_at (suc (suc (suc (suc (suc n))))) = InputLimit
+
+at_its_place : (fault : LineFault) → fault_at (order_of fault) ≡ fault
+at_its_place TooManyLines = refl
+at_its_place TooLong = refl
+at_its_place BadForm = refl
+at_its_place BadHex = refl
+at_its_place AfterEnd = refl
+at_its_place InputLimit = refl
+
+placed : (fault : LineFault) → order_of fault < 6
+placed TooManyLines = omega arith
+placed TooLong = omega arith
+placed BadForm = omega arith
+placed BadHex = omega arith
+placed AfterEnd = omega arith
+placed InputLimit = omega arith
+
+pub one_first_fault : (limits : Limits) (given : List Entry) (line : List ℕ) (fault other : LineFault) → IsFirstFault limits given line fault → IsFirstFault limits given line other → fault ≡ other
+one_first_fault limits given line fault other is also =
+    let up = is.first other also.held in
+    let down = also.first fault is.held in
+    let same : order_of fault ≡ order_of other = omega (arith, up, down) in
+    sym (at_its_place fault) ∙ ap fault_at same ∙ at_its_place other
+
+-- In these, the faults from one on: from the first, or from the first that a text has by itself.
+module _ (limits : Limits) (given : List Entry) (text : List ℕ) (from : ℕ) where
+  -- none of them comes before this place
+  abbrev pub NoneBefore : ℕ → Type 0
+  NoneBefore n = (other : LineFault) → HasFault limits given text other → from ≤ order_of other → n ≤ order_of other
+
+  pub none_at_first : NoneBefore from
+  none_at_first other held le = le
+
+  pub none_further : (n : ℕ) → NoneBefore n → (HasFault limits given text (fault_at n) → ⊥) → NoneBefore (suc n)
+  none_further n before none other held le =
+      let behind = before other held le in
+      elim (cases_eq (order_of other) n) [
+        | inl here ↦ absurd (none (subst (HasFault limits given text) (sym (at_its_place other) ∙ ap fault_at here) held))
+        | inr there ↦ omega (arith, behind, there)
+      ]
+
+  -- none of them is there
+  pub none_at_all : NoneBefore 6 → (other : LineFault) → HasFault limits given text other → order_of other < from
+  none_at_all before other held =
+      elim (cases_lt (order_of other) from) [
+        | inl less ↦ less
+        | inr le ↦ let behind = before other held le in let few = placed other in absurd (omega (arith, behind, few))
+      ]
+
+-- ---- the form of a line
+
+-- What a line without its CR is.
+pub data Form (text : List ℕ) : Type 0 where
+  GivesNothing : IsGiven text Nothing → Form text
+  OfBytes : (role : Role) (digits : List ℕ) → text ≡ bytes_front role ++ digits → Form text
+  IsMark : (role : Role) → text ≡ end_mark role → Form text
+  NoForm : HasNoForm text → Form text
+
+-- a line that begins otherwise has no form
+no_side : (b : ℕ) (rest : List ℕ) → b ≢ 67 → b ≢ 83 → (role : Role) → IsOf role (b ∷ rest) → ⊥
+no_side b rest no_client no_server role is = by_letter role (first role is)
+  where
+    first : (role : Role) → IsOf role (b ∷ rest) → b ≡ letter_of role
+    first role (inl of) = head_same _ _ _ _ (of.1 ∙ front_is role of.0)
+    first role (inr mark) = head_same _ _ _ _ (mark ∙ mark_is role)
+
+    by_letter : (role : Role) → b ≡ letter_of role → ⊥
+    by_letter Client same = no_client same
+    by_letter Server same = no_server same
+
+-- behind a side's letter stands a space, or a dot alone
+second_byte : (role : Role) (rest : List ℕ) → ((digits : List ℕ) → rest ≡ 32 ∷ digits → ⊥) → (rest ≡ 46 ∷ [] → ⊥) → HasNoForm (letter_of role ∷ rest)
+second_byte role rest no_bytes no_mark = (not_nothing role rest (letter_of role ∷ rest) refl, of_none)
+  where
+    of_none : (other : Role) → IsOf other (letter_of role ∷ rest) → ⊥
+    of_none other (inl of) = no_bytes of.0 (tail_same _ _ _ _ (of.1 ∙ front_is other of.0))
+    of_none other (inr mark) = no_mark (tail_same _ _ _ _ (mark ∙ mark_is other))
+
+of_letter : (role : Role) (rest : List ℕ) → Form (letter_of role ∷ rest)
+of_letter role [] = NoForm (second_byte role [] (λ digits is. cc is) (λ is. cc is))
+of_letter role (c ∷ rest) =
+    elim (cases_eq c 32) [
+      | inl space ↦ OfBytes role rest (ap (λ (n : ℕ). letter_of role ∷ n ∷ rest) space ∙ sym (front_is role rest))
+      | inr no_space ↦ elim (cases_eq c 46) [
+        | inl dot ↦ behind_dot rest dot
+        | inr no_dot ↦ NoForm (second_byte role (c ∷ rest) (λ digits is. no_space (head_same _ _ _ _ is)) (λ is. no_dot (head_same _ _ _ _ is)))
+      ]
+    ]
+  where
+    behind_dot : (rest : List ℕ) → c ≡ 46 → Form (letter_of role ∷ c ∷ rest)
+    behind_dot [] dot = IsMark role (ap (λ (n : ℕ). letter_of role ∷ n ∷ []) dot ∙ sym (mark_is role))
+    behind_dot (d ∷ rest) dot =
+        NoForm (second_byte role (c ∷ d ∷ rest) (λ digits is. let space : 46 ≡ 32 = sym dot ∙ head_same _ _ _ _ is in omega (arith, space))
+        (λ is. let none : d ∷ rest ≡ [] = tail_same _ _ _ _ is in cc))
+
+pub form_of : (text : List ℕ) → Form text
+form_of [] = GivesNothing (inl refl)
+form_of (b ∷ rest) =
+    elim (cases_eq b 35) [
+      | inl mark ↦ GivesNothing (inr (rest, ap (λ (n : ℕ). n ∷ rest) mark))
+      | inr no_comment ↦ elim (cases_eq b 67) [
+        | inl client ↦ subst (λ (n : ℕ). Form (n ∷ rest)) (sym client) (of_letter Client rest)
+        | inr no_client ↦ elim (cases_eq b 83) [
+          | inl server ↦ subst (λ (n : ℕ). Form (n ∷ rest)) (sym server) (of_letter Server rest)
+          | inr no_server ↦ NoForm (something no_comment, no_side b rest no_client no_server)
+        ]
+      ]
+    ]
+  where
+    something : b ≢ 35 → IsGiven (b ∷ rest) Nothing → ⊥
+    something other (inl empty) = cc empty
+    something other (inr comment) = other (head_same _ _ _ _ comment.1)
+
+-- ---- each line is one or the other
+
+hex_or_not : (digits : List ℕ) → ((bytes : List ℕ) × IsHex digits bytes) ⊎ ((bytes : List ℕ) → IsHex digits bytes → ⊥)
+hex_or_not [] = inr (λ bytes is. is.0 refl)
+hex_or_not (d ∷ digits) = by_result (decode_of (d ∷ digits)) refl
+  where
+    by_result : (r : Result (List ℕ) FromHexError) → decode_of (d ∷ digits) ≡ r → ((bytes : List ℕ) × IsHex (d ∷ digits) bytes) ⊎ ((bytes : List ℕ) → IsHex (d ∷ digits) bytes → ⊥)
+    by_result (Ok bytes) is = inl (bytes, ((λ none. cc none), is))
+    by_result (Err e) is = inr (λ bytes hex. let both : Ok bytes ≡ Err e = sym hex.1 ∙ is in cc)
+
+true_or_false : (b : Bool) → (b ≡ true) ⊎ (b ≡ false)
+true_or_false true = inl refl
+true_or_false false = inr refl
+
+-- which side a line is of
+pub same_side : (role other : Role) (text digits : List ℕ) → text ≡ bytes_front role ++ digits → IsOf other text → role ≡ other
+same_side role other text digits is (inl of) = (same_bytes_line role other digits of.0 (sym is ∙ of.1)).0
+same_side role other text digits is (inr mark) = absurd (not_mark role other digits (sym is ∙ mark))
+
+pub same_side_marked : (role other : Role) (text : List ℕ) → text ≡ end_mark role → IsOf other text → role ≡ other
+same_side_marked role other text is (inl of) = absurd (not_mark other role of.0 (sym of.1 ∙ is))
+same_side_marked role other text is (inr mark) = same_mark role other (sym is ∙ mark)
+
+module _ (limits : Limits) (given : List Entry) (text : List ℕ) (from : ℕ) where
+  -- a text that gives nothing has no fault of what it gives
+  pub nothing_bad : IsGiven text Nothing → NoneBefore limits given text from 2 → NoneBefore limits given text from 6
+  nothing_bad is before =
+      none_further limits given text from 5 (none_further limits given text from 4 (none_further limits given text from 3 (none_further limits given text from 2 before
+      (λ bad. bad.0 is))
+      (λ bad. not_nothing bad.0 (32 ∷ bad.1) text (bad.2 ∙ front_is bad.0 bad.1) is))
+      (λ bad. of_none bad.0 bad.1))
+      (λ bad. let same : Nothing ≡ Bytes bad.0 bad.1 = one_given text Nothing (Bytes bad.0 bad.1) is bad.2 in cc)
+    where
+      of_none : (role : Role) → IsOf role text → ⊥
+      of_none role (inl of) = not_nothing role (32 ∷ of.0) text (of.1 ∙ front_is role of.0) is
+      of_none role (inr mark) = not_nothing role (46 ∷ []) text (mark ∙ mark_is role) is
+
+  -- bytes whose digits spell them have a form
+  pub bytes_formed : (role : Role) (digits bytes : List ℕ) → text ≡ bytes_front role ++ digits → IsHex digits bytes → NoneBefore limits given text from 2 → NoneBefore limits given text from 4
+  bytes_formed role digits bytes is hex before =
+      none_further limits given text from 3 (none_further limits given text from 2 before
+      (λ bad. bad.1 role (inl (digits, is))))
+      (λ bad. bad.3 bytes (subst (λ (ds : List ℕ). IsHex ds bytes) (same_bytes_line role bad.0 digits bad.1 (sym is ∙ bad.2)).1 hex))
+
+  -- they have no fault where their side goes on and has room
+  pub bytes_taken : (role : Role) (digits bytes : List ℕ) → text ≡ bytes_front role ++ digits → IsHex digits bytes → NoneBefore limits given text from 4 → has_ended role given ≡ false
+      → length (sent role given) + length bytes ≤ limits.input → NoneBefore limits given text from 6
+  bytes_taken role digits bytes is hex before going room =
+      none_further limits given text from 5 (none_further limits given text from 4 before
+      (λ bad. let same = same_side role bad.0 text digits is bad.1 in let both : true ≡ false = sym (ap (λ (r : Role). has_ended r given) same ∙ bad.2) ∙ going in cc))
+      (λ bad. let same : Bytes role bytes ≡ Bytes bad.0 bad.1 = one_given text (Bytes role bytes) (Bytes bad.0 bad.1) (digits, is, hex) bad.2 in over bad.0 bad.1 same bad.3)
+    where
+      over : (other : Role) (others : List ℕ) → Bytes role bytes ≡ Bytes other others → limits.input < length (sent other given) + length others → ⊥
+      over other others same =
+          let sides : role ≡ other = cc in
+          let all : bytes ≡ others = cc in
+          subst (λ (r : Role). limits.input < length (sent r given) + length others → ⊥) sides
+          (subst (λ (bs : List ℕ). limits.input < length (sent role given) + length bs → ⊥) all (λ more. omega (arith, room, more)))
+
+  -- an end mark has no fault where its side goes on
+  pub mark_formed : (role : Role) → text ≡ end_mark role → NoneBefore limits given text from 2 → NoneBefore limits given text from 4
+  mark_formed role is before =
+      none_further limits given text from 3 (none_further limits given text from 2 before
+      (λ bad. bad.1 role (inr is)))
+      (λ bad. not_mark bad.0 role bad.1 (sym bad.2 ∙ is))
+
+  pub mark_taken : (role : Role) → text ≡ end_mark role → NoneBefore limits given text from 4 → has_ended role given ≡ false → NoneBefore limits given text from 6
+  mark_taken role is before going =
+      none_further limits given text from 5 (none_further limits given text from 4 before
+      (λ bad. let same = same_side_marked role bad.0 text is bad.1 in let both : true ≡ false = sym (ap (λ (r : Role). has_ended r given) same ∙ bad.2) ∙ going in cc))
+      (λ bad. let same : Mark role ≡ Bytes bad.0 bad.1 = one_given text (Mark role) (Bytes bad.0 bad.1) is bad.2 in cc)
+
+module _ (limits : Limits) (given : List Entry) (text : List ℕ) where
+  -- the text is taken, or its first fault is known
+  abbrev pub IsDecided : Type 0
+  IsDecided = ((entry : Entry) × IsGiven text entry × ((fault : LineFault) → HasFault limits given text fault → order_of fault < 0))
+      ⊎ ((fault : LineFault) × HasFault limits given text fault × NoneBefore limits given text 0 (order_of fault))
+
+  by_form : NoneBefore limits given text 0 2 → Form text → IsDecided
+  by_form before (GivesNothing is) = inl (Nothing, is, none_at_all limits given text 0 (nothing_bad limits given text 0 is before))
+  by_form before (OfBytes role digits is) =
+      elim (hex_or_not digits) [
+        | inr none ↦ inr (BadHex, (role, digits, is, none), none_further limits given text 0 2 before (λ bad. bad.1 role (inl (digits, is))))
+        | inl hex ↦
+            let formed = bytes_formed limits given text 0 role digits hex.0 is hex.1 before in
+            elim (true_or_false (has_ended role given)) [
+              | inl over ↦ inr (AfterEnd, (role, inl (digits, is), over), formed)
+              | inr going ↦ elim (cases_lt limits.input (length (sent role given) + length hex.0)) [
+                | inl more ↦ inr (
+                  InputLimit,
+                  (role, hex.0, (digits, is, hex.1), more),
+                  none_further limits given text 0 4 formed
+                      (λ bad. let same = same_side role bad.0 text digits is bad.1 in let both : true ≡ false = sym (ap (λ (r : Role). has_ended r given) same ∙ bad.2) ∙ going in cc),
+                )
+                | inr room ↦ inl (Bytes role hex.0, (digits, is, hex.1), none_at_all limits given text 0 (bytes_taken limits given text 0 role digits hex.0 is hex.1 formed going (omega (arith, room))))
+              ]
+            ]
+      ]
+  by_form before (IsMark role is) =
+      let formed = mark_formed limits given text 0 role is before in
+      elim (true_or_false (has_ended role given)) [
+        | inl over ↦ inr (AfterEnd, (role, inr is, over), formed)
+        | inr going ↦ inl (Mark role, is, none_at_all limits given text 0 (mark_taken limits given text 0 role is formed going))
+      ]
+  by_form before (NoForm none) = inr (BadForm, none, before)
+
+  pub decided : IsDecided
+  decided =
+      elim (cases_lt (length given) most_lines) [
+        | inr many ↦ inr (TooManyLines, (omega (arith, many)), none_at_first limits given text 0)
+        | inl few ↦
+            let first = none_further limits given text 0 0 (none_at_first limits given text 0) (λ many. omega (arith, few, many)) in
+            elim (cases_lt most_bytes (length text)) [
+              | inl long ↦ inr (TooLong, long, first)
+              | inr short ↦ by_form (none_further limits given text 0 1 first (λ long. omega (arith, short, long))) (form_of text)
+            ]
+      ]
+
+pub taken_or_faulty : (limits : Limits) (given : List Entry) (line : List ℕ) → ((entry : Entry) × IsTaken limits given line entry) ⊎ ((fault : LineFault) × IsFirstFault limits given line fault)
+taken_or_faulty limits given line =
+    elim (decided limits given (without_cr line)) [
+      | inl taken ↦ inl (taken.0, record { gives = taken.1; none = λ fault held. let less = taken.2 fault held in omega (arith, less) })
+      | inr faulty ↦ inr (faulty.0, record { held = faulty.1; first = λ other held. faulty.2 other held (omega arith) })
+    ]

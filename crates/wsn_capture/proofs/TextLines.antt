@@ -1,0 +1,179 @@
+-- A text is cut into lines in one way.
+use Rattle.std.proofs.Common.{◌≡◌, ◌≢◌, ℕ, ◌==◌, Bool, false, cond, List, [], ◌∷◌, ◌++◌, ◌<◌, length, inl, inr, refl, sym, ap, ◌∙◌, subst, append_assoc, append-nil, arith}
+use Rattle.std.specs.List.{AllByRecursion}
+use Rattle.std.proofs.lemmas.Bool.{cases_eq}
+use Rattle.std.proofs.lemmas.List.Concat.{flat_map-append}
+use Rattle.wsn_capture.specs.CaptureLines.{IsLine, ended, AreLines}
+
+-- a byte in front of the first line
+abbrev in_front : ℕ → List (List ℕ) → List (List ℕ)
+in_front b [] = (b ∷ []) ∷ []
+in_front b (line ∷ lines) = (b ∷ line) ∷ lines
+
+-- the lines of a text, from its front
+abbrev cut : List ℕ → List (List ℕ)
+cut [] = []
+cut (b ∷ text) = cond (b == 10) ([] ∷ cut text) (in_front b (cut text))
+
+cut_at_lf : (text : List ℕ) → cut (10 ∷ text) ≡ [] ∷ cut text
+cut_at_lf text = refl
+
+no_lf : (b : ℕ) → b ≢ 10 → (b == 10) ≡ false
+no_lf b other = grind (arith)
+
+cut_before : (b : ℕ) (text : List ℕ) → b ≢ 10 → cut (b ∷ text) ≡ in_front b (cut text)
+cut_before b text other = ap (λ (t : Bool). cond t ([] ∷ cut text) (in_front b (cut text))) (no_lf b other)
+
+-- a line that is ended comes first
+cut_line : (line text : List ℕ) → IsLine line → cut (line ++ 10 ∷ text) ≡ line ∷ cut text
+cut_line [] text is = cut_at_lf text
+cut_line (b ∷ line) text is = cut_before b (line ++ 10 ∷ text) is.0 ∙ ap (in_front b) (cut_line line text is.1)
+
+-- a last line that isn't
+cut_last : (b : ℕ) (line : List ℕ) → IsLine (b ∷ line) → cut (b ∷ line) ≡ (b ∷ line) ∷ []
+cut_last b [] is = cut_before b [] is.0
+cut_last b (c ∷ line) is = cut_before b (c ∷ line) is.0 ∙ ap (in_front b) (cut_last c line is.1)
+
+ended_front : (line : List ℕ) (lines : List (List ℕ)) (rest : List ℕ) → ended (line ∷ lines) ++ rest ≡ line ++ 10 ∷ (ended lines ++ rest)
+ended_front line lines rest = append_assoc (line ++ 10 ∷ []) (ended lines) rest ∙ append_assoc line (10 ∷ []) (ended lines ++ rest)
+
+cut_lines : (lines : List (List ℕ)) (rest : List ℕ) → AllByRecursion IsLine lines → cut (ended lines ++ rest) ≡ lines ++ cut rest
+cut_lines [] rest are = refl
+cut_lines (line ∷ lines) rest are =
+    ap cut (ended_front line lines rest) ∙ cut_line line (ended lines ++ rest) are.0 ∙ ap (λ (ls : List (List ℕ)). line ∷ ls) (cut_lines lines rest are.1)
+
+-- what is known of each of two parts
+pub each_left : (xs ys : List (List ℕ)) → AllByRecursion IsLine (xs ++ ys) → AllByRecursion IsLine xs
+each_left [] ys are = tt
+each_left (x ∷ xs) ys are = (are.0, each_left xs ys are.1)
+
+pub each_right : (xs ys : List (List ℕ)) → AllByRecursion IsLine (xs ++ ys) → AllByRecursion IsLine ys
+each_right [] ys are = are
+each_right (x ∷ xs) ys are = each_right xs ys are.1
+
+last_cut : (last : List ℕ) → IsLine last → last ≢ [] → cut last ≡ last ∷ []
+last_cut [] is some = absurd (some refl)
+last_cut (b ∷ line) is some = cut_last b line is
+
+lines_are : (text : List ℕ) (lines : List (List ℕ)) → AreLines text lines → cut text ≡ lines
+lines_are text lines are =
+    elim are.joined [
+      | inl whole ↦ ap cut (whole ∙ sym (append-nil (ended lines))) ∙ cut_lines lines [] are.each ∙ append-nil lines
+      | inr open_end ↦
+          let each = subst (AllByRecursion IsLine) open_end.2 are.each in
+          ap cut open_end.4 ∙ cut_lines open_end.0 open_end.1 (each_left open_end.0 (open_end.1 ∷ []) each)
+          ∙ ap (λ (ls : List (List ℕ)). open_end.0 ++ ls) (last_cut open_end.1 (each_right open_end.0 (open_end.1 ∷ []) each).0 open_end.3)
+          ∙ sym open_end.2
+    ]
+
+pub same_lines : (text : List ℕ) (lines others : List (List ℕ)) → AreLines text lines → AreLines text others → lines ≡ others
+same_lines text lines others are also = sym (lines_are text lines are) ∙ lines_are text others also
+
+-- ---- each text has lines
+
+-- a byte more in front
+with_byte : (b : ℕ) (text : List ℕ) (lines : List (List ℕ)) → b ≢ 10 → AreLines text lines → AreLines (b ∷ text) (in_front b lines)
+with_byte b text [] other are = record {
+  each = ((other, tt), tt);
+  joined = elim are.joined [
+    | inl whole ↦ inr ([], b ∷ [], refl, (λ is. cc is), ap (λ (bs : List ℕ). b ∷ bs) whole)
+    | inr open_end ↦ absurd (nil_push open_end.0 open_end.1 open_end.2)
+  ];
+}
+  where
+    nil_push : (before : List (List ℕ)) (last : List ℕ) → [] ≡ before ++ last ∷ [] → ⊥
+    nil_push [] last is = cc
+    nil_push (x ∷ before) last is = cc
+with_byte b text (line ∷ lines) other are = record {
+  each = ((other, are.each.0), are.each.1);
+  joined = elim are.joined [
+    | inl whole ↦ inl (ap (λ (bs : List ℕ). b ∷ bs) whole)
+    | inr open_end ↦ inr (from open_end.0 open_end.1 open_end.2 open_end.3 open_end.4)
+  ];
+}
+  where
+    from : (before : List (List ℕ)) (last : List ℕ) → line ∷ lines ≡ before ++ last ∷ [] → last ≢ [] → text ≡ ended before ++ last
+        → (fore : List (List ℕ)) × (rest : List ℕ) × ((b ∷ line) ∷ lines ≡ fore ++ rest ∷ []) × (rest ≢ []) × (b ∷ text ≡ ended fore ++ rest)
+    from [] last is some whole =
+        let first : line ≡ last = cc in
+        let none : lines ≡ [] = cc in
+        ([], b ∷ last, ap (λ (ls : List (List ℕ)). (b ∷ line) ∷ ls) none ∙ ap (λ (l : List ℕ). (b ∷ l) ∷ []) first, (λ empty. cc empty), ap (λ (bs : List ℕ). b ∷ bs) whole)
+    from (x ∷ before) last is some whole =
+        let first : line ≡ x = cc in
+        let rest : lines ≡ before ++ last ∷ [] = cc in
+        ((b ∷ x) ∷ before, last, ap (λ (l : List ℕ). (b ∷ l) ∷ lines) first ∙ ap (λ (ls : List (List ℕ)). (b ∷ x) ∷ ls) rest, some, ap (λ (bs : List ℕ). b ∷ bs) whole)
+
+-- an LF more in front
+with_lf : (text : List ℕ) (lines : List (List ℕ)) → AreLines text lines → AreLines (10 ∷ text) ([] ∷ lines)
+with_lf text lines are = record {
+  each = (tt, are.each);
+  joined = elim are.joined [
+    | inl whole ↦ inl (ap (λ (bs : List ℕ). 10 ∷ bs) whole)
+    | inr open_end ↦ inr ([] ∷ open_end.0, open_end.1, ap (λ (ls : List (List ℕ)). [] ∷ ls) open_end.2, open_end.3, ap (λ (bs : List ℕ). 10 ∷ bs) open_end.4)
+  ];
+}
+
+pub has_lines : (text : List ℕ) → (lines : List (List ℕ)) × AreLines text lines
+has_lines [] = ([], record { each = tt; joined = inl refl })
+has_lines (b ∷ text) =
+    let rest = has_lines text in
+    elim (cases_eq b 10) [
+      | inl lf ↦ ([] ∷ rest.0, subst (λ (n : ℕ). AreLines (n ∷ text) ([] ∷ rest.0)) (sym lf) (with_lf text rest.0 rest.1))
+      | inr other ↦ (in_front b rest.0, with_byte b text rest.0 other rest.1)
+    ]
+
+-- ---- texts that go on
+
+pub ended-append : (lines others : List (List ℕ)) → ended (lines ++ others) ≡ ended lines ++ ended others
+ended-append lines others = flat_map-append (λ line. line ++ 10 ∷ []) lines others
+
+pub ended-push : (lines : List (List ℕ)) (line : List ℕ) → ended (lines ++ line ∷ []) ≡ ended lines ++ (line ++ 10 ∷ [])
+ended-push lines line = ended-append lines (line ∷ []) ∙ ap (λ (bs : List ℕ). ended lines ++ bs) (append-nil (line ++ 10 ∷ []))
+
+pub each_join : (xs ys : List (List ℕ)) → AllByRecursion IsLine xs → AllByRecursion IsLine ys → AllByRecursion IsLine (xs ++ ys)
+each_join [] ys are also = also
+each_join (x ∷ xs) ys are also = (are.0, each_join xs ys are.1 also)
+
+pub line_push : (line : List ℕ) (b : ℕ) → IsLine line → b ≢ 10 → IsLine (line ++ b ∷ [])
+line_push [] b is other = (other, tt)
+line_push (c ∷ line) b is other = (is.0, line_push line b is.1 other)
+
+-- lines that are ended, in front of a text
+pub lines_in_front : (xs : List (List ℕ)) (text : List ℕ) (lines : List (List ℕ)) → AllByRecursion IsLine xs → AreLines text lines → AreLines (ended xs ++ text) (xs ++ lines)
+lines_in_front xs text lines each are = record {
+  each = each_join xs lines each are.each;
+  joined = elim are.joined [
+    | inl whole ↦ inl (ap (λ (bs : List ℕ). ended xs ++ bs) whole ∙ sym (ended-append xs lines))
+    | inr part ↦ inr (
+      xs ++ part.0,
+      part.1,
+      ap (λ (ls : List (List ℕ)). xs ++ ls) part.2 ∙ sym (append_assoc xs part.0 (part.1 ∷ [])),
+      part.3,
+      ap (λ (bs : List ℕ). ended xs ++ bs) part.4 ∙ sym (append_assoc (ended xs) (ended part.0) part.1) ∙ ap (λ (bs : List ℕ). bs ++ part.1) (sym (ended-append xs part.0)),
+    )
+  ];
+}
+
+-- a last line that isn't ended
+pub lines_at_end : (xs : List (List ℕ)) (last : List ℕ) → AllByRecursion IsLine xs → IsLine last → last ≢ [] → AreLines (ended xs ++ last) (xs ++ last ∷ [])
+lines_at_end xs last each is some = record { each = each_join xs (last ∷ []) each (is, tt); joined = inr (xs, last, refl, some, refl) }
+
+-- the first line of a text that begins with a line's bytes
+abbrev FirstBeginsWith : List ℕ → List (List ℕ) → Type 0
+FirstBeginsWith front lines = (more : List ℕ) × (rest : List (List ℕ)) × (lines ≡ (front ++ more) ∷ rest)
+
+cut_behind : (b : ℕ) (line text : List ℕ) → IsLine (b ∷ line) → FirstBeginsWith (b ∷ line) (cut ((b ∷ line) ++ text))
+cut_behind b [] text is = by_rest (cut text) refl
+  where
+    by_rest : (lines : List (List ℕ)) → cut text ≡ lines → FirstBeginsWith (b ∷ []) (cut (b ∷ text))
+    by_rest [] none = ([], [], cut_before b text is.0 ∙ ap (in_front b) none)
+    by_rest (line ∷ rest) more = (line, rest, cut_before b text is.0 ∙ ap (in_front b) more)
+cut_behind b (c ∷ line) text is =
+    let rest = cut_behind c line text is.1 in
+    (rest.0, rest.1, cut_before b ((c ∷ line) ++ text) is.0 ∙ ap (in_front b) rest.2)
+
+pub first_line : (front later : List ℕ) (lines : List (List ℕ)) → IsLine front → 0 < length front → AreLines (front ++ later) lines → (more : List ℕ) × (rest : List (List ℕ)) × (lines ≡ (front ++ more) ∷ rest)
+first_line [] later lines is some are = absurd (omega (arith, some))
+first_line (b ∷ front) later lines is some are =
+    let first = cut_behind b front later is in
+    (first.0, first.1, sym (lines_are ((b ∷ front) ++ later) lines are) ∙ first.2)

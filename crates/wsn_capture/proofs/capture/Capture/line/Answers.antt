@@ -1,0 +1,32 @@
+use Rattle.std.proofs.Common.{ℕ, ◌≡◌, List, Result, Err, length, sym, ap, subst, rules, arith}
+use Rattle.std.specs.Prelude.{IfErr}
+use Rattle.wsn_rules.specs.Limits.{Limits}
+use Rattle.wsn_capture.specs.declared.line_fault.LineFault.{LineFault}
+use Rattle.wsn_capture.specs.LineFaults.{IsFaultBehind}
+use Rattle.wsn_capture.specs.Captures.{IsFirstOwnFault, TakesText, HasTaken}
+use Rattle.wsn_capture.proofs.TakenTexts.{too_many, too_long, own_fault, line_taken, count_given}
+use Rattle.wsn_capture.proofs.capture.Capture.line.Goals as goal
+
+pub returns-then-self-ge-LINES_MAX-clause-fault : goal.returns-then-self-ge-LINES_MAX-clause-fault
+returns-then-self-ge-LINES_MAX-clause-fault c limits lines has = too_many limits c.args.self.now lines c.args.text.now has c.if-self-ge-LINES_MAX.true
+
+pub returns-then-text-gt-LINE_MAX-clause-fault : goal.returns-then-text-gt-LINE_MAX-clause-fault
+returns-then-text-gt-LINE_MAX-clause-fault c limits lines has =
+    let size = ap (λ (bs : List ℕ). length bs) c.strip_cr-text.ensures in
+    too_long limits c.args.self.now lines c.args.text.now has c.if-self-ge-LINES_MAX.false (omega (arith, size, c.if-text-gt-LINE_MAX.true))
+
+pub returns-in_err-take-clause-fault : goal.returns-in_err-take-clause-fault
+returns-in_err-take-clause-fault c =
+    let is : c.from_residual.result ≡ Err c.in_err-take.field-0.0 = search rules in
+    let size = ap (λ (bs : List ℕ). length bs) c.strip_cr-text.ensures in
+    subst (λ (r : Result Unit LineFault). IfErr r (λ fault. (limits : Limits) (lines : List (List ℕ)) → HasTaken limits c.args.self.now lines → IsFaultBehind limits lines c.args.text.now fault)) (sym is)
+    (λ limits lines has. own_fault limits c.args.self.now lines c.args.text.now has c.in_err-take.field-0.0 c.if-self-ge-LINES_MAX.false (omega (arith, size, c.if-text-gt-LINE_MAX.false))
+    (subst (λ (bs : List ℕ). IsFirstOwnFault limits has.entries bs c.in_err-take.field-0.0) c.strip_cr-text.ensures (c.in_err-take.ensures.fault limits has.entries has.sides)))
+
+pub returns-clause-taken : goal.returns-clause-taken
+returns-clause-taken c limits lines has =
+    let size = ap (λ (bs : List ℕ). length bs) c.strip_cr-text.ensures in
+    line_taken limits c.args.self.now lines c.args.text.now has c.take.new.self c.if-self-ge-LINES_MAX.false (omega (arith, size, c.if-text-gt-LINE_MAX.false))
+    (subst (λ (bs : List ℕ). TakesText limits c.take.new.self has.entries bs) c.strip_cr-text.ensures
+    (c.in_ok-take.ensures.taken limits has.entries (count_given limits c.args.self.now lines c.args.text.now has) has.sides))
+    c.in_ok-take.ensures.lines

@@ -1,0 +1,7 @@
+use Rattle.std.proofs.Common.{ℕ, Option, None, subst, sym}
+use Rattle.wsn_capture.specs.Captures.{IsNoted}
+use Rattle.wsn_capture.proofs.direction.Direction.closed_in.Goals as goal
+
+pub returns-in-None-2 : goal.returns-in-None-2
+returns-in-None-2 c role limits bytes has =
+    subst (λ (known : Option ℕ). IsNoted role limits bytes known c.args.lines None) (sym c.in-None.is) (c.if-is_closed.ensures role limits bytes has)

@@ -1,0 +1,18 @@
+use Rattle.std.proofs.Common.{◌≡◌, ◌≤◌, ◌<◌, false, length}
+use Rattle.wsn_capture.specs.Captures.{count_of}
+use Rattle.wsn_capture.specs.LineSplitters.{left_of}
+use Rattle.wsn_capture.proofs.JudgedCaptures.{HasRead}
+use Rattle.wsn_capture.proofs.judging.judge_capture.Given as goal
+
+-- all that came was taken, and no read has failed
+abbrev pub invariant-loop-count : goal.invariant-loop-count
+invariant-loop-count g l = record {
+  read : HasRead l.fn.limits l.fn.input l.input l.lines;
+  unfailed : l.input.failed ≡ false;
+  few : count_of l.lines.capture ≤ 1000000;
+  short : length l.lines.begun.items < 8196;
+  size : length l.piece ≡ 4096;
+}
+
+abbrev pub decreases-loop-count : goal.decreases-loop-count
+decreases-loop-count g l = left_of l.lines

@@ -1,0 +1,5 @@
+use Rattle.wsn_capture.proofs.OneReport.{one_report}
+use Rattle.wsn_capture.proofs.laws.law_one_report.Goals as goal
+
+pub returns : goal.returns
+returns c = one_report

@@ -1,0 +1,28 @@
+-- Which lines a text has.
+use Rattle.std.specs.Prelude.{◌≡◌, ◌≢◌, ℕ, ◌⊎◌, ◌==◌, List, [], ◌∷◌, ◌++◌, if◌then◌else◌}
+use Rattle.std.specs.List.{AllByRecursion, flat_map}
+
+-- A line has no LF.
+abbrev pub IsLine : List ℕ → Type 0
+IsLine = AllByRecursion (λ b. b ≢ 10)
+
+-- lines, each ended by LF
+abbrev pub ended : List (List ℕ) → List ℕ
+ended = flat_map (λ line. line ++ 10 ∷ [])
+
+-- All lines of a text are ended by LF; or the last one isn't, and then it isn't empty.
+abbrev pub AreJoined : List ℕ → List (List ℕ) → Type 0
+AreJoined text lines =
+    (text ≡ ended lines)
+    ⊎ ((before : List (List ℕ)) × (last : List ℕ) × (lines ≡ before ++ last ∷ []) × (last ≢ []) × (text ≡ ended before ++ last))
+
+-- The lines of a text.
+pub record AreLines (text : List ℕ) (lines : List (List ℕ)) : Type 0 where
+  pub each : AllByRecursion IsLine lines
+  pub joined : AreJoined text lines
+
+-- a line without the CR at its end, if it has one there
+abbrev pub without_cr : List ℕ → List ℕ
+without_cr [] = []
+without_cr (b ∷ []) = if b == 13 then [] else b ∷ []
+without_cr (b ∷ c ∷ line) = b ∷ without_cr (c ∷ line)

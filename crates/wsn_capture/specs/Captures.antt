@@ -1,0 +1,84 @@
+-- How a capture stands to the lines that it has taken.
+use Rattle.std.specs.Prelude.{◌≡◌, ℕ, ◌<◌, ◌≤◌, Bool, true, false, Option, None, Some, List, [], ◌∷◌, ◌++◌, length}
+use Rattle.wsn_wire.specs.declared.endpoint.Role.{Role}
+use Rattle.wsn_wire.specs.declared.endpoint.Role.TheVariants.{Client, Server}
+use Rattle.wsn_wire.specs.Frame.{Frame}
+use Rattle.wsn_rules.specs.Limits.{Limits}
+use Rattle.wsn_rules.specs.Accepted.{IsAccepted, EndsWithClose}
+use Rattle.wsn_capture.specs.declared.line_fault.LineFault.{LineFault}
+use Rattle.wsn_capture.specs.declared.line_fault.LineFault.TheVariants.{AfterEnd, InputLimit}
+use Rattle.wsn_capture.specs.declared.direction.Direction.{Direction}
+use Rattle.wsn_capture.specs.declared.capture.Capture.{Capture}
+use Rattle.wsn_capture.specs.Entries.{Entry, IsGiven}
+use Rattle.wsn_capture.specs.Sides.{sent, has_ended}
+use Rattle.wsn_capture.specs.LineFaults.{HasFault, AreTaken, order_of}
+use Rattle.wsn_capture.specs.Reports.{ClosesIn}
+use Rattle.wsn_capture.specs.ScannedStreams.{HasStreamed}
+
+-- ---- one direction
+
+-- The stream has no Close.
+abbrev pub IsUnclosed : Role → Limits → List ℕ → Type 0
+IsUnclosed role limits stream = (fs : List Frame) → IsAccepted role limits stream fs → EndsWithClose fs → ⊥
+
+-- Whether the stream has a Close.
+abbrev pub IsClosedBy : Role → Limits → List ℕ → Bool → Type 0
+IsClosedBy role limits stream true = (fs : List Frame) × IsAccepted role limits stream fs × EndsWithClose fs
+IsClosedBy role limits stream false = IsUnclosed role limits stream
+
+-- The line in which the Close ends, if there is one.
+abbrev pub IsCloseLine : Role → Limits → List Entry → Option ℕ → Type 0
+IsCloseLine role limits given (Some line) = ClosesIn role limits given line
+IsCloseLine role limits given None = IsUnclosed role limits (sent role given)
+
+-- The same of a stream that has gone on: the line that was known stays, and a Close that ends only now ends in this one.
+abbrev pub IsNoted : Role → Limits → List ℕ → Option ℕ → ℕ → Option ℕ → Type 0
+IsNoted role limits stream (Some line) now noted = noted ≡ Some line
+IsNoted role limits stream None now (Some line) = (line ≡ now) × IsClosedBy role limits stream true
+IsNoted role limits stream None now None = IsUnclosed role limits stream
+
+-- What a direction knows of what the lines gave.
+pub record HasSent (role : Role) (limits : Limits) (direction : Direction) (given : List Entry) : Type 0 where
+  pub streamed : HasStreamed role limits direction.stream (sent role given)
+  pub ended : direction.ended ≡ has_ended role given
+  pub close_line : IsCloseLine role limits given direction.close_line
+
+-- Why a direction doesn't take so many bytes more.
+abbrev pub IsLimited : Direction → ℕ → LineFault → Type 0
+IsLimited direction count AfterEnd = direction.ended ≡ true
+IsLimited direction count InputLimit = (direction.ended ≡ false) × (direction.stream.room < count)
+IsLimited direction count fault = ⊥
+
+-- ---- both
+
+-- What both directions know of what the lines gave.
+pub record AreSent (limits : Limits) (capture : Capture) (given : List Entry) : Type 0 where
+  pub client : HasSent Client limits capture.client given
+  pub server : HasSent Server limits capture.server given
+
+-- A text has no fault of its own, whatever the count and the length of lines, and gives this.
+pub record IsWellGiven (limits : Limits) (given : List Entry) (text : List ℕ) (entry : Entry) : Type 0 where
+  pub gives : IsGiven text entry
+  pub none : (other : LineFault) → HasFault limits given text other → order_of other < 2
+
+-- Of a text's own faults, the first.
+pub record IsFirstOwnFault (limits : Limits) (given : List Entry) (text : List ℕ) (fault : LineFault) : Type 0 where
+  pub held : HasFault limits given text fault
+  pub first : (other : LineFault) → HasFault limits given text other → 2 ≤ order_of other → order_of fault ≤ order_of other
+
+-- One text more was taken.
+pub record TakesText (limits : Limits) (new : Capture) (given : List Entry) (text : List ℕ) : Type 0 where
+  pub entry : Entry
+  pub gives : IsWellGiven limits given text entry
+  pub sent : AreSent limits new (given ++ entry ∷ [])
+
+-- how many lines a capture has taken
+abbrev pub count_of : Capture → ℕ
+count_of capture = capture.lines
+
+-- The capture has taken these lines, in this order.
+pub record HasTaken (limits : Limits) (capture : Capture) (lines : List (List ℕ)) : Type 0 where
+  pub entries : List Entry
+  pub taken : AreTaken limits lines entries
+  pub count : count_of capture ≡ length lines
+  pub sides : AreSent limits capture entries

@@ -1,0 +1,41 @@
+-- What a line of a capture gives.
+use Rattle.std.specs.Prelude.{◌≡◌, ◌≢◌, ℕ, ◌⊎◌, Ok, List, [], ◌∷◌, ◌++◌, codes}
+use Rattle.hex.specs.Hex.{decode_of}
+use Rattle.wsn_wire.specs.declared.endpoint.Role.{Role}
+use Rattle.wsn_wire.specs.declared.endpoint.Role.TheVariants.{Client, Server}
+use Rattle.wsn_capture.specs.CaptureLines.{without_cr}
+
+-- Nothing; bytes that a side sent; or a side's end mark, by which its direction of the connection ended.
+pub data Entry : Type 0 where
+  Nothing : Entry
+  Bytes : Role → List ℕ → Entry
+  Mark : Role → Entry
+
+-- what a line of a side's bytes begins with
+abbrev pub bytes_front : Role → List ℕ
+bytes_front Client = codes "C "
+bytes_front Server = codes "S "
+
+-- a side's end mark
+abbrev pub end_mark : Role → List ℕ
+end_mark Client = codes "C."
+end_mark Server = codes "S."
+
+-- Pairs of hexadecimal digits of either case, one at least, and the bytes that they spell.
+abbrev pub IsHex : List ℕ → List ℕ → Type 0
+IsHex digits bytes = (digits ≢ []) × (decode_of digits ≡ Ok bytes)
+
+-- What a line without its CR gives. An empty one and a comment, which begins with #, give nothing.
+abbrev pub IsGiven : List ℕ → Entry → Type 0
+IsGiven text Nothing = (text ≡ []) ⊎ ((comment : List ℕ) × (text ≡ codes "#" ++ comment))
+IsGiven text (Bytes role bytes) = (digits : List ℕ) × (text ≡ bytes_front role ++ digits) × IsHex digits bytes
+IsGiven text (Mark role) = text ≡ end_mark role
+
+abbrev pub IsEntry : List ℕ → Entry → Type 0
+IsEntry line entry = IsGiven (without_cr line) entry
+
+-- What lines give, each an entry.
+abbrev pub AreEntries : List (List ℕ) → List Entry → Type 0
+AreEntries [] [] = Unit {0}
+AreEntries (line ∷ lines) (entry ∷ entries) = IsEntry line entry × AreEntries lines entries
+AreEntries lines entries = ⊥

@@ -1,0 +1,80 @@
+-- Why a line isn't taken behind those that were. Each fault by itself; of a line's faults the first counts.
+use Rattle.std.specs.Prelude.{◌≡◌, ℕ, ◌+◌, ◌<◌, ◌≤◌, ◌⊎◌, true, List, [], ◌∷◌, ◌++◌, length, codes}
+use Rattle.wsn_wire.specs.declared.endpoint.Role.{Role}
+use Rattle.wsn_rules.specs.Limits.{Limits}
+use Rattle.wsn_capture.specs.declared.line_fault.LineFault.{LineFault}
+use Rattle.wsn_capture.specs.declared.line_fault.LineFault.TheVariants.{TooManyLines, TooLong, BadForm, BadHex, AfterEnd, InputLimit}
+use Rattle.wsn_capture.specs.CaptureLines.{without_cr}
+use Rattle.wsn_capture.specs.Entries.{Entry, IsHex, IsGiven, bytes_front, end_mark}
+use Rattle.wsn_capture.specs.Entries.Entry.{Nothing, Bytes}
+use Rattle.wsn_capture.specs.Sides.{sent, has_ended}
+
+-- the order of the faults
+abbrev pub order_of : LineFault → ℕ
+order_of TooManyLines = 0
+order_of TooLong = 1
+order_of BadForm = 2
+order_of BadHex = 3
+order_of AfterEnd = 4
+order_of InputLimit = 5
+
+abbrev pub word_of : LineFault → List ℕ
+word_of TooManyLines = codes "too-many-lines"
+word_of TooLong = codes "too-long"
+word_of BadForm = codes "bad-form"
+word_of BadHex = codes "bad-hex"
+word_of AfterEnd = codes "after-end"
+word_of InputLimit = codes "input-limit"
+
+-- A line of bytes or an end mark of a side, whatever stands for the bytes.
+abbrev pub IsOf : Role → List ℕ → Type 0
+IsOf role text = ((digits : List ℕ) × (text ≡ bytes_front role ++ digits)) ⊎ (text ≡ end_mark role)
+
+-- None of the forms of a line: it isn't empty, no comment, and of no side.
+abbrev pub HasNoForm : List ℕ → Type 0
+HasNoForm text = (IsGiven text Nothing → ⊥) × ((role : Role) → IsOf role text → ⊥)
+
+-- Two hexadecimal digits a byte, 8,192 at most, stand behind two bytes.
+abbrev pub most_bytes : ℕ
+most_bytes = 8194
+
+abbrev pub most_lines : ℕ
+most_lines = 1000000
+
+-- The fault of a line without its CR, behind lines that gave these entries.
+abbrev pub HasFault : Limits → List Entry → List ℕ → LineFault → Type 0
+HasFault limits given text TooManyLines = most_lines ≤ length given
+HasFault limits given text TooLong = most_bytes < length text
+HasFault limits given text BadForm = HasNoForm text
+HasFault limits given text BadHex =
+    (role : Role) × (digits : List ℕ) × (text ≡ bytes_front role ++ digits) × ((bytes : List ℕ) → IsHex digits bytes → ⊥)
+HasFault limits given text AfterEnd = (role : Role) × IsOf role text × (has_ended role given ≡ true)
+HasFault limits given text InputLimit =
+    (role : Role) × (bytes : List ℕ) × IsGiven text (Bytes role bytes) × (limits.input < length (sent role given) + length bytes)
+
+-- Of a line's faults, the first.
+pub record IsFirstFault (limits : Limits) (given : List Entry) (line : List ℕ) (fault : LineFault) : Type 0 where
+  pub held : HasFault limits given (without_cr line) fault
+  pub first : (other : LineFault) → HasFault limits given (without_cr line) other → order_of fault ≤ order_of other
+
+-- The line has no fault, and gives this entry.
+pub record IsTaken (limits : Limits) (given : List Entry) (line : List ℕ) (entry : Entry) : Type 0 where
+  pub gives : IsGiven (without_cr line) entry
+  pub none : (fault : LineFault) → HasFault limits given (without_cr line) fault → ⊥
+
+-- Behind these entries the lines are taken one by one, and give those.
+abbrev pub AreTakenBehind : Limits → List Entry → List (List ℕ) → List Entry → Type 0
+AreTakenBehind limits given [] [] = Unit {0}
+AreTakenBehind limits given (line ∷ lines) (entry ∷ entries) =
+    IsTaken limits given line entry × AreTakenBehind limits (given ++ entry ∷ []) lines entries
+AreTakenBehind limits given lines entries = ⊥
+
+-- The lines are taken from the first on, and give these entries.
+abbrev pub AreTaken : Limits → List (List ℕ) → List Entry → Type 0
+AreTaken limits lines entries = AreTakenBehind limits [] lines entries
+
+-- These lines are taken, and of the faults that the line has behind them this is the first.
+pub record IsFaultBehind (limits : Limits) (lines : List (List ℕ)) (line : List ℕ) (fault : LineFault) : Type 0 where
+  pub given : List Entry
+  pub taken : AreTaken limits lines given
+  pub is : IsFirstFault limits given line fault

@@ -1,0 +1,128 @@
+use crate::line_fault::LineFault;
+use crate::report::Side;
+use crate::scanned_stream::ScannedStream;
+use wsn_rules::{Limits, Verdict};
+use wsn_wire::Role;
+
+/// One direction of a connection: the stream that an endpoint sent.
+#[derive(Debug, Drop)]
+pub struct Direction {
+    stream: ScannedStream,
+    /// How many lines came before the one in which the last byte of a Close stands.
+    close_line: Option<u32>,
+    ended: bool,
+}
+
+impl Direction {
+    ghost use Rattle.std.specs.Prelude.{◌≡◌, ◌≤◌, ℕ, List, [], ◌∷◌, ◌++◌, length, false, OnOk, IfErr};
+    ghost use Rattle.wsn_capture.specs.Entries.{Entry};
+    ghost use Rattle.wsn_capture.specs.Entries.Entry.{Bytes, Mark};
+    ghost use Rattle.wsn_capture.specs.Sides.{IsSide, sent, has_ended, ended_as};
+    ghost use Rattle.wsn_capture.specs.ScannedStreams.{HasStreamed};
+    ghost use Rattle.wsn_capture.specs.Captures.{HasSent, IsLimited, IsClosedBy, IsNoted};
+
+    /// Nothing has come.
+    pub fn new(role: Role, limits: Limits) -> Direction
+        ensures { HasSent role limits result [] }
+    {
+        Direction {
+            stream: ScannedStream::new(role, limits),
+            close_line: None,
+            ended: false,
+        }
+    }
+
+    /// Takes the bytes of a line, before which some `lines` came. It may unmask payload in place. The fault is
+    /// `AfterEnd` behind the end mark, else `InputLimit` past the limit, and then nothing changes.
+    pub fn take(&mut self, bytes: &mut [u8], lines: u32) -> Result<(), LineFault>
+        ensures taken { OnOk result ((role : Role) (limits : Limits) (given : List Entry) → lines ≡ length given →
+            HasSent role limits self.old given → HasSent role limits self.new (given ++ Bytes role bytes.old ∷ [])) }
+        ensures unended { OnOk result (self.old.ended ≡ false) }
+        ensures room { OnOk result (length bytes.old ≤ self.old.stream.room) }
+        ensures fault { IfErr result (λ fault. (self.new ≡ self.old) × IsLimited self.old (length bytes.old) fault) }
+    {
+        if self.ended {
+            return Err(LineFault::AfterEnd);
+        }
+        if bytes.len() as u64 > self.stream.room() {
+            return Err(LineFault::InputLimit);
+        }
+        self.stream.take(bytes);
+        self.close_line = self.closed_in(lines);
+        Ok(())
+    }
+
+    /// How many lines came before the one in which a Close ends, if one has come: those that were kept, or else
+    /// these.
+    fn closed_in(&self, lines: u32) -> Option<u32>
+        ensures { (role : Role) (limits : Limits) (bytes : List ℕ) → HasStreamed role limits self.now.stream bytes → IsNoted role limits bytes self.now.close_line lines result }
+    {
+        match self.close_line {
+            Some(line) => Some(line),
+            None if self.is_closed() => Some(lines),
+            None => None,
+        }
+    }
+
+    /// Whether a Close has come.
+    fn is_closed(&self) -> bool
+        ensures { (role : Role) (limits : Limits) (bytes : List ℕ) → HasStreamed role limits self.now.stream bytes → IsClosedBy role limits bytes result }
+    {
+        match self.stream.finish() {
+            Verdict::Accepted(summary) => summary.close.is_some(),
+            Verdict::Cut(_) | Verdict::Refused(_) => false,
+        }
+    }
+
+    /// Takes the end mark. The fault is `AfterEnd` behind another, and then nothing changes.
+    pub fn end(&mut self) -> Result<(), LineFault>
+        ensures taken { OnOk result ((role : Role) (limits : Limits) (given : List Entry) →
+            HasSent role limits self.old given → HasSent role limits self.new (given ++ Mark role ∷ [])) }
+        ensures unended { OnOk result (self.old.ended ≡ false) }
+        ensures fault { IfErr result (λ fault. (self.new ≡ self.old) × IsLimited self.old 0 fault) }
+    {
+        if self.has_ended() {
+            return Err(LineFault::AfterEnd);
+        }
+        self.ended = true;
+        Ok(())
+    }
+
+    /// What became of the stream.
+    pub fn side(&self) -> Side
+        ensures { (role : Role) (limits : Limits) (given : List Entry) → HasSent role limits self.now given → IsSide role limits (sent role given) (has_ended role given) result }
+    {
+        match self.stream.finish() {
+            Verdict::Refused(refusal) => Side::Refused(refusal),
+            Verdict::Accepted(summary) => match summary.close {
+                Some(code) => Side::Closed(code),
+                None => self.unclosed(Side::Ended),
+            },
+            Verdict::Cut(_) => self.unclosed(Side::Cut),
+        }
+    }
+
+    /// The side without a Close: running until its end mark.
+    fn unclosed(&self, side: Side) -> Side
+        ensures { result ≡ ended_as side self.now.ended }
+    {
+        if !self.ended {
+            return Side::Running;
+        }
+        side
+    }
+
+    /// How many lines came before the one in which the last byte of a Close stands.
+    pub fn close_line(&self) -> Option<u32>
+        ensures { result ≡ self.now.close_line }
+    {
+        self.close_line
+    }
+
+    /// Whether it has its end mark.
+    pub fn has_ended(&self) -> bool
+        ensures { result ≡ self.now.ended }
+    {
+        self.ended
+    }
+}

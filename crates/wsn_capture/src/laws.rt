@@ -1,0 +1,45 @@
+//! What follows from the definitions in `specs/`. Each function does nothing: its contract is the fact.
+
+ghost use Rattle.std.specs.Prelude.{◌≡◌, ℕ, ◌⊎◌, List};
+ghost use Rattle.wsn_rules.specs.Limits.{Limits};
+ghost use Rattle.wsn_capture.specs.CaptureLines.{AreLines};
+ghost use Rattle.wsn_capture.specs.Entries.{Entry, IsEntry, AreEntries};
+ghost use Rattle.wsn_capture.specs.LineFaults.{IsFirstFault, IsTaken};
+ghost use Rattle.wsn_capture.specs.Reports.{IsReport, SendAlike};
+ghost use Rattle.wsn_capture.specs.declared.line_fault.LineFault.{LineFault};
+ghost use Rattle.wsn_capture.specs.declared.report.Report.{Report};
+
+/// A text has exactly one list of lines.
+pub fn law_one_list_of_lines()
+    ensures some { (text : List ℕ) → (lines : List (List ℕ)) × AreLines text lines }
+    ensures one { (text : List ℕ) (lines others : List (List ℕ)) → AreLines text lines → AreLines text others → lines ≡ others }
+{}
+
+/// A line gives one thing at most, and so do lines.
+pub fn law_one_entry()
+    ensures line { (line : List ℕ) (entry other : Entry) → IsEntry line entry → IsEntry line other → entry ≡ other }
+    ensures lines { (lines : List (List ℕ)) (entries others : List Entry) → AreEntries lines entries → AreEntries lines others → entries ≡ others }
+{}
+
+/// Behind lines that are taken a line is taken too, or has one first fault, and not both.
+pub fn law_taken_or_faulty()
+    ensures either { (limits : Limits) (given : List Entry) (line : List ℕ) →
+        ((entry : Entry) × IsTaken limits given line entry) ⊎ ((fault : LineFault) × IsFirstFault limits given line fault) }
+    ensures one { (limits : Limits) (given : List Entry) (line : List ℕ) (fault other : LineFault) →
+        IsFirstFault limits given line fault → IsFirstFault limits given line other → fault ≡ other }
+    ensures not_both { (limits : Limits) (given : List Entry) (line : List ℕ) (entry : Entry) (fault : LineFault) →
+        IsTaken limits given line entry → IsFirstFault limits given line fault → ⊥ }
+{}
+
+/// Lines have one report at most.
+pub fn law_one_report()
+    ensures { (limits : Limits) (lines : List (List ℕ)) (report other : Report) →
+        IsReport limits lines report → IsReport limits lines other → report ≡ other }
+{}
+
+/// How the bytes are cut into lines matters to nothing but `first`: all else of a report depends on the two sides'
+/// joined bytes and on their end marks.
+pub fn law_any_lines()
+    ensures { (limits : Limits) (lines others : List (List ℕ)) (report other : Report) →
+        SendAlike lines others → IsReport limits lines report → IsReport limits others other → other ≡ record report { first = other.first } }
+{}

@@ -1,0 +1,30 @@
+//! Captures: what both endpoints of a WebSocket connection sent, in lines of hexadecimal digits, and how the
+//! connection closed (RFC 6455 section 7.1).
+//!
+//! A [`Capture`] takes lines and tells the [`Report`] of those that it took. [`judge_capture`] reads a text, hands each
+//! of its lines to one, and tells its report, or the first line that isn't taken. Neither takes memory, and no more than
+//! one line is held.
+//!
+//! `specs/CaptureLines.antt` says which lines a text has, `specs/Entries.antt` what a line gives,
+//! `specs/LineFaults.antt` which lines aren't taken, `specs/Sides.antt` what became of each side,
+//! `specs/Reports.antt` what is reported of both, and `specs/ReportLines.antt` how that is printed.
+//! `specs/CaptureAnswers.antt` says what is answered of a text. [`laws`] has what holds of these, and
+//! `specs/Captures.antt` says how a [`Capture`] stands to the lines that it has taken.
+#![tactic(auto)]
+
+mod capture;
+mod capture_stop;
+mod direction;
+mod judging;
+pub mod laws;
+mod line_fault;
+mod line_form;
+mod line_splitter;
+mod report;
+mod scanned_stream;
+
+pub use capture::Capture;
+pub use capture_stop::CaptureStop;
+pub use judging::judge_capture;
+pub use line_fault::LineFault;
+pub use report::{Outcome, Report, Side};

@@ -1,0 +1,61 @@
+ghost use Rattle.std.specs.Prelude.{◌≡◌, ◌*◌, ◌+◌, ◌≤◌, MatchResult, length, take};
+ghost use Rattle.wsn_capture.specs.CaptureLines.{without_cr};
+ghost use Rattle.wsn_capture.specs.LineForms.{IsForm, HasNoHex};
+ghost use Rattle.wsn_capture.specs.Entries.{IsHex};
+ghost use Rattle.wsn_capture.specs.declared.line_fault.LineFault.TheVariants.{BadHex};
+
+use crate::line_fault::LineFault;
+use wsn_wire::Role;
+
+/// The form of a line, before its digits are read.
+#[derive(Clone, Copy, Debug)]
+pub enum LineForm {
+    /// Empty, or a comment.
+    Nothing,
+    /// Bytes of a side: their digits stand behind two bytes.
+    Bytes(Role),
+    /// A side's end mark.
+    Mark(Role),
+}
+
+/// The line without the CR at its end, if it has one there.
+pub fn strip_cr(line: &[u8]) -> &[u8]
+    ensures { result.now ≡ without_cr line.now }
+{
+    match line {
+        [front @ .., b'\r'] => front,
+        _ => line,
+    }
+}
+
+/// The form of a line without its CR; `None` if it has none.
+pub fn form_of(text: &[u8]) -> Option<LineForm>
+    ensures { IsForm text.now result }
+{
+    match text {
+        [] | [b'#', ..] => Some(LineForm::Nothing),
+        [b'C', b' ', ..] => Some(LineForm::Bytes(Role::Client)),
+        [b'S', b' ', ..] => Some(LineForm::Bytes(Role::Server)),
+        [b'C', b'.'] => Some(LineForm::Mark(Role::Client)),
+        [b'S', b'.'] => Some(LineForm::Mark(Role::Server)),
+        _ => None,
+    }
+}
+
+/// Puts the bytes that the digits spell at the front of `bytes`, and answers how many: one at least. The fault is
+/// `BadHex`, and then `bytes` is left open.
+pub fn decode(digits: &[u8], bytes: &mut [u8]) -> Result<usize, LineFault>
+    requires { length digits.now ≤ 2 * length bytes.old + 1 }
+    ensures { MatchResult result
+        (λ count. (count ≤ length bytes.new) × IsHex digits.now (take count bytes.new))
+        (λ fault. (fault ≡ BadHex) × HasNoHex digits.now) }
+{
+    let count = digits.len() / 2;
+    if count == 0 {
+        return Err(LineFault::BadHex);
+    }
+    match hex::decode_to_slice(digits, &mut bytes[..count]) {
+        Ok(()) => Ok(count),
+        Err(_) => Err(LineFault::BadHex),
+    }
+}

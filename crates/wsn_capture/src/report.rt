@@ -1,0 +1,126 @@
+ghost use Rattle.std.specs.Prelude.{◌≡◌, ◌↔◌, IsTrue};
+ghost use Rattle.wsn_capture.specs.Reports.{IsRefused, IsClosed, IsEndedEarly, IsOutcome, seen_of, echo_of};
+
+use wsn_rules::Refusal;
+use wsn_wire::Role;
+
+/// What became of one side: of the stream that an endpoint sent (specs/Sides.antt).
+#[derive(Clone, Copy, Debug, PartialEq, Eq)]
+pub enum Side {
+    /// It sent a Close: its code, if it has one.
+    Closed(Option<u16>),
+    /// A byte shows that the stream isn't lawful.
+    Refused(Refusal),
+    /// The connection's direction ended between messages, without a Close.
+    Ended,
+    /// The connection's direction ended inside a frame or a message.
+    Cut,
+    /// None of these: more may come.
+    Running,
+}
+
+/// How the connection closed (specs/Reports.antt): the first of these that fits.
+#[derive(Clone, Copy, Debug, PartialEq, Eq)]
+pub enum Outcome {
+    /// A side is refused.
+    Failed,
+    /// Both sides sent a Close, and both directions ended.
+    Clean,
+    /// Both sides sent a Close.
+    Complete,
+    /// A direction ended without a Close.
+    Abnormal,
+    /// One side sent a Close.
+    Half,
+    /// The connection is open.
+    Live,
+}
+
+/// What is reported of a capture (specs/Reports.antt).
+#[derive(Clone, Copy, Debug, PartialEq, Eq)]
+pub struct Report {
+    /// What became of what the client sent.
+    pub client: Side,
+    /// What became of what the server sent.
+    pub server: Side,
+    /// Whose Close was whole first, if there is one.
+    pub first: Option<Role>,
+    /// Where both sides sent a Close, whether both have the same code or none.
+    pub echo: Option<bool>,
+    /// The status code of the closing that the client sees (RFC 6455 section 7.1.5), if it has ended for it.
+    pub client_sees: Option<u16>,
+    /// The same of the server.
+    pub server_sees: Option<u16>,
+    pub outcome: Outcome,
+}
+
+impl Side {
+    /// The status code that the other endpoint sees (RFC 6455 section 7.1.5): 1005 for a Close without a code, 1006
+    /// without a Close; `None` while more may come.
+    pub(crate) fn seen(&self) -> Option<u16>
+        ensures { result ≡ seen_of self.now }
+    {
+        match self {
+            Side::Closed(Some(code)) => Some(*code),
+            Side::Closed(None) => Some(1005),
+            Side::Refused(_) | Side::Ended | Side::Cut => Some(1006),
+            Side::Running => None,
+        }
+    }
+
+    /// Where both sides sent a Close, whether both have the same code or none (RFC 6455 section 5.5.1).
+    pub(crate) fn echo(&self, other: &Side) -> Option<bool>
+        ensures { result ≡ echo_of self.now other.now }
+    {
+        match (self, other) {
+            (Side::Closed(code), Side::Closed(other)) => Some(code == other),
+            _ => None,
+        }
+    }
+
+    fn is_refused(&self) -> bool
+        ensures { IsTrue result ↔ IsRefused self.now }
+    {
+        matches!(self, Side::Refused(_))
+    }
+
+    fn is_closed(&self) -> bool
+        ensures { IsTrue result ↔ IsClosed self.now }
+    {
+        matches!(self, Side::Closed(_))
+    }
+
+    fn is_ended_early(&self) -> bool
+        ensures { IsTrue result ↔ IsEndedEarly self.now }
+    {
+        matches!(self, Side::Ended | Side::Cut)
+    }
+}
+
+impl Outcome {
+    /// The outcome of what became of the two sides, and of whether both directions ended.
+    pub(crate) fn of(
+        client: &Side,
+        server: &Side,
+        client_ended: bool,
+        server_ended: bool,
+    ) -> Outcome
+        ensures { IsOutcome client.now server.now client_ended server_ended result }
+    {
+        if client.is_refused() || server.is_refused() {
+            Outcome::Failed
+        } else if client.is_closed() && server.is_closed() {
+            if client_ended && server_ended {
+                Outcome::Clean
+            } else {
+                Outcome::Complete
+            }
+        } else if client.is_ended_early() || server.is_ended_early() {
+            Outcome::Abnormal
+        } else if client.is_closed() || server.is_closed() {
+            Outcome::Half
+        } else {
+            Outcome::Live
+        }
+    }
+}

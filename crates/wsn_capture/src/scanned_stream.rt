@@ -1,0 +1,68 @@
+use std::marker::Model;
+use wsn_rules::{Limits, Verdict};
+use wsn_scan::Scan;
+use wsn_wire::Role;
+
+/// A stream up to its input limit. What comes behind a refusal is counted, and not read.
+#[derive(Debug, Drop)]
+pub struct ScannedStream {
+    scan: Scan,
+    room: u64,
+}
+
+impl Model for ScannedStream {
+    ghost use Rattle.wsn_capture.specs.ScannedStreams.{Scanned, IsSound};
+
+    ghost Value = { Scanned };
+
+    ghost view = { λ s. record { scan = s.scan; room = s.room } };
+
+    ghost invariant = { λ s. IsSound (record { scan = s.scan; room = s.room }) };
+}
+
+impl ScannedStream {
+    ghost use Rattle.std.specs.Prelude.{◌≡◌, ◌≤◌, ℕ, List, [], ◌++◌, length};
+    ghost use Rattle.wsn_wire.specs.Frame.{Frame};
+    ghost use Rattle.wsn_rules.specs.Verdict.{IsVerdict};
+    ghost use Rattle.wsn_capture.specs.ScannedStreams.{HasStreamed};
+
+    /// A stream of which nothing has come.
+    pub fn new(role: Role, limits: Limits) -> ScannedStream
+        ensures { HasStreamed role limits result [] }
+    {
+        ScannedStream {
+            scan: Scan::new(role, limits),
+            room: limits.input(),
+        }
+    }
+
+    /// How many bytes may come yet: the input limit less those that came.
+    pub fn room(&self) -> u64
+        ensures { result ≡ self.now.room }
+    {
+        self.room
+    }
+
+    /// Takes bytes, no more than `room`. It may unmask payload in place.
+    pub fn take(&mut self, bytes: &mut [u8])
+        requires { length bytes.old ≤ self.old.room }
+        ensures { (role : Role) (limits : Limits) (came : List ℕ) →
+            HasStreamed role limits self.old came → HasStreamed role limits self.new (came ++ bytes.old) }
+    {
+        self.room -= bytes.len() as u64;
+        match self.scan.finish() {
+            Verdict::Refused(_) => {}
+            Verdict::Accepted(_) | Verdict::Cut(_) => {
+                let _refusal = self.scan.feed(bytes);
+            }
+        }
+    }
+
+    /// The verdict on the bytes that came.
+    pub fn finish(&self) -> Verdict
+        ensures { (role : Role) (limits : Limits) (came : List ℕ) →
+            HasStreamed role limits self.now came → (fs : List Frame) × IsVerdict role limits came fs result }
+    {
+        self.scan.finish()
+    }
+}

@@ -1,0 +1,164 @@
+-- The events from a place on, and the first message among them.
+use Rattle.std.proofs.Common.{◌≡◌, ◌≢◌, ℕ, ◌+◌, ◌<◌, ◌≤◌, Option, None, Some, MatchOption, is_some, true, false, List, [], ◌∷◌, length, drop, map, get_or, refl, sym, ap, ◌∙◌, drop-drop, arith}
+use Rattle.std.proofs.lemmas.List.{drop-map, drop_more, length-drop, length-map}
+use Rattle.std.proofs.Math.ListN.{drop_of_length-le}
+use Rattle.wsn_rules.specs.Meaning.{MeantEvent}
+use Rattle.wsn_rules.specs.Meaning as meant_event
+use Rattle.wsn_rules.specs.Plan.{next_text}
+use Rattle.wsn_rules.specs.Fault.{BeginsWithMessage, BeginsWithControl}
+use Rattle.wsn_canon.specs.declared.event.Event.{Event}
+use Rattle.wsn_canon.specs.declared.event.Event.TheVariants as events
+use Rattle.wsn_canon.specs.EventsMeant.{meant}
+use Rattle.wsn_plan.specs.declared.walking.Walk.{Walk}
+use Rattle.wsn_plan.specs.Walking.{from_message, IsPlaced, IsControl, IsMessageOf}
+
+-- ---- one event, and those behind it
+
+pub drop_meant : {A : Type 0} (es : List (Event A)) (at : ℕ) (d : Event A) → at < length es → drop at (map meant es) ≡ meant (get_or es at d) ∷ drop (at + 1) (map meant es)
+drop_meant es at d less =
+    drop-map meant at es ∙ ap (map meant) (drop_more es at d less)
+    ∙ ap (λ (later : List MeantEvent). meant (get_or es at d) ∷ later) (sym (drop-map meant (at + 1) es))
+
+pub drop_none : {A : Type 0} (es : List (Event A)) (at : ℕ) → length es ≤ at → drop at (map meant es) ≡ []
+drop_none es at past = drop_of_length-le (map meant es) (omega (arith, length-map es meant))
+
+pub no_message : {A : Type 0} (e : Event A) → ((kind : _) (text : _) → e ≡ events.Message kind text → ⊥) → IsControl (meant e)
+no_message (events.Message kind text) none = absurd (none kind text refl)
+no_message (events.Ping body) none = (_, _, refl)
+no_message (events.Pong body) none = (_, _, refl)
+no_message (events.Close held) none = (_, _, refl)
+
+pub past_a_control : {A : Type 0} (es : List (Event A)) (at : ℕ) (d : Event A) → at < length es → d ≡ get_or es at d → IsControl (meant d)
+    → from_message (drop at (map meant es)) ≡ from_message (drop (at + 1) (map meant es))
+past_a_control es at d less is (op, body, control) =
+    ap from_message (drop_meant es at d less ∙ ap (λ (e : MeantEvent). e ∷ drop (at + 1) (map meant es)) (ap meant (sym is) ∙ control))
+
+pub stands_at : {A : Type 0} (es : List (Event A)) (at : ℕ) (d : Event A) → at < length es → d ≡ get_or es at d → drop at (map meant es) ≡ meant d ∷ drop (at + 1) (map meant es)
+stands_at {A} es at d less is = drop_meant es at d less ∙ ap (λ (e : Event A). meant e ∷ drop (at + 1) (map meant es)) (sym is)
+
+pub message_there : {A : Type 0} (es : List (Event A)) (at len : ℕ) (d : Event A) → at < length es → d ≡ get_or es at d → IsMessageOf (meant d) len → BeginsWithMessage (drop at (map meant es))
+message_there es at len d less is (kind, text, message, size) =
+    (kind, text, drop (at + 1) (map meant es), stands_at es at d less is ∙ ap (λ (e : MeantEvent). e ∷ drop (at + 1) (map meant es)) message)
+
+pub text_there : {A : Type 0} (es : List (Event A)) (at len : ℕ) (d : Event A) → at < length es → d ≡ get_or es at d → IsMessageOf (meant d) len
+    → (text : List ℕ) × (next_text (drop at (map meant es)) ≡ Some text) × (len ≡ length text)
+text_there es at len d less is (kind, text, message, size) =
+    (text, ap next_text (stands_at es at d less is ∙ ap (λ (e : MeantEvent). e ∷ drop (at + 1) (map meant es)) message), size)
+
+-- ---- the first message
+
+pub no_longer : (left : List MeantEvent) → length (from_message left) ≤ length left
+no_longer [] = omega arith
+no_longer (meant_event.Message kind text ∷ later) = omega arith
+no_longer (meant_event.Control op body ∷ later) = omega (arith, no_longer later)
+
+pub same_text : (left : List MeantEvent) → next_text (from_message left) ≡ next_text left
+same_text [] = refl
+same_text (meant_event.Message kind text ∷ later) = refl
+same_text (meant_event.Control op body ∷ later) = same_text later
+
+pub at_a_message : (left : List MeantEvent) → BeginsWithMessage left → from_message left ≡ left
+at_a_message [] begins = refl
+at_a_message (meant_event.Message kind text ∷ later) begins = refl
+at_a_message (meant_event.Control op body ∷ later) begins =
+    let both : meant_event.Control op body ∷ later ≡ meant_event.Message begins.0 begins.1 ∷ begins.2 = begins.3 in cc
+
+pub is_at_a_message : (left : List MeantEvent) → from_message left ≡ left → left ≢ [] → BeginsWithMessage left
+is_at_a_message [] same some = absurd (some refl)
+is_at_a_message (meant_event.Message kind text ∷ later) same some = (kind, text, later, refl)
+is_at_a_message (meant_event.Control op body ∷ later) same some = absurd (omega (arith, no_longer later, ap (λ (es : List MeantEvent). length es) same))
+
+pub is_at_a_control : (left : List MeantEvent) → (from_message left ≡ left → ⊥) → BeginsWithControl left
+is_at_a_control [] other = absurd (other refl)
+is_at_a_control (meant_event.Message kind text ∷ later) other = absurd (other refl)
+is_at_a_control (meant_event.Control op body ∷ later) other = (op, body, later, refl)
+
+pub message_or_not : (left : List MeantEvent) → BeginsWithMessage left → BeginsWithControl left → ⊥
+message_or_not left (kind, text, later, is) (op, body, behind, also) =
+    let both : meant_event.Message kind text ∷ later ≡ meant_event.Control op body ∷ behind = sym is ∙ also in cc
+
+-- a control is never the first message
+pub no_text : (left : List MeantEvent) → left ≡ from_message left → BeginsWithControl left → ⊥
+no_text left first control =
+    let same : left ≡ meant_event.Control control.0 control.1 ∷ control.2 = control.3 in
+    let shorter = no_longer control.2 in
+    omega (arith, shorter, ap (λ (es : List MeantEvent). length es) same, ap (λ (es : List MeantEvent). length (from_message es)) same, ap (λ (es : List MeantEvent). length es) first)
+
+pub no_text_there : {A : Type 0} (es : List (Event A)) (at : ℕ) (d : Event A) → at < length es → d ≡ get_or es at d → IsControl (meant d)
+    → drop at (map meant es) ≡ from_message (drop at (map meant es)) → next_text (drop at (map meant es)) ≡ None
+no_text_there es at d less is (op, body, control) first =
+    absurd (no_text (drop at (map meant es)) first (op, body, drop (at + 1) (map meant es), stands_at es at d less is ∙ ap (λ (e : MeantEvent). e ∷ drop (at + 1) (map meant es)) control))
+
+pub text_or_none : {A : Type 0} (es : List (Event A)) (at : ℕ) (d : Event A) → at < length es → d ≡ get_or es at d → drop at (map meant es) ≡ from_message (drop at (map meant es))
+    → (len : Option ℕ) → MatchOption len (IsControl (meant d)) (IsMessageOf (meant d))
+    → MatchOption len (next_text (drop at (map meant es)) ≡ None) (λ n. (text : List ℕ) × (next_text (drop at (map meant es)) ≡ Some text) × (n ≡ length text))
+text_or_none es at d less is first None control = no_text_there es at d less is control first
+text_or_none es at d less is first (Some n) message = text_there es at n d less is message
+
+-- what an option that was tested holds
+module _ (C : Type 0) (M : ℕ → Type 0) where
+  pub told : (o : Option ℕ) → MatchOption o C M → is_some o ≡ true → (n : ℕ) × M n
+  told None m is = cc
+  told (Some n) m is = (n, m)
+
+  pub not_told : (o : Option ℕ) → MatchOption o C M → is_some o ≡ false → C
+  not_told None m is = m
+  not_told (Some n) m is = cc
+
+pub first_twice : (left : List MeantEvent) → from_message (from_message left) ≡ from_message left
+first_twice [] = refl
+first_twice (meant_event.Message kind text ∷ later) = refl
+first_twice (meant_event.Control op body ∷ later) = first_twice later
+
+-- ---- the places of a walk
+
+same_place : (i j : ℕ) (es : List MeantEvent) → i ≤ length es → j ≤ length es → drop i es ≡ drop j es → i ≡ j
+same_place i j es within also same = omega (arith, ap (λ (l : List MeantEvent). length l) same, length-drop i es, length-drop j es)
+
+-- one event further
+pub behind_one : (n : ℕ) (es : List MeantEvent) (e : MeantEvent) (later : List MeantEvent) → drop n es ≡ e ∷ later → (n + 1 ≤ length es) × (drop (n + 1) es ≡ later)
+behind_one n es e later is = (
+  omega (arith, ap (λ (l : List MeantEvent). length l) is, length-drop n es),
+  sym (drop-drop 1 n es) ∙ ap (drop 1) is,
+)
+
+module _ {A : Type 0} (walk : Walk) (es : List (Event A)) (placed : IsPlaced walk (map meant es)) where
+  pub first_is_first : drop walk.message (map meant es) ≡ from_message (drop walk.message (map meant es))
+  first_is_first = placed.first ∙ sym (first_twice (drop walk.event (map meant es))) ∙ sym (ap from_message placed.first)
+
+  pub text_is : next_text (drop walk.event (map meant es)) ≡ next_text (drop walk.message (map meant es))
+  text_is = sym (ap next_text placed.first ∙ same_text (drop walk.event (map meant es)))
+
+  pub some_left : (walk.event ≡ length es → ⊥) → drop walk.event (map meant es) ≢ []
+  some_left less none =
+      less (let within : walk.event ≤ length (map meant es) = placed.event in
+      omega (arith, ap (λ (l : List MeantEvent). length l) none, length-drop walk.event (map meant es), length-map es meant))
+
+  pub none_left : walk.event ≡ length es → drop walk.event (map meant es) ≡ []
+  none_left is = drop_none es walk.event (omega arith)
+
+  pub begins_with_message : walk.message ≡ walk.event → drop walk.event (map meant es) ≢ [] → BeginsWithMessage (drop walk.event (map meant es))
+  begins_with_message same some =
+      is_at_a_message (drop walk.event (map meant es)) (sym placed.first ∙ ap (λ (n : ℕ). drop n (map meant es)) same) some
+
+  pub begins_with_control : (walk.message ≡ walk.event → ⊥) → BeginsWithControl (drop walk.event (map meant es))
+  begins_with_control other =
+      is_at_a_control (drop walk.event (map meant es)) (λ same. other (same_place walk.message walk.event (map meant es) placed.message placed.event (placed.first ∙ same)))
+
+  -- ---- behind a step
+
+  pub placed_piece : (pieces held : ℕ) → IsPlaced (record walk { pieces = pieces; held = held }) (map meant es)
+  placed_piece pieces held = record { event = placed.event; message = placed.message; first = placed.first }
+
+  pub placed_last : (next : ℕ) → BeginsWithMessage (drop walk.event (map meant es)) → next ≤ length es → drop next (map meant es) ≡ from_message (drop (walk.event + 1) (map meant es))
+      → IsPlaced (record { pieces = 0; held = 0; event = walk.event + 1; message = next }) (map meant es)
+  placed_last next begins within first = record {
+    event = (behind_one walk.event (map meant es) _ _ begins.3).0;
+    message = omega (arith, within, length-map es meant);
+    first = first;
+  }
+
+  pub placed_control : BeginsWithControl (drop walk.event (map meant es)) → IsPlaced (record walk { event = walk.event + 1 }) (map meant es)
+  placed_control begins =
+      let behind = behind_one walk.event (map meant es) _ _ begins.3 in
+      record { event = behind.0; message = placed.message; first = placed.first ∙ ap from_message begins.3 ∙ sym (ap from_message behind.1) }

@@ -1,0 +1,143 @@
+-- What a recut says at each of its ends, of the bytes that came and of all bytes of an input.
+use Rattle.std.proofs.Common.{◌≡◌, ℕ, ◌+◌, ◌<◌, Option, None, Some, Result, Ok, Err, List, [], ◌++◌, length, take, map, inl, inr, refl, sym, ap, ◌∙◌, subst, append-nil, length-append, arith}
+use Rattle.std.proofs.lemmas.List.{take-append-le, length-map}
+use Rattle.std.specs.Io.KnownBytes.{Consumes}
+use Rattle.wsn_wire.specs.declared.endpoint.Role.{Role}
+use Rattle.wsn_wire.specs.Frame.{Frame, stream}
+use Rattle.wsn_wire.specs.Transfer.{Incoming, Outgoing}
+use Rattle.wsn_rules.specs.declared.verdict.Summary.{Summary}
+use Rattle.wsn_rules.specs.declared.verdict.Verdict.{Verdict}
+use Rattle.wsn_rules.specs.declared.verdict.Verdict.TheVariants.{Accepted, Cut, Refused}
+use Rattle.wsn_rules.specs.Limits.{Limits}
+use Rattle.wsn_rules.specs.LawfulEvents.{AreLawful}
+use Rattle.wsn_rules.specs.Accepted.{IsAccepted}
+use Rattle.wsn_rules.specs.Meaning.{MeantEvent, meaning}
+use Rattle.wsn_rules.specs.Verdict.{IsVerdict}
+use Rattle.wsn_rules.proofs.LawfulMeaning.{lawful_meaning}
+use Rattle.wsn_scan.specs.declared.stop.Stop.{Stop}
+use Rattle.wsn_scan.specs.declared.stop.Stop.TheVariants as stop
+use Rattle.wsn_scan.specs.Judging.{IsReached, IsUnrefused}
+use Rattle.wsn_canon.specs.EventsMeant.{meant}
+use Rattle.wsn_canon.specs.Normalised.{IsWithinLimit}
+use Rattle.wsn_canon.specs.Sources.{IsMeaningOf}
+use Rattle.wsn_canon.proofs.WholeNormalForms.{of_all}
+use Rattle.wsn_plan.specs.declared.gathering.Gathered.{Gathered}
+use Rattle.wsn_plan.specs.declared.recutting.RecutAnswer.{RecutAnswer}
+use Rattle.wsn_plan.specs.declared.recutting.RecutAnswer.TheVariants.{Done, NotAccepted, Fault}
+use Rattle.wsn_plan.specs.Gathering.{HasWholeFrame, IsStoppedBehind, IsGathered}
+use Rattle.wsn_plan.specs.Recutting.{IsAcceptance, IsAnswerTo, GoesOut, IsCutAgain, Planned, IsRecutOf, IsRecut, IsRecutWhole}
+
+not_accepted : (verdict : Verdict) → ((s : Summary) → verdict ≡ Accepted s → ⊥) → IsAcceptance verdict → ⊥
+not_accepted (Accepted s) none is = none s refl
+not_accepted (Cut s) none is = is
+not_accepted (Refused r) none is = is
+
+accepted : (verdict : Verdict) (s : Summary) → verdict ≡ Accepted s → IsAcceptance verdict
+accepted verdict s is = subst IsAcceptance (sym is) tt
+
+frames_front : (role : Role) (limits : Limits) (bytes : List ℕ) (fs : List Frame) → IsAccepted role limits bytes fs → (rest : List ℕ) × (bytes ≡ stream fs ++ rest)
+frames_front role limits bytes fs is =
+    elim is.ends [ inl e ↦ ([], e.2 ∙ sym (append-nil (stream fs))) | inr e ↦ (e.1.0, e.1.1) ]
+
+module _ {A : Type 0} (role : Role) (limits : Limits) (planned : Planned) (old new : Incoming) (before : Outgoing) where
+  pub stopped_before : (stopped : Stop) → IsGathered {A = A} role limits old new (Err stopped) → IsRecut role limits planned old new before before (Err stopped)
+  stopped_before stopped gathered = record { came = gathered.came; consumed = gathered.consumed; few = gathered.few; of_bytes = of stopped gathered.of_bytes }
+    where
+      of : (s : Stop) → IsStoppedBehind role limits new gathered.came s → IsRecutOf role limits planned new gathered.came before before (Err s)
+      of stop.Read told = (told, refl)
+      of stop.InputLimit told = (told, refl)
+      of stop.Memory told = (told, refl)
+      of stop.Write told = absurd told
+
+  module _ (g : Gathered A) (gathered : IsGathered role limits old new (Ok g)) where
+    abbrev events : List MeantEvent
+    events = map meant g.events.items
+
+    pub isnt_accepted : ((s : Summary) → g.verdict ≡ Accepted s → ⊥) → IsRecut role limits planned old new before before (Ok (NotAccepted g.verdict))
+    isnt_accepted none = record {
+      came = gathered.came;
+      consumed = gathered.consumed;
+      few = gathered.few;
+      of_bytes = (g.verdict, events, gathered.of_bytes, (refl, not_accepted g.verdict none), refl);
+    }
+
+    module _ (s : Summary) (is : g.verdict ≡ Accepted s) where
+      frames_of : (fs : List Frame) × IsAccepted role limits gathered.came fs × (events ≡ meaning fs)
+      frames_of =
+          let meant_by : IsMeaningOf role limits gathered.came g.verdict events = gathered.of_bytes.1 in
+          let verdict = subst (λ (v : Verdict). IsVerdict role limits gathered.came meant_by.0 v) is meant_by.1 in
+          (meant_by.0, verdict.0, meant_by.2)
+
+      pub are_lawful : AreLawful limits.message events
+      are_lawful = subst (AreLawful limits.message) (sym frames_of.2) (lawful_meaning role limits frames_of.0 frames_of.1.lawful gathered.range)
+
+      pub cut : (after : Outgoing) (result : Result RecutAnswer Stop) → IsCutAgain role limits (planned events) events before after result → IsRecut role limits planned old new before after result
+      cut after result did = record { came = gathered.came; consumed = gathered.consumed; few = gathered.few; of_bytes = of result did }
+        where
+          ok : IsAcceptance g.verdict
+          ok = accepted g.verdict s is
+
+          of : (r : Result RecutAnswer Stop) → IsCutAgain role limits (planned events) events before after r → IsRecutOf role limits planned new gathered.came before after r
+          of (Ok Done) told = (g.verdict, events, gathered.of_bytes, (ok, told.0), told.1)
+          of (Ok (NotAccepted verdict)) told = absurd told
+          of (Ok (Fault step why)) told = (g.verdict, events, gathered.of_bytes, (ok, told.0), told.1)
+          of (Err stop.Write) told = (g.verdict, events, gathered.of_bytes, (ok, told.1), told.2)
+          of (Err stop.Read) told = let no : stop.Read ≡ stop.Write = told.0 in absurd cc
+          of (Err stop.InputLimit) told = let no : stop.InputLimit ≡ stop.Write = told.0 in absurd cc
+          of (Err stop.Memory) told = let no : stop.Memory ≡ stop.Write = told.0 in absurd cc
+
+      -- no memory for the plan: there is an event, and so a whole frame
+      whole_frame : 0 < length g.events.items → HasWholeFrame role limits gathered.came
+      whole_frame some =
+          let front = frames_front role limits gathered.came frames_of.0 frames_of.1 in
+          record {
+            frames = frames_of.0;
+            lawful = frames_of.1.lawful;
+            some = λ none. omega (arith, length-map g.events.items meant, ap (λ (es : List MeantEvent). length es) (frames_of.2 ∙ ap meaning none), some);
+            rest = front.0;
+            whole = front.1;
+          }
+
+      pub no_memory : 0 < length g.events.items → IsRecut role limits planned old new before before (Err stop.Memory)
+      no_memory some = record {
+        came = gathered.came;
+        consumed = gathered.consumed;
+        few = gathered.few;
+        of_bytes = ((inr (whole_frame some), (subst (λ (v : Verdict). IsReached role limits new gathered.came v) is gathered.of_bytes.0).4), refl);
+      }
+
+-- ---- of all the bytes
+
+module _ (role : Role) (limits : Limits) (planned : Planned) where
+  pub whole_recut : (old new : Incoming) (before after : Outgoing) (result : Result RecutAnswer Stop) (all : List ℕ) → IsRecut role limits planned old new before after result → old.remaining ≡ Some all
+      → IsRecutWhole role limits planned all before after result
+  whole_recut old new before after result all did known =
+      by_rest new.remaining refl (subst (λ (a : Option (List ℕ)). Consumes a new.remaining did.came) known did.consumed)
+    where
+      came : List ℕ
+      came = did.came
+
+      by_result : (rest : List ℕ) → new.remaining ≡ Some rest → all ≡ came ++ rest → (r : Result RecutAnswer Stop)
+          → IsRecutOf role limits planned new came before after r → IsRecutWhole role limits planned all before after r
+      by_result rest left is (Ok answer) (verdict, events, last, told, out) =
+          let fs = last.1.0 in
+          let here = of_all role limits new came rest fs verdict last.0 left last.1.1 in (
+            verdict,
+            fs,
+            subst (λ (bs : List ℕ). IsVerdict role limits bs fs verdict) (sym is) here.0,
+            subst (λ (bs : List ℕ). IsWithinLimit limits bs verdict) (sym is) here.1,
+            subst (λ (es : List MeantEvent). IsAnswerTo role limits (planned es) verdict es answer) last.1.2 told,
+            subst (λ (es : List MeantEvent). GoesOut (planned es) es before after answer) last.1.2 out,
+          )
+      by_result rest left is (Err stop.InputLimit) (told, same) =
+          let size : length all ≡ length came + length rest = ap (λ (bs : List ℕ). length bs) is ∙ length-append came rest in
+          let more : length came ≡ limits.input + 1 = told.0 in
+          let front : take limits.input all ≡ take limits.input came = ap (λ (bs : List ℕ). take limits.input bs) is ∙ take-append-le limits.input came rest (omega (arith, more)) in
+          (omega (arith, size, more), subst (λ (bs : List ℕ). IsUnrefused role limits bs) (sym front) told.1, same)
+      by_result rest left is (Err stop.Read) told = tt
+      by_result rest left is (Err stop.Memory) told = tt
+      by_result rest left is (Err stop.Write) told = tt
+
+      by_rest : (rest : Option (List ℕ)) → new.remaining ≡ rest → Consumes (Some all) rest came → IsRecutWhole role limits planned all before after result
+      by_rest None left consumed = absurd consumed
+      by_rest (Some rest) left consumed = by_result rest left consumed result did.of_bytes

@@ -1,0 +1,35 @@
+use Rattle.std.proofs.Common.{◌≡◌, ◌∷◌, ◌++◌, [], Err, refl, rules}
+use Rattle.wsn_scan.specs.declared.stop.Stop.TheVariants as stop
+use Rattle.wsn_plan.proofs.GatheredEvents.{begins, is_done, is_stopped, goes_on, no_memory}
+use Rattle.wsn_plan.proofs.gathering.gather.Goals as goal
+
+pub loop-events-init : goal.loop-events-init
+loop-events-init g c =
+    rw c.new-events.ensures.items (begins c.args.role c.args.limits c.args.input.now c.new-source.result c.new-source.ensures c.requires.readable)
+
+pub returns-in_err-event : goal.returns-in_err-event
+returns-in_err-event g c =
+    let gathered = c.loop-events.invariant in
+    let is : c.from_residual.result ≡ Err c.in_err-event.field-0.0 = search rules in
+    rw is (is_stopped c.args.role c.args.limits c.args.input.now c.loop-events.input c.next.new.input c.loop-events.source c.next.new.self c.loop-events.events.items gathered
+    c.in_err-event.field-0.0 (c.in_err-event.ensures.next c.args.role c.args.limits gathered.came _ gathered.has))
+
+pub loop-events-preserved : goal.loop-events-preserved
+loop-events-preserved g c =
+    let gathered = c.loop-events.invariant in
+    let kept : c.push.new.self.items ≡ c.loop-events.events.items ++ c.in-Event.event ∷ [] = search rules in
+    goes_on c.args.role c.args.limits c.args.input.now c.loop-events.input c.next.new.input c.loop-events.source c.next.new.self c.loop-events.events.items gathered
+    c.in_ok-event.field-0 c.in-Event.event c.in-Event.is (c.in_ok-event.ensures.next c.args.role c.args.limits gathered.came _ gathered.has) _ kept
+
+pub returns-in_err-map_err-in-Event : goal.returns-in_err-map_err-in-Event
+returns-in_err-map_err-in-Event g c =
+    let gathered = c.loop-events.invariant in
+    let is : c.from_residual-in_err-map_err-in-Event.result ≡ Err stop.Memory = search rules in
+    rw is (no_memory c.args.role c.args.limits c.args.input.now c.loop-events.input c.next.new.input c.loop-events.source c.next.new.self c.loop-events.events.items gathered
+    c.in_ok-event.field-0 c.in-Event.event c.in-Event.is (c.in_ok-event.ensures.next c.args.role c.args.limits gathered.came _ gathered.has))
+
+pub returns-in-Done : goal.returns-in-Done
+returns-in-Done g c =
+    let gathered = c.loop-events.invariant in
+    is_done c.args.role c.args.limits c.args.input.now c.loop-events.input c.next.new.input c.loop-events.source c.next.new.self c.loop-events.events.items gathered
+    c.in_ok-event.field-0 c.in-Done.verdict _ c.in-Done.is refl refl (c.in_ok-event.ensures.next c.args.role c.args.limits gathered.came _ gathered.has)

@@ -1,0 +1,23 @@
+-- Lemmas on plans: which fit, what they are recut to, and what is wrong with one that doesn't fit.
+pub mod FromTheFront
+pub mod Context
+pub mod PiecesInARow
+pub mod FitsFromTheFront
+pub mod MessageFrames
+pub mod RecutSteps
+pub mod RecutFrames
+pub mod FinishedMessages
+pub mod PlansOfFrames
+pub mod PlansOfRecuts
+pub mod FirstReason
+pub mod RowsDecided
+pub mod StepDecided
+pub mod Walked
+pub mod Faults
+pub mod UniformFits
+pub mod UniformFaults
+pub mod UniformOfFrames
+pub mod FramesOfUniform
+pub mod ComputedFaults
+pub mod RecutGoesOn
+pub mod ComputedRecuts

@@ -1,0 +1,108 @@
+-- What a call of a reader of notices reads and answers, step by step.
+use Rattle.std.specs.Prelude.{nat_lt, ◌⊎◌, if◌then◌else◌}
+use Rattle.std.proofs.lemmas.Bool.{le-ltb, cases_eq}
+use Rattle.std.proofs.Common.{◌≡◌, ℕ, ◌+◌, ◌-◌, ◌*◌, ◌<◌, ◌≤◌, Bool, true, false, arith, Option, None, Some, Result, Ok, Err, List, [], ◌++◌, length, sym, ap, ◌∙◌, subst, inl, inr, append_assoc, append-nil}
+use Rattle.std.proofs.KnownBytes.{Consumes-nil, Consumes-trans}
+use Rattle.std.specs.Io.KnownBytes.{Consumes}
+use Rattle.wsn_wire.specs.declared.endpoint.Role.{Role}
+use Rattle.wsn_wire.specs.Frame.{Frame}
+use Rattle.wsn_wire.specs.Transfer.{Incoming}
+use Rattle.wsn_rules.specs.declared.verdict.Refusal.{Refusal}
+use Rattle.wsn_rules.specs.declared.verdict.Verdict.{Verdict}
+use Rattle.wsn_rules.specs.declared.verdict.Verdict.TheVariants.{Refused}
+use Rattle.wsn_rules.specs.Limits.{Limits}
+use Rattle.wsn_rules.specs.Verdict.{IsRefused}
+use Rattle.wsn_scan.specs.declared.notice.Notice.{Notice}
+use Rattle.wsn_scan.specs.declared.notice.Notice.TheVariants as notices
+use Rattle.wsn_scan.specs.declared.notice_reader.NextNotice.{NextNotice}
+use Rattle.wsn_scan.specs.declared.notice_reader.NextNotice.TheVariants as nexts
+use Rattle.wsn_scan.specs.declared.notice_reader.NoticeReader.{NoticeReader}
+use Rattle.wsn_scan.specs.declared.stop.Stop.{Stop}
+use Rattle.wsn_scan.specs.FramesTold.{Position}
+use Rattle.wsn_scan.specs.NoticeReaders.{HasTold, IsReading, left_of}
+use Rattle.wsn_scan.specs.ReadNotices.{ReadsOn, IsNext, IsDone}
+use Rattle.wsn_scan.specs.ReaderSteps.{Tells, Progresses, IsUsed, IsFilled, IsRefusedBy, idle}
+
+-- A call has read so much, and told nothing yet.
+pub record HasRead (role : Role) (limits : Limits) (old new : Incoming) (reader : NoticeReader) (came : List ℕ) (done : List Frame) (at : Position) : Type 0 where
+  pub more : List ℕ
+  pub consumed : Consumes old.remaining new.remaining more
+  pub told : HasTold role limits reader (came ++ more) done at
+
+module _ (role : Role) (limits : Limits) (old : Incoming) (came : List ℕ) (done : List Frame) (at : Position) where
+  pub begins : (reader : NoticeReader) → HasTold role limits reader came done at → HasRead role limits old old reader came done at
+  begins reader told = record { more = []; consumed = Consumes-nil old.remaining; told = subst (λ (bs : List ℕ). HasTold role limits reader bs done at) (sym (append-nil came)) told }
+
+  module _ (mid : Incoming) (reader : NoticeReader) (read : HasRead role limits old mid reader came done at) where
+    -- it answers without reading more
+    pub answers : (next : NoticeReader) (result : Result NextNotice Stop) → IsNext role limits mid next (came ++ read.more) done at result → ReadsOn role limits old mid next came done at result
+    answers next result is = record { more = read.more; consumed = read.consumed; few = read.told.buffered.few; next = is }
+
+    pub refused_done : (refusal : Refusal) → IsRefusedBy role limits (came ++ read.more) done refusal → mid.failed ≡ false → IsDone role limits mid (came ++ read.more) done (Refused refusal)
+    refused_done refusal by unfailed = (
+      (done, by.refused, by.soon, by.within, unfailed),
+      subst (λ (bs : List ℕ). IsRefused role limits bs done refusal.place refusal.reason) (append-nil (came ++ read.more)) (by.refused []),
+    )
+
+    -- one read more
+    module _ (new : Incoming) (next : NoticeReader) where
+      both : (more : List ℕ) → Consumes mid.remaining new.remaining more → Consumes old.remaining new.remaining (read.more ++ more)
+      both more consumed = Consumes-trans old.remaining mid.remaining new.remaining read.more more read.consumed consumed
+
+      pub fills : IsFilled role limits mid new next (came ++ read.more) done at (Ok None) → HasRead role limits old new next came done at
+      fills filled = record {
+        more = read.more ++ filled.more;
+        consumed = both filled.more filled.consumed;
+        told = subst (λ (bs : List ℕ). HasTold role limits next bs done at) (append_assoc came read.more filled.more) filled.next.0;
+      }
+
+      joined : (result : Result (Option Verdict) Stop) (answer : Result NextNotice Stop) (filled : IsFilled role limits mid new next (came ++ read.more) done at result) → IsNext role limits new next ((came ++ read.more) ++ filled.more) done at answer
+          → ReadsOn role limits old new next came done at answer
+      joined result answer filled is =
+          let all = append_assoc came read.more filled.more in
+          record {
+            more = read.more ++ filled.more;
+            consumed = both filled.more filled.consumed;
+            few = subst (λ (bs : List ℕ). length bs ≤ limits.input + 1) all filled.few;
+            next = subst (λ (bs : List ℕ). IsNext role limits new next bs done at answer) all is;
+          }
+
+      pub ends : (verdict : Verdict) → IsFilled role limits mid new next (came ++ read.more) done at (Ok (Some verdict)) → ReadsOn role limits old new next came done at (Ok (nexts.Done verdict))
+      ends verdict filled = joined (Ok (Some verdict)) (Ok (nexts.Done verdict)) filled filled.next
+
+      pub halts : (halted : Stop) → IsFilled role limits mid new next (came ++ read.more) done at (Err halted) → ReadsOn role limits old new next came done at (Err halted)
+      halts halted filled = joined (Err halted) (Err halted) filled filled.next
+
+pub reading_of : (role : Role) (limits : Limits) (reader : NoticeReader) (came : List ℕ) (done : List Frame) (at : Position) → HasTold role limits reader came done at → IsReading reader
+reading_of role limits reader came done at told = record { role = role; limits = limits; came = came; done = done; at = at; told = told }
+
+-- ---- the reads come to an end
+
+pub idle_few : (at end : ℕ) (past : Bool) → idle at end past ≤ 1
+idle_few at end true = omega arith
+idle_few at end false = few (nat_lt at end)
+  where
+    few : (less : Bool) → (if less then 0 else 1) ≤ 1
+    few true = omega arith
+    few false = omega arith
+
+-- Where all of a buffer is scanned and one more read fills it, the bound falls: by what was scanned, or since the buffer was idle.
+pub read_falls : (at end left now next : ℕ) (past : Bool) → at ≤ end → past ≡ false → now + (end - at) ≤ left → next ≡ 0 → 2 * now + next < 2 * left + idle at end past
+read_falls at end left now next past within none falls zero = by (cases_eq at end)
+  where
+    by : (at ≡ end) ⊎ (at ≡ end → ⊥) → 2 * now + next < 2 * left + idle at end past
+    by (inl all) =
+        let one : idle at end past ≡ 1 = ap (λ (b : Bool). idle at end b) none ∙ ap (λ (less : Bool). if less then 0 else 1) (le-ltb at end (omega (arith, all))) in
+        omega (arith, one, falls, zero)
+    by (inr more) = omega (arith, more, within, falls, zero)
+
+-- ---- a call of the scan that told nothing
+
+pub used_by : (role : Role) (limits : Limits) (reader : NoticeReader) (came : List ℕ) (done : List Frame) (at : Position) (notice : Notice) → (notice ≡ notices.More) ⊎ (notice ≡ notices.Closed)
+    → Tells role limits reader came done at notice → IsUsed role limits reader came done at
+used_by role limits reader came done at notice (inl more) tells = subst (λ (m : Notice). Tells role limits reader came done at m) more tells
+used_by role limits reader came done at notice (inr closed) tells = subst (λ (m : Notice). Tells role limits reader came done at m) closed tells
+
+pub used_falls : (old new : NoticeReader) (notice : Notice) → (notice ≡ notices.More) ⊎ (notice ≡ notices.Closed) → Progresses old new notice → (left_of new + (old.end - old.at) ≤ left_of old) × (new.past ≡ old.past)
+used_falls old new notice (inl more) falls = subst (λ (m : Notice). Progresses old new m) more falls
+used_falls old new notice (inr closed) falls = subst (λ (m : Notice). Progresses old new m) closed falls

@@ -1,8 +1,0 @@
-use Rattle.wsn_scan.proofs.OneVerdict.{all_of_verdict}
-use Rattle.wsn_scan.proofs.laws.law_frames_of_a_verdict.Goals as goal
-
-pub returns-clause-lawful : goal.returns-clause-lawful
-returns-clause-lawful c = λ role bounds bytes fs verdict is. (all_of_verdict role bounds bytes fs verdict is).lawful
-
-pub returns-clause-front : goal.returns-clause-front
-returns-clause-front c = λ role bounds bytes fs verdict is. let all = all_of_verdict role bounds bytes fs verdict is in (all.rest, all.whole)

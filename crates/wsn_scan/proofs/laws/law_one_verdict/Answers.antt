@@ -1,9 +1,0 @@
-use Rattle.wsn_scan.proofs.EveryInput.{has_verdict}
-use Rattle.wsn_scan.proofs.OneVerdict.{one_verdict}
-use Rattle.wsn_scan.proofs.laws.law_one_verdict.Goals as goal
-
-pub returns-clause-some : goal.returns-clause-some
-returns-clause-some c = λ role bounds bytes range in_bytes. let found = has_verdict role bounds range bytes in_bytes in (found.frames, found.verdict, found.is)
-
-pub returns-clause-one : goal.returns-clause-one
-returns-clause-one c = one_verdict

@@ -1,0 +1,30 @@
+use Rattle.std.proofs.Common.{◌+◌, refl, ◌∙◌, arith}
+use Rattle.wsn_scan.specs.declared.notice_reader.NoticeReader.{NoticeReader}
+use Rattle.wsn_scan.proofs.ReaderSteps.{tells, progresses}
+use Rattle.wsn_scan.proofs.notice_reader.NoticeReader.step.Goals as goal
+
+pub returns-clause-tells : goal.returns-clause-tells
+returns-clause-tells c role limits came done at h =
+    let e = c.scan_part-taken.ensures in
+    tells role limits c.args.self.now _ c.scan_part-taken.result.0 came done at h c.scan_part-taken.result.1
+    (record { in_bytes = e.in_bytes; advances = e.taken; takes = e.takes; kept = e.kept; room = e.room; reported = e.reported; from_is = refl; at_is = refl; end_is = refl; past_is = refl })
+
+pub returns-clause-falls : goal.returns-clause-falls
+returns-clause-falls c =
+    let e = c.scan_part-taken.ensures in
+    let b = c.requires.begun in
+    let old = c.args.self.now in
+    let new : NoticeReader = record {
+      scan = c.scan_part-taken.new.scan;
+      buffer = c.scan_part-taken.new.buffer;
+      from = old.at;
+      at = old.at + c.scan_part-taken.result.0;
+      end = old.end;
+      past = old.past;
+      scanned = omega arith;
+      left = e.within;
+      held = old.held;
+      size = c.scan_part-taken.auto.buffer ∙ old.size;
+    } in
+    progresses b.role b.limits old new c.scan_part-taken.result.0 b.came b.done b.at b.told c.scan_part-taken.result.1
+    (record { in_bytes = e.in_bytes; advances = e.taken; takes = e.takes; kept = e.kept; room = e.room; reported = e.reported; from_is = refl; at_is = refl; end_is = refl; past_is = refl })

@@ -1,0 +1,68 @@
+use Rattle.std.proofs.Common.{◌≡◌, ◌++◌, [], ◌∷◌, true, false, inl, inr, refl, sym, ◌∙◌, arith, append-nil}
+use Rattle.wsn_wire.specs.declared.refusal.Reason.TheVariants.{TextCut}
+use Rattle.wsn_wire.specs.Frame.{first_byte}
+use Rattle.wsn_wire.proofs.FrameLemmas.{first_byte_fields}
+use Rattle.wsn_scan.specs.declared.notice.Notice.TheVariants as notices
+use Rattle.wsn_rules.specs.Group.{unfinished}
+use Rattle.wsn_rules.specs.Heads.{heads_of}
+use Rattle.wsn_scan.specs.Reports.{reported_after}
+use Rattle.wsn_scan.proofs.HeadsReported.{heads_with, cut_begins_none}
+use Rattle.wsn_scan.proofs.PayloadMore.{unmasked_nothing}
+use Rattle.wsn_scan.proofs.FrameStarts.{goes_on, begins}
+use Rattle.wsn_scan.proofs.PayloadBytes.{starts, starts_empty, cut_at_start}
+use Rattle.wsn_scan.proofs.MoreBytes.{knows_more}
+use Rattle.wsn_scan.proofs.Refusals.{refuses}
+use Rattle.wsn_scan.proofs.scan.Scan.begin.Goals as goal
+use Rattle.wsn_scan.proofs.PayloadPrefixes.{no_head}
+
+pub returns-then-head-gt0-clause-taken : goal.returns-then-head-gt0-clause-taken
+returns-then-head-gt0-clause-taken c role limits bytes rest last taken fs reported knows none heads ends size some in_bytes h =
+    let head = c.args.head in
+    let group = unfinished fs in
+    let bytes_of = rest ++ last in
+    let checked = c.new-check.ensures group knows.message (goes_on role limits group head (rest ++ last) h) (begins role limits group head (rest ++ last) h) in
+    record {
+      frames = fs;
+      since = rest ++ last;
+      stands = record {
+        knows = knows_more role limits c.args.self.now _ bytes rest last fs (record { sender = refl; under = refl; room = omega (arith, c.requires); used = refl; counts = refl; message = refl }) in_bytes knows;
+        at = (
+          none,
+          record {
+            wire = [];
+            holds = starts role limits group head (rest ++ last) h c.new-check.result checked c.if-head-gt0.true;
+            done = refl;
+            short = c.if-head-gt0.true;
+            unmasked = unmasked_nothing head.key;
+          },
+          heads_with head fs reported.heads c.args.self.now.used c.info-info.result heads knows.used c.info-info.ensures,
+          ends,
+        );
+      };
+      tells = tt;
+    }
+
+pub returns-then-is_cut-clause-taken : goal.returns-then-is_cut-clause-taken
+returns-then-is_cut-clause-taken c role limits bytes rest last taken fs reported knows none heads ends size some in_bytes h =
+    let head = c.args.head in
+    let group = unfinished fs in
+    let checked = c.new-check.ensures group knows.message (goes_on role limits group head (rest ++ last) h) (begins role limits group head (rest ++ last) h) in
+    let cut = c.is_cut.ensures group (first_byte head.first.fin head.first.op) checked (first_byte_fields head.first.fin head.first.op).fin_is in
+    let empty : head.len ≡ 0 = omega (arith, c.if-head-gt0.false) in
+    let shown = cut_at_start role limits group head (rest ++ last) h c.new-check.result checked empty (cut.0.0 c.if-is_cut.true) cut.1 in
+    rw (c.refuse.ensures.reported, c.refuse.ensures.after) (refuses role limits c.args.self.now bytes rest last fs reported [] c.args.count TextCut knows none size c.requires in_bytes some shown
+    (inr (inl (refl, none, cut_begins_none role limits fs head (rest ++ last) TextCut h shown.shown))) (heads ∙ sym (append-nil (heads_of fs))) ends
+    (no_head fs (bytes ++ last) reported.payload reported.heads heads))
+
+pub returns-clause-taken : goal.returns-clause-taken
+returns-clause-taken c role limits bytes rest last taken fs reported knows none heads ends size some in_bytes h =
+    let head = c.args.head in
+    let group = unfinished fs in
+    let checked = c.new-check.ensures group knows.message (goes_on role limits group head (rest ++ last) h) (begins role limits group head (rest ++ last) h) in
+    let cut = c.is_cut.ensures group (first_byte head.first.fin head.first.op) checked (first_byte_fields head.first.fin head.first.op).fin_is in
+    let empty : head.len ≡ 0 = omega (arith, c.if-head-gt0.false) in
+    let holds = starts_empty role limits group head (rest ++ last) h c.new-check.result checked empty (λ row. let both : false ≡ true = sym c.if-is_cut.false ∙ cut.0.1 row in cc) cut.1 in
+    let ends = c.end.ensures.taken role limits (bytes ++ last) (rest ++ last) [] fs (reported_after reported (notices.Head c.info-info.result) taken)
+    (knows_more role limits c.args.self.now _ bytes rest last fs (record { sender = refl; under = refl; room = omega (arith, c.requires); used = refl; counts = refl; message = refl }) in_bytes knows)
+    none holds (sym empty) (heads_with head fs reported.heads c.args.self.now.used c.info-info.result heads knows.used c.info-info.ensures) ends (unmasked_nothing head.key) in
+    record { frames = fs ++ ends.frame ∷ []; since = []; stands = ends.stands; tells = tt }

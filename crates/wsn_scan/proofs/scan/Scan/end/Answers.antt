@@ -1,0 +1,16 @@
+use Rattle.std.proofs.Common.{refl}
+use Rattle.wsn_scan.proofs.FrameEnds.{frame_ends}
+use Rattle.wsn_scan.proofs.scan.Scan.end.Goals as goal
+
+pub returns-clause-taken : goal.returns-clause-taken
+returns-clause-taken c role limits bytes rest wire fs reported =
+    frame_ends role limits c.args.self.now _ bytes rest wire fs reported c.args.head.now c.args.check.now
+    (record {
+      sender = refl;
+      under = refl;
+      room = refl;
+      used = c.taken-self.ensures;
+      counts = c.with-self.ensures;
+      message = c.message_after-self.ensures;
+      stage = c.behind-self.ensures.stands;
+    })

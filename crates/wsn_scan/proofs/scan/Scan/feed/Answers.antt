@@ -1,0 +1,81 @@
+use Rattle.std.proofs.Common.{◌≡◌, ◌∙◌, ◌+◌, ◌-◌, ◌<◌, ℕ, List, [], ◌++◌, length, drop, refl, sym, arith, ap, length-drop}
+use borrow.Rule.Slice.PartMut.{mid_of, put_mid}
+use Rattle.wsn_scan.specs.Feeding.{heads_in}
+use Rattle.wsn_scan.proofs.FedPieces.{IsFedTo, bytes_below, share_is, takes_none, takes_by, takes_on, fed_further, none_told, falls, falls_further}
+use Rattle.wsn_scan.proofs.scan.Scan.feed.Goals as goal
+
+pub loop-at-init : goal.loop-at-init
+loop-at-init c = record {
+  in_bytes = bytes_below c.args.piece.now (λ i. let below = c.type_inv.piece i in omega (arith, below));
+  within = omega arith;
+  size = refl;
+  kept = refl;
+  room = omega arith;
+  takes = ([], takes_none c.args.self.now c.args.piece.now);
+  reported = λ none. none;
+}
+
+pub returns-in-Some : goal.returns-in-Some
+returns-in-Some c =
+    let at = c.loop-at.at in
+    let taken = c.next-taken.result.0 in
+    let share = mid_of at (length c.loop-at.piece - at) c.loop-at.piece in
+    let is : share ≡ drop at c.args.piece.now = share_is at c.loop-at.piece ∙ c.loop-at.invariant.kept in
+    record {
+      count = at + taken;
+      within = omega (arith, length-drop at c.args.piece.now, ap (λ (bs : List ℕ). length bs) is, c.next-taken.ensures.within);
+      room = omega (arith, c.next-taken.ensures.room);
+      heads = c.loop-at.invariant.takes.0 ++ heads_in c.next-taken.result.1;
+      takes = takes_on c.args.self.now c.loop-at.self c.next-taken.new.self c.next-taken.result.1 c.args.piece.now share c.next-taken.new.piece at taken c.loop-at.invariant.takes.0 c.loop-at.invariant.in_bytes is c.loop-at.invariant.takes.1 c.next-taken.ensures.taken;
+      all = λ none. cc;
+      reported = λ none. sym c.refusal.ensures ∙ c.in-Some.is;
+    }
+
+pub loop-at-smaller : goal.loop-at-smaller
+loop-at-smaller c =
+    let at = c.loop-at.at in
+    let piece = c.args.piece.now in
+    let here = c.loop-at.piece in
+    let known = c.loop-at.invariant in
+    let taken = c.next-taken.result.0 in
+    let mid = c.next-taken.new.self in
+    let share = mid_of at (length here - at) here in
+    let is : share ≡ drop at piece = share_is at here ∙ known.kept in
+    let size : length share ≡ length (drop at piece) = ap (λ (bs : List ℕ). length bs) is in
+    let some : 0 < length share = omega (arith, length-drop at piece) in
+    let before = known.takes.1 c.requires.begun.role c.requires.begun.limits c.requires.begun.bytes c.requires.begun.heads c.requires.begun.taken in
+    let first = falls c.loop-at.self mid c.next-taken.result.1 at taken (length piece) (omega arith) (omega (arith, length-drop at piece, c.next-taken.ensures.within))
+    (none_told c.next-taken.result.1 (sym c.next-taken.ensures.reported ∙ sym c.refusal.ensures ∙ c.in_default.is))
+    (c.next-taken.ensures.gets_on c.requires.begun.role c.requires.begun.limits _ before.since before.frames _ before.stands some) in
+    let fed : IsFedTo c.args.self.now c.loop-at.self piece here at = record { in_bytes = known.in_bytes; within = known.within; size = known.size; kept = known.kept; room = known.room; takes = known.takes } in
+    let there = put_mid at (length here - at) here c.next-taken.new.piece in
+    let next = fed_further c.args.self.now c.loop-at.self mid piece here c.next-taken.new.piece at taken fed c.next-taken.ensures.within c.next-taken.auto.piece c.next-taken.ensures.kept c.next-taken.ensures.room
+    (λ in_bytes. (heads_in c.next-taken.result.1, takes_by c.loop-at.self mid c.next-taken.result.1 share c.next-taken.new.piece taken c.next-taken.ensures.taken in_bytes)) in
+    let more = c.take_frames-at.result in
+    let all = share_is (at + taken) there ∙ next.kept in
+    falls_further mid c.take_frames-at.new.self (at + taken) more (length piece) _ (omega (arith, next.within, length-drop (at + taken) piece, ap (λ (bs : List ℕ). length bs) all, c.take_frames-at.ensures.within)) first c.take_frames-at.ensures.none
+
+pub loop-at-preserved : goal.loop-at-preserved
+loop-at-preserved c =
+    let at = c.loop-at.at in
+    let piece = c.args.piece.now in
+    let here = c.loop-at.piece in
+    let known = c.loop-at.invariant in
+    let taken = c.next-taken.result.0 in
+    let mid = c.next-taken.new.self in
+    let share = mid_of at (length here - at) here in
+    let fed : IsFedTo c.args.self.now c.loop-at.self piece here at = record { in_bytes = known.in_bytes; within = known.within; size = known.size; kept = known.kept; room = known.room; takes = known.takes } in
+    let there = put_mid at (length here - at) here c.next-taken.new.piece in
+    let next = fed_further c.args.self.now c.loop-at.self mid piece here c.next-taken.new.piece at taken fed c.next-taken.ensures.within c.next-taken.auto.piece c.next-taken.ensures.kept c.next-taken.ensures.room
+    (λ in_bytes. (heads_in c.next-taken.result.1, takes_by c.loop-at.self mid c.next-taken.result.1 share c.next-taken.new.piece taken c.next-taken.ensures.taken in_bytes)) in
+    let frames = c.take_frames-at in
+    let last = fed_further c.args.self.now mid frames.new.self piece there frames.new.piece (at + taken) frames.result next frames.ensures.within frames.auto.piece frames.ensures.kept frames.ensures.room frames.ensures.taken in
+    record {
+      in_bytes = last.in_bytes;
+      within = last.within;
+      size = last.size;
+      kept = last.kept;
+      room = last.room;
+      takes = last.takes;
+      reported = λ none. frames.ensures.reported (sym c.refusal.ensures ∙ c.in_default.is);
+    }

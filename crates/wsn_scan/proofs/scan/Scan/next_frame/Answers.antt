@@ -1,0 +1,30 @@
+use Rattle.std.proofs.Common.{◌≡◌, List, ℕ, [], ◌++◌, take, inl, inr, sym, subst}
+use Rattle.std.proofs.lemmas.List.{length-take-le}
+use Rattle.wsn_wire.specs.declared.endpoint.Role.{Role}
+use Rattle.wsn_rules.specs.Limits.{Limits}
+use Rattle.wsn_rules.specs.Group.{unfinished}
+use Rattle.wsn_scan.specs.PartialHeads.{IsHead}
+use Rattle.wsn_scan.proofs.HeadBytes.{bytes_taken, before_head}
+use Rattle.wsn_scan.proofs.scan.Scan.next_frame.Goals as goal
+
+pub returns-in-Some-clause-taken : goal.returns-in-Some-clause-taken
+returns-in-Some-clause-taken c role limits bytes rest fs reported in_bytes stands =
+    let count = c.in-Some.count in
+    let head = c.in-Some.head in
+    let group = unfinished fs in
+    let last = take count c.args.piece.now in
+    let knows = stands.knows in
+    let found = c.in-Some.ensures in
+    let nothing : rest ≡ [] = stands.at.1 in
+    let own = found.2 group knows.message in
+    let of_role = subst (λ (r : Role). IsHead r c.args.self.now.context.limits group head last) knows.sender own in
+    let is_head = subst (λ (b : Limits). IsHead role b group head last) knows.under of_role in
+    c.begin.ensures.taken role limits bytes rest last last fs reported knows stands.at.0 stands.at.2 stands.at.3 (length-take-le count c.args.piece.now found.1) found.0 (bytes_taken count c.args.piece.now in_bytes)
+    (subst (λ (bs : List ℕ). IsHead role limits group head (bs ++ last)) (sym nothing) is_head)
+
+pub returns-in-Some-clause-takes : goal.returns-in-Some-clause-takes
+returns-in-Some-clause-takes c = elim c.begin.ensures.takes [ inl head ↦ inr (inl (head, c.in-Some.ensures.0)) | inr refused ↦ inr (inr refused) ]
+
+pub returns-in-None-clause-taken : goal.returns-in-None-clause-taken
+returns-in-None-clause-taken c role limits bytes rest fs reported in_bytes stands =
+    c.next_head.ensures.taken role limits bytes rest fs reported in_bytes (before_head role limits c.args.self.now bytes rest fs reported stands)

@@ -1,0 +1,18 @@
+use Rattle.std.proofs.Common.{◌≡◌, List, ℕ, ◌++◌, take}
+use Rattle.wsn_wire.specs.declared.endpoint.Role.{Role}
+use Rattle.wsn_wire.specs.Frame.{Frame, IsBytes}
+use Rattle.wsn_scan.specs.declared.stage.Stage.TheVariants as stages
+use Rattle.wsn_rules.specs.Limits.{Limits}
+use Rattle.wsn_rules.specs.Group.{unfinished}
+use Rattle.wsn_scan.specs.PartialHeads.{IsInHead}
+use Rattle.wsn_scan.specs.Scans.{StandsAt}
+use Rattle.wsn_scan.specs.Reports.{Reported}
+use Rattle.wsn_scan.proofs.scan.Scan.next_head.Given as goal
+
+-- the bytes so far are part of a head, which shows nothing
+abbrev pub invariant-loop-i : goal.invariant-loop-i
+invariant-loop-i l = record {
+  same : l.self ≡ l.fn.self;
+  in_head : (role : Role) (limits : Limits) (bytes rest : List ℕ) (fs : List Frame) (reported : Reported) → IsBytes l.piece → StandsAt role limits l.fn.self (stages.Head l.fn.part) bytes fs rest reported
+      → IsInHead role limits (unfinished fs) l.part (rest ++ take l.i l.piece);
+}

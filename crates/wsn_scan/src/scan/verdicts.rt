@@ -1,0 +1,87 @@
+//! What a scan says of all that it has taken.
+
+use super::Scan;
+use crate::stage::Stage;
+use wsn_rules::{Summary, Verdict};
+
+impl Scan {
+    ghost use Rattle.std.specs.Prelude.{◌≡◌, ℕ, ◌-◌, ◌<◌, List, Some};
+    ghost use Rattle.wsn_wire.specs.Frame.{Frame};
+    ghost use Rattle.wsn_rules.specs.Heads.{AreHeads};
+    ghost use Rattle.wsn_scan.specs.Scans.{Stands, refusal_in, taken_of, summary_of, verdict_between};
+    ghost use Rattle.wsn_scan.specs.Reports.{Reported, refusal_judged};
+    ghost use Rattle.wsn_rules.specs.Group.{unfinished};
+    ghost use Rattle.wsn_rules.specs.Verdict.{IsVerdict};
+
+    /// The verdict on the bytes taken, as the whole input.
+    #[tactic(auto, using(crate::proofs::HeadsSoFar::heads_told))]
+    pub fn finish(&self) -> Verdict
+        ensures verdict { (role : _) (limits : _) (bytes rest : List ℕ) (fs : List Frame) (reported : Reported) →
+            Stands role limits self.now bytes fs rest reported → IsVerdict role limits bytes fs result }
+        ensures heads { (role : _) (limits : _) (bytes rest : List ℕ) (fs : List Frame) (reported : Reported) →
+            Stands role limits self.now bytes fs rest reported → AreHeads role limits bytes fs reported.heads }
+        ensures reported { refusal_judged result ≡ refusal_in self.now }
+    {
+        match &self.stage {
+            Stage::Refused(refusal) => Verdict::Refused(*refusal),
+            Stage::Closed(code) => self.closed(*code),
+            Stage::CloseEnded(code) => self.closed(*code),
+            Stage::Ended(_) => self.between(),
+            Stage::Between => self.between(),
+            Stage::Head(part) => {
+                if part.is_empty() {
+                    self.between()
+                } else {
+                    self.cut()
+                }
+            }
+            Stage::Payload(_) => self.cut(),
+        }
+    }
+
+    /// Behind a Close: what follows it is the tail.
+    fn closed(&self, code: Option<u16>) -> Verdict
+        ensures { result ≡ Verdict.Accepted (summary_of self.now self.now.used (taken_of self.now - self.now.used)
+            (Some code)) }
+    {
+        let tail = self.taken().saturating_sub(self.used);
+        Verdict::Accepted(self.summary(self.used, tail, Some(code)))
+    }
+
+    /// Between frames: nothing is missing unless a message is open.
+    fn between(&self) -> Verdict
+        ensures { result ≡ verdict_between self.now self.now.context.message }
+    {
+        let summary = self.summary(self.taken(), 0, None);
+        match &self.context.message {
+            None => Verdict::Accepted(summary),
+            Some(_) => Verdict::Cut(summary),
+        }
+    }
+
+    /// Within a frame.
+    fn cut(&self) -> Verdict
+        ensures { result ≡ Verdict.Cut (summary_of self.now (taken_of self.now) 0 None) }
+    {
+        Verdict::Cut(self.summary(self.taken(), 0, None))
+    }
+
+    fn summary(&self, used: u64, tail: u64, close: Option<Option<u16>>) -> Summary
+        ensures { result ≡ summary_of self.now used tail close }
+    {
+        let unfinished = match &self.context.message {
+            Some(message) => Some(message.size),
+            None => None,
+        };
+        Summary {
+            used,
+            tail,
+            unfinished,
+            frames: self.counts.frames,
+            messages: self.counts.messages,
+            pings: self.counts.pings,
+            pongs: self.counts.pongs,
+            close,
+        }
+    }
+}

@@ -1,0 +1,201 @@
+//! How a stream may end: cut short behind each byte, with more behind a refusal, and not at all.
+
+use crate::doubles::{Chopped, Endless, READS};
+use crate::engines::judged;
+use crate::every_way::expect_stream;
+use crate::lines::answer_line;
+use crate::rows::{Stream, greatest, streams};
+use std::alloc::Global;
+use std::process::Abort;
+use std::test::Fail;
+use wsn_canon::normalise;
+use wsn_scan::{Limits, MESSAGE_MAX, Stop, Verdict, judge, list};
+use wsn_wire::{Input, Output, Role};
+
+/// Fails unless the line is that of the stream's verdict, or, where so few bytes don't tell that, of one that is open.
+fn expect_line(rt: &impl Abort, stream: &Stream, count: usize, line: &str) -> Result<(), Fail> {
+    let name = stream.name;
+    if stream.is_told_by(count)? {
+        assert_eq!(rt; line, stream.verdict, "{name}: {count} bytes");
+    } else {
+        let is_open = line.starts_with("accepted") || line.starts_with("cut");
+        assert!(rt; is_open, "{name}: {count} bytes");
+    }
+    Ok(())
+}
+
+#[test]
+fn a_front_is_accepted_or_cut_until_it_tells_the_answer(rt: HostRuntime) -> Result<(), Fail> {
+    let alloc = rt.alloc();
+    for stream in streams(alloc)?.iter() {
+        for front in stream.fronts(alloc)? {
+            for most in READS {
+                let answer = judged(stream, Chopped::new(front, most));
+                let line = answer_line(alloc, &answer)?;
+                expect_line(&rt, stream, front.len(), line.as_str())?;
+            }
+        }
+    }
+    Ok(())
+}
+
+/// A server's streams, and the line of the verdict on as many of their bytes as its place in the list says.
+static FRONTS: [(&[u8], &[&str]); 3] = [
+    (
+        b"\x01\x01A\x89\x00\x80\x01B",
+        &[
+            "accepted 0 tail 0 unfinished -",
+            "cut 1",
+            "cut 2",
+            "cut 3",
+            "cut 4",
+            "cut 5",
+            "cut 6",
+            "cut 7",
+            "accepted 8 tail 0 unfinished -",
+        ],
+    ),
+    (
+        b"\x89\x00\xf0",
+        &[
+            "accepted 0 tail 0 unfinished -",
+            "cut 1",
+            "accepted 2 tail 0 unfinished -",
+            "refused 2 reserved-bits 1002",
+        ],
+    ),
+    (
+        b"\x88\x00\x88\x00",
+        &[
+            "accepted 0 tail 0 unfinished -",
+            "cut 1",
+            "accepted 2 tail 0 unfinished -",
+            "accepted 2 tail 1 unfinished -",
+            "accepted 2 tail 2 unfinished -",
+        ],
+    ),
+];
+
+#[test]
+fn verdicts_behind_each_byte(rt: HostRuntime) -> Result<(), Fail> {
+    let alloc = rt.alloc();
+    for (bytes, lines) in FRONTS {
+        assert_eq!(rt; lines.len(), bytes.len() + 1);
+        for (count, line) in lines.iter().enumerate() {
+            let front = bytes.get(..count).ok_or("no such front")?;
+            let mut reader = Chopped::new(front, 1);
+            let answer = judge(&mut Input::new(&mut reader), Role::Server, greatest()?);
+            assert_eq!(rt; answer_line(alloc, &answer)?.as_str(), *line);
+        }
+    }
+    Ok(())
+}
+
+#[test]
+fn what_stands_behind_a_refusal_changes_nothing(rt: HostRuntime) -> Result<(), Fail> {
+    let alloc = rt.alloc();
+    for mut stream in streams(alloc)? {
+        if stream.verdict.starts_with("refused") {
+            stream.bytes.extend_from_slice(&[0x00, 0xff, 0x81])?;
+            expect_stream(&rt, alloc, &stream)?;
+        }
+    }
+    Ok(())
+}
+
+/// A server's stream that never ends: some bytes, and then others over and over. At its input limit the lines are these
+/// of its frames, and the normal form this of its events.
+#[derive(Debug, Drop)]
+struct Unending {
+    first: &'static [u8],
+    again: &'static [u8],
+    limits: Limits,
+    lines: String,
+    normal: Vec<u8>,
+}
+
+impl Unending {
+    fn reader(&self) -> Endless {
+        Endless::new(self.first, self.again)
+    }
+
+    /// An engine ends at the limit, and has taken one byte more at most.
+    fn expect_limit(&self, rt: &impl Abort, answer: &Result<Verdict, Stop>, reader: &Endless) {
+        assert!(rt; matches!(answer, Err(Stop::InputLimit)));
+        assert!(rt; reader.given as u64 <= self.limits.input().saturating_add(1));
+    }
+
+    fn expect_judged(&self, rt: &impl Abort) {
+        let mut reader = self.reader();
+        let answer = judge(&mut Input::new(&mut reader), Role::Server, self.limits);
+        self.expect_limit(rt, &answer, &reader);
+    }
+
+    fn expect_listed(&self, rt: &impl Abort, alloc: Global) {
+        let mut reader = self.reader();
+        let mut text = Vec::new(alloc);
+        let answer = list(
+            &mut Input::new(&mut reader),
+            &mut Output::new(&mut text),
+            Role::Server,
+            self.limits,
+        );
+        self.expect_limit(rt, &answer, &reader);
+        assert_eq!(rt; text.as_slice(), self.lines.as_bytes());
+    }
+
+    fn expect_normalised(&self, rt: &impl Abort, alloc: Global) {
+        let mut reader = self.reader();
+        let mut out = Vec::new(alloc);
+        let answer = normalise(
+            alloc,
+            &mut Input::new(&mut reader),
+            &mut Output::new(&mut out),
+            Role::Server,
+            self.limits,
+        );
+        self.expect_limit(rt, &answer, &reader);
+        assert_eq!(rt; out.as_slice(), self.normal.as_slice());
+    }
+
+    fn expect(&self, rt: &impl Abort, alloc: Global) {
+        self.expect_judged(rt);
+        self.expect_listed(rt, alloc);
+        self.expect_normalised(rt, alloc);
+    }
+}
+
+#[test]
+fn endless_pings_end_at_the_input_limit(rt: HostRuntime) -> Result<(), Fail> {
+    let alloc = rt.alloc();
+    let mut lines = String::new(alloc);
+    let mut normal = Vec::new(alloc);
+    for i in 0..500u64 {
+        let place = 2 * i;
+        lines.push_str(format!(in alloc; "{place} fin ping - 0\n")?.as_str())?;
+        normal.extend_from_slice(&[0x89, 0x00])?;
+    }
+    let pings = Unending {
+        first: &[],
+        again: &[0x89, 0x00],
+        limits: Limits::new(MESSAGE_MAX, 1_001).ok_or("out of range")?,
+        lines,
+        normal,
+    };
+    pings.expect(&rt, alloc);
+    Ok(())
+}
+
+#[test]
+fn an_endless_tail_ends_at_the_input_limit(rt: HostRuntime) -> Result<(), Fail> {
+    let alloc = rt.alloc();
+    let close = Unending {
+        first: &[0x88, 0x00],
+        again: &[0x00],
+        limits: Limits::new(MESSAGE_MAX, 9).ok_or("out of range")?,
+        lines: String::from_str(alloc, "0 fin close - 0\n")?,
+        normal: [0x88, 0x00].to_vec(alloc)?,
+    };
+    close.expect(&rt, alloc);
+    Ok(())
+}

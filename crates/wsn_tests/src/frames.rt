@@ -1,0 +1,57 @@
+//! `wsn frames`: the lines of the frames and of the verdict on standard output, and the status, with no memory to be
+//! had.
+
+use crate::doubles::{Chopped, FULL, Narrow, heap_of};
+use crate::lines::listing;
+use crate::outcomes::outcome_on;
+use crate::rows::streams;
+use std::test::Fail;
+use wsn_job::Job;
+
+#[test]
+fn frames_are_printed_before_the_verdict(rt: HostRuntime) -> Result<(), Fail> {
+    let alloc = rt.alloc();
+    let heap = heap_of(alloc, 0)?;
+    for stream in streams(alloc)?.iter() {
+        let job = Job::Frames(stream.role, stream.limits);
+        let reader = Chopped::new(stream.bytes.as_slice(), 4_096);
+        let done = outcome_on(&heap, alloc, &job, reader, Narrow::wide(alloc));
+        let said: &[u8] = if stream.is_too_long() {
+            b"input limit\n"
+        } else {
+            &[]
+        };
+        let lines = listing(alloc, stream)?;
+        done.expect(&rt, stream.status(), lines.as_bytes(), said);
+    }
+    Ok(())
+}
+
+#[test]
+fn a_failed_read_is_told_in_one_line(rt: HostRuntime) -> Result<(), Fail> {
+    let alloc = rt.alloc();
+    let heap = heap_of(alloc, 0)?;
+    for stream in streams(alloc)?.iter() {
+        let job = Job::Frames(stream.role, stream.limits);
+        let reader = Chopped::breaking(&[], 1);
+        let done = outcome_on(&heap, alloc, &job, reader, Narrow::wide(alloc));
+        done.expect(&rt, 2, &[], b"read failed\n");
+    }
+    Ok(())
+}
+
+#[test]
+fn a_failed_write_is_told_in_one_line(rt: HostRuntime) -> Result<(), Fail> {
+    let alloc = rt.alloc();
+    let heap = heap_of(alloc, 0)?;
+    for stream in streams(alloc)?.iter() {
+        let job = Job::Frames(stream.role, stream.limits);
+        for full in FULL {
+            let reader = Chopped::new(stream.bytes.as_slice(), usize::MAX);
+            let writer = Narrow::new(alloc, 1, 0, full);
+            let done = outcome_on(&heap, alloc, &job, reader, writer);
+            done.expect(&rt, 2, &[], b"write failed\n");
+        }
+    }
+    Ok(())
+}

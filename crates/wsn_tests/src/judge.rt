@@ -1,0 +1,59 @@
+//! `wsn judge`: the verdict's line on standard output and its status, with no memory to be had.
+
+use crate::doubles::{Chopped, FULL, Narrow, heap_of};
+use crate::outcomes::outcome_on;
+use crate::rows::streams;
+use std::test::Fail;
+use wsn_job::Job;
+
+#[test]
+fn each_verdict_is_printed(rt: HostRuntime) -> Result<(), Fail> {
+    let alloc = rt.alloc();
+    let heap = heap_of(alloc, 0)?;
+    for stream in streams(alloc)?.iter() {
+        let job = Job::Judge(stream.role, stream.limits);
+        let reader = Chopped::new(stream.bytes.as_slice(), 4_096);
+        let done = outcome_on(&heap, alloc, &job, reader, Narrow::wide(alloc));
+        let verdict = stream.verdict;
+        let line = format!(in alloc; "{verdict}\n")?;
+        if stream.is_too_long() {
+            done.expect(&rt, 2, &[], line.as_bytes());
+        } else {
+            done.expect(&rt, stream.status(), line.as_bytes(), &[]);
+        }
+    }
+    Ok(())
+}
+
+#[test]
+fn a_failed_read_is_told_in_one_line(rt: HostRuntime) -> Result<(), Fail> {
+    let alloc = rt.alloc();
+    let heap = heap_of(alloc, 0)?;
+    for stream in streams(alloc)?.iter() {
+        let job = Job::Judge(stream.role, stream.limits);
+        let reader = Chopped::breaking(&[], 1);
+        let done = outcome_on(&heap, alloc, &job, reader, Narrow::wide(alloc));
+        done.expect(&rt, 2, &[], b"read failed\n");
+    }
+    Ok(())
+}
+
+#[test]
+fn a_failed_write_is_told_in_one_line(rt: HostRuntime) -> Result<(), Fail> {
+    let alloc = rt.alloc();
+    let heap = heap_of(alloc, 0)?;
+    for stream in streams(alloc)?.iter() {
+        if stream.is_too_long() {
+            continue;
+        }
+        let job = Job::Judge(stream.role, stream.limits);
+        for full in FULL {
+            let reader = Chopped::new(stream.bytes.as_slice(), usize::MAX);
+            let writer = Narrow::new(alloc, 1, 1, full);
+            let done = outcome_on(&heap, alloc, &job, reader, writer);
+            let verdict = stream.verdict.as_bytes();
+            done.expect(&rt, 2, &verdict[..1.min(verdict.len())], b"write failed\n");
+        }
+    }
+    Ok(())
+}

@@ -1,0 +1,193 @@
+//! Plan text: what is read of a text, what is written of a plan, and where memory or a write fails.
+
+use crate::doubles::{Full, Narrow};
+use linked_list_allocator::LocalHeap;
+use std::alloc::{Allocator, Global};
+use std::io::Write;
+use std::process::Abort;
+use std::test::Fail;
+use wsn_plan::{LineWhy, Plan, PlanFault, Step, read_plan, write_plan};
+use wsn_scan::Stop;
+use wsn_wire::{Form, Output};
+
+/// A text, and the text that is written of its plan.
+static PLANS: [(&str, &str); 9] = [
+    ("", ""),
+    (
+        "piece 3 -\ncontrol -\nlast -",
+        "piece 3 -\ncontrol -\nlast -\n",
+    ),
+    ("last 37FA213D\n", "last 37fa213d\n"),
+    ("piece 3 - two", "piece 3 - two\n"),
+    ("last aBcDeF09 eight\n", "last abcdef09 eight\n"),
+    ("piece 0 -\n", "piece 0 -\n"),
+    (
+        "piece 18446744073709551615 ffffffff eight\n",
+        "piece 18446744073709551615 ffffffff eight\n",
+    ),
+    ("control 00000001\n", "control 00000001\n"),
+    (
+        "last -\nlast -\nlast -\nlast -\n",
+        "last -\nlast -\nlast -\nlast -\n",
+    ),
+];
+
+/// A text, its first faulty line, and what is wrong with it.
+static FAULTS: [(&str, u64, LineWhy, &str); 29] = [
+    ("\n", 1, LineWhy::BadForm, "bad-form"),
+    ("last  -", 1, LineWhy::BadForm, "bad-form"),
+    ("control - two", 1, LineWhy::BadForm, "bad-form"),
+    ("control -\n\n", 2, LineWhy::BadForm, "bad-form"),
+    ("# a comment", 1, LineWhy::BadForm, "bad-form"),
+    ("Last -", 1, LineWhy::BadForm, "bad-form"),
+    (" last -", 1, LineWhy::BadForm, "bad-form"),
+    ("last - ", 1, LineWhy::BadForm, "bad-form"),
+    ("last", 1, LineWhy::BadForm, "bad-form"),
+    ("last - two two", 1, LineWhy::BadForm, "bad-form"),
+    ("piece 3", 1, LineWhy::BadForm, "bad-form"),
+    ("piece  -", 1, LineWhy::BadForm, "bad-form"),
+    ("piece 03 - two four", 1, LineWhy::BadForm, "bad-form"),
+    ("piece 03 -", 1, LineWhy::BadNumber, "bad-number"),
+    ("piece x y", 1, LineWhy::BadNumber, "bad-number"),
+    ("piece +3 -", 1, LineWhy::BadNumber, "bad-number"),
+    ("piece -3 -", 1, LineWhy::BadNumber, "bad-number"),
+    ("piece 3\u{e9} -", 1, LineWhy::BadNumber, "bad-number"),
+    (
+        "piece 18446744073709551616 - four",
+        1,
+        LineWhy::BadNumber,
+        "bad-number",
+    ),
+    ("piece 3 xyz", 1, LineWhy::BadKey, "bad-key"),
+    ("piece 3 xyz four", 1, LineWhy::BadKey, "bad-key"),
+    ("last 37fa213", 1, LineWhy::BadKey, "bad-key"),
+    ("last 37fa213d0", 1, LineWhy::BadKey, "bad-key"),
+    ("last 37fa213g", 1, LineWhy::BadKey, "bad-key"),
+    ("control -\r\n", 1, LineWhy::BadKey, "bad-key"),
+    ("last - four", 1, LineWhy::BadLength, "bad-length"),
+    ("last - Two", 1, LineWhy::BadLength, "bad-length"),
+    ("last - shortest", 1, LineWhy::BadLength, "bad-length"),
+    ("last -\nlast x\ncontrol", 2, LineWhy::BadKey, "bad-key"),
+];
+
+fn written<A: Allocator, W: Write>(writer: &mut W, plan: &Plan<A>) -> Result<(), Stop> {
+    write_plan(&mut Output::new(writer), plan)
+}
+
+#[test]
+fn plans_are_read_and_written(rt: HostRuntime) -> Result<(), Fail> {
+    let alloc = rt.alloc();
+    for (text, wanted) in PLANS.iter() {
+        let plan = read_plan(alloc, text.as_bytes())?;
+        let mut output = Vec::new(alloc);
+        written(&mut output, &plan)?;
+        assert_eq!(rt; output.as_slice(), wanted.as_bytes());
+    }
+    Ok(())
+}
+
+#[test]
+fn steps_are_those_of_the_lines(rt: HostRuntime) -> Result<(), Fail> {
+    let plan = read_plan(
+        rt.alloc(),
+        b"piece 3 -\ncontrol 00000001\nlast 37FA213D two",
+    )?;
+    let steps = [
+        Step::Piece {
+            len: 3,
+            key: None,
+            form: Form::Shortest,
+        },
+        Step::Control {
+            key: Some([0, 0, 0, 1]),
+        },
+        Step::Last {
+            key: Some([0x37, 0xfa, 0x21, 0x3d]),
+            form: Form::Two,
+        },
+    ];
+    assert_eq!(rt; plan.steps(), steps.as_slice());
+    Ok(())
+}
+
+#[test]
+fn the_first_fault_is_told(rt: HostRuntime) -> Result<(), Fail> {
+    let alloc = rt.alloc();
+    for (text, line, fault, word) in FAULTS.iter() {
+        let Err(told) = read_plan(alloc, text.as_bytes()) else {
+            return Err(Fail::from("a faulty text was read"));
+        };
+        let wanted = PlanFault::Line {
+            number: *line,
+            why: *fault,
+        };
+        assert_eq!(rt; told, wanted, "{text:?}");
+        let shown = format!(in alloc; "{told}")?;
+        let printed = format!(in alloc; "plan line {line}: {word}")?;
+        assert_eq!(rt; shown.as_str(), printed.as_str());
+    }
+    Ok(())
+}
+
+#[test]
+fn a_failed_write_is_told(rt: HostRuntime) -> Result<(), Fail> {
+    let alloc = rt.alloc();
+    let text = "piece 3 - two\ncontrol 00000001\nlast -\n";
+    let plan = read_plan(alloc, text.as_bytes())?;
+    for full in [Full::Fails, Full::TakesNothing] {
+        for room in 0..text.len() {
+            let mut writer = Narrow::new(alloc, 1, room, full);
+            let answer = written(&mut writer, &plan);
+            assert_eq!(rt; answer, Err(Stop::Write));
+            assert_eq!(rt; writer.taken.as_slice(), &text.as_bytes()[..room]);
+        }
+    }
+    Ok(())
+}
+
+/// Nine steps grow a plan three times.
+const NINE: &[u8] = b"last -\nlast -\nlast -\nlast -\nlast -\nlast -\nlast -\nlast -\nlast -\n";
+
+fn is_read<A: Allocator>(rt: &impl Abort, heap: A, text: &[u8], steps: usize) -> bool {
+    match read_plan(heap, text) {
+        Ok(plan) => {
+            assert_eq!(rt; plan.steps().len(), steps);
+            true
+        }
+        Err(fault) => {
+            assert_eq!(rt; fault, PlanFault::Memory);
+            false
+        }
+    }
+}
+
+#[test]
+fn refused_memory_is_told(rt: HostRuntime) -> Result<(), Fail> {
+    let alloc = rt.alloc();
+    let mut refused = 0u32;
+    let mut read = 0u32;
+    for size in 1..100usize {
+        let heap = LocalHeap::new(alloc, size * 16)?;
+        if is_read(&rt, &heap, NINE, 9) {
+            read = read.saturating_add(1);
+        } else {
+            refused = refused.saturating_add(1);
+        }
+    }
+    assert!(rt; refused > 20);
+    assert!(rt; read > 20);
+    Ok(())
+}
+
+/// A first line that spells no step needs no memory.
+#[test]
+fn a_fault_needs_no_memory(rt: HostRuntime) -> Result<(), Fail> {
+    let heap = LocalHeap::new(rt.alloc(), 32)?;
+    let fault = PlanFault::Line {
+        number: 1,
+        why: LineWhy::BadForm,
+    };
+    assert!(rt; matches!(read_plan(&heap, b"next -\n"), Err(told) if told == fault));
+    assert!(rt; !is_read(&rt, &heap, b"last -\n", 1));
+    Ok(())
+}

@@ -1,0 +1,237 @@
+//! Rows: streams that are written out, and what every engine must make of them. Each rule's file has its own.
+
+use crate::{close, fragmentation, heads, lengths, limits, masking, text};
+use std::alloc::Global;
+use std::process::Abort;
+use std::test::Fail;
+use wsn_scan::{INPUT_MAX, Limits, MESSAGE_MAX};
+use wsn_wire::{Lengths, Role};
+
+/// A stream, and what must come of it.
+#[derive(Clone, Copy, Debug)]
+pub struct Row {
+    pub name: &'static str,
+    pub role: Role,
+    pub under: Under,
+    pub bytes: &'static [u8],
+    /// What stands behind `bytes`.
+    pub fill: Fill,
+    /// What stands behind the fill.
+    pub last: &'static [u8],
+    /// The lines of its frames.
+    pub frames: &'static str,
+    /// Its frames' payload, unmasked, one's behind the other's, and then the fill's of the normal form. Where a frame
+    /// is refused in its payload, how much of that is told depends on the pieces, and nothing is said here.
+    pub payload: Option<&'static [u8]>,
+    /// The line of its verdict, or `input limit` where it is longer than an input may be.
+    pub verdict: &'static str,
+    /// The normal form of its events, and then the fill's.
+    pub normal: &'static [u8],
+}
+
+/// A byte many times over: so often in the stream, and so often in its normal form.
+#[derive(Clone, Copy, Debug)]
+pub struct Fill {
+    pub byte: u8,
+    pub count: usize,
+    pub normal: usize,
+}
+
+/// What a stream is read under.
+#[derive(Clone, Copy, Debug)]
+pub struct Under {
+    pub message: u32,
+    pub input: u64,
+    pub frames: Option<u32>,
+    pub lengths: Lengths,
+}
+
+/// The greatest limits, and the shortest lengths alone.
+pub const GREATEST: Under = Under {
+    message: MESSAGE_MAX,
+    input: INPUT_MAX,
+    frames: None,
+    lengths: Lengths::Shortest,
+};
+
+/// The greatest limits, and lengths in any spelling.
+pub const ANY_LENGTHS: Under = Under {
+    lengths: Lengths::Any,
+    ..GREATEST
+};
+
+/// Nothing, from a server.
+pub const SERVER: Row = Row {
+    name: "",
+    role: Role::Server,
+    under: GREATEST,
+    bytes: &[],
+    fill: Fill {
+        byte: 0,
+        count: 0,
+        normal: 0,
+    },
+    last: &[],
+    frames: "",
+    payload: None,
+    verdict: "accepted 0 tail 0 unfinished -",
+    normal: &[],
+};
+
+/// Nothing, from a client.
+pub const CLIENT: Row = Row {
+    role: Role::Client,
+    ..SERVER
+};
+
+/// The limits of a row.
+pub fn limits_under(under: &Under) -> Result<Limits, Fail> {
+    let limits = Limits::new(under.message, under.input)
+        .ok_or("out of range")?
+        .with_lengths(under.lengths);
+    match under.frames {
+        Some(frames) => Ok(limits.with_frames(frames).ok_or("no frame")?),
+        None => Ok(limits),
+    }
+}
+
+/// The greatest limits.
+pub fn greatest() -> Result<Limits, Fail> {
+    limits_under(&GREATEST)
+}
+
+/// A row in memory.
+#[derive(Debug, Drop)]
+pub struct Stream {
+    pub name: &'static str,
+    pub role: Role,
+    pub limits: Limits,
+    pub bytes: Vec<u8>,
+    pub frames: &'static str,
+    pub payload: Option<Vec<u8>>,
+    pub verdict: &'static str,
+    pub normal: Vec<u8>,
+}
+
+impl Stream {
+    pub fn new(alloc: Global, row: &Row) -> Result<Self, Fail> {
+        let Fill {
+            byte,
+            count,
+            normal,
+        } = row.fill;
+        let mut bytes = filled(alloc, row.bytes, byte, count)?;
+        bytes.extend_from_slice(row.last)?;
+        Ok(Stream {
+            name: row.name,
+            role: row.role,
+            limits: limits_under(&row.under)?,
+            bytes,
+            frames: row.frames,
+            payload: match row.payload {
+                Some(first) => Some(filled(alloc, first, byte, normal)?),
+                None => None,
+            },
+            verdict: row.verdict,
+            normal: filled(alloc, row.normal, byte, normal)?,
+        })
+    }
+
+    /// Whether it is longer than an input may be.
+    pub fn is_too_long(&self) -> bool {
+        self.verdict == "input limit"
+    }
+
+    pub fn is_accepted(&self) -> bool {
+        self.verdict.starts_with("accepted")
+    }
+
+    /// The exit status that its verdict calls for.
+    pub fn status(&self) -> u8 {
+        if self.is_too_long() {
+            2
+        } else if self.is_accepted() {
+            0
+        } else {
+            1
+        }
+    }
+
+    /// The offset of the byte that tells its answer, whatever follows: a refusal's place, or the first byte that an
+    /// input may not have.
+    fn told_at(&self) -> Result<Option<u64>, Fail> {
+        if self.is_too_long() {
+            return Ok(Some(self.limits.input()));
+        }
+        let mut words = self.verdict.split(' ');
+        if words.next() != Some("refused") {
+            return Ok(None);
+        }
+        let place = words.next().ok_or("no place")?;
+        Ok(Some(place.parse::<u64>()?))
+    }
+
+    /// Whether so many of its bytes tell its answer, whatever follows.
+    pub fn is_told_by(&self, count: usize) -> Result<bool, Fail> {
+        match self.told_at()? {
+            Some(place) => Ok(place < count as u64),
+            None => Ok(false),
+        }
+    }
+
+    /// What its first bytes are: so many as one may wish in a short stream, the fewest and the most in a long one.
+    pub fn fronts(&self, alloc: Global) -> Result<Vec<&[u8]>, Fail> {
+        let len = self.bytes.len();
+        let mut fronts = Vec::new(alloc);
+        for count in 0..=len {
+            if count <= 200 || count.saturating_add(3) > len {
+                fronts.push(&self.bytes[..count])?;
+            }
+        }
+        Ok(fronts)
+    }
+
+    /// Fails unless this is the line of its verdict.
+    pub fn expect(&self, rt: &impl Abort, line: &str, how: &str, size: usize) {
+        let name = self.name;
+        assert_eq!(rt; line, self.verdict, "{name}: {how} {size}");
+    }
+}
+
+/// The first bytes, and one byte so many times behind them.
+pub fn filled(alloc: Global, first: &[u8], byte: u8, count: usize) -> Result<Vec<u8>, Fail> {
+    let mut bytes = first.to_vec(alloc)?;
+    for _ in 0..count {
+        bytes.push(byte)?;
+    }
+    Ok(bytes)
+}
+
+/// All rows, in memory.
+pub fn streams(alloc: Global) -> Result<Vec<Stream>, Fail> {
+    let mut streams = Vec::new(alloc);
+    for rows in [
+        heads::ROWS.as_slice(),
+        masking::ROWS.as_slice(),
+        fragmentation::ROWS.as_slice(),
+        text::ROWS.as_slice(),
+        close::ROWS.as_slice(),
+        lengths::ROWS.as_slice(),
+        limits::ROWS.as_slice(),
+    ] {
+        for row in rows.iter() {
+            streams.push(Stream::new(alloc, row)?)?;
+        }
+    }
+    Ok(streams)
+}
+
+/// A row in memory, by its name.
+pub fn stream_named(alloc: Global, name: &str) -> Result<Stream, Fail> {
+    for stream in streams(alloc)? {
+        if stream.name == name {
+            return Ok(stream);
+        }
+    }
+    Err("no such row")?
+}

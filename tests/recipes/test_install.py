@@ -1,0 +1,139 @@
+"""./install, the man page and the completions."""
+
+import os
+import pty
+import re
+import select
+import shutil
+import subprocess
+import time
+
+from harness import SECONDS, TOP, WSN, Failed, needs, run, same, test, want
+
+FILES = ["bin/wsn", "share/bash-completion/completions/wsn", "share/man/man1/wsn.1", "share/zsh/site-functions/_wsn"]
+
+
+def environment():
+    """Where the program is built already."""
+    return {**os.environ, "WSN": str(program())}
+
+
+def program():
+    """The built program, behind the launcher."""
+    if WSN != str(TOP / "wsn"):
+        return WSN
+    run(WSN, "--help")
+    return TOP / "crates/wsn/out/wsn"
+
+
+@test
+def install_copies_and_removes(folder):
+    """Into a folder with a blank in its name, by a relative name too; again; and away, beside other files."""
+    prefix = folder / "a prefix"
+    for words in [prefix], ["a prefix/"]:
+        run(TOP / "install", *words, cwd=folder, env=environment())
+        found = sorted(str(path.relative_to(prefix)) for path in prefix.rglob("*") if path.is_file())
+        same(found, FILES, "the files")
+    same(run(prefix / "bin/wsn", "judge", "--role", "server", input=b"")[0][:8], b"accepted", "the program")
+    (prefix / "bin/other").write_text("")
+    run(TOP / "install", "--remove", "a prefix", cwd=folder)
+    same([path.name for path in prefix.rglob("*") if path.is_file()], ["other"], "what is left")
+    for words in [], ["--remove"], ["--remove", folder / "nowhere"], ["-x"], [folder, folder], [""]:
+        run(TOP / "install", *words, status=2, env=environment())
+    (folder / "file").write_text("")
+    run(TOP / "install", folder / "file", status=2, env=environment())
+
+
+@test
+def man_page_is_clean(folder):
+    """Neither mandoc nor groff has anything to say of it."""
+    needs("mandoc", "groff")
+    page = TOP / "share/man/man1/wsn.1"
+    same(run("mandoc", "-Tlint", "-Wwarning", page), (b"", b""), "mandoc")
+    same(run("groff", "-ww", "-z", "-mandoc", page), (b"", b""), "groff")
+    shown = re.sub(".\x08", "", run("mandoc", "-Tascii", "-Owidth=80", page)[0].decode())
+    same([line for line in shown.splitlines() if len(line) > 80], [], "wide lines")
+
+
+def helped(*words):
+    """The commands and options that help tells."""
+    text = run(program(), *words, "--help")[0].decode()
+    commands = re.search(r"^Commands:\n((?: .*\n|\n)*)", text, re.MULTILINE)
+    found = re.findall(r"^  (\w+)", commands[1], re.MULTILINE) if commands else []
+    return found, set(re.findall(r"(?<![-\w])--[a-z]+", text))
+
+
+@test
+def pages_have_all_that_help_tells(folder):
+    """Each command and option stands in the man page and in both completions."""
+    text = {name: (TOP / name).read_text(encoding="utf-8").replace("Fl \\-", "--") for name in FILES[1:]}
+    commands, options = helped()
+    for command in commands:
+        if command != "help":
+            options |= helped(command)[1]
+    for name, page in text.items():
+        missing = [word for word in [*commands, *sorted(options)] if not re.search(rf"(?<![-\w]){word}\b", page)]
+        if name.startswith("share/man"):
+            missing = [word for word in missing if word != "help"]
+        same(missing, [], f"{name} lacks")
+
+
+def typed(shell, setup, keys, wanted):
+    """What an interactive shell shows once keys are typed, up to what is wanted."""
+    process, terminal = pty.fork()
+    if process == 0:
+        os.environ.update(TERM="dumb", PS1="", HISTFILE="/dev/null")
+        os.execvp(shell[0], shell)
+    shown = b""
+    try:
+        os.write(terminal, setup.encode() + b"echo set''up\n")
+        for mark, then in (b"setup", keys.encode()), (wanted.encode(), b""):
+            limit = time.monotonic() + SECONDS / 4
+            while mark not in shown:
+                if not select.select([terminal], [], [], max(0, limit - time.monotonic()))[0]:
+                    raise Failed(f"{shell[0]} never shows {mark!r}: {shown[-600:]!r}")
+                shown += os.read(terminal, 65536)
+            shown = b""
+            os.write(terminal, then)
+    finally:
+        os.close(terminal)
+        os.waitpid(process, 0)
+
+
+SAYS = "wsn() { printf 'GOT'; printf ' <%s>' \"$@\"; echo; }\n"
+TYPED = [
+    ("wsn ju\t--ro\tser\t--lengths a\t\n", "GOT <judge> <--role> <server> <--lengths> <any>"),
+    ("wsn same --role cl\tthe\\ o\tthe\\ o\t\n", "GOT <same> <--role> <client> <the one> <the one>"),
+]
+
+
+@test
+def completion_in_bash(folder):
+    """Commands, options, values and files are completed at a terminal."""
+    needs("bash")
+    (folder / "the one").write_text("")
+    source = TOP / "share/bash-completion/completions/wsn"
+    for keys, wanted in TYPED:
+        typed(["bash", "--norc", "--noprofile", "-i"], f"cd '{folder}'; . '{source}'\n{SAYS}", keys, wanted)
+
+
+@test
+def completion_in_zsh(folder):
+    """The same in zsh, which joins an option and its value by `=`."""
+    needs("zsh")
+    (folder / "the one").write_text("")
+    functions = TOP / "share/zsh/site-functions"
+    setup = f"cd '{folder}'; fpath=('{functions}' $fpath); autoload -U compinit; compinit -u -D\n{SAYS}"
+    for keys, wanted in TYPED:
+        keys, wanted = keys.replace("--role cl", "--role=cl"), wanted.replace("--role> <", "--role=")
+        typed(["zsh", "-f", "-i"], setup, keys, wanted)
+
+
+@test
+def scripts_are_clean(folder):
+    """shellcheck has nothing to say."""
+    needs("shellcheck")
+    run("shellcheck", TOP / "recipes/pcap2wsn", TOP / "install")
+    run("shellcheck", "-s", "bash", TOP / "share/bash-completion/completions/wsn")
+    if shutil.which("busybox"):
+        subprocess.run(["busybox", "sh", "-n", str(TOP / "recipes/pcap2wsn")], check=True)

@@ -1,0 +1,182 @@
+"""docs/RECIPES.md: each command of the page, with what the page says that it prints.
+
+A block ```console has commands behind `$ ` (further lines behind `> `), and what they print, on either stream. `..`
+stands for anything, within a line or, alone, for lines. A command that ends with ` &` runs to the end of the page.
+Comments of the page say what stands around a block: `serve KIND PORT` and `talk KIND URL` (see peers.py), and
+`wants COMMAND` where a block is for a command of wsn that may not be known yet.
+"""
+
+import contextlib
+import os
+import re
+import shutil
+import signal
+import socket
+import subprocess
+import tempfile
+import time
+
+from harness import HERE, SECONDS, TOP, WSN, Failed, Skipped, python_with_websockets, run, started, test, wait_for
+
+# Words of a command, and the program that it needs for them.
+NEEDS = {"pcap2wsn": "tshark", "tshark": "tshark", "text2pcap": "text2pcap", "socat": "socat", "jq": "jq",
+         "mitmdump": "mitmdump", "xxd": "xxd"}  # fmt: skip
+
+# The names of what a command writes.
+WRITES = r"(?:> |-R |^recipes/record .* )([\w.]+)"
+
+
+def parts_of(page):
+    """The page's sections, comments and commands, in order: a kind, its words, and what a command prints."""
+    pattern = r"^##+ (.*?)$|^<!-- (.*?) -->$|^```console\n(.*?)^```$"
+    for section, comment, block in re.findall(pattern, page, re.MULTILINE | re.DOTALL):
+        if section:
+            yield "section", section, ""
+        if comment:
+            yield comment.split(" ", 1)[0], comment.split(" ", 1)[1], ""
+        for command, printed in re.findall(r"^\$ (.*\n(?:> .*\n|>\n)*)((?:(?!\$ ).*\n)*)", block, re.MULTILINE):
+            yield "command", re.sub(r"^> ?", "", command, flags=re.MULTILINE).rstrip("\n"), printed
+
+
+def fits(printed, wanted):
+    """Whether what was printed is what the page says."""
+    pattern = "".join(".*" if part == ".." else re.escape(part) for part in re.split(r"(\.\.(?=[^.]|$))", wanted))
+    return re.fullmatch(pattern, printed, re.DOTALL if "\n..\n" in wanted else 0) is not None
+
+
+def known(command):
+    """Whether wsn has a command."""
+    return subprocess.run([WSN, command, "--help"], capture_output=True, check=False).returncode == 0
+
+
+class Page:
+    """The page while it is run."""
+
+    def __init__(self, folder, stack):
+        self.folder = folder
+        self.stack = stack
+        self.done = 0
+        self.skipped = {}
+        self.missing = ""  # What the section's commands lack, once one was skipped.
+        self.wanted = set()
+        self.lost = set()  # Names of what skipped commands would have written.
+        for name in "recipes", "tests":
+            (folder / name).symlink_to(TOP / name)
+        (folder / "wsn").symlink_to(WSN)
+
+    def section(self, _title):
+        """Sections stand for themselves, but for the files that they read."""
+        self.missing = ""
+
+    def skip(self, words, why):
+        """Notes what isn't run, and what it would have written."""
+        self.missing = why
+        self.skipped.setdefault(why, []).append(words.split("\n")[0])
+        self.lost |= set(re.findall(WRITES, words))
+
+    def lacks(self, kind, words):
+        """What is missing here for a command or a comment."""
+        for word, program in NEEDS.items():
+            if kind == "command" and re.search(rf"\b{word}\b", words) and not shutil.which(program):
+                return f"without {program}"
+        reads = re.sub(WRITES, "", words)
+        if kind == "command" and any(re.search(rf"(?<![\w/]){name}\b", reads) for name in self.lost):
+            return self.missing or "without what skipped ones write"
+        for command in re.findall(r"\./wsn (\w+)", words) if kind == "command" else []:
+            if command in self.wanted and not known(command):
+                return f"wsn {command} isn't known"
+        return self.missing
+
+    def wants(self, command):
+        """A command of wsn that may not be known yet."""
+        self.wanted.add(command)
+
+    def serve(self, words):
+        """A server of the page's."""
+        kind, port = words.split()
+        with socket.socket() as free:
+            free.setsockopt(socket.SOL_SOCKET, socket.SO_REUSEADDR, 1)
+            try:
+                free.bind(("127.0.0.1", int(port)))
+            except OSError as error:
+                raise Skipped(f"port {port} of this machine is taken") from error
+        python = python_with_websockets()
+        self.stack.enter_context(started(python, HERE / "peers.py", "serve", kind, "127.0.0.1", port, line="ready"))
+
+    def talk(self, words):
+        """A client of the page's, once the proxy that it talks to listens."""
+        port = int(re.search(r":(\d+)/", words)[1])
+        wait_for(lambda: f":{port:04X} " in listening(), f"a proxy on port {port}")
+        run(python_with_websockets(), HERE / "peers.py", "talk", *words.split())
+        time.sleep(1)
+
+    def command(self, command, wanted):
+        """One command of the page."""
+        self.lost -= set(re.findall(WRITES, command))
+        if command.endswith(" &"):
+            self.background(command[:-2], wanted)
+        else:
+            done = subprocess.run(["sh", "-c", command], cwd=self.folder, stdout=subprocess.PIPE, check=False,
+                                  stderr=subprocess.STDOUT, timeout=SECONDS)  # fmt: skip
+            printed = done.stdout.decode()
+            if not fits(without_root(printed), wanted):
+                raise Failed(f"{command!r} prints {printed!r}, and the page says {wanted!r}")
+        self.done += 1
+
+    def background(self, command, wanted):
+        """A command that goes on; it has the time to print what it does."""
+        output = self.stack.enter_context(tempfile.TemporaryFile())
+        process = subprocess.Popen(["sh", "-c", f"exec {command}"], cwd=self.folder, stdout=output, stderr=output,
+                                   start_new_session=True)  # fmt: skip
+        self.stack.callback(stop, process)
+
+        def printed():
+            return os.pread(output.fileno(), 65536, 0).decode()
+
+        wait_for(lambda: len(printed()) >= len(wanted.replace("..", "")), command)
+        if wanted and not fits(printed(), wanted):
+            raise Failed(f"{command!r} prints {printed()!r}, and the page says {wanted!r}")
+
+
+def stop(process):
+    """Ends a command in the background."""
+    with contextlib.suppress(ProcessLookupError):
+        os.killpg(process.pid, signal.SIGTERM)
+    process.wait(SECONDS)
+
+
+def listening():
+    """The system's list of TCP sockets that listen."""
+    text = ""
+    for name in "/proc/net/tcp", "/proc/net/tcp6":
+        with contextlib.suppress(OSError), open(name, encoding="ascii") as file:
+            text += "".join(line for line in file if " 0A " in line)
+    return text
+
+
+def without_root(printed):
+    """tshark warns a superuser."""
+    return re.sub(r"^Running as user .*\n", "", printed, flags=re.MULTILINE)
+
+
+@test
+def page_says_what_its_commands_print(folder):
+    """All of docs/RECIPES.md."""
+    page_text = (TOP / "docs/RECIPES.md").read_text(encoding="utf-8")
+    with contextlib.ExitStack() as stack:
+        page = Page(folder, stack)
+        for kind, words, printed in parts_of(page_text):
+            if kind in ("section", "wants"):
+                getattr(page, kind)(words)
+            elif page.lacks(kind, words):
+                page.skip(words, page.lacks(kind, words))
+            elif kind == "command":
+                page.command(words, printed)
+            else:
+                try:
+                    getattr(page, kind)(words)
+                except Skipped as skipped:
+                    page.skip(words, str(skipped))
+    print(f"        {page.done} commands of the page ran", flush=True)
+    for why, commands in page.skipped.items():
+        print(f"        {len(commands)} skipped, {why}: {'; '.join(each[:50] for each in commands)}", flush=True)

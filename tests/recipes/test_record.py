@@ -1,0 +1,229 @@
+"""recipes/record: what it writes and passes on, with peers that are plain sockets, whose bytes are known."""
+
+import contextlib
+import signal
+import socket
+import struct
+import threading
+
+from harness import SECONDS, TOP, Failed, free_port, run, same, sides, started, test, wait_for, want
+
+ASK = b"GET /chat?x=1 HTTP/1.1\r\nHost: localhost:1\r\nUpgrade: websocket\r\nConnection: Upgrade\r\n\r\n"
+OFFER = ASK[:-2] + b"sec-websocket-extensions: permessage-deflate\r\nX: y\r\n\r\n"
+ANSWER = b"HTTP/1.1 101 Switching Protocols\r\nUpgrade: websocket\r\nConnection: Upgrade\r\n\r\n"
+RESET = struct.pack("ii", 1, 0)
+
+
+class Sessions:
+    """A proxy, and a server that gives out its connections."""
+
+    def __init__(self, stack, folder, *words, path="", end=signal.SIGINT):
+        self.listener = stack.enter_context(socket.create_server(("127.0.0.1", 0)))
+        self.listener.settimeout(SECONDS)
+        self.stack = stack
+        self.folder = folder / "recordings"
+        self.port = free_port()
+        self.server_port = self.listener.getsockname()[1]
+        url = f"ws://127.0.0.1:{self.server_port}{path}"
+        words = [TOP / "recipes/record", *words, str(self.port), url, self.folder]
+        self.proxy = stack.enter_context(started(*words, line="listening", stream="stderr", end=end))
+
+    def connect(self):
+        """A client's connection to the proxy, and the server's that comes of it."""
+        client = self.stack.enter_context(socket.create_connection(("127.0.0.1", self.port), SECONDS))
+        server, _ = self.listener.accept()
+        server.settimeout(SECONDS)
+        return client, self.stack.enter_context(server)
+
+    def open(self, ask=ASK, answer=ANSWER):
+        """The same behind a handshake."""
+        client, server = self.connect()
+        client.sendall(ask)
+        asked = until(server, b"\r\n\r\n")
+        server.sendall(answer)
+        same(until(client, b"\r\n\r\n"), answer, "the answer")
+        return client, server, asked
+
+    def recorded(self, number=1):
+        """What was recorded, once that is over."""
+        name = f"{number:04}.capture"
+        over = (f"{name}: ended", f"{name}: reset")
+        wait_for(lambda: any(word in line for line in self.proxy.said for word in over), f"the end of {name}")
+        return (self.folder / name).read_bytes()
+
+
+@contextlib.contextmanager
+def sessions(folder, *words, **options):
+    with contextlib.ExitStack() as stack:
+        yield Sessions(stack, folder, *words, **options)
+
+
+def until(connection, mark):
+    """What comes up to a mark."""
+    data = b""
+    while not data.endswith(mark):
+        piece = connection.recv(1)
+        if not piece:
+            raise Failed(f"the connection ended behind {data!r}")
+        data += piece
+    return data
+
+
+def exactly(connection, count):
+    """So many bytes that come."""
+    data = bytearray()
+    while len(data) < count:
+        piece = connection.recv(min(65536, count - len(data)))
+        if not piece:
+            raise Failed(f"the connection ended behind {len(data)} of {count} bytes")
+        data += piece
+    return bytes(data)
+
+
+@test
+def record_writes_lines_as_bytes_pass(folder):
+    """Each line stands before the connection ends; then an end of either side alone."""
+    with sessions(folder) as all_sessions:
+        client, server, asked = all_sessions.open()
+        same(asked, ASK.replace(b"localhost:1", f"127.0.0.1:{all_sessions.server_port}".encode()), "the request")
+        path = all_sessions.folder / "0001.capture"
+        client.sendall(b"\x81\x80abcd")
+        same(exactly(server, 6), b"\x81\x80abcd", "what the server got")
+        wait_for(lambda: path.read_bytes() == b"C 818061626364\n", "the client's line")
+        server.sendall(b"\x88\x00")
+        server.shutdown(socket.SHUT_WR)
+        same(exactly(client, 2), b"\x88\x00", "what the client got")
+        same(client.recv(1), b"", "the end")
+        wait_for(lambda: path.read_bytes() == b"C 818061626364\nS 8800\nS.\n", "the server's end")
+        client.sendall(b"\x88\x80abcd")
+        same(exactly(server, 6), b"\x88\x80abcd", "what the server got behind its end")
+        client.close()
+        same(server.recv(1), b"", "the client's end")
+        wanted = b"C 818061626364\nS 8800\nS.\nC 888061626364\nC.\n"
+        same(all_sessions.recorded(), wanted, "the capture")
+
+
+@test
+def record_takes_frames_beside_the_handshake(folder):
+    """Frames in one segment with the heads belong to the capture, and long ones are parted into lines."""
+    with sessions(folder) as all_sessions:
+        client, server = all_sessions.connect()
+        client.sendall(ASK + b"\x81\x80abcd")
+        until(server, b"\r\n\r\n")
+        server.sendall(ANSWER + b"\x81\x00")
+        until(client, b"\r\n\r\n")
+        exactly(server, 6)
+        exactly(client, 2)
+        data = bytes(range(256)) * 8192
+        both = [threading.Thread(target=each.sendall, args=(data,)) for each in (client, server)]
+        for thread in both:
+            thread.start()
+        same(exactly(server, len(data)), data, "what the server got")
+        same(exactly(client, len(data)), data, "what the client got")
+        for thread in both:
+            thread.join(SECONDS)
+        client.close()
+        server.close()
+        wanted = b"\x81\x80abcd" + data, b"\x81\x00" + data, {"C", "S"}
+        same(sides(all_sessions.recorded()), wanted, "the capture")
+
+
+@test
+def record_passes_resets_on(folder):
+    """A reset of either side: what was sent before it, then a reset, and two end marks."""
+    with sessions(folder) as all_sessions:
+        for number, who in enumerate("CS", 1):
+            pair = all_sessions.open()[:2]
+            one, other = pair if who == "C" else pair[::-1]
+            one.sendall(b"\x81\x00")
+            same(exactly(other, 2), b"\x81\x00", "what came before the reset")
+            one.setsockopt(socket.SOL_SOCKET, socket.SO_LINGER, RESET)
+            one.close()
+            try:
+                other.recv(1)
+                raise Failed("an end and no reset")
+            except ConnectionResetError:
+                pass
+            lines = all_sessions.recorded(number)
+            same(lines.splitlines()[0], f"{who} 8100".encode(), "the first line")
+            same(sorted(lines.splitlines()[1:]), [b"C.", b"S."], "the end marks")
+
+
+@test
+def record_takes_out_the_offer(folder):
+    """--plain takes the offer of extensions out; without it the offer stays and what is agreed on is told."""
+    with sessions(folder, "--plain") as all_sessions:
+        asked = all_sessions.open(OFFER)[2]
+        want(b"deflate" not in asked and asked.endswith(b"\r\nX: y\r\n\r\n"), f"the request: {asked!r}")
+    with sessions(folder, path="/other?y") as all_sessions:
+        agreed = ANSWER[:-2] + b"Sec-WebSocket-Extensions: permessage-deflate\r\n\r\n"
+        asked = all_sessions.open(OFFER, agreed)[2]
+        want(b"permessage-deflate" in asked, f"the request: {asked!r}")
+        want(asked.startswith(b"GET /other?y HTTP/1.1\r\n"), f"the URL's path: {asked!r}")
+        wait_for(lambda: any("permessage-deflate" in line for line in all_sessions.proxy.said), "the warning")
+
+
+@test
+def record_passes_other_answers_on(folder):
+    """Requests with bodies and other answers come before the handshake on the same connection."""
+    with sessions(folder) as all_sessions:
+        client, server = all_sessions.connect()
+        post = b"POST / HTTP/1.1\r\nHost: x\r\nContent-Length: 4\r\n\r\n\r\n\r\n"
+        client.sendall(post)
+        until(server, b"\r\n\r\n")
+        exactly(server, 4)
+        refusal = b"HTTP/1.1 401 Unauthorized\r\nTransfer-Encoding: chunked\r\n\r\n4\r\n\r\n\r\n\r\n0\r\n\r\n"
+        server.sendall(refusal)
+        same(exactly(client, len(refusal)), refusal, "the refusal")
+        client.sendall(ASK)
+        until(server, b"\r\n\r\n")
+        server.sendall(ANSWER + b"\x88\x00")
+        same(exactly(client, len(ANSWER) + 2), ANSWER + b"\x88\x00", "the answer")
+        client.close()
+        server.close()
+        same(sides(all_sessions.recorded()), (b"", b"\x88\x00", {"C", "S"}), "the capture")
+
+
+@test
+def record_keeps_files_whole_when_it_stops(folder):
+    """Ctrl-C amid a session: status 0, whole lines, no end marks. Files that are there stay as they are."""
+    (folder / "recordings").mkdir()
+    (folder / "recordings" / "0001.capture").write_text("# kept\n")
+    with contextlib.ExitStack() as stack:
+        all_sessions = Sessions(stack, folder)
+        client, server, _ = all_sessions.open()
+        sending = threading.Thread(target=flood, args=(client,), daemon=True)
+        sending.start()
+        exactly(server, 3_000_000)
+        all_sessions.proxy.send_signal(signal.SIGINT)
+        same(all_sessions.proxy.wait(SECONDS), 0, "the status")
+        lines = (folder / "recordings" / "0002.capture").read_bytes()
+        want(lines.endswith(b"\n"), "the last line isn't whole")
+        data, _, ended = sides(lines)
+        want(len(data) >= 3_000_000 and set(data) == {7} and not ended, "the capture")
+        same((folder / "recordings" / "0001.capture").read_text(), "# kept\n", "an older file")
+
+
+def flood(connection):
+    """Sends until it can't."""
+    with contextlib.suppress(OSError):
+        while True:
+            connection.sendall(b"\x07" * 65536)
+
+
+@test
+def record_tells_what_it_wants(folder):
+    """Words that it doesn't take: status 2. A server that isn't there: 502."""
+    for words, said in (
+        ([], b"Listens on PORT"),
+        (["x", "ws://localhost", folder], b"[ADDRESS:]PORT"),
+        ([str(free_port()), "http://localhost", folder], b"ws://HOST"),
+        ([str(free_port()), "ws://localhost", "/dev/null/x"], b"/dev/null"),
+    ):
+        want(said in run(TOP / "recipes/record", *words, status=2)[1], f"{words}")
+    port = free_port()
+    words = [TOP / "recipes/record", port, f"ws://127.0.0.1:{free_port()}", folder]
+    with started(*words, line="listening", stream="stderr"):
+        with socket.create_connection(("127.0.0.1", port), SECONDS) as client:
+            want(until(client, b"\r\n\r\n").startswith(b"HTTP/1.1 502 "), "no 502")
+    same(list(folder.iterdir()), [], "files")
