@@ -1,9 +1,8 @@
 -- One event source at work: what a call gives behind the events that it has given.
 use Rattle.std.proofs.Common.{◌≡◌, ℕ, ◌+◌, ◌<◌, ◌≤◌, ◌⊎◌, false, None, Some, Result, Ok, Err, List, [], ◌∷◌, ◌++◌, length, inl, inr, refl, sym, ap, ◌∙◌, subst, arith}
 use Rattle.std.proofs.KnownBytes.{Consumes-trans, Consumes-nil}
-use Rattle.std.specs.Io.KnownBytes.{Consumes}
 use Rattle.wsn_wire.specs.declared.endpoint.Role.{Role}
-use Rattle.wsn_wire.specs.Transfer.{Incoming}
+use Rattle.wsn_wire.specs.Transfer.{Incoming, IsReceived}
 use Rattle.wsn_rules.specs.declared.verdict.Verdict.{Verdict}
 use Rattle.wsn_scan.specs.declared.stop.Stop.{Stop}
 use Rattle.wsn_rules.specs.Limits.{Limits}
@@ -26,8 +25,7 @@ IsDone role limits now reading came given verdict = (answered reading ≡ Some (
 
 -- A source, the bytes that came and the events that it has given.
 pub record HasFollowed {A : Type 0} (role : Role) (limits : Limits) (old now : Incoming) (reading : Reading A) (came : List ℕ) (given : List MeantEvent) : Type 0 where
-  pub consumed : Consumes old.remaining now.remaining came
-  pub few : length came ≤ limits.input + 1
+  pub received : IsReceived (limits.input + 1) old now came
   pub state : IsGoing role limits now reading came given ⊎ ((verdict : Verdict) × IsDone role limits now reading came given verdict)
 
 -- What a source gave in a round, behind the events that it had given.
@@ -46,7 +44,7 @@ pub record HasGivenNext {A : Type 0} (role : Role) (limits : Limits) (old new : 
 
 module _ (role : Role) (limits : Limits) where
   pub begins : {A : Type 0} (input : Incoming) (reading : Reading A) → HasGiven role limits reading [] [] → input.failed ≡ false → HasFollowed role limits input input reading [] []
-  begins input reading has unfailed = record { consumed = Consumes-nil input.remaining; few = omega arith; state = inl (has, unfailed) }
+  begins input reading has unfailed = record { received = record { consumed = Consumes-nil input.remaining; few = omega arith }; state = inl (has, unfailed) }
 
   -- One call of a source.
   module _ {A : Type 0} (old mid new : Incoming) (before reading : Reading A) (came : List ℕ) (given : List MeantEvent) (result : Result (Next A) Stop)
@@ -54,8 +52,8 @@ module _ (role : Role) (limits : Limits) where
       (next : HasGiven role limits before came given → GoesOn role limits mid new reading came given result)
       (falls : IsEvent result → left_of reading < left_of before)
       (again : (answer : Result Verdict Stop) → answered before ≡ Some answer → (result ≡ next_of answer) × (reading ≡ before) × (new ≡ mid)) where
-    all_consumed : (more : List ℕ) → Consumes mid.remaining new.remaining more → Consumes old.remaining new.remaining (came ++ more)
-    all_consumed more consumed = Consumes-trans old.remaining mid.remaining new.remaining came more followed.consumed consumed
+    received : (went : GoesOn role limits mid new reading came given result) → IsReceived (limits.input + 1) old new (came ++ went.more)
+    received went = record { consumed = Consumes-trans old.remaining mid.remaining new.remaining came went.more followed.received.consumed went.consumed; few = went.few }
 
     goes_on : HasGiven role limits before came given → (n : Next A) → result ≡ Ok n → HasGivenNext role limits old new before reading given n
     goes_on has (nexts.Event event) is =
@@ -64,7 +62,7 @@ module _ (role : Role) (limits : Limits) where
         record {
           came = came ++ went.more;
           events = given ++ meant event ∷ [];
-          followed = record { consumed = all_consumed went.more went.consumed; few = went.few; state = inl (now.0, now.2) };
+          followed = record { received = received went; state = inl (now.0, now.2) };
           gives = (refl, has.going, now.0.going, falls (subst (λ (r : Result (Next A) Stop). IsEvent r) (sym is) tt));
         }
     goes_on has (nexts.Done verdict) is =
@@ -73,7 +71,7 @@ module _ (role : Role) (limits : Limits) where
         record {
           came = came ++ went.more;
           events = given;
-          followed = record { consumed = all_consumed went.more went.consumed; few = went.few; state = inr (verdict, (now.1, now.0)) };
+          followed = record { received = received went; state = inr (verdict, (now.1, now.0)) };
           gives = (refl, (now.1, now.0));
         }
 
@@ -102,16 +100,16 @@ module _ (role : Role) (limits : Limits) where
     pub gives_next : (n : Next A) → result ≡ Ok n → HasGivenNext role limits old new before reading given n
     gives_next n is = elim followed.state [ inl going ↦ goes_on going.0 n is | inr done ↦ stays done.0 done.1 n is ]
 
-    pub stops : (stop : Stop) → result ≡ Err stop → (all : List ℕ) × Consumes old.remaining new.remaining all × (length all ≤ limits.input + 1) × HasStopped role limits new all stop
+    pub stops : (stop : Stop) → result ≡ Err stop → (all : List ℕ) × IsReceived (limits.input + 1) old new all × HasStopped role limits new all stop
     stops stop is = elim followed.state [ inl going ↦ halts going.0 | inr done ↦ never done.0 done.1 ]
       where
-        halts : HasGiven role limits before came given → (all : List ℕ) × Consumes old.remaining new.remaining all × (length all ≤ limits.input + 1) × HasStopped role limits new all stop
+        halts : HasGiven role limits before came given → (all : List ℕ) × IsReceived (limits.input + 1) old new all × HasStopped role limits new all stop
         halts has =
             let went = next has in
             let now = subst (λ (r : Result (Next A) Stop). IsNext role limits new reading (came ++ went.more) given r) is went.next in
-            (came ++ went.more, all_consumed went.more went.consumed, went.few, (given, now.0))
+            (came ++ went.more, received went, (given, now.0))
 
-        never : (verdict : Verdict) → IsDone role limits mid before came given verdict → (all : List ℕ) × Consumes old.remaining new.remaining all × (length all ≤ limits.input + 1) × HasStopped role limits new all stop
+        never : (verdict : Verdict) → IsDone role limits mid before came given verdict → (all : List ℕ) × IsReceived (limits.input + 1) old new all × HasStopped role limits new all stop
         never verdict done =
             let reported = again (Ok verdict) done.0 in
             let both : Err stop ≡ Ok (nexts.Done verdict) = sym is ∙ reported.0 in absurd cc

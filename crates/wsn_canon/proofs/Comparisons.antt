@@ -1,8 +1,7 @@
 -- What the comparison of two streams answers, at each way out of its rounds.
 use Rattle.std.proofs.Common.{◌≡◌, ℕ, ◌+◌, ◌≤◌, Option, None, Some, true, false, Ok, Err, List, length, inl, inr, refl, sym, subst}
-use Rattle.std.specs.Io.KnownBytes.{Consumes}
 use Rattle.wsn_wire.specs.declared.endpoint.Role.{Role}
-use Rattle.wsn_wire.specs.Transfer.{Incoming}
+use Rattle.wsn_wire.specs.Transfer.{Incoming, IsReceived}
 use Rattle.wsn_rules.specs.declared.verdict.Summary.{Summary}
 use Rattle.wsn_rules.specs.declared.verdict.Verdict.{Verdict}
 use Rattle.wsn_rules.specs.declared.verdict.Verdict.TheVariants.{Accepted, Cut, Refused}
@@ -50,11 +49,9 @@ module _ {A : Type 0} (role : Role) (limits : Limits) where
       let first = first_difference before other_before index given other_given difference so_far in
       record {
         came = one.came;
-        consumed = one.followed.consumed;
-        few = one.followed.few;
+        received = one.followed.received;
         other_came = two.came;
-        other_consumed = two.followed.consumed;
-        other_few = two.followed.few;
+        other_received = two.followed.received;
         answer = reported role limits new one.came one.events other_new two.came two.events last other_last (same_difference given one.events other_given two.events difference one.gives.0 two.gives.0 first);
       }
   compares old other_old new other_new before reading other_before other given other_given (nexts.Done v) (nexts.Event event) one two index difference so_far verdict other_verdict is result reported = absurd is
@@ -63,30 +60,26 @@ module _ {A : Type 0} (role : Role) (limits : Limits) where
 
   -- the first stream has stopped
   pub first_stops : (old new other_old other_new : Incoming) (other : Reading A) (other_came : List ℕ) (other_given : List MeantEvent) → HasFollowed role limits other_old other_new other other_came other_given
-      → (stop : Stop) → (all : List ℕ) × Consumes old.remaining new.remaining all × (length all ≤ limits.input + 1) × HasStopped role limits new all stop
+      → (stop : Stop) → (all : List ℕ) × IsReceived (limits.input + 1) old new all × HasStopped role limits new all stop
       → IsCompared role limits old new other_old other_new (Err stop)
   first_stops old new other_old other_new other other_came other_given followed stop stops = record {
     came = stops.0;
-    consumed = stops.1;
-    few = stops.2;
+    received = stops.1;
     other_came = other_came;
-    other_consumed = followed.consumed;
-    other_few = followed.few;
-    answer = inl stops.3;
+    other_received = followed.received;
+    answer = inl stops.2;
   }
 
   -- the second stream has stopped
   pub second_stops : (old new other_old other_new : Incoming) (before reading : Reading A) (given : List MeantEvent) (next : Next A) → HasGivenNext role limits old new before reading given next
-      → (stop : Stop) → (all : List ℕ) × Consumes other_old.remaining other_new.remaining all × (length all ≤ limits.input + 1) × HasStopped role limits other_new all stop
+      → (stop : Stop) → (all : List ℕ) × IsReceived (limits.input + 1) other_old other_new all × HasStopped role limits other_new all stop
       → IsCompared role limits old new other_old other_new (Err stop)
   second_stops old new other_old other_new before reading given next one stop stops = record {
     came = one.came;
-    consumed = one.followed.consumed;
-    few = one.followed.few;
+    received = one.followed.received;
     other_came = stops.0;
-    other_consumed = stops.1;
-    other_few = stops.2;
-    answer = inr stops.3;
+    other_received = stops.1;
+    answer = inr stops.2;
   }
 
 -- ---- the answer, by the verdicts

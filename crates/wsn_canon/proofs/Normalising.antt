@@ -3,10 +3,10 @@ use Rattle.std.proofs.Common.{◌≡◌, ℕ, ◌+◌, ◌≤◌, Result, Ok, Er
 use Rattle.std.proofs.lemmas.List.{map-append}
 use Rattle.std.proofs.KnownBytes.{Consumes-nil, Consumes-trans, Appends-nil, Appends-trans}
 use Rattle.std.proofs.Math.Seq.{take-append-add}
-use Rattle.std.specs.Io.KnownBytes.{Consumes, Appends}
+use Rattle.std.specs.Io.KnownBytes.{Appends}
 use Rattle.wsn_wire.specs.declared.endpoint.Role.{Role}
 use Rattle.wsn_wire.specs.Frame.{frame_bytes, stream}
-use Rattle.wsn_wire.specs.Transfer.{Incoming, Outgoing, IsWritten, IsPartlyWritten}
+use Rattle.wsn_wire.specs.Transfer.{Incoming, Outgoing, IsReceived, IsWritten, IsPartlyWritten}
 use Rattle.wsn_rules.specs.declared.verdict.Verdict.{Verdict}
 use Rattle.wsn_scan.specs.declared.stop.Stop.{Stop}
 use Rattle.wsn_scan.specs.declared.stop.Stop.TheVariants as stop
@@ -40,8 +40,7 @@ pub record HasWritten {A : Type 0} (role : Role) (limits : Limits) (old new : In
   pub came : List ℕ
   pub given : List MeantEvent
   pub has : HasGiven role limits source came given
-  pub consumed : Consumes old.remaining new.remaining came
-  pub few : length came ≤ limits.input + 1
+  pub received : IsReceived (limits.input + 1) old new came
   pub out : Appends before.written after.written (normal_form role given)
   pub readable : new.failed ≡ false
   pub writable : after.failed ≡ false
@@ -53,8 +52,7 @@ module _ {A : Type 0} (role : Role) (limits : Limits) (old : Incoming) (before :
     came = [];
     given = [];
     has = has;
-    consumed = Consumes-nil old.remaining;
-    few = omega arith;
+    received = record { consumed = Consumes-nil old.remaining; few = omega arith };
     out = Appends-nil before.written;
     readable = readable;
     writable = writable;
@@ -62,15 +60,14 @@ module _ {A : Type 0} (role : Role) (limits : Limits) (old : Incoming) (before :
 
   -- the source's next answer
   module _ (mid new : Incoming) (after : Outgoing) (source next : Reading A) (written : HasWritten role limits old mid before after source) where
-    all_consumed : (result : Result (Next A) Stop) (on : GoesOn role limits mid new next written.came written.given result) → Consumes old.remaining new.remaining (written.came ++ on.more)
-    all_consumed result on = Consumes-trans old.remaining mid.remaining new.remaining written.came on.more written.consumed on.consumed
+    received : (result : Result (Next A) Stop) (on : GoesOn role limits mid new next written.came written.given result) → IsReceived (limits.input + 1) old new (written.came ++ on.more)
+    received result on = record { consumed = Consumes-trans old.remaining mid.remaining new.remaining written.came on.more written.received.consumed on.consumed; few = on.few }
 
     -- the verdict
     pub is_done : (answer : Next A) (verdict : Verdict) → answer ≡ nexts.Done verdict → GoesOn role limits mid new next written.came written.given (Ok answer) → IsNormalised role limits old new before after (Ok verdict)
     is_done answer verdict is goes = record {
       came = written.came ++ on.more;
-      consumed = all_consumed (Ok (nexts.Done verdict)) on;
-      few = on.few;
+      received = received (Ok (nexts.Done verdict)) on;
       written = (written.given, on.next.0, (written.writable, written.out));
     }
       where
@@ -81,8 +78,7 @@ module _ {A : Type 0} (role : Role) (limits : Limits) (old : Incoming) (before :
     pub is_stopped : (stopped : Stop) → GoesOn role limits mid new next written.came written.given (Err stopped) → IsNormalised role limits old new before after (Err stopped)
     is_stopped stopped on = record {
       came = written.came ++ on.more;
-      consumed = all_consumed (Err stopped) on;
-      few = on.few;
+      received = received (Err stopped) on;
       written = of stopped on.next.0;
     }
       where
@@ -105,8 +101,7 @@ module _ {A : Type 0} (role : Role) (limits : Limits) (old : Incoming) (before :
         came = written.came ++ on.more;
         given = written.given ++ meant event ∷ [];
         has = on.next.0;
-        consumed = all_consumed (Ok (nexts.Event event)) on;
-        few = on.few;
+        received = received (Ok (nexts.Event event)) on;
         out = subst (λ (bs : List ℕ). Appends before.written last.written bs) (sym (normal_form_push role written.given (meant event)))
             (Appends-trans before.written after.written last.written (normal_form role written.given) (frame_bytes (normal_frame role (meant event))) written.out out);
         readable = on.next.2;
@@ -118,8 +113,7 @@ module _ {A : Type 0} (role : Role) (limits : Limits) (old : Incoming) (before :
           → IsNormalised role limits old new before last (Err stop.Write)
       write_failed last (failed, (k, out)) = record {
         came = written.came ++ on.more;
-        consumed = all_consumed (Ok (nexts.Event event)) on;
-        few = on.few;
+        received = received (Ok (nexts.Event event)) on;
         written = (on.next.2, (first.0, (written.given ++ meant event ∷ []) ++ first.1, first.2, (failed, (front.0, subst (λ (bs : List ℕ). Appends before.written last.written bs) same went))));
       }
         where

@@ -3,7 +3,7 @@ use Rattle.std.proofs.Common.{◌≡◌, ℕ, ◌+◌, ◌-◌, ◌≤◌, true,
 use Rattle.std.specs.Io.KnownBytes.{Consumes, IsAtEnd}
 use Rattle.wsn_wire.specs.declared.endpoint.Role.{Role}
 use Rattle.wsn_wire.specs.Frame.{Frame, stream}
-use Rattle.wsn_wire.specs.Transfer.{Incoming}
+use Rattle.wsn_wire.specs.Transfer.{Incoming, IsReceived}
 use Rattle.wsn_rules.specs.declared.verdict.Verdict.{Verdict}
 use Rattle.wsn_rules.specs.declared.verdict.Verdict.TheVariants.{Accepted}
 use Rattle.wsn_rules.specs.Accepted.{IsAccepted}
@@ -35,27 +35,27 @@ module _ (role : Role) (limits : Limits) where
       let meant = accepted.1.1 in
       (meant.0, subst (λ (bs : List ℕ). IsAccepted role limits bs meant.0) (sym is) meant.1.0, meant.2)
 
-  whole_of : (old new : Incoming) (came all : List ℕ) (verdict : Verdict) → Consumes old.remaining new.remaining came → length came ≤ limits.input + 1 → old.remaining ≡ Some all → HasVerdict role limits new came verdict
+  whole_of : (old new : Incoming) (came all : List ℕ) (verdict : Verdict) → IsReceived (limits.input + 1) old new came → old.remaining ≡ Some all → HasVerdict role limits new came verdict
       → (fs : List Frame) × IsVerdict role limits all fs verdict
-  whole_of old new came all verdict consumed few known has =
-      whole_verdict role limits old new verdict all (came, record { consumed = consumed; few = few; answer = has.1.0 }) known
+  whole_of old new came all verdict received known has =
+      whole_verdict role limits old new verdict all (came, record { received = received; answer = has.1.0 }) known
 
   pub whole_comparison : (old new other_old other_new : Incoming) (compared : Compared) → IsCompared role limits old new other_old other_new (Ok compared)
       → (all others : List ℕ) → old.remaining ≡ Some all → other_old.remaining ≡ Some others → IsAnswerOf role limits all others compared
   whole_comparison old new other_old other_new Equal is all others known other_known =
-      let one = whole_accepted old new is.came all is.answer.0 is.consumed known is.answer.2 in
-      let two = whole_accepted other_old other_new is.other_came others is.answer.1 is.other_consumed other_known is.answer.3 in
+      let one = whole_accepted old new is.came all is.answer.0 is.received.consumed known is.answer.2 in
+      let two = whole_accepted other_old other_new is.other_came others is.answer.1 is.other_received.consumed other_known is.answer.3 in
       (one.0, two.0, one.1, two.1, sym one.2 ∙ is.answer.4 ∙ two.2)
   whole_comparison old new other_old other_new (Different k) is all others known other_known =
-      let one = whole_accepted old new is.came all is.answer.0 is.consumed known is.answer.2 in
-      let two = whole_accepted other_old other_new is.other_came others is.answer.1 is.other_consumed other_known is.answer.3 in
+      let one = whole_accepted old new is.came all is.answer.0 is.received.consumed known is.answer.2 in
+      let two = whole_accepted other_old other_new is.other_came others is.answer.1 is.other_received.consumed other_known is.answer.3 in
       let differ : DifferAt k (meaning one.0) is.answer.1 = subst (λ (es : List MeantEvent). DifferAt k es is.answer.1) one.2 is.answer.4 in
       (one.0, two.0, one.1, two.1, subst (λ (es : List MeantEvent). DifferAt k (meaning one.0) es) two.2 differ)
   whole_comparison old new other_old other_new (NotAccepted false verdict) is all others known other_known =
-      (whole_of old new is.came all verdict is.consumed is.few known is.answer.0, is.answer.1)
+      (whole_of old new is.came all verdict is.received known is.answer.0, is.answer.1)
   whole_comparison old new other_old other_new (NotAccepted true verdict) is all others known other_known =
-      let one = whole_of old new is.came all (Accepted is.answer.0.0) is.consumed is.few known is.answer.0.1 in
-      ((one.0, one.1.0), whole_of other_old other_new is.other_came others verdict is.other_consumed is.other_few other_known is.answer.1, is.answer.2)
+      let one = whole_of old new is.came all (Accepted is.answer.0.0) is.received known is.answer.0.1 in
+      ((one.0, one.1.0), whole_of other_old other_new is.other_came others verdict is.other_received other_known is.answer.1, is.answer.2)
 
   -- ---- one answer
 

@@ -1,9 +1,8 @@
 -- What comparing two streams of one role answers: whether both are accepted, and whether they mean the same.
-use Rattle.std.specs.Prelude.{◌≡◌, ◌≢◌, ℕ, ◌+◌, ◌≤◌, ◌⊎◌, true, false, Option, None, Some, Result, Ok, Err, List, length, take, slice_get, ⊤}
-use Rattle.std.specs.Io.KnownBytes.{Consumes}
+use Rattle.std.specs.Prelude.{◌≡◌, ◌≢◌, ℕ, ◌+◌, ◌⊎◌, true, false, Option, None, Some, Result, Ok, Err, List, take, slice_get, ⊤}
 use Rattle.wsn_wire.specs.declared.endpoint.Role.{Role}
 use Rattle.wsn_wire.specs.Frame.{Frame}
-use Rattle.wsn_wire.specs.Transfer.{Incoming}
+use Rattle.wsn_wire.specs.Transfer.{Incoming, IsReceived}
 use Rattle.wsn_rules.specs.declared.verdict.Summary.{Summary}
 use Rattle.wsn_rules.specs.declared.verdict.Verdict.{Verdict}
 use Rattle.wsn_rules.specs.declared.verdict.Verdict.TheVariants.{Accepted}
@@ -90,11 +89,9 @@ IsOutcome verdict other difference answer =
 pub record IsCompared (role : Role) (limits : Limits) (old new other_old other_new : Incoming)
     (result : Result Compared Stop) : Type 0 where
   pub came : List ℕ
-  pub consumed : Consumes old.remaining new.remaining came
-  pub few : length came ≤ limits.input + 1
+  pub received : IsReceived (limits.input + 1) old new came
   pub other_came : List ℕ
-  pub other_consumed : Consumes other_old.remaining other_new.remaining other_came
-  pub other_few : length other_came ≤ limits.input + 1
+  pub other_received : IsReceived (limits.input + 1) other_old other_new other_came
   pub answer : IsComparison role limits new came other_new other_came result
 
 -- What an answer says of two whole streams.

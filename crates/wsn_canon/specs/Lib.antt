@@ -4,3 +4,5 @@ pub mod Sources
 pub mod Readings
 pub mod Comparing
 pub mod Normalised
+-- what the clauses in src/ import
+pub mod Words

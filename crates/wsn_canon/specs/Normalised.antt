@@ -1,8 +1,7 @@
 -- What normalising took of an input, what its answer says of that, and what went out.
 use Rattle.std.specs.Prelude.{◌≡◌, ℕ, ◌+◌, ◌≤◌, false, Result, Err, List, length, take, ◌<◌, Ok, ⊤}
-use Rattle.std.specs.Io.KnownBytes.{Consumes}
 use Rattle.wsn_wire.specs.declared.endpoint.Role.{Role}
-use Rattle.wsn_wire.specs.Transfer.{Incoming, Outgoing, IsWritten, IsPartlyWritten}
+use Rattle.wsn_wire.specs.Transfer.{Incoming, Outgoing, IsReceived, IsWritten, IsPartlyWritten}
 use Rattle.wsn_rules.specs.declared.verdict.Verdict.{Verdict}
 use Rattle.wsn_scan.specs.declared.stop.Stop.{Stop}
 use Rattle.wsn_scan.specs.declared.stop.Stop.TheVariants as stop
@@ -30,8 +29,7 @@ IsNormalFormWritten role limits new came before after result =
 pub record IsNormalised (role : Role) (limits : Limits) (old new : Incoming) (before after : Outgoing)
     (result : Result Verdict Stop) : Type 0 where
   pub came : List ℕ
-  pub consumed : Consumes old.remaining new.remaining came
-  pub few : length came ≤ limits.input + 1
+  pub received : IsReceived (limits.input + 1) old new came
   pub written : IsNormalFormWritten role limits new came before after result
 
 -- ---- of an input whose bytes are known

@@ -2,17 +2,7 @@
 //! contract is the fact.
 
 ghost use Rattle.std.specs.Prelude.{◌≡◌, ◌≢◌, ℕ, List, ◌≤◌, Result, Ok, length};
-ghost use Rattle.wsn_wire.specs.declared.endpoint.Role.{Role};
-ghost use Rattle.wsn_rules.specs.Limits.{Limits, InRange};
-ghost use Rattle.wsn_rules.specs.Meaning.{MeantEvent};
-ghost use Rattle.wsn_canon.specs.declared.comparing.Compared.{Compared};
-ghost use Rattle.wsn_canon.specs.Comparing.{DifferAt, IsAnswerOf};
-ghost use Rattle.wsn_wire.specs.Transfer.{Outgoing, IsWritten};
-ghost use Rattle.wsn_rules.specs.declared.verdict.Summary.{Summary};
-ghost use Rattle.wsn_rules.specs.declared.verdict.Verdict.{Verdict};
-ghost use Rattle.wsn_rules.specs.declared.verdict.Verdict.TheVariants.{Accepted};
-ghost use Rattle.wsn_scan.specs.declared.stop.Stop.{Stop};
-ghost use Rattle.wsn_canon.specs.Normalised.{IsNormalisedWhole, AnswersAll};
+ghost use Rattle.wsn_canon.specs.Words.{Role, Limits, InRange, MeantEvent, Compared, DifferAt, IsAnswerOf, Outgoing, IsWritten, Summary, Verdict, Accepted, Stop, IsNormalisedWhole, AnswersAll};
 
 pub use wsn_rules::laws::{
     law_canon, law_meaning_is_lawful, law_once, law_stays_refused, law_unique,

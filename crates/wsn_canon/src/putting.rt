@@ -1,11 +1,5 @@
 ghost use Rattle.std.specs.Prelude.{◌≡◌, ℕ, ◌<◌, ◌≤◌, ◌^◌, false, true, length, take, OnOk, OnErr, IfErr};
-ghost use Rattle.std.specs.Io.KnownBytes.{Appends};
-ghost use Rattle.wsn_wire.specs.Frame.{frame_bytes, is_control};
-ghost use Rattle.wsn_rules.specs.Meaning.{Message, Control};
-ghost use Rattle.wsn_rules.specs.LawfulEvents.{IsLawfulEvent};
-ghost use Rattle.wsn_canon.specs.EventsMeant.{meant, close_body};
-ghost use Rattle.wsn_rules.specs.NormalForm.{normal_frame, normal_key, op_of};
-ghost use Rattle.wsn_scan.specs.Stops.{IsPut};
+ghost use Rattle.wsn_canon.specs.Words.{Appends, frame_bytes, is_control, Message, Control, IsLawfulEvent, meant, close_body, normal_frame, normal_key, op_of, IsPut};
 
 use crate::event::{Event, Small};
 use arrayvec::ArrayVec;

@@ -1,8 +1,3 @@
-ghost use Rattle.std.specs.Prelude.{◌≡◌, ℕ, ◌<◌, List, [], None, Some, false};
-ghost use Rattle.wsn_wire.specs.declared.endpoint.Role.{Role};
-ghost use Rattle.wsn_rules.specs.Meaning.{MeantEvent};
-ghost use Rattle.wsn_canon.specs.Readings.{HasGiven, IsAtWork, GoesOn, IsEvent, answered, held_of, left_of, next_of};
-
 use crate::event::Event;
 use crate::reassembly::Reassembly;
 use crate::source::Next;
@@ -20,6 +15,9 @@ pub struct Reading<A: Allocator> {
 }
 
 impl<A: Allocator + Copy> Reading<A> {
+    ghost use Rattle.std.specs.Prelude.{◌≡◌, ℕ, ◌<◌, List, [], None, Some, false};
+    ghost use Rattle.wsn_canon.specs.Words.{Role, MeantEvent, HasGiven, IsAtWork, GoesOn, IsEvent, answered, held_of, left_of, next_of};
+
     /// Nothing was read.
     pub fn new(alloc: A, role: Role, limits: Limits) -> Self
         ensures { HasGiven role limits result [] [] }

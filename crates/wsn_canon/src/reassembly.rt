@@ -1,10 +1,3 @@
-ghost use Rattle.std.specs.Prelude.{◌≡◌, ℕ, ◌+◌, List, [], ◌∷◌, ◌++◌, true, false, length};
-ghost use Rattle.wsn_wire.specs.declared.endpoint.Role.{Role};
-ghost use Rattle.wsn_wire.specs.Frame.{Frame, is_control};
-ghost use Rattle.wsn_rules.specs.Lawful.{IsLawful};
-ghost use Rattle.wsn_rules.specs.LawfulEvents.{IsLawfulControl};
-ghost use Rattle.wsn_canon.specs.Reassembly.{IsBetweenFrames, IsInFrame, IsEventOf};
-
 use crate::event::{Event, Small};
 use std::alloc::Allocator;
 use std::mem;
@@ -20,6 +13,9 @@ pub struct Reassembly<A: Allocator> {
 }
 
 impl<A: Allocator + Copy> Reassembly<A> {
+    ghost use Rattle.std.specs.Prelude.{◌≡◌, ℕ, ◌+◌, List, [], ◌∷◌, ◌++◌, true, false, length};
+    ghost use Rattle.wsn_canon.specs.Words.{Role, Frame, is_control, IsLawful, IsLawfulControl, IsBetweenFrames, IsInFrame, IsEventOf};
+
     /// Nothing came.
     pub fn new(alloc: A) -> Self
         ensures { IsBetweenFrames result [] }

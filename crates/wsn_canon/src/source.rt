@@ -1,10 +1,6 @@
 ghost use Rattle.std.specs.Prelude.{◌≡◌, ℕ, ◌<◌, ◌≤◌, List, [], None, Some, Result, false};
-ghost use Rattle.wsn_wire.specs.declared.endpoint.Role.{Role};
-ghost use Rattle.wsn_rules.specs.Meaning.{MeantEvent};
-ghost use Rattle.wsn_rules.specs.declared.verdict.Verdict.{Verdict};
-ghost use Rattle.wsn_scan.specs.declared.stop.Stop.{Stop};
 ghost use Rattle.wsn_canon.specs.declared.reading.Reading.{Reading};
-ghost use Rattle.wsn_canon.specs.Readings.{HasGiven, IsSound, GoesOn, IsEvent, answered, held_of, left_of, next_of};
+ghost use Rattle.wsn_canon.specs.Readings.{IsSound};
 
 use crate::event::Event;
 use crate::reading::Reading;
@@ -38,6 +34,8 @@ impl<A: Allocator> Model for Source<A> {
 }
 
 impl<A: Allocator + Copy> Source<A> {
+    ghost use Rattle.wsn_canon.specs.Words.{Role, MeantEvent, Verdict, Stop, HasGiven, GoesOn, IsEvent, answered, held_of, left_of, next_of};
+
     /// A source that has read nothing. It takes no memory.
     pub fn new(alloc: A, role: Role, limits: Limits) -> Self
         ensures { HasGiven role limits result [] [] }

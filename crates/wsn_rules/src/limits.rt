@@ -27,7 +27,12 @@ impl Model for Limits {
 
     ghost view = { λ l. record { message = l.message; input = l.input; frames = l.frames; lengths = l.lengths } };
 
-    ghost invariant = { λ l. InRange (record { message = l.message; input = l.input; frames = l.frames; lengths = l.lengths }) };
+    ghost invariant = { λ l. InRange (record {
+      message = l.message;
+      input = l.input;
+      frames = l.frames;
+      lengths = l.lengths;
+    }) };
 
     ghost inverse = { λ b. record { message = b.message; input = b.input; frames = b.frames; lengths = b.lengths } };
 }

@@ -14,22 +14,22 @@ use Rattle.wsn_wire.specs.Layout.{HasLayout, mask_bit, opcode_field, length_coun
 use Rattle.wsn_wire.proofs.FrameLemmas.{first_byte_fields, op_at, op_at-opcode, key_at, key_at-key_bytes, form_at, key_bytes_count, IsBytes-right, frame_at, frame_bytes_determine}
 use Rattle.wsn_wire.proofs.HeadLemmas.{frame_of_layout, close_from_opcode}
 use Rattle.wsn_text.specs.CloseBody.{IsCloseBody}
-use Rattle.wsn_scan.specs.declared.partial_head.Head.{Head}
-use Rattle.wsn_scan.specs.declared.payload_check.PayloadCheck.{PayloadCheck}
+use Rattle.wsn_frame.specs.declared.partial_head.Head.{Head}
+use Rattle.wsn_frame.specs.declared.payload_check.PayloadCheck.{PayloadCheck}
 use Rattle.wsn_scan.specs.declared.scan.Scan.{Scan}
 use Rattle.wsn_rules.specs.Limits.{Limits, InRange}
 use Rattle.wsn_rules.specs.Group.{after_last, is_data, is_final, unfinished, text_of}
 use Rattle.wsn_rules.specs.Lawful.{LawAt, IsLawful}
 use Rattle.wsn_rules.specs.Accepted.{HasNoClose, EndsWithClose}
 use Rattle.wsn_rules.specs.Summary.{is_close, close_code, close_of}
-use Rattle.wsn_scan.specs.OpenMessages.{IsOpenMessage, group_after}
-use Rattle.wsn_scan.specs.PayloadChecks.{HasChecked}
-use Rattle.wsn_scan.specs.Counts.{AreCounts}
-use Rattle.wsn_scan.specs.Payloads.{unmasked_by}
+use Rattle.wsn_frame.specs.OpenMessages.{IsOpenMessage, group_after}
+use Rattle.wsn_frame.specs.PayloadChecks.{HasChecked}
+use Rattle.wsn_frame.specs.Counts.{AreCounts}
+use Rattle.wsn_frame.specs.Payloads.{unmasked_by, HoldsPayload}
 use Rattle.wsn_rules.specs.declared.head_info.HeadInfo.{HeadInfo}
-use Rattle.wsn_scan.specs.PartialHeads.{form_spelled, info_at}
+use Rattle.wsn_frame.specs.PartialHeads.{form_spelled, info_at}
 use Rattle.wsn_rules.specs.Heads.{info_of, heads_of}
-use Rattle.wsn_scan.specs.Scans.{Knows, HoldsPayload, EndsFrame, IsAt, taken_of}
+use Rattle.wsn_scan.specs.Scans.{Knows, EndsFrame, IsAt, taken_of}
 use Rattle.wsn_scan.specs.Reports.{Reported, ends_of}
 use Rattle.wsn_scan.proofs.HeadsReported.{form_is_spelled, heads_push}
 use Rattle.wsn_rules.proofs.LawfulLists.{law_at_split, lawful_push}

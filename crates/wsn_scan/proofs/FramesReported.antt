@@ -20,7 +20,7 @@ use Rattle.wsn_scan.specs.NoticeReaders.{EndsReported, begun_at, HasPayload}
 use Rattle.wsn_rules.specs.Verdict.{IsRefused, IsVerdict}
 use Rattle.wsn_rules.specs.Heads.{info_of, heads_of}
 use Rattle.wsn_rules.specs.Lawful.{IsLawful}
-use Rattle.wsn_scan.specs.PartialHeads.{info_at}
+use Rattle.wsn_frame.specs.PartialHeads.{info_at}
 use Rattle.wsn_scan.specs.Scans.{EndsWith, Stands, StandsAt, Takes, TakesAt, refusal_at, refusal_in, ends_pending, ends_pending_at}
 use Rattle.wsn_scan.specs.Reports.{Reported, reported_after, ends_of, IsHeadNotice, IsRefusal}
 use Rattle.wsn_scan.proofs.HeadsReported.{heads_push}

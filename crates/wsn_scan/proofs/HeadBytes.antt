@@ -4,15 +4,15 @@ use Rattle.std.proofs.lemmas.List.{take_more}
 use Rattle.wsn_wire.specs.declared.endpoint.Role.{Role}
 use Rattle.wsn_wire.specs.Frame.{Frame, IsBytes}
 use Rattle.wsn_wire.proofs.FrameLemmas.{IsBytes-left}
-use Rattle.wsn_scan.specs.declared.partial_head.PartialHead.{PartialHead}
-use Rattle.wsn_scan.specs.declared.partial_head.HeadStep.{HeadStep}
+use Rattle.wsn_frame.specs.declared.partial_head.PartialHead.{PartialHead}
+use Rattle.wsn_frame.specs.declared.partial_head.HeadStep.{HeadStep}
 use Rattle.wsn_scan.specs.declared.scan.Scan.{Scan}
 use Rattle.wsn_rules.specs.Limits.{Limits}
 use Rattle.wsn_rules.specs.Group.{unfinished}
-use Rattle.wsn_scan.specs.OpenMessages.{IsOpenMessage}
-use Rattle.wsn_scan.specs.PartialHeads.{IsInHead, IsStep}
+use Rattle.wsn_frame.specs.OpenMessages.{IsOpenMessage}
+use Rattle.wsn_frame.specs.PartialHeads.{IsInHead, IsStep}
 use Rattle.wsn_scan.specs.declared.stage.Stage.TheVariants as stages
-use Rattle.wsn_scan.specs.declared.partial_head.PartialHead.TheVariants.{Empty}
+use Rattle.wsn_frame.specs.declared.partial_head.PartialHead.TheVariants.{Empty}
 use Rattle.wsn_rules.specs.Unshown.{IsUnshown}
 use Rattle.wsn_scan.specs.Scans.{Knows, StandsAt}
 use Rattle.wsn_scan.specs.Reports.{Reported}

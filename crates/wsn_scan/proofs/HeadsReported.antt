@@ -11,15 +11,15 @@ use Rattle.wsn_wire.specs.Sender.{ShowsNothing}
 use Rattle.wsn_wire.proofs.FrameLemmas.{IsBytes-append, first_byte_fields, second_byte_fields, length_bytes_fields, spells-len_form_of, key_bytes_count, op_at, op_at-opcode, key_at, key_at-key_bytes, form_at, frame_at, fronts_agree, length-wire_payload}
 use Rattle.wsn_wire.proofs.HeadLemmas.{frame_of_layout}
 use Rattle.wsn_rules.specs.declared.head_info.HeadInfo.{HeadInfo}
-use Rattle.wsn_scan.specs.declared.partial_head.Head.{Head}
-use Rattle.wsn_scan.specs.declared.partial_head.PartialHead.{PartialHead}
-use Rattle.wsn_scan.specs.declared.partial_head.PartialHead.TheVariants.{Empty, First, Two, Eight, Key}
+use Rattle.wsn_frame.specs.declared.partial_head.Head.{Head}
+use Rattle.wsn_frame.specs.declared.partial_head.PartialHead.{PartialHead}
+use Rattle.wsn_frame.specs.declared.partial_head.PartialHead.TheVariants.{Empty, First, Two, Eight, Key}
 use Rattle.wsn_rules.specs.Limits.{Limits}
 use Rattle.wsn_rules.specs.Group.{unfinished}
 use Rattle.wsn_rules.specs.Evidence.{Evidence}
 use Rattle.wsn_rules.specs.Evidence.Evidence.{ByFirst, BySecond, ByLength}
 use Rattle.wsn_rules.specs.Unshown.{IsUnshown}
-use Rattle.wsn_scan.specs.PartialHeads.{StandsFor, IsHead, form_spelled, info_at}
+use Rattle.wsn_frame.specs.PartialHeads.{StandsFor, IsHead, form_spelled, info_at}
 use Rattle.wsn_rules.specs.Heads.{info_of, heads_from, heads_of, BeginsWithHead, IsBegun}
 use Rattle.wsn_rules.proofs.Prefixes.{two_fronts}
 use Rattle.wsn_rules.proofs.HeadEvidence.{first_row, spelling_row}

@@ -9,7 +9,7 @@ use Rattle.wsn_scan.specs.declared.scan.Scan.{Scan}
 use Rattle.wsn_rules.specs.Limits.{Limits}
 use Rattle.wsn_rules.specs.Group.{unfinished}
 use Rattle.wsn_rules.specs.Unshown.{IsUnshown}
-use Rattle.wsn_scan.specs.PartialHeads.{info_at}
+use Rattle.wsn_frame.specs.PartialHeads.{info_at}
 use Rattle.wsn_rules.specs.Lawful.{IsLawful}
 use Rattle.wsn_rules.specs.Heads.{heads_of, BeginsWithHead, AreHeads}
 use Rattle.wsn_scan.specs.Scans.{IsAt, Stands}

@@ -45,8 +45,7 @@ module _ (role : Role) (limits : Limits) where
   stopped old mid new scan came heads read keeps failed =
       let room = room_is scan came heads read.taken in
       record {
-        consumed = Consumes-kept old.remaining mid.remaining new.remaining came read.consumed keeps;
-        few = omega arith;
+        received = record { consumed = Consumes-kept old.remaining mid.remaining new.remaining came read.consumed keeps; few = omega arith };
         answer = (failed, omega arith, unrefused role limits scan came heads read.taken read.none);
       }
 
@@ -54,8 +53,10 @@ module _ (role : Role) (limits : Limits) where
   pub ended : (old mid new : Incoming) (scan : Scan) (came : List ℕ) (heads : List HeadInfo) (verdict : Verdict) (read : HasRead role limits old mid scan came heads) → Consumes mid.remaining new.remaining [] → IsAtEnd new.remaining → new.failed ≡ mid.failed
       → IsVerdict role limits came read.taken.frames verdict → refusal_judged verdict ≡ refusal_in scan → IsJudgedOf role limits old new came (Ok verdict)
   ended old mid new scan came heads verdict read nothing at_end failed is reported = record {
-    consumed = subst (λ (bs : List ℕ). Consumes old.remaining new.remaining bs) (append-nil came) (Consumes-trans old.remaining mid.remaining new.remaining came [] read.consumed nothing);
-    few = omega (arith, room_is scan came heads read.taken);
+    received = record {
+      consumed = subst (λ (bs : List ℕ). Consumes old.remaining new.remaining bs) (append-nil came) (Consumes-trans old.remaining mid.remaining new.remaining came [] read.consumed nothing);
+      few = omega (arith, room_is scan came heads read.taken);
+    };
     answer = by_verdict verdict is (reported ∙ read.none);
   }
     where
@@ -102,8 +103,7 @@ module _ (role : Role) (limits : Limits) where
         let room = room_is scan came heads read.taken in
         let none = unrefused role limits next (came ++ take fits buffer) (heads ++ fed.heads) (taken_whole scan next came (take fits buffer) heads fed read.taken) (fed.reported read.none) in
         record {
-          consumed = all_consumed;
-          few = omega (arith, length_came);
+          received = record { consumed = all_consumed; few = omega (arith, length_came) };
           answer = (omega (arith, length_came), subst (λ (bs : List ℕ). IsUnrefused role limits bs) (sym (up_to_limit full (omega arith))) none, failed ∙ read.unfailed);
         }
 
@@ -129,8 +129,7 @@ module _ (role : Role) (limits : Limits) where
         let before_end = place_within role limits taken.frames _ refusal.place refusal.reason (here []).shown in
         let shown_whole : length ((came ++ take fed.count piece) ++ []) ≡ length (came ++ take fed.count piece) = ap (λ (bs : List ℕ). length bs) (append-nil (came ++ take fed.count piece)) in
         record {
-          consumed = all_consumed;
-          few = omega (arith, length_came, room_is scan came heads read.taken);
+          received = record { consumed = all_consumed; few = omega (arith, length_came, room_is scan came heads read.taken) };
           answer = (taken.frames, refused_all, omega (arith, length_came), omega (arith, room_is next (came ++ take fed.count piece) (heads ++ fed.heads) taken), failed ∙ read.unfailed);
         }
 
@@ -138,7 +137,7 @@ module _ (role : Role) (limits : Limits) where
 
   -- the verdict is that on all of them
   pub whole_verdict : (old new : Incoming) (verdict : Verdict) (all : List ℕ) → IsJudged role limits old new (Ok verdict) → old.remaining ≡ Some all → (fs : List Frame) × IsVerdict role limits all fs verdict
-  whole_verdict old new verdict all judged known = by_rest new.remaining refl (subst (λ (a : Option (List ℕ)). Consumes a new.remaining judged.0) known judged.1.consumed)
+  whole_verdict old new verdict all judged known = by_rest new.remaining refl (subst (λ (a : Option (List ℕ)). Consumes a new.remaining judged.0) known judged.1.received.consumed)
     where
       by_verdict : (rest : List ℕ) → new.remaining ≡ Some rest → all ≡ judged.0 ++ rest → (v : Verdict) → IsReached role limits new judged.0 v → (fs : List Frame) × IsVerdict role limits all fs v
       by_verdict rest left is (Refused refusal) reached =
@@ -159,7 +158,7 @@ module _ (role : Role) (limits : Limits) where
   -- more of them are left than the limit allows, and those within it show no refusal
   pub whole_limit : (old new : Incoming) (all : List ℕ) → IsJudged role limits old new (Err stop.InputLimit) → old.remaining ≡ Some all
       → (limits.input < length all) × IsUnrefused role limits (take limits.input all)
-  whole_limit old new all judged known = by_rest new.remaining (subst (λ (a : Option (List ℕ)). Consumes a new.remaining judged.0) known judged.1.consumed)
+  whole_limit old new all judged known = by_rest new.remaining (subst (λ (a : Option (List ℕ)). Consumes a new.remaining judged.0) known judged.1.received.consumed)
     where
       by_rest : (rest : Option (List ℕ)) → Consumes (Some all) rest judged.0 → (limits.input < length all) × IsUnrefused role limits (take limits.input all)
       by_rest None consumed = absurd consumed

@@ -1,18 +1,10 @@
-pub mod CountedFrames
 pub mod WithinFrames
 pub mod ScanVerdicts
-pub mod LastByte
 pub mod HeadBytes
-pub mod HeadSteps
 pub mod HeadsReported
-pub mod HeadsAtOnce
 pub mod HeadsSoFar
-pub mod PayloadRows
 pub mod FrameEnds
 pub mod Refusals
-pub mod PayloadBytes
-pub mod FrameStarts
-pub mod FramesAtOnce
 pub mod MoreBytes
 pub mod FedPieces
 pub mod Printing
@@ -20,7 +12,6 @@ pub mod ListedInputs
 pub mod Unrefused
 pub mod JudgedInputs
 pub mod OneAnswer
-pub mod PayloadMore
 pub mod FramesReported
 pub mod PayloadPrefixes
 pub mod NextCases

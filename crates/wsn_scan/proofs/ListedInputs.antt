@@ -6,7 +6,7 @@ use Rattle.std.proofs.Math.Seq.{take-append-add}
 use Rattle.std.proofs.KnownBytes.{Appends-trans, Consumes-trans}
 use Rattle.std.specs.Io.KnownBytes.{Consumes, Keeps, IsAtEnd, Appends}
 use Rattle.wsn_wire.specs.declared.endpoint.Role.{Role}
-use Rattle.wsn_wire.specs.Transfer.{Incoming, Outgoing, IsWrittenUpToFailure}
+use Rattle.wsn_wire.specs.Transfer.{Incoming, Outgoing, IsReceived, IsWrittenUpToFailure}
 use Rattle.wsn_rules.specs.declared.head_info.HeadInfo.{HeadInfo}
 use Rattle.wsn_rules.specs.declared.verdict.Refusal.{Refusal}
 use Rattle.wsn_rules.specs.declared.verdict.Verdict.{Verdict}
@@ -64,8 +64,7 @@ module _ (role : Role) (limits : Limits) where
       let reported = told_so_far role limits scan came heads read.taken read.none in
       record {
         came = came;
-        consumed = judged.consumed;
-        few = judged.few;
+        received = judged.received;
         answer = judged.answer;
         printed = (heads, reported.0, within came heads reported.0 (read_fits old mid scan came heads read) reported.1, (unfailed, lines));
       }
@@ -76,13 +75,12 @@ module _ (role : Role) (limits : Limits) where
       → IsListed role limits old new before after result
   prints_verdict old new before mid after came heads verdict (Ok answer) judged reported cut lines is_end =
       subst (λ (v : Verdict). IsListed role limits old new before after (Ok v)) (sym is_end.0)
-      (record { came = came; consumed = judged.consumed; few = judged.few; answer = judged.answer; printed = (heads, reported, (is_end.1.0, whole_listing before mid after heads verdict lines is_end.1.1)) })
+      (record { came = came; received = judged.received; answer = judged.answer; printed = (heads, reported, (is_end.1.0, whole_listing before mid after heads verdict lines is_end.1.1)) })
   prints_verdict old new before mid after came heads verdict (Err stopped_by) judged reported cut lines is_end =
       subst (λ (s : Stop). IsListed role limits old new before after (Err s)) (sym is_end.0)
       (record {
         came = came;
-        consumed = judged.consumed;
-        few = judged.few;
+        received = judged.received;
         answer = tt;
         printed = (heads, verdict, cut, (is_end.1.0, front_listing before mid after heads verdict lines is_end.1.1.0 is_end.1.1.1));
       })
@@ -151,11 +149,11 @@ module _ (role : Role) (limits : Limits) where
         of (inl all) = all.1
         of (inr front) = let both : true ≡ false = sym front.0 ∙ went in absurd cc
 
-    all_consumed : Consumes old.remaining new.remaining (came ++ take n buffer)
-    all_consumed = Consumes-trans old.remaining mid.remaining new.remaining came (take n buffer) read.consumed consumed
-
-    few : length (came ++ take n buffer) ≤ limits.input + 1
-    few = omega (arith, length-append came (take n buffer), length-take-le n buffer in_buffer, room_is role limits scan came heads read.taken)
+    received : IsReceived (limits.input + 1) old new (came ++ take n buffer)
+    received = record {
+      consumed = Consumes-trans old.remaining mid.remaining new.remaining came (take n buffer) read.consumed consumed;
+      few = omega (arith, length-append came (take n buffer), length-take-le n buffer in_buffer, room_is role limits scan came heads read.taken);
+    }
 
     -- what is reported of the bytes within the limit
     told_limit : (more : List HeadInfo) (verdict : Verdict) → HasVerdictAndHeads role limits (came ++ take fits buffer) more verdict → HasVerdictAndHeads role limits (take limits.input (came ++ take n buffer)) more verdict
@@ -165,7 +163,7 @@ module _ (role : Role) (limits : Limits) where
     pub list_failed : (refusal : Option Refusal) → IsListedPiece scan next mid_out after (take fits buffer) refusal → after.failed ≡ true → IsListed role limits old new before after (Err stop.Write)
     list_failed refusal piece broke =
         let reported = told_within refusal piece.fed in
-        record { came = came ++ take n buffer; consumed = all_consumed; few = few; answer = tt; printed = (heads ++ piece.fed.heads, reported.0, told_limit (heads ++ piece.fed.heads) reported.0 reported.1, (broke, of (all_lines refusal piece))) }
+        record { came = came ++ take n buffer; received = received; answer = tt; printed = (heads ++ piece.fed.heads, reported.0, told_limit (heads ++ piece.fed.heads) reported.0 reported.1, (broke, of (all_lines refusal piece))) }
       where
         of : IsWrittenUpToFailure before after (head_lines (heads ++ piece.fed.heads)) → (k : ℕ) × Appends before.written after.written (take k (listing (heads ++ piece.fed.heads) (told_within refusal piece.fed).0))
         of (inl all) = let both : true ≡ false = sym broke ∙ all.0 in absurd cc
@@ -194,8 +192,7 @@ module _ (role : Role) (limits : Limits) where
         let reported = told_within None fed in
         record {
           came = came ++ take n buffer;
-          consumed = judged.consumed;
-          few = judged.few;
+          received = judged.received;
           answer = judged.answer;
           printed = (heads ++ fed.heads, reported.0, told_limit (heads ++ fed.heads) reported.0 reported.1, (went, sent None piece went));
         }

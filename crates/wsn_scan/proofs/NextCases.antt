@@ -13,10 +13,10 @@ use Rattle.wsn_scan.specs.declared.notice.Notice.TheVariants as notices
 use Rattle.wsn_scan.specs.declared.scan.Scan.{Scan}
 use Rattle.wsn_scan.specs.declared.stage.Stage.{Stage}
 use Rattle.wsn_scan.specs.declared.stage.Stage.TheVariants as stages
-use Rattle.wsn_scan.specs.PartialHeads.{info_at}
+use Rattle.wsn_frame.specs.PartialHeads.{info_at}
 use Rattle.wsn_scan.specs.Reports.{AnswersByCase, TakesPayload, Reported, ends_of}
 use Rattle.wsn_scan.specs.Scans.{IsAt, Stands, Takes, TakesAt, refusal_at, refusal_in}
-use Rattle.wsn_scan.proofs.PayloadMore.{length-unmasked_by}
+use Rattle.wsn_frame.proofs.PayloadMore.{length-unmasked_by}
 
 -- one more is another list
 longer : {A : Type 0} (xs ys : List A) (x : A) → xs ≡ ys → xs ++ x ∷ [] ≡ ys → ⊥

@@ -8,13 +8,13 @@ use Rattle.wsn_rules.specs.Group.{unfinished}
 use Rattle.wsn_rules.specs.Unshown.{IsUnshown}
 use Rattle.wsn_rules.specs.Heads.{heads_of}
 use Rattle.wsn_rules.proofs.Prefixes.{append_cancel, head_same}
-use Rattle.wsn_scan.specs.declared.partial_head.Head.{Head}
+use Rattle.wsn_frame.specs.declared.partial_head.Head.{Head}
 use Rattle.wsn_scan.specs.declared.scan.Scan.{Scan}
 use Rattle.wsn_scan.specs.declared.stage.Stage.{Stage}
 use Rattle.wsn_scan.specs.declared.stage.Stage.TheVariants as stages
-use Rattle.wsn_scan.specs.PartialHeads.{IsHead, info_at}
-use Rattle.wsn_scan.specs.Payloads.{unmasked_by, IsPayloadPrefix}
-use Rattle.wsn_scan.specs.Reports.{AreEnds, IsReport, Reported}
+use Rattle.wsn_frame.specs.PartialHeads.{IsHead, info_at}
+use Rattle.wsn_frame.specs.Payloads.{unmasked_by}
+use Rattle.wsn_scan.specs.Reports.{AreEnds, IsPayloadPrefix, IsReport, Reported}
 use Rattle.wsn_scan.specs.Scans.{IsAt, Stands}
 use Rattle.wsn_scan.proofs.HeadsReported.{head_spelled, front_unshown}
 use Rattle.wsn_scan.proofs.HeadsSoFar.{heads_told}

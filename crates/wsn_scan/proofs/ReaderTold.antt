@@ -20,13 +20,13 @@ use Rattle.wsn_scan.specs.declared.stage.Stage.{Stage}
 use Rattle.wsn_scan.specs.declared.stage.Stage.TheVariants as stages
 use Rattle.wsn_scan.specs.FramesTold.{Position, BetweenFrames, InFrame, IsBegunBy, IsToldOf}
 use Rattle.wsn_scan.specs.NoticeReaders.{HasTold, unread, left_of}
-use Rattle.wsn_scan.specs.PartialHeads.{info_at}
-use Rattle.wsn_scan.specs.Payloads.{unmasked_by}
+use Rattle.wsn_frame.specs.PartialHeads.{info_at}
+use Rattle.wsn_frame.specs.Payloads.{unmasked_by}
 use Rattle.wsn_scan.specs.Scans.{StandsAt, IsInPayload, refusal_at}
 use Rattle.wsn_scan.proofs.FedPieces.{untold_few}
 use Rattle.wsn_scan.proofs.FramesReported.{IsWhole, IsToldAt, told_at}
 use Rattle.wsn_scan.proofs.HeadsReported.{head_begins_at, front_unshown, begins_longer}
-use Rattle.wsn_scan.proofs.PayloadMore.{length-unmasked_by, unmasked_by-twice}
+use Rattle.wsn_frame.proofs.PayloadMore.{length-unmasked_by, unmasked_by-twice}
 
 by_key : (key : Option (List ℕ)) (payload : List ℕ) → wire_payload key payload ≡ unmasked_by key 0 payload
 by_key None payload = refl

@@ -13,14 +13,13 @@ use Rattle.wsn_rules.specs.Lawful.{IsLawful}
 use Rattle.wsn_rules.specs.Accepted.{HasNoClose}
 use Rattle.wsn_rules.specs.Evidence.{Evidence}
 use Rattle.wsn_rules.specs.Verdict.{IsRefused}
-use Rattle.wsn_scan.specs.ShownLast.{IsShownLast}
+use Rattle.wsn_frame.specs.ShownLast.{IsShownLast}
 use Rattle.wsn_rules.specs.declared.head_info.HeadInfo.{HeadInfo}
 use Rattle.wsn_rules.specs.Heads.{heads_of, IsBegun}
 use Rattle.wsn_scan.specs.Scans.{Knows, Reaches, IsRefusedThere, refusal_of}
-use Rattle.wsn_scan.specs.Reports.{Reported, ends_of}
+use Rattle.wsn_scan.specs.Reports.{IsPayloadPrefix, Reported, ends_of}
 use Rattle.wsn_scan.proofs.HeadsReported.{begun_stays}
 use Rattle.wsn_rules.proofs.NextBytes.{refused_at}
-use Rattle.wsn_scan.specs.Payloads.{IsPayloadPrefix}
 
 -- the bytes up to the place are refused, and so they stay
 pub refused_here : (role : Role) (limits : Limits) (bytes seen later : List ℕ) (fs : List Frame) (place : ℕ) (reason : Reason) → IsLawful role limits fs → HasNoClose fs

@@ -6,21 +6,21 @@ use Rattle.wsn_wire.specs.declared.opcode.Op.TheVariants.{Continue, Text, Binary
 use Rattle.wsn_wire.specs.declared.refusal.Reason.{Reason}
 use Rattle.wsn_wire.specs.Frame.{Frame, first_byte, key_bytes, stream}
 use Rattle.wsn_wire.proofs.FrameLemmas.{fronts_agree}
-use Rattle.wsn_scan.specs.declared.open_message.OpenMessage.{OpenMessage}
+use Rattle.wsn_frame.specs.declared.open_message.OpenMessage.{OpenMessage}
 use Rattle.wsn_rules.specs.declared.verdict.Verdict.TheVariants.{Accepted, Cut}
 use Rattle.wsn_scan.specs.declared.scan.Scan.{Scan}
-use Rattle.wsn_scan.specs.declared.partial_head.PartialHead.{PartialHead}
-use Rattle.wsn_scan.specs.declared.partial_head.PartialHead.TheVariants.{Empty, First, Two, Eight, Key}
+use Rattle.wsn_frame.specs.declared.partial_head.PartialHead.{PartialHead}
+use Rattle.wsn_frame.specs.declared.partial_head.PartialHead.TheVariants.{Empty, First, Two, Eight, Key}
 use Rattle.wsn_scan.specs.declared.stage.Inside.{Inside}
 use Rattle.wsn_scan.specs.declared.stage.Stage.{Stage}
-use Rattle.wsn_scan.specs.PartialHeads.{StandsFor}
+use Rattle.wsn_frame.specs.PartialHeads.{StandsFor}
 use Rattle.wsn_rules.specs.Limits.{Limits}
 use Rattle.wsn_rules.specs.Group.{unfinished}
 use Rattle.wsn_rules.specs.Accepted.{HasNoClose, EndsWithClose}
 use Rattle.wsn_rules.specs.Summary.{size_of_open, is_close, close_code, close_of, counted}
 use Rattle.wsn_rules.specs.Verdict.{Shown, EndsWithinFrame, IsVerdict}
 use Rattle.wsn_rules.specs.Unshown.{IsUnshown}
-use Rattle.wsn_scan.specs.OpenMessages.{IsOpenMessage}
+use Rattle.wsn_frame.specs.OpenMessages.{IsOpenMessage}
 use Rattle.wsn_scan.specs.Scans.{IsInPayload, StandsAt, taken_of, size_of_message, summary_of, verdict_between}
 use Rattle.wsn_scan.specs.Reports.{Reported}
 use Rattle.wsn_rules.proofs.LeastShown.{evidence_is_some}

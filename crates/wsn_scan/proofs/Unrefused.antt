@@ -6,18 +6,18 @@ use Rattle.wsn_wire.specs.declared.endpoint.Role.{Role}
 use Rattle.wsn_wire.specs.declared.refusal.Reason.{Reason}
 use Rattle.wsn_wire.specs.Frame.{Frame, IsBytes, stream}
 use Rattle.wsn_wire.proofs.FrameLemmas.{IsBytes-right}
-use Rattle.wsn_scan.specs.declared.open_message.OpenMessage.{OpenMessage}
+use Rattle.wsn_frame.specs.declared.open_message.OpenMessage.{OpenMessage}
 use Rattle.wsn_rules.specs.declared.verdict.Refusal.{Refusal}
 use Rattle.wsn_rules.specs.declared.verdict.Verdict.{Verdict}
 use Rattle.wsn_rules.specs.declared.verdict.Verdict.TheVariants.{Accepted, Cut, Refused}
-use Rattle.wsn_scan.specs.declared.partial_head.PartialHead.{PartialHead}
-use Rattle.wsn_scan.specs.declared.partial_head.PartialHead.TheVariants.{Empty, First, Two, Eight, Key}
+use Rattle.wsn_frame.specs.declared.partial_head.PartialHead.{PartialHead}
+use Rattle.wsn_frame.specs.declared.partial_head.PartialHead.TheVariants.{Empty, First, Two, Eight, Key}
 use Rattle.wsn_scan.specs.declared.stage.Stage.{Stage}
 use Rattle.wsn_scan.specs.declared.stage.Stage.TheVariants as stages
 use Rattle.wsn_scan.specs.declared.scan.Scan.{Scan}
 use Rattle.wsn_rules.specs.Limits.{Limits}
 use Rattle.wsn_rules.specs.Group.{unfinished}
-use Rattle.wsn_scan.specs.PartialHeads.{StandsFor}
+use Rattle.wsn_frame.specs.PartialHeads.{StandsFor}
 use Rattle.wsn_rules.specs.Verdict.{IsRefused, IsVerdict}
 use Rattle.wsn_scan.specs.Scans.{StandsAt, summary_of, taken_of, verdict_between, refusal_at, refusal_in, IsRefusedThere}
 use Rattle.wsn_scan.specs.Reports.{refusal_judged, Reported}

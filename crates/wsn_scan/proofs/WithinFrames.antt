@@ -7,11 +7,11 @@ use Rattle.wsn_wire.proofs.FrameLemmas.{key_bytes_count, fronts_agree}
 use Rattle.wsn_wire.specs.declared.heads.FirstByte.{FirstByte}
 use Rattle.wsn_wire.specs.declared.spelling.LenForm.{LenForm}
 use Rattle.wsn_wire.specs.declared.spelling.LenForm.TheVariants as len_form
-use Rattle.wsn_scan.specs.declared.partial_head.PartialHead.{PartialHead}
-use Rattle.wsn_scan.specs.declared.partial_head.PartialHead.TheVariants.{Empty, First, Two, Eight, Key}
+use Rattle.wsn_frame.specs.declared.partial_head.PartialHead.{PartialHead}
+use Rattle.wsn_frame.specs.declared.partial_head.PartialHead.TheVariants.{Empty, First, Two, Eight, Key}
 use Rattle.wsn_rules.specs.Limits.{Limits}
 use Rattle.wsn_rules.specs.Verdict.{EndsWithinFrame}
-use Rattle.wsn_scan.specs.PartialHeads.{IsInLength, StandsFor, IsInHead}
+use Rattle.wsn_frame.specs.PartialHeads.{IsInLength, StandsFor, IsInHead}
 use Rattle.wsn_scan.specs.declared.stage.Inside.{Inside}
 use Rattle.wsn_scan.specs.Scans.{IsInPayload}
 use Rattle.wsn_rules.proofs.LayoutFronts.{BeginsWithLayout, layout_or_within}

@@ -7,7 +7,7 @@ use Rattle.wsn_rules.specs.Limits.{Limits, InRange}
 use Rattle.wsn_rules.specs.Accepted.{HasNoClose}
 use Rattle.wsn_rules.specs.Heads.{BeginsWithHead}
 use Rattle.wsn_rules.specs.Lawful.{IsLawful}
-use Rattle.wsn_scan.specs.Payloads.{unmasked_by}
+use Rattle.wsn_frame.specs.Payloads.{unmasked_by}
 
 -- Behind the frames whose ends were told: no frame has begun, or a head was told, and so much of its frame's payload.
 pub data Position : Type 0 where

@@ -1,10 +1,10 @@
 -- What an engine that reads an input to its verdict took of it, and what its answer says of that.
 use Rattle.std.specs.Prelude.{◌≡◌, ℕ, ◌+◌, ◌<◌, ◌≤◌, false, true, Result, Ok, Err, List, ◌++◌, length, take}
-use Rattle.std.specs.Io.KnownBytes.{Consumes, IsAtEnd}
+use Rattle.std.specs.Io.KnownBytes.{IsAtEnd}
 use Rattle.wsn_wire.specs.declared.endpoint.Role.{Role}
 use Rattle.wsn_wire.specs.declared.refusal.Reason.{Reason}
 use Rattle.wsn_wire.specs.Frame.{Frame}
-use Rattle.wsn_wire.specs.Transfer.{Incoming}
+use Rattle.wsn_wire.specs.Transfer.{Incoming, IsReceived}
 use Rattle.wsn_rules.specs.declared.verdict.Verdict.{Verdict}
 use Rattle.wsn_rules.specs.declared.verdict.Verdict.TheVariants.{Refused}
 use Rattle.wsn_scan.specs.declared.stop.Stop.{Stop}
@@ -45,8 +45,7 @@ IsAnswer role limits new came (Err stopped) = IsStopped role limits new came sto
 -- These bytes came from the input, one more than its limit at most, and the answer is theirs.
 pub record IsJudgedOf (role : Role) (limits : Limits) (old new : Incoming) (came : List ℕ)
     (result : Result Verdict Stop) : Type 0 where
-  pub consumed : Consumes old.remaining new.remaining came
-  pub few : length came ≤ limits.input + 1
+  pub received : IsReceived (limits.input + 1) old new came
   pub answer : IsAnswer role limits new came result
 
 -- Some bytes came, and the answer is theirs.

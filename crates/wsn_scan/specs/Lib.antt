@@ -8,11 +8,7 @@ pub mod FramesTold
 pub mod NoticeReaders
 pub mod ReadNotices
 -- what private functions need
-pub mod Payloads
-pub mod ShownLast
-pub mod OpenMessages
-pub mod PartialHeads
-pub mod PayloadChecks
-pub mod Counts
 pub mod Scans
 pub mod ReaderSteps
+-- what the clauses in src/ import
+pub mod Words

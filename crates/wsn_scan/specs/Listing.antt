@@ -1,9 +1,8 @@
 -- What is printed of a stream: a line for each of its heads, and one for its verdict.
-use Rattle.std.specs.Prelude.{◌≡◌, ℕ, ◌+◌, ◌≤◌, Option, Result, Ok, Err, List, ◌++◌, length, take, ⊤}
-use Rattle.std.specs.Io.KnownBytes.{Consumes}
+use Rattle.std.specs.Prelude.{◌≡◌, ℕ, ◌+◌, Option, Result, Ok, Err, List, ◌++◌, take, ⊤}
 use Rattle.wsn_wire.specs.declared.endpoint.Role.{Role}
 use Rattle.wsn_wire.specs.Frame.{Frame}
-use Rattle.wsn_wire.specs.Transfer.{Incoming, Outgoing, IsWritten, IsPartlyWritten, IsWrittenUpToFailure}
+use Rattle.wsn_wire.specs.Transfer.{Incoming, Outgoing, IsReceived, IsWritten, IsPartlyWritten, IsWrittenUpToFailure}
 use Rattle.wsn_rules.specs.declared.head_info.HeadInfo.{HeadInfo}
 use Rattle.wsn_rules.specs.declared.verdict.Verdict.{Verdict}
 use Rattle.wsn_scan.specs.declared.stop.Stop.{Stop}
@@ -64,7 +63,6 @@ IsListAnswer role limits new came result = IsAnswer role limits new came result
 pub record IsListed (role : Role) (limits : Limits) (old new : Incoming) (before after : Outgoing)
     (result : Result Verdict Stop) : Type 0 where
   pub came : List ℕ
-  pub consumed : Consumes old.remaining new.remaining came
-  pub few : length came ≤ limits.input + 1
+  pub received : IsReceived (limits.input + 1) old new came
   pub answer : IsListAnswer role limits new came result
   pub printed : IsPrinted role limits came before after result

@@ -1,12 +1,12 @@
 -- What a scan has reported of the bytes that it has taken, as its callers read it.
 use Rattle.std.specs.Prelude.{◌≡◌, ℕ, ◌-◌, ◌<◌, ◌⊎◌, Bool, Option, None, Some, List, [], ◌∷◌, ◌++◌, length, map, ⊤, ◌≤◌}
 use Rattle.wsn_wire.specs.declared.endpoint.Role.{Role}
-use Rattle.wsn_wire.specs.Frame.{Frame, stream}
+use Rattle.wsn_wire.specs.Frame.{Frame, head_bytes, stream}
 use Rattle.wsn_rules.specs.declared.head_info.HeadInfo.{HeadInfo}
 use Rattle.wsn_rules.specs.Limits.{Limits}
 use Rattle.wsn_rules.specs.Lawful.{IsLawful}
 use Rattle.wsn_rules.specs.Heads.{heads_of, AreHeads}
-use Rattle.wsn_scan.specs.Payloads.{IsPayloadPrefix}
+use Rattle.wsn_frame.specs.Payloads.{unmasked_by}
 use Rattle.wsn_rules.specs.Accepted.{HasNoClose, EndsWithClose}
 use Rattle.wsn_rules.specs.declared.verdict.Refusal.{Refusal}
 use Rattle.wsn_scan.specs.declared.notice.Notice.{Notice}
@@ -62,6 +62,14 @@ IsHeadNotice notice = ⊥
 -- Each frame's end was reported, once and in order; or all but that of the last frame, and no byte behind it was taken.
 abbrev pub AreEnds : List Frame → List ℕ → List Bool → Type 0
 AreEnds fs rest ends = (ends ≡ ends_of fs) ⊎ ((rest ≡ []) × ((fin : Bool) × (ends ++ fin ∷ [] ≡ ends_of fs)))
+
+-- Behind the frames fs a frame with this head has begun, and this is a prefix of its payload, unmasked.
+pub record IsPayloadPrefix (fs : List Frame) (bytes : List ℕ) (info : HeadInfo) (payload : List ℕ) : Type 0 where
+  pub wire : List ℕ
+  pub later : List ℕ
+  pub whole : bytes ≡ stream fs ++ (head_bytes info.fin info.op info.key info.form info.len ++ (wire ++ later))
+  pub within : length wire ≤ info.len
+  pub unmasked : payload ≡ unmasked_by info.key 0 wire
 
 -- The bytes are whole lawful frames and a rest. Their heads were reported, and the head of the frame that the rest
 -- begins, once it was whole and where it shows nothing; what was handed out behind that head is a prefix of its frame's

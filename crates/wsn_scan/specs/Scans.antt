@@ -2,12 +2,12 @@
 use Rattle.std.specs.Prelude.{◌≡◌, ℕ, ◌+◌, ◌-◌, ◌<◌, ◌⊎◌, Bool, true, Option, None, Some, List, [], ◌∷◌, ◌++◌, length, take, ⊤}
 use Rattle.wsn_wire.specs.declared.endpoint.Role.{Role}
 use Rattle.wsn_wire.specs.Frame.{Frame, IsBytes, first_byte, stream}
-use Rattle.wsn_scan.specs.declared.open_message.OpenMessage.{OpenMessage}
+use Rattle.wsn_frame.specs.declared.open_message.OpenMessage.{OpenMessage}
 use Rattle.wsn_wire.specs.declared.refusal.Reason.{Reason}
 use Rattle.wsn_rules.specs.declared.verdict.Refusal.{Refusal}
-use Rattle.wsn_scan.specs.declared.partial_head.Head.{Head}
-use Rattle.wsn_scan.specs.declared.payload_check.PayloadCheck.{PayloadCheck}
-use Rattle.wsn_scan.specs.Payloads.{unmasked_by, IsPayloadPrefix}
+use Rattle.wsn_frame.specs.declared.partial_head.Head.{Head}
+use Rattle.wsn_frame.specs.declared.payload_check.PayloadCheck.{PayloadCheck}
+use Rattle.wsn_frame.specs.Payloads.{unmasked_by, HoldsPayload}
 use Rattle.wsn_scan.specs.declared.stage.Inside.{Inside}
 use Rattle.wsn_scan.specs.declared.stage.Stage.{Stage}
 use Rattle.wsn_scan.specs.declared.stage.Stage.TheVariants as stages
@@ -23,24 +23,13 @@ use Rattle.wsn_rules.specs.Lawful.{IsLawful}
 use Rattle.wsn_rules.specs.Accepted.{HasNoClose, EndsWithClose}
 use Rattle.wsn_rules.specs.Summary.{close_of}
 use Rattle.wsn_rules.specs.Verdict.{IsRefused}
-use Rattle.wsn_rules.specs.Unshown.{IsUnshown}
-use Rattle.wsn_scan.specs.OpenMessages.{IsOpenMessage}
+use Rattle.wsn_frame.specs.OpenMessages.{IsOpenMessage}
 use Rattle.wsn_rules.specs.declared.head_info.HeadInfo.{HeadInfo}
-use Rattle.wsn_scan.specs.PartialHeads.{IsInHead, IsHead, info_at}
+use Rattle.wsn_frame.specs.PartialHeads.{IsInHead, IsHead, info_at}
 use Rattle.wsn_rules.specs.Heads.{heads_of, AreHeads}
-use Rattle.wsn_scan.specs.PayloadChecks.{HasChecked}
-use Rattle.wsn_scan.specs.Counts.{AreCounts}
-use Rattle.wsn_scan.specs.Reports.{Reported, reported_after, ends_of, IsRefusal, IsMost, IsHeadNotice}
-
--- A whole head came, and this much of the payload, as it goes over the wire; nothing is shown.
-pub record HoldsPayload (role : Role) (limits : Limits) (group : List Frame) (head : Head) (check : PayloadCheck)
-    (wire rest : List ℕ) : Type 0 where
-  pub head_bytes : List ℕ
-  pub whole : rest ≡ head_bytes ++ wire
-  pub is_head : IsHead role limits group head head_bytes
-  pub in_bytes : IsBytes wire
-  pub checked : HasChecked group (first_byte head.first.fin head.first.op) check (unmasked_by head.key 0 wire)
-  pub unshown : IsUnshown role limits group rest
+use Rattle.wsn_frame.specs.PayloadChecks.{HasChecked}
+use Rattle.wsn_frame.specs.Counts.{AreCounts}
+use Rattle.wsn_scan.specs.Reports.{Reported, reported_after, ends_of, IsRefusal, IsMost, IsHeadNotice, IsPayloadPrefix}
 
 -- Part of the payload came, and was reported unmasked.
 pub record IsInPayload (role : Role) (limits : Limits) (group : List Frame) (inside : Inside) (rest payload : List ℕ)

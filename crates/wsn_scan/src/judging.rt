@@ -1,8 +1,5 @@
 ghost use Rattle.std.specs.Prelude.{◌≡◌, ℕ, ◌+◌, ◌<◌, ◌≤◌, List, Some, length, take, IfSome, IfNone, IfOk, Err, ◌↔◌, false, true};
-ghost use Rattle.std.specs.Io.KnownBytes.{Consumes, Keeps, IsAtEnd};
-ghost use Rattle.wsn_wire.specs.Frame.{Frame, IsBytes};
-ghost use Rattle.wsn_scan.specs.Judging.{IsJudged, IsUnrefused};
-ghost use Rattle.wsn_rules.specs.Verdict.{IsVerdict};
+ghost use Rattle.wsn_scan.specs.Words.{Consumes, Keeps, IsAtEnd, Frame, IsBytes, IsJudged, IsUnrefused, IsVerdict};
 
 use crate::scan::Scan;
 use crate::stop::Stop;

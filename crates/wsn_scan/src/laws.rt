@@ -2,21 +2,7 @@
 //! contract is the fact.
 
 ghost use Rattle.std.specs.Prelude.{◌≡◌, ℕ, false, Some, Result, List};
-ghost use Rattle.wsn_wire.specs.Frame.{Frame};
-ghost use Rattle.wsn_wire.specs.declared.endpoint.Role.{Role};
-ghost use Rattle.wsn_wire.specs.Transfer.{Incoming};
-ghost use Rattle.wsn_rules.specs.Limits.{Limits};
-ghost use Rattle.wsn_rules.specs.declared.verdict.Verdict.{Verdict};
-ghost use Rattle.wsn_scan.specs.declared.stop.Stop.{Stop};
-ghost use Rattle.wsn_scan.specs.declared.notice_reader.NoticeReader.{NoticeReader};
-ghost use Rattle.wsn_scan.specs.FramesTold.{Position, IsToldOf};
-ghost use Rattle.wsn_scan.specs.Judging.{IsJudged};
-ghost use Rattle.wsn_wire.specs.Frame.{Frame};
-ghost use Rattle.wsn_scan.specs.declared.scan.Scan.{Scan};
-ghost use Rattle.wsn_scan.specs.Scans.{Stands, Takes, refusal_in};
-ghost use Rattle.wsn_scan.specs.Reports.{Reported, IsReport, AnswersByCase};
-ghost use Rattle.wsn_scan.specs.declared.notice.Notice.{Notice};
-ghost use Rattle.wsn_scan.specs.NoticeReaders.{HasTold};
+ghost use Rattle.wsn_scan.specs.Words.{Frame, Role, Incoming, Limits, Verdict, Stop, NoticeReader, Position, IsToldOf, IsJudged, Scan, Stands, Takes, refusal_in, Reported, IsReport, AnswersByCase, Notice, HasTold};
 
 /// Of an input whose bytes are known only one answer of [`judge`](crate::judge) is right, in whatever pieces
 /// they come, unless a read fails.

@@ -2,27 +2,22 @@
 //!
 //! [`Scan`] reads a stream in pieces and keeps none of it. [`judge`] reads an input to its verdict, [`list`] prints
 //! a line for each of its frames first, and [`put_verdict`] prints a verdict. What a stream means, and which verdict
-//! it has, `wsn_rules` defines; `specs/` says how a scan stands to the bytes that it has taken.
+//! it has, `wsn_rules` defines; `specs/` says how a scan stands to the bytes that it has taken. What one frame needs of
+//! it, its head, its key and the check of its payload, is in `wsn_frame`.
 #![tactic(auto)]
 
-mod buffered_head;
-mod counts;
-mod frame_context;
 mod judging;
 pub mod laws;
 mod lines;
 mod listing;
 mod notice;
 mod notice_reader;
-mod open_message;
-mod partial_head;
-mod payload_check;
 mod scan;
 mod stage;
 mod stop;
 
 pub use judging::{PIECE, judge};
-pub use lines::put_verdict;
+pub use lines::{put_line, put_verdict};
 pub use listing::list;
 pub use notice::Notice;
 pub use notice_reader::{NextNotice, NoticeReader};

@@ -1,9 +1,5 @@
 ghost use Rattle.std.specs.Prelude.{◌≡◌, ℕ, ◌≤◌, List, ◌++◌, length, false, Ok};
-ghost use Rattle.wsn_wire.specs.Transfer.{Outgoing, IsWrittenUpToFailure};
-ghost use Rattle.wsn_scan.specs.Scans.{room_of};
-ghost use Rattle.wsn_scan.specs.Feeding.{IsRunning, heads_in};
-ghost use Rattle.wsn_rules.specs.Lines.{head_lines};
-ghost use Rattle.wsn_scan.specs.Listing.{IsEnded, IsListedPiece, IsListed};
+ghost use Rattle.wsn_scan.specs.Words.{Outgoing, IsWrittenUpToFailure, room_of, IsRunning, heads_in, head_lines, IsEnded, IsListedPiece, IsListed};
 
 use crate::judging::{PIECE, read_piece};
 use crate::lines::{put_head, put_verdict};
@@ -52,7 +48,7 @@ pub fn list<R: Read, W: Write>(
     }
 }
 
-/// IsWrittenUpToFailure the verdict and answers it.
+/// Writes the verdict and answers it.
 fn end<W: Write>(output: &mut Output<W>, verdict: Verdict) -> Result<Verdict, Stop>
     requires { output.old.failed ≡ false }
     ensures { IsEnded output.old output.new verdict result }
@@ -85,7 +81,7 @@ fn list_piece<W: Write>(
     None
 }
 
-/// IsWrittenUpToFailure the head that a notice tells, unless a write has failed.
+/// Writes the head that a notice tells, unless a write has failed.
 fn print<W: Write>(output: &mut Output<W>, notice: &Notice)
     ensures { (before : Outgoing) (text : List ℕ) → IsWrittenUpToFailure before output.old text →
         IsWrittenUpToFailure before output.new (text ++ head_lines (heads_in notice.now)) }

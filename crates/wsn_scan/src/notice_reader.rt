@@ -44,11 +44,7 @@ pub struct NoticeReader {
 }
 
 impl NoticeReader {
-    ghost use Rattle.wsn_wire.specs.declared.endpoint.Role.{Role};
-    ghost use Rattle.wsn_scan.specs.FramesTold.{Position, BetweenFrames};
-    ghost use Rattle.wsn_scan.specs.NoticeReaders.{HasTold, IsReading, left_of, payload_of};
-    ghost use Rattle.wsn_scan.specs.ReadNotices.{ReadsOn, IsNotice};
-    ghost use Rattle.wsn_scan.specs.ReaderSteps.{Tells, Progresses, IsUsed, IsFilled};
+    ghost use Rattle.wsn_scan.specs.Words.{Role, Position, BetweenFrames, HasTold, IsReading, left_of, payload_of, ReadsOn, IsNotice, Tells, Progresses, IsUsed, IsFilled};
 
     /// A reader that has read nothing. It takes no memory.
     pub fn new(role: Role, limits: Limits) -> NoticeReader

@@ -3,12 +3,10 @@ mod stages;
 mod verdicts;
 mod whole_frames;
 
-use crate::counts::Counts;
-use crate::frame_context::FrameContext;
 use crate::notice::Notice;
-use crate::partial_head::PartialHead;
 use crate::stage::Stage;
 use std::mem;
+use wsn_frame::{Counts, FrameContext, PartialHead};
 use wsn_rules::{Limits, Refusal};
 use wsn_wire::Role;
 
@@ -24,10 +22,7 @@ pub struct Scan {
 
 impl Scan {
     ghost use Rattle.std.specs.Prelude.{◌≡◌, ℕ, ◌+◌, ◌-◌, ◌<◌, ◌≤◌, List, [], length, drop, ◌≢◌, None};
-    ghost use Rattle.wsn_wire.specs.Frame.{Frame};
-    ghost use Rattle.wsn_scan.specs.Scans.{Takes, Stands, room_of, GetsOn, refusal_in, taken_of, Advances};
-    ghost use Rattle.wsn_scan.specs.Reports.{Reported, nothing_reported, refusal_in_notice};
-    ghost use Rattle.wsn_wire.specs.declared.endpoint.Role.{Role};
+    ghost use Rattle.wsn_scan.specs.Words.{Frame, Takes, Stands, room_of, GetsOn, refusal_in, taken_of, Advances, Reported, nothing_reported, refusal_in_notice, Role};
 
     /// A scan that has taken nothing.
     pub fn new(role: Role, limits: Limits) -> Scan

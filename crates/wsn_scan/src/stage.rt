@@ -1,11 +1,8 @@
-ghost use Rattle.std.specs.Prelude.{◌≡◌, ℕ, None, List, [], ◌∷◌, ◌++◌, IsTrue};
-ghost use Rattle.wsn_wire.specs.Frame.{Frame, first_byte};
-ghost use Rattle.wsn_rules.specs.Group.{unfinished};
-ghost use Rattle.wsn_rules.specs.Lawful.{IsLawful};
+ghost use Rattle.std.specs.Prelude.{◌≡◌, ℕ, None, List, [], IsTrue};
+ghost use Rattle.wsn_wire.specs.Frame.{Frame};
 ghost use Rattle.wsn_rules.specs.Accepted.{HasNoClose};
 
-use crate::partial_head::{Head, PartialHead};
-use crate::payload_check::PayloadCheck;
+use wsn_frame::{Head, PartialHead, PayloadCheck};
 use wsn_rules::Refusal;
 
 /// A frame whose payload comes.
@@ -37,10 +34,7 @@ pub enum Stage {
 }
 
 impl Stage {
-    ghost use Rattle.wsn_scan.specs.PayloadChecks.{HasChecked};
-    ghost use Rattle.wsn_rules.specs.Heads.{heads_of};
-    ghost use Rattle.wsn_scan.specs.Scans.{IsAt, IsStageBehind, refusal_at};
-    ghost use Rattle.wsn_scan.specs.Reports.{Reported, ends_of};
+    ghost use Rattle.wsn_scan.specs.Words.{heads_of, IsAt, IsStageBehind, refusal_at, Reported};
 
     /// Behind a whole frame.
     pub fn behind(fin: bool, check: &PayloadCheck) -> Stage

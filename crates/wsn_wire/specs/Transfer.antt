@@ -1,6 +1,6 @@
--- What a contract sees of an input and of an output, and what it says was written.
-use Rattle.std.specs.Prelude.{◌≡◌, ℕ, ◌⊎◌, Bool, true, false, List, Option, take}
-use Rattle.std.specs.Io.KnownBytes.{Appends}
+-- What a contract sees of an input and of an output, and what it says was received and written.
+use Rattle.std.specs.Prelude.{◌≡◌, ℕ, ◌≤◌, ◌⊎◌, Bool, true, false, List, Option, length, take}
+use Rattle.std.specs.Io.KnownBytes.{Appends, Consumes}
 
 -- An input: the bytes that its reader will give, where they are known, and whether a read has failed.
 pub record Incoming : Type 0 where
@@ -11,6 +11,13 @@ pub record Incoming : Type 0 where
 pub record Outgoing : Type 0 where
   pub written : Option (List ℕ)
   pub failed : Bool
+
+-- ---- what was received
+
+-- These bytes came, no more than `most`.
+pub record IsReceived (most : ℕ) (old new : Incoming) (came : List ℕ) : Type 0 where
+  pub consumed : Consumes old.remaining new.remaining came
+  pub few : length came ≤ most
 
 -- ---- what was written
 

@@ -5,8 +5,7 @@ use wsn_rules::Refusal;
 
 impl Scan {
     ghost use Rattle.std.specs.Prelude.{◌≤◌, length};
-    ghost use Rattle.wsn_scan.specs.Scans.{room_of};
-    ghost use Rattle.wsn_scan.specs.Feeding.{IsRunning, HasFed};
+    ghost use Rattle.wsn_scan.specs.Words.{room_of, IsRunning, HasFed};
 
     /// Takes the piece, which is no longer than `room`: all of it, or up to a refusal, which it answers. It unmasks
     /// payload in place.

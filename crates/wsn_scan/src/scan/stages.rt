@@ -1,29 +1,15 @@
 //! What a scan takes at each stage of a frame.
 
-ghost use Rattle.std.specs.Prelude.{◌≡◌, ◌+◌, ◌<◌, ◌^◌, length};
-ghost use Rattle.wsn_scan.specs.Payloads.{unmasked_by};
-
 use super::Scan;
-use crate::buffered_head::whole_head;
 use crate::notice::Notice;
-use crate::open_message::message_after;
-use crate::partial_head::{Head, HeadStep, PartialHead};
-use crate::payload_check::PayloadCheck;
 use crate::stage::{Inside, Stage};
+use wsn_frame::{Head, HeadStep, PartialHead, PayloadCheck, message_after, unmask, whole_head};
 use wsn_rules::Refusal;
-use wsn_wire::{Reason, mask};
+use wsn_wire::Reason;
 
 impl Scan {
-    ghost use Rattle.std.specs.Prelude.{◌≡◌, ℕ, ◌+◌, ◌-◌, ◌<◌, ◌≤◌, ◌⊎◌, List, [], ◌∷◌, ◌++◌, None, length, drop};
-    ghost use Rattle.wsn_wire.specs.Frame.{Frame, stream};
-    ghost use Rattle.wsn_scan.specs.PartialHeads.{info_at};
-    ghost use Rattle.wsn_rules.specs.Heads.{heads_of};
-    ghost use Rattle.wsn_scan.specs.Payloads.{unmasked_by};
-    ghost use Rattle.wsn_scan.specs.Scans.{TakesAt, room_of, refusal_in, AdvancesFrom, BeginsFrame, Knows, HoldsPayload, EndsWithPayload, refusal_of};
-    ghost use Rattle.wsn_scan.specs.Reports.{Reported, ends_of, IsHeadNotice, IsRefusal, refusal_in_notice};
-    ghost use Rattle.wsn_wire.specs.declared.endpoint.Role.{Role};
-    ghost use Rattle.wsn_rules.specs.Group.{unfinished};
-    ghost use Rattle.wsn_rules.specs.Accepted.{HasNoClose};
+    ghost use Rattle.std.specs.Prelude.{◌≡◌, ◌+◌, ◌-◌, ◌<◌, ◌≤◌, ◌⊎◌, None, length, drop};
+    ghost use Rattle.wsn_scan.specs.Words.{TakesAt, room_of, refusal_in, AdvancesFrom, BeginsFrame, EndsWithPayload, refusal_of, IsHeadNotice, IsRefusal, refusal_in_notice};
 
     /// Before the first byte of a frame.
     #[inline(always)]
@@ -172,15 +158,5 @@ impl Scan {
         self.counts = self.counts.with(head.first.fin, head.first.op);
         self.context.message = message_after(self.context.message, head, check);
         self.stage = Stage::behind(head.first.fin, check);
-    }
-}
-
-/// Masks or unmasks payload, whose first byte here stands at `start`, if there is a key.
-pub(super) fn unmask(key: Option<[u8; 4]>, start: u64, bytes: &mut [u8])
-    requires { start + length bytes.old < 2 ^ 64 }
-    ensures { bytes.new ≡ unmasked_by key start bytes.old }
-{
-    if let Some(key) = key {
-        mask(key, start, bytes);
     }
 }

@@ -6,12 +6,7 @@ use wsn_rules::{Summary, Verdict};
 
 impl Scan {
     ghost use Rattle.std.specs.Prelude.{◌≡◌, ℕ, ◌-◌, ◌<◌, List, Some};
-    ghost use Rattle.wsn_wire.specs.Frame.{Frame};
-    ghost use Rattle.wsn_rules.specs.Heads.{AreHeads};
-    ghost use Rattle.wsn_scan.specs.Scans.{Stands, refusal_in, taken_of, summary_of, verdict_between};
-    ghost use Rattle.wsn_scan.specs.Reports.{Reported, refusal_judged};
-    ghost use Rattle.wsn_rules.specs.Group.{unfinished};
-    ghost use Rattle.wsn_rules.specs.Verdict.{IsVerdict};
+    ghost use Rattle.wsn_scan.specs.Words.{Frame, AreHeads, Stands, refusal_in, taken_of, summary_of, verdict_between, Reported, refusal_judged, unfinished, IsVerdict};
 
     /// The verdict on the bytes taken, as the whole input.
     #[tactic(auto, using(crate::proofs::HeadsSoFar::heads_told))]

@@ -1,16 +1,11 @@
 //! Frames that a piece holds whole, taken at once.
 
 use super::Scan;
-use super::stages::unmask;
-use crate::buffered_head::whole_head;
-use crate::payload_check::PayloadCheck;
+use wsn_frame::{PayloadCheck, unmask, whole_head};
 
 impl Scan {
     ghost use Rattle.std.specs.Prelude.{◌≡◌, ◌+◌, ◌-◌, ◌<◌, ◌≤◌, List, None, length, drop, IfSome, IfNone};
-    ghost use Rattle.wsn_rules.specs.declared.head_info.HeadInfo.{HeadInfo};
-    ghost use Rattle.wsn_scan.specs.Feeding.{TakesFront};
-    ghost use Rattle.wsn_wire.specs.Frame.{IsBytes};
-    ghost use Rattle.wsn_scan.specs.Scans.{Takes, room_of, refusal_in};
+    ghost use Rattle.wsn_scan.specs.Words.{HeadInfo, TakesFront, IsBytes, Takes, room_of, refusal_in};
 
     /// Takes frames from the front of the piece, up to the first that [`Scan::take_frame`] leaves, and answers how
     /// many bytes. It tells nothing: `next` is for a caller that reads notices.

@@ -7,9 +7,9 @@ use Rattle.wsn_rules.specs.Group.{unfinished}
 use Rattle.wsn_rules.specs.Heads.{heads_of}
 use Rattle.wsn_scan.specs.Reports.{reported_after}
 use Rattle.wsn_scan.proofs.HeadsReported.{heads_with, cut_begins_none}
-use Rattle.wsn_scan.proofs.PayloadMore.{unmasked_nothing}
-use Rattle.wsn_scan.proofs.FrameStarts.{goes_on, begins}
-use Rattle.wsn_scan.proofs.PayloadBytes.{starts, starts_empty, cut_at_start}
+use Rattle.wsn_frame.proofs.PayloadMore.{unmasked_nothing}
+use Rattle.wsn_frame.proofs.FrameStarts.{goes_on, begins}
+use Rattle.wsn_frame.proofs.PayloadBytes.{starts, starts_empty, cut_at_start}
 use Rattle.wsn_scan.proofs.MoreBytes.{knows_more}
 use Rattle.wsn_scan.proofs.Refusals.{refuses}
 use Rattle.wsn_scan.proofs.scan.Scan.begin.Goals as goal

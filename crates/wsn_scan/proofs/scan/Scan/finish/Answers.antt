@@ -1,9 +1,9 @@
 use Rattle.std.proofs.Common.{◌≡◌, ◌∙◌, ℕ, false, true, List, [], inl, sym, subst, append-nil}
 use Rattle.wsn_scan.specs.declared.stage.Stage.{Stage}
-use Rattle.wsn_scan.specs.declared.partial_head.PartialHead.{PartialHead}
+use Rattle.wsn_frame.specs.declared.partial_head.PartialHead.{PartialHead}
 use Rattle.wsn_wire.specs.Frame.{IsBytes, stream}
 use Rattle.wsn_wire.proofs.FrameLemmas.{IsBytes-right}
-use Rattle.wsn_scan.specs.PartialHeads.{StandsFor}
+use Rattle.wsn_frame.specs.PartialHeads.{StandsFor}
 use Rattle.wsn_rules.specs.Group.{unfinished}
 use Rattle.wsn_rules.specs.Verdict.{IsRefused}
 use Rattle.wsn_scan.specs.Scans.{IsAt}

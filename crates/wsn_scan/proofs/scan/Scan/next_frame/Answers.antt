@@ -3,7 +3,7 @@ use Rattle.std.proofs.lemmas.List.{length-take-le}
 use Rattle.wsn_wire.specs.declared.endpoint.Role.{Role}
 use Rattle.wsn_rules.specs.Limits.{Limits}
 use Rattle.wsn_rules.specs.Group.{unfinished}
-use Rattle.wsn_scan.specs.PartialHeads.{IsHead}
+use Rattle.wsn_frame.specs.PartialHeads.{IsHead}
 use Rattle.wsn_scan.proofs.HeadBytes.{bytes_taken, before_head}
 use Rattle.wsn_scan.proofs.scan.Scan.next_frame.Goals as goal
 

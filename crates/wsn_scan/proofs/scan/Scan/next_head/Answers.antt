@@ -1,9 +1,9 @@
 use Rattle.std.proofs.Common.{◌≡◌, ◌+◌, ℕ, ◌++◌, [], length, take, inl, inr, refl, sym, ap, ◌∙◌, subst, arith, append-nil}
 use Rattle.std.proofs.lemmas.List.{length-take-le}
-use Rattle.wsn_scan.specs.declared.partial_head.HeadStep.{HeadStep}
+use Rattle.wsn_frame.specs.declared.partial_head.HeadStep.{HeadStep}
 use Rattle.wsn_scan.specs.declared.scan.Scan.{Scan}
 use Rattle.wsn_rules.specs.Group.{unfinished}
-use Rattle.wsn_scan.specs.PartialHeads.{IsInHead, IsStep}
+use Rattle.wsn_frame.specs.PartialHeads.{IsInHead, IsStep}
 use Rattle.wsn_rules.specs.Heads.{heads_of}
 use Rattle.wsn_scan.specs.Scans.{Knows}
 use Rattle.wsn_scan.proofs.HeadBytes.{step_on, step_begins_none, bytes_taken}

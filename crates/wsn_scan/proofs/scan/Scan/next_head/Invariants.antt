@@ -4,7 +4,7 @@ use Rattle.wsn_wire.specs.Frame.{Frame, IsBytes}
 use Rattle.wsn_scan.specs.declared.stage.Stage.TheVariants as stages
 use Rattle.wsn_rules.specs.Limits.{Limits}
 use Rattle.wsn_rules.specs.Group.{unfinished}
-use Rattle.wsn_scan.specs.PartialHeads.{IsInHead}
+use Rattle.wsn_frame.specs.PartialHeads.{IsInHead}
 use Rattle.wsn_scan.specs.Scans.{StandsAt}
 use Rattle.wsn_scan.specs.Reports.{Reported}
 use Rattle.wsn_scan.proofs.scan.Scan.next_head.Given as goal

@@ -4,17 +4,17 @@ use Rattle.wsn_wire.specs.Frame.{first_byte, stream}
 use Rattle.wsn_wire.proofs.FrameLemmas.{first_byte_fields}
 use Rattle.wsn_rules.specs.Group.{unfinished}
 use Rattle.wsn_rules.specs.Unshown.{IsUnshown}
-use Rattle.wsn_scan.specs.ShownLast.{IsShownLast}
-use Rattle.wsn_scan.specs.PayloadChecks.{IsChecked}
-use Rattle.wsn_scan.specs.Payloads.{unmasked_by}
+use Rattle.wsn_frame.specs.ShownLast.{IsShownLast}
+use Rattle.wsn_frame.specs.PayloadChecks.{IsChecked}
+use Rattle.wsn_frame.specs.Payloads.{unmasked_by}
 use Rattle.wsn_scan.specs.declared.notice.Notice.TheVariants as notices
-use Rattle.wsn_scan.specs.PartialHeads.{info_at}
+use Rattle.wsn_frame.specs.PartialHeads.{info_at}
 use Rattle.wsn_rules.specs.Heads.{IsBegun}
 use Rattle.wsn_scan.specs.Reports.{reported_after}
 use Rattle.wsn_scan.proofs.HeadsReported.{head_begins, front_unshown}
 use Rattle.wsn_scan.proofs.HeadBytes.{bytes_taken}
 use Rattle.wsn_scan.proofs.MoreBytes.{knows_more}
-use Rattle.wsn_scan.proofs.PayloadMore.{payload_on, holds_on, shown_last, checked_share, masked_again, length-unmasked_by}
+use Rattle.wsn_frame.proofs.PayloadMore.{payload_on, holds_on, shown_last, checked_share, masked_again, length-unmasked_by}
 use Rattle.wsn_scan.proofs.Refusals.{refuses}
 use Rattle.wsn_scan.proofs.scan.Scan.next_payload.Goals as goal
 use Rattle.wsn_scan.proofs.PayloadPrefixes.{of_its_head, handed_out}

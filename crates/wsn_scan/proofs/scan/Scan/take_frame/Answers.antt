@@ -6,12 +6,12 @@ use Rattle.wsn_wire.specs.Frame.{IsBytes, first_byte}
 use Rattle.wsn_wire.proofs.FrameLemmas.{first_byte_fields, IsBytes-right}
 use Rattle.wsn_rules.specs.Limits.{Limits}
 use Rattle.wsn_rules.specs.Group.{unfinished}
-use Rattle.wsn_scan.specs.PartialHeads.{IsHead, info_at}
-use Rattle.wsn_scan.specs.PayloadChecks.{IsChecked}
-use Rattle.wsn_scan.specs.Payloads.{unmasked_by}
+use Rattle.wsn_frame.specs.PartialHeads.{IsHead, info_at}
+use Rattle.wsn_frame.specs.PayloadChecks.{IsChecked}
+use Rattle.wsn_frame.specs.Payloads.{unmasked_by}
 use Rattle.wsn_scan.specs.Reports.{Reported, ends_of}
-use Rattle.wsn_scan.proofs.FrameStarts.{goes_on, begins}
-use Rattle.wsn_scan.proofs.FramesAtOnce.{kept_behind_frame, payload_after, masked_back, head_and_payload, fed_at_once, holds_at_once}
+use Rattle.wsn_frame.proofs.FrameStarts.{goes_on, begins}
+use Rattle.wsn_frame.proofs.FramesAtOnce.{kept_behind_frame, payload_after, masked_back, head_and_payload, fed_at_once, holds_at_once}
 use Rattle.wsn_scan.proofs.HeadBytes.{bytes_taken}
 use Rattle.wsn_scan.proofs.HeadsReported.{heads_with}
 use Rattle.wsn_scan.proofs.MoreBytes.{knows_more}

@@ -1,8 +1,8 @@
 use Rattle.std.proofs.Common.{◌≡◌, ◌∷◌, ◌++◌, [], Bool, ◌∙◌, Some, refl, ap, sym, subst}
 use Rattle.wsn_wire.specs.Frame.{first_byte}
-use Rattle.wsn_scan.specs.declared.payload_check.PayloadCheck.{PayloadCheck}
+use Rattle.wsn_frame.specs.declared.payload_check.PayloadCheck.{PayloadCheck}
 use Rattle.wsn_rules.specs.Group.{unfinished}
-use Rattle.wsn_scan.specs.PayloadChecks.{HasChecked}
+use Rattle.wsn_frame.specs.PayloadChecks.{HasChecked}
 use Rattle.wsn_scan.specs.Reports.{ends_of}
 use Rattle.wsn_scan.proofs.FrameEnds.{close_of-push, close_not_one, is_a_close, ends_with_close, close_is_final}
 use Rattle.wsn_scan.proofs.stage.Stage.behind.Goals as goal

@@ -1,0 +1,9 @@
+pub mod LastByte
+pub mod HeadSteps
+pub mod HeadsAtOnce
+pub mod PayloadRows
+pub mod FrameStarts
+pub mod PayloadBytes
+pub mod PayloadMore
+pub mod FramesAtOnce
+pub mod CountedFrames

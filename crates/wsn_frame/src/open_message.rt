@@ -1,0 +1,55 @@
+ghost use Rattle.wsn_frame.specs.OpenMessages.{IsMessageAfter, IsOneFragmentMore};
+
+use crate::partial_head::Head;
+use crate::payload_check::PayloadCheck;
+use wsn_text::Utf8;
+use wsn_wire::Op;
+
+/// The message that is open, in whole frames.
+#[derive(Clone, Copy, Debug)]
+pub struct OpenMessage {
+    /// How its text stands; `None` for a binary message.
+    pub text: Option<Utf8>,
+    /// The bytes of its payloads.
+    pub size: u32,
+    pub frames: u64,
+}
+
+/// The message that is open behind one frame more, whose payload was checked so.
+pub fn message_after(
+    message: Option<OpenMessage>,
+    head: &Head,
+    check: &PayloadCheck,
+) -> Option<OpenMessage>
+    ensures { IsMessageAfter message head.now check.now result }
+{
+    match head.first.op {
+        Op::Close | Op::Ping | Op::Pong => message,
+        Op::Continue | Op::Text | Op::Binary => {
+            if head.first.fin {
+                None
+            } else {
+                Some(longer(message, head.len, check))
+            }
+        }
+    }
+}
+
+/// The message with one fragment more.
+fn longer(message: Option<OpenMessage>, len: u64, check: &PayloadCheck) -> OpenMessage
+    ensures { IsOneFragmentMore message len check.now result }
+{
+    let (size, frames) = match message {
+        Some(message) => (message.size, message.frames),
+        None => (0, 0),
+    };
+    let text = match check {
+        PayloadCheck::Text(utf8) => Some(*utf8),
+        PayloadCheck::Free | PayloadCheck::Close(_) => None,
+    };
+    OpenMessage {
+        text,
+        size: size.saturating_add(u32::try_from(len).unwrap_or(u32::MAX)),
+        frames: frames.saturating_add(1),
+    }
+}

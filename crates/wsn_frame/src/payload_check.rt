@@ -1,0 +1,195 @@
+ghost use Rattle.std.specs.Prelude.{◌≡◌, ◌≢◌, ℕ, ◌+◌, ◌<◌, ◌≤◌, ◌^◌, ◌⊎◌, ◌↔◌, true, None, List, [], ◌++◌, length, IsTrue, IfErr};
+ghost use Rattle.wsn_rules.specs.Summary.{close_code};
+ghost use Rattle.wsn_wire.specs.declared.opcode.Op.TheVariants.{Continue, Text, Binary};
+ghost use Rattle.wsn_wire.specs.declared.refusal.Reason.{Reason};
+ghost use Rattle.wsn_wire.specs.declared.refusal.Reason.TheVariants.{CloseReason, TextCut};
+ghost use Rattle.wsn_wire.specs.Frame.{Frame, first_byte};
+ghost use Rattle.wsn_wire.specs.Layout.{fin_bit};
+ghost use Rattle.wsn_text.specs.Utf8.{BeginsText};
+ghost use Rattle.wsn_text.specs.Validated.{HasValidated};
+ghost use Rattle.wsn_rules.specs.Evidence.{EvidentByPayload};
+ghost use Rattle.wsn_frame.specs.OpenMessages.{IsOpenMessage};
+ghost use Rattle.wsn_frame.specs.PayloadChecks.{HasChecked, IsChecked, IsBody, IsBodyChecked, IsTextTaken};
+
+use crate::open_message::OpenMessage;
+use wsn_text::{Utf8, code_allowed};
+use wsn_wire::{FirstByte, Op, Reason};
+
+/// What a payload's bytes are checked for, and how far (RFC 6455 sections 5.5.1, 5.6 and 8.1).
+#[derive(Clone, Copy, Debug)]
+pub enum PayloadCheck {
+    /// A binary message, a ping or a pong: any bytes.
+    Free,
+    /// The joined text of a message.
+    Text(Utf8),
+    /// A Close's body.
+    Close(CloseBody),
+}
+
+/// A Close's body as far as it came.
+#[derive(Clone, Copy, Debug)]
+pub enum CloseBody {
+    Empty,
+    /// The first byte of the code.
+    HalfCode(u8),
+    /// The code, and how the reason stands.
+    Code(u16, Utf8),
+}
+
+/// The first byte of a piece that shows a reason, counted from 0, and the reason.
+#[derive(Clone, Copy, Debug)]
+pub struct BadByte {
+    pub at: usize,
+    pub reason: Reason,
+}
+
+impl PayloadCheck {
+    /// What the payload of a frame with this first byte is checked for, behind the message that is open. A
+    /// frame goes on with an open message, and begins one only where none is open (RFC 6455 section 5.4).
+    pub fn new(first: FirstByte, message: Option<OpenMessage>) -> PayloadCheck
+        ensures { (group : List Frame) → IsOpenMessage message group → (first.op ≡ Continue → group ≢ [])
+            → ((first.op ≡ Text) ⊎ (first.op ≡ Binary) → group ≡ [])
+            → HasChecked group (first_byte first.fin first.op) result [] }
+    {
+        match first.op {
+            Op::Text => PayloadCheck::Text(Utf8::new()),
+            Op::Continue => match message.and_then(|open| open.text) {
+                Some(utf8) => PayloadCheck::Text(utf8),
+                None => PayloadCheck::Free,
+            },
+            Op::Close => PayloadCheck::Close(CloseBody::Empty),
+            Op::Binary | Op::Ping | Op::Pong => PayloadCheck::Free,
+        }
+    }
+
+    /// Takes the next bytes of the payload, unmasked. `fin` is the frame's, and `last` says whether they end its
+    /// payload.
+    ///
+    /// # Errors
+    ///
+    /// The first byte that shows `CloseCode`, `CloseReason`, `TextBad` or `TextCut`.
+    #[inline(always)]
+    pub fn feed(self, piece: &[u8], fin: bool, last: bool) -> Result<PayloadCheck, BadByte>
+        requires { 0 < length piece.now }
+        ensures within { IfErr result (λ bad. bad.at ≤ length piece.now) }
+        ensures checked { (group : List Frame) (first total : ℕ) (before : List ℕ) → HasChecked group first self before
+            → fin_bit first ≡ fin → (last ≡ true ↔ (length before + length piece.now ≡ total))
+            → length before + length piece.now ≤ total → IsChecked group first total before piece.now result }
+    {
+        match self {
+            PayloadCheck::Free => Ok(PayloadCheck::Free),
+            PayloadCheck::Text(utf8) => {
+                let utf8 = feed_text(utf8, piece, fin && last, Reason::TextBad, Reason::TextCut)?;
+                Ok(PayloadCheck::Text(utf8))
+            }
+            PayloadCheck::Close(body) => body.feed(piece, last),
+        }
+    }
+
+    /// Whether a final frame that has no payload cuts the message's text.
+    pub fn is_cut(&self, fin: bool) -> bool
+        ensures { (group : List Frame) (first : ℕ) → HasChecked group first self.now [] → fin_bit first ≡ fin
+            → (IsTrue result ↔ EvidentByPayload group TextCut first 0 [])
+            × ((reason : Reason) → reason ≢ TextCut → EvidentByPayload group reason first 0 [] → ⊥) }
+    {
+        match self {
+            PayloadCheck::Text(utf8) => fin && !utf8.is_whole(),
+            PayloadCheck::Free | PayloadCheck::Close(_) => false,
+        }
+    }
+}
+
+impl CloseBody {
+    /// The code that a whole body holds.
+    pub fn code(self) -> Option<u16>
+        ensures { (payload : List ℕ) → IsBody self payload → length payload ≢ 1 → result ≡ close_code payload }
+    {
+        match self {
+            CloseBody::Empty | CloseBody::HalfCode(_) => None,
+            CloseBody::Code(code, _) => Some(code),
+        }
+    }
+
+    /// Takes the next bytes of the body, as [`PayloadCheck::feed`] does.
+    fn feed(self, piece: &[u8], last: bool) -> Result<PayloadCheck, BadByte>
+        requires { 0 < length piece.now }
+        ensures within { IfErr result (λ bad. bad.at ≤ length piece.now) }
+        ensures checked { (before : List ℕ) → IsBody self before → IsBodyChecked before piece.now last result }
+    {
+        match self {
+            CloseBody::Empty if piece.len() == 1 => {
+                let high = piece[0];
+                Ok(PayloadCheck::Close(CloseBody::HalfCode(high)))
+            }
+            CloseBody::Empty => feed_code([piece[0], piece[1]], 1, &piece[2..], last),
+            CloseBody::HalfCode(high) => feed_code([high, piece[0]], 0, &piece[1..], last),
+            CloseBody::Code(code, reason) => {
+                let reason = feed_reason(reason, piece, last)?;
+                Ok(PayloadCheck::Close(CloseBody::Code(code, reason)))
+            }
+        }
+    }
+}
+
+/// Takes a Close's code (RFC 6455 section 7.4), whose second byte stands at `at` of a piece, and the `rest` of
+/// that piece.
+fn feed_code(code: [u8; 2], at: usize, rest: &[u8], last: bool) -> Result<PayloadCheck, BadByte>
+    requires { at + length rest.now < 2 ^ 63 }
+    ensures within { IfErr result (λ bad. bad.at ≤ at + 1 + length rest.now) }
+    ensures checked { (before begun : List ℕ) → before ++ begun ≡ code → length begun ≡ at + 1
+        → IsBodyChecked before (begun ++ rest.now) last result }
+{
+    let code = u16::from_be_bytes(code);
+    if !code_allowed(code) {
+        return Err(BadByte {
+            at,
+            reason: Reason::CloseCode,
+        });
+    }
+    if rest.is_empty() {
+        return Ok(PayloadCheck::Close(CloseBody::Code(code, Utf8::new())));
+    }
+    match feed_reason(Utf8::new(), rest, last) {
+        Ok(reason) => Ok(PayloadCheck::Close(CloseBody::Code(code, reason))),
+        Err(bad) => Err(BadByte {
+            at: at + 1 + bad.at,
+            ..bad
+        }),
+    }
+}
+
+/// Takes more of a Close's reason (RFC 6455 section 5.5.1).
+fn feed_reason(reason: Utf8, piece: &[u8], last: bool) -> Result<Utf8, BadByte>
+    requires { 0 < length piece.now }
+    ensures within { IfErr result (λ bad. bad.at ≤ length piece.now) }
+    ensures taken { (taken : List ℕ) → HasValidated reason taken → BeginsText taken
+        → IsTextTaken taken piece.now last CloseReason CloseReason result }
+{
+    let shown = Reason::CloseReason;
+    feed_text(reason, piece, last, shown, shown)
+}
+
+/// Takes more of a text, which ends with this piece if `ends` is true. The reason is `bad` where a byte can't
+/// follow, and `cut` where the text ends inside a character (RFC 6455 section 8.1).
+#[inline(always)]
+fn feed_text(
+    mut utf8: Utf8,
+    piece: &[u8],
+    ends: bool,
+    bad: Reason,
+    cut: Reason,
+) -> Result<Utf8, BadByte>
+    requires { 0 < length piece.now }
+    ensures within { IfErr result (λ bad. bad.at ≤ length piece.now) }
+    ensures taken { (taken : List ℕ) → HasValidated utf8 taken → BeginsText taken
+        → IsTextTaken taken piece.now ends bad cut result }
+{
+    utf8.feed(piece).map_err(|at| BadByte { at, reason: bad })?;
+    if ends && !utf8.is_whole() {
+        return Err(BadByte {
+            at: piece.len() - 1,
+            reason: cut,
+        });
+    }
+    Ok(utf8)
+}
