@@ -1,10 +1,9 @@
 -- All of a stream's events, kept: what is known at each answer of their source.
-use Rattle.std.proofs.Common.{◌≡◌, ℕ, ◌+◌, ◌≤◌, Result, Ok, Err, false, List, [], ◌∷◌, ◌++◌, length, map, inl, inr, sym, ap, ◌∙◌, subst, arith}
+use Rattle.std.proofs.Common.{◌≡◌, ℕ, ◌+◌, Result, Ok, Err, false, List, [], ◌∷◌, ◌++◌, map, inl, inr, sym, ap, ◌∙◌, subst, arith}
 use Rattle.std.proofs.lemmas.List.{map-append}
 use Rattle.std.proofs.KnownBytes.{Consumes-nil, Consumes-trans}
-use Rattle.std.specs.Io.KnownBytes.{Consumes}
 use Rattle.wsn_wire.specs.declared.endpoint.Role.{Role}
-use Rattle.wsn_wire.specs.Transfer.{Incoming}
+use Rattle.wsn_wire.specs.Transfer.{Incoming, IsReceived}
 use Rattle.wsn_rules.specs.declared.verdict.Verdict.{Verdict}
 use Rattle.wsn_rules.specs.Limits.{Limits}
 use Rattle.wsn_rules.specs.Meaning.{MeantEvent, meaning}
@@ -24,8 +23,7 @@ use Rattle.wsn_plan.specs.Gathering.{HasWholeFrame, IsStoppedBehind, IsGathered}
 pub record HasGathered {A : Type 0} (role : Role) (limits : Limits) (old new : Incoming) (source : Reading A) (events : List (Event A)) : Type 0 where
   pub came : List ℕ
   pub has : HasGiven role limits source came (map meant events)
-  pub consumed : Consumes old.remaining new.remaining came
-  pub few : length came ≤ limits.input + 1
+  pub received : IsReceived (limits.input + 1) old new came
   pub readable : new.failed ≡ false
 
 nothing_is_meant : (before : List MeantEvent) (e : MeantEvent) → before ++ e ∷ [] ≡ [] → ⊥
@@ -37,8 +35,7 @@ module _ {A : Type 0} (role : Role) (limits : Limits) (old : Incoming) where
   begins source has readable = record {
     came = [];
     has = has;
-    consumed = Consumes-nil old.remaining;
-    few = omega arith;
+    received = record { consumed = Consumes-nil old.remaining; few = omega arith };
     readable = readable;
   }
 
@@ -47,15 +44,17 @@ module _ {A : Type 0} (role : Role) (limits : Limits) (old : Incoming) where
     abbrev Answers : Result (Next A) Stop → Type 0
     Answers result = GoesOn role limits mid new next gathered.came (map meant events) result
 
-    all_consumed : (result : Result (Next A) Stop) (on : Answers result) → Consumes old.remaining new.remaining (gathered.came ++ on.more)
-    all_consumed result on = Consumes-trans old.remaining mid.remaining new.remaining gathered.came on.more gathered.consumed on.consumed
+    all_received : (result : Result (Next A) Stop) (on : Answers result) → IsReceived (limits.input + 1) old new (gathered.came ++ on.more)
+    all_received result on = record {
+      consumed = Consumes-trans old.remaining mid.remaining new.remaining gathered.came on.more gathered.received.consumed on.consumed;
+      few = on.few;
+    }
 
     pub is_done : (answer : Next A) (verdict : Verdict) (all : Gathered A) → answer ≡ nexts.Done verdict → all.events.items ≡ events → all.verdict ≡ verdict
         → Answers (Ok answer) → IsGathered role limits old new (Ok all)
     is_done answer verdict all is items told goes = record {
       came = gathered.came ++ on.more;
-      consumed = all_consumed (Ok (nexts.Done verdict)) on;
-      few = on.few;
+      received = all_received (Ok (nexts.Done verdict)) on;
       range = gathered.has.told.stands.knows.in_range;
       of_bytes = rw (items, told) on.next.0;
     }
@@ -66,8 +65,7 @@ module _ {A : Type 0} (role : Role) (limits : Limits) (old : Incoming) where
     pub is_stopped : (stopped : Stop) → Answers (Err stopped) → IsGathered {A = A} role limits old new (Err stopped)
     is_stopped stopped on = record {
       came = gathered.came ++ on.more;
-      consumed = all_consumed (Err stopped) on;
-      few = on.few;
+      received = all_received (Err stopped) on;
       range = gathered.has.told.stands.knows.in_range;
       of_bytes = of stopped on.next.0;
     }
@@ -87,8 +85,7 @@ module _ {A : Type 0} (role : Role) (limits : Limits) (old : Incoming) where
       goes_on kept more = record {
         came = gathered.came ++ on.more;
         has = subst (λ (given : List MeantEvent). HasGiven role limits next (gathered.came ++ on.more) given) (sym (ap (map meant) more ∙ map-append meant events (event ∷ []))) on.next.0;
-        consumed = all_consumed (Ok (nexts.Event event)) on;
-        few = on.few;
+        received = all_received (Ok (nexts.Event event)) on;
         readable = on.next.2;
       }
 
@@ -104,8 +101,7 @@ module _ {A : Type 0} (role : Role) (limits : Limits) (old : Incoming) where
       pub no_memory : IsGathered {A = A} role limits old new (Err stop.Memory)
       no_memory = record {
         came = gathered.came ++ on.more;
-        consumed = all_consumed (Ok (nexts.Event event)) on;
-        few = on.few;
+        received = all_received (Ok (nexts.Event event)) on;
         range = gathered.has.told.stands.knows.in_range;
         of_bytes = (inr (has_frame on.next.1), on.next.2);
       }

@@ -7,6 +7,9 @@ pub mod FramesOut
 pub mod NextEvents
 pub mod RecutSoFar
 pub mod Recuts
+pub mod PlannedFrames
+pub mod OneRecut
+pub mod Restored
 pub mod OneCut
 pub mod LinesOfText
 pub mod FieldsOfLine

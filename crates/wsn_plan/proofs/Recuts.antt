@@ -41,7 +41,7 @@ frames_front role limits bytes fs is =
 
 module _ {A : Type 0} (role : Role) (limits : Limits) (planned : Planned) (old new : Incoming) (before : Outgoing) where
   pub stopped_before : (stopped : Stop) → IsGathered {A = A} role limits old new (Err stopped) → IsRecut role limits planned old new before before (Err stopped)
-  stopped_before stopped gathered = record { came = gathered.came; consumed = gathered.consumed; few = gathered.few; of_bytes = of stopped gathered.of_bytes }
+  stopped_before stopped gathered = record { came = gathered.came; received = gathered.received; of_bytes = of stopped gathered.of_bytes }
     where
       of : (s : Stop) → IsStoppedBehind role limits new gathered.came s → IsRecutOf role limits planned new gathered.came before before (Err s)
       of stop.Read told = (told, refl)
@@ -56,8 +56,7 @@ module _ {A : Type 0} (role : Role) (limits : Limits) (planned : Planned) (old n
     pub isnt_accepted : ((s : Summary) → g.verdict ≡ Accepted s → ⊥) → IsRecut role limits planned old new before before (Ok (NotAccepted g.verdict))
     isnt_accepted none = record {
       came = gathered.came;
-      consumed = gathered.consumed;
-      few = gathered.few;
+      received = gathered.received;
       of_bytes = (g.verdict, events, gathered.of_bytes, (refl, not_accepted g.verdict none), refl);
     }
 
@@ -72,7 +71,7 @@ module _ {A : Type 0} (role : Role) (limits : Limits) (planned : Planned) (old n
       are_lawful = subst (AreLawful limits.message) (sym frames_of.2) (lawful_meaning role limits frames_of.0 frames_of.1.lawful gathered.range)
 
       pub cut : (after : Outgoing) (result : Result RecutAnswer Stop) → IsCutAgain role limits (planned events) events before after result → IsRecut role limits planned old new before after result
-      cut after result did = record { came = gathered.came; consumed = gathered.consumed; few = gathered.few; of_bytes = of result did }
+      cut after result did = record { came = gathered.came; received = gathered.received; of_bytes = of result did }
         where
           ok : IsAcceptance g.verdict
           ok = accepted g.verdict s is
@@ -101,25 +100,32 @@ module _ {A : Type 0} (role : Role) (limits : Limits) (planned : Planned) (old n
       pub no_memory : 0 < length g.events.items → IsRecut role limits planned old new before before (Err stop.Memory)
       no_memory some = record {
         came = gathered.came;
-        consumed = gathered.consumed;
-        few = gathered.few;
+        received = gathered.received;
         of_bytes = ((inr (whole_frame some), (subst (λ (v : Verdict). IsReached role limits new gathered.came v) is gathered.of_bytes.0).4), refl);
       }
 
 -- ---- of all the bytes
 
+-- one byte more than the limit came
+pub past_limit : (role : Role) (limits : Limits) (came rest all : List ℕ) → all ≡ came ++ rest → length came ≡ limits.input + 1 → IsUnrefused role limits (take limits.input came)
+    → (limits.input < length all) × IsUnrefused role limits (take limits.input all)
+past_limit role limits came rest all is more unrefused =
+    let size : length all ≡ length came + length rest = ap (λ (bs : List ℕ). length bs) is ∙ length-append came rest in
+    let front : take limits.input all ≡ take limits.input came = ap (λ (bs : List ℕ). take limits.input bs) is ∙ take-append-le limits.input came rest (omega (arith, more)) in
+    (omega (arith, size, more), subst (λ (bs : List ℕ). IsUnrefused role limits bs) (sym front) unrefused)
+
 module _ (role : Role) (limits : Limits) (planned : Planned) where
   pub whole_recut : (old new : Incoming) (before after : Outgoing) (result : Result RecutAnswer Stop) (all : List ℕ) → IsRecut role limits planned old new before after result → old.remaining ≡ Some all
       → IsRecutWhole role limits planned all before after result
   whole_recut old new before after result all did known =
-      by_rest new.remaining refl (subst (λ (a : Option (List ℕ)). Consumes a new.remaining did.came) known did.consumed)
+      by_rest new.remaining refl (subst (λ (a : Option (List ℕ)). Consumes a new.remaining did.came) known did.received.consumed)
     where
       came : List ℕ
       came = did.came
 
       by_result : (rest : List ℕ) → new.remaining ≡ Some rest → all ≡ came ++ rest → (r : Result RecutAnswer Stop)
           → IsRecutOf role limits planned new came before after r → IsRecutWhole role limits planned all before after r
-      by_result rest left is (Ok answer) (verdict, events, last, told, out) =
+      by_result rest left is (Ok answer) (verdict, kept, last, told, out) =
           let fs = last.1.0 in
           let here = of_all role limits new came rest fs verdict last.0 left last.1.1 in (
             verdict,
@@ -129,11 +135,7 @@ module _ (role : Role) (limits : Limits) (planned : Planned) where
             subst (λ (es : List MeantEvent). IsAnswerTo role limits (planned es) verdict es answer) last.1.2 told,
             subst (λ (es : List MeantEvent). GoesOut (planned es) es before after answer) last.1.2 out,
           )
-      by_result rest left is (Err stop.InputLimit) (told, same) =
-          let size : length all ≡ length came + length rest = ap (λ (bs : List ℕ). length bs) is ∙ length-append came rest in
-          let more : length came ≡ limits.input + 1 = told.0 in
-          let front : take limits.input all ≡ take limits.input came = ap (λ (bs : List ℕ). take limits.input bs) is ∙ take-append-le limits.input came rest (omega (arith, more)) in
-          (omega (arith, size, more), subst (λ (bs : List ℕ). IsUnrefused role limits bs) (sym front) told.1, same)
+      by_result rest left is (Err stop.InputLimit) (told, same) = let past = past_limit role limits came rest all is told.0 told.1 in (past.0, past.1, same)
       by_result rest left is (Err stop.Read) told = tt
       by_result rest left is (Err stop.Memory) told = tt
       by_result rest left is (Err stop.Write) told = tt

@@ -13,7 +13,8 @@ use Rattle.wsn_plan.specs.declared.walking.Walk.{Walk}
 
 abbrev pub piece_frame : Walk → ℕ → Option (List ℕ) → Form → Kind → List ℕ → Frame
 piece_frame walk len key form kind text =
-    record { fin = false; op = op_behind walk.pieces kind; key = key; form = form; payload = take len (drop walk.held text) }
+    let part = take len (drop walk.held text) in
+    record { fin = false; op = op_behind walk.pieces kind; key = key; form = form; payload = part }
 
 abbrev pub last_frame : Walk → Option (List ℕ) → Form → Kind → List ℕ → Frame
 last_frame walk key form kind text =

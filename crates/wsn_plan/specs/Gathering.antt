@@ -1,9 +1,8 @@
 -- What reading an input to its verdict gives where all its events are kept.
-use Rattle.std.specs.Prelude.{◌≡◌, ◌≢◌, ℕ, ◌+◌, ◌≤◌, ◌⊎◌, false, Result, Ok, Err, List, [], ◌++◌, length, map}
-use Rattle.std.specs.Io.KnownBytes.{Consumes}
+use Rattle.std.specs.Prelude.{◌≡◌, ◌≢◌, ℕ, ◌+◌, ◌⊎◌, ⊤, false, Result, Ok, Err, List, [], ◌++◌, map}
 use Rattle.wsn_wire.specs.declared.endpoint.Role.{Role}
 use Rattle.wsn_wire.specs.Frame.{Frame, stream}
-use Rattle.wsn_wire.specs.Transfer.{Incoming}
+use Rattle.wsn_wire.specs.Transfer.{Incoming, IsReceived}
 use Rattle.wsn_rules.specs.Limits.{Limits, InRange}
 use Rattle.wsn_rules.specs.Lawful.{IsLawful}
 use Rattle.wsn_scan.specs.declared.stop.Stop.{Stop}
@@ -30,15 +29,22 @@ abbrev pub IsStoppedBehind : Role → Limits → Incoming → List ℕ → Stop 
 IsStoppedBehind role limits new came stop.Memory = HasSomethingKept role limits came × (new.failed ≡ false)
 IsStoppedBehind role limits new came stopped = IsStopped role limits new came stopped
 
+-- No read, no write and no growth failed.
+abbrev pub AnswersAll : {A : Type 0} → Result A Stop → Type 0
+AnswersAll (Ok answer) = ⊤
+AnswersAll (Err stop.InputLimit) = ⊤
+AnswersAll (Err stopped) = ⊥
+
 -- The verdict is that of the bytes that came, and the events are their meaning.
 abbrev pub IsGatheredOf : {A : Type 0} → Role → Limits → Incoming → List ℕ → Result (Gathered A) Stop → Type 0
-IsGatheredOf role limits new came (Ok gathered) = IsLast role limits new came (map meant gathered.events.items) (Ok gathered.verdict)
+IsGatheredOf role limits new came (Ok gathered) =
+    IsLast role limits new came (map meant gathered.events.items) (Ok gathered.verdict)
 IsGatheredOf role limits new came (Err stopped) = IsStoppedBehind role limits new came stopped
 
 -- The bytes that came from the input, one more than its limit at most, and what the result says of them.
-pub record IsGathered {A : Type 0} (role : Role) (limits : Limits) (old new : Incoming) (result : Result (Gathered A) Stop) : Type 0 where
+pub record IsGathered {A : Type 0} (role : Role) (limits : Limits) (old new : Incoming)
+    (result : Result (Gathered A) Stop) : Type 0 where
   pub came : List ℕ
-  pub consumed : Consumes old.remaining new.remaining came
-  pub few : length came ≤ limits.input + 1
+  pub received : IsReceived (limits.input + 1) old new came
   pub range : InRange limits
   pub of_bytes : IsGatheredOf role limits new came result

@@ -3,6 +3,9 @@ pub mod Walking
 pub mod Uniform
 pub mod Framing
 pub mod Recutting
+pub mod Planning
 pub mod PlanText
 pub mod Cuts
 pub mod SeenFields
+-- what the clauses in src/ import
+pub mod Words

@@ -1,9 +1,8 @@
 -- What a recut answers, what that says of the bytes that came, and what went out.
-use Rattle.std.specs.Prelude.{◌≡◌, ℕ, ◌+◌, ◌<◌, ◌≤◌, ⊤, Result, Ok, Err, List, length, take}
-use Rattle.std.specs.Io.KnownBytes.{Consumes}
+use Rattle.std.specs.Prelude.{◌≡◌, ℕ, ◌+◌, ◌<◌, ⊤, Result, Ok, Err, List, length, take}
 use Rattle.wsn_wire.specs.declared.endpoint.Role.{Role}
 use Rattle.wsn_wire.specs.Frame.{Frame}
-use Rattle.wsn_wire.specs.Transfer.{Incoming, Outgoing, IsWritten, IsPartlyWritten}
+use Rattle.wsn_wire.specs.Transfer.{Incoming, Outgoing, IsReceived, IsWritten, IsPartlyWritten}
 use Rattle.wsn_rules.specs.declared.step.Step.{Step}
 use Rattle.wsn_rules.specs.declared.verdict.Verdict.{Verdict}
 use Rattle.wsn_rules.specs.declared.verdict.Verdict.TheVariants.{Accepted}
@@ -32,7 +31,8 @@ IsAcceptance verdict = ⊥
 abbrev pub IsAnswerTo : Role → Limits → List Step → Verdict → List MeantEvent → RecutAnswer → Type 0
 IsAnswerTo role limits plan verdict events Done = IsAcceptance verdict × Fits role limits plan events
 IsAnswerTo role limits plan verdict events (NotAccepted told) = (told ≡ verdict) × ¬ (IsAcceptance verdict)
-IsAnswerTo role limits plan verdict events (Fault step why) = IsAcceptance verdict × IsFault role limits plan events step why
+IsAnswerTo role limits plan verdict events (Fault step why) =
+    IsAcceptance verdict × IsFault role limits plan events step why
 
 -- The recut goes out with Done, and nothing with another answer.
 abbrev pub GoesOut : List Step → List MeantEvent → Outgoing → Outgoing → RecutAnswer → Type 0
@@ -48,10 +48,13 @@ pub record FitsWithin (plan : List Step) (events : List MeantEvent) : Type 0 whe
   pub fits : Fits role limits plan events
 
 -- What came of these events and a plan: the recut went out, or a prefix of it; or the plan has this fault.
-abbrev pub IsCutAgain : Role → Limits → List Step → List MeantEvent → Outgoing → Outgoing → Result RecutAnswer Stop → Type 0
-IsCutAgain role limits plan events before after (Ok Done) = Fits role limits plan events × IsWritten before after (recut_bytes plan events)
+abbrev pub IsCutAgain : Role → Limits → List Step → List MeantEvent → Outgoing → Outgoing → Result RecutAnswer Stop →
+    Type 0
+IsCutAgain role limits plan events before after (Ok Done) =
+    Fits role limits plan events × IsWritten before after (recut_bytes plan events)
 IsCutAgain role limits plan events before after (Ok (NotAccepted verdict)) = ⊥
-IsCutAgain role limits plan events before after (Ok (Fault step why)) = IsFault role limits plan events step why × (after ≡ before)
+IsCutAgain role limits plan events before after (Ok (Fault step why)) =
+    IsFault role limits plan events step why × (after ≡ before)
 IsCutAgain role limits plan events before after (Err stopped) =
     (stopped ≡ stop.Write) × Fits role limits plan events × IsPartlyWritten before after (recut_bytes plan events)
 
@@ -61,20 +64,24 @@ Planned = List MeantEvent → List Step
 
 -- What a result says of the bytes that came. Where a write failed, a prefix of the recut's bytes went out; with the
 -- other stops nothing did.
-abbrev pub IsRecutOf : Role → Limits → Planned → Incoming → List ℕ → Outgoing → Outgoing → Result RecutAnswer Stop → Type 0
+abbrev pub IsRecutOf : Role → Limits → Planned → Incoming → List ℕ → Outgoing → Outgoing → Result RecutAnswer Stop →
+    Type 0
 IsRecutOf role limits planned new came before after (Ok answer) =
     (verdict : Verdict) × (events : List MeantEvent) × IsLast role limits new came events (Ok verdict)
-    × IsAnswerTo role limits (planned events) verdict events answer × GoesOut (planned events) events before after answer
+    × IsAnswerTo role limits (planned events) verdict events answer
+    × GoesOut (planned events) events before after answer
 IsRecutOf role limits planned new came before after (Err stop.Write) =
     (verdict : Verdict) × (events : List MeantEvent) × IsLast role limits new came events (Ok verdict)
-    × IsAnswerTo role limits (planned events) verdict events Done × IsPartlyWritten before after (recut_bytes (planned events) events)
-IsRecutOf role limits planned new came before after (Err stopped) = IsStoppedBehind role limits new came stopped × (after ≡ before)
+    × IsAnswerTo role limits (planned events) verdict events Done
+    × IsPartlyWritten before after (recut_bytes (planned events) events)
+IsRecutOf role limits planned new came before after (Err stopped) =
+    IsStoppedBehind role limits new came stopped × (after ≡ before)
 
 -- The bytes that came from the input, one more than its limit at most, what the result says of them, and what went out.
-pub record IsRecut (role : Role) (limits : Limits) (planned : Planned) (old new : Incoming) (before after : Outgoing) (result : Result RecutAnswer Stop) : Type 0 where
+pub record IsRecut (role : Role) (limits : Limits) (planned : Planned) (old new : Incoming) (before after : Outgoing)
+    (result : Result RecutAnswer Stop) : Type 0 where
   pub came : List ℕ
-  pub consumed : Consumes old.remaining new.remaining came
-  pub few : length came ≤ limits.input + 1
+  pub received : IsReceived (limits.input + 1) old new came
   pub of_bytes : IsRecutOf role limits planned new came before after result
 
 -- ---- of an input whose bytes are known
@@ -83,7 +90,8 @@ pub record IsRecut (role : Role) (limits : Limits) (planned : Planned) (old new 
 abbrev pub IsRecutWhole : Role → Limits → Planned → List ℕ → Outgoing → Outgoing → Result RecutAnswer Stop → Type 0
 IsRecutWhole role limits planned all before after (Ok answer) =
     (verdict : Verdict) × (fs : List Frame) × IsVerdict role limits all fs verdict × IsWithinLimit limits all verdict
-    × IsAnswerTo role limits (planned (meaning fs)) verdict (meaning fs) answer × GoesOut (planned (meaning fs)) (meaning fs) before after answer
+    × IsAnswerTo role limits (planned (meaning fs)) verdict (meaning fs) answer
+    × GoesOut (planned (meaning fs)) (meaning fs) before after answer
 IsRecutWhole role limits planned all before after (Err stop.InputLimit) =
     (limits.input < length all) × IsUnrefused role limits (take limits.input all) × (after ≡ before)
 IsRecutWhole role limits planned all before after (Err stopped) = ⊤

@@ -12,4 +12,5 @@ pieces_of size key bytes = replicate (piece_count size bytes) (Piece size key Sh
 -- the steps of a message of so many bytes, and of so many controls directly before it
 abbrev pub message_steps : ℕ → Bool → Option (List ℕ) → ℕ → ℕ → List Step
 message_steps size weave key controls bytes =
-    take (ahead weave) (pieces_of size key bytes) ++ (replicate controls (Control key) ++ (drop (ahead weave) (pieces_of size key bytes) ++ Last key Shortest ∷ []))
+    take (ahead weave) (pieces_of size key bytes)
+    ++ (replicate controls (Control key) ++ (drop (ahead weave) (pieces_of size key bytes) ++ Last key Shortest ∷ []))

@@ -1,12 +1,14 @@
 -- How far a plan has been followed over events, in numbers, and what is against its next step.
 use Rattle.std.specs.Prelude.{◌≡◌, ℕ, ◌+◌, ◌≤◌, Option, None, Some, List, [], ◌∷◌, length, drop}
+use Rattle.wsn_wire.specs.declared.endpoint.Role.{Role}
 use Rattle.wsn_rules.specs.declared.step.Step.{Step}
 use Rattle.wsn_rules.specs.declared.step.Step.TheVariants.{Piece, Last, Control}
 use Rattle.wsn_rules.specs.declared.why.Why.{Why}
+use Rattle.wsn_rules.specs.Limits.{Limits}
 use Rattle.wsn_rules.specs.Meaning.{MeantEvent}
 use Rattle.wsn_rules.specs.Meaning as meant
 use Rattle.wsn_rules.specs.Plan.{next_text}
-use Rattle.wsn_rules.specs.Fault.{BeginsWithMessage, BeginsWithControl, IsFirstWhy}
+use Rattle.wsn_rules.specs.Fault.{BeginsWithMessage, BeginsWithControl, Holds, IsFirstWhy}
 use Rattle.wsn_plan.specs.declared.walking.Walk.{Walk}
 
 -- the events from the first message on
@@ -33,9 +35,14 @@ abbrev pub IsFirstAgainst : (Why → Type 0) → Option Why → Type 0
 IsFirstAgainst Held None = (why : Why) → ¬ (Held why)
 IsFirstAgainst Held (Some why) = IsFirstWhy Held why
 
+-- The reason is against the next step.
+abbrev pub IsAgainst : Role → Limits → Walk → List MeantEvent → Step → Why → Type 0
+IsAgainst role limits walk events step = Holds role limits walk.pieces walk.held (drop walk.event events) step
+
 -- The step stands for what comes next: a Piece for bytes of the next message, the others for the next event.
 abbrev pub MayTake : Walk → List MeantEvent → Step → Type 0
-MayTake walk events (Piece len key form) = (text : List ℕ) × (next_text (drop walk.event events) ≡ Some text) × (walk.held + len ≤ length text)
+MayTake walk events (Piece len key form) =
+    (text : List ℕ) × (next_text (drop walk.event events) ≡ Some text) × (walk.held + len ≤ length text)
 MayTake walk events (Last key form) = BeginsWithMessage (drop walk.event events)
 MayTake walk events (Control key) = BeginsWithControl (drop walk.event events)
 
@@ -56,4 +63,6 @@ event_after event (Piece len key form) = event
 event_after event step = event + 1
 
 abbrev pub IsTaken : Walk → Walk → Step → Type 0
-IsTaken old new step = (new.pieces ≡ pieces_after old.pieces step) × (new.held ≡ held_after old.held step) × (new.event ≡ event_after old.event step)
+IsTaken old new step =
+    (new.pieces ≡ pieces_after old.pieces step) × (new.held ≡ held_after old.held step)
+    × (new.event ≡ event_after old.event step)

@@ -1,9 +1,5 @@
 ghost use Rattle.std.specs.Prelude.{MatchOption, map};
-ghost use Rattle.wsn_rules.specs.Limits.{InRange};
-ghost use Rattle.wsn_rules.specs.LawfulEvents.{AreLawful};
-ghost use Rattle.wsn_rules.specs.Fitting.{Fits};
-ghost use Rattle.wsn_rules.specs.Fault.{IsFault};
-ghost use Rattle.wsn_canon.specs.EventsMeant.{meant};
+ghost use Rattle.wsn_plan.specs.Words.{InRange, AreLawful, Fits, IsFault, meant};
 
 use crate::walking::Walk;
 use std::alloc::Allocator;

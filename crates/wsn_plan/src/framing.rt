@@ -1,15 +1,6 @@
 ghost use Rattle.std.specs.Prelude.{◌≡◌, ℕ, ◌+◌, ◌-◌, ◌<◌, ◌≤◌, ◌^◌, true, false, Option, Some, List, length, map, drop};
-ghost use Rattle.wsn_wire.specs.Frame.{FormFits, frame_bytes, is_control, wire_payload};
-ghost use Rattle.wsn_wire.specs.declared.opcode.Kind.{Kind};
-ghost use Rattle.wsn_rules.specs.Meaning.{Message, Control};
-ghost use Rattle.wsn_rules.specs.LawfulEvents.{AreLawful};
-ghost use Rattle.wsn_rules.specs.Plan.{next_text};
-ghost use Rattle.wsn_wire.specs.declared.opcode.Op.{Op};
-ghost use Rattle.wsn_rules.specs.Recut.{op_behind};
-ghost use Rattle.wsn_scan.specs.Stops.{IsPut};
-ghost use Rattle.wsn_canon.specs.EventsMeant.{meant, close_body};
-ghost use Rattle.wsn_plan.specs.Walking.{IsPlaced, MayTake};
-ghost use Rattle.wsn_plan.specs.Framing.{control_frame, piece_frame, last_frame, frame_here, HasForm};
+ghost use Rattle.wsn_plan.specs.Words.{FormFits, frame_bytes, is_control, wire_payload, Kind, Message, AreLawful, next_text, Op, op_behind, IsPut, meant, close_body, IsPlaced, MayTake, control_frame, piece_frame, last_frame, frame_here, HasForm};
+ghost use Rattle.wsn_rules.specs.Meaning.{Control};
 
 use crate::walking::Walk;
 use std::alloc::Allocator;
@@ -31,9 +22,11 @@ pub(crate) fn put_step<A: Allocator, W: Write>(
     requires placed { IsPlaced walk.now (map meant events.old) }
     requires may { MayTake walk.now (map meant events.old) step.now }
     requires form { HasForm walk.now (drop walk.now.event (map meant events.old)) step.now }
-    requires held { (text : List ℕ) → next_text (drop walk.now.event (map meant events.old)) ≡ Some text → (walk.now.held ≤ length text) × (length text < 2 ^ 63) }
+    requires held { (text : List ℕ) → next_text (drop walk.now.event (map meant events.old)) ≡ Some text →
+        (walk.now.held ≤ length text) × (length text < 2 ^ 63) }
     requires lawful { (most : ℕ) × AreLawful most (map meant events.old) }
-    ensures put { IsPut output.old output.new (frame_bytes (frame_here walk.now (drop walk.now.event (map meant events.old)) step.now)) result }
+    ensures put { IsPut output.old output.new
+        (frame_bytes (frame_here walk.now (drop walk.now.event (map meant events.old)) step.now)) result }
     ensures same { map meant events.new ≡ map meant events.old }
 {
     match step {
@@ -55,7 +48,8 @@ fn put_piece<A: Allocator, W: Write>(
     form: Form,
 ) -> Result<(), Stop>
     requires unfailed { output.old.failed ≡ false }
-    requires message { (kind : Kind) × (text : List ℕ) × (meant event.old ≡ Message kind text) × (walk.now.held + len ≤ length text) × (length text < 2 ^ 63) }
+    requires message { (kind : Kind) × (text : List ℕ) × (meant event.old ≡ Message kind text)
+        × (walk.now.held + len ≤ length text) × (length text < 2 ^ 63) }
     requires form { FormFits form len }
     ensures put { (kind : Kind) (text : List ℕ) → meant event.old ≡ Message kind text →
         IsPut output.old output.new (frame_bytes (piece_frame walk.now len key form kind text)) result }
@@ -85,7 +79,8 @@ fn put_last<A: Allocator, W: Write>(
     form: Form,
 ) -> Result<(), Stop>
     requires unfailed { output.old.failed ≡ false }
-    requires message { (kind : Kind) × (text : List ℕ) × (meant event.old ≡ Message kind text) × (walk.now.held ≤ length text) × (length text < 2 ^ 63)
+    requires message { (kind : Kind) × (text : List ℕ) × (meant event.old ≡ Message kind text)
+        × (walk.now.held ≤ length text) × (length text < 2 ^ 63)
         × FormFits form (length text - walk.now.held) }
     ensures put { (kind : Kind) (text : List ℕ) → meant event.old ≡ Message kind text →
         IsPut output.old output.new (frame_bytes (last_frame walk.now key form kind text)) result }
@@ -176,7 +171,8 @@ pub(crate) fn put_frame<W: Write>(
     requires size { length payload.old < 2 ^ 63 }
     requires control { is_control op ≡ true → (fin ≡ true) × (length payload.old ≤ 125) × (form ≡ Form.Shortest) }
     requires fits { FormFits form (length payload.old) }
-    ensures put { IsPut output.old output.new (frame_bytes (record { fin = fin; op = op; key = key; form = form; payload = payload.old })) result }
+    ensures put { IsPut output.old output.new
+        (frame_bytes (record { fin = fin; op = op; key = key; form = form; payload = payload.old })) result }
     ensures same { payload.new ≡ payload.old }
 {
     let head = head_as(fin, op, key, payload.len() as u64, form);

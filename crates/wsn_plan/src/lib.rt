@@ -12,11 +12,13 @@
 mod checking;
 mod framing;
 mod gathering;
+pub mod laws;
 mod line_fields;
 mod plan;
 mod plan_fault;
 mod plan_text;
 pub mod plan_text_examples;
+mod planning;
 mod reading_plans;
 mod recutting;
 #[cfg(test)]
@@ -28,6 +30,7 @@ mod writing_plans;
 pub use plan::Plan;
 pub use plan_fault::{LineWhy, PlanFault};
 pub use plan_text::{law_one_fault, law_one_plan};
+pub use planning::{PlanAnswer, plan_of};
 pub use reading_plans::read_plan;
 pub use recutting::{RecutAnswer, recut, recut_uniform};
 pub use uniform_plans::uniform;

@@ -1,11 +1,7 @@
 //! What follows from the definitions of plan text. Each function does nothing: its contract is the fact.
 
 ghost use Rattle.std.specs.Prelude.{◌≡◌, ℕ, ◌^◌, ◌<◌, ◌⊎◌, List};
-ghost use Rattle.std.specs.List.{AllByRecursion};
-ghost use Rattle.wsn_rules.specs.declared.step.Step.{Step};
-ghost use Rattle.wsn_rules.specs.Plan.{IsPlan, piece_length};
-ghost use Rattle.wsn_plan.specs.declared.plan_fault.LineWhy.{LineWhy};
-ghost use Rattle.wsn_plan.specs.PlanText.{SpellsPlan, SpellsStep, IsLineFault, plan_text, IsFirstFault};
+ghost use Rattle.wsn_plan.specs.Words.{AllByRecursion, Step, IsPlan, piece_length, LineWhy, SpellsPlan, SpellsStep, IsLineFault, plan_text, IsFirstFault};
 
 /// A text spells one plan at most, and the text that is written of a plan spells that plan.
 pub fn law_one_plan()
@@ -18,7 +14,8 @@ pub fn law_one_plan()
 /// A line spells one step, or has one first fault; and a text spells a plan, or has one first fault.
 pub fn law_one_fault()
     ensures line { (line : List ℕ) → ((step : Step) × SpellsStep line step) ⊎ ((why : LineWhy) × IsLineFault line why) }
-    ensures one_step { (line : List ℕ) (step other : Step) → SpellsStep line step → SpellsStep line other → step ≡ other }
+    ensures one_step { (line : List ℕ) (step other : Step) →
+        SpellsStep line step → SpellsStep line other → step ≡ other }
     ensures one_fault { (line : List ℕ) (why other : LineWhy) →
         IsLineFault line why → IsLineFault line other → why ≡ other }
     ensures not_both { (line : List ℕ) (step : Step) (why : LineWhy) →

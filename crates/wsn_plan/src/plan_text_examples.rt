@@ -1,9 +1,7 @@
 //! Plan text that is written out, computed from the definitions in `specs/PlanText.antt`.
 
 ghost use Rattle.std.specs.Prelude.{◌≡◌, None, Some, [], ◌∷◌, codes};
-ghost use Rattle.wsn_wire.specs.declared.spelling.Form.TheVariants.{Shortest, Two, Eight};
-ghost use Rattle.wsn_rules.specs.declared.step.Step.TheVariants.{Piece, Last, Control};
-ghost use Rattle.wsn_plan.specs.PlanText.{plan_text};
+ghost use Rattle.wsn_plan.specs.Words.{Shortest, Two, Eight, Piece, Last, Control, plan_text};
 
 /// The text of plans.
 pub fn written_plans()

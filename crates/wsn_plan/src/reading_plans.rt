@@ -1,10 +1,5 @@
 ghost use Rattle.std.specs.Prelude.{◌≡◌, ◌≢◌, ◌<◌, ◌↔◌, ◌⊎◌, ℕ, [], codes, slice_index, IsTrue, MatchResult, Option, List};
-ghost use Rattle.std.specs.Option.{option_copied};
-ghost use Rattle.wsn_wire.specs.declared.spelling.Form.{Form};
-ghost use Rattle.wsn_rules.specs.Lines.{form_text};
-ghost use Rattle.wsn_plan.specs.declared.plan_fault.LineWhy.TheVariants.{BadKey, BadLength, BadNumber};
-ghost use Rattle.wsn_plan.specs.PlanText.{behind, IsLineFault, IsReadPlan, SpellsKey, SpellsNumber, SpellsStep};
-ghost use Rattle.wsn_plan.specs.Cuts.{IsNextLine};
+ghost use Rattle.wsn_plan.specs.Words.{option_copied, Form, form_text, BadKey, BadLength, BadNumber, behind, IsLineFault, IsReadPlan, SpellsKey, SpellsNumber, SpellsStep, IsNextLine};
 
 use crate::line_fields::{Fields, cut, fields_of};
 use crate::plan::Plan;

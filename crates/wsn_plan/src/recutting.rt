@@ -53,7 +53,8 @@ pub fn recut<A: Allocator + Copy, R: Read, W: Write>(
     requires readable { input.old.failed ≡ false }
     requires writable { output.old.failed ≡ false }
     ensures recut { IsRecut role limits (λ _. plan.now) input.old input.new output.old output.new result }
-    ensures whole { (all : List ℕ) → input.old.remaining ≡ Some all → IsRecutWhole role limits (λ _. plan.now) all output.old output.new result }
+    ensures whole { (all : List ℕ) → input.old.remaining ≡ Some all →
+        IsRecutWhole role limits (λ _. plan.now) all output.old output.new result }
 {
     let Gathered {
         verdict,
@@ -82,7 +83,8 @@ pub fn recut_uniform<A: Allocator + Copy, R: Read, W: Write>(
     requires size { 1 ≤ size }
     requires key { IsSome key ↔ (role ≡ Client) }
     ensures recut { IsRecut role limits (uniform_plan size weave key) input.old input.new output.old output.new result }
-    ensures whole { (all : List ℕ) → input.old.remaining ≡ Some all → IsRecutWhole role limits (uniform_plan size weave key) all output.old output.new result }
+    ensures whole { (all : List ℕ) → input.old.remaining ≡ Some all →
+        IsRecutWhole role limits (uniform_plan size weave key) all output.old output.new result }
     ensures only_fault { (step : ℕ) (why : Why) → result ≡ Ok (RecutAnswer.Fault step why) → why ≡ TooManyPieces }
 {
     let Gathered {

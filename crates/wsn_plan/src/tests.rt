@@ -1,8 +1,8 @@
-use crate::{Plan, RecutAnswer, Step, Why, recut, recut_uniform, uniform};
+use crate::{Plan, PlanAnswer, RecutAnswer, Step, Why, plan_of, recut, recut_uniform, uniform};
 use std::process::Abort;
 use std::test::Fail;
-use wsn_canon::Event;
-use wsn_scan::{INPUT_MAX, Limits, MESSAGE_MAX};
+use wsn_canon::{Event, normalise};
+use wsn_scan::{INPUT_MAX, Limits, MESSAGE_MAX, Verdict};
 use wsn_wire::{Form, Input, Kind, Output, Role};
 
 /// A client's "Hello" (RFC 6455 section 5.7), and its frames of two bytes under the key 1, 2, 3, 4.
@@ -15,6 +15,10 @@ const IN_TWOS: [u8; 23] =
 const PING_FIRST: [u8; 9] = *b"\x89\x00\x81\x05Hello";
 
 const PING_BETWEEN: [u8; 11] = *b"\x01\x03Hel\x89\x00\x80\x02lo";
+
+/// A client's ping among the fragments of a message, under four keys.
+const FOUR_KEYS: [u8; 27] =
+    *b"\x01\x81\x37\xfa\x21\x3d\xd5\x89\x80\0\0\0\x01\0\x81\xff\0\0\0\x7d\x80\x81\0\0\0\0\xac";
 
 fn limits(rt: &impl Abort) -> Limits {
     Limits::new(MESSAGE_MAX, INPUT_MAX).expect(rt, "limits")
@@ -117,5 +121,108 @@ fn a_uniform_plan_weaves(rt: HostRuntime) -> Result<(), Fail> {
         plan.steps(),
         [piece(3), Step::Control { key: None }, last].as_slice()
     );
+    Ok(())
+}
+
+#[test]
+fn a_plan_keeps_lengths_and_keys(rt: HostRuntime) -> Result<(), Fail> {
+    let mut reader = FOUR_KEYS.as_slice();
+    let answer = plan_of(
+        rt.alloc(),
+        &mut Input::new(&mut reader),
+        Role::Client,
+        limits(&rt),
+    )?;
+    let PlanAnswer::Plan(plan) = answer else {
+        return Err(Fail::new("no plan"));
+    };
+    let masked = |len, key| Step::Piece {
+        len,
+        key: Some(key),
+        form: Form::Shortest,
+    };
+    let last = Step::Last {
+        key: Some([0; 4]),
+        form: Form::Shortest,
+    };
+    assert_eq!(rt;
+        plan.steps(),
+        [
+            masked(1, [0x37, 0xfa, 0x21, 0x3d]),
+            Step::Control {
+                key: Some([0, 0, 0, 1])
+            },
+            masked(1, [0xff, 0, 0, 0]),
+            last,
+        ]
+        .as_slice()
+    );
+    Ok(())
+}
+
+#[test]
+fn an_unfinished_message_has_no_plan(rt: HostRuntime) -> Result<(), Fail> {
+    let mut reader = b"\x01\x00\x88\x00".as_slice();
+    let answer = plan_of(
+        rt.alloc(),
+        &mut Input::new(&mut reader),
+        Role::Server,
+        limits(&rt),
+    )?;
+    assert!(rt; matches!(answer, PlanAnswer::Unfinished));
+    Ok(())
+}
+
+#[test]
+fn a_cut_stream_has_no_plan(rt: HostRuntime) -> Result<(), Fail> {
+    let mut reader = b"\x01\x00".as_slice();
+    let answer = plan_of(
+        rt.alloc(),
+        &mut Input::new(&mut reader),
+        Role::Server,
+        limits(&rt),
+    )?;
+    assert!(rt; matches!(answer, PlanAnswer::NotAccepted(Verdict::Cut(_))));
+    Ok(())
+}
+
+#[test]
+fn a_normal_form_and_a_plan_restore_a_stream(rt: HostRuntime) -> Result<(), Fail> {
+    let alloc = rt.alloc();
+    let mut stream = b"\x02\x7e\xff\xff".to_vec(alloc)?;
+    stream.resize(4 + 65_535, 0x2a)?;
+    stream.extend_from_slice(b"\x80\x01\x2a".as_slice())?;
+    let mut reader = stream.as_slice();
+    let answer = plan_of(
+        alloc,
+        &mut Input::new(&mut reader),
+        Role::Server,
+        limits(&rt),
+    )?;
+    let PlanAnswer::Plan(plan) = answer else {
+        return Err(Fail::new("no plan"));
+    };
+    let mut reader = stream.as_slice();
+    let mut normal = Vec::new(alloc);
+    normalise(
+        alloc,
+        &mut Input::new(&mut reader),
+        &mut Output::new(&mut normal),
+        Role::Server,
+        limits(&rt),
+    )?;
+    assert_eq!(rt; normal.len(), 65_546);
+    let mut reader = normal.as_slice();
+    let mut out = Vec::new(alloc);
+    let answer = recut(
+        alloc,
+        &mut Input::new(&mut reader),
+        &mut Output::new(&mut out),
+        Role::Server,
+        limits(&rt),
+        &plan,
+    )?;
+    assert!(rt; matches!(answer, RecutAnswer::Done));
+    assert!(rt; out.as_slice() == stream.as_slice());
     Ok(())
 }

@@ -1,10 +1,5 @@
 ghost use Rattle.std.specs.Prelude.{◌≡◌, ℕ, ◌++◌, ◌≤◌, ◌<◌, ◌^◌, ◌↔◌, List, IfOk, IfErr, IsSome, length, map, replicate};
-ghost use Rattle.wsn_wire.specs.declared.endpoint.Role.TheVariants.{Client};
-ghost use Rattle.wsn_wire.specs.declared.spelling.Form.TheVariants.{Shortest};
-ghost use Rattle.wsn_rules.specs.declared.step.Step.TheVariants.{Piece, Last, Control};
-ghost use Rattle.wsn_rules.specs.UniformPlan.{piece_count, ahead, uniform_plan};
-ghost use Rattle.wsn_canon.specs.EventsMeant.{meant};
-ghost use Rattle.wsn_plan.specs.Uniform.{message_steps};
+ghost use Rattle.wsn_plan.specs.Words.{Client, Shortest, Piece, Last, Control, piece_count, ahead, uniform_plan, meant, message_steps};
 
 use crate::Plan;
 use crate::walking::message_len;

@@ -6,7 +6,7 @@ ghost use Rattle.wsn_rules.specs.Plan.{next_text};
 ghost use Rattle.wsn_rules.specs.Fitting.{IsAllowedForm};
 ghost use Rattle.wsn_rules.specs.Fault.{Holds};
 ghost use Rattle.wsn_canon.specs.EventsMeant.{meant};
-ghost use Rattle.wsn_plan.specs.Walking.{from_message, IsPlaced, IsFirstAgainst, MayTake, IsTaken, IsControl, IsMessageOf, held_after};
+ghost use Rattle.wsn_plan.specs.Walking.{from_message, IsPlaced, IsAgainst, IsFirstAgainst, MayTake, IsTaken, IsControl, IsMessageOf, held_after};
 
 use std::alloc::Allocator;
 use wsn_canon::Event;
@@ -51,7 +51,7 @@ impl Walk {
     ) -> Option<Why>
         requires placed { IsPlaced self.now (map meant events.now) }
         requires few { self.now.pieces + 1 < 2 ^ 64 }
-        ensures { IsFirstAgainst (Holds role limits self.now.pieces self.now.held (drop self.now.event (map meant events.now)) step.now) result }
+        ensures { IsFirstAgainst (IsAgainst role limits self.now (map meant events.now) step.now) result }
     {
         match step {
             Step::Piece { len, key, form } => {
@@ -75,7 +75,7 @@ impl Walk {
     ) -> Option<Why>
         requires placed { IsPlaced self.now (map meant events.now) }
         requires few { self.now.pieces + 1 < 2 ^ 64 }
-        ensures { IsFirstAgainst (Holds role limits self.now.pieces self.now.held (drop self.now.event (map meant events.now)) (Piece len key form)) result }
+        ensures { IsFirstAgainst (IsAgainst role limits self.now (map meant events.now) (Piece len key form)) result }
     {
         if !has_key_of(role, key) {
             return Some(Why::KeyMismatch);
@@ -109,7 +109,7 @@ impl Walk {
         form: Form,
     ) -> Option<Why>
         requires { IsPlaced self.now (map meant events.now) }
-        ensures { IsFirstAgainst (Holds role limits self.now.pieces self.now.held (drop self.now.event (map meant events.now)) (Last key form)) result }
+        ensures { IsFirstAgainst (IsAgainst role limits self.now (map meant events.now) (Last key form)) result }
     {
         if !has_key_of(role, key) {
             return Some(Why::KeyMismatch);
@@ -137,7 +137,8 @@ impl Walk {
         key: Option<[u8; 4]>,
     ) -> Option<Why>
         requires { IsPlaced self.now (map meant events.now) }
-        ensures { (limits : _) → IsFirstAgainst (Holds role limits self.now.pieces self.now.held (drop self.now.event (map meant events.now)) (Control key)) result }
+        ensures { (limits : _) →
+            IsFirstAgainst (IsAgainst role limits self.now (map meant events.now) (Control key)) result }
     {
         if !has_key_of(role, key) {
             return Some(Why::KeyMismatch);

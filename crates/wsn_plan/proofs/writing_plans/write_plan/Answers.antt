@@ -4,9 +4,9 @@ use Rattle.wsn_rules.specs.declared.step.Step.TheVariants.{Piece}
 use Rattle.wsn_plan.proofs.WrittenPlans.{plan_stopped}
 use Rattle.wsn_plan.proofs.writing_plans.write_plan.Goals as goal
 
-pub returns-in_err-put : goal.returns-in_err-put
-returns-in_err-put g c =
+pub returns-in_err-put_line : goal.returns-in_err-put_line
+returns-in_err-put_line g c =
     rw (← c.steps-step-items.ensures)
-    (plan_stopped c.args.output.now c.loop-step.output c.put.new.output c.steps-step-items.result.now c.loop-step.step-index (Piece 0 None Shortest)
-    c.in_err-put.field-0.0 c.from_residual.result c.loop-step-test.true c.loop-step.invariant (rw (← c.line_of.ensures) c.in_err-put.ensures)
+    (plan_stopped c.args.output.now c.loop-step.output c.put_line.new.to c.steps-step-items.result.now c.loop-step.step-index (Piece 0 None Shortest)
+    c.in_err-put_line.field-0.0 c.from_residual.result c.loop-step-test.true c.loop-step.invariant (rw (← c.line_of.ensures) c.in_err-put_line.ensures)
     c.from_residual.ensures.1)

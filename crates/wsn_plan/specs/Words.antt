@@ -1,0 +1,42 @@
+-- The words that the clauses in src/ use, passed on.
+pub use Rattle.std.specs.List.{AllByRecursion}
+pub use Rattle.std.specs.Option.{option_copied}
+pub use Rattle.wsn_wire.specs.Frame.{FormFits, frame_bytes, is_control, wire_payload}
+pub use Rattle.wsn_wire.specs.Transfer.{Outgoing, IsWritten}
+pub use Rattle.wsn_wire.specs.declared.endpoint.Role.{Role}
+pub use Rattle.wsn_wire.specs.declared.endpoint.Role.TheVariants.{Client}
+pub use Rattle.wsn_wire.specs.declared.opcode.Kind.{Kind}
+pub use Rattle.wsn_wire.specs.declared.opcode.Op.{Op}
+pub use Rattle.wsn_wire.specs.declared.spelling.Form.{Form}
+pub use Rattle.wsn_wire.specs.declared.spelling.Form.TheVariants.{Shortest, Two, Eight}
+pub use Rattle.wsn_rules.specs.Fault.{IsFault}
+pub use Rattle.wsn_rules.specs.Fitting.{Fits}
+pub use Rattle.wsn_rules.specs.LawfulEvents.{AreLawful}
+pub use Rattle.wsn_rules.specs.Limits.{InRange, Limits}
+pub use Rattle.wsn_rules.specs.Lines.{form_text}
+pub use Rattle.wsn_rules.specs.Meaning.{Message}
+pub use Rattle.wsn_rules.specs.Plan.{next_text, IsPlan, piece_length}
+pub use Rattle.wsn_rules.specs.Recut.{op_behind}
+pub use Rattle.wsn_rules.specs.UniformPlan.{piece_count, ahead, uniform_plan}
+pub use Rattle.wsn_rules.specs.declared.step.Step.{Step}
+pub use Rattle.wsn_rules.specs.declared.step.Step.TheVariants.{Piece, Last, Control}
+pub use Rattle.wsn_rules.specs.declared.verdict.Verdict.{Verdict}
+pub use Rattle.wsn_scan.specs.Stops.{IsPut}
+pub use Rattle.wsn_scan.specs.declared.stop.Stop.{Stop}
+pub use Rattle.wsn_canon.specs.EventsMeant.{meant, close_body}
+pub use Rattle.wsn_canon.specs.Normalised.{IsNormalisedWhole}
+pub use Rattle.wsn_plan.specs.Cuts.{IsNextLine}
+pub use Rattle.wsn_plan.specs.Framing.{control_frame, piece_frame, last_frame, frame_here, HasForm}
+pub use Rattle.wsn_plan.specs.Gathering.{AnswersAll}
+pub use Rattle.wsn_plan.specs.PlanText.{SpellsPlan, SpellsStep, IsLineFault, plan_text, IsFirstFault, behind}
+pub use Rattle.wsn_plan.specs.PlanText.{IsReadPlan, SpellsKey, SpellsNumber, step_line}
+pub use Rattle.wsn_plan.specs.Planning.{IsPlannedWhole, IsRestored}
+pub use Rattle.wsn_plan.specs.Recutting.{IsRecutWhole, Planned}
+pub use Rattle.wsn_plan.specs.Uniform.{message_steps}
+pub use Rattle.wsn_plan.specs.Walking.{IsPlaced, MayTake}
+pub use Rattle.wsn_plan.specs.declared.plan_fault.LineWhy.{LineWhy}
+pub use Rattle.wsn_plan.specs.declared.plan_fault.LineWhy.TheVariants.{BadKey, BadLength, BadNumber}
+pub use Rattle.wsn_plan.specs.declared.planning.PlanAnswer.{PlanAnswer}
+pub use Rattle.wsn_plan.specs.declared.planning.PlanAnswer.TheVariants.{Plan}
+pub use Rattle.wsn_plan.specs.declared.recutting.RecutAnswer.{RecutAnswer}
+pub use Rattle.wsn_plan.specs.declared.recutting.RecutAnswer.TheVariants.{Done}

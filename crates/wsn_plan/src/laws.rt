@@ -1,0 +1,41 @@
+//! Facts of this crate's answers. Each function does nothing: its contract is the fact.
+
+ghost use Rattle.std.specs.Prelude.{◌≡◌, ℕ, List, Result, Ok, false};
+ghost use Rattle.wsn_plan.specs.Words.{Role, Outgoing, IsWritten, Step, Verdict, Limits, InRange, Stop, IsNormalisedWhole, PlanAnswer, Plan, RecutAnswer, Done, AnswersAll, IsPlannedWhole, IsRestored, IsRecutWhole, Planned};
+
+use std::alloc::Allocator;
+
+/// Of an input whose bytes are known [`recut`](crate::recut) has one answer and writes one list of bytes, in whatever
+/// pieces it comes, unless a read, a write or memory fails. So has [`recut_uniform`](crate::recut_uniform).
+pub fn law_one_recut()
+    ensures { (role : Role) (limits : Limits) (planned : Planned) (all : List ℕ)
+        (before after other_before other_after : Outgoing) (result other : Result RecutAnswer Stop) →
+        before.failed ≡ false → other_before.failed ≡ false → AnswersAll result → AnswersAll other →
+        IsRecutWhole role limits planned all before after result →
+        IsRecutWhole role limits planned all other_before other_after other →
+        (result ≡ other) × ((bytes : List ℕ) × IsWritten before after bytes
+        × IsWritten other_before other_after bytes) }
+{}
+
+/// Of an input whose bytes are known [`plan_of`](crate::plan_of) has one answer, in whatever pieces it comes, unless a
+/// read or memory fails.
+pub fn law_one_plan_of<A: Allocator>()
+    ensures { (role : Role) (limits : Limits) (all : List ℕ) (result other : Result (PlanAnswer A) Stop) →
+        AnswersAll result → AnswersAll other → IsPlannedWhole role limits all result →
+        IsPlannedWhole role limits all other → result ≡ other }
+{}
+
+/// A stream may be kept as its normal form and its plan. Where [`plan_of`](crate::plan_of) answers a plan for an input,
+/// and [`normalise`](wsn_canon::normalise) writes what it means, [`recut`](crate::recut) of what was written by that
+/// plan writes the input's own bytes: up to the end of its Close, or all of them without a Close. A normal form may be
+/// longer than its input, and then its recut may meet the input limit.
+pub fn law_restored<A: Allocator>()
+    ensures { (role : Role) (limits : Limits) (all : List ℕ) (plan : List Step) (verdict : Verdict)
+        (before after : Outgoing) →
+        InRange limits → IsPlannedWhole {A = A} role limits all (Ok (Plan plan)) →
+        IsNormalisedWhole role limits all before after (Ok verdict) →
+        (normal : List ℕ) × IsWritten before after normal
+        × ((recut_before recut_after : Outgoing) (answer : RecutAnswer) →
+        IsRecutWhole role limits (λ _. plan) normal recut_before recut_after (Ok answer) →
+        (answer ≡ Done) × IsRestored all verdict recut_before recut_after) }
+{}
