@@ -31,22 +31,26 @@ module _ (limits : Limits) (old mid new : Incoming) (splitter : LineSplitter) (r
   pub stopped : Keeps mid.remaining new.remaining → new.failed ≡ true → IsCaptureJudged limits old new (Err Read)
   stopped keeps failed = record {
     came = read.came;
-    consumed = Consumes-kept old.remaining mid.remaining new.remaining read.came read.consumed keeps;
-    few = omega (arith, bounded);
-    answer = (failed, unfaulted limits splitter read.came read.split);
+    received = record {
+      consumed = Consumes-kept old.remaining mid.remaining new.remaining read.came read.consumed keeps;
+      few = omega (arith, bounded);
+    };
+    answer = (failed, unfaulted limits splitter.capture splitter.begun.items read.came read.split);
   }
 
   at_end : (result : Result Report CaptureStop) → IsAtEnd new.remaining → new.failed ≡ false → IsAnswerOf limits read.came result → IsAnswer limits new read.came result
   at_end (Ok report) ends unfailed is = (is, ends, unfailed)
-  at_end (Err (Line number fault)) ends unfailed is = (inr (is, unfaulted limits splitter read.came read.split, ends), unfailed)
+  at_end (Err (Line number fault)) ends unfailed is = (inr (is, unfaulted limits splitter.capture splitter.begun.items read.came read.split, ends), unfailed)
   at_end (Err Read) ends unfailed is = absurd is
 
   -- the input ended
   pub ended : (result : Result Report CaptureStop) → Consumes mid.remaining new.remaining [] → IsAtEnd new.remaining → new.failed ≡ false → IsAnswerOf limits read.came result → IsCaptureJudged limits old new result
   ended result nothing ends unfailed is = record {
     came = read.came;
-    consumed = subst (λ (bs : List ℕ). Consumes old.remaining new.remaining bs) (append-nil read.came) (Consumes-trans old.remaining mid.remaining new.remaining read.came [] read.consumed nothing);
-    few = omega (arith, bounded);
+    received = record {
+      consumed = subst (λ (bs : List ℕ). Consumes old.remaining new.remaining bs) (append-nil read.came) (Consumes-trans old.remaining mid.remaining new.remaining read.came [] read.consumed nothing);
+      few = omega (arith, bounded);
+    };
     answer = at_end result ends unfailed is;
   }
 
@@ -79,8 +83,10 @@ module _ (limits : Limits) (old mid new : Incoming) (splitter : LineSplitter) (r
   pub faulty : (piece : List ℕ) (stop : CaptureStop) → Consumes mid.remaining new.remaining piece → length piece ≤ 4096 → new.failed ≡ false → IsStopWithin limits read.came piece stop → IsCaptureJudged limits old new (Err stop)
   faulty piece stop consumes size unfailed within = record {
     came = read.came ++ piece;
-    consumed = Consumes-trans old.remaining mid.remaining new.remaining read.came piece read.consumed consumes;
-    few = omega (arith, bounded, size, length-append read.came piece);
+    received = record {
+      consumed = Consumes-trans old.remaining mid.remaining new.remaining read.came piece read.consumed consumes;
+      few = omega (arith, bounded, size, length-append read.came piece);
+    };
     answer = told piece stop size unfailed within;
   }
 
@@ -97,7 +103,7 @@ left_all came all (Some rest) is = (rest, refl, is)
 
 pub whole_answer : (limits : Limits) (old new : Incoming) (result : Result Report CaptureStop) (all : List ℕ) → old.remaining ≡ Some all → new.failed ≡ false → IsCaptureJudged limits old new result → IsAnswerOf limits all result
 whole_answer limits old new result all known unfailed judged =
-    let left = left_all judged.came all new.remaining (subst (λ (o : Option (List ℕ)). Consumes o new.remaining judged.came) known judged.consumed) in
+    let left = left_all judged.came all new.remaining (subst (λ (o : Option (List ℕ)). Consumes o new.remaining judged.came) known judged.received.consumed) in
     by_answer result left.0 left.1 left.2 judged.answer
   where
     ended_there : (rest : List ℕ) → new.remaining ≡ Some rest → all ≡ judged.came ++ rest → IsAtEnd new.remaining → judged.came ≡ all

@@ -8,5 +8,8 @@ pub mod ClosingLines
 pub mod SentEntries
 pub mod TakenTexts
 pub mod ReportedLines
+pub mod PairedDigits
 pub mod SplitLines
+pub mod PieceFronts
 pub mod JudgedCaptures
+pub mod ReportTexts

@@ -1,7 +1,6 @@
--- Lines that are handed on byte by byte.
-use Rattle.std.proofs.Common.{◌≡◌, ◌≢◌, ℕ, suc, ◌+◌, ◌<◌, ◌≤◌, List, [], ◌∷◌, ◌++◌, length, take, drop, get_or, inl, refl, sym, ap, ◌∙◌, subst, append_assoc, append-nil, length-append, take-append-drop, arith, ◌==◌, true, false, Err}
+-- Lines that are handed on as they come.
+use Rattle.std.proofs.Common.{◌≡◌, ◌≢◌, ℕ, ◌+◌, ◌<◌, ◌≤◌, List, [], ◌∷◌, ◌++◌, length, inl, refl, sym, ap, ◌∙◌, subst, append_assoc, append-nil, length-append, arith, ◌==◌, true, false, Err}
 use Rattle.std.proofs.lemmas.Bool.{eqb-true}
-use Rattle.std.proofs.Math.Seq.{drop-cons}
 use Rattle.wsn_rules.specs.Limits.{Limits}
 use Rattle.wsn_capture.specs.declared.line_fault.LineFault.{LineFault}
 use Rattle.wsn_capture.specs.declared.line_fault.LineFault.TheVariants.{TooManyLines, TooLong, BadForm, BadHex, AfterEnd, InputLimit}
@@ -9,15 +8,14 @@ use Rattle.wsn_capture.specs.declared.capture_stop.CaptureStop.{CaptureStop}
 use Rattle.wsn_capture.specs.declared.capture_stop.CaptureStop.TheVariants.{Read, Line}
 use Rattle.wsn_capture.specs.declared.capture.Capture.{Capture}
 use Rattle.wsn_capture.specs.declared.report.Report.{Report}
-use Rattle.wsn_capture.specs.declared.line_splitter.LineSplitter.{LineSplitter}
 use Rattle.wsn_capture.specs.CaptureLines.{IsLine, ended, without_cr, AreLines}
 use Rattle.wsn_capture.specs.Entries.{Entry}
 use Rattle.wsn_capture.specs.LineFaults.{order_of, HasFault, IsFirstFault, IsTaken, AreTakenBehind, IsFaultBehind}
 use Rattle.wsn_capture.specs.Reports.{IsReport}
 use Rattle.wsn_capture.specs.Captures.{HasTaken}
 use Rattle.wsn_capture.specs.CaptureAnswers.{IsReported, IsFaulty, IsUnfaulted, IsAnswerOf}
-use Rattle.wsn_capture.specs.LineSplitters.{HasSplit, IsStopAt, IsStopBy}
-use Rattle.wsn_capture.proofs.TextLines.{has_lines, ended-push, each_join, line_push, lines_in_front, lines_at_end, first_line}
+use Rattle.wsn_capture.specs.LineSplitters.{HasHandedOn, IsStopAt, IsStopBy, IsStopWithin}
+use Rattle.wsn_capture.proofs.TextLines.{has_lines, ended-push, each_join, lines_in_front, lines_at_end, first_line}
 
 -- ---- a line that is too long whatever follows
 
@@ -65,68 +63,76 @@ not_taken limits capture lines line long has =
     let last = last_taken limits [] lines line has.entries has.taken in
     last.2.none TooLong (subst (λ (bs : List ℕ). 8194 < length (without_cr bs)) (append-nil line) (too_long line [] long))
 
--- ---- a byte more
+-- ---- bytes more
 
-module _ (limits : Limits) (old : LineSplitter) (came : List ℕ) (split : HasSplit limits old came) where
-  with_lf : came ++ 10 ∷ [] ≡ ended (split.lines ++ old.begun.items ∷ [])
-  with_lf = ap (λ (bs : List ℕ). bs ++ 10 ∷ []) split.whole ∙ append_assoc (ended split.lines) old.begun.items (10 ∷ []) ∙ sym (ended-push split.lines old.begun.items)
+pub line_join : (line more : List ℕ) → IsLine line → IsLine more → IsLine (line ++ more)
+line_join [] more is also = also
+line_join (b ∷ line) more is also = (is.0, line_join line more is.1 also)
 
-  -- an LF ends the line
-  pub split_lf : (new : LineSplitter) → (HasTaken limits old.capture split.lines → HasTaken limits new.capture (split.lines ++ old.begun.items ∷ [])) → new.begun.items ≡ [] → HasSplit limits new (came ++ 10 ∷ [])
-  split_lf new takes none = record {
-    lines = split.lines ++ old.begun.items ∷ [];
-    whole = with_lf ∙ sym (ap (λ (bs : List ℕ). ended (split.lines ++ old.begun.items ∷ []) ++ bs) none ∙ append-nil (ended (split.lines ++ old.begun.items ∷ [])));
-    each = each_join split.lines (old.begun.items ∷ []) split.each (split.in_line, tt);
-    in_line = subst IsLine (sym none) tt;
-    short = let size = ap (λ (bs : List ℕ). length bs) none in omega (arith, size);
-    taken = takes split.taken;
-    few = omega (arith, split.few, split.short, length-append came (10 ∷ []), length-append split.lines (old.begun.items ∷ []));
+line_left : (line more : List ℕ) → IsLine (line ++ more) → IsLine line
+line_left [] more is = tt
+line_left (b ∷ line) more is = (is.0, line_left line more is.1)
+
+line_right : (line more : List ℕ) → IsLine (line ++ more) → IsLine more
+line_right [] more is = is
+line_right (b ∷ line) more is = line_right line more is.1
+
+module _ (limits : Limits) (old : Capture) (begun came : List ℕ) (split : HasHandedOn limits old begun came) where
+  -- the line goes on
+  pub split_more : (bytes : List ℕ) → IsLine bytes → length begun + length bytes < 8196 → HasHandedOn limits old (begun ++ bytes) (came ++ bytes)
+  split_more bytes line size = record {
+    lines = split.lines;
+    whole = ap (λ (bs : List ℕ). bs ++ bytes) split.whole ∙ append_assoc (ended split.lines) begun bytes;
+    each = split.each;
+    in_line = line_join begun bytes split.in_line line;
+    short = omega (arith, size, length-append begun bytes);
+    taken = split.taken;
+    few = omega (arith, split.few, length-append begun bytes, length-append came bytes);
   }
 
-  pub stop_lf : (stop : CaptureStop) → IsStopAt limits split.lines old.begun.items stop → IsStopBy limits (came ++ 10 ∷ []) stop
+  with_lf : came ++ 10 ∷ [] ≡ ended (split.lines ++ begun ∷ [])
+  with_lf = ap (λ (bs : List ℕ). bs ++ 10 ∷ []) split.whole ∙ append_assoc (ended split.lines) begun (10 ∷ []) ∙ sym (ended-push split.lines begun)
+
+  -- an LF ends it
+  split_lf : (new : Capture) → HasTaken limits new (split.lines ++ begun ∷ []) → HasHandedOn limits new [] (came ++ 10 ∷ [])
+  split_lf new takes = record {
+    lines = split.lines ++ begun ∷ [];
+    whole = with_lf ∙ sym (append-nil (ended (split.lines ++ begun ∷ [])));
+    each = each_join split.lines (begun ∷ []) split.each (split.in_line, tt);
+    in_line = tt;
+    short = omega arith;
+    taken = takes;
+    few = omega (arith, split.few, split.short, length-append came (10 ∷ []), length-append split.lines (begun ∷ []));
+  }
+
+  stop_lf : (stop : CaptureStop) → IsStopAt limits split.lines begun stop → IsStopBy limits (came ++ 10 ∷ []) stop
   stop_lf Read is = is
   stop_lf (Line number fault) is = λ later.
       let rest = has_lines later in
       record {
         before = split.lines;
-        line = old.begun.items;
+        line = begun;
         after = rest.0;
-        are = subst (λ (ls : List (List ℕ)). AreLines ((came ++ 10 ∷ []) ++ later) ls) (append_assoc split.lines (old.begun.items ∷ []) rest.0)
-            (subst (λ (bs : List ℕ). AreLines (bs ++ later) ((split.lines ++ old.begun.items ∷ []) ++ rest.0)) (sym with_lf)
-            (lines_in_front (split.lines ++ old.begun.items ∷ []) later rest.0 (each_join split.lines (old.begun.items ∷ []) split.each (split.in_line, tt)) rest.1));
+        are = subst (λ (ls : List (List ℕ)). AreLines ((came ++ 10 ∷ []) ++ later) ls) (append_assoc split.lines (begun ∷ []) rest.0)
+            (subst (λ (bs : List ℕ). AreLines (bs ++ later) ((split.lines ++ begun ∷ []) ++ rest.0)) (sym with_lf)
+            (lines_in_front (split.lines ++ begun ∷ []) later rest.0 (each_join split.lines (begun ∷ []) split.each (split.in_line, tt)) rest.1));
         at = is.0;
         is = is.1;
       }
 
-  with_byte : (byte : ℕ) (after : List ℕ) → after ≡ old.begun.items ++ byte ∷ [] → came ++ byte ∷ [] ≡ ended split.lines ++ after
-  with_byte byte after is = ap (λ (bs : List ℕ). bs ++ byte ∷ []) split.whole ∙ append_assoc (ended split.lines) old.begun.items (byte ∷ []) ∙ ap (λ (bs : List ℕ). ended split.lines ++ bs) (sym is)
-
-  -- another byte goes on with it
-  pub split_byte : (new : LineSplitter) (byte : ℕ) → byte ≢ 10 → new.capture ≡ old.capture → new.begun.items ≡ old.begun.items ++ byte ∷ [] → length new.begun.items < 8196 → HasSplit limits new (came ++ byte ∷ [])
-  split_byte new byte other same is short =
-      let size = ap (λ (bs : List ℕ). length bs) is ∙ length-append old.begun.items (byte ∷ []) in
-      record {
-        lines = split.lines;
-        whole = with_byte byte new.begun.items is;
-        each = split.each;
-        in_line = subst IsLine (sym is) (line_push old.begun.items byte split.in_line other);
-        short = short;
-        taken = subst (λ (c : Capture). HasTaken limits c split.lines) (sym same) split.taken;
-        few = omega (arith, split.few, size, length-append came (byte ∷ []));
-      }
-
-  -- or makes it too long
-  pub stop_long : (byte : ℕ) (after : List ℕ) (stop : CaptureStop) → byte ≢ 10 → after ≡ old.begun.items ++ byte ∷ [] → length after ≡ 8196 → IsStopAt limits split.lines after stop → IsStopBy limits (came ++ byte ∷ []) stop
-  stop_long byte after Read other is size stops = stops
-  stop_long byte after (Line number fault) other is size stops = λ later.
-      let in_line : IsLine after = subst IsLine (sym is) (line_push old.begun.items byte split.in_line other) in
+  -- a byte more makes it too long
+  stop_long : (byte : ℕ) (stop : CaptureStop) → IsLine (begun ++ byte ∷ []) → length (begun ++ byte ∷ []) ≡ 8196 → IsStopAt limits split.lines (begun ++ byte ∷ []) stop → IsStopBy limits (came ++ byte ∷ []) stop
+  stop_long byte Read in_line size stops = stops
+  stop_long byte (Line number fault) in_line size stops = λ later.
+      let after = begun ++ byte ∷ [] in
       let found = has_lines (after ++ later) in
       let first = first_line after later found.0 in_line (omega (arith, size)) found.1 in
+      let whole : came ++ byte ∷ [] ≡ ended split.lines ++ after = ap (λ (bs : List ℕ). bs ++ byte ∷ []) split.whole ∙ append_assoc (ended split.lines) begun (byte ∷ []) in
       record {
         before = split.lines;
         line = after ++ first.0;
         after = first.1;
-        are = subst (λ (bs : List ℕ). AreLines bs (split.lines ++ (after ++ first.0) ∷ first.1)) (sym (ap (λ (bs : List ℕ). bs ++ later) (with_byte byte after is) ∙ append_assoc (ended split.lines) after later))
+        are = subst (λ (bs : List ℕ). AreLines bs (split.lines ++ (after ++ first.0) ∷ first.1)) (sym (ap (λ (bs : List ℕ). bs ++ later) whole ∙ append_assoc (ended split.lines) after later))
             (lines_in_front split.lines (after ++ later) ((after ++ first.0) ∷ first.1) split.each (subst (AreLines (after ++ later)) first.2 found.1));
         at = stops.0;
         is = still_faulty limits split.lines after first.0 fault (omega (arith, size)) stops.1;
@@ -138,7 +144,7 @@ module _ (limits : Limits) (old : LineSplitter) (came : List ℕ) (split : HasSp
   pub unfaulted : IsUnfaulted limits came
   unfaulted = record {
     lines = split.lines;
-    begun = old.begun.items;
+    begun = begun;
     whole = split.whole;
     each = split.each;
     in_line = split.in_line;
@@ -149,7 +155,7 @@ module _ (limits : Limits) (old : LineSplitter) (came : List ℕ) (split : HasSp
 
   -- ---- the end of the text
 
-  pub reported_whole : (report : Report) → old.begun.items ≡ [] → IsReport limits split.lines report → IsReported limits came report
+  pub reported_whole : (report : Report) → begun ≡ [] → IsReport limits split.lines report → IsReported limits came report
   reported_whole report none is = record {
     lines = split.lines;
     are = record { each = split.each; joined = inl (split.whole ∙ ap (λ (bs : List ℕ). ended split.lines ++ bs) none ∙ append-nil (ended split.lines)) };
@@ -158,18 +164,61 @@ module _ (limits : Limits) (old : LineSplitter) (came : List ℕ) (split : HasSp
     is = is;
   }
 
-  at_end : old.begun.items ≢ [] → AreLines came (split.lines ++ old.begun.items ∷ [])
-  at_end some = subst (λ (bs : List ℕ). AreLines bs (split.lines ++ old.begun.items ∷ [])) (sym split.whole) (lines_at_end split.lines old.begun.items split.each split.in_line some)
+  at_end : begun ≢ [] → AreLines came (split.lines ++ begun ∷ [])
+  at_end some = subst (λ (bs : List ℕ). AreLines bs (split.lines ++ begun ∷ [])) (sym split.whole) (lines_at_end split.lines begun split.each split.in_line some)
 
-  pub reported_last : (capture : Capture) (report : Report) → old.begun.items ≢ [] → (has : HasTaken limits capture (split.lines ++ old.begun.items ∷ [])) → IsReport limits (split.lines ++ old.begun.items ∷ []) report → IsReported limits came report
-  reported_last capture report some has is = record { lines = split.lines ++ old.begun.items ∷ []; are = at_end some; given = has.entries; taken = has.taken; is = is }
+  pub reported_last : (capture : Capture) (report : Report) → begun ≢ [] → (has : HasTaken limits capture (split.lines ++ begun ∷ [])) → IsReport limits (split.lines ++ begun ∷ []) report → IsReported limits came report
+  reported_last capture report some has is = record { lines = split.lines ++ begun ∷ []; are = at_end some; given = has.entries; taken = has.taken; is = is }
 
-  pub faulty_last : (number : ℕ) (fault : LineFault) → old.begun.items ≢ [] → IsStopAt limits split.lines old.begun.items (Line number fault) → IsFaulty limits came number fault
-  faulty_last number fault some is = record { before = split.lines; line = old.begun.items; after = []; are = at_end some; at = is.0; is = is.1 }
+  pub faulty_last : (number : ℕ) (fault : LineFault) → begun ≢ [] → IsStopAt limits split.lines begun (Line number fault) → IsFaulty limits came number fault
+  faulty_last number fault some is = record { before = split.lines; line = begun; after = []; are = at_end some; at = is.0; is = is.1 }
 
-  pub stop_last : (stop : CaptureStop) → old.begun.items ≢ [] → IsStopAt limits split.lines old.begun.items stop → IsAnswerOf limits came (Err stop)
+  pub stop_last : (stop : CaptureStop) → begun ≢ [] → IsStopAt limits split.lines begun stop → IsAnswerOf limits came (Err stop)
   stop_last Read some is = is
   stop_last (Line number fault) some is = faulty_last number fault some is
+
+-- ---- the front of a piece
+
+module _ (limits : Limits) (old : Capture) (begun came : List ℕ) (split : HasHandedOn limits old begun came) where
+  -- the rest of a line, and its LF
+  pub split_line : (bytes : List ℕ) (new : Capture) → IsLine bytes → length begun + length bytes < 8196 → HasTaken limits new (split.lines ++ (begun ++ bytes) ∷ []) → HasHandedOn limits new [] (came ++ (bytes ++ 10 ∷ []))
+  unfolding split_more
+  split_line bytes new line size takes =
+      subst (HasHandedOn limits new []) (append_assoc came bytes (10 ∷ []))
+      (split_lf limits old (begun ++ bytes) (came ++ bytes) (split_more limits old begun came split bytes line size) new takes)
+
+  pub stop_line : (bytes ahead : List ℕ) (stop : CaptureStop) → IsLine bytes → length begun + length bytes < 8196 → IsStopAt limits split.lines (begun ++ bytes) stop → IsStopWithin limits came (bytes ++ 10 ∷ ahead) stop
+  unfolding split_more
+  stop_line bytes ahead stop line size stops =
+      let more = split_more limits old begun came split bytes line size in
+      record {
+        told = bytes;
+        last = 10;
+        ahead = ahead;
+        whole = refl;
+        unfaulted = unfaulted limits old (begun ++ bytes) (came ++ bytes) more;
+        stops = stop_lf limits old (begun ++ bytes) (came ++ bytes) more stop stops;
+      }
+
+  -- as many bytes of a line as make it too long
+  pub stop_at_most : (told : List ℕ) (last : ℕ) (ahead : List ℕ) (stop : CaptureStop) → IsLine (told ++ last ∷ []) → length begun + length (told ++ last ∷ []) ≡ 8196 → IsStopAt limits split.lines (begun ++ (told ++ last ∷ [])) stop → IsStopWithin limits came ((told ++ last ∷ []) ++ ahead) stop
+  unfolding split_more
+  stop_at_most told last ahead stop line size stops =
+      let sizes = length-append told (last ∷ []) in
+      let short : length begun + length told < 8196 = omega (arith, size, sizes) in
+      let more = split_more limits old begun came split told (line_left told (last ∷ []) line) short in
+      let same = append_assoc begun told (last ∷ []) in
+      record {
+        told = told;
+        last = last;
+        ahead = ahead;
+        whole = append_assoc told (last ∷ []) ahead;
+        unfaulted = unfaulted limits old (begun ++ told) (came ++ told) more;
+        stops = stop_long limits old (begun ++ told) (came ++ told) more last stop
+            (line_join (begun ++ told) (last ∷ []) more.in_line (line_right told (last ∷ []) line))
+            (ap (λ (bs : List ℕ). length bs) same ∙ length-append begun (told ++ last ∷ []) ∙ size)
+            (subst (λ (bs : List ℕ). IsStopAt limits split.lines bs stop) (sym same) stops);
+      }
 
 -- ---- lists
 
@@ -179,6 +228,3 @@ empty_is (x ∷ xs) is = absurd (let none = eqb-true (length (x ∷ xs)) 0 is in
 
 pub not_empty : (xs : List ℕ) → (length xs == 0) ≡ false → xs ≢ []
 not_empty xs is none = let both : true ≡ false = sym (ap (λ (bs : List ℕ). length bs == 0) none) ∙ is in cc
-
-pub parted : (xs : List ℕ) (i : ℕ) → i < length xs → xs ≡ take i xs ++ get_or xs i 0 ∷ drop (suc i) xs
-parted xs i within = sym (take-append-drop i xs) ∙ ap (λ (ys : List ℕ). take i xs ++ ys) (drop-cons xs i 0 within)

@@ -1,8 +1,8 @@
 -- What is answered of a capture's text: the report of its lines, or its first line that isn't taken.
 use Rattle.std.specs.Prelude.{◌≡◌, ℕ, ◌+◌, ◌*◌, ◌<◌, ◌≤◌, ◌⊎◌, false, true, Result, Ok, Err, List, ◌∷◌, ◌++◌, length}
 use Rattle.std.specs.List.{AllByRecursion}
-use Rattle.std.specs.Io.KnownBytes.{Consumes, IsAtEnd}
-use Rattle.wsn_wire.specs.Transfer.{Incoming}
+use Rattle.std.specs.Io.KnownBytes.{IsAtEnd}
+use Rattle.wsn_wire.specs.Transfer.{Incoming, IsReceived}
 use Rattle.wsn_rules.specs.Limits.{Limits}
 use Rattle.wsn_capture.specs.declared.line_fault.LineFault.{LineFault}
 use Rattle.wsn_capture.specs.declared.report.Report.{Report}
@@ -79,6 +79,5 @@ IsAnswer limits new came (Err Read) = (new.failed ≡ true) × IsUnfaulted limit
 -- These bytes came from the input, and the answer is theirs.
 pub record IsCaptureJudged (limits : Limits) (old new : Incoming) (result : Result Report CaptureStop) : Type 0 where
   pub came : List ℕ
-  pub consumed : Consumes old.remaining new.remaining came
-  pub few : length came ≤ 1000001 * line_most + 4095
+  pub received : IsReceived (1000001 * line_most + 4095) old new came
   pub answer : IsAnswer limits new came result

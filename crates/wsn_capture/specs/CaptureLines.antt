@@ -14,7 +14,8 @@ ended = flat_map (λ line. line ++ 10 ∷ [])
 abbrev pub AreJoined : List ℕ → List (List ℕ) → Type 0
 AreJoined text lines =
     (text ≡ ended lines)
-    ⊎ ((before : List (List ℕ)) × (last : List ℕ) × (lines ≡ before ++ last ∷ []) × (last ≢ []) × (text ≡ ended before ++ last))
+    ⊎ ((before : List (List ℕ)) × (last : List ℕ) × (lines ≡ before ++ last ∷ []) × (last ≢ [])
+    × (text ≡ ended before ++ last))
 
 -- The lines of a text.
 pub record AreLines (text : List ℕ) (lines : List (List ℕ)) : Type 0 where

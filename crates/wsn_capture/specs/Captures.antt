@@ -31,7 +31,8 @@ abbrev pub IsCloseLine : Role → Limits → List Entry → Option ℕ → Type 
 IsCloseLine role limits given (Some line) = ClosesIn role limits given line
 IsCloseLine role limits given None = IsUnclosed role limits (sent role given)
 
--- The same of a stream that has gone on: the line that was known stays, and a Close that ends only now ends in this one.
+-- The same of a stream that has gone on: the line that was known stays, and a Close that ends only now ends in this
+-- one.
 abbrev pub IsNoted : Role → Limits → List ℕ → Option ℕ → ℕ → Option ℕ → Type 0
 IsNoted role limits stream (Some line) now noted = noted ≡ Some line
 IsNoted role limits stream None now (Some line) = (line ≡ now) × IsClosedBy role limits stream true
@@ -64,7 +65,8 @@ pub record IsWellGiven (limits : Limits) (given : List Entry) (text : List ℕ) 
 -- Of a text's own faults, the first.
 pub record IsFirstOwnFault (limits : Limits) (given : List Entry) (text : List ℕ) (fault : LineFault) : Type 0 where
   pub held : HasFault limits given text fault
-  pub first : (other : LineFault) → HasFault limits given text other → 2 ≤ order_of other → order_of fault ≤ order_of other
+  pub first :
+      (other : LineFault) → HasFault limits given text other → 2 ≤ order_of other → order_of fault ≤ order_of other
 
 -- One text more was taken.
 pub record TakesText (limits : Limits) (new : Capture) (given : List Entry) (text : List ℕ) : Type 0 where

@@ -12,3 +12,5 @@ pub mod CloseLines
 pub mod ScannedStreams
 pub mod Captures
 pub mod LineSplitters
+-- what the clauses in src/ import
+pub mod Words

@@ -47,10 +47,12 @@ HasFault limits given text TooManyLines = most_lines ≤ length given
 HasFault limits given text TooLong = most_bytes < length text
 HasFault limits given text BadForm = HasNoForm text
 HasFault limits given text BadHex =
-    (role : Role) × (digits : List ℕ) × (text ≡ bytes_front role ++ digits) × ((bytes : List ℕ) → IsHex digits bytes → ⊥)
+    (role : Role) × (digits : List ℕ) × (text ≡ bytes_front role ++ digits)
+    × ((bytes : List ℕ) → IsHex digits bytes → ⊥)
 HasFault limits given text AfterEnd = (role : Role) × IsOf role text × (has_ended role given ≡ true)
 HasFault limits given text InputLimit =
-    (role : Role) × (bytes : List ℕ) × IsGiven text (Bytes role bytes) × (limits.input < length (sent role given) + length bytes)
+    (role : Role) × (bytes : List ℕ) × IsGiven text (Bytes role bytes)
+    × (limits.input < length (sent role given) + length bytes)
 
 -- Of a line's faults, the first.
 pub record IsFirstFault (limits : Limits) (given : List Entry) (line : List ℕ) (fault : LineFault) : Type 0 where

@@ -4,6 +4,7 @@ use Rattle.std.specs.List.{AllByRecursion}
 use Rattle.wsn_rules.specs.Limits.{Limits}
 use Rattle.wsn_capture.specs.declared.capture_stop.CaptureStop.{CaptureStop}
 use Rattle.wsn_capture.specs.declared.capture_stop.CaptureStop.TheVariants.{Read, Line}
+use Rattle.wsn_capture.specs.declared.capture.Capture.{Capture}
 use Rattle.wsn_capture.specs.declared.line_splitter.LineSplitter.{LineSplitter}
 use Rattle.wsn_capture.specs.CaptureLines.{IsLine, ended}
 use Rattle.wsn_capture.specs.LineFaults.{IsFaultBehind}
@@ -11,14 +12,17 @@ use Rattle.wsn_capture.specs.Captures.{HasTaken, count_of}
 use Rattle.wsn_capture.specs.CaptureAnswers.{IsFaulty, IsUnfaulted, line_most}
 
 -- These bytes came: whole lines, which the capture has taken, and less of the next than makes it too long.
-pub record HasSplit (limits : Limits) (splitter : LineSplitter) (came : List ℕ) : Type 0 where
+pub record HasHandedOn (limits : Limits) (capture : Capture) (begun came : List ℕ) : Type 0 where
   pub lines : List (List ℕ)
-  pub whole : came ≡ ended lines ++ splitter.begun.items
+  pub whole : came ≡ ended lines ++ begun
   pub each : AllByRecursion IsLine lines
-  pub in_line : IsLine splitter.begun.items
-  pub short : length splitter.begun.items < line_most
-  pub taken : HasTaken limits splitter.capture lines
-  pub few : length came ≤ length lines * line_most + length splitter.begun.items
+  pub in_line : IsLine begun
+  pub short : length begun < line_most
+  pub taken : HasTaken limits capture lines
+  pub few : length came ≤ length lines * line_most + length begun
+
+abbrev pub HasSplit : Limits → LineSplitter → List ℕ → Type 0
+HasSplit limits splitter came = HasHandedOn limits splitter.capture splitter.begun.items came
 
 -- A stop at the line behind these.
 abbrev pub IsStopAt : Limits → List (List ℕ) → List ℕ → CaptureStop → Type 0

@@ -16,7 +16,9 @@ code_text (Some code) = decimal code
 
 abbrev pub side_text : Side → List ℕ
 side_text (Closed code) = codes "closed " ++ code_text code
-side_text (Refused refusal) = codes "refused " ++ decimal refusal.place ++ codes " " ++ word_of refusal.reason ++ codes " " ++ decimal (code_of refusal.reason)
+side_text (Refused refusal) =
+    codes "refused " ++ decimal refusal.place ++ codes " " ++ word_of refusal.reason ++ codes " "
+    ++ decimal (code_of refusal.reason)
 side_text Ended = codes "ended"
 side_text Cut = codes "cut"
 side_text Running = codes "running"
@@ -39,12 +41,16 @@ outcome_word Abnormal = codes "abnormal"
 outcome_word Half = codes "half"
 outcome_word Live = codes "open"
 
+-- a line of a report: what it is of, and its value
+abbrev pub report_line : List ℕ → List ℕ → List ℕ
+report_line name value = name ++ value ++ codes "\n"
+
 abbrev pub report_lines : Report → List ℕ
 report_lines report =
-    codes "client " ++ side_text report.client ++ codes "\n"
-    ++ codes "server " ++ side_text report.server ++ codes "\n"
-    ++ codes "first " ++ first_text report.first ++ codes "\n"
-    ++ codes "echo " ++ echo_text report.echo ++ codes "\n"
-    ++ codes "client-sees " ++ code_text report.client_sees ++ codes "\n"
-    ++ codes "server-sees " ++ code_text report.server_sees ++ codes "\n"
-    ++ codes "outcome " ++ outcome_word report.outcome ++ codes "\n"
+    report_line (codes "client ") (side_text report.client)
+    ++ report_line (codes "server ") (side_text report.server)
+    ++ report_line (codes "first ") (first_text report.first)
+    ++ report_line (codes "echo ") (echo_text report.echo)
+    ++ report_line (codes "client-sees ") (code_text report.client_sees)
+    ++ report_line (codes "server-sees ") (code_text report.server_sees)
+    ++ report_line (codes "outcome ") (outcome_word report.outcome)

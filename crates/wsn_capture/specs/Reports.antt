@@ -31,7 +31,8 @@ pub record ClosesIn (role : Role) (limits : Limits) (entries : List Entry) (line
 -- Of the sides that sent a Close, the one whose Close was whole in an earlier line; none if neither did.
 abbrev pub IsFirst : Limits → List Entry → Option Role → Type 0
 IsFirst limits entries (Some role) =
-    (line : ℕ) × ClosesIn role limits entries line × ((other : ℕ) → ClosesIn (other_side role) limits entries other → line < other)
+    (line : ℕ) × ClosesIn role limits entries line
+    × ((other : ℕ) → ClosesIn (other_side role) limits entries other → line < other)
 IsFirst limits entries None = (role : Role) (line : ℕ) → ClosesIn role limits entries line → ⊥
 
 -- ---- whether the other side echoed it
@@ -108,7 +109,8 @@ pub record IsReportOf (limits : Limits) (entries : List Entry) (report : Report)
   pub echo : report.echo ≡ echo_of report.client report.server
   pub client_sees : report.client_sees ≡ seen_of report.server
   pub server_sees : report.server_sees ≡ seen_of report.client
-  pub outcome : IsOutcome report.client report.server (has_ended Client entries) (has_ended Server entries) report.outcome
+  pub outcome :
+      IsOutcome report.client report.server (has_ended Client entries) (has_ended Server entries) report.outcome
 
 -- The report of these lines.
 pub record IsReport (limits : Limits) (lines : List (List ℕ)) (report : Report) : Type 0 where

@@ -24,11 +24,7 @@ pub struct Capture {
 
 impl Capture {
     ghost use Rattle.std.specs.Prelude.{◌≡◌, ◌+◌, ◌≤◌, ℕ, List, [], ◌∷◌, ◌++◌, length, OnOk, IfErr};
-    ghost use Rattle.wsn_rules.specs.Limits.{Limits};
-    ghost use Rattle.wsn_capture.specs.Entries.{Entry, bytes_front, end_mark};
-    ghost use Rattle.wsn_capture.specs.LineFaults.{IsFaultBehind};
-    ghost use Rattle.wsn_capture.specs.Reports.{IsReport};
-    ghost use Rattle.wsn_capture.specs.Captures.{AreSent, TakesText, IsFirstOwnFault, HasTaken, count_of};
+    ghost use Rattle.wsn_capture.specs.Words.{Limits, Entry, bytes_front, end_mark, IsFaultBehind, IsReport, AreSent, TakesText, IsFirstOwnFault, HasTaken, count_of};
 
     /// A capture that has taken no line. The limits hold for each side by itself.
     pub fn new(limits: Limits) -> Capture
@@ -124,7 +120,8 @@ impl Capture {
 
     /// The report of the lines taken.
     pub fn report(&self) -> Report
-        ensures { (limits : Limits) (lines : List (List ℕ)) → HasTaken limits self.now lines → IsReport limits lines result }
+        ensures { (limits : Limits) (lines : List (List ℕ)) →
+            HasTaken limits self.now lines → IsReport limits lines result }
     {
         let client = self.client.side();
         let server = self.server.side();

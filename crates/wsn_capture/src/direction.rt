@@ -15,11 +15,7 @@ pub struct Direction {
 
 impl Direction {
     ghost use Rattle.std.specs.Prelude.{◌≡◌, ◌≤◌, ℕ, List, [], ◌∷◌, ◌++◌, length, false, OnOk, IfErr};
-    ghost use Rattle.wsn_capture.specs.Entries.{Entry};
-    ghost use Rattle.wsn_capture.specs.Entries.Entry.{Bytes, Mark};
-    ghost use Rattle.wsn_capture.specs.Sides.{IsSide, sent, has_ended, ended_as};
-    ghost use Rattle.wsn_capture.specs.ScannedStreams.{HasStreamed};
-    ghost use Rattle.wsn_capture.specs.Captures.{HasSent, IsLimited, IsClosedBy, IsNoted};
+    ghost use Rattle.wsn_capture.specs.Words.{Entry, Bytes, Mark, IsSide, sent, has_ended, ended_as, HasStreamed, HasSent, IsLimited, IsClosedBy, IsNoted};
 
     /// Nothing has come.
     pub fn new(role: Role, limits: Limits) -> Direction
@@ -55,7 +51,9 @@ impl Direction {
     /// How many lines came before the one in which a Close ends, if one has come: those that were kept, or else
     /// these.
     fn closed_in(&self, lines: u32) -> Option<u32>
-        ensures { (role : Role) (limits : Limits) (bytes : List ℕ) → HasStreamed role limits self.now.stream bytes → IsNoted role limits bytes self.now.close_line lines result }
+        ensures { (role : Role) (limits : Limits) (bytes : List ℕ) →
+            HasStreamed role limits self.now.stream bytes
+            → IsNoted role limits bytes self.now.close_line lines result }
     {
         match self.close_line {
             Some(line) => Some(line),
@@ -66,7 +64,8 @@ impl Direction {
 
     /// Whether a Close has come.
     fn is_closed(&self) -> bool
-        ensures { (role : Role) (limits : Limits) (bytes : List ℕ) → HasStreamed role limits self.now.stream bytes → IsClosedBy role limits bytes result }
+        ensures { (role : Role) (limits : Limits) (bytes : List ℕ) →
+            HasStreamed role limits self.now.stream bytes → IsClosedBy role limits bytes result }
     {
         match self.stream.finish() {
             Verdict::Accepted(summary) => summary.close.is_some(),
@@ -90,7 +89,8 @@ impl Direction {
 
     /// What became of the stream.
     pub fn side(&self) -> Side
-        ensures { (role : Role) (limits : Limits) (given : List Entry) → HasSent role limits self.now given → IsSide role limits (sent role given) (has_ended role given) result }
+        ensures { (role : Role) (limits : Limits) (given : List Entry) →
+            HasSent role limits self.now given → IsSide role limits (sent role given) (has_ended role given) result }
     {
         match self.stream.finish() {
             Verdict::Refused(refusal) => Side::Refused(refusal),

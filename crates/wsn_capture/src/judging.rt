@@ -13,7 +13,8 @@ use wsn_wire::Input;
 pub fn judge_capture<R: Read>(input: &mut Input<R>, limits: Limits) -> Result<Report, CaptureStop>
     requires { input.old.failed ≡ false }
     ensures judged { IsCaptureJudged limits input.old input.new result }
-    ensures whole { (all : List ℕ) → input.old.remaining ≡ Some all → input.new.failed ≡ false → IsAnswerOf limits all result }
+    ensures whole { (all : List ℕ) → input.old.remaining ≡ Some all → input.new.failed ≡ false →
+        IsAnswerOf limits all result }
     ensures failed { (result ≡ Err CaptureStop.Read) ↔ (input.new.failed ≡ true) }
 {
     let mut lines = LineSplitter::new(limits);

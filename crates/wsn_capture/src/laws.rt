@@ -1,30 +1,27 @@
 //! What follows from the definitions in `specs/`. Each function does nothing: its contract is the fact.
 
 ghost use Rattle.std.specs.Prelude.{◌≡◌, ℕ, ◌⊎◌, List};
-ghost use Rattle.wsn_rules.specs.Limits.{Limits};
-ghost use Rattle.wsn_capture.specs.CaptureLines.{AreLines};
-ghost use Rattle.wsn_capture.specs.Entries.{Entry, IsEntry, AreEntries};
-ghost use Rattle.wsn_capture.specs.LineFaults.{IsFirstFault, IsTaken};
-ghost use Rattle.wsn_capture.specs.Reports.{IsReport, SendAlike};
-ghost use Rattle.wsn_capture.specs.declared.line_fault.LineFault.{LineFault};
-ghost use Rattle.wsn_capture.specs.declared.report.Report.{Report};
+ghost use Rattle.wsn_capture.specs.Words.{Limits, AreLines, Entry, IsEntry, AreEntries, IsFirstFault, IsTaken, IsReport, SendAlike, LineFault, Report};
 
 /// A text has exactly one list of lines.
 pub fn law_one_list_of_lines()
     ensures some { (text : List ℕ) → (lines : List (List ℕ)) × AreLines text lines }
-    ensures one { (text : List ℕ) (lines others : List (List ℕ)) → AreLines text lines → AreLines text others → lines ≡ others }
+    ensures one { (text : List ℕ) (lines others : List (List ℕ)) →
+        AreLines text lines → AreLines text others → lines ≡ others }
 {}
 
 /// A line gives one thing at most, and so do lines.
 pub fn law_one_entry()
     ensures line { (line : List ℕ) (entry other : Entry) → IsEntry line entry → IsEntry line other → entry ≡ other }
-    ensures lines { (lines : List (List ℕ)) (entries others : List Entry) → AreEntries lines entries → AreEntries lines others → entries ≡ others }
+    ensures lines { (lines : List (List ℕ)) (entries others : List Entry) →
+        AreEntries lines entries → AreEntries lines others → entries ≡ others }
 {}
 
 /// Behind lines that are taken a line is taken too, or has one first fault, and not both.
 pub fn law_taken_or_faulty()
     ensures either { (limits : Limits) (given : List Entry) (line : List ℕ) →
-        ((entry : Entry) × IsTaken limits given line entry) ⊎ ((fault : LineFault) × IsFirstFault limits given line fault) }
+        ((entry : Entry) × IsTaken limits given line entry)
+        ⊎ ((fault : LineFault) × IsFirstFault limits given line fault) }
     ensures one { (limits : Limits) (given : List Entry) (line : List ℕ) (fault other : LineFault) →
         IsFirstFault limits given line fault → IsFirstFault limits given line other → fault ≡ other }
     ensures not_both { (limits : Limits) (given : List Entry) (line : List ℕ) (entry : Entry) (fault : LineFault) →
@@ -41,5 +38,6 @@ pub fn law_one_report()
 /// joined bytes and on their end marks.
 pub fn law_any_lines()
     ensures { (limits : Limits) (lines others : List (List ℕ)) (report other : Report) →
-        SendAlike lines others → IsReport limits lines report → IsReport limits others other → other ≡ record report { first = other.first } }
+        SendAlike lines others → IsReport limits lines report → IsReport limits others other →
+        other ≡ record report { first = other.first } }
 {}

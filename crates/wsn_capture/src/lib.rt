@@ -2,8 +2,8 @@
 //! connection closed (RFC 6455 section 7.1).
 //!
 //! A [`Capture`] takes lines and tells the [`Report`] of those that it took. [`judge_capture`] reads a text, hands each
-//! of its lines to one, and tells its report, or the first line that isn't taken. Neither takes memory, and no more than
-//! one line is held.
+//! of its lines to one, and tells its report, or the first line that isn't taken; [`put_report`] prints a report. None
+//! of them takes memory, and no more than one line is held.
 //!
 //! `specs/CaptureLines.antt` says which lines a text has, `specs/Entries.antt` what a line gives,
 //! `specs/LineFaults.antt` which lines aren't taken, `specs/Sides.antt` what became of each side,
@@ -15,12 +15,14 @@
 mod capture;
 mod capture_stop;
 mod direction;
+mod hex_pairs;
 mod judging;
 pub mod laws;
 mod line_fault;
 mod line_form;
 mod line_splitter;
 mod report;
+mod report_lines;
 mod scanned_stream;
 
 pub use capture::Capture;
@@ -28,3 +30,4 @@ pub use capture_stop::CaptureStop;
 pub use judging::judge_capture;
 pub use line_fault::LineFault;
 pub use report::{Outcome, Report, Side};
+pub use report_lines::put_report;

@@ -4,6 +4,7 @@ ghost use Rattle.wsn_capture.specs.LineForms.{IsForm, HasNoHex};
 ghost use Rattle.wsn_capture.specs.Entries.{IsHex};
 ghost use Rattle.wsn_capture.specs.declared.line_fault.LineFault.TheVariants.{BadHex};
 
+use crate::hex_pairs::decode_pairs;
 use crate::line_fault::LineFault;
 use wsn_wire::Role;
 
@@ -51,11 +52,11 @@ pub fn decode(digits: &[u8], bytes: &mut [u8]) -> Result<usize, LineFault>
         (λ fault. (fault ≡ BadHex) × HasNoHex digits.now) }
 {
     let count = digits.len() / 2;
-    if count == 0 {
+    if count == 0 || digits.len() % 2 != 0 {
         return Err(LineFault::BadHex);
     }
-    match hex::decode_to_slice(digits, &mut bytes[..count]) {
-        Ok(()) => Ok(count),
-        Err(_) => Err(LineFault::BadHex),
+    if !decode_pairs(digits, &mut bytes[..count]) {
+        return Err(LineFault::BadHex);
     }
+    Ok(count)
 }

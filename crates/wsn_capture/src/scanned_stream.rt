@@ -22,9 +22,7 @@ impl Model for ScannedStream {
 
 impl ScannedStream {
     ghost use Rattle.std.specs.Prelude.{◌≡◌, ◌≤◌, ℕ, List, [], ◌++◌, length};
-    ghost use Rattle.wsn_wire.specs.Frame.{Frame};
-    ghost use Rattle.wsn_rules.specs.Verdict.{IsVerdict};
-    ghost use Rattle.wsn_capture.specs.ScannedStreams.{HasStreamed};
+    ghost use Rattle.wsn_capture.specs.Words.{Frame, IsVerdict, HasStreamed};
 
     /// A stream of which nothing has come.
     pub fn new(role: Role, limits: Limits) -> ScannedStream

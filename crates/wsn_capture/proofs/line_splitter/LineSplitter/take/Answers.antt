@@ -1,22 +1,29 @@
-use Rattle.std.proofs.Common.{ℕ, ◌≡◌, List, Result, Err, take, drop, suc, sym, subst, rules, arith}
+use Rattle.std.proofs.Common.{◌≡◌, ◌-◌, ◌++◌, ℕ, List, Result, Err, length, take, drop, sym, ap, ◌∙◌, subst, rules, arith, length-drop}
 use Rattle.std.specs.Prelude.{IfErr}
 use Rattle.wsn_rules.specs.Limits.{Limits}
 use Rattle.wsn_capture.specs.declared.capture_stop.CaptureStop.{CaptureStop}
 use Rattle.wsn_capture.specs.LineSplitters.{HasSplit, IsStopWithin}
-use Rattle.wsn_capture.proofs.SplitLines.{unfaulted, parted}
+use Rattle.wsn_capture.proofs.PieceFronts.{rest_is, taken_more, stop_in_rest}
 use Rattle.wsn_capture.proofs.line_splitter.LineSplitter.take.Goals as goal
 
-pub returns-in_err-push-clause-stop : goal.returns-in_err-push-clause-stop
-returns-in_err-push-clause-stop c =
-    let is : c.from_residual.result ≡ Err c.in_err-push.field-0.0 = search rules in
+pub returns-in_err-taken-clause-stop : goal.returns-in_err-taken-clause-stop
+returns-in_err-taken-clause-stop c =
+    let is : c.from_residual.result ≡ Err c.in_err-taken.field-0.0 = search rules in
     subst (λ (r : Result Unit CaptureStop). IfErr r (λ stop. (limits : Limits) (came : List ℕ) → HasSplit limits c.args.self.now came → IsStopWithin limits came c.args.piece.now stop)) (sym is)
-    (λ limits came split.
-    let so_far = c.loop-byte.invariant.split limits came split in
+    (λ limits came split. stop_in_rest limits came c.args.piece.now c.loop-taken.taken c.in_err-taken.field-0.0
+    (c.in_err-taken.ensures.stop limits (came ++ take c.loop-taken.taken c.args.piece.now) (c.loop-taken.invariant.split limits came split)))
+
+pub loop-taken-preserved : goal.loop-taken-preserved
+loop-taken-preserved c =
+    let piece = c.args.piece.now in
+    let at = c.loop-taken.taken in
+    let count = c.in_ok-taken.field-0 in
+    let size : length (take (length piece - at) (drop at piece)) ≡ length piece - at = ap length (rest_is piece at) ∙ length-drop at piece in
     record {
-      told = take c.loop-byte.byte-index c.args.piece.now;
-      last = _;
-      ahead = drop (suc c.loop-byte.byte-index) c.args.piece.now;
-      whole = parted c.args.piece.now c.loop-byte.byte-index (omega arith);
-      unfaulted = unfaulted limits c.loop-byte.self _ so_far;
-      stops = c.in_err-push.ensures.stop limits _ so_far;
-    })
+      within = omega (arith, c.in_ok-taken.ensures.within.1, size, c.loop-taken-test.true);
+      few = c.in_ok-taken.ensures.few;
+      short = c.in_ok-taken.ensures.short;
+      split = λ limits came split. subst (HasSplit limits c.take_front.new.self) (taken_more came piece at count)
+          (c.in_ok-taken.ensures.split limits (came ++ take at piece) (c.loop-taken.invariant.split limits came split));
+      left = omega (arith, c.loop-taken.invariant.left, c.in_ok-taken.ensures.left);
+    }

@@ -1,0 +1,18 @@
+use Rattle.std.proofs.Common.{ℕ, List, ◌++◌, codes, ap, ◌∙◌, subst}
+use Rattle.wsn_scan.specs.Stops.{IsPut}
+use Rattle.wsn_capture.specs.ReportLines.{report_line}
+use Rattle.wsn_capture.proofs.ReportTexts.{all_lines}
+use Rattle.wsn_capture.proofs.report_lines.put_report.Goals as goal
+
+pub returns : goal.returns
+returns g c =
+    let report = c.args.report.now in
+    let all = all_lines report c.new-lines.result c.push_side.new.lines c.push_side-2.new.lines
+    c.push_word.new.lines c.push_word-2.new.lines c.push_code.new.lines
+    c.push_code-2.new.lines c.push_word-3.new.lines
+    c.new-lines.ensures c.push_side.ensures.text c.push_side-2.ensures.text
+    (c.push_word.ensures.text ∙ ap (λ (w : List ℕ). c.push_side-2.new.lines ++ report_line (codes "first ") w) c.first_text.ensures.text)
+    (c.push_word-2.ensures.text ∙ ap (λ (w : List ℕ). c.push_word.new.lines ++ report_line (codes "echo ") w) c.echo_text.ensures.text)
+    c.push_code.ensures.text c.push_code-2.ensures.text
+    (c.push_word-3.ensures.text ∙ ap (λ (w : List ℕ). c.push_code-2.new.lines ++ report_line (codes "outcome ") w) c.outcome_word.ensures.word) in
+    subst (λ (bs : List ℕ). IsPut c.args.to.now c.put_line.new.to bs c.put_line.result) all c.put_line.ensures

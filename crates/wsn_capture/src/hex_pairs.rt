@@ -1,0 +1,40 @@
+ghost use Rattle.std.specs.Prelude.{◌≡◌, ◌<◌, ◌*◌, MatchBool, Ok, length, unwrap_or};
+ghost use Rattle.wsn_capture.specs.Words.{decode_of, hex_digit_value, is_hex_digit, HasNoHex};
+
+/// Puts the bytes that pairs of hexadecimal digits spell into `bytes`, and answers whether all are digits, of either
+/// case. If not, `bytes` is left open.
+///
+/// The loop has no way out at a bad digit: whether one is a letter can't be foreseen, and a branch at each would take
+/// longer than all else that is done with a line.
+pub fn decode_pairs(digits: &[u8], bytes: &mut [u8]) -> bool
+    requires { length digits.now ≡ 2 * length bytes.old }
+    ensures { MatchBool result (decode_of digits.now ≡ Ok bytes.new) (HasNoHex digits.now) }
+{
+    let mut valid = true;
+    for i in 0..bytes.len() {
+        let high = digits[2 * i];
+        let low = digits[2 * i + 1];
+        valid = valid & is_digit(high) & is_digit(low);
+        bytes[i] = digit_value(high) * 16 + digit_value(low);
+    }
+    valid
+}
+
+fn is_digit(byte: u8) -> bool
+    ensures { result ≡ is_hex_digit byte }
+{
+    matches!(byte, b'0'..=b'9' | b'A'..=b'F' | b'a'..=b'f')
+}
+
+/// The value of a digit, and 0 for a byte that is none.
+fn digit_value(byte: u8) -> u8
+    ensures value { result ≡ unwrap_or (hex_digit_value byte) 0 }
+    ensures small { result < 16 }
+{
+    match byte {
+        b'0'..=b'9' => byte - b'0',
+        b'A'..=b'F' => byte - b'A' + 10,
+        b'a'..=b'f' => byte - b'a' + 10,
+        _ => 0,
+    }
+}
