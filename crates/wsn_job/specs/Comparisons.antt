@@ -9,8 +9,6 @@ use Rattle.wsn_rules.specs.Lines.{verdict_line}
 use Rattle.wsn_canon.specs.declared.comparing.Compared.{Compared}
 use Rattle.wsn_canon.specs.declared.comparing.Compared.TheVariants.{Equal, Different, NotAccepted}
 use Rattle.wsn_canon.specs.Comparing.{IsCompared}
-use Rattle.wsn_job.specs.Lines.{stop_line}
-use Rattle.wsn_job.specs.Telling.{IsToldOn}
 
 -- The line of an answer; numbers are decimal.
 abbrev pub comparison_line : Compared → List ℕ
@@ -36,8 +34,3 @@ abbrev pub comparison_status : Result Compared Stop → ℕ
 comparison_status (Ok Equal) = 0
 comparison_status (Ok compared) = 1
 comparison_status (Err stopped) = 2
-
--- A stop is told on the second output, in its line; where a write there fails, in some front of it.
-abbrev pub IsStopTold : Result Compared Stop → Outgoing → Outgoing → Type 0
-IsStopTold (Ok compared) old new = new ≡ old
-IsStopTold (Err stopped) old new = IsToldOn old new (stop_line stopped)

@@ -1,18 +1,16 @@
 ghost use Rattle.std.specs.Prelude.{◌≡◌, ◌⊎◌, ◌+◌, ◌≤◌, false, true, length, Result, codes, decimal, ◌++◌};
-ghost use Rattle.wsn_scan.specs.declared.stop.Stop.{Stop};
-ghost use Rattle.wsn_rules.specs.Lines.{verdict_line};
-ghost use Rattle.wsn_canon.specs.declared.comparing.Compared.{Compared};
-ghost use Rattle.wsn_job.specs.Comparisons.{IsComparisonDone, IsStopTold, comparison_line, comparison_status};
-ghost use Rattle.wsn_wire.specs.Transfer.{IsWrittenUpToFailure};
-ghost use Rattle.wsn_scan.specs.Stops.{IsPut};
+ghost use Rattle.wsn_job.specs.Words.{Stop, verdict_line, Compared, IsComparisonDone, comparison_line, comparison_status, IsStopTold, IsWrittenUpToFailure, IsPut};
 
 use crate::telling::tell_stop;
-use itoa::Buffer;
 use std::alloc::Allocator;
 use std::io::{Read, Write};
 use wsn_canon::{Compared, same};
-use wsn_scan::{Limits, Stop, Verdict, put_verdict};
+use wsn_lines::Line;
+use wsn_scan::{Limits, Stop, Verdict, put_line, put_verdict};
 use wsn_wire::{Input, Output, Role};
+
+/// The bytes of the longest line of a difference, with a number of twenty digits.
+const DIFFERENCE_MOST: usize = 31;
 
 /// Compares what two streams mean that endpoints of one role sent, prints the answer in one line, and answers the
 /// program's exit status: `equal` and 0; `different K` and 1, where K is the index of the first event that differs;
@@ -45,7 +43,7 @@ pub fn run_same<A: Allocator + Copy, R: Read, S: Read, W: Write, E: Write>(
         Ok(Compared::Equal) => 0,
         Ok(Compared::Different(_) | Compared::NotAccepted { .. }) => 1,
         Err(stop) => {
-            tell_stop(stop, errors);
+            tell_stop(errors, stop);
             2
         }
     }
@@ -70,21 +68,21 @@ fn compare<A: Allocator + Copy, R: Read, S: Read, W: Write>(
     Ok(compared)
 }
 
-/// IsWrittenUpToFailure an answer's line. `Write` if the writer fails.
+/// Writes an answer's line. `Write` if the writer fails.
 fn put_compared<W: Write>(output: &mut Output<W>, compared: Compared) -> Result<(), Stop>
     requires { output.old.failed ≡ false }
     ensures { IsPut output.old output.new (comparison_line compared) result }
 {
     match compared {
         Compared::Equal => put_text(output, "equal\n"),
-        Compared::Different(index) => put_difference(output, index),
+        Compared::Different(index) => put_line(output, &line_of_difference(index)),
         Compared::NotAccepted { second, verdict } => {
             put_verdict_of(output, if second { "second " } else { "first " }, verdict)
         }
     }
 }
 
-/// IsWrittenUpToFailure which stream a verdict is of, and the verdict's line.
+/// Writes which stream a verdict is of, and the verdict's line.
 fn put_verdict_of<W: Write>(
     output: &mut Output<W>,
     stream: &str,
@@ -97,13 +95,14 @@ fn put_verdict_of<W: Write>(
     put_verdict(output, &verdict)
 }
 
-fn put_difference<W: Write>(output: &mut Output<W>, index: u64) -> Result<(), Stop>
-    requires { output.old.failed ≡ false }
-    ensures { IsPut output.old output.new (codes "different " ++ decimal index ++ codes "\n") result }
+fn line_of_difference(index: u64) -> Line<DIFFERENCE_MOST>
+    ensures { result ≡ comparison_line (Compared.Different index) }
 {
-    put_text(output, "different ")?;
-    put_text(output, Buffer::new().format(index))?;
-    put_text(output, "\n")
+    let mut line = Line::new();
+    line.push("different ");
+    line.push_number(index);
+    line.push("\n");
+    line
 }
 
 fn put_text<W: Write>(output: &mut Output<W>, text: &str) -> Result<(), Stop>

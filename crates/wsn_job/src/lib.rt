@@ -1,9 +1,15 @@
 //! What each command of the program does, over any reader and writers.
 #![tactic(auto)]
 
+mod closings;
 mod comparisons;
-mod jobs;
+mod job;
+mod plans;
+mod recuts;
+mod running;
 mod telling;
+mod verdicts;
 
 pub use comparisons::run_same;
-pub use jobs::{Job, run};
+pub use job::{How, Job};
+pub use running::run;

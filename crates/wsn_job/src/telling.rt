@@ -1,41 +1,33 @@
 ghost use Rattle.std.specs.Prelude.{◌≡◌, false};
-ghost use Rattle.wsn_rules.specs.Lines.{verdict_line};
-ghost use Rattle.wsn_job.specs.Jobs.{IsTold};
-ghost use Rattle.wsn_job.specs.Lines.{stop_line};
-ghost use Rattle.wsn_job.specs.Telling.{IsToldOn};
+ghost use Rattle.wsn_job.specs.Words.{verdict_line, IsToldOn, stop_line};
 
-use crate::jobs::Job;
 use std::io::Write;
 use wsn_scan::{Stop, Verdict, put_verdict};
 use wsn_wire::Output;
 
-/// Tells on `errors` what a job has no other place for: a stop, and for `normal` a verdict that isn't accepted.
-/// What can't be written there is dropped.
-pub fn tell<E: Write>(job: &Job, done: Result<Verdict, Stop>, errors: &mut Output<E>)
-    ensures { IsTold job.now done errors.old errors.new }
-{
-    match (*job, done) {
-        (_, Ok(Verdict::Accepted(_))) => {}
-        (Job::Normal(..), Ok(verdict)) => tell_verdict(verdict, errors),
-        (_, Ok(_)) => {}
-        (_, Err(stop)) => tell_stop(stop, errors),
-    }
-}
-
-fn tell_verdict<E: Write>(verdict: Verdict, errors: &mut Output<E>)
-    ensures { IsToldOn errors.old errors.new (verdict_line verdict) }
+/// Tells a line on `errors`. What can't be written there is dropped, and after a failed write nothing more is written.
+pub fn tell<E: Write>(errors: &mut Output<E>, line: &[u8])
+    ensures { IsToldOn errors.old errors.new line.now }
 {
     if !errors.failed() {
-        let _ = put_verdict(errors, &verdict);
+        let _ = errors.put(line);
     }
 }
 
-pub fn tell_stop<E: Write>(stop: Stop, errors: &mut Output<E>)
+/// Tells a verdict's line as [`tell`] does.
+pub fn tell_verdict<E: Write>(errors: &mut Output<E>, verdict: &Verdict)
+    ensures { IsToldOn errors.old errors.new (verdict_line verdict.now) }
+{
+    if !errors.failed() {
+        let _ = put_verdict(errors, verdict);
+    }
+}
+
+/// Tells a stop's line as [`tell`] does.
+pub fn tell_stop<E: Write>(errors: &mut Output<E>, stop: Stop)
     ensures { IsToldOn errors.old errors.new (stop_line stop) }
 {
-    if !errors.failed() {
-        let _ = errors.put(line_of_stop(stop).as_bytes());
-    }
+    tell(errors, line_of_stop(stop).as_bytes());
 }
 
 /// The line that tells a stop on standard error.

@@ -1,0 +1,112 @@
+ghost use Rattle.std.specs.Prelude.{◌≡◌, false, true};
+ghost use Rattle.wsn_job.specs.Words.{IsVerdictPrinted, IsVerdictTold, IsJudgeRun, IsFramesRun, IsNormalRun, verdict_status, IsStopTold};
+
+use crate::telling::{tell_stop, tell_verdict};
+use std::alloc::Allocator;
+use std::io::{Read, Write};
+use wsn_canon::normalise;
+use wsn_scan::{Limits, Stop, Verdict, judge, list, put_verdict};
+use wsn_wire::{Input, Output, Role};
+
+/// Prints the verdict on the input.
+pub(crate) fn run_judge<R: Read, W: Write, E: Write>(
+    input: &mut Input<R>,
+    role: Role,
+    limits: Limits,
+    output: &mut Output<W>,
+    errors: &mut Output<E>,
+) -> u8
+    requires readable { input.old.failed ≡ false }
+    requires writable { output.old.failed ≡ false }
+    ensures done { IsJudgeRun role limits input.old input.new output.old output.new errors.old errors.new result }
+    ensures read { input.new.failed ≡ true → result ≡ 2 }
+    ensures write { output.new.failed ≡ true → result ≡ 2 }
+{
+    let done = print_verdict(input, role, limits, output);
+    tell_if_stopped(done, errors);
+    status(done)
+}
+
+/// Prints a line for each frame of the input, and the verdict on it.
+pub(crate) fn run_frames<R: Read, W: Write, E: Write>(
+    input: &mut Input<R>,
+    role: Role,
+    limits: Limits,
+    output: &mut Output<W>,
+    errors: &mut Output<E>,
+) -> u8
+    requires readable { input.old.failed ≡ false }
+    requires writable { output.old.failed ≡ false }
+    ensures done { IsFramesRun role limits input.old input.new output.old output.new errors.old errors.new result }
+    ensures read { input.new.failed ≡ true → result ≡ 2 }
+    ensures write { output.new.failed ≡ true → result ≡ 2 }
+{
+    let done = list(input, output, role, limits);
+    tell_if_stopped(done, errors);
+    status(done)
+}
+
+/// Writes the normal form of what the input means, and tells a verdict that isn't accepted.
+pub(crate) fn run_normal<A: Allocator + Copy, R: Read, W: Write, E: Write>(
+    alloc: A,
+    input: &mut Input<R>,
+    role: Role,
+    limits: Limits,
+    output: &mut Output<W>,
+    errors: &mut Output<E>,
+) -> u8
+    requires readable { input.old.failed ≡ false }
+    requires writable { output.old.failed ≡ false }
+    ensures done { IsNormalRun role limits input.old input.new output.old output.new errors.old errors.new result }
+    ensures read { input.new.failed ≡ true → result ≡ 2 }
+    ensures write { output.new.failed ≡ true → result ≡ 2 }
+{
+    let done = normalise(alloc, input, output, role, limits);
+    tell_unless_accepted(done, errors);
+    status(done)
+}
+
+/// Writes the verdict on the input.
+fn print_verdict<R: Read, W: Write>(
+    input: &mut Input<R>,
+    role: Role,
+    limits: Limits,
+    output: &mut Output<W>,
+) -> Result<Verdict, Stop>
+    requires readable { input.old.failed ≡ false }
+    requires writable { output.old.failed ≡ false }
+    ensures { IsVerdictPrinted role limits input.old input.new output.old output.new result }
+{
+    let verdict = judge(input, role, limits)?;
+    put_verdict(output, &verdict)?;
+    Ok(verdict)
+}
+
+fn tell_if_stopped<E: Write>(done: Result<Verdict, Stop>, errors: &mut Output<E>)
+    ensures { IsStopTold done errors.old errors.new }
+{
+    if let Err(stop) = done {
+        tell_stop(errors, stop);
+    }
+}
+
+fn tell_unless_accepted<E: Write>(done: Result<Verdict, Stop>, errors: &mut Output<E>)
+    ensures { IsVerdictTold done errors.old errors.new }
+{
+    match done {
+        Ok(Verdict::Accepted(_)) => {}
+        Ok(verdict) => tell_verdict(errors, &verdict),
+        Err(stop) => tell_stop(errors, stop),
+    }
+}
+
+/// The exit status of a verdict or a stop.
+fn status(done: Result<Verdict, Stop>) -> u8
+    ensures { result ≡ verdict_status done }
+{
+    match done {
+        Ok(Verdict::Accepted(_)) => 0,
+        Ok(Verdict::Cut(_) | Verdict::Refused(_)) => 1,
+        Err(_) => 2,
+    }
+}
