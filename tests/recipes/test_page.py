@@ -2,8 +2,7 @@
 
 A block ```console has commands behind `$ ` (further lines behind `> `), and what they print, on either stream. `..`
 stands for anything, within a line or, alone, for lines. A command that ends with ` &` runs to the end of the page.
-Comments of the page say what stands around a block: `serve KIND PORT` and `talk KIND URL` (see peers.py), and
-`wants COMMAND` where a block is for a command of wsn that may not be known yet.
+Comments of the page say what stands around a block: `serve KIND PORT` and `talk KIND URL` (see peers.py).
 """
 
 import contextlib
@@ -44,11 +43,6 @@ def fits(printed, wanted):
     return re.fullmatch(pattern, printed, re.DOTALL if "\n..\n" in wanted else 0) is not None
 
 
-def known(command):
-    """Whether wsn has a command."""
-    return subprocess.run([WSN, command, "--help"], capture_output=True, check=False).returncode == 0
-
-
 class Page:
     """The page while it is run."""
 
@@ -58,7 +52,6 @@ class Page:
         self.done = 0
         self.skipped = {}
         self.missing = ""  # What the section's commands lack, once one was skipped.
-        self.wanted = set()
         self.lost = set()  # Names of what skipped commands would have written.
         for name in "recipes", "tests":
             (folder / name).symlink_to(TOP / name)
@@ -82,14 +75,7 @@ class Page:
         reads = re.sub(WRITES, "", words)
         if kind == "command" and any(re.search(rf"(?<![\w/]){name}\b", reads) for name in self.lost):
             return self.missing or "without what skipped ones write"
-        for command in re.findall(r"\./wsn (\w+)", words) if kind == "command" else []:
-            if command in self.wanted and not known(command):
-                return f"wsn {command} isn't known"
         return self.missing
-
-    def wants(self, command):
-        """A command of wsn that may not be known yet."""
-        self.wanted.add(command)
 
     def serve(self, words):
         """A server of the page's."""
@@ -166,8 +152,8 @@ def page_says_what_its_commands_print(folder):
     with contextlib.ExitStack() as stack:
         page = Page(folder, stack)
         for kind, words, printed in parts_of(page_text):
-            if kind in ("section", "wants"):
-                getattr(page, kind)(words)
+            if kind == "section":
+                page.section(words)
             elif page.lacks(kind, words):
                 page.skip(words, page.lacks(kind, words))
             elif kind == "command":

@@ -1,23 +1,40 @@
+ghost use Rattle.std.specs.Prelude.{IfOk, IfSome};
+ghost use Rattle.wsn_job.specs.Jobs.{MayRun};
+ghost use Rattle.wsn.specs.Requests.{MayDo};
+
 mod help;
+mod options;
+mod recuts;
 
 use crate::shown::Shown;
-use clap::builder::ValueParser;
 use clap::error::ErrorKind;
-use clap::{Arg, ArgAction, ArgMatches, Command, Error, value_parser};
+use clap::{Arg, ArgAction, ArgMatches, Command, Error};
+use options::{check_digits, limits_of, role_of, with_limits, with_role};
+use recuts::{recut, recut_of};
 use std::alloc::{AllocError, AllocFailed, Global};
 use wsn_job::Job;
-use wsn_scan::{INPUT_MAX, Limits, MESSAGE_MAX};
-use wsn_wire::{Lengths, Role};
+use wsn_scan::Limits;
+use wsn_wire::Role;
 
 /// What the words of a command line ask for.
 #[derive(Drop)]
 pub enum Request {
     /// Do this work over the standard streams.
     Run(Job),
+    /// Cut the stream on standard input again, by the plan in a file.
+    RecutBy(PlannedRecut),
     /// Compare the streams in two files.
     Same(Pair),
     /// Show this text, help or the version.
     Help(String),
+}
+
+/// A plan file, and how the stream is read that is cut by it.
+#[derive(Drop)]
+pub struct PlannedRecut {
+    pub role: Role,
+    pub limits: Limits,
+    pub plan: String,
 }
 
 /// Two files, and how the streams in them are read.
@@ -62,50 +79,7 @@ impl<T: Drop> From<AllocFailed<T>> for Usage {
     }
 }
 
-static ROLES: [&str; 2] = ["client", "server"];
-
-static SPELLINGS: [&str; 2] = ["shortest", "any"];
-
-/// `--role`, which each command wants, and `--limit`.
-fn with_role<'a>(alloc: Global, command: Command<'a>) -> Result<Command<'a>, AllocError> {
-    let role = Arg::new(alloc, "role")
-        .long("role")
-        .required(true)
-        .action(ArgAction::Set)
-        .value_parser(ROLES.as_slice())
-        .value_name("client|server")
-        .hide_possible_values(true)
-        .help("The endpoint that sent the stream");
-    let limit = Arg::new(alloc, "limit")
-        .long("limit")
-        .action(ArgAction::Set)
-        .value_parser(value_parser!(u32).range(0..16_777_217))
-        .value_name("BYTES")
-        .help("The most bytes of a message, 0 to 16777216\n[default: 16777216]");
-    command.arg(role)?.arg(limit)
-}
-
-/// `--frames` and `--lengths`.
-fn with_limits<'a>(alloc: Global, command: Command<'a>) -> Result<Command<'a>, AllocError> {
-    let frames = Arg::new(alloc, "frames")
-        .long("frames")
-        .action(ArgAction::Set)
-        .value_parser(value_parser!(u32).range(1..))
-        .value_name("COUNT")
-        .help("The most frames of a message, 1 to 4294967295;\nwithout it any number is taken");
-    let lengths = Arg::new(alloc, "lengths")
-        .long("lengths")
-        .action(ArgAction::Set)
-        .value_parser(SPELLINGS.as_slice())
-        .value_name("shortest|any")
-        .hide_possible_values(true)
-        .default_value("shortest")
-        .hide_default_value(true)
-        .help("Which spellings of a length are taken\n[default: shortest]");
-    command.arg(frames)?.arg(lengths)
-}
-
-/// A command, with the options that all have.
+/// A command over streams of one role.
 fn command<'a>(
     alloc: Global,
     name: &'static str,
@@ -132,11 +106,31 @@ fn over_files<'a>(alloc: Global) -> Result<Command<'a>, AllocError> {
     same.arg(first)?.arg(second)
 }
 
+/// The command over a capture.
+fn closing<'a>(alloc: Global) -> Result<Command<'a>, AllocError> {
+    let closing = Command::new(alloc, "closing")
+        .about(help::CLOSING)
+        .after_help(help::CLOSING_DETAILS);
+    with_limits(alloc, closing)
+}
+
 /// The commands that tell of a stream.
 fn with_verdicts<'a>(alloc: Global, program: Command<'a>) -> Result<Command<'a>, AllocError> {
     let judge = command(alloc, "judge", help::JUDGE, help::JUDGE_DETAILS)?;
     let frames = command(alloc, "frames", help::FRAMES, help::FRAMES_DETAILS)?;
     program.subcommand(judge)?.subcommand(frames)
+}
+
+/// The commands on what streams mean.
+fn with_meanings<'a>(alloc: Global, program: Command<'a>) -> Result<Command<'a>, AllocError> {
+    let normal = command(alloc, "normal", help::NORMAL, help::NORMAL_DETAILS)?;
+    program.subcommand(normal)?.subcommand(over_files(alloc)?)
+}
+
+/// The commands on how a stream is cut.
+fn with_plans<'a>(alloc: Global, program: Command<'a>) -> Result<Command<'a>, AllocError> {
+    let plan = command(alloc, "plan", help::PLAN, help::PLAN_DETAILS)?;
+    program.subcommand(plan)?.subcommand(recut(alloc)?)
 }
 
 fn program<'a>(alloc: Global) -> Result<Command<'a>, AllocError> {
@@ -145,36 +139,15 @@ fn program<'a>(alloc: Global) -> Result<Command<'a>, AllocError> {
         .after_help(help::PROGRAM_DETAILS)
         .version(help::VERSION)
         .subcommand_required(true);
-    let normal = command(alloc, "normal", help::NORMAL, help::NORMAL_DETAILS)?;
     let program = with_verdicts(alloc, program)?;
-    program.subcommand(normal)?.subcommand(over_files(alloc)?)
-}
-
-fn role_of(matches: &ArgMatches<'_>) -> Role {
-    match matches.get_str("role") {
-        Some("server") => Role::Server,
-        _ => Role::Client,
-    }
-}
-
-fn lengths_of(matches: &ArgMatches<'_>) -> Lengths {
-    match matches.get_str("lengths") {
-        Some("any") => Lengths::Any,
-        _ => Lengths::Shortest,
-    }
-}
-
-fn limits_of(matches: &ArgMatches<'_>) -> Option<Limits> {
-    let message = matches.get_one::<u32>("limit").unwrap_or(MESSAGE_MAX);
-    let limits = Limits::new(message, INPUT_MAX)?.with_lengths(lengths_of(matches));
-    match matches.get_one::<u32>("frames") {
-        Some(frames) => limits.with_frames(frames),
-        None => Some(limits),
-    }
+    let program = with_plans(alloc, with_meanings(alloc, program)?)?;
+    program.subcommand(closing(alloc)?)
 }
 
 /// What clap answers in the place of matches: a text that was asked for, or a rule that the words break.
-fn answered(alloc: Global, words: &[String], error: &Error) -> Result<Request, Usage> {
+fn answered(alloc: Global, words: &[String], error: &Error) -> Result<Request, Usage>
+    ensures { IfOk result MayDo }
+{
     match error.kind() {
         ErrorKind::OutOfMemory => Err(Usage::Memory),
         ErrorKind::DisplayVersion => Ok(Request::Help(error.to_string(alloc)?)),
@@ -212,35 +185,26 @@ fn shown(alloc: Global, words: &[String]) -> Result<Vec<String>, AllocError> {
     Ok(shown)
 }
 
-/// Refuses a number that is spelled by more than digits, as `+5` is.
-fn check_digits(alloc: Global, matches: &ArgMatches<'_>) -> Result<(), Usage> {
-    for (option, value_name) in [("limit", "BYTES"), ("frames", "COUNT")] {
-        let value = matches.get_str(option).unwrap_or("");
-        if !value.bytes().all(|byte| byte.is_ascii_digit()) {
-            let text = format!(in alloc;
-                "error: invalid value '{value}' for '--{option} <{value_name}>': digits alone are taken\n\n\
-                For more information, try '--help'.\n"
-            )?;
-            return Err(Usage::Clap(text));
-        }
-    }
-    Ok(())
-}
-
-/// The work that a command's name and its arguments spell.
-fn job_of(name: &str, matches: &ArgMatches<'_>) -> Option<Job> {
+/// The work over the standard streams that a command's name and its arguments spell.
+fn job_of(name: &str, matches: &ArgMatches<'_>) -> Option<Job>
+    ensures { IfSome result MayRun }
+{
     let role = role_of(matches);
     let limits = limits_of(matches)?;
     match name {
-        "frames" => Some(Job::Frames(role, limits)),
         "judge" => Some(Job::Judge(role, limits)),
+        "frames" => Some(Job::Frames(role, limits)),
         "normal" => Some(Job::Normal(role, limits)),
+        "plan" => Some(Job::Plan(role, limits)),
+        "closing" => Some(Job::Closing(limits)),
         _ => None,
     }
 }
 
 /// The two files that the arguments name, and how they are read.
-fn pair_of(alloc: Global, matches: &ArgMatches<'_>) -> Result<Request, Usage> {
+fn pair_of(alloc: Global, matches: &ArgMatches<'_>) -> Result<Request, Usage>
+    ensures { IfOk result MayDo }
+{
     let (Some(limits), Some(first), Some(second)) = (
         limits_of(matches),
         matches.get_str("first"),
@@ -256,9 +220,10 @@ fn pair_of(alloc: Global, matches: &ArgMatches<'_>) -> Result<Request, Usage> {
     }))
 }
 
-/// What the words ask for, the program's name first: one of `judge`, `frames`, `normal` and `same`, with
-/// `--role client|server [--limit BYTES] [--frames COUNT] [--lengths shortest|any]`; for `same` two files too.
-pub fn asked(alloc: Global, words: &[String]) -> Result<Request, Usage> {
+/// What the words ask for, the program's name first: a command and its options, as its help tells them.
+pub fn asked(alloc: Global, words: &[String]) -> Result<Request, Usage>
+    ensures { IfOk result MayDo }
+{
     let matches = match program(alloc)?.try_get_matches_from(words) {
         Ok(matches) => matches,
         Err(error) => return answered(alloc, words, &error),
@@ -267,12 +232,13 @@ pub fn asked(alloc: Global, words: &[String]) -> Result<Request, Usage> {
         return Err(Usage::Own);
     };
     check_digits(alloc, command)?;
-    if name == "same" {
-        return pair_of(alloc, command);
-    }
-    match job_of(name, command) {
-        Some(job) => Ok(Request::Run(job)),
-        None => Err(Usage::Own),
+    match name {
+        "same" => pair_of(alloc, command),
+        "recut" => recut_of(alloc, command),
+        _ => match job_of(name, command) {
+            Some(job) => Ok(Request::Run(job)),
+            None => Err(Usage::Own),
+        },
     }
 }
 

@@ -1,5 +1,8 @@
+ghost use Rattle.wsn_job.specs.Jobs.{MayRun};
+
 use crate::FAULT;
-use crate::command_line::Pair;
+use crate::command_line::{Pair, PlannedRecut};
+use crate::plan_files::{PlanFileFault, read_plan_file};
 use crate::shown::Shown;
 use arrayvec::ArrayVec;
 use std::alloc::Allocator;
@@ -7,7 +10,7 @@ use std::cell::RefCell;
 use std::io::{self, Read, Write};
 use std::rt::Runtime;
 use std::{fs, str};
-use wsn_job::{Job, run, run_same};
+use wsn_job::{How, Job, run, run_same};
 use wsn_streams::{BlockReader, BlockWriter, TiedReader, TiedWriter};
 use wsn_wire::{Input, Output};
 
@@ -30,7 +33,9 @@ pub fn show<R: Print + Eprint>(rt: &R, text: &str) -> u8 {
 }
 
 /// Does a command's work over the standard streams, and answers the exit status.
-pub fn perform<R: Runtime + AllocGlobal>(rt: &R, job: &Job) -> u8 {
+pub fn perform<R: Runtime + AllocGlobal>(rt: &R, job: &Job) -> u8
+    requires { MayRun job.now }
+{
     let mut lines = Lines::new();
     match work(rt.alloc(), job, rt.reader(), io::writer(rt), &mut lines) {
         Some(status) => finish(rt, &lines, status),
@@ -43,11 +48,13 @@ pub fn perform<R: Runtime + AllocGlobal>(rt: &R, job: &Job) -> u8 {
 /// output failed.
 fn work<A: Allocator + Copy, R: Read + Drop, W: Write + Drop>(
     alloc: A,
-    job: &Job,
+    job: &Job<A>,
     input: R,
     output: W,
     lines: &mut Lines,
-) -> Option<u8> {
+) -> Option<u8>
+    requires { MayRun job.now }
+{
     let output = RefCell::new(BlockWriter::new(output));
     let mut reader = BlockReader::new(TiedReader::new(input, &output));
     let mut writer = TiedWriter::new(&output);
@@ -59,6 +66,23 @@ fn work<A: Allocator + Copy, R: Read + Drop, W: Write + Drop>(
         &mut Output::new(lines),
     );
     writer.flush().is_ok().then_some(status)
+}
+
+/// Cuts the stream on standard input again by the plan in a file, and answers the exit status. The file is read whole
+/// before standard input is; what is wrong with it is told in one line on standard error.
+pub fn recut_by<R: Runtime + AllocGlobal>(rt: &R, recut: &PlannedRecut) -> u8 {
+    let Ok(file) = fs::open(rt, &recut.plan) else {
+        return tell_unread(rt, recut.plan.as_str());
+    };
+    match read_plan_file(rt.alloc(), file) {
+        Ok(plan) => perform(rt, &Job::Recut(recut.role, recut.limits, How::ByPlan(plan))),
+        Err(PlanFileFault::Unread) => tell_unread(rt, recut.plan.as_str()),
+        Err(PlanFileFault::TooLong) => tell(rt, "plan file too long\n"),
+        Err(PlanFileFault::Faulty(fault)) => {
+            let _ = eprintln!(rt; "{fault}");
+            FAULT
+        }
+    }
 }
 
 /// Compares the streams in two files, and answers the exit status. Both files are opened before either is read;

@@ -1,9 +1,10 @@
 use super::*;
 use std::process::Abort;
 use std::test::Fail;
+use wsn_wire::Lengths;
 
 /// What a line's words ask for, parted by single spaces.
-fn asked_by(alloc: Global, line: &str) -> Result<Result<Request, Usage>, Fail> {
+pub fn asked_by(alloc: Global, line: &str) -> Result<Result<Request, Usage>, Fail> {
     let mut words = Vec::new(alloc);
     for word in line.split(' ') {
         words.push(String::from_str(alloc, word)?)?;
@@ -11,9 +12,9 @@ fn asked_by(alloc: Global, line: &str) -> Result<Result<Request, Usage>, Fail> {
     Ok(asked(alloc, words.as_slice()))
 }
 
-fn job_in(rt: &impl Abort, request: &Result<Request, Usage>) -> Job {
+pub fn job_in<'a>(rt: &impl Abort, request: &'a Result<Request, Usage>) -> &'a Job {
     match request {
-        Ok(Request::Run(job)) => *job,
+        Ok(Request::Run(job)) => job,
         _ => panic!(rt; "not a job"),
     }
 }
@@ -24,7 +25,7 @@ fn normal_has_the_greatest_limits(rt: HostRuntime) -> Result<(), Fail> {
     let Job::Normal(role, limits) = job_in(&rt, &asked) else {
         panic!(rt; "not normal");
     };
-    assert_eq!(rt; role, Role::Client);
+    assert_eq!(rt; *role, Role::Client);
     assert_eq!(rt; limits.message(), 16_777_216);
     assert_eq!(rt; limits.input(), 1_099_511_627_776);
     assert_eq!(rt; limits.frames(), None);
@@ -39,7 +40,7 @@ fn limits_are_as_spelled(rt: HostRuntime) -> Result<(), Fail> {
     let Job::Judge(role, limits) = job_in(&rt, &asked) else {
         panic!(rt; "not judge");
     };
-    assert_eq!(rt; role, Role::Server);
+    assert_eq!(rt; *role, Role::Server);
     assert_eq!(rt; limits.message(), 0);
     assert_eq!(rt; limits.frames(), Some(4_294_967_295));
     assert_eq!(rt; limits.lengths(), Lengths::Any);
@@ -53,10 +54,42 @@ fn the_ends_of_the_ranges_are_taken(rt: HostRuntime) -> Result<(), Fail> {
     let Job::Normal(role, limits) = job_in(&rt, &asked) else {
         panic!(rt; "not normal");
     };
-    assert_eq!(rt; role, Role::Server);
+    assert_eq!(rt; *role, Role::Server);
     assert_eq!(rt; limits.message(), 16_777_216);
     assert_eq!(rt; limits.frames(), Some(1));
     assert_eq!(rt; limits.lengths(), Lengths::Shortest);
+    Ok(())
+}
+
+#[test]
+fn plan_is_asked_for(rt: HostRuntime) -> Result<(), Fail> {
+    let asked = asked_by(rt.alloc(), "wsn plan --frames 2 --role client")?;
+    let Job::Plan(role, limits) = job_in(&rt, &asked) else {
+        panic!(rt; "not plan");
+    };
+    assert_eq!(rt; *role, Role::Client);
+    assert_eq!(rt; limits.message(), 16_777_216);
+    assert_eq!(rt; limits.frames(), Some(2));
+    Ok(())
+}
+
+#[test]
+fn closing_wants_no_role(rt: HostRuntime) -> Result<(), Fail> {
+    let asked = asked_by(rt.alloc(), "wsn closing")?;
+    let Job::Closing(limits) = job_in(&rt, &asked) else {
+        panic!(rt; "not closing");
+    };
+    assert_eq!(rt; limits.message(), 16_777_216);
+    assert_eq!(rt; limits.input(), 1_099_511_627_776);
+    assert_eq!(rt; limits.frames(), None);
+    assert_eq!(rt; limits.lengths(), Lengths::Shortest);
+    let asked = asked_by(rt.alloc(), "wsn closing --lengths any --limit 7 --frames 3")?;
+    let Job::Closing(limits) = job_in(&rt, &asked) else {
+        panic!(rt; "not closing");
+    };
+    assert_eq!(rt; limits.message(), 7);
+    assert_eq!(rt; limits.frames(), Some(3));
+    assert_eq!(rt; limits.lengths(), Lengths::Any);
     Ok(())
 }
 
@@ -66,7 +99,7 @@ fn frames_is_asked_for(rt: HostRuntime) -> Result<(), Fail> {
     let Job::Frames(role, limits) = job_in(&rt, &asked) else {
         panic!(rt; "not frames");
     };
-    assert_eq!(rt; role, Role::Server);
+    assert_eq!(rt; *role, Role::Server);
     assert_eq!(rt; limits.message(), 7);
     Ok(())
 }
@@ -110,6 +143,14 @@ fn other_words_are_refused(rt: HostRuntime) -> Result<(), Fail> {
         "wsn same --role client a b c",
         "wsn same --role client --limit 16777217 a b",
         "wsn same a b",
+        "wsn plan",
+        "wsn plan --role server file",
+        "wsn plan --role server --size 2",
+        "wsn closing --role server",
+        "wsn closing --limit 16777217",
+        "wsn closing --limit +5",
+        "wsn closing --frames 0",
+        "wsn closing file",
         "wsn other --role client",
     ];
     for line in lines {
@@ -143,12 +184,18 @@ fn text_by(rt: &impl Abort, alloc: Global, line: &str) -> Result<String, Fail> {
 #[test]
 fn help_names_every_command_and_option(rt: HostRuntime) -> Result<(), Fail> {
     let program = text_by(&rt, rt.alloc(), "wsn --help")?;
-    for command in ["judge", "frames", "normal", "same"] {
+    for command in [
+        "judge", "frames", "normal", "same", "plan", "recut", "closing",
+    ] {
         assert!(rt; program.as_str().contains(command), "{command}");
         let line = format!(in rt.alloc(); "wsn {command} --help")?;
         let text = text_by(&rt, rt.alloc(), line.as_str())?;
+        assert_eq!(rt;
+            text.as_str().contains("--role <client|server>"),
+            command != "closing",
+            "{command}"
+        );
         for option in [
-            "--role <client|server>",
             "--limit <BYTES>",
             "--frames <COUNT>",
             "--lengths <shortest|any>",
