@@ -9,12 +9,13 @@ use std::mem::forget;
 /// How many bytes a read gives at most, one size after another.
 pub const READS: [usize; 7] = [1, 2, 3, 4_095, 4_096, 4_097, usize::MAX];
 
-/// A reader that gives its bytes by at most so many a call, and behind them its end, or a failure.
+/// A reader that gives its bytes by at most so many a call, and behind them its end. It may fail at one call.
 #[derive(Drop)]
 pub struct Chopped<'a> {
     rest: &'a [u8],
     most: usize,
-    breaks: bool,
+    /// Where it fails, by how many bytes are left, and how.
+    fails: Option<(usize, ErrorKind)>,
 }
 
 impl<'a> Chopped<'a> {
@@ -22,16 +23,21 @@ impl<'a> Chopped<'a> {
         Chopped {
             rest: bytes,
             most,
-            breaks: false,
+            fails: None,
         }
     }
 
-    /// One that fails behind its last byte.
+    /// One that fails behind its last byte, and only then has its end.
     pub fn breaking(bytes: &'a [u8], most: usize) -> Self {
+        Chopped::stumbling(bytes, most, 0, ErrorKind::Other)
+    }
+
+    /// One that fails where so many bytes are left, and then gives these.
+    pub fn stumbling(bytes: &'a [u8], most: usize, left: usize, kind: ErrorKind) -> Self {
         Chopped {
             rest: bytes,
             most,
-            breaks: true,
+            fails: Some((left, kind)),
         }
     }
 
@@ -43,10 +49,15 @@ impl<'a> Chopped<'a> {
 
 impl Read for Chopped<'_> {
     fn read(&mut self, buf: &mut [u8]) -> io::Result<usize> {
-        if self.breaks && self.rest.is_empty() {
-            return Err(Error::from(ErrorKind::Other));
+        let mut most = self.most;
+        if let Some((left, kind)) = self.fails {
+            if self.rest.len() <= left {
+                self.fails = None;
+                return Err(Error::from(kind));
+            }
+            most = most.min(self.rest.len() - left);
         }
-        let count = self.most.min(buf.len()).min(self.rest.len());
+        let count = most.min(buf.len()).min(self.rest.len());
         buf[..count].copy_from_slice(&self.rest[..count]);
         self.rest = &self.rest[count..];
         Ok(count)
@@ -93,14 +104,16 @@ impl Read for Endless {
 pub enum Full {
     Fails,
     FailsOnce,
+    IsInterruptedOnce,
     TakesNothing,
     TakesNothingOnce,
 }
 
 /// Each way of being full.
-pub const FULL: [Full; 4] = [
+pub const FULL: [Full; 5] = [
     Full::Fails,
     Full::FailsOnce,
+    Full::IsInterruptedOnce,
     Full::TakesNothing,
     Full::TakesNothingOnce,
 ];
@@ -129,22 +142,25 @@ impl Narrow {
         Narrow::new(alloc, usize::MAX, usize::MAX, Full::Fails)
     }
 
-    /// What it does where it is full: whether it fails.
-    fn fails(&mut self) -> bool {
-        if matches!(&self.full, Full::FailsOnce | Full::TakesNothingOnce) {
-            self.room = usize::MAX;
+    /// What it does where it is full: an error, or nothing.
+    fn refuse(&mut self) -> io::Result<()> {
+        match self.full {
+            Full::Fails | Full::TakesNothing => {}
+            _ => self.room = usize::MAX,
         }
-        matches!(&self.full, Full::Fails | Full::FailsOnce)
+        match self.full {
+            Full::Fails | Full::FailsOnce => Err(Error::from(ErrorKind::Other)),
+            Full::IsInterruptedOnce => Err(Error::from(ErrorKind::Interrupted)),
+            Full::TakesNothing | Full::TakesNothingOnce => Ok(()),
+        }
     }
 }
 
 impl Write for Narrow {
     fn write(&mut self, buf: &[u8]) -> io::Result<usize> {
         let count = self.most.min(buf.len()).min(self.room);
-        if count == 0 && self.fails() {
-            return Err(Error::from(ErrorKind::Other));
-        }
         if count == 0 {
+            self.refuse()?;
             return Ok(0);
         }
         self.taken.extend_from_slice(&buf[..count])?;
@@ -168,4 +184,20 @@ pub fn heap_of(alloc: Global, blocks: usize) -> Result<LocalHeap, AllocError> {
         forget(Vec::<u8, &LocalHeap>::with_capacity(&heap, BLOCK)?);
     }
     Ok(heap)
+}
+
+/// Takes all that is left of a heap, until what it answers is dropped.
+pub fn fill(alloc: Global, heap: &LocalHeap) -> Result<Vec<Vec<u8, &LocalHeap>>, AllocError> {
+    let mut ballast = Vec::new(alloc);
+    let mut size = 1usize << 20;
+    for _ in 0..u64::MAX {
+        if size < BLOCK {
+            break;
+        }
+        match Vec::with_capacity(heap, size) {
+            Ok(block) => ballast.push(block)?,
+            Err(_) => size /= 2,
+        }
+    }
+    Ok(ballast)
 }

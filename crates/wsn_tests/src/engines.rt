@@ -2,9 +2,10 @@
 
 use crate::doubles::Chopped;
 use crate::rows::Stream;
-use std::alloc::{Allocator, Global};
+use std::alloc::Allocator;
 use std::io::Write;
 use wsn_canon::{Compared, normalise, same};
+use wsn_plan::{Plan, PlanAnswer, RecutAnswer, plan_of, recut, recut_uniform};
 use wsn_scan::{Limits, Stop, Verdict, judge, list};
 use wsn_wire::{Input, Output, Role};
 
@@ -25,14 +26,14 @@ pub fn listed<W: Write>(
     )
 }
 
-pub fn normalised<W: Write>(
-    alloc: Global,
+pub fn normalised<A: Allocator + Copy, W: Write>(
+    heap: A,
     stream: &Stream,
     mut reader: Chopped,
     writer: &mut W,
 ) -> Result<Verdict, Stop> {
     normalise(
-        alloc,
+        heap,
         &mut Input::new(&mut reader),
         &mut Output::new(writer),
         stream.role,
@@ -54,4 +55,77 @@ pub fn compared<A: Allocator + Copy>(
         role,
         limits,
     )
+}
+
+pub fn planned<A: Allocator + Copy>(
+    heap: A,
+    role: Role,
+    limits: Limits,
+    mut reader: Chopped,
+) -> Result<PlanAnswer<A>, Stop> {
+    plan_of(heap, &mut Input::new(&mut reader), role, limits)
+}
+
+pub fn recut_by<A: Allocator + Copy, W: Write>(
+    heap: A,
+    role: Role,
+    limits: Limits,
+    plan: &Plan<A>,
+    mut reader: Chopped,
+    writer: &mut W,
+) -> Result<RecutAnswer, Stop> {
+    recut(
+        heap,
+        &mut Input::new(&mut reader),
+        &mut Output::new(writer),
+        role,
+        limits,
+        plan,
+    )
+}
+
+/// The key of a client's frames that are cut again uniformly.
+pub const KEY: [u8; 4] = [1, 2, 3, 4];
+
+/// Frames of one size, of at least a byte, and whether a message's first stands in front of the controls before it.
+#[derive(Clone, Copy, Debug)]
+pub struct Sizes {
+    pub size: u32,
+    pub weave: bool,
+}
+
+pub fn recut_uniformly<A: Allocator + Copy, W: Write>(
+    heap: A,
+    role: Role,
+    limits: Limits,
+    sizes: Sizes,
+    mut reader: Chopped,
+    writer: &mut W,
+) -> Result<RecutAnswer, Stop> {
+    let mut input = Input::new(&mut reader);
+    let mut output = Output::new(writer);
+    let size = sizes.size.max(1);
+    let weave = sizes.weave;
+    match role {
+        Role::Client => recut_uniform(
+            heap,
+            &mut input,
+            &mut output,
+            Role::Client,
+            limits,
+            size,
+            weave,
+            Some(KEY),
+        ),
+        Role::Server => recut_uniform(
+            heap,
+            &mut input,
+            &mut output,
+            Role::Server,
+            limits,
+            size,
+            weave,
+            None,
+        ),
+    }
 }

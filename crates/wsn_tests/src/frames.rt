@@ -1,8 +1,9 @@
 //! `wsn frames`: the lines of the frames and of the verdict on standard output, and the status, with no memory to be
 //! had.
 
-use crate::doubles::{Chopped, FULL, Narrow, heap_of};
-use crate::lines::listing;
+use crate::doubles::{Chopped, FULL, Full, Narrow, heap_of};
+use crate::engines::listed;
+use crate::lines::{answer_line, listing};
 use crate::outcomes::outcome_on;
 use crate::rows::streams;
 use std::test::Fail;
@@ -52,6 +53,22 @@ fn a_failed_write_is_told_in_one_line(rt: HostRuntime) -> Result<(), Fail> {
             let done = outcome_on(&heap, alloc, &job, reader, writer);
             done.expect(&rt, 2, &[], b"write failed\n");
         }
+    }
+    Ok(())
+}
+
+#[test]
+fn a_writer_may_take_one_byte_a_call(rt: HostRuntime) -> Result<(), Fail> {
+    let alloc = rt.alloc();
+    for stream in streams(alloc)?.iter() {
+        let mut writer = Narrow::new(alloc, 1, usize::MAX, Full::Fails);
+        let reader = Chopped::new(stream.bytes.as_slice(), usize::MAX);
+        let answer = listed(stream, reader, &mut writer);
+        let line = answer_line(alloc, &answer)?;
+        let name = stream.name;
+        assert_eq!(rt; line.as_str(), stream.verdict, "{name}");
+        let lines = listing(alloc, stream)?;
+        assert_eq!(rt; writer.taken.as_slice(), lines.as_bytes(), "{name}");
     }
     Ok(())
 }

@@ -27,12 +27,12 @@ const MESSAGE_OF_5: Under = Under {
     ..GREATEST
 };
 
-const ONE_FRAME: Under = Under {
+pub const ONE_FRAME: Under = Under {
     frames: Some(1),
     ..GREATEST
 };
 
-const TWO_FRAMES: Under = Under {
+pub const TWO_FRAMES: Under = Under {
     frames: Some(2),
     ..GREATEST
 };
@@ -47,7 +47,7 @@ const INPUT_OF_0: Under = Under {
     ..GREATEST
 };
 
-const INPUT_OF_4: Under = Under {
+pub const INPUT_OF_4: Under = Under {
     input: 4,
     ..GREATEST
 };

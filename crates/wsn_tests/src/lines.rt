@@ -1,8 +1,9 @@
 //! The lines that answers and frames are printed as, written for the tests alone.
 
 use crate::rows::Stream;
-use std::alloc::{AllocError, Global};
+use std::alloc::{AllocError, Allocator, Global};
 use wsn_canon::Compared;
+use wsn_plan::{PlanAnswer, RecutAnswer, Why};
 use wsn_scan::{HeadInfo, Refusal, Stop, Summary, Verdict};
 use wsn_wire::{Form, Op};
 
@@ -37,6 +38,46 @@ pub fn compared_line(alloc: Global, answer: &Result<Compared, Stop>) -> Result<S
             format!(in alloc; "{which} {line}")
         }
         Err(stop) => format!(in alloc; "{stop}"),
+    }
+}
+
+/// The line of what planning answered, or of what ended its work.
+pub fn planned_line<A: Allocator>(
+    alloc: Global,
+    answer: &Result<PlanAnswer<A>, Stop>,
+) -> Result<String, AllocError> {
+    match answer {
+        Ok(PlanAnswer::Plan(_)) => format!(in alloc; "plan"),
+        Ok(PlanAnswer::Unfinished) => format!(in alloc; "unfinished"),
+        Ok(PlanAnswer::NotAccepted(verdict)) => verdict_line(alloc, verdict),
+        Err(stop) => format!(in alloc; "{stop}"),
+    }
+}
+
+/// The line of what a recut answered, or of what ended its work.
+pub fn recut_line(alloc: Global, answer: &Result<RecutAnswer, Stop>) -> Result<String, AllocError> {
+    match answer {
+        Ok(RecutAnswer::Done) => format!(in alloc; "done"),
+        Ok(RecutAnswer::NotAccepted(verdict)) => verdict_line(alloc, verdict),
+        Ok(RecutAnswer::Fault { step, why }) => {
+            let word = word_of_fault(*why);
+            format!(in alloc; "fault {step} {word}")
+        }
+        Err(stop) => format!(in alloc; "{stop}"),
+    }
+}
+
+fn word_of_fault(why: Why) -> &'static str {
+    match why {
+        Why::KeyMismatch => "key-mismatch",
+        Why::StepsLeft => "steps-left",
+        Why::NoMessage => "no-message",
+        Why::PieceTooLong => "piece-too-long",
+        Why::TooManyPieces => "too-many-pieces",
+        Why::NotAControl => "not-a-control",
+        Why::NotAMessage => "not-a-message",
+        Why::WrongForm => "wrong-form",
+        Why::EventsLeft => "events-left",
     }
 }
 

@@ -153,11 +153,11 @@ fn the_command_tells_it(rt: HostRuntime) -> Result<(), Fail> {
 #[test]
 fn a_later_growth_is_refused_alike(rt: HostRuntime) -> Result<(), Fail> {
     let alloc = rt.alloc();
-    let job = Job::Normal(Role::Server, greatest()?);
     let bytes = filled(alloc, &[0x89, 0x00, 0x82, 0x3c], 0, 60)?;
     let mut is_served = false;
     for blocks in 1..16usize {
         let heap = heap_of(alloc, blocks)?;
+        let job = Job::Normal(Role::Server, greatest()?);
         let reader = Chopped::new(bytes.as_slice(), 7);
         let done = outcome_on(&heap, alloc, &job, reader, Narrow::wide(alloc));
         is_served = done.status == 0;

@@ -1,4 +1,5 @@
 //! What a command leaves, run over readers and writers of the tests.
+ghost use Rattle.wsn_job.specs.Jobs.{MayRun};
 
 use crate::doubles::{Chopped, Narrow};
 use std::alloc::{Allocator, Global};
@@ -27,10 +28,12 @@ impl Outcome {
 pub fn outcome_on<A: Allocator + Copy>(
     heap: A,
     alloc: Global,
-    job: &Job,
+    job: &Job<A>,
     mut reader: Chopped,
     mut writer: Narrow,
-) -> Outcome {
+) -> Outcome
+    requires { MayRun job.now }
+{
     let mut said = Vec::new(alloc);
     let status = run(
         heap,

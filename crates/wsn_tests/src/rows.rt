@@ -1,5 +1,6 @@
 //! Rows: streams that are written out, and what every engine must make of them. Each rule's file has its own.
 
+use crate::vectors::vectors;
 use crate::{close, fragmentation, heads, lengths, limits, masking, text};
 use std::alloc::Global;
 use std::process::Abort;
@@ -191,6 +192,12 @@ impl Stream {
         Ok(fronts)
     }
 
+    /// Fails unless this line is as it is wanted.
+    pub fn expect_line(&self, rt: &impl Abort, line: &str, wanted: &str) {
+        let name = self.name;
+        assert_eq!(rt; line, wanted, "{name}");
+    }
+
     /// Fails unless this is the line of its verdict.
     pub fn expect(&self, rt: &impl Abort, line: &str, how: &str, size: usize) {
         let name = self.name;
@@ -207,7 +214,7 @@ pub fn filled(alloc: Global, first: &[u8], byte: u8, count: usize) -> Result<Vec
     Ok(bytes)
 }
 
-/// All rows, in memory.
+/// All rows and vectors, in memory.
 pub fn streams(alloc: Global) -> Result<Vec<Stream>, Fail> {
     let mut streams = Vec::new(alloc);
     for rows in [
@@ -222,6 +229,9 @@ pub fn streams(alloc: Global) -> Result<Vec<Stream>, Fail> {
         for row in rows.iter() {
             streams.push(Stream::new(alloc, row)?)?;
         }
+    }
+    for vector in vectors(alloc)? {
+        streams.push(vector)?;
     }
     Ok(streams)
 }

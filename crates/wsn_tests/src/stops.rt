@@ -1,9 +1,9 @@
 //! What ends an engine's work before its verdict: readers and writers that fail, behind each byte; and a stop's words.
 
-use crate::doubles::{Chopped, FULL, Narrow, READS};
+use crate::doubles::{Chopped, FULL, Full, Narrow, READS};
 use crate::engines::{compared, judged, listed, normalised};
 use crate::lines::{answer_line, compared_line, listing};
-use crate::rows::{Stream, greatest, stream_named, streams};
+use crate::rows::{Stream, filled, greatest, stream_named, streams};
 use crate::same::PAIRS;
 use std::test::Fail;
 use wsn_scan::Stop;
@@ -24,7 +24,7 @@ fn words_of_a_stop(rt: HostRuntime) -> Result<(), Fail> {
 }
 
 /// The line of the answer where a read fails behind these first bytes.
-fn line_behind(stream: &Stream, front: &[u8]) -> Result<&'static str, Fail> {
+pub fn line_behind(stream: &Stream, front: &[u8]) -> Result<&'static str, Fail> {
     if stream.is_told_by(front.len())? {
         Ok(stream.verdict)
     } else {
@@ -223,6 +223,27 @@ fn normalise_tells_a_failed_write(rt: HostRuntime) -> Result<(), Fail> {
                 assert_eq!(rt; writer.taken.as_slice(), &normal[..room], "{name}");
             }
         }
+    }
+    Ok(())
+}
+
+/// An output of several blocks, which ends behind each of its bytes.
+#[test]
+fn normalise_tells_a_failed_write_behind_each_byte(rt: HostRuntime) -> Result<(), Fail> {
+    let alloc = rt.alloc();
+    let mut stream = stream_named(alloc, "1.a")?;
+    stream.bytes = filled(alloc, b"\x89\x00\x82\x7e\x10\x68", 0x2a, 4_200)?;
+    let rest = filled(alloc, b"\x8a\x01A\x81\x7e\x10\x68", 0x2a, 4_200)?;
+    stream.bytes.extend_from_slice(rest.as_slice())?;
+    for room in 0..stream.bytes.len() {
+        let mut writer = Narrow::new(alloc, usize::MAX, room, Full::FailsOnce);
+        let reader = Chopped::new(stream.bytes.as_slice(), usize::MAX);
+        let answer = normalised(alloc, &stream, reader, &mut writer);
+        assert!(rt; matches!(&answer, Err(Stop::Write)), "behind {room}");
+        assert!(rt;
+            writer.taken.as_slice() == &stream.bytes[..room],
+            "behind {room}"
+        );
     }
     Ok(())
 }

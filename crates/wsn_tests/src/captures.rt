@@ -1,0 +1,221 @@
+//! Captures: what is reported of both sides, in the lines that are printed.
+
+use crate::capture_answers::{cut_small, handed, judged_text, limits_of, report_text};
+use crate::doubles::{Chopped, READS};
+use crate::rows::greatest;
+use std::test::Fail;
+use wsn_capture::{Capture, LineFault, Outcome, Side};
+use wsn_scan::INPUT_MAX;
+use wsn_wire::Role;
+
+/// A capture, and the lines of its report.
+#[derive(Clone, Copy, Debug)]
+struct Row {
+    name: &'static str,
+    text: &'static str,
+    report: &'static str,
+}
+
+static ROWS: [Row; 20] = [
+    Row {
+        name: "both close by 1000, and both directions end",
+        text: "C 88820000000003e8\nS 880203e8\nS.\nC.\n",
+        report: "client closed 1000\nserver closed 1000\nfirst client\necho yes\n\
+                 client-sees 1000\nserver-sees 1000\noutcome clean\n",
+    },
+    Row {
+        name: "the same without the ends",
+        text: "C 88820000000003e8\nS 880203e8",
+        report: "client closed 1000\nserver closed 1000\nfirst client\necho yes\n\
+                 client-sees 1000\nserver-sees 1000\noutcome complete\n",
+    },
+    Row {
+        name: "the same with one end",
+        text: "C 88820000000003e8\nS 880203e8\nC.",
+        report: "client closed 1000\nserver closed 1000\nfirst client\necho yes\n\
+                 client-sees 1000\nserver-sees 1000\noutcome complete\n",
+    },
+    Row {
+        name: "both close, by two codes",
+        text: "C 88820000000003e8\nS 880203e9\n",
+        report: "client closed 1000\nserver closed 1001\nfirst client\necho no\n\
+                 client-sees 1001\nserver-sees 1000\noutcome complete\n",
+    },
+    Row {
+        name: "both close, one by a code and one without",
+        text: "C 88820000000003e8\nS 8800\n",
+        report: "client closed 1000\nserver closed -\nfirst client\necho no\n\
+                 client-sees 1005\nserver-sees 1000\noutcome complete\n",
+    },
+    Row {
+        name: "both close without a code",
+        text: "S 8800\nC 888000000000\n",
+        report: "client closed -\nserver closed -\nfirst server\necho yes\n\
+                 client-sees 1005\nserver-sees 1005\noutcome complete\n",
+    },
+    Row {
+        name: "the server's direction ends, and nothing was sent",
+        text: "S.\n",
+        report: "client running\nserver ended\nfirst -\necho -\n\
+                 client-sees 1006\nserver-sees -\noutcome abnormal\n",
+    },
+    Row {
+        name: "the server's direction ends inside a frame",
+        text: "S 8105\nS.\n",
+        report: "client running\nserver cut\nfirst -\necho -\n\
+                 client-sees 1006\nserver-sees -\noutcome abnormal\n",
+    },
+    Row {
+        name: "the server's direction ends inside a message",
+        text: "S 010141\nS.\n",
+        report: "client running\nserver cut\nfirst -\necho -\n\
+                 client-sees 1006\nserver-sees -\noutcome abnormal\n",
+    },
+    Row {
+        name: "the server closes without a code, and no more comes",
+        text: "S 8800\n",
+        report: "client running\nserver closed -\nfirst server\necho -\n\
+                 client-sees 1005\nserver-sees -\noutcome half\n",
+    },
+    Row {
+        name: "the server closes, and the client's direction ends",
+        text: "S 880203e8\nC.\n",
+        report: "client ended\nserver closed 1000\nfirst server\necho -\n\
+                 client-sees 1000\nserver-sees 1006\noutcome abnormal\n",
+    },
+    Row {
+        name: "the server sends a reserved bit",
+        text: "S c1\n",
+        report: "client running\nserver refused 0 reserved-bits 1002\nfirst -\necho -\n\
+                 client-sees 1006\nserver-sees -\noutcome failed\n",
+    },
+    Row {
+        name: "the same, and more behind it",
+        text: "S c1\nS 880203e8\nS.\n",
+        report: "client running\nserver refused 0 reserved-bits 1002\nfirst -\necho -\n\
+                 client-sees 1006\nserver-sees -\noutcome failed\n",
+    },
+    Row {
+        name: "a side closes, and the other is refused",
+        text: "C 88820000000003e8\nS 8101ff\nS.\nC.\n",
+        report: "client closed 1000\nserver refused 2 text-bad 1007\nfirst client\necho -\n\
+                 client-sees 1006\nserver-sees 1000\noutcome failed\n",
+    },
+    Row {
+        name: "nothing",
+        text: "",
+        report: "client running\nserver running\nfirst -\necho -\n\
+                 client-sees -\nserver-sees -\noutcome open\n",
+    },
+    Row {
+        name: "messages, and comments, empty lines and carriage returns between them",
+        text: "# a session\r\n\r\nC 818500000000\r\n\nC 48656c6c6f\n#\nS 810141\n\r\n",
+        report: "client running\nserver running\nfirst -\necho -\n\
+                 client-sees -\nserver-sees -\noutcome open\n",
+    },
+    Row {
+        name: "a Close that begins first and ends second",
+        text: "C 8882\nC 00000000\nS 8802\nS 03e8\nC 03\nC e8\n",
+        report: "client closed 1000\nserver closed 1000\nfirst server\necho yes\n\
+                 client-sees 1000\nserver-sees 1000\noutcome complete\n",
+    },
+    Row {
+        name: "a Close behind a message in its line, and bytes behind the Close in a later one",
+        text: "S 810141880203e8\nC 88820000000003e8\nS 8800\n",
+        report: "client closed 1000\nserver closed 1000\nfirst server\necho yes\n\
+                 client-sees 1000\nserver-sees 1000\noutcome complete\n",
+    },
+    Row {
+        name: "ends before the Closes are in one order, and the Closes in the other",
+        text: "S 880203e8\nC 88820000000003e8\nC.\nS.\n",
+        report: "client closed 1000\nserver closed 1000\nfirst server\necho yes\n\
+                 client-sees 1000\nserver-sees 1000\noutcome clean\n",
+    },
+    Row {
+        name: "digits of both cases",
+        text: "C 88820000000003EB\nS 880203eB\n",
+        report: "client closed 1003\nserver closed 1003\nfirst client\necho yes\n\
+                 client-sees 1003\nserver-sees 1003\noutcome complete\n",
+    },
+];
+
+#[test]
+fn reports_by_reads_of_every_size(rt: HostRuntime) -> Result<(), Fail> {
+    let alloc = rt.alloc();
+    for row in ROWS.iter() {
+        let name = row.name;
+        for most in READS {
+            let reader = Chopped::new(row.text.as_bytes(), most);
+            let told = judged_text(alloc, reader, greatest()?)?;
+            assert_eq!(rt; told.as_str(), row.report, "{name}, by {most}");
+        }
+    }
+    Ok(())
+}
+
+#[test]
+fn reports_of_lines_handed_one_by_one(rt: HostRuntime) -> Result<(), Fail> {
+    let alloc = rt.alloc();
+    for row in ROWS.iter() {
+        let name = row.name;
+        let (capture, fault) = handed(row.text, greatest()?);
+        assert!(rt; fault.is_none(), "{name}");
+        let told = report_text(alloc, &capture.report())?;
+        assert_eq!(rt; told.as_str(), row.report, "{name}");
+    }
+    Ok(())
+}
+
+#[test]
+fn reports_of_a_line_for_each_byte(rt: HostRuntime) -> Result<(), Fail> {
+    let alloc = rt.alloc();
+    for row in ROWS.iter() {
+        let name = row.name;
+        let small = cut_small(alloc, row.text)?;
+        let reader = Chopped::new(small.as_bytes(), usize::MAX);
+        let told = judged_text(alloc, reader, greatest()?)?;
+        assert_eq!(rt; told.as_str(), row.report, "{name}");
+    }
+    Ok(())
+}
+
+#[test]
+fn a_report_has_its_parts(rt: HostRuntime) -> Result<(), Fail> {
+    let (capture, _fault) = handed("C 88820000000003e8\nS 8800", limits_of(INPUT_MAX)?);
+    let report = capture.report();
+    assert_eq!(rt; report.client, Side::Closed(Some(1000)));
+    assert_eq!(rt; report.server, Side::Closed(None));
+    assert_eq!(rt; report.first, Some(Role::Client));
+    assert_eq!(rt; report.echo, Some(false));
+    assert_eq!(rt; report.client_sees, Some(1005));
+    assert_eq!(rt; report.server_sees, Some(1000));
+    assert_eq!(rt; report.outcome, Outcome::Complete);
+    Ok(())
+}
+
+/// A line past the limit leaves its side as it was, and the other side has a limit of its own.
+#[test]
+fn the_limit_is_one_of_each_side(rt: HostRuntime) -> Result<(), Fail> {
+    let mut capture = Capture::new(limits_of(1)?);
+    assert_eq!(rt; capture.line(b"S 8100"), Err(LineFault::InputLimit));
+    assert_eq!(rt; capture.report().server, Side::Running);
+    assert_eq!(rt; capture.line(b"S c1"), Ok(()));
+    assert_eq!(rt; capture.line(b"S 00"), Err(LineFault::InputLimit));
+    assert_eq!(rt; capture.line(b"C c1"), Ok(()));
+    assert_eq!(rt; capture.line(b"S."), Ok(()));
+    let mut none = Capture::new(limits_of(0)?);
+    assert_eq!(rt; none.line(b"C 00"), Err(LineFault::InputLimit));
+    assert_eq!(rt; none.line(b"C."), Ok(()));
+    assert_eq!(rt; none.report().client, Side::Ended);
+    Ok(())
+}
+
+/// Bytes behind a refusal aren't read, and count.
+#[test]
+fn what_is_behind_a_refusal_counts(rt: HostRuntime) -> Result<(), Fail> {
+    let mut capture = Capture::new(limits_of(3)?);
+    assert_eq!(rt; capture.line(b"S c1"), Ok(()));
+    assert_eq!(rt; capture.line(b"S 0000"), Ok(()));
+    assert_eq!(rt; capture.line(b"S 00"), Err(LineFault::InputLimit));
+    Ok(())
+}

@@ -1,0 +1,179 @@
+//! Recuts by a plan that fits: what is written.
+
+use crate::doubles::{Chopped, READS};
+use crate::engines::recut_by;
+use crate::lines::recut_line;
+use crate::rows::{ANY_LENGTHS, GREATEST, Under, filled, limits_under, stream_named};
+use std::alloc::Global;
+use std::process::Abort;
+use std::test::Fail;
+use wsn_plan::read_plan;
+use wsn_wire::Role;
+
+/// A stream, a plan for it, and what comes of the two.
+#[derive(Clone, Copy, Debug)]
+pub struct Cut {
+    pub role: Role,
+    pub under: Under,
+    pub bytes: &'static [u8],
+    pub plan: &'static str,
+    /// `done`, the fault, or the verdict of a stream that isn't accepted.
+    pub line: &'static str,
+    /// What is written.
+    pub out: &'static [u8],
+}
+
+/// A ping and "Hello" from a server, cut by no steps.
+pub const PING_HELLO: Cut = Cut {
+    role: Role::Server,
+    under: GREATEST,
+    bytes: b"\x89\x00\x81\x05Hello",
+    plan: "",
+    line: "fault 0 events-left",
+    out: b"",
+};
+
+/// Nothing from a server, cut by no steps.
+const NOTHING: Cut = Cut {
+    bytes: b"",
+    line: "done",
+    ..PING_HELLO
+};
+
+/// Plans that fit.
+pub static FITS: [Cut; 11] = [
+    NOTHING,
+    Cut {
+        role: Role::Client,
+        ..NOTHING
+    },
+    Cut {
+        plan: "piece 3 -\ncontrol -\nlast -",
+        line: "done",
+        out: b"\x01\x03Hel\x89\x00\x80\x02lo",
+        ..PING_HELLO
+    },
+    Cut {
+        plan: "piece 5 -\ncontrol -\nlast -",
+        line: "done",
+        out: b"\x01\x05Hello\x89\x00\x80\x00",
+        ..PING_HELLO
+    },
+    Cut {
+        plan: "control -\nlast -",
+        line: "done",
+        out: b"\x89\x00\x81\x05Hello",
+        ..PING_HELLO
+    },
+    Cut {
+        role: Role::Client,
+        bytes: b"\x81\x85\0\0\0\0Hello",
+        plan: "last 37fa213d",
+        out: b"\x81\x85\x37\xfa\x21\x3d\x7f\x9f\x4d\x51\x58",
+        ..NOTHING
+    },
+    Cut {
+        role: Role::Client,
+        bytes: b"\x89\x80\0\0\0\0\x81\x83\0\0\0\0\xe2\x82\xac",
+        plan: "piece 1 37fa213d\ncontrol 00000001\npiece 1 ff000000\nlast 00000000",
+        out: &[
+            0x01, 0x81, 0x37, 0xfa, 0x21, 0x3d, 0xd5, 0x89, 0x80, 0x00, 0x00, 0x00, 0x01, 0x00,
+            0x81, 0xff, 0x00, 0x00, 0x00, 0x7d, 0x80, 0x81, 0x00, 0x00, 0x00, 0x00, 0xac,
+        ],
+        ..NOTHING
+    },
+    Cut {
+        bytes: b"\x88\x02\x03\xe8\x81\x01A",
+        plan: "control -",
+        out: b"\x88\x02\x03\xe8",
+        ..NOTHING
+    },
+    Cut {
+        bytes: b"\x01\x03Hel\x88\x02\x03\xe8",
+        plan: "control -",
+        out: b"\x88\x02\x03\xe8",
+        ..NOTHING
+    },
+    Cut {
+        under: ANY_LENGTHS,
+        bytes: b"\x81\x01A",
+        plan: "last - two",
+        out: b"\x81\x7e\x00\x01A",
+        ..NOTHING
+    },
+    Cut {
+        under: ANY_LENGTHS,
+        bytes: b"\x81\x01A",
+        plan: "last - eight",
+        out: b"\x81\x7f\0\0\0\0\0\0\0\x01A",
+        ..NOTHING
+    },
+];
+
+/// Fails unless a stream is cut so, by whatever reads it comes.
+pub fn expect_cut(rt: &impl Abort, alloc: Global, cut: &Cut) -> Result<(), Fail> {
+    let plan = read_plan(alloc, cut.plan.as_bytes())?;
+    let limits = limits_under(&cut.under)?;
+    for most in READS {
+        let mut out = Vec::new(alloc);
+        let reader = Chopped::new(cut.bytes, most);
+        let answer = recut_by(alloc, cut.role, limits, &plan, reader, &mut out);
+        assert_eq!(rt;
+            recut_line(alloc, &answer)?.as_str(),
+            cut.line,
+            "{cut:?} by {most}"
+        );
+        assert_eq!(rt; out.as_slice(), cut.out, "{cut:?} by {most}");
+    }
+    Ok(())
+}
+
+#[test]
+fn a_plan_that_fits_is_kept_to(rt: HostRuntime) -> Result<(), Fail> {
+    for cut in FITS.iter() {
+        expect_cut(&rt, rt.alloc(), cut)?;
+    }
+    Ok(())
+}
+
+/// The head of a message of 126 bytes that are cut in one frame, and how they are.
+#[test]
+fn a_length_of_two_bytes_is_spelled_in_eight_alone(rt: HostRuntime) -> Result<(), Fail> {
+    let alloc = rt.alloc();
+    let bytes = filled(alloc, b"\x82\x7e\x00\x7e", 0x2a, 126)?;
+    let eight = filled(alloc, b"\x82\x7f\0\0\0\0\0\0\0\x7e", 0x2a, 126)?;
+    for (text, line, wanted) in [
+        ("last - two", "fault 0 wrong-form", &[] as &[u8]),
+        ("last - eight", "done", eight.as_slice()),
+        ("last -", "done", bytes.as_slice()),
+    ] {
+        let plan = read_plan(alloc, text.as_bytes())?;
+        let mut out = Vec::new(alloc);
+        let answer = recut_by(
+            alloc,
+            Role::Server,
+            limits_under(&ANY_LENGTHS)?,
+            &plan,
+            Chopped::new(bytes.as_slice(), usize::MAX),
+            &mut out,
+        );
+        assert_eq!(rt; recut_line(alloc, &answer)?.as_str(), line);
+        assert_eq!(rt; out.as_slice(), wanted);
+    }
+    Ok(())
+}
+
+#[test]
+fn fragments_of_65_535_bytes_and_of_one_come_back(rt: HostRuntime) -> Result<(), Fail> {
+    let alloc = rt.alloc();
+    let stream = stream_named(alloc, "fragments of 65,535 bytes and of one")?;
+    let plan = read_plan(alloc, b"piece 65535 -\nlast -\n")?;
+    for most in READS {
+        let mut out = Vec::new(alloc);
+        let reader = Chopped::new(stream.normal.as_slice(), most);
+        let answer = recut_by(alloc, stream.role, stream.limits, &plan, reader, &mut out);
+        assert_eq!(rt; recut_line(alloc, &answer)?.as_str(), "done");
+        assert!(rt; out.as_slice() == stream.bytes.as_slice(), "by {most}");
+    }
+    Ok(())
+}
