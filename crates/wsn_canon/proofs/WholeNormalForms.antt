@@ -21,7 +21,8 @@ use Rattle.wsn_rules.proofs.StaysRefused.{stays_refused, refused_alike}
 use Rattle.wsn_scan.specs.declared.stop.Stop.{Stop}
 use Rattle.wsn_scan.specs.declared.stop.Stop.TheVariants as stop
 use Rattle.wsn_scan.specs.Judging.{IsReached, IsUnrefused}
-use Rattle.wsn_canon.specs.Normalised.{IsNormalised, IsNormalFormWritten, IsNormalisedWhole, IsWithinLimit, AnswersAll}
+use Rattle.wsn_scan.specs.Stops.{AnswersAll}
+use Rattle.wsn_canon.specs.Normalised.{IsNormalised, IsNormalFormWritten, IsNormalisedWhole, IsWithinLimit}
 
 module _ (role : Role) (limits : Limits) where
   -- ---- what came, and all there is

@@ -51,9 +51,3 @@ IsNormalisedWhole role limits all before after (Err stop.InputLimit) =
     × ((verdict : Verdict) × (fs : List Frame) × IsVerdict role limits (take limits.input all) fs verdict
     × IsWritten before after (normal_form role (meaning fs)))
 IsNormalisedWhole role limits all before after (Err stopped) = ⊤
-
--- No read, no write and no growth failed.
-abbrev pub AnswersAll : Result Verdict Stop → Type 0
-AnswersAll (Ok verdict) = ⊤
-AnswersAll (Err stop.InputLimit) = ⊤
-AnswersAll (Err stopped) = ⊥

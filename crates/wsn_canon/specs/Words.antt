@@ -11,11 +11,11 @@ pub use Rattle.wsn_rules.specs.NormalForm.{normal_frame, normal_key, op_of}
 pub use Rattle.wsn_rules.specs.declared.verdict.Summary.{Summary}
 pub use Rattle.wsn_rules.specs.declared.verdict.Verdict.{Verdict}
 pub use Rattle.wsn_rules.specs.declared.verdict.Verdict.TheVariants.{Accepted}
-pub use Rattle.wsn_scan.specs.Stops.{IsPut}
+pub use Rattle.wsn_scan.specs.Stops.{AnswersAll, IsPut}
 pub use Rattle.wsn_scan.specs.declared.stop.Stop.{Stop}
 pub use Rattle.wsn_canon.specs.Comparing.{DifferAt, IsAnswerOf}
 pub use Rattle.wsn_canon.specs.EventsMeant.{meant, close_body}
-pub use Rattle.wsn_canon.specs.Normalised.{IsNormalisedWhole, AnswersAll}
+pub use Rattle.wsn_canon.specs.Normalised.{IsNormalisedWhole}
 pub use Rattle.wsn_canon.specs.Readings.{HasGiven, IsAtWork, GoesOn, IsEvent, answered, held_of, left_of, next_of}
 pub use Rattle.wsn_canon.specs.Reassembly.{IsBetweenFrames, IsInFrame, IsEventOf}
 pub use Rattle.wsn_canon.specs.declared.comparing.Compared.{Compared}

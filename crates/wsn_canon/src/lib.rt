@@ -5,9 +5,10 @@
 //! [`put_event`] writes its normal form, one frame. [`normalise`] writes that of all of a stream's events, and
 //! [`same`] tells whether two streams mean the same.
 //!
-//! `specs/Events.antt` defines lawful events, `specs/EventsMeant.antt` what an [`Event`] stands for,
-//! `specs/Sources.antt` which events a stream means, and `specs/NormalForm.antt` the normal form. [`laws`] has what
-//! holds of these.
+//! `specs/EventsMeant.antt` says what an [`Event`] stands for, `specs/Sources.antt` which events a source gives,
+//! `specs/Normalised.antt` what a normaliser writes, and `specs/Comparing.antt` what a comparison answers; lawful
+//! events and the normal form itself are defined in `wsn_rules` (`specs/LawfulEvents.antt`, `specs/NormalForm.antt`).
+//! [`laws`] has what holds of these.
 #![tactic(auto)]
 
 mod comparing;

@@ -1,5 +1,4 @@
 pub mod OneEntry
-pub mod TextLines
 pub mod OneFault
 pub mod OneReport
 pub mod StreamSteps

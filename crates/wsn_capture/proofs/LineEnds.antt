@@ -1,6 +1,6 @@
 -- A line's last byte, which may be a CR.
 use Rattle.std.proofs.Common.{◌≡◌, ◌≢◌, ℕ, suc, ◌-◌, ◌≤◌, ◌==◌, Bool, false, cond, List, [], ◌∷◌, length, take, get_or, refl, sym, ap, ◌∙◌, arith}
-use Rattle.wsn_capture.specs.CaptureLines.{without_cr}
+use Rattle.wsn_capture.specs.Entries.{without_cr}
 
 no_cr : (b : ℕ) → b ≢ 13 → (b == 13) ≡ false
 no_cr b other = grind (arith)

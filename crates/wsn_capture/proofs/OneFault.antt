@@ -9,7 +9,7 @@ use Rattle.wsn_rules.specs.Limits.{Limits}
 use Rattle.wsn_rules.proofs.Prefixes.{head_same, tail_same}
 use Rattle.wsn_capture.specs.declared.line_fault.LineFault.{LineFault}
 use Rattle.wsn_capture.specs.declared.line_fault.LineFault.TheVariants.{TooManyLines, TooLong, BadForm, BadHex, AfterEnd, InputLimit}
-use Rattle.wsn_capture.specs.CaptureLines.{without_cr}
+use Rattle.wsn_capture.specs.Entries.{without_cr}
 use Rattle.wsn_capture.specs.Entries.{Entry, IsHex, IsGiven, bytes_front, end_mark}
 use Rattle.wsn_capture.specs.Entries.Entry.{Nothing, Bytes, Mark}
 use Rattle.wsn_capture.specs.Sides.{sent, has_ended}

@@ -6,7 +6,7 @@ use Rattle.std.proofs.lemmas.List.{take_all, take_at, length-take-le}
 use Rattle.wsn_rules.specs.Limits.{Limits}
 use Rattle.wsn_capture.specs.declared.capture.Capture.{Capture}
 use Rattle.wsn_capture.specs.declared.capture_stop.CaptureStop.{CaptureStop}
-use Rattle.wsn_capture.specs.CaptureLines.{IsLine}
+use Rattle.wsn_lines.specs.TextLines.{IsLine}
 use Rattle.wsn_capture.specs.Captures.{HasTaken}
 use Rattle.wsn_capture.specs.CaptureAnswers.{IsUnfaulted}
 use Rattle.wsn_capture.specs.LineSplitters.{HasHandedOn, IsStopAt, IsStopBy, IsStopWithin}

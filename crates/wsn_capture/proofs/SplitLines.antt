@@ -8,14 +8,15 @@ use Rattle.wsn_capture.specs.declared.capture_stop.CaptureStop.{CaptureStop}
 use Rattle.wsn_capture.specs.declared.capture_stop.CaptureStop.TheVariants.{Read, Line}
 use Rattle.wsn_capture.specs.declared.capture.Capture.{Capture}
 use Rattle.wsn_capture.specs.declared.report.Report.{Report}
-use Rattle.wsn_capture.specs.CaptureLines.{IsLine, ended, without_cr, AreLines}
+use Rattle.wsn_lines.specs.TextLines.{IsLine, ended, AreLines}
+use Rattle.wsn_capture.specs.Entries.{without_cr}
 use Rattle.wsn_capture.specs.Entries.{Entry}
 use Rattle.wsn_capture.specs.LineFaults.{order_of, HasFault, IsFirstFault, IsTaken, AreTakenBehind, IsFaultBehind}
 use Rattle.wsn_capture.specs.Reports.{IsReport}
 use Rattle.wsn_capture.specs.Captures.{HasTaken}
 use Rattle.wsn_capture.specs.CaptureAnswers.{IsReported, IsFaulty, IsUnfaulted, IsAnswerOf}
 use Rattle.wsn_capture.specs.LineSplitters.{HasHandedOn, IsStopAt, IsStopBy, IsStopWithin}
-use Rattle.wsn_capture.proofs.TextLines.{has_lines, ended-push, each_join, lines_in_front, lines_at_end, first_line}
+use Rattle.wsn_lines.proofs.TextLines.{has_lines, ended-push, each_join, lines_in_front, lines_at_end, first_line}
 
 -- ---- a line that is too long whatever follows
 

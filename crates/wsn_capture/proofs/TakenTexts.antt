@@ -9,7 +9,7 @@ use Rattle.wsn_capture.specs.declared.line_fault.LineFault.{LineFault}
 use Rattle.wsn_capture.specs.declared.line_fault.LineFault.TheVariants.{TooManyLines, TooLong, BadForm, BadHex, AfterEnd, InputLimit}
 use Rattle.wsn_capture.specs.declared.direction.Direction.{Direction}
 use Rattle.wsn_capture.specs.declared.capture.Capture.{Capture}
-use Rattle.wsn_capture.specs.CaptureLines.{without_cr}
+use Rattle.wsn_capture.specs.Entries.{without_cr}
 use Rattle.wsn_capture.specs.Entries.{Entry, IsHex, IsGiven, AreEntries, bytes_front, end_mark}
 use Rattle.wsn_capture.specs.Entries.Entry.{Nothing, Bytes, Mark}
 use Rattle.wsn_capture.specs.Sides.{has_ended}

@@ -8,7 +8,7 @@ use Rattle.wsn_capture.specs.declared.line_fault.LineFault.{LineFault}
 use Rattle.wsn_capture.specs.declared.report.Report.{Report}
 use Rattle.wsn_capture.specs.declared.capture_stop.CaptureStop.{CaptureStop}
 use Rattle.wsn_capture.specs.declared.capture_stop.CaptureStop.TheVariants.{Read, Line}
-use Rattle.wsn_capture.specs.CaptureLines.{IsLine, ended, AreLines}
+use Rattle.wsn_lines.specs.TextLines.{IsLine, ended, AreLines}
 use Rattle.wsn_capture.specs.Entries.{Entry}
 use Rattle.wsn_capture.specs.LineFaults.{AreTaken, IsFaultBehind}
 use Rattle.wsn_capture.specs.Reports.{IsReport}

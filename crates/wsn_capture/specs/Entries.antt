@@ -1,9 +1,14 @@
 -- What a line of a capture gives.
-use Rattle.std.specs.Prelude.{◌≡◌, ◌≢◌, ℕ, ◌⊎◌, Ok, List, [], ◌∷◌, ◌++◌, codes}
+use Rattle.std.specs.Prelude.{◌≡◌, ◌≢◌, ℕ, ◌⊎◌, ◌==◌, Ok, List, [], ◌∷◌, ◌++◌, codes, if◌then◌else◌}
 use Rattle.hex.specs.Hex.{decode_of}
 use Rattle.wsn_wire.specs.declared.endpoint.Role.{Role}
 use Rattle.wsn_wire.specs.declared.endpoint.Role.TheVariants.{Client, Server}
-use Rattle.wsn_capture.specs.CaptureLines.{without_cr}
+
+-- a line without the CR at its end, if it has one there
+abbrev pub without_cr : List ℕ → List ℕ
+without_cr [] = []
+without_cr (b ∷ []) = if b == 13 then [] else b ∷ []
+without_cr (b ∷ c ∷ line) = b ∷ without_cr (c ∷ line)
 
 -- Nothing; bytes that a side sent; or a side's end mark, by which its direction of the connection ended.
 pub data Entry : Type 0 where

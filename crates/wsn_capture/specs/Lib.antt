@@ -1,5 +1,4 @@
 -- In the order in which one would read them.
-pub mod CaptureLines
 pub mod Entries
 pub mod Sides
 pub mod LineFaults

@@ -4,7 +4,7 @@ use Rattle.wsn_wire.specs.declared.endpoint.Role.{Role}
 use Rattle.wsn_rules.specs.Limits.{Limits}
 use Rattle.wsn_capture.specs.declared.line_fault.LineFault.{LineFault}
 use Rattle.wsn_capture.specs.declared.line_fault.LineFault.TheVariants.{TooManyLines, TooLong, BadForm, BadHex, AfterEnd, InputLimit}
-use Rattle.wsn_capture.specs.CaptureLines.{without_cr}
+use Rattle.wsn_capture.specs.Entries.{without_cr}
 use Rattle.wsn_capture.specs.Entries.{Entry, IsHex, IsGiven, bytes_front, end_mark}
 use Rattle.wsn_capture.specs.Entries.Entry.{Nothing, Bytes}
 use Rattle.wsn_capture.specs.Sides.{sent, has_ended}
@@ -18,13 +18,14 @@ order_of BadHex = 3
 order_of AfterEnd = 4
 order_of InputLimit = 5
 
-abbrev pub word_of : LineFault → List ℕ
-word_of TooManyLines = codes "too-many-lines"
-word_of TooLong = codes "too-long"
-word_of BadForm = codes "bad-form"
-word_of BadHex = codes "bad-hex"
-word_of AfterEnd = codes "after-end"
-word_of InputLimit = codes "input-limit"
+-- the word that is printed of it
+abbrev pub fault_word : LineFault → List ℕ
+fault_word TooManyLines = codes "too-many-lines"
+fault_word TooLong = codes "too-long"
+fault_word BadForm = codes "bad-form"
+fault_word BadHex = codes "bad-hex"
+fault_word AfterEnd = codes "after-end"
+fault_word InputLimit = codes "input-limit"
 
 -- A line of bytes or an end mark of a side, whatever stands for the bytes.
 abbrev pub IsOf : Role → List ℕ → Type 0

@@ -6,7 +6,7 @@ use Rattle.wsn_capture.specs.declared.capture_stop.CaptureStop.{CaptureStop}
 use Rattle.wsn_capture.specs.declared.capture_stop.CaptureStop.TheVariants.{Read, Line}
 use Rattle.wsn_capture.specs.declared.capture.Capture.{Capture}
 use Rattle.wsn_capture.specs.declared.line_splitter.LineSplitter.{LineSplitter}
-use Rattle.wsn_capture.specs.CaptureLines.{IsLine, ended}
+use Rattle.wsn_lines.specs.TextLines.{IsLine, ended}
 use Rattle.wsn_capture.specs.LineFaults.{IsFaultBehind}
 use Rattle.wsn_capture.specs.Captures.{HasTaken, count_of}
 use Rattle.wsn_capture.specs.CaptureAnswers.{IsFaulty, IsUnfaulted, line_most}

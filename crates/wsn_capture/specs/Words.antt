@@ -6,7 +6,7 @@ pub use Rattle.wsn_rules.specs.Limits.{Limits}
 pub use Rattle.wsn_rules.specs.Verdict.{IsVerdict}
 pub use Rattle.wsn_scan.specs.Stops.{IsPut}
 pub use Rattle.wsn_capture.specs.CaptureAnswers.{IsAnswerOf}
-pub use Rattle.wsn_capture.specs.CaptureLines.{AreLines, IsLine}
+pub use Rattle.wsn_lines.specs.TextLines.{AreLines, IsLine}
 pub use Rattle.wsn_capture.specs.Captures.{AreSent, TakesText, IsFirstOwnFault, HasTaken, count_of, HasSent, IsLimited}
 pub use Rattle.wsn_capture.specs.Captures.{IsClosedBy, IsNoted}
 pub use Rattle.wsn_capture.specs.Entries.{Entry, bytes_front, end_mark, IsEntry, AreEntries}

@@ -5,7 +5,7 @@
 //! of its lines to one, and tells its report, or the first line that isn't taken; [`put_report`] prints a report. None
 //! of them takes memory, and no more than one line is held.
 //!
-//! `specs/CaptureLines.antt` says which lines a text has, `specs/Entries.antt` what a line gives,
+//! Which lines a text has is said in `wsn_lines`; `specs/Entries.antt` says what a line gives,
 //! `specs/LineFaults.antt` which lines aren't taken, `specs/Sides.antt` what became of each side,
 //! `specs/Reports.antt` what is reported of both, and `specs/ReportLines.antt` how that is printed.
 //! `specs/CaptureAnswers.antt` says what is answered of a text. [`laws`] has what holds of these, and

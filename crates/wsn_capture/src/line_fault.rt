@@ -1,3 +1,6 @@
+ghost use Rattle.std.specs.Prelude.{◌≡◌, ◌≤◌, length};
+ghost use Rattle.wsn_capture.specs.LineFaults.{fault_word};
+
 use thiserror::Error;
 
 /// Why a line of a capture isn't taken (specs/LineFaults.antt). Of a line's faults the first counts.
@@ -21,4 +24,21 @@ pub enum LineFault {
     /// With these bytes the side has more than the input limit.
     #[error("input-limit")]
     InputLimit,
+}
+
+impl LineFault {
+    /// The word that is printed of it.
+    pub fn word(&self) -> &'static str
+        ensures word { result.now ≡ fault_word self.now }
+        ensures short { length result.now ≤ 14 }
+    {
+        match self {
+            LineFault::TooManyLines => "too-many-lines",
+            LineFault::TooLong => "too-long",
+            LineFault::BadForm => "bad-form",
+            LineFault::BadHex => "bad-hex",
+            LineFault::AfterEnd => "after-end",
+            LineFault::InputLimit => "input-limit",
+        }
+    }
 }

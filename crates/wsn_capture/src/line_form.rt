@@ -1,5 +1,5 @@
 ghost use Rattle.std.specs.Prelude.{◌≡◌, ◌*◌, ◌+◌, ◌≤◌, MatchResult, length, take};
-ghost use Rattle.wsn_capture.specs.CaptureLines.{without_cr};
+ghost use Rattle.wsn_capture.specs.Entries.{without_cr};
 ghost use Rattle.wsn_capture.specs.LineForms.{IsForm, HasNoHex};
 ghost use Rattle.wsn_capture.specs.Entries.{IsHex};
 ghost use Rattle.wsn_capture.specs.declared.line_fault.LineFault.TheVariants.{BadHex};

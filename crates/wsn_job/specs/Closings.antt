@@ -7,7 +7,7 @@ use Rattle.wsn_capture.specs.declared.report.Outcome.TheVariants.{Clean, Complet
 use Rattle.wsn_capture.specs.declared.report.Report.{Report}
 use Rattle.wsn_capture.specs.declared.capture_stop.CaptureStop.TheVariants as capture
 use Rattle.wsn_capture.specs.CaptureAnswers.{IsCaptureJudged}
-use Rattle.wsn_capture.specs.LineFaults.{word_of}
+use Rattle.wsn_capture.specs.LineFaults.{fault_word}
 use Rattle.wsn_capture.specs.ReportLines.{report_lines}
 use Rattle.wsn_job.specs.declared.closings.ClosingStop.{ClosingStop}
 use Rattle.wsn_job.specs.declared.closings.ClosingStop.TheVariants.{Capture, Write}
@@ -38,7 +38,7 @@ closing_status (Err stopped) = 2
 abbrev pub closing_stop_line : ClosingStop → List ℕ
 closing_stop_line (Capture capture.Read) = codes "read failed\n"
 closing_stop_line (Capture (capture.Line number fault)) =
-    codes "line " ++ decimal number ++ codes ": " ++ word_of fault ++ codes "\n"
+    codes "line " ++ decimal number ++ codes ": " ++ fault_word fault ++ codes "\n"
 closing_stop_line Write = codes "write failed\n"
 
 -- A stop is told in its line.

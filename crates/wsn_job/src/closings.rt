@@ -1,11 +1,10 @@
-ghost use Rattle.std.specs.Prelude.{◌≡◌, ◌≤◌, false, true, length};
-ghost use Rattle.wsn_capture.specs.LineFaults.{word_of};
+ghost use Rattle.std.specs.Prelude.{◌≡◌, false, true};
 ghost use Rattle.wsn_job.specs.Closings.{IsClosingRun, IsReportPrinted, IsClosingTold, closing_status, closing_stop_line, outcome_status};
 ghost use Rattle.wsn_job.specs.Telling.{IsToldOn};
 
 use crate::telling::tell;
 use std::io::{Read, Write};
-use wsn_capture::{CaptureStop, LineFault, Outcome, Report, judge_capture, put_report};
+use wsn_capture::{CaptureStop, Outcome, Report, judge_capture, put_report};
 use wsn_lines::Line;
 use wsn_scan::Limits;
 use wsn_wire::{Input, Output};
@@ -70,27 +69,12 @@ fn line_of_stop(stop: ClosingStop) -> Line<STOP_MOST>
             line.push("line ");
             line.push_number(u64::from(number));
             line.push(": ");
-            line.push(word(fault));
+            line.push(fault.word());
             line.push("\n");
         }
         ClosingStop::Write => line.push("write failed\n"),
     }
     line
-}
-
-/// The word of a line's fault.
-fn word(fault: LineFault) -> &'static str
-    ensures word { result.now ≡ word_of fault }
-    ensures short { length result.now ≤ 14 }
-{
-    match fault {
-        LineFault::TooManyLines => "too-many-lines",
-        LineFault::TooLong => "too-long",
-        LineFault::BadForm => "bad-form",
-        LineFault::BadHex => "bad-hex",
-        LineFault::AfterEnd => "after-end",
-        LineFault::InputLimit => "input-limit",
-    }
 }
 
 /// The exit status of a report or a stop.

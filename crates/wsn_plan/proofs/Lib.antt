@@ -11,7 +11,6 @@ pub mod PlannedFrames
 pub mod OneRecut
 pub mod Restored
 pub mod OneCut
-pub mod LinesOfText
 pub mod FieldsOfLine
 pub mod SpelledFields
 pub mod SpelledLines

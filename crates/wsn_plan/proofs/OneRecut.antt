@@ -24,7 +24,7 @@ use Rattle.wsn_plan.specs.declared.planning.PlanAnswer.{PlanAnswer}
 use Rattle.wsn_plan.specs.declared.planning.PlanAnswer.TheVariants as plans
 use Rattle.wsn_plan.specs.declared.recutting.RecutAnswer.{RecutAnswer}
 use Rattle.wsn_plan.specs.declared.recutting.RecutAnswer.TheVariants.{Done, NotAccepted, Fault}
-use Rattle.wsn_plan.specs.Gathering.{AnswersAll}
+use Rattle.wsn_scan.specs.Stops.{AnswersAll}
 use Rattle.wsn_plan.specs.Planning.{IsPlanFor, IsPlannedWhole}
 use Rattle.wsn_plan.specs.Recutting.{IsAnswerTo, GoesOut, IsRecutWhole, Planned}
 

@@ -4,8 +4,9 @@ use Rattle.std.specs.List.{AllZip}
 use Rattle.wsn_rules.specs.declared.step.Step.{Step}
 use Rattle.wsn_rules.proofs.Prefixes.{head_same, tail_same, cons_same}
 use Rattle.wsn_plan.specs.declared.plan_fault.LineWhy.{LineWhy}
-use Rattle.wsn_plan.specs.PlanText.{HasLines, SpellsStep, SpellsPlan, IsLineFault, IsFirstFault}
-use Rattle.wsn_plan.proofs.LinesOfText.{one_list_of_lines, lines_of}
+use Rattle.wsn_plan.specs.PlanText.{SpellsStep, SpellsPlan, IsLineFault, IsFirstFault}
+use Rattle.wsn_lines.specs.TextLines.{AreLines}
+use Rattle.wsn_lines.proofs.TextLines.{same_lines, has_lines}
 use Rattle.wsn_plan.proofs.SpelledLines.{one_step}
 use Rattle.wsn_plan.proofs.LineFaults.{not_step_and_fault, one_line_fault}
 use Rattle.wsn_plan.proofs.DecidedLines.{step_or_fault}
@@ -21,7 +22,7 @@ same_steps (line ∷ lines) (step ∷ plan) (next ∷ other) spell also =
 
 pub one_plan : (text : List ℕ) (plan other : List Step) → SpellsPlan text plan → SpellsPlan text other → plan ≡ other
 one_plan text plan other spells also =
-    let same = one_list_of_lines text also.0 spells.0 also.1 spells.1 in
+    let same = same_lines text also.0 spells.0 also.1 spells.1 in
     same_steps spells.0 plan other spells.2 (rw same at also.2)
 
 -- a line among lines that spell steps
@@ -34,7 +35,7 @@ spelled_at (first ∷ before) line after (step ∷ plan) spell = spelled_at befo
 
 pub not_plan_and_fault : (text : List ℕ) (plan : List Step) (number : ℕ) (why : LineWhy) → SpellsPlan text plan → ¬ (IsFirstFault text number why)
 not_plan_and_fault text plan number why spells (before, line, after, front, has, spell, fault, e) =
-    let same = one_list_of_lines text spells.0 (before ++ line ∷ after) spells.1 has in
+    let same = same_lines text spells.0 (before ++ line ∷ after) spells.1 has in
     let step = spelled_at before line after plan (rw same at spells.2) in
     not_step_and_fault line step.0 why step.1 fault
 
@@ -62,7 +63,7 @@ same_fault (first ∷ before) (second ∷ other) line next after rest (step ∷ 
 pub one_first_fault : (text : List ℕ) (number other_number : ℕ) (why other : LineWhy) → IsFirstFault text number why → IsFirstFault text other_number other
     → (number ≡ other_number) × (why ≡ other)
 one_first_fault text number other_number why other (before, line, after, plan, has, spell, fault, e) (more, next, rest, twin, also, also_spell, also_fault, f) =
-    let lines = one_list_of_lines text (before ++ line ∷ after) (more ++ next ∷ rest) has also in
+    let lines = same_lines text (before ++ line ∷ after) (more ++ next ∷ rest) has also in
     let same = same_fault before more line next after rest plan twin why other lines spell also_spell fault also_fault in
     (e ∙ ap (λ (n : ℕ). n + 1) same.0 ∙ sym f, same.1)
 
@@ -88,11 +89,11 @@ lines_decided (line ∷ lines) =
 
 pub plan_or_fault : (text : List ℕ) → ((plan : List Step) × SpellsPlan text plan) ⊎ ((number : ℕ) × (why : LineWhy) × IsFirstFault text number why)
 plan_or_fault text =
-    let lines = lines_of text in
+    let lines = has_lines text in
     elim (lines_decided lines.0) [
       | inl p ↦ inl (p.0, (lines.0, lines.1, p.1))
       | inr p ↦
           let same = p.5 in
-          let has : HasLines text (p.0 ++ p.1 ∷ p.2) = rw same at lines.1 in
+          let has : AreLines text (p.0 ++ p.1 ∷ p.2) = rw same at lines.1 in
           inr (length p.0 + 1, p.4, (p.0, p.1, p.2, p.3, has, p.6, p.7, refl))
     ]

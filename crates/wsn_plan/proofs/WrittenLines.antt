@@ -10,7 +10,8 @@ use Rattle.wsn_rules.specs.declared.step.Step.{Step}
 use Rattle.wsn_rules.specs.declared.step.Step.TheVariants as step
 use Rattle.wsn_rules.specs.Plan.{IsPlan, key_of, piece_length}
 use Rattle.wsn_rules.specs.Lines.{key_text, form_text}
-use Rattle.wsn_plan.specs.PlanText.{HasNo, ended, SpellsKey, SpellsStep, SpellsPlan, step_line, plan_text}
+use Rattle.wsn_lines.specs.TextLines.{ended}
+use Rattle.wsn_plan.specs.PlanText.{HasNo, SpellsKey, SpellsStep, SpellsPlan, step_line, plan_text}
 use Rattle.wsn_plan.proofs.SpelledFields.{number_has_no, key_has_no, form_has_no_lf}
 
 -- ---- no LF stands in a line that spells a step
@@ -90,4 +91,4 @@ text_of_lines (step ∷ plan) =
 pub text_spells_plan : (plan : List Step) → IsPlan plan → AllByRecursion (λ step. piece_length step < 2 ^ 64) plan → SpellsPlan (plan_text plan) plan
 text_spells_plan plan is_plan small =
     let spell = lines_spell plan is_plan small in
-    (map line_text plan, (lines_without_lf (map line_text plan) plan spell, inl (text_of_lines plan)), spell)
+    (map line_text plan, record { each = lines_without_lf (map line_text plan) plan spell; joined = inl (text_of_lines plan) }, spell)

@@ -1,5 +1,5 @@
 -- What reading an input to its verdict gives where all its events are kept.
-use Rattle.std.specs.Prelude.{◌≡◌, ◌≢◌, ℕ, ◌+◌, ◌⊎◌, ⊤, false, Result, Ok, Err, List, [], ◌++◌, map}
+use Rattle.std.specs.Prelude.{◌≡◌, ◌≢◌, ℕ, ◌+◌, ◌⊎◌, false, Result, Ok, Err, List, [], ◌++◌, map}
 use Rattle.wsn_wire.specs.declared.endpoint.Role.{Role}
 use Rattle.wsn_wire.specs.Frame.{Frame, stream}
 use Rattle.wsn_wire.specs.Transfer.{Incoming, IsReceived}
@@ -28,12 +28,6 @@ HasSomethingKept role limits bytes = HasDataPayload role limits bytes ⊎ HasWho
 abbrev pub IsStoppedBehind : Role → Limits → Incoming → List ℕ → Stop → Type 0
 IsStoppedBehind role limits new came stop.Memory = HasSomethingKept role limits came × (new.failed ≡ false)
 IsStoppedBehind role limits new came stopped = IsStopped role limits new came stopped
-
--- No read, no write and no growth failed.
-abbrev pub AnswersAll : {A : Type 0} → Result A Stop → Type 0
-AnswersAll (Ok answer) = ⊤
-AnswersAll (Err stop.InputLimit) = ⊤
-AnswersAll (Err stopped) = ⊥
 
 -- The verdict is that of the bytes that came, and the events are their meaning.
 abbrev pub IsGatheredOf : {A : Type 0} → Role → Limits → Incoming → List ℕ → Result (Gathered A) Stop → Type 0

@@ -7,6 +7,7 @@ use Rattle.wsn_wire.specs.declared.spelling.Form.{Form}
 use Rattle.wsn_rules.specs.declared.step.Step.{Step}
 use Rattle.wsn_rules.specs.declared.step.Step.TheVariants as step
 use Rattle.wsn_rules.specs.Lines.{key_text, form_text}
+use Rattle.wsn_lines.specs.TextLines.{AreLines}
 use Rattle.wsn_plan.specs.declared.plan_fault.LineWhy.{LineWhy}
 use Rattle.wsn_plan.specs.declared.plan_fault.LineWhy.TheVariants.{BadForm, BadNumber, BadKey, BadLength}
 use Rattle.wsn_plan.specs.declared.plan_fault.PlanFault.{PlanFault}
@@ -34,23 +35,9 @@ SpellsStep line (step.Control key) = (digits : List ℕ) × SpellsKey digits key
 
 -- ---- a text
 
--- these lines, each ended by LF
-abbrev pub ended : List (List ℕ) → List ℕ
-ended lines = flat_map (λ line. line ++ codes "\n") lines
-
-abbrev pub HasNo : ℕ → List ℕ → Type 0
-HasNo byte = AllByRecursion (λ other. other ≢ byte)
-
--- A text is its lines, each ended by LF; the last LF may be missing, unless the last line is empty.
-abbrev pub HasLines : List ℕ → List (List ℕ) → Type 0
-HasLines text lines = AllByRecursion (HasNo 10) lines
-    × ((text ≡ ended lines)
-    ⊎ ((before : List (List ℕ)) × (last : List ℕ) × (last ≢ []) × (lines ≡ before ++ last ∷ [])
-    × (text ≡ ended before ++ last)))
-
 -- Each line spells the step in its place.
 abbrev pub SpellsPlan : List ℕ → List Step → Type 0
-SpellsPlan text plan = (lines : List (List ℕ)) × HasLines text lines × AllZip SpellsStep lines plan
+SpellsPlan text plan = (lines : List (List ℕ)) × AreLines text lines × AllZip SpellsStep lines plan
 
 -- ---- what is written: digits in lower case, and each line ended
 
@@ -64,6 +51,10 @@ abbrev pub plan_text : List Step → List ℕ
 plan_text plan = flat_map step_line plan
 
 -- ---- what is wrong with a line
+
+-- The byte doesn't stand in the text.
+abbrev pub HasNo : ℕ → List ℕ → Type 0
+HasNo byte = AllByRecursion (λ other. other ≢ byte)
 
 -- A field isn't empty, and has no space.
 abbrev pub IsField : List ℕ → Type 0
@@ -122,12 +113,12 @@ IsLineFault line BadLength =
 abbrev pub IsFirstFault : List ℕ → ℕ → LineWhy → Type 0
 IsFirstFault text number why =
     (before : List (List ℕ)) × (line : List ℕ) × (after : List (List ℕ)) × (plan : List Step)
-    × HasLines text (before ++ line ∷ after) × AllZip SpellsStep before plan × IsLineFault line why
+    × AreLines text (before ++ line ∷ after) × AllZip SpellsStep before plan × IsLineFault line why
     × (number ≡ length before + 1)
 
 abbrev pub BeginsWithAStep : List ℕ → Type 0
 BeginsWithAStep text =
-    (line : List ℕ) × (after : List (List ℕ)) × (first : Step) × HasLines text (line ∷ after) × SpellsStep line first
+    (line : List ℕ) × (after : List (List ℕ)) × (first : Step) × AreLines text (line ∷ after) × SpellsStep line first
 
 -- The plan that a text spells, or its first fault; or memory was refused, for a step that stands there.
 abbrev pub IsReadPlan : List ℕ → Result (List Step) PlanFault → Type 0

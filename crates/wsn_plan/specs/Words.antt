@@ -21,13 +21,12 @@ pub use Rattle.wsn_rules.specs.UniformPlan.{piece_count, ahead, uniform_plan}
 pub use Rattle.wsn_rules.specs.declared.step.Step.{Step}
 pub use Rattle.wsn_rules.specs.declared.step.Step.TheVariants.{Piece, Last, Control}
 pub use Rattle.wsn_rules.specs.declared.verdict.Verdict.{Verdict}
-pub use Rattle.wsn_scan.specs.Stops.{IsPut}
+pub use Rattle.wsn_scan.specs.Stops.{AnswersAll, IsPut}
 pub use Rattle.wsn_scan.specs.declared.stop.Stop.{Stop}
 pub use Rattle.wsn_canon.specs.EventsMeant.{meant, close_body}
 pub use Rattle.wsn_canon.specs.Normalised.{IsNormalisedWhole}
 pub use Rattle.wsn_plan.specs.Cuts.{IsNextLine}
 pub use Rattle.wsn_plan.specs.Framing.{control_frame, piece_frame, last_frame, frame_here, HasForm}
-pub use Rattle.wsn_plan.specs.Gathering.{AnswersAll}
 pub use Rattle.wsn_plan.specs.PlanText.{SpellsPlan, SpellsStep, IsLineFault, plan_text, IsFirstFault, behind}
 pub use Rattle.wsn_plan.specs.PlanText.{IsReadPlan, SpellsKey, SpellsNumber, step_line}
 pub use Rattle.wsn_plan.specs.Planning.{IsPlannedWhole, IsRestored}

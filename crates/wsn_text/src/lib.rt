@@ -3,8 +3,8 @@
 //! [`Utf8`] takes text piece by piece and names the first bad byte. [`code_allowed`] tells which codes a Close may
 //! carry.
 //!
-//! `specs/Utf8.antt` defines text by the Unicode Standard's table, `specs/Taken.antt` what a `Utf8` knows of the bytes
-//! that it has taken, and `specs/CloseBody.antt` what a Close may hold. [`laws`] has facts of these definitions.
+//! `specs/Utf8.antt` defines text by the Unicode Standard's table, `specs/Validated.antt` what a `Utf8` knows of the
+//! bytes that it has taken, and `specs/CloseBody.antt` what a Close may hold. [`laws`] has facts of these definitions.
 #![tactic(auto)]
 
 mod codes;

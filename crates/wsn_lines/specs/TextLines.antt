@@ -1,5 +1,5 @@
 -- Which lines a text has.
-use Rattle.std.specs.Prelude.{◌≡◌, ◌≢◌, ℕ, ◌⊎◌, ◌==◌, List, [], ◌∷◌, ◌++◌, if◌then◌else◌}
+use Rattle.std.specs.Prelude.{◌≡◌, ◌≢◌, ℕ, ◌⊎◌, List, [], ◌∷◌, ◌++◌}
 use Rattle.std.specs.List.{AllByRecursion, flat_map}
 
 -- A line has no LF.
@@ -21,9 +21,3 @@ AreJoined text lines =
 pub record AreLines (text : List ℕ) (lines : List (List ℕ)) : Type 0 where
   pub each : AllByRecursion IsLine lines
   pub joined : AreJoined text lines
-
--- a line without the CR at its end, if it has one there
-abbrev pub without_cr : List ℕ → List ℕ
-without_cr [] = []
-without_cr (b ∷ []) = if b == 13 then [] else b ∷ []
-without_cr (b ∷ c ∷ line) = b ∷ without_cr (c ∷ line)

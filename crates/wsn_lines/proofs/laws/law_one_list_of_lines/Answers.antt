@@ -1,5 +1,5 @@
-use Rattle.wsn_capture.proofs.TextLines.{has_lines, same_lines}
-use Rattle.wsn_capture.proofs.laws.law_one_list_of_lines.Goals as goal
+use Rattle.wsn_lines.proofs.TextLines.{has_lines, same_lines}
+use Rattle.wsn_lines.proofs.laws.law_one_list_of_lines.Goals as goal
 
 pub returns-clause-some : goal.returns-clause-some
 returns-clause-some c = has_lines

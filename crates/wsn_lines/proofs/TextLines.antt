@@ -3,7 +3,7 @@ use Rattle.std.proofs.Common.{◌≡◌, ◌≢◌, ℕ, ◌==◌, Bool, false, 
 use Rattle.std.specs.List.{AllByRecursion}
 use Rattle.std.proofs.lemmas.Bool.{cases_eq}
 use Rattle.std.proofs.lemmas.List.Concat.{flat_map-append}
-use Rattle.wsn_capture.specs.CaptureLines.{IsLine, ended, AreLines}
+use Rattle.wsn_lines.specs.TextLines.{IsLine, ended, AreLines}
 
 -- a byte in front of the first line
 abbrev in_front : ℕ → List (List ℕ) → List (List ℕ)
@@ -121,6 +121,33 @@ has_lines (b ∷ text) =
       | inl lf ↦ ([] ∷ rest.0, subst (λ (n : ℕ). AreLines (n ∷ text) ([] ∷ rest.0)) (sym lf) (with_lf text rest.0 rest.1))
       | inr other ↦ (in_front b rest.0, with_byte b text rest.0 other rest.1)
     ]
+
+-- ---- a text from its front
+
+pub no_lines : AreLines [] []
+no_lines = record { each = tt; joined = inl refl }
+
+-- one more line in front
+pub line_in_front : (line rest : List ℕ) (lines : List (List ℕ)) → IsLine line → AreLines rest lines
+    → AreLines (line ++ 10 ∷ rest) (line ∷ lines)
+line_in_front line rest lines is are = record {
+  each = (is, are.each);
+  joined = elim are.joined [
+    | inl whole ↦ inl (ap (λ (text : List ℕ). line ++ 10 ∷ text) whole ∙ sym (append_assoc line (10 ∷ []) (ended lines)))
+    | inr part ↦ inr (
+      line ∷ part.0,
+      part.1,
+      ap (λ (more : List (List ℕ)). line ∷ more) part.2,
+      part.3,
+      ap (λ (text : List ℕ). line ++ 10 ∷ text) part.4
+          ∙ sym (append_assoc line (10 ∷ []) (ended part.0 ++ part.1))
+          ∙ sym (append_assoc (line ++ 10 ∷ []) (ended part.0) part.1),
+    )
+  ];
+}
+
+pub last_line : (line : List ℕ) → IsLine line → line ≢ [] → AreLines line (line ∷ [])
+last_line line is some = record { each = (is, tt); joined = inr ([], line, refl, some, refl) }
 
 -- ---- texts that go on
 
