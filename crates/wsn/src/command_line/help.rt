@@ -186,7 +186,7 @@ The verdict's line:
 Exit status:
   0  accepted; for same, equal; for recut, done; for closing, clean or complete
   1  any other verdict, answer or outcome
-  2  a fault, in a line on standard error: read failed, write failed, input
-     limit (more than 2^40 bytes came), out of memory, cannot read FILE, usage;
-     or what is wrong with the command line
+  2  no answer, and why in a line on standard error: read failed, write failed,
+     input limit (more than 2^40 bytes came), out of memory, cannot read FILE,
+     usage; or what is wrong with the command line, in more lines
 ";
