@@ -2,7 +2,6 @@ ghost use Rattle.wsn_job.specs.Jobs.{MayRun};
 
 use crate::FAULT;
 use crate::command_line::{Pair, PlannedRecut};
-use crate::plan_files::{PlanFileFault, read_plan_file};
 use crate::shown::Shown;
 use arrayvec::ArrayVec;
 use std::alloc::Allocator;
@@ -11,6 +10,7 @@ use std::io::{self, Read, Write};
 use std::rt::Runtime;
 use std::{fs, str};
 use wsn_job::{How, Job, run, run_same};
+use wsn_plan::{PlanFileFault, read_plan_file};
 use wsn_streams::{BlockReader, BlockWriter, TiedReader, TiedWriter};
 use wsn_wire::{Input, Output};
 

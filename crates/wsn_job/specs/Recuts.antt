@@ -1,7 +1,7 @@
 -- What cutting a stream again prints and tells, and the exit status.
-use Rattle.std.specs.Prelude.{◌≡◌, ◌↔◌, ◌≤◌, ℕ, IsSome, Result, Ok, Err, List, ◌++◌, codes, decimal}
+use Rattle.std.specs.Prelude.{◌≡◌, ◌↔◌, ◌≤◌, ℕ, Option, None, Some, IsSome, replicate, Result, Ok, Err, List, ◌++◌, codes, decimal}
 use Rattle.wsn_wire.specs.declared.endpoint.Role.{Role}
-use Rattle.wsn_wire.specs.declared.endpoint.Role.TheVariants.{Client}
+use Rattle.wsn_wire.specs.declared.endpoint.Role.TheVariants.{Client, Server}
 use Rattle.wsn_wire.specs.Transfer.{Incoming, Outgoing}
 use Rattle.wsn_rules.specs.declared.why.Why.{Why}
 use Rattle.wsn_rules.specs.Fault.{why_word}
@@ -25,6 +25,12 @@ planned_by (BySize size weave key) = uniform_plan size weave key
 abbrev pub MayCut : {A : Type 0} → Role → How A → Type 0
 MayCut role (ByPlan plan) = Unit {0}
 MayCut role (BySize size weave key) = (1 ≤ size) × (IsSome key ↔ (role ≡ Client))
+
+-- By size: the key of each frame, for the key that is asked for. A client's frames have zeros where none is.
+abbrev pub key_by_size : Role → Option (List ℕ) → Option (List ℕ)
+key_by_size Client None = Some (replicate 4 0)
+key_by_size Client (Some key) = Some key
+key_by_size Server key = None
 
 -- The line that tells a plan's fault: the step that is wrong, counted from 0, and the reason.
 abbrev pub fault_line : ℕ → Why → List ℕ

@@ -1,3 +1,8 @@
+ghost use Rattle.std.specs.Prelude.{◌≡◌, ◌↔◌, ◌⊎◌, None, IsSome, IfSome};
+ghost use Rattle.wsn_wire.specs.declared.endpoint.Role.TheVariants.{Server};
+ghost use Rattle.wsn_job.specs.Recuts.{MayCut, key_by_size};
+ghost use Rattle.wsn_job.specs.declared.job.How.TheVariants.{BySize};
+
 use std::alloc::{Allocator, Global};
 use wsn_plan::Plan;
 use wsn_scan::Limits;
@@ -32,4 +37,25 @@ pub enum How<A: Allocator = Global> {
         weave: bool,
         key: Option<[u8; 4]>,
     },
+}
+
+impl<A: Allocator> How<A> {
+    /// Frames of `size` bytes. A client's have this key, or one of zeros; a server's have none. `None` for frames of
+    /// no bytes, and for a server's frames with a key (RFC 6455 section 5.1).
+    pub fn by_size(role: Role, size: u32, weave: bool, key: Option<[u8; 4]>) -> Option<Self>
+        ensures may { IfSome result (MayCut role) }
+        ensures how { IfSome result (λ how. how ≡ BySize size weave (key_by_size role key)) }
+        ensures none { result ≡ None ↔ ((size ≡ 0) ⊎ ((role ≡ Server) × IsSome key)) }
+    {
+        let key = match (role, key) {
+            (Role::Client, None) => Some([0; 4]),
+            (Role::Client, Some(key)) => Some(key),
+            (Role::Server, None) => None,
+            (Role::Server, Some(_)) => return None,
+        };
+        if size == 0 {
+            return None;
+        }
+        Some(How::BySize { size, weave, key })
+    }
 }

@@ -24,3 +24,4 @@ pub mod CutLines
 pub mod ReadNumbers
 pub mod WrittenPlans
 pub mod ReadPlans
+pub mod PlanFiles

@@ -5,6 +5,7 @@ pub mod Framing
 pub mod Recutting
 pub mod Planning
 pub mod PlanText
+pub mod PlanFiles
 pub mod Cuts
 pub mod SeenFields
 -- what the clauses in src/ import

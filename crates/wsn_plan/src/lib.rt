@@ -1,6 +1,7 @@
 //! Plans, their text, and streams cut again by them (RFC 6455 sections 5.2 to 5.4).
 //!
-//! A [`Plan`] has one [`Step`] for each frame. [`read_plan`] reads one from text, and [`write_plan`] writes it.
+//! A [`Plan`] has one [`Step`] for each frame. [`read_plan`] reads one from text, [`read_plan_file`] from a file, and
+//! [`write_plan`] writes it.
 //! [`recut`] writes what an accepted input means in frames as a plan says, or tells what is wrong with the plan.
 //! [`uniform`] plans frames of one size, and [`recut_uniform`] cuts a stream again by that plan.
 //!
@@ -16,6 +17,7 @@ pub mod laws;
 mod line_fields;
 mod plan;
 mod plan_fault;
+mod plan_files;
 mod plan_text;
 pub mod plan_text_examples;
 mod planning;
@@ -29,6 +31,7 @@ mod writing_plans;
 
 pub use plan::Plan;
 pub use plan_fault::{LineWhy, PlanFault};
+pub use plan_files::{PlanFileFault, read_plan_file};
 pub use plan_text::{law_one_fault, law_one_plan};
 pub use planning::{PlanAnswer, plan_of};
 pub use reading_plans::read_plan;

@@ -1,6 +1,4 @@
-ghost use Rattle.std.specs.Prelude.{◌≡◌, ◌↔◌, IfOk, IsSome};
-ghost use Rattle.wsn_wire.specs.declared.endpoint.Role.TheVariants.{Client};
-ghost use Rattle.wsn_job.specs.Recuts.{MayCut};
+ghost use Rattle.std.specs.Prelude.{IfOk};
 ghost use Rattle.wsn.specs.Requests.{MayDo};
 
 use super::options::{limits_of, role_of, with_limits, with_role};
@@ -10,7 +8,6 @@ use clap::{Arg, ArgAction, ArgMatches, Command, value_parser};
 use hex::FromHex;
 use std::alloc::{AllocError, Global};
 use wsn_job::{How, Job};
-use wsn_wire::Role;
 
 /// The command that cuts a stream again.
 pub fn recut<'a>(alloc: Global) -> Result<Command<'a>, AllocError> {
@@ -72,37 +69,22 @@ pub fn recut_of(alloc: Global, matches: &ArgMatches<'_>) -> Result<Request, Usag
             limits,
             plan: String::from_str(alloc, plan)?,
         })),
-        (None, Some(size)) => {
-            let how = by_size(role, size, weave, key)?;
-            Ok(Request::Run(Job::Recut(role, limits, how)))
-        }
+        (None, Some(size)) => match How::by_size(role, size, weave, key_of(key)?) {
+            Some(how) => Ok(Request::Run(Job::Recut(role, limits, how))),
+            None => Err(Usage::Own),
+        },
         _ => Err(Usage::Own),
     }
 }
 
-/// Frames of one size, and their key as it is spelled.
-fn by_size(role: Role, size: u32, weave: bool, key: Option<&str>) -> Result<How, Usage>
-    ensures { IfOk result (MayCut role) }
-{
-    if size == 0 {
-        return Err(Usage::Own);
-    }
-    let key = key_of(role, key)?;
-    Ok(How::BySize { size, weave, key })
-}
-
-/// The key of each frame: of zeros for a client that spells none, and none for a server.
-fn key_of(role: Role, digits: Option<&str>) -> Result<Option<[u8; 4]>, Usage>
-    ensures { IfOk result (λ key. IsSome key ↔ (role ≡ Client)) }
-{
-    match (role, digits) {
-        (Role::Client, None) => Ok(Some([0; 4])),
-        (Role::Client, Some(digits)) => match <[u8; 4] as FromHex>::from_hex(digits.as_bytes()) {
-            Ok(key) => Ok(Some(key)),
-            Err(_) => Err(Usage::Own),
-        },
-        (Role::Server, None) => Ok(None),
-        (Role::Server, Some(_)) => Err(Usage::Own),
+/// The key that these digits spell, if a key is asked for.
+fn key_of(digits: Option<&str>) -> Result<Option<[u8; 4]>, Usage> {
+    let Some(digits) = digits else {
+        return Ok(None);
+    };
+    match <[u8; 4] as FromHex>::from_hex(digits.as_bytes()) {
+        Ok(key) => Ok(Some(key)),
+        Err(_) => Err(Usage::Own),
     }
 }
 

@@ -1,9 +1,11 @@
 ghost use Rattle.std.specs.Prelude.{IfSome};
-ghost use Rattle.wsn.specs.PlanFiles.{IsPlanOfFile};
+ghost use Rattle.wsn_plan.specs.PlanFiles.{IsPlanOfFile};
 
+use crate::plan::Plan;
+use crate::plan_fault::PlanFault;
+use crate::reading_plans::read_plan;
 use std::alloc::Allocator;
 use std::io::{self, ErrorKind, Read};
-use wsn_plan::{Plan, PlanFault, read_plan};
 
 /// The most bytes of a plan file.
 const MOST: usize = 67_108_864;
@@ -22,7 +24,7 @@ pub enum PlanFileFault {
 impl From<io::Error> for PlanFileFault {
     ghost use Rattle.std.specs.Prelude.{◌≡◌, ◌⊎◌};
     ghost use Rattle.wsn_plan.specs.declared.plan_fault.PlanFault.TheVariants.{Memory};
-    ghost use Rattle.wsn.specs.declared.plan_files.PlanFileFault.TheVariants.{Faulty, Unread};
+    ghost use Rattle.wsn_plan.specs.declared.plan_files.PlanFileFault.TheVariants.{Faulty, Unread};
 
     ghost from_gives = { λ _ fault. (fault ≡ Unread) ⊎ (fault ≡ Faulty Memory) };
 

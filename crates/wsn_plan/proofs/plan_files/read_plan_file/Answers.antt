@@ -1,6 +1,6 @@
 use Rattle.std.proofs.Common.{rules}
-use Rattle.wsn.proofs.PlanTexts.{read_as, spelled, faulty}
-use Rattle.wsn.proofs.plan_files.read_plan_file.Goals as goal
+use Rattle.wsn_plan.proofs.PlanFiles.{read_as, spelled, faulty}
+use Rattle.wsn_plan.proofs.plan_files.read_plan_file.Goals as goal
 
 pub returns-in-Ok : goal.returns-in-Ok
 returns-in-Ok g c =

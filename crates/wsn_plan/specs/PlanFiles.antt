@@ -3,8 +3,8 @@ use Rattle.std.specs.Prelude.{ℕ, ◌<◌, ◌≤◌, List, Result, Ok, Err, le
 use Rattle.wsn_rules.specs.declared.step.Step.{Step}
 use Rattle.wsn_plan.specs.declared.plan_fault.PlanFault.TheVariants.{Line}
 use Rattle.wsn_plan.specs.PlanText.{SpellsPlan, IsFirstFault}
-use Rattle.wsn.specs.declared.plan_files.PlanFileFault.{PlanFileFault}
-use Rattle.wsn.specs.declared.plan_files.PlanFileFault.TheVariants.{TooLong, Faulty}
+use Rattle.wsn_plan.specs.declared.plan_files.PlanFileFault.{PlanFileFault}
+use Rattle.wsn_plan.specs.declared.plan_files.PlanFileFault.TheVariants.{TooLong, Faulty}
 
 -- The plan that these bytes of a file spell, or their first fault; or that they are more than 2^26.
 abbrev pub IsPlanOfFile : List ℕ → Result (List Step) PlanFileFault → Type 0

@@ -6,8 +6,8 @@ use Rattle.wsn_rules.specs.declared.step.Step.{Step}
 use Rattle.wsn_plan.specs.declared.plan_fault.PlanFault.{PlanFault}
 use Rattle.wsn_plan.specs.declared.plan_fault.PlanFault.TheVariants.{Memory, Line}
 use Rattle.wsn_plan.specs.PlanText.{SpellsPlan, IsFirstFault, IsReadPlan}
-use Rattle.wsn.specs.PlanFiles.{IsPlanOfFile}
-use Rattle.wsn.specs.declared.plan_files.PlanFileFault.TheVariants.{Faulty}
+use Rattle.wsn_plan.specs.PlanFiles.{IsPlanOfFile}
+use Rattle.wsn_plan.specs.declared.plan_files.PlanFileFault.TheVariants.{Faulty}
 
 fits : (most : ℕ) (bytes : List ℕ) → length (take (most + 1) bytes) ≤ most → length bytes ≤ most
 fits most bytes short = elim (cases_lt (length bytes) (most + 1)) [
