@@ -1,14 +1,14 @@
 //! How a stream may end: cut short behind each byte, with more behind a refusal, and not at all.
 
-use crate::doubles::{Chopped, Endless, READS};
-use crate::engines::judged;
 use crate::every_way::expect_stream;
-use crate::lines::answer_line;
-use crate::rows::{Stream, greatest, streams};
 use std::alloc::Global;
 use std::process::Abort;
 use std::test::Fail;
 use wsn_canon::normalise;
+use wsn_doubles::engines::judged;
+use wsn_doubles::lines::answer_line;
+use wsn_doubles::readers::{Chopped, Endless, READS};
+use wsn_doubles::rows::{Stream, greatest, streams};
 use wsn_scan::{Limits, MESSAGE_MAX, Stop, Verdict, judge, list};
 use wsn_wire::{Input, Output, Role};
 

@@ -1,11 +1,11 @@
 //! `put_event` and `is_lawful`: the examples of RFC 6455 section 5.7, each spelling of a length, a close, and a write
 //! that fails.
 
-use crate::doubles::{Full, Narrow};
 use std::alloc::Global;
 use std::process::Abort;
 use std::test::Fail;
 use wsn_canon::{Event, Small, is_lawful, put_event};
+use wsn_doubles::writers::{Full, Narrow};
 use wsn_scan::Stop;
 use wsn_wire::{Kind, Output, Role};
 

@@ -1,12 +1,15 @@
 //! `wsn frames`: the lines of the frames and of the verdict on standard output, and the status, with no memory to be
 //! had.
 
-use crate::doubles::{Chopped, FULL, Full, Narrow, heap_of};
-use crate::engines::listed;
-use crate::lines::{answer_line, listing};
-use crate::outcomes::outcome_on;
-use crate::rows::streams;
+use crate::expecting::expect_outcome;
 use std::test::Fail;
+use wsn_doubles::engines::listed;
+use wsn_doubles::heaps::heap_of;
+use wsn_doubles::lines::{answer_line, listing};
+use wsn_doubles::outcomes::outcome_on;
+use wsn_doubles::readers::Chopped;
+use wsn_doubles::rows::streams;
+use wsn_doubles::writers::{FULL, Full, Narrow};
 use wsn_job::Job;
 
 #[test]
@@ -23,7 +26,7 @@ fn frames_are_printed_before_the_verdict(rt: HostRuntime) -> Result<(), Fail> {
             &[]
         };
         let lines = listing(alloc, stream)?;
-        done.expect(&rt, stream.status(), lines.as_bytes(), said);
+        expect_outcome(&rt, &done, stream.status(), lines.as_bytes(), said);
     }
     Ok(())
 }
@@ -36,7 +39,7 @@ fn a_failed_read_is_told_in_one_line(rt: HostRuntime) -> Result<(), Fail> {
         let job = Job::Frames(stream.role, stream.limits);
         let reader = Chopped::breaking(&[], 1);
         let done = outcome_on(&heap, alloc, &job, reader, Narrow::wide(alloc));
-        done.expect(&rt, 2, &[], b"read failed\n");
+        expect_outcome(&rt, &done, 2, &[], b"read failed\n");
     }
     Ok(())
 }
@@ -51,7 +54,7 @@ fn a_failed_write_is_told_in_one_line(rt: HostRuntime) -> Result<(), Fail> {
             let reader = Chopped::new(stream.bytes.as_slice(), usize::MAX);
             let writer = Narrow::new(alloc, 1, 0, full);
             let done = outcome_on(&heap, alloc, &job, reader, writer);
-            done.expect(&rt, 2, &[], b"write failed\n");
+            expect_outcome(&rt, &done, 2, &[], b"write failed\n");
         }
     }
     Ok(())

@@ -1,15 +1,14 @@
 //! Readers that are interrupted or would block, and would go on at the next call: any error counts, and nothing is
 //! tried again.
 
-use crate::doubles::Chopped;
-use crate::engines::{Sizes, compared, judged, listed, normalised, recut_uniformly};
-use crate::lines::{answer_line, compared_line, recut_line};
-use crate::rows::{Stream, stream_named, streams};
-use crate::stops::line_behind;
 use std::alloc::Global;
 use std::io::ErrorKind;
 use std::process::Abort;
 use std::test::Fail;
+use wsn_doubles::engines::{Sizes, compared, judged, listed, normalised, recut_uniformly};
+use wsn_doubles::lines::{answer_line, compared_line, recut_line};
+use wsn_doubles::readers::Chopped;
+use wsn_doubles::rows::{Stream, line_behind, stream_named, streams};
 use wsn_scan::judge;
 use wsn_wire::Input;
 

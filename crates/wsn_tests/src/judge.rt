@@ -1,9 +1,12 @@
 //! `wsn judge`: the verdict's line on standard output and its status, with no memory to be had.
 
-use crate::doubles::{Chopped, FULL, Narrow, heap_of};
-use crate::outcomes::outcome_on;
-use crate::rows::streams;
+use crate::expecting::expect_outcome;
 use std::test::Fail;
+use wsn_doubles::heaps::heap_of;
+use wsn_doubles::outcomes::outcome_on;
+use wsn_doubles::readers::Chopped;
+use wsn_doubles::rows::streams;
+use wsn_doubles::writers::{FULL, Narrow};
 use wsn_job::Job;
 
 #[test]
@@ -17,9 +20,9 @@ fn each_verdict_is_printed(rt: HostRuntime) -> Result<(), Fail> {
         let verdict = stream.verdict;
         let line = format!(in alloc; "{verdict}\n")?;
         if stream.is_too_long() {
-            done.expect(&rt, 2, &[], line.as_bytes());
+            expect_outcome(&rt, &done, 2, &[], line.as_bytes());
         } else {
-            done.expect(&rt, stream.status(), line.as_bytes(), &[]);
+            expect_outcome(&rt, &done, stream.status(), line.as_bytes(), &[]);
         }
     }
     Ok(())
@@ -33,7 +36,7 @@ fn a_failed_read_is_told_in_one_line(rt: HostRuntime) -> Result<(), Fail> {
         let job = Job::Judge(stream.role, stream.limits);
         let reader = Chopped::breaking(&[], 1);
         let done = outcome_on(&heap, alloc, &job, reader, Narrow::wide(alloc));
-        done.expect(&rt, 2, &[], b"read failed\n");
+        expect_outcome(&rt, &done, 2, &[], b"read failed\n");
     }
     Ok(())
 }
@@ -52,7 +55,13 @@ fn a_failed_write_is_told_in_one_line(rt: HostRuntime) -> Result<(), Fail> {
             let writer = Narrow::new(alloc, 1, 1, full);
             let done = outcome_on(&heap, alloc, &job, reader, writer);
             let verdict = stream.verdict.as_bytes();
-            done.expect(&rt, 2, &verdict[..1.min(verdict.len())], b"write failed\n");
+            expect_outcome(
+                &rt,
+                &done,
+                2,
+                &verdict[..1.min(verdict.len())],
+                b"write failed\n",
+            );
         }
     }
     Ok(())

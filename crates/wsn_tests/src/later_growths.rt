@@ -1,16 +1,19 @@
 //! Memory that is refused at a later growth, of a message that comes in pieces and of a second message: what came
 //! before is kept, and nothing is answered in its place.
 
-use crate::doubles::{BLOCK, Chopped, Narrow, heap_of};
-use crate::engines::{compared, normalised};
-use crate::lines::{answer_line, compared_line};
-use crate::outcomes::compared_on;
-use crate::rows::{SERVER, Stream, filled, greatest};
+use crate::expecting::expect_outcome;
 use crate::source::{expect_again, last_line};
 use std::alloc::Global;
 use std::process::Abort;
 use std::test::Fail;
 use wsn_canon::{Event, Next, Source};
+use wsn_doubles::engines::{compared, normalised};
+use wsn_doubles::heaps::{BLOCK, heap_of};
+use wsn_doubles::lines::{answer_line, compared_line};
+use wsn_doubles::outcomes::compared_on;
+use wsn_doubles::readers::Chopped;
+use wsn_doubles::rows::{SERVER, Stream, filled, greatest};
+use wsn_doubles::writers::Narrow;
 use wsn_wire::{Input, Role};
 
 /// Heaps of fewer blocks than this are tried, and the last has memory for all that is tried.
@@ -154,11 +157,11 @@ fn comparing_tells_it(rt: HostRuntime) -> Result<(), Fail> {
         let writer = Narrow::wide(alloc);
         let done = compared_on(&heap, alloc, greatest()?, one, other, writer);
         if line.as_str() == "out of memory" {
-            done.expect(&rt, 2, &[], b"out of memory\n");
+            expect_outcome(&rt, &done, 2, &[], b"out of memory\n");
         } else {
             assert_eq!(rt; line.as_str(), "different 1");
             assert_eq!(rt; most_messages(blocks), 2);
-            done.expect(&rt, 1, b"different 1\n", &[]);
+            expect_outcome(&rt, &done, 1, b"different 1\n", &[]);
             served = served.saturating_add(1);
         }
     }

@@ -1,17 +1,20 @@
 //! Memory that is refused, one growth after another: each call then answers that, and nothing in its place. Where
 //! there is enough it answers what it does elsewhere.
 
-use crate::doubles::{BLOCK, Chopped, Narrow, heap_of};
-use crate::engines::compared;
-use crate::lines::{answer_line, compared_line};
-use crate::outcomes::{compared_on, outcome_on};
-use crate::rows::{filled, greatest, stream_named};
+use crate::expecting::expect_outcome;
 use crate::same::PAIRS;
 use crate::source::{expect_again, last_line};
 use std::alloc::{Allocator, Global};
 use std::process::Abort;
 use std::test::Fail;
 use wsn_canon::{Next, Source, normalise};
+use wsn_doubles::engines::compared;
+use wsn_doubles::heaps::{BLOCK, heap_of};
+use wsn_doubles::lines::{answer_line, compared_line};
+use wsn_doubles::outcomes::{compared_on, outcome_on};
+use wsn_doubles::readers::Chopped;
+use wsn_doubles::rows::{filled, greatest, stream_named};
+use wsn_doubles::writers::Narrow;
 use wsn_job::Job;
 use wsn_wire::{Input, Output, Role};
 
@@ -140,9 +143,9 @@ fn the_command_tells_it(rt: HostRuntime) -> Result<(), Fail> {
             let reader = Chopped::new(growing.bytes, 1);
             let done = outcome_on(&heap, alloc, &job, reader, Narrow::wide(alloc));
             if room > 0 {
-                done.expect(&rt, 0, growing.normal, &[]);
+                expect_outcome(&rt, &done, 0, growing.normal, &[]);
             } else {
-                done.expect(&rt, 2, growing.before, b"out of memory\n");
+                expect_outcome(&rt, &done, 2, growing.before, b"out of memory\n");
             }
         }
     }
@@ -163,9 +166,9 @@ fn a_later_growth_is_refused_alike(rt: HostRuntime) -> Result<(), Fail> {
         is_served = done.status == 0;
         assert!(rt; !is_served || blocks * BLOCK >= 60);
         if is_served {
-            done.expect(&rt, 0, bytes.as_slice(), &[]);
+            expect_outcome(&rt, &done, 0, bytes.as_slice(), &[]);
         } else {
-            done.expect(&rt, 2, &[0x89, 0x00], b"out of memory\n");
+            expect_outcome(&rt, &done, 2, &[0x89, 0x00], b"out of memory\n");
         }
     }
     assert!(rt; is_served);
@@ -206,11 +209,11 @@ fn the_command_that_compares_tells_it(rt: HostRuntime) -> Result<(), Fail> {
                 Narrow::wide(alloc),
             );
             if room < pair.messages {
-                done.expect(&rt, 2, &[], b"out of memory\n");
+                expect_outcome(&rt, &done, 2, &[], b"out of memory\n");
             } else {
                 let line = pair.line;
                 let printed = format!(in alloc; "{line}\n")?;
-                done.expect(&rt, pair.status(), printed.as_bytes(), &[]);
+                expect_outcome(&rt, &done, pair.status(), printed.as_bytes(), &[]);
             }
         }
     }
@@ -227,7 +230,7 @@ fn controls_ask_for_none(rt: HostRuntime) -> Result<(), Fail> {
         let job = Job::Normal(stream.role, stream.limits);
         let reader = Chopped::new(stream.bytes.as_slice(), 4_096);
         let done = outcome_on(&heap, alloc, &job, reader, Narrow::wide(alloc));
-        done.expect(&rt, 0, stream.normal.as_slice(), &[]);
+        expect_outcome(&rt, &done, 0, stream.normal.as_slice(), &[]);
     }
     Ok(())
 }

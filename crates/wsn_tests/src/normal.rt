@@ -1,11 +1,13 @@
 //! `wsn normal`: the normal form on standard output, a verdict that isn't accepted on standard error, and the status.
 
-use crate::doubles::{Chopped, FULL, Full, Narrow};
-use crate::engines::normalised;
-use crate::lines::answer_line;
-use crate::outcomes::outcome_on;
-use crate::rows::streams;
+use crate::expecting::expect_outcome;
 use std::test::Fail;
+use wsn_doubles::engines::normalised;
+use wsn_doubles::lines::answer_line;
+use wsn_doubles::outcomes::outcome_on;
+use wsn_doubles::readers::Chopped;
+use wsn_doubles::rows::streams;
+use wsn_doubles::writers::{FULL, Full, Narrow};
 use wsn_job::Job;
 
 #[test]
@@ -22,7 +24,7 @@ fn normal_forms_are_written_and_other_verdicts_told(rt: HostRuntime) -> Result<(
         } else {
             line.as_bytes()
         };
-        done.expect(&rt, stream.status(), stream.normal.as_slice(), said);
+        expect_outcome(&rt, &done, stream.status(), stream.normal.as_slice(), said);
     }
     Ok(())
 }
@@ -34,7 +36,7 @@ fn a_failed_read_is_told_in_one_line(rt: HostRuntime) -> Result<(), Fail> {
         let job = Job::Normal(stream.role, stream.limits);
         let reader = Chopped::breaking(&[], 1);
         let done = outcome_on(alloc, alloc, &job, reader, Narrow::wide(alloc));
-        done.expect(&rt, 2, &[], b"read failed\n");
+        expect_outcome(&rt, &done, 2, &[], b"read failed\n");
     }
     Ok(())
 }
@@ -51,7 +53,7 @@ fn a_failed_write_is_told_in_one_line(rt: HostRuntime) -> Result<(), Fail> {
             let reader = Chopped::new(stream.bytes.as_slice(), usize::MAX);
             let writer = Narrow::new(alloc, 1, 1, full);
             let done = outcome_on(alloc, alloc, &job, reader, writer);
-            done.expect(&rt, 2, &stream.normal[..1], b"write failed\n");
+            expect_outcome(&rt, &done, 2, &stream.normal[..1], b"write failed\n");
         }
     }
     Ok(())

@@ -1,13 +1,13 @@
 //! A real peer, the kit's `tungstenite`: its server reads what is written here, and what it writes is read here.
 
-use crate::doubles::Chopped;
-use crate::engines::{Sizes, compared, recut_uniformly};
-use crate::lines::{compared_line, recut_line};
-use crate::rows::{filled, greatest};
 use std::alloc::Global;
 use std::process::Abort;
 use std::test::Fail;
 use tungstenite::{CloseCode, CloseFrame, Duplex, Message, NoMask, Utf8Bytes, WebSocket};
+use wsn_doubles::engines::{Sizes, compared, recut_uniformly};
+use wsn_doubles::lines::{compared_line, recut_line};
+use wsn_doubles::readers::Chopped;
+use wsn_doubles::rows::{filled, greatest};
 use wsn_wire::Role;
 
 /// A server that reads these bytes, and keeps what it writes.

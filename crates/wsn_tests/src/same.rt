@@ -1,12 +1,14 @@
 //! `wsn same`: streams that mean the same, streams that don't, and streams that aren't accepted; the line on standard
 //! output, and the status.
 
-use crate::doubles::{Chopped, FULL, Narrow, READS};
-use crate::engines::compared;
-use crate::lines::compared_line;
-use crate::outcomes::compared_on;
-use crate::rows::{greatest, streams};
+use crate::expecting::expect_outcome;
 use std::test::Fail;
+use wsn_doubles::engines::compared;
+use wsn_doubles::lines::compared_line;
+use wsn_doubles::outcomes::compared_on;
+use wsn_doubles::readers::{Chopped, READS};
+use wsn_doubles::rows::{greatest, streams};
+use wsn_doubles::writers::{FULL, Narrow};
 use wsn_scan::{Limits, MESSAGE_MAX};
 use wsn_wire::Role;
 
@@ -145,7 +147,7 @@ fn the_answer_is_printed(rt: HostRuntime) -> Result<(), Fail> {
         let printed = format!(in alloc; "{line}\n")?;
         let (first, second) = (pair.first_reader(), pair.second_reader());
         let done = compared_on(alloc, alloc, limits, first, second, Narrow::wide(alloc));
-        done.expect(&rt, pair.status(), printed.as_bytes(), &[]);
+        expect_outcome(&rt, &done, pair.status(), printed.as_bytes(), &[]);
     }
     Ok(())
 }
@@ -162,7 +164,13 @@ fn a_failed_write_is_told_in_one_line(rt: HostRuntime) -> Result<(), Fail> {
                 let (first, second) = (pair.first_reader(), pair.second_reader());
                 let writer = Narrow::new(alloc, 1, room, full);
                 let done = compared_on(alloc, alloc, limits, first, second, writer);
-                done.expect(&rt, 2, &printed.as_bytes()[..room], b"write failed\n");
+                expect_outcome(
+                    &rt,
+                    &done,
+                    2,
+                    &printed.as_bytes()[..room],
+                    b"write failed\n",
+                );
             }
         }
     }
@@ -198,7 +206,7 @@ fn a_stop_of_either_is_told_in_one_line(rt: HostRuntime) -> Result<(), Fail> {
         ),
     ] {
         let done = compared_on(alloc, alloc, limits, first, second, Narrow::wide(alloc));
-        done.expect(&rt, 2, &[], said.as_bytes());
+        expect_outcome(&rt, &done, 2, &[], said.as_bytes());
     }
     Ok(())
 }

@@ -1,9 +1,9 @@
 //! The scanner: what each call takes of a stream and tells of it, and all that it tells of a stream in pieces.
 
-use crate::lines::{frame_line, verdict_line};
-use crate::rows::{Stream, greatest};
 use std::alloc::Global;
 use std::test::Fail;
+use wsn_doubles::lines::{frame_line, verdict_line};
+use wsn_doubles::rows::{Stream, greatest};
 use wsn_scan::{Notice, Scan};
 use wsn_wire::Role;
 

@@ -1,13 +1,13 @@
 //! `Source`: the events of streams that are written out, whatever a read gives, how much of an open message it holds,
 //! and what it answers behind its end.
 
-use crate::doubles::{Chopped, READS};
-use crate::lines::verdict_line;
-use crate::rows::{filled, stream_named};
 use std::alloc::{AllocError, Allocator, Global};
 use std::process::Abort;
 use std::test::Fail;
 use wsn_canon::{Event, Next, Source};
+use wsn_doubles::lines::verdict_line;
+use wsn_doubles::readers::{Chopped, READS};
+use wsn_doubles::rows::{filled, stream_named};
 use wsn_scan::{INPUT_MAX, Limits, MESSAGE_MAX, Stop};
 use wsn_wire::{Input, Kind, Role};
 

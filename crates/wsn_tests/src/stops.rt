@@ -1,11 +1,12 @@
 //! What ends an engine's work before its verdict: readers and writers that fail, behind each byte; and a stop's words.
 
-use crate::doubles::{Chopped, FULL, Full, Narrow, READS};
-use crate::engines::{compared, judged, listed, normalised};
-use crate::lines::{answer_line, compared_line, listing};
-use crate::rows::{Stream, filled, greatest, stream_named, streams};
 use crate::same::PAIRS;
 use std::test::Fail;
+use wsn_doubles::engines::{compared, judged, listed, normalised};
+use wsn_doubles::lines::{answer_line, compared_line, listing};
+use wsn_doubles::readers::{Chopped, READS};
+use wsn_doubles::rows::{Stream, filled, greatest, line_behind, stream_named, streams};
+use wsn_doubles::writers::{FULL, Full, Narrow};
 use wsn_scan::Stop;
 use wsn_wire::Role;
 
@@ -21,15 +22,6 @@ fn words_of_a_stop(rt: HostRuntime) -> Result<(), Fail> {
         assert_eq!(rt; printed.as_str(), words);
     }
     Ok(())
-}
-
-/// The line of the answer where a read fails behind these first bytes.
-pub fn line_behind(stream: &Stream, front: &[u8]) -> Result<&'static str, Fail> {
-    if stream.is_told_by(front.len())? {
-        Ok(stream.verdict)
-    } else {
-        Ok("read failed")
-    }
 }
 
 #[test]
@@ -231,7 +223,7 @@ fn normalise_tells_a_failed_write(rt: HostRuntime) -> Result<(), Fail> {
 #[test]
 fn normalise_tells_a_failed_write_behind_each_byte(rt: HostRuntime) -> Result<(), Fail> {
     let alloc = rt.alloc();
-    let mut stream = stream_named(alloc, "1.a")?;
+    let mut stream = stream_named(alloc, "an empty text")?;
     stream.bytes = filled(alloc, b"\x89\x00\x82\x7e\x10\x68", 0x2a, 4_200)?;
     let rest = filled(alloc, b"\x8a\x01A\x81\x7e\x10\x68", 0x2a, 4_200)?;
     stream.bytes.extend_from_slice(rest.as_slice())?;

@@ -1,11 +1,11 @@
 //! Plan text: what is read of a text, what is written of a plan, and where memory or a write fails.
 
-use crate::doubles::{Full, Narrow};
 use linked_list_allocator::LocalHeap;
 use std::alloc::{Allocator, Global};
 use std::io::Write;
 use std::process::Abort;
 use std::test::Fail;
+use wsn_doubles::writers::{Full, Narrow};
 use wsn_plan::{LineWhy, Plan, PlanFault, Step, read_plan, write_plan};
 use wsn_scan::Stop;
 use wsn_wire::{Form, Output};

@@ -1,17 +1,20 @@
 //! `wsn plan` and `wsn recut`: the plan or the recut on standard output, what keeps the command from it in one line on
 //! standard error, and the status.
 
-use crate::doubles::{Chopped, FULL, Narrow, heap_of};
-use crate::engines::KEY;
-use crate::outcomes::{Outcome, outcome_on};
+use crate::expecting::expect_outcome;
 use crate::plans::PLANNED;
 use crate::recut_faults::{FAULTS, STOPS};
 use crate::recuts::{Cut, FITS};
-use crate::rows::limits_under;
 use crate::uniform_recuts::{CUTS, Cut as SizedCut};
 use std::alloc::{Allocator, Global};
 use std::process::Abort;
 use std::test::Fail;
+use wsn_doubles::engines::KEY;
+use wsn_doubles::heaps::heap_of;
+use wsn_doubles::outcomes::{Outcome, outcome_on};
+use wsn_doubles::readers::Chopped;
+use wsn_doubles::rows::limits_under;
+use wsn_doubles::writers::{FULL, Narrow};
 use wsn_job::{How, Job};
 use wsn_plan::read_plan;
 use wsn_wire::Role;
@@ -38,7 +41,7 @@ fn expect_end(
     } else {
         format!(in alloc; "{line}\n")?
     };
-    done.expect(rt, status_of(line), out, said.as_bytes());
+    expect_outcome(rt, done, status_of(line), out, said.as_bytes());
     Ok(())
 }
 

@@ -1,11 +1,11 @@
 //! What is answered of a capture's text, as text: the report's lines, or why there is none.
 
-use crate::rows::{GREATEST, Under, limits_under};
 use std::alloc::Global;
 use std::io::Read;
 use std::str;
 use std::test::Fail;
 use wsn_capture::{Capture, LineFault, Report, judge_capture, put_report};
+use wsn_doubles::rows::{GREATEST, Under, limits_under};
 use wsn_scan::Limits;
 use wsn_wire::{Input, Output};
 

@@ -1,15 +1,16 @@
 //! Recuts whose reader or writer fails: nothing is written before the input and the plan are checked whole.
 
-use crate::doubles::{Chopped, FULL, Full, Narrow};
-use crate::engines::{Sizes, recut_by, recut_uniformly};
-use crate::lines::recut_line;
+use crate::expecting::expect_line;
 use crate::recuts::FITS;
-use crate::rows::{Stream, limits_under, streams};
-use crate::stops::line_behind;
 use crate::uniform_recuts::CUTS;
 use std::alloc::Global;
 use std::process::Abort;
 use std::test::Fail;
+use wsn_doubles::engines::{Sizes, recut_by, recut_uniformly};
+use wsn_doubles::lines::recut_line;
+use wsn_doubles::readers::Chopped;
+use wsn_doubles::rows::{Stream, limits_under, line_behind, streams};
+use wsn_doubles::writers::{FULL, Full, Narrow};
 use wsn_plan::{Plan, read_plan};
 
 /// Fails unless a stream's recut tells this line, and writes nothing.
@@ -27,7 +28,7 @@ fn expect_unwritten(
     let mut out = Vec::new(alloc);
     let answer = recut_uniformly(alloc, stream.role, stream.limits, sizes, reader, &mut out);
     let line = recut_line(alloc, &answer)?;
-    stream.expect_line(rt, line.as_str(), wanted);
+    expect_line(rt, stream, line.as_str(), wanted);
     assert!(rt; out.is_empty());
     Ok(())
 }

@@ -1,9 +1,8 @@
 //! How a payload's length is spelled (RFC 6455 section 5.2).
 
-use crate::every_way::expect_rows;
 use crate::rows::{ANY_LENGTHS, Fill, Row, SERVER};
-use std::test::Fail;
 
+/// The streams of this rule.
 pub static ROWS: [Row; 27] = [
     Row {
         name: "125 in two bytes",
@@ -233,8 +232,3 @@ pub static ROWS: [Row; 27] = [
         ..SERVER
     },
 ];
-
-#[test]
-fn lengths_are_read_alike_in_every_way(rt: HostRuntime) -> Result<(), Fail> {
-    expect_rows(&rt, rt.alloc(), ROWS.as_slice())
-}

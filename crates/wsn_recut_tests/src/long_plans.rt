@@ -1,13 +1,13 @@
 //! Plans of a million steps, and streams of a million frames. Work that grows with the square of these wouldn't end in
 //! the minute that a test has.
 
-use crate::doubles::Chopped;
-use crate::engines::{Sizes, planned, recut_by, recut_uniformly};
-use crate::lines::recut_line;
-use crate::rows::{filled, greatest};
 use std::alloc::Global;
 use std::process::Abort;
 use std::test::Fail;
+use wsn_doubles::engines::{Sizes, planned, recut_by, recut_uniformly};
+use wsn_doubles::lines::recut_line;
+use wsn_doubles::readers::Chopped;
+use wsn_doubles::rows::{filled, greatest};
 use wsn_plan::{Plan, PlanAnswer, read_plan, write_plan};
 use wsn_wire::{Output, Role};
 

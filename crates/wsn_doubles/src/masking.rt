@@ -1,9 +1,8 @@
 //! Who masks: a client each frame, a server none (RFC 6455 section 5.3).
 
-use crate::every_way::expect_rows;
 use crate::rows::{CLIENT, Row, SERVER};
-use std::test::Fail;
 
+/// The streams of this rule.
 pub static ROWS: [Row; 7] = [
     Row {
         name: "a masked frame of a server",
@@ -68,8 +67,3 @@ pub static ROWS: [Row; 7] = [
         ..CLIENT
     },
 ];
-
-#[test]
-fn masks_are_read_alike_in_every_way(rt: HostRuntime) -> Result<(), Fail> {
-    expect_rows(&rt, rt.alloc(), ROWS.as_slice())
-}

@@ -1,9 +1,9 @@
 //! What a command leaves, run over readers and writers of the tests.
 ghost use Rattle.wsn_job.specs.Jobs.{MayRun};
 
-use crate::doubles::{Chopped, Narrow};
+use crate::readers::Chopped;
+use crate::writers::Narrow;
 use std::alloc::{Allocator, Global};
-use std::process::Abort;
 use wsn_job::{Job, run, run_same};
 use wsn_scan::Limits;
 use wsn_wire::{Input, Output, Role};
@@ -14,14 +14,6 @@ pub struct Outcome {
     pub status: u8,
     pub out: Vec<u8>,
     pub said: Vec<u8>,
-}
-
-impl Outcome {
-    pub fn expect(&self, rt: &impl Abort, status: u8, out: &[u8], said: &[u8]) {
-        assert_eq!(rt; self.out.as_slice(), out);
-        assert_eq!(rt; self.said.as_slice(), said);
-        assert_eq!(rt; self.status, status);
-    }
 }
 
 /// Runs a command that takes its memory from this heap.

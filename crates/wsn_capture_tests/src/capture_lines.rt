@@ -1,11 +1,11 @@
 //! The lines of a capture: which aren't taken, which of their faults is told, and the greatest that are.
 
 use crate::capture_answers::{handed, judged_text, limits_of};
-use crate::doubles::{Chopped, Endless, READS};
-use crate::rows::{filled, greatest};
 use std::alloc::Global;
 use std::test::Fail;
 use wsn_capture::{Capture, LineFault, Side};
+use wsn_doubles::readers::{Chopped, Endless, READS};
+use wsn_doubles::rows::{filled, greatest};
 
 /// A text, what is printed of it, and the fault of its first line that isn't taken.
 static FAULTY: [(&str, &str, LineFault); 25] = [

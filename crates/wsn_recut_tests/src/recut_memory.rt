@@ -1,17 +1,18 @@
 //! Plans and recuts where memory is refused, one growth after another: `Memory` and nothing in its place, nothing
 //! written, and a plan that is as it was.
 
-use crate::doubles::{Chopped, fill, heap_of};
-use crate::engines::{recut_by, recut_uniformly};
-use crate::lines::recut_line;
 use crate::recut_faults::{FAULTS, STOPS};
 use crate::recuts::{Cut, FITS};
-use crate::rows::limits_under;
 use crate::uniform_recuts::CUTS;
 use std::alloc::{Allocator, Global};
 use std::process::Abort;
 use std::test::Fail;
 use wsn_canon::Event;
+use wsn_doubles::engines::{recut_by, recut_uniformly};
+use wsn_doubles::heaps::{fill, heap_of};
+use wsn_doubles::lines::recut_line;
+use wsn_doubles::readers::Chopped;
+use wsn_doubles::rows::limits_under;
 use wsn_plan::{Plan, Step, read_plan, uniform};
 use wsn_scan::Stop;
 use wsn_wire::{Form, Kind, Role};

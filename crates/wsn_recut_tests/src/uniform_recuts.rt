@@ -1,15 +1,16 @@
 //! Recuts in frames of one size: the plans of events that are written out, what is written by them, and that it means
 //! what the stream does.
 
-use crate::doubles::{Chopped, READS};
-use crate::engines::{Sizes, compared, recut_uniformly};
-use crate::limits::TWO_FRAMES;
-use crate::lines::{compared_line, recut_line};
-use crate::rows::{GREATEST, Stream, Under, limits_under, streams};
+use crate::expecting::expect_line;
 use std::alloc::Global;
 use std::process::Abort;
 use std::test::Fail;
 use wsn_canon::Event;
+use wsn_doubles::engines::{Sizes, compared, recut_uniformly};
+use wsn_doubles::limits::TWO_FRAMES;
+use wsn_doubles::lines::{compared_line, recut_line};
+use wsn_doubles::readers::{Chopped, READS};
+use wsn_doubles::rows::{GREATEST, Stream, Under, limits_under, streams};
 use wsn_plan::{uniform, write_plan};
 use wsn_wire::{Kind, Output, Role};
 
@@ -146,7 +147,7 @@ fn cut_again(
     let reader = Chopped::new(stream.bytes.as_slice(), usize::MAX);
     let answer = recut_uniformly(alloc, stream.role, stream.limits, sizes, reader, &mut out);
     let line = recut_line(alloc, &answer)?;
-    stream.expect_line(rt, line.as_str(), "done");
+    expect_line(rt, stream, line.as_str(), "done");
     Ok(out)
 }
 
@@ -161,7 +162,7 @@ fn expect_equal(rt: &impl Abort, alloc: Global, stream: &Stream, sizes: Sizes) -
         stream.limits,
     );
     let line = compared_line(alloc, &answer)?;
-    stream.expect_line(rt, line.as_str(), "equal");
+    expect_line(rt, stream, line.as_str(), "equal");
     Ok(())
 }
 

@@ -1,9 +1,8 @@
 //! Close frames, and what may stand behind them (RFC 6455 sections 5.5.1 and 7.4).
 
-use crate::every_way::expect_rows;
 use crate::rows::{Fill, Row, SERVER};
-use std::test::Fail;
 
+/// The streams of this rule.
 pub static ROWS: [Row; 17] = [
     Row {
         name: "an empty Close",
@@ -106,6 +105,7 @@ pub static ROWS: [Row; 17] = [
         name: "a Close behind a Close",
         bytes: &[0x88, 0x00, 0x88, 0x00],
         frames: "0 fin close - 0\n",
+        payload: Some(&[]),
         verdict: "accepted 2 tail 2 unfinished -",
         normal: &[0x88, 0x00],
         ..SERVER
@@ -141,8 +141,3 @@ pub static ROWS: [Row; 17] = [
         ..SERVER
     },
 ];
-
-#[test]
-fn closes_are_read_alike_in_every_way(rt: HostRuntime) -> Result<(), Fail> {
-    expect_rows(&rt, rt.alloc(), ROWS.as_slice())
-}

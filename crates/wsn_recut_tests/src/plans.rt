@@ -1,13 +1,14 @@
 //! The plan of a stream's own frames, and that a recut of the stream's normal form by it is the stream again.
 
-use crate::doubles::{Chopped, READS, heap_of};
-use crate::engines::{planned, recut_by};
-use crate::lines::{planned_line, recut_line};
-use crate::rows::{ANY_LENGTHS, GREATEST, Stream, Under, limits_under, streams};
-use crate::stops::line_behind;
+use crate::expecting::expect_line;
 use std::alloc::{Allocator, Global};
 use std::process::Abort;
 use std::test::Fail;
+use wsn_doubles::engines::{planned, recut_by};
+use wsn_doubles::heaps::heap_of;
+use wsn_doubles::lines::{planned_line, recut_line};
+use wsn_doubles::readers::{Chopped, READS};
+use wsn_doubles::rows::{ANY_LENGTHS, GREATEST, Stream, Under, limits_under, line_behind, streams};
 use wsn_plan::{Plan, PlanAnswer, write_plan};
 use wsn_scan::Stop;
 use wsn_wire::{Output, Role};
@@ -140,7 +141,7 @@ fn expect_restored(
     let reader = Chopped::new(stream.normal.as_slice(), 4_095);
     let answer = recut_by(alloc, stream.role, stream.limits, &plan, reader, &mut out);
     let line = recut_line(alloc, &answer)?;
-    stream.expect_line(rt, line.as_str(), "done");
+    expect_line(rt, stream, line.as_str(), "done");
     let name = stream.name;
     assert!(rt; stream.bytes.starts_with(out.as_slice()), "{name}");
     assert_eq!(rt; out.len(), used(stream)?, "{name}");

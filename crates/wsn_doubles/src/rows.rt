@@ -1,9 +1,7 @@
 //! Rows: streams that are written out, and what every engine must make of them. Each rule's file has its own.
 
-use crate::vectors::vectors;
 use crate::{close, fragmentation, heads, lengths, limits, masking, text};
 use std::alloc::Global;
-use std::process::Abort;
 use std::test::Fail;
 use wsn_scan::{INPUT_MAX, Limits, MESSAGE_MAX};
 use wsn_wire::{Lengths, Role};
@@ -115,6 +113,7 @@ pub struct Stream {
 }
 
 impl Stream {
+    /// A row in memory. Fails where memory does.
     pub fn new(alloc: Global, row: &Row) -> Result<Self, Fail> {
         let Fill {
             byte,
@@ -143,6 +142,7 @@ impl Stream {
         self.verdict == "input limit"
     }
 
+    /// Whether its verdict is that it is accepted.
     pub fn is_accepted(&self) -> bool {
         self.verdict.starts_with("accepted")
     }
@@ -191,18 +191,6 @@ impl Stream {
         }
         Ok(fronts)
     }
-
-    /// Fails unless this line is as it is wanted.
-    pub fn expect_line(&self, rt: &impl Abort, line: &str, wanted: &str) {
-        let name = self.name;
-        assert_eq!(rt; line, wanted, "{name}");
-    }
-
-    /// Fails unless this is the line of its verdict.
-    pub fn expect(&self, rt: &impl Abort, line: &str, how: &str, size: usize) {
-        let name = self.name;
-        assert_eq!(rt; line, self.verdict, "{name}: {how} {size}");
-    }
 }
 
 /// The first bytes, and one byte so many times behind them.
@@ -214,7 +202,7 @@ pub fn filled(alloc: Global, first: &[u8], byte: u8, count: usize) -> Result<Vec
     Ok(bytes)
 }
 
-/// All rows and vectors, in memory.
+/// All rows, in memory.
 pub fn streams(alloc: Global) -> Result<Vec<Stream>, Fail> {
     let mut streams = Vec::new(alloc);
     for rows in [
@@ -230,9 +218,6 @@ pub fn streams(alloc: Global) -> Result<Vec<Stream>, Fail> {
             streams.push(Stream::new(alloc, row)?)?;
         }
     }
-    for vector in vectors(alloc)? {
-        streams.push(vector)?;
-    }
     Ok(streams)
 }
 
@@ -244,4 +229,13 @@ pub fn stream_named(alloc: Global, name: &str) -> Result<Stream, Fail> {
         }
     }
     Err("no such row")?
+}
+
+/// The line of the answer where a read fails behind these first bytes.
+pub fn line_behind(stream: &Stream, front: &[u8]) -> Result<&'static str, Fail> {
+    if stream.is_told_by(front.len())? {
+        Ok(stream.verdict)
+    } else {
+        Ok("read failed")
+    }
 }

@@ -1,9 +1,9 @@
 //! Recuts that write nothing: plans that don't fit, with their first wrong step and why, and streams that have no
 //! recut, whatever the plan.
 
-use crate::limits::{INPUT_OF_4, ONE_FRAME, TWO_FRAMES};
 use crate::recuts::{Cut, PING_HELLO, expect_cut};
 use std::test::Fail;
+use wsn_doubles::limits::{INPUT_OF_4, ONE_FRAME, TWO_FRAMES};
 use wsn_wire::Role;
 
 /// Plans that don't fit.

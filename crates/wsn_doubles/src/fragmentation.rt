@@ -1,9 +1,8 @@
 //! Messages in fragments, and controls between them (RFC 6455 section 5.4).
 
-use crate::every_way::expect_rows;
 use crate::rows::{Fill, Row, SERVER};
-use std::test::Fail;
 
+/// The streams of this rule.
 pub static ROWS: [Row; 11] = [
     Row {
         name: "a last fragment of nothing",
@@ -48,6 +47,7 @@ pub static ROWS: [Row; 11] = [
         name: "a text of three empty fragments",
         bytes: &[0x01, 0x00, 0x00, 0x00, 0x80, 0x00],
         frames: "0 more text - 0\n2 more cont - 0\n4 fin cont - 0\n",
+        payload: Some(&[]),
         verdict: "accepted 6 tail 0 unfinished -",
         normal: &[0x81, 0x00],
         ..SERVER
@@ -56,6 +56,7 @@ pub static ROWS: [Row; 11] = [
         name: "a ping between two fragments",
         bytes: &[0x01, 0x01, 0x41, 0x89, 0x00, 0x80, 0x01, 0x42],
         frames: "0 more text - 1\n3 fin ping - 0\n5 fin cont - 1\n",
+        payload: Some(&[0x41, 0x42]),
         verdict: "accepted 8 tail 0 unfinished -",
         normal: &[0x89, 0x00, 0x81, 0x02, 0x41, 0x42],
         ..SERVER
@@ -98,8 +99,3 @@ pub static ROWS: [Row; 11] = [
         ..SERVER
     },
 ];
-
-#[test]
-fn fragments_are_read_alike_in_every_way(rt: HostRuntime) -> Result<(), Fail> {
-    expect_rows(&rt, rt.alloc(), ROWS.as_slice())
-}

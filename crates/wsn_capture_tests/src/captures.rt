@@ -1,10 +1,10 @@
 //! Captures: what is reported of both sides, in the lines that are printed.
 
 use crate::capture_answers::{cut_small, handed, judged_text, limits_of, report_text};
-use crate::doubles::{Chopped, READS};
-use crate::rows::greatest;
 use std::test::Fail;
 use wsn_capture::{Capture, LineFault, Outcome, Side};
+use wsn_doubles::readers::{Chopped, READS};
+use wsn_doubles::rows::greatest;
 use wsn_scan::INPUT_MAX;
 use wsn_wire::Role;
 

@@ -1,6 +1,6 @@
 //! The engines, each over a row's stream and a reader of the tests.
 
-use crate::doubles::Chopped;
+use crate::readers::Chopped;
 use crate::rows::Stream;
 use std::alloc::Allocator;
 use std::io::Write;
@@ -9,10 +9,12 @@ use wsn_plan::{Plan, PlanAnswer, RecutAnswer, plan_of, recut, recut_uniform};
 use wsn_scan::{Limits, Stop, Verdict, judge, list};
 use wsn_wire::{Input, Output, Role};
 
+/// What `judge` answers.
 pub fn judged(stream: &Stream, mut reader: Chopped) -> Result<Verdict, Stop> {
     judge(&mut Input::new(&mut reader), stream.role, stream.limits)
 }
 
+/// What `list` answers and writes.
 pub fn listed<W: Write>(
     stream: &Stream,
     mut reader: Chopped,
@@ -26,6 +28,7 @@ pub fn listed<W: Write>(
     )
 }
 
+/// What `normalise` answers and writes, with memory from this heap.
 pub fn normalised<A: Allocator + Copy, W: Write>(
     heap: A,
     stream: &Stream,
@@ -41,6 +44,7 @@ pub fn normalised<A: Allocator + Copy, W: Write>(
     )
 }
 
+/// What `same` answers of what two readers give, with memory from this heap.
 pub fn compared<A: Allocator + Copy>(
     heap: A,
     mut first: Chopped,
@@ -57,6 +61,7 @@ pub fn compared<A: Allocator + Copy>(
     )
 }
 
+/// What `plan_of` answers, with memory from this heap.
 pub fn planned<A: Allocator + Copy>(
     heap: A,
     role: Role,
@@ -66,6 +71,7 @@ pub fn planned<A: Allocator + Copy>(
     plan_of(heap, &mut Input::new(&mut reader), role, limits)
 }
 
+/// What a recut by this plan answers and writes, with memory from this heap.
 pub fn recut_by<A: Allocator + Copy, W: Write>(
     heap: A,
     role: Role,
@@ -94,6 +100,7 @@ pub struct Sizes {
     pub weave: bool,
 }
 
+/// What a recut in frames of one size answers and writes, with memory from this heap.
 pub fn recut_uniformly<A: Allocator + Copy, W: Write>(
     heap: A,
     role: Role,

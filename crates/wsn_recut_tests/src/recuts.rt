@@ -1,12 +1,12 @@
 //! Recuts by a plan that fits: what is written.
 
-use crate::doubles::{Chopped, READS};
-use crate::engines::recut_by;
-use crate::lines::recut_line;
-use crate::rows::{ANY_LENGTHS, GREATEST, Under, filled, limits_under, stream_named};
 use std::alloc::Global;
 use std::process::Abort;
 use std::test::Fail;
+use wsn_doubles::engines::recut_by;
+use wsn_doubles::lines::recut_line;
+use wsn_doubles::readers::{Chopped, READS};
+use wsn_doubles::rows::{ANY_LENGTHS, GREATEST, Under, filled, limits_under, stream_named};
 use wsn_plan::read_plan;
 use wsn_wire::Role;
 

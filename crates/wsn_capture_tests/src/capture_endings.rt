@@ -1,10 +1,11 @@
 //! Captures whose reader fails, and reports whose writer does.
 
 use crate::capture_answers::{judged_text, report_text};
-use crate::doubles::{Chopped, FULL, Narrow, READS};
-use crate::rows::greatest;
 use std::test::Fail;
 use wsn_capture::{CaptureStop, LineFault, judge_capture, put_report};
+use wsn_doubles::readers::{Chopped, READS};
+use wsn_doubles::rows::greatest;
+use wsn_doubles::writers::{FULL, Narrow};
 use wsn_scan::{Limits, Stop};
 use wsn_wire::{Input, Output};
 

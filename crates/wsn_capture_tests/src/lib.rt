@@ -1,0 +1,14 @@
+//! Tests of captures, and of the reports on both sides of a connection. Nothing here is a library.
+//!
+//! `captures` is of what is reported of a capture, `capture_lines` of its lines, `capture_endings` of where its reader
+//! or a report's writer fails, and `capture_answers` says how both are run.
+#![tactic(auto)]
+
+#[cfg(test)]
+mod capture_answers;
+#[cfg(test)]
+mod capture_endings;
+#[cfg(test)]
+mod capture_lines;
+#[cfg(test)]
+mod captures;

@@ -1,0 +1,31 @@
+//! Tests of plans and recuts, and of the commands `plan` and `recut`. Nothing here is a library.
+//!
+//! Plans: `plan_text` is of their text, `plans` of the plan of a stream's own frames. Recuts: `recuts` by plans that
+//! fit, `recut_faults` by plans that don't, `uniform_recuts` in frames of one size, and `long_plans` in a million.
+//! `plan_commands` is of both commands.
+//!
+//! Hostile use: `recut_stops` is of readers and writers that fail, `recut_memory` of memory that is refused.
+//!
+//! `expecting` asserts what is wanted of a command's run and of a stream's line.
+#![tactic(auto)]
+
+#[cfg(test)]
+mod expecting;
+#[cfg(test)]
+mod long_plans;
+#[cfg(test)]
+mod plan_commands;
+#[cfg(test)]
+mod plan_text;
+#[cfg(test)]
+mod plans;
+#[cfg(test)]
+mod recut_faults;
+#[cfg(test)]
+mod recut_memory;
+#[cfg(test)]
+mod recut_stops;
+#[cfg(test)]
+mod recuts;
+#[cfg(test)]
+mod uniform_recuts;

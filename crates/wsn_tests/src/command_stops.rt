@@ -1,0 +1,176 @@
+//! Commands whose reader or writer fails, behind each byte of a stream of three frames: what was due before went out,
+//! one line tells the failure, and the status is 2.
+ghost use Rattle.wsn_job.specs.Jobs.{MayRun};
+
+use crate::expecting::expect_outcome;
+use std::alloc::Global;
+use std::process::Abort;
+use std::test::Fail;
+use wsn_doubles::lines::listing;
+use wsn_doubles::outcomes::{compared_on, outcome_on};
+use wsn_doubles::readers::{Chopped, READS};
+use wsn_doubles::rows::{Stream, greatest, stream_named};
+use wsn_doubles::writers::{FULL, Full, Narrow};
+use wsn_job::Job;
+
+/// The stream: "Hello" in fragments of three bytes and of two, and a ping between them.
+fn fragments(alloc: Global) -> Result<Stream, Fail> {
+    stream_named(alloc, "Hello in two fragments, and a ping between them")
+}
+
+/// What a command writes of a stream, and how many bytes of that are due where it has read none of the stream's bytes,
+/// one, two and so on.
+#[derive(Clone, Copy)]
+struct Wanted<'a> {
+    stream: &'a Stream,
+    out: &'a [u8],
+    due: &'a [usize],
+}
+
+/// No verdict is due behind any byte.
+const JUDGED: [usize; 12] = [0; 12];
+
+/// The lines of the frames are due behind their heads: "0 more text - 3", "5 fin ping - 0" and "7 fin cont - 2".
+const LISTED: [usize; 12] = [0, 0, 16, 16, 16, 16, 16, 31, 31, 46, 46, 46];
+
+/// The ping is due behind its head, and "Hello" behind its last byte.
+const NORMALISED: [usize; 12] = [0, 0, 0, 0, 0, 0, 0, 2, 2, 2, 2, 9];
+
+fn expect_failed_reads(
+    rt: &impl Abort,
+    alloc: Global,
+    job: &Job,
+    wanted: &Wanted,
+) -> Result<(), Fail>
+    requires { MayRun job.now }
+{
+    assert_eq!(rt; wanted.due.len(), wanted.stream.bytes.len() + 1);
+    for (count, due) in wanted.due.iter().enumerate() {
+        let front = wanted.stream.bytes.get(..count).ok_or("no such front")?;
+        let out = wanted.out.get(..*due).ok_or("more than it writes")?;
+        for most in READS {
+            let reader = Chopped::breaking(front, most);
+            let done = outcome_on(alloc, alloc, job, reader, Narrow::wide(alloc));
+            expect_outcome(rt, &done, 2, out, b"read failed\n");
+        }
+    }
+    Ok(())
+}
+
+fn expect_failed_writes(rt: &impl Abort, alloc: Global, job: &Job, wanted: &Wanted)
+    requires { MayRun job.now }
+{
+    for full in FULL {
+        for room in 0..wanted.out.len() {
+            for most in [1, usize::MAX] {
+                let reader = Chopped::new(wanted.stream.bytes.as_slice(), 3);
+                let writer = Narrow::new(alloc, most, room, full);
+                let done = outcome_on(alloc, alloc, job, reader, writer);
+                expect_outcome(rt, &done, 2, &wanted.out[..room], b"write failed\n");
+            }
+        }
+    }
+}
+
+fn expect_written_by_one(rt: &impl Abort, alloc: Global, job: &Job, wanted: &Wanted)
+    requires { MayRun job.now }
+{
+    let reader = Chopped::new(wanted.stream.bytes.as_slice(), usize::MAX);
+    let writer = Narrow::new(alloc, 1, usize::MAX, Full::Fails);
+    let done = outcome_on(alloc, alloc, job, reader, writer);
+    expect_outcome(rt, &done, 0, wanted.out, &[]);
+}
+
+fn expect_stops(rt: &impl Abort, alloc: Global, job: &Job, wanted: &Wanted) -> Result<(), Fail>
+    requires { MayRun job.now }
+{
+    expect_failed_reads(rt, alloc, job, wanted)?;
+    expect_failed_writes(rt, alloc, job, wanted);
+    expect_written_by_one(rt, alloc, job, wanted);
+    Ok(())
+}
+
+#[test]
+fn judge_is_stopped(rt: HostRuntime) -> Result<(), Fail> {
+    let alloc = rt.alloc();
+    let stream = fragments(alloc)?;
+    let wanted = Wanted {
+        stream: &stream,
+        out: b"accepted 11 tail 0 unfinished -\n",
+        due: &JUDGED,
+    };
+    let job = Job::Judge(stream.role, stream.limits);
+    expect_stops(&rt, alloc, &job, &wanted)
+}
+
+#[test]
+fn frames_is_stopped(rt: HostRuntime) -> Result<(), Fail> {
+    let alloc = rt.alloc();
+    let stream = fragments(alloc)?;
+    let lines = listing(alloc, &stream)?;
+    let wanted = Wanted {
+        stream: &stream,
+        out: lines.as_bytes(),
+        due: &LISTED,
+    };
+    let job = Job::Frames(stream.role, stream.limits);
+    expect_stops(&rt, alloc, &job, &wanted)
+}
+
+#[test]
+fn normal_is_stopped(rt: HostRuntime) -> Result<(), Fail> {
+    let alloc = rt.alloc();
+    let stream = fragments(alloc)?;
+    let wanted = Wanted {
+        stream: &stream,
+        out: stream.normal.as_slice(),
+        due: &NORMALISED,
+    };
+    let job = Job::Normal(stream.role, stream.limits);
+    expect_stops(&rt, alloc, &job, &wanted)
+}
+
+/// Of `same` either reader may fail.
+#[test]
+fn same_is_stopped_by_a_failed_read(rt: HostRuntime) -> Result<(), Fail> {
+    let alloc = rt.alloc();
+    let stream = fragments(alloc)?;
+    for count in 0..=stream.bytes.len() {
+        for most in READS {
+            for is_first in [true, false] {
+                let failing = Chopped::breaking(&stream.bytes[..count], most);
+                let whole = Chopped::new(stream.normal.as_slice(), most);
+                let (first, second) = if is_first {
+                    (failing, whole)
+                } else {
+                    (whole, failing)
+                };
+                let writer = Narrow::wide(alloc);
+                let done = compared_on(alloc, alloc, greatest()?, first, second, writer);
+                expect_outcome(&rt, &done, 2, &[], b"read failed\n");
+            }
+        }
+    }
+    Ok(())
+}
+
+#[test]
+fn same_is_stopped_by_a_failed_write(rt: HostRuntime) -> Result<(), Fail> {
+    let alloc = rt.alloc();
+    let stream = fragments(alloc)?;
+    let line = b"equal\n";
+    for full in FULL {
+        for room in 0..=line.len() {
+            let first = Chopped::new(stream.bytes.as_slice(), usize::MAX);
+            let second = Chopped::new(stream.normal.as_slice(), usize::MAX);
+            let writer = Narrow::new(alloc, 1, room, full);
+            let done = compared_on(alloc, alloc, greatest()?, first, second, writer);
+            if room < line.len() {
+                expect_outcome(&rt, &done, 2, &line[..room], b"write failed\n");
+            } else {
+                expect_outcome(&rt, &done, 0, line, &[]);
+            }
+        }
+    }
+    Ok(())
+}
