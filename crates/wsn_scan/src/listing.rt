@@ -78,7 +78,7 @@ fn list_piece<W: Write>(
             return Some(refusal);
         }
     }
-    None
+    scan.refusal()
 }
 
 /// Writes the head that a notice tells, unless a write has failed.
