@@ -58,11 +58,11 @@ no_end [] ys none = none
 no_end (x ∷ xs) ys none = absurd cc
 
 -- a reader's stop is the source's
-halted_of : (role : Role) (limits : Limits) (new : Incoming) (came : List ℕ) (done : List Frame) (given : List MeantEvent) (halted : Stop) → given ≡ meaning done → IsHaltedAt role limits new came done halted → IsHalted role limits new came given halted
-halted_of role limits new came done given stops.Memory events is = absurd is.0
-halted_of role limits new came done given stops.Read events is = (is.0, (is.1.0, (done, is.1.1, events)))
-halted_of role limits new came done given stops.InputLimit events is = (is.0, (is.1.0, (done, is.1.1, events)))
-halted_of role limits new came done given stops.Write events is = (is.0, (is.1.0, (done, is.1.1, events)))
+halted_of : (role : Role) (limits : Limits) (new : Incoming) (came : List ℕ) (done : List Frame) (at : Position) (given : List MeantEvent) (halted : Stop) → given ≡ meaning done → IsHaltedAt role limits new came done at halted → IsHalted role limits new came given halted
+halted_of role limits new came done at given stops.Memory events is = absurd is.0
+halted_of role limits new came done at given stops.Read events is = (is.0, (is.1.0, (done, is.1.1, events)))
+halted_of role limits new came done at given stops.InputLimit events is = (is.0, (is.1.0, (done, is.1.1, events)))
+halted_of role limits new came done at given stops.Write events is = (is.0, (is.1.0, (done, is.1.1, events)))
 
 pub reading_of : {A : Type 0} (reading : Reading A) → IsAtWork reading → IsReading reading.reader
 reading_of reading b = record { role = b.role; limits = b.limits; came = b.came; done = b.has.done; at = b.has.at; told = b.has.told }
@@ -146,7 +146,7 @@ module _ {A : Type 0} (role : Role) (limits : Limits) (old : Incoming) (came : L
     finished verdict is = let last = told (Ok (notices.Done verdict)) is in (last.0, (done, last.1, read.has.events))
 
     pub stopped : (halted : Stop) → result ≡ Err halted → IsLast role limits new now given (Err halted)
-    stopped halted is = halted_of role limits new now done given halted read.has.events (told (Err halted) is)
+    stopped halted is = halted_of role limits new now done read.has.at given halted read.has.events (told (Err halted) is)
 
     -- memory was refused for data
     pub no_memory : result ≡ Ok notices.Payload → is_control reading.reassembly.op ≡ false → IsLast role limits new now given (Err stops.Memory)

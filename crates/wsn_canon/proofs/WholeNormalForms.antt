@@ -1,13 +1,13 @@
 -- What normalising says of an input whose bytes are known: of all of them, in whatever pieces they came.
-use Rattle.std.proofs.Common.{◌≡◌, ℕ, ◌+◌, ◌-◌, ◌<◌, ◌≤◌, Option, None, Some, Result, Ok, Err, List, [], ◌++◌, length, take, refl, sym, ap, ◌∙◌, subst, append-nil, length-append, arith}
-use Rattle.std.proofs.lemmas.List.{take-append-le, take-take}
-use Rattle.std.specs.Io.KnownBytes.{Consumes, IsAtEnd}
+use Rattle.std.proofs.Common.{◌≡◌, ℕ, ◌+◌, ◌-◌, ◌≤◌, Option, None, Some, Result, Ok, Err, List, [], ◌++◌, length, take, refl, sym, ap, ◌∙◌, subst, length-append, arith}
+use Rattle.std.proofs.lemmas.List.{take-append-le}
+use Rattle.std.specs.Io.KnownBytes.{Consumes}
 use Rattle.wsn_wire.specs.declared.endpoint.Role.{Role}
 use Rattle.wsn_wire.specs.Frame.{Frame, stream}
 use Rattle.wsn_wire.specs.Transfer.{Incoming, Outgoing, IsWritten}
 use Rattle.wsn_rules.specs.declared.verdict.Summary.{Summary}
 use Rattle.wsn_rules.specs.declared.verdict.Verdict.{Verdict}
-use Rattle.wsn_rules.specs.declared.verdict.Verdict.TheVariants.{Accepted, Cut, Refused}
+use Rattle.wsn_rules.specs.declared.verdict.Verdict.TheVariants.{Accepted}
 use Rattle.wsn_rules.specs.Limits.{Limits, InRange}
 use Rattle.wsn_rules.specs.Accepted.{IsAccepted}
 use Rattle.wsn_rules.specs.Group.{unfinished}
@@ -17,29 +17,14 @@ use Rattle.wsn_rules.specs.Summary.{counted}
 use Rattle.wsn_rules.specs.Verdict.{IsVerdict}
 use Rattle.wsn_rules.proofs.NormalLaws.{own_frames}
 use Rattle.wsn_rules.proofs.OneVerdict.{one_verdict}
-use Rattle.wsn_rules.proofs.StaysRefused.{stays_refused, refused_alike}
 use Rattle.wsn_scan.specs.declared.stop.Stop.{Stop}
 use Rattle.wsn_scan.specs.declared.stop.Stop.TheVariants as stop
-use Rattle.wsn_scan.specs.Judging.{IsReached, IsUnrefused}
+use Rattle.wsn_scan.specs.Judging.{IsUnrefused}
 use Rattle.wsn_scan.specs.Stops.{AnswersAll}
+pub use Rattle.wsn_scan.proofs.WholeInputs.{of_all, not_past}
 use Rattle.wsn_canon.specs.Normalised.{IsNormalised, IsNormalFormWritten, IsNormalisedWhole, IsWithinLimit}
 
 module _ (role : Role) (limits : Limits) where
-  -- ---- what came, and all there is
-
-  -- the verdict on what came is that on all of it
-  pub of_all : (new : Incoming) (came rest : List ℕ) (fs : List Frame) (verdict : Verdict) → IsReached role limits new came verdict → new.remaining ≡ Some rest
-      → IsVerdict role limits came fs verdict → IsVerdict role limits (came ++ rest) fs verdict × IsWithinLimit limits (came ++ rest) verdict
-  of_all new came rest fs (Refused refusal) reached left is = (stays_refused role limits fs came rest refusal.place refusal.reason is, reached.3)
-  of_all new came rest fs (Accepted s) reached left is =
-      let nothing : rest ≡ [] = subst IsAtEnd left reached.2 in
-      let all : came ≡ came ++ rest = sym (append-nil came) ∙ ap (λ (bs : List ℕ). came ++ bs) (sym nothing) in
-      (subst (λ (bs : List ℕ). IsVerdict role limits bs fs (Accepted s)) all is, subst (λ (bs : List ℕ). length bs ≤ limits.input) all reached.3)
-  of_all new came rest fs (Cut s) reached left is =
-      let nothing : rest ≡ [] = subst IsAtEnd left reached.2 in
-      let all : came ≡ came ++ rest = sym (append-nil came) ∙ ap (λ (bs : List ℕ). came ++ bs) (sym nothing) in
-      (subst (λ (bs : List ℕ). IsVerdict role limits bs fs (Cut s)) all is, subst (λ (bs : List ℕ). length bs ≤ limits.input) all reached.3)
-
   pub whole_normal_form : (old new : Incoming) (before after : Outgoing) (result : Result Verdict Stop) (all : List ℕ) → IsNormalised role limits old new before after result → old.remaining ≡ Some all
       → IsNormalisedWhole role limits all before after result
   whole_normal_form old new before after result all normalised known =
@@ -52,7 +37,7 @@ module _ (role : Role) (limits : Limits) where
           → IsNormalFormWritten role limits new came before after r → IsNormalisedWhole role limits all before after r
       by_result rest left is (Ok verdict) (events, last, written) =
           let meant = last.1 in
-          let here = of_all new came rest meant.0 verdict last.0 left meant.1 in (
+          let here = of_all role limits new came rest meant.0 verdict last.0 left meant.1 in (
             meant.0,
             subst (λ (bs : List ℕ). IsVerdict role limits bs meant.0 verdict) (sym is) here.0,
             subst (λ (bs : List ℕ). IsWithinLimit limits bs verdict) (sym is) here.1,
@@ -82,12 +67,6 @@ module _ (role : Role) (limits : Limits) where
 
   -- ---- one answer, and one text
 
-  not_past : (all : List ℕ) (fs : List Frame) (verdict : Verdict) → IsVerdict role limits all fs verdict → IsWithinLimit limits all verdict → limits.input < length all → IsUnrefused role limits (take limits.input all) → ⊥
-  not_past all fs (Accepted s) is within more none = omega (arith, within, more)
-  not_past all fs (Cut s) is within more none = omega (arith, within, more)
-  not_past all fs (Refused r) is within more none =
-      none fs r.place r.reason (refused_alike role limits fs all (take limits.input all) r.place r.reason (take-take (r.place + 1) limits.input all (omega (arith, within))) is)
-
   abbrev AreAlike : Outgoing → Outgoing → Outgoing → Outgoing → Type 0
   AreAlike before after other_before other_after = (bytes : List ℕ) × IsWritten before after bytes × IsWritten other_before other_after bytes
 
@@ -98,8 +77,8 @@ module _ (role : Role) (limits : Limits) where
         ap (λ (u : Verdict). let answer : Result Verdict Stop = Ok u in answer) same.1,
         (normal_form role (meaning one.0), one.3, subst (λ (fs : List Frame). IsWritten other_before other_after (normal_form role (meaning fs))) (sym same.0) two.3),
       )
-  one_normal_form all before after other_before other_after (Ok v) (Err stop.InputLimit) says also one two = absurd (not_past all one.0 v one.1 one.2 two.0 two.1)
-  one_normal_form all before after other_before other_after (Err stop.InputLimit) (Ok w) says also one two = absurd (not_past all two.0 w two.1 two.2 one.0 one.1)
+  one_normal_form all before after other_before other_after (Ok v) (Err stop.InputLimit) says also one two = absurd (not_past role limits all one.0 v one.1 one.2 two.0 two.1)
+  one_normal_form all before after other_before other_after (Err stop.InputLimit) (Ok w) says also one two = absurd (not_past role limits all two.0 w two.1 two.2 one.0 one.1)
   one_normal_form all before after other_before other_after (Err stop.InputLimit) (Err stop.InputLimit) says also one two =
       let same = one_verdict role limits (take limits.input all) one.2.1 two.2.1 one.2.0 two.2.0 one.2.2 two.2.2 in (
         refl,

@@ -1,5 +1,5 @@
 -- What normalising took of an input, what its answer says of that, and what went out.
-use Rattle.std.specs.Prelude.{◌≡◌, ℕ, ◌+◌, ◌≤◌, false, Result, Err, List, length, take, ◌<◌, Ok, ⊤}
+use Rattle.std.specs.Prelude.{◌≡◌, ℕ, ◌+◌, false, Result, Err, List, length, take, ◌<◌, Ok, ⊤}
 use Rattle.wsn_wire.specs.declared.endpoint.Role.{Role}
 use Rattle.wsn_wire.specs.Transfer.{Incoming, Outgoing, IsReceived, IsWritten, IsPartlyWritten}
 use Rattle.wsn_rules.specs.declared.verdict.Verdict.{Verdict}
@@ -11,8 +11,8 @@ use Rattle.wsn_rules.specs.NormalForm.{normal_form}
 use Rattle.wsn_canon.specs.Sources.{IsMeaningOf, IsLast}
 use Rattle.wsn_wire.specs.Frame.{Frame}
 use Rattle.wsn_rules.specs.Verdict.{IsVerdict}
-use Rattle.wsn_rules.specs.declared.verdict.Verdict.TheVariants.{Refused}
 use Rattle.wsn_scan.specs.Judging.{IsUnrefused}
+pub use Rattle.wsn_scan.specs.Judging.{IsWithinLimit}
 
 -- What an answer says of the bytes that came, and what went out of them: the normal form of the events that an event
 -- source gives with that answer. At a verdict these are the bytes' meaning. Where a write failed, it is some front of
@@ -33,11 +33,6 @@ pub record IsNormalised (role : Role) (limits : Limits) (old new : Incoming) (be
   pub written : IsNormalFormWritten role limits new came before after result
 
 -- ---- of an input whose bytes are known
-
--- The verdict is told within the limit: at its place, or at the end of the input.
-abbrev pub IsWithinLimit : Limits → List ℕ → Verdict → Type 0
-IsWithinLimit limits all (Refused refusal) = refusal.place < limits.input
-IsWithinLimit limits all verdict = length all ≤ limits.input
 
 -- What an answer says of all the bytes of an input. The verdict is theirs, and the normal form of what they mean was
 -- written; or there are more than the limit, the first `input` of them show no refusal, and the normal form of what

@@ -34,7 +34,7 @@ pub streamed_on : (role : Role) (limits : Limits) (scan new : Scan) (room : ℕ)
     → HasStreamed role limits (record { scan = scan; room = room }) came → HasStreamed role limits (record { scan = new; room = room - length more }) (came ++ more)
 streamed_on role limits scan new room came more refusal unrefused within fed s =
     let whole : came ≡ s.came = s.whole ∙ ap (λ (bs : List ℕ). s.came ++ bs) (s.all unrefused) ∙ append-nil s.came in
-    let all : refusal_in new ≡ None → drop fed.count more ≡ [] = λ none. let size = fed.all (sym (fed.reported unrefused) ∙ none) in drop_all fed.count more size in
+    let all : refusal_in new ≡ None → drop fed.count more ≡ [] = λ none. let size = fed.all (fed.told ∙ none) in drop_all fed.count more size in
     record {
       came = s.came ++ take fed.count more;
       behind = drop fed.count more;

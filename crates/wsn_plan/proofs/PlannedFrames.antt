@@ -200,7 +200,7 @@ module _ (role : Role) (limits : Limits) (old : Incoming) where
       of_bytes = of stopped on.next;
     }
       where
-        of : (s : Stop) → IsHaltedAt role limits new (planned.came ++ on.more) planned.done s → IsPlanOf {A = A} role limits new (planned.came ++ on.more) (Err s)
+        of : (s : Stop) → IsHaltedAt role limits new (planned.came ++ on.more) planned.done planned.at s → IsPlanOf {A = A} role limits new (planned.came ++ on.more) (Err s)
         of stop.Read halted = halted.0
         of stop.InputLimit halted = halted.0
         of stop.Memory halted = absurd halted.0

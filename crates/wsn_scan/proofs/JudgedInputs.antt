@@ -88,7 +88,7 @@ module _ (role : Role) (limits : Limits) where
     goes_on all fed = record {
       consumed = all_consumed;
       taken = subst (λ (m : ℕ). HasTaken role limits next (came ++ take m buffer) (heads ++ fed.heads)) all (taken_whole scan next came (take fits buffer) heads fed read.taken);
-      none = fed.reported read.none;
+      none = sym fed.told;
       unfailed = failed ∙ read.unfailed;
     }
 
@@ -101,7 +101,7 @@ module _ (role : Role) (limits : Limits) where
     pub passes_limit : fits ≡ room_of scan → n ≡ room_of scan + 1 → HasFed scan next (take fits buffer) None → IsJudgedOf role limits old new (came ++ take n buffer) (Err stop.InputLimit)
     passes_limit full more fed =
         let room = room_is scan came heads read.taken in
-        let none = unrefused role limits next (came ++ take fits buffer) (heads ++ fed.heads) (taken_whole scan next came (take fits buffer) heads fed read.taken) (fed.reported read.none) in
+        let none = unrefused role limits next (came ++ take fits buffer) (heads ++ fed.heads) (taken_whole scan next came (take fits buffer) heads fed read.taken) (sym fed.told) in
         record {
           received = record { consumed = all_consumed; few = omega (arith, length_came) };
           answer = (omega (arith, length_came), subst (λ (bs : List ℕ). IsUnrefused role limits bs) (sym (up_to_limit full (omega arith))) none, failed ∙ read.unfailed);
@@ -119,7 +119,7 @@ module _ (role : Role) (limits : Limits) where
     refuses_input refusal le fed =
         let piece = take fits buffer in
         let taken = fed.takes role limits came heads read.taken in
-        let here = (refused role limits next (came ++ take fed.count piece) (heads ++ fed.heads) refusal taken (fed.reported read.none)).refused in
+        let here = (refused role limits next (came ++ take fed.count piece) (heads ++ fed.heads) refusal taken (sym fed.told)).refused in
         let within : fed.count ≤ fits = omega (arith, fed.within, length-take-le fits buffer (omega arith)) in
         let refused_all : (later : List ℕ) → IsRefused role limits ((came ++ take n buffer) ++ later) taken.frames refusal.place refusal.reason =
         λ later. subst (λ (bs : List ℕ). IsRefused role limits bs taken.frames refusal.place refusal.reason) (parted fed.count within le later) (here (drop fed.count (take n buffer) ++ later)) in

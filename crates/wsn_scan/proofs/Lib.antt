@@ -12,6 +12,8 @@ pub mod ListedInputs
 pub mod Unrefused
 pub mod JudgedInputs
 pub mod OneAnswer
+pub mod WholeInputs
+pub mod OneListing
 pub mod FramesReported
 pub mod PayloadPrefixes
 pub mod NextCases

@@ -131,10 +131,10 @@ module _ (role : Role) (limits : Limits) where
     told_behind refusal fed whole later is =
         subst (λ (bs : List ℕ). HasVerdictAndHeads role limits bs (heads ++ fed.heads) (Refused refusal))
         (append_assoc came (take fed.count (take fits buffer)) later ∙ ap (λ (bs : List ℕ). came ++ bs) is)
-        (told_refused role limits next (came ++ take fed.count (take fits buffer)) later (heads ++ fed.heads) refusal (taken_of_piece (Some refusal) fed) (fed.reported read.none))
+        (told_refused role limits next (came ++ take fed.count (take fits buffer)) later (heads ++ fed.heads) refusal (taken_of_piece (Some refusal) fed) (sym fed.told))
 
     told_within : (refusal : Option Refusal) (fed : HasFed scan next (take fits buffer) refusal) → (verdict : Verdict) × HasVerdictAndHeads role limits (came ++ take fits buffer) (heads ++ fed.heads) verdict
-    told_within None fed = told_so_far role limits next (came ++ take fits buffer) (heads ++ fed.heads) (taken_all fed) (fed.reported read.none)
+    told_within None fed = told_so_far role limits next (came ++ take fits buffer) (heads ++ fed.heads) (taken_all fed) (sym fed.told)
     told_within (Some refusal) fed = (Refused refusal, told_behind refusal fed (take fits buffer) (drop fed.count (take fits buffer)) (take-append-drop fed.count (take fits buffer)))
 
     all_lines : (refusal : Option Refusal) (piece : IsListedPiece scan next mid_out after (take fits buffer) refusal) → IsWrittenUpToFailure before after (head_lines (heads ++ piece.fed.heads))

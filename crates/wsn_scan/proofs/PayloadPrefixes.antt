@@ -16,6 +16,7 @@ use Rattle.wsn_frame.specs.PartialHeads.{IsHead, info_at}
 use Rattle.wsn_frame.specs.Payloads.{unmasked_by}
 use Rattle.wsn_scan.specs.Reports.{AreEnds, IsPayloadPrefix, IsReport, Reported}
 use Rattle.wsn_scan.specs.Scans.{IsAt, Stands}
+use Rattle.wsn_scan.proofs.FramesReported.{frames_of_bytes}
 use Rattle.wsn_scan.proofs.HeadsReported.{head_spelled, front_unshown}
 use Rattle.wsn_scan.proofs.HeadsSoFar.{heads_told}
 
@@ -77,6 +78,7 @@ pub report : (role : Role) (limits : Limits) (scan : Scan) (bytes : List ℕ) (f
 report role limits scan bytes fs rest reported stands = record {
   lawful = stands.knows.lawful;
   whole = stands.knows.whole;
+  judged = frames_of_bytes role limits scan bytes rest fs reported stands;
   heads = heads_told role limits scan bytes rest fs reported stands;
   ends = ends_at role limits bytes fs rest reported stands.knows.whole scan.stage stands.at;
   payload = payload_at role limits bytes fs rest reported stands.knows.whole scan.stage stands.at;

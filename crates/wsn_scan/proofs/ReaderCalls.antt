@@ -38,10 +38,11 @@ module _ (role : Role) (limits : Limits) (old : Incoming) (came : List ℕ) (don
     pub answers : (next : NoticeReader) (result : Result NextNotice Stop) → IsNext role limits mid next (came ++ read.more) done at result → ReadsOn role limits old mid next came done at result
     answers next result is = record { more = read.more; consumed = read.consumed; few = read.told.buffered.few; next = is }
 
-    pub refused_done : (refusal : Refusal) → IsRefusedBy role limits (came ++ read.more) done refusal → mid.failed ≡ false → IsDone role limits mid (came ++ read.more) done (Refused refusal)
+    pub refused_done : (refusal : Refusal) → IsRefusedBy role limits (came ++ read.more) done at refusal → mid.failed ≡ false → IsDone role limits mid (came ++ read.more) done at (Refused refusal)
     refused_done refusal by unfailed = (
       (done, by.refused, by.soon, by.within, unfailed),
       subst (λ (bs : List ℕ). IsRefused role limits bs done refusal.place refusal.reason) (append-nil (came ++ read.more)) (by.refused []),
+      by.told,
     )
 
     -- one read more

@@ -14,6 +14,7 @@ use Rattle.wsn_rules.specs.declared.verdict.Verdict.{Verdict}
 use Rattle.wsn_rules.specs.declared.verdict.Verdict.TheVariants.{Accepted, Cut, Refused}
 use Rattle.wsn_rules.specs.Limits.{Limits}
 use Rattle.wsn_rules.specs.Verdict.{IsVerdict}
+use Rattle.wsn_rules.specs.Heads.{heads_of, AreHeads}
 use Rattle.wsn_scan.specs.declared.notice_reader.NoticeReader.{NoticeReader}
 use Rattle.wsn_scan.specs.declared.scan.Scan.{Scan}
 use Rattle.wsn_scan.specs.declared.stop.Stop.{Stop}
@@ -21,12 +22,13 @@ use Rattle.wsn_scan.specs.declared.stop.Stop.TheVariants as stop
 use Rattle.wsn_scan.specs.Feeding.{HasTaken}
 use Rattle.wsn_scan.specs.FramesTold.{Position}
 use Rattle.wsn_scan.specs.Judging.{IsUnrefused, IsReached}
-use Rattle.wsn_scan.specs.NoticeReaders.{HasTold, unread, count_past}
-use Rattle.wsn_scan.specs.ReadNotices.{IsDone, IsHaltedAt}
+use Rattle.wsn_scan.specs.NoticeReaders.{HasTold, begun_at, unread, count_past}
+use Rattle.wsn_scan.specs.ReadNotices.{AllTold, IsDone, IsHaltedAt}
 use Rattle.wsn_scan.specs.ReaderSteps.{IsUsed, IsFilled, IsFilledBy, idle, idle_of}
 use Rattle.wsn_scan.specs.Scans.{Stands, room_of, refusal_in}
 use Rattle.wsn_scan.specs.Reports.{refusal_judged}
 use Rattle.wsn_scan.proofs.FramesReported.{frames_of_bytes}
+use Rattle.wsn_scan.proofs.HeadsSoFar.{heads_told}
 use Rattle.wsn_scan.proofs.ReaderBuffers.{nothing, length_unread, past_limit, all_within}
 use Rattle.wsn_scan.proofs.Unrefused.{unrefused}
 
@@ -55,16 +57,25 @@ module _ (role : Role) (limits : Limits) (reader : NoticeReader) (came : List �
       let found = frames_of_bytes role limits reader.scan used.told.scanned used.told.since used.told.frames used.told.reported used.told.stands in
       (found.0, subst (λ (bs : List ℕ). IsVerdict role limits bs done found.0) (sym scanned_all) (subst (λ (fs : List Frame). IsVerdict role limits used.told.scanned fs found.0) (sym used.frames) found.1))
 
-  pub limit_passed : (new : Incoming) → reader.past ≡ true → new.failed ≡ false → IsHaltedAt role limits new came done stop.InputLimit
-  limit_passed new past unfailed =
-      ((past_limit limits reader came used.told.scanned used.told.buffered past, subst (IsUnrefused role limits) (sym scanned_all) unrefused_so_far, unfailed), verdict_so_far)
+  -- all that was scanned was told
+  scanned_told : AllTold role limits used.told.scanned done at
+  scanned_told =
+      subst (λ (fs : List Frame). AreHeads role limits used.told.scanned fs (heads_of done ++ begun_at at)) (sym used.frames)
+      (subst (AreHeads role limits used.told.scanned used.told.frames) used.told.ended.heads (heads_told role limits reader.scan used.told.scanned used.told.since used.told.frames used.told.reported used.told.stands))
 
-  pub read_failed : (new : Incoming) → reader.past ≡ false → new.failed ≡ true → IsHaltedAt role limits new came done stop.Read
-  read_failed new none failed = ((failed, omega (arith, size_is none), subst (IsUnrefused role limits) (sym (came_is none)) unrefused_so_far), verdict_so_far)
+  told_so_far : AllTold role limits (take limits.input came) done at
+  told_so_far = subst (λ (bs : List ℕ). AllTold role limits bs done at) (sym scanned_all) scanned_told
+
+  pub limit_passed : (new : Incoming) → reader.past ≡ true → new.failed ≡ false → IsHaltedAt role limits new came done at stop.InputLimit
+  limit_passed new past unfailed =
+      ((past_limit limits reader came used.told.scanned used.told.buffered past, subst (IsUnrefused role limits) (sym scanned_all) unrefused_so_far, unfailed), verdict_so_far, told_so_far)
+
+  pub read_failed : (new : Incoming) → reader.past ≡ false → new.failed ≡ true → IsHaltedAt role limits new came done at stop.Read
+  read_failed new none failed = ((failed, omega (arith, size_is none), subst (IsUnrefused role limits) (sym (came_is none)) unrefused_so_far), verdict_so_far, told_so_far)
 
   pub input_ended : (new : Incoming) (verdict : Verdict) → reader.past ≡ false → IsAtEnd new.remaining → new.failed ≡ false → IsVerdict role limits used.told.scanned used.told.frames verdict
-      → refusal_judged verdict ≡ None → IsDone role limits new came done verdict
-  input_ended new verdict none at_end unfailed is other = (by verdict is_done other, is_done)
+      → refusal_judged verdict ≡ None → IsDone role limits new came done at verdict
+  input_ended new verdict none at_end unfailed is other = (by verdict is_done other, is_done, subst (λ (bs : List ℕ). AllTold role limits bs done at) (sym (came_is none)) scanned_told)
     where
       is_done : IsVerdict role limits came done verdict
       is_done = subst (λ (bs : List ℕ). IsVerdict role limits bs done verdict) (sym (came_is none)) (subst (λ (fs : List Frame). IsVerdict role limits used.told.scanned fs verdict) (sym used.frames) is)

@@ -7,6 +7,8 @@ use Rattle.wsn_wire.specs.Frame.{Frame, IsBytes}
 use Rattle.wsn_rules.specs.declared.verdict.Refusal.{Refusal}
 use Rattle.wsn_rules.specs.Limits.{Limits}
 use Rattle.wsn_rules.specs.Verdict.{IsRefused}
+use Rattle.wsn_rules.specs.Heads.{AreHeads}
+use Rattle.wsn_scan.specs.ReadNotices.{AllTold}
 use Rattle.wsn_scan.specs.declared.notice.Notice.{Notice}
 use Rattle.wsn_scan.specs.declared.notice.Notice.TheVariants as notices
 use Rattle.wsn_scan.specs.declared.notice_reader.NoticeReader.{NoticeReader}
@@ -117,7 +119,7 @@ module _ (role : Role) (limits : Limits) (old new : NoticeReader) (n : ℕ) (cam
     byte_falls : 0 < n → left_of new < left_of old
     byte_falls more = let few = untold_few new.scan.stage in omega (arith, more, call.room, few)
 
-  refused_by : (refusal : Refusal) → IsCall old new n (notices.Refused refusal) → IsRefusedBy role limits came done refusal
+  refused_by : (refusal : Refusal) → IsCall old new n (notices.Refused refusal) → IsRefusedBy role limits came done at refusal
   refused_by refusal call =
       let at_it = reached (notices.Refused refusal) call in
       let there : IsRefusedThere role limits refusal (h.scanned ++ share) at_it.frames h.reported = at_it.tells in
@@ -138,6 +140,9 @@ module _ (role : Role) (limits : Limits) (old new : NoticeReader) (n : ℕ) (cam
             (sym (append_assoc behind on.0 later) ∙ ap (λ (bs : List ℕ). bs ++ later) (sym on.1)) (refused_here (on.0 ++ later));
         soon = omega (arith, length_came limits old came h.scanned h.buffered, past_it, h.buffered.small);
         within = omega (arith, there.place, at_it.stands.knows.room);
+        told =
+            subst (λ (bs : List ℕ). AllTold role limits bs done at) (sym on.1)
+            (subst (AreHeads role limits (behind ++ on.0) done) all_told.heads (subst (λ (fs : List Frame). AreHeads role limits (behind ++ on.0) fs h.reported.heads) same (there.heads on.0)));
       }
     where
       -- what came goes on behind what was scanned

@@ -39,8 +39,8 @@ TakesFront old new piece n more =
     (role : Role) (limits : Limits) (bytes : List ℕ) (heads : List HeadInfo) → HasTaken role limits old bytes heads →
     HasTaken role limits new (bytes ++ take n piece) (heads ++ more)
 
--- It has taken this much of the piece: all, unless there is a refusal.
--- A scan that had not refused has refused just if there is one.
+-- It has taken this much of the piece: all, unless there is a refusal, which is the scan's, of this piece or an earlier
+-- one.
 pub record HasFed (old new : Scan) (piece : List ℕ) (refusal : Option Refusal) : Type 0 where
   pub count : ℕ
   pub within : count ≤ length piece
@@ -48,4 +48,4 @@ pub record HasFed (old new : Scan) (piece : List ℕ) (refusal : Option Refusal)
   pub heads : List HeadInfo
   pub takes : TakesFront old new piece count heads
   pub all : refusal ≡ None → count ≡ length piece
-  pub reported : refusal_in old ≡ None → refusal_in new ≡ refusal
+  pub told : refusal ≡ refusal_in new

@@ -48,6 +48,11 @@ pub record IsJudgedOf (role : Role) (limits : Limits) (old new : Incoming) (came
   pub received : IsReceived (limits.input + 1) old new came
   pub answer : IsAnswer role limits new came result
 
+-- The verdict is told within the limit: at its place, or at the end of the input.
+abbrev pub IsWithinLimit : Limits → List ℕ → Verdict → Type 0
+IsWithinLimit limits all (Refused refusal) = refusal.place < limits.input
+IsWithinLimit limits all verdict = length all ≤ limits.input
+
 -- Some bytes came, and the answer is theirs.
 abbrev pub IsJudged : Role → Limits → Incoming → Incoming → Result Verdict Stop → Type 0
 IsJudged role limits old new result = (came : List ℕ) × IsJudgedOf role limits old new came result

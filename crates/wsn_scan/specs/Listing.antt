@@ -1,5 +1,5 @@
 -- What is printed of a stream: a line for each of its heads, and one for its verdict.
-use Rattle.std.specs.Prelude.{◌≡◌, ℕ, ◌+◌, Option, Result, Ok, Err, List, ◌++◌, take, ⊤}
+use Rattle.std.specs.Prelude.{◌≡◌, ℕ, ◌+◌, ◌<◌, Option, Result, Ok, Err, List, ◌++◌, length, take, ⊤}
 use Rattle.wsn_wire.specs.declared.endpoint.Role.{Role}
 use Rattle.wsn_wire.specs.Frame.{Frame}
 use Rattle.wsn_wire.specs.Transfer.{Incoming, Outgoing, IsReceived, IsWritten, IsPartlyWritten, IsWrittenUpToFailure}
@@ -14,7 +14,7 @@ use Rattle.wsn_rules.specs.Verdict.{IsVerdict}
 use Rattle.wsn_rules.specs.Heads.{AreHeads}
 use Rattle.wsn_rules.specs.Lines.{head_lines, verdict_line}
 use Rattle.wsn_scan.specs.Feeding.{HasFed}
-use Rattle.wsn_scan.specs.Judging.{IsAnswer}
+use Rattle.wsn_scan.specs.Judging.{IsAnswer, IsUnrefused, IsWithinLimit}
 
 -- The verdict on these bytes, and the heads that they tell.
 pub record HasVerdictAndHeads (role : Role) (limits : Limits) (bytes : List ℕ) (heads : List HeadInfo)
@@ -66,3 +66,19 @@ pub record IsListed (role : Role) (limits : Limits) (old new : Incoming) (before
   pub received : IsReceived (limits.input + 1) old new came
   pub answer : IsListAnswer role limits new came result
   pub printed : IsPrinted role limits came before after result
+
+-- ---- of an input whose bytes are known
+
+-- What an answer says of all the bytes of an input. The verdict is theirs, and the lines of their heads and of the
+-- verdict were written; or there are more than the limit, the first `input` of them show no refusal, and the lines of
+-- the heads that those tell were written. Where a read or a write failed this says nothing.
+abbrev pub IsListedWhole : Role → Limits → List ℕ → Outgoing → Outgoing → Result Verdict Stop → Type 0
+IsListedWhole role limits all before after (Ok verdict) =
+    (heads : List HeadInfo) × HasVerdictAndHeads role limits all heads verdict × IsWithinLimit limits all verdict
+    × IsWritten before after (listing heads verdict)
+IsListedWhole role limits all before after (Err stop.InputLimit) =
+    (limits.input < length all) × IsUnrefused role limits (take limits.input all)
+    × ((heads : List HeadInfo) × (verdict : Verdict)
+    × HasVerdictAndHeads role limits (take limits.input all) heads verdict
+    × IsWritten before after (head_lines heads))
+IsListedWhole role limits all before after (Err stopped) = ⊤

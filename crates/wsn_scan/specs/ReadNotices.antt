@@ -7,7 +7,7 @@ use Rattle.wsn_wire.specs.Transfer.{Incoming}
 use Rattle.wsn_rules.specs.declared.head_info.HeadInfo.{HeadInfo}
 use Rattle.wsn_rules.specs.declared.verdict.Verdict.{Verdict}
 use Rattle.wsn_rules.specs.Limits.{Limits}
-use Rattle.wsn_rules.specs.Heads.{info_of}
+use Rattle.wsn_rules.specs.Heads.{info_of, heads_of, AreHeads}
 use Rattle.wsn_rules.specs.Verdict.{IsVerdict}
 use Rattle.wsn_scan.specs.declared.notice_reader.NextNotice.{NextNotice}
 use Rattle.wsn_scan.specs.declared.notice_reader.NextNotice.TheVariants as next
@@ -15,7 +15,7 @@ use Rattle.wsn_scan.specs.declared.notice_reader.NoticeReader.{NoticeReader}
 use Rattle.wsn_scan.specs.declared.stop.Stop.{Stop}
 use Rattle.wsn_scan.specs.FramesTold.{Position, BetweenFrames, InFrame}
 use Rattle.wsn_scan.specs.Judging.{IsReached, IsStopped}
-use Rattle.wsn_scan.specs.NoticeReaders.{HasTold, payload_of}
+use Rattle.wsn_scan.specs.NoticeReaders.{HasTold, begun_at, payload_of}
 
 -- The next frame's head: the frame before it has ended.
 abbrev pub TellsHead : Role → Limits → NoticeReader → List ℕ → List Frame → Position → HeadInfo → Type 0
@@ -34,16 +34,22 @@ TellsEnd role limits reader came done at event =
     (f : Frame) × (f.fin ≡ event) × (at ≡ InFrame (info_of (length (stream done)) f) f.payload)
     × HasTold role limits reader came (done ++ f ∷ []) BetweenFrames
 
--- The verdict of the bytes that came: it is reached as a judge reaches it, and each whole frame was told to its end.
-abbrev pub IsDone : Role → Limits → Incoming → List ℕ → List Frame → Verdict → Type 0
-IsDone role limits new came done verdict =
-    IsReached role limits new came verdict × IsVerdict role limits came done verdict
+-- All that these bytes tell was told: of each whole frame its head and its end, and each head besides.
+abbrev pub AllTold : Role → Limits → List ℕ → List Frame → Position → Type 0
+AllTold role limits bytes done at = AreHeads role limits bytes done (heads_of done ++ begun_at at)
 
--- A stop, as a judge's: of the bytes that came, at most `input`, each whole frame was told to its end.
-abbrev pub IsHaltedAt : Role → Limits → Incoming → List ℕ → List Frame → Stop → Type 0
-IsHaltedAt role limits new came done halted =
+-- The verdict of the bytes that came: it is reached as a judge reaches it, and each whole frame was told to its end, and
+-- each head.
+abbrev pub IsDone : Role → Limits → Incoming → List ℕ → List Frame → Position → Verdict → Type 0
+IsDone role limits new came done at verdict =
+    IsReached role limits new came verdict × IsVerdict role limits came done verdict × AllTold role limits came done at
+
+-- A stop, as a judge's: of the bytes that came, at most `input`, each whole frame was told to its end, and each head.
+abbrev pub IsHaltedAt : Role → Limits → Incoming → List ℕ → List Frame → Position → Stop → Type 0
+IsHaltedAt role limits new came done at halted =
     IsStopped role limits new came halted
     × ((verdict : Verdict) × IsVerdict role limits (take limits.input came) done verdict)
+    × AllTold role limits (take limits.input came) done at
 
 abbrev pub IsNext : Role → Limits → Incoming → NoticeReader → List ℕ → List Frame → Position → Result NextNotice Stop →
     Type 0
@@ -53,8 +59,8 @@ IsNext role limits new reader came done at (Ok next.Payload) =
     TellsPayload role limits reader came done at × (new.failed ≡ false)
 IsNext role limits new reader came done at (Ok (next.FrameEnd event)) =
     TellsEnd role limits reader came done at event × (new.failed ≡ false)
-IsNext role limits new reader came done at (Ok (next.Done verdict)) = IsDone role limits new came done verdict
-IsNext role limits new reader came done at (Err halted) = IsHaltedAt role limits new came done halted
+IsNext role limits new reader came done at (Ok (next.Done verdict)) = IsDone role limits new came done at verdict
+IsNext role limits new reader came done at (Err halted) = IsHaltedAt role limits new came done at halted
 
 -- A call read these bytes more, and one past the limit at most.
 pub record ReadsOn (role : Role) (limits : Limits) (old new : Incoming) (reader : NoticeReader) (came : List ℕ)

@@ -14,7 +14,7 @@ use Rattle.wsn_scan.specs.declared.notice_reader.NoticeReader.{NoticeReader}
 use Rattle.wsn_scan.specs.declared.stop.Stop.{Stop}
 use Rattle.wsn_scan.specs.FramesTold.{Position}
 use Rattle.wsn_scan.specs.NoticeReaders.{HasTold, left_of}
-use Rattle.wsn_scan.specs.ReadNotices.{TellsHead, TellsPayload, TellsEnd, IsDone, IsHaltedAt}
+use Rattle.wsn_scan.specs.ReadNotices.{TellsHead, TellsPayload, TellsEnd, AllTold, IsDone, IsHaltedAt}
 
 -- All that came was scanned, and each whole frame was told to its end.
 pub record IsUsed (role : Role) (limits : Limits) (reader : NoticeReader) (came : List ℕ) (done : List Frame)
@@ -23,19 +23,20 @@ pub record IsUsed (role : Role) (limits : Limits) (reader : NoticeReader) (came 
   pub all : reader.at ≡ reader.end
   pub frames : done ≡ told.frames
 
--- The bytes that came show the refusal, whatever follows, and it was reported at once.
-pub record IsRefusedBy (role : Role) (limits : Limits) (came : List ℕ) (done : List Frame) (refusal : Refusal)
-    : Type 0 where
+-- The bytes that came show the refusal, whatever follows, and it was reported at once, behind all that they tell.
+pub record IsRefusedBy (role : Role) (limits : Limits) (came : List ℕ) (done : List Frame) (at : Position)
+    (refusal : Refusal) : Type 0 where
   pub refused : (later : List ℕ) → IsRefused role limits (came ++ later) done refusal.place refusal.reason
   pub soon : length came ≤ refusal.place + 4096
   pub within : refusal.place < limits.input
+  pub told : AllTold role limits came done at
 
 -- What a call of the scan told.
 abbrev pub Tells : Role → Limits → NoticeReader → List ℕ → List Frame → Position → Notice → Type 0
 Tells role limits reader came done at (notices.Head info) = TellsHead role limits reader came done at info
 Tells role limits reader came done at notices.Payload = TellsPayload role limits reader came done at
 Tells role limits reader came done at (notices.FrameEnd event) = TellsEnd role limits reader came done at event
-Tells role limits reader came done at (notices.Refused refusal) = IsRefusedBy role limits came done refusal
+Tells role limits reader came done at (notices.Refused refusal) = IsRefusedBy role limits came done at refusal
 Tells role limits reader came done at notices.More = IsUsed role limits reader came done at
 Tells role limits reader came done at notices.Closed = IsUsed role limits reader came done at
 
@@ -58,8 +59,8 @@ abbrev pub IsFilledBy : Role → Limits → Incoming → NoticeReader → List �
     Result (Option Verdict) Stop → Type 0
 IsFilledBy role limits new reader came done at (Ok None) =
     HasTold role limits reader came done at × (idle_of reader ≡ 0) × (new.failed ≡ false)
-IsFilledBy role limits new reader came done at (Ok (Some verdict)) = IsDone role limits new came done verdict
-IsFilledBy role limits new reader came done at (Err halted) = IsHaltedAt role limits new came done halted
+IsFilledBy role limits new reader came done at (Ok (Some verdict)) = IsDone role limits new came done at verdict
+IsFilledBy role limits new reader came done at (Err halted) = IsHaltedAt role limits new came done at halted
 
 -- What a read did where all that came was scanned.
 pub record IsFilled (role : Role) (limits : Limits) (old new : Incoming) (reader : NoticeReader) (came : List ℕ)

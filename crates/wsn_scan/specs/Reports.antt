@@ -6,6 +6,7 @@ use Rattle.wsn_rules.specs.declared.head_info.HeadInfo.{HeadInfo}
 use Rattle.wsn_rules.specs.Limits.{Limits}
 use Rattle.wsn_rules.specs.Lawful.{IsLawful}
 use Rattle.wsn_rules.specs.Heads.{heads_of, AreHeads}
+use Rattle.wsn_rules.specs.Verdict.{IsVerdict}
 use Rattle.wsn_frame.specs.Payloads.{unmasked_by}
 use Rattle.wsn_rules.specs.Accepted.{HasNoClose, EndsWithClose}
 use Rattle.wsn_rules.specs.declared.verdict.Refusal.{Refusal}
@@ -71,13 +72,15 @@ pub record IsPayloadPrefix (fs : List Frame) (bytes : List ℕ) (info : HeadInfo
   pub within : length wire ≤ info.len
   pub unmasked : payload ≡ unmasked_by info.key 0 wire
 
--- The bytes are whole lawful frames and a rest. Their heads were reported, and the head of the frame that the rest
--- begins, once it was whole and where it shows nothing; what was handed out behind that head is a prefix of its frame's
--- payload, unmasked, whether the frame goes on, is cut or is refused.
+-- The bytes are lawful frames, all that are whole, and a rest: they have a verdict with these frames. Their heads were
+-- reported, and the head of the frame that the rest begins, once it was whole and where it shows nothing; what was
+-- handed out behind that head is a prefix of its frame's payload, unmasked, whether the frame goes on, is cut or is
+-- refused.
 pub record IsReport (role : Role) (limits : Limits) (bytes : List ℕ) (fs : List Frame) (rest : List ℕ)
     (reported : Reported) : Type 0 where
   pub lawful : IsLawful role limits fs
   pub whole : bytes ≡ stream fs ++ rest
+  pub judged : (verdict : Verdict) × IsVerdict role limits bytes fs verdict
   pub heads : AreHeads role limits bytes fs reported.heads
   pub ends : AreEnds fs rest reported.ends
   pub payload : (info : HeadInfo) → reported.heads ≡ heads_of fs ++ info ∷ [] →

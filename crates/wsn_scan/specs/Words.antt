@@ -1,7 +1,7 @@
 -- The words that the clauses in src/ use, passed on.
 pub use Rattle.std.specs.Io.KnownBytes.{Consumes, Keeps, IsAtEnd}
 pub use Rattle.wsn_wire.specs.Frame.{Frame, IsBytes}
-pub use Rattle.wsn_wire.specs.Transfer.{Incoming, Outgoing, IsWrittenUpToFailure}
+pub use Rattle.wsn_wire.specs.Transfer.{Incoming, Outgoing, IsWritten, IsWrittenUpToFailure}
 pub use Rattle.wsn_wire.specs.declared.endpoint.Role.{Role}
 pub use Rattle.wsn_rules.specs.Group.{unfinished}
 pub use Rattle.wsn_rules.specs.Heads.{AreHeads, heads_of}
@@ -13,7 +13,7 @@ pub use Rattle.wsn_rules.specs.declared.verdict.Verdict.{Verdict}
 pub use Rattle.wsn_scan.specs.Feeding.{IsRunning, heads_in, HasFed, TakesFront}
 pub use Rattle.wsn_scan.specs.FramesTold.{Position, IsToldOf, BetweenFrames}
 pub use Rattle.wsn_scan.specs.Judging.{IsJudged, IsUnrefused}
-pub use Rattle.wsn_scan.specs.Listing.{IsEnded, IsListedPiece, IsListed}
+pub use Rattle.wsn_scan.specs.Listing.{IsEnded, IsListedPiece, IsListed, IsListedWhole}
 pub use Rattle.wsn_scan.specs.NoticeReaders.{HasTold, IsReading, left_of, payload_of}
 pub use Rattle.wsn_scan.specs.ReadNotices.{ReadsOn, IsNotice}
 pub use Rattle.wsn_scan.specs.ReaderSteps.{Tells, Progresses, IsUsed, IsFilled}
@@ -22,7 +22,7 @@ pub use Rattle.wsn_scan.specs.Reports.{IsHeadNotice, IsRefusal, refusal_judged}
 pub use Rattle.wsn_scan.specs.Scans.{Stands, Takes, refusal_in, room_of, GetsOn, taken_of, Advances, TakesAt}
 pub use Rattle.wsn_scan.specs.Scans.{AdvancesFrom, BeginsFrame, EndsWithPayload, refusal_of, summary_of}
 pub use Rattle.wsn_scan.specs.Scans.{verdict_between, IsAt, IsStageBehind, refusal_at}
-pub use Rattle.wsn_scan.specs.Stops.{IsPut}
+pub use Rattle.wsn_scan.specs.Stops.{IsPut, AnswersAll}
 pub use Rattle.wsn_scan.specs.declared.notice.Notice.{Notice}
 pub use Rattle.wsn_scan.specs.declared.notice_reader.NoticeReader.{NoticeReader}
 pub use Rattle.wsn_scan.specs.declared.scan.Scan.{Scan}

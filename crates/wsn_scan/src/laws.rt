@@ -2,7 +2,7 @@
 //! contract is the fact.
 
 ghost use Rattle.std.specs.Prelude.{◌≡◌, ℕ, false, Some, Result, List};
-ghost use Rattle.wsn_scan.specs.Words.{Frame, Role, Incoming, Limits, Verdict, Stop, NoticeReader, Position, IsToldOf, IsJudged, Scan, Stands, Takes, refusal_in, Reported, IsReport, AnswersByCase, Notice, HasTold};
+ghost use Rattle.wsn_scan.specs.Words.{Frame, Role, Incoming, Limits, Verdict, Stop, NoticeReader, Position, IsToldOf, IsJudged, Scan, Stands, Takes, refusal_in, Reported, IsReport, AnswersByCase, Notice, HasTold, Outgoing, IsWritten, IsListedWhole, AnswersAll};
 
 /// Of an input whose bytes are known only one answer of [`judge`](crate::judge) is right, in whatever pieces
 /// they come, unless a read fails.
@@ -11,6 +11,17 @@ pub fn law_one_answer()
         (result same : Result Verdict Stop) →
         old.remaining ≡ Some all → new.failed ≡ false → other.failed ≡ false →
         IsJudged role limits old new result → IsJudged role limits old other same → result ≡ same }
+{}
+
+/// Of an input whose bytes are known [`list`](crate::list) has one answer and prints one text, in whatever pieces it
+/// comes, unless a read or a write fails.
+pub fn law_one_listing()
+    ensures { (role : Role) (limits : Limits) (all : List ℕ) (before after other_before other_after : Outgoing)
+        (result other : Result Verdict Stop) →
+        AnswersAll result → AnswersAll other → IsListedWhole role limits all before after result →
+        IsListedWhole role limits all other_before other_after other →
+        (result ≡ other) × ((bytes : List ℕ) × IsWritten before after bytes
+        × IsWritten other_before other_after bytes) }
 {}
 
 /// What a scan that has taken these bytes has reported of them, whatever pieces they came in: the heads of their

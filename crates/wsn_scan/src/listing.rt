@@ -1,5 +1,5 @@
-ghost use Rattle.std.specs.Prelude.{◌≡◌, ℕ, ◌≤◌, List, ◌++◌, length, false, Ok};
-ghost use Rattle.wsn_scan.specs.Words.{Outgoing, IsWrittenUpToFailure, room_of, IsRunning, heads_in, head_lines, IsEnded, IsListedPiece, IsListed};
+ghost use Rattle.std.specs.Prelude.{◌≡◌, ℕ, ◌≤◌, List, ◌++◌, length, false, Ok, Some};
+ghost use Rattle.wsn_scan.specs.Words.{Outgoing, IsWrittenUpToFailure, room_of, IsRunning, heads_in, head_lines, IsEnded, IsListedPiece, IsListed, IsListedWhole};
 
 use crate::judging::{PIECE, read_piece};
 use crate::lines::{put_head, put_verdict};
@@ -22,7 +22,9 @@ pub fn list<R: Read, W: Write>(
 ) -> Result<Verdict, Stop>
     requires readable { input.old.failed ≡ false }
     requires writable { output.old.failed ≡ false }
-    ensures { IsListed role limits input.old input.new output.old output.new result }
+    ensures listed { IsListed role limits input.old input.new output.old output.new result }
+    ensures whole { (all : List ℕ) → input.old.remaining ≡ Some all →
+        IsListedWhole role limits all output.old output.new result }
 {
     let mut scan = Scan::new(role, limits);
     let mut buffer = [0; PIECE];
@@ -78,7 +80,7 @@ fn list_piece<W: Write>(
             return Some(refusal);
         }
     }
-    None
+    scan.refusal()
 }
 
 /// Writes the head that a notice tells, unless a write has failed.

@@ -69,7 +69,8 @@ impl NoticeReader {
 
     /// Reads on from the input and tells what comes next of its frames, or the verdict once there is none: at the
     /// input's end, or where a byte shows a refusal. `Read` if the reader fails, and `InputLimit` if more bytes come
-    /// than the input limit, each once all was told that came before. It is called no more behind these.
+    /// than the input limit. Before each of these every head in the bytes that came was told, and each whole frame to
+    /// its end; of a frame that has begun, its payload may not be told. It is called no more behind these.
     pub fn next<R: Read>(&mut self, input: &mut Input<R>) -> Result<NextNotice, Stop>
         requires begun { IsReading self.old }
         requires readable { input.old.failed ≡ false }

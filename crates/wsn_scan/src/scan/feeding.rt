@@ -7,8 +7,8 @@ impl Scan {
     ghost use Rattle.std.specs.Prelude.{◌≤◌, length};
     ghost use Rattle.wsn_scan.specs.Words.{room_of, IsRunning, HasFed};
 
-    /// Takes the piece, which is no longer than `room`: all of it, or up to a refusal, which it answers. It unmasks
-    /// payload in place.
+    /// Takes the piece, which is no longer than `room`: all of it, or up to a refusal, which it answers, and again from
+    /// then on. It unmasks payload in place.
     pub fn feed(&mut self, piece: &mut [u8]) -> Option<Refusal>
         requires begun { IsRunning self.old }
         requires fits { length piece.old ≤ room_of self.old }
@@ -23,6 +23,6 @@ impl Scan {
             }
             at += self.take_frames(&mut piece[at..]);
         }
-        None
+        self.refusal()
     }
 }

@@ -1,4 +1,4 @@
-use Rattle.std.proofs.Common.{◌≡◌, ◌∙◌, ◌+◌, ◌-◌, ◌<◌, ◌≤◌, ℕ, List, [], ◌++◌, length, drop, refl, arith, ap, length-drop}
+use Rattle.std.proofs.Common.{◌≡◌, ◌∙◌, ◌+◌, ◌-◌, ◌<◌, ◌≤◌, ℕ, List, [], ◌++◌, length, drop, refl, sym, arith, ap, length-drop}
 use borrow.Rule.Slice.PartMut.{mid_of, same_len_mid}
 use Rattle.wsn_scan.specs.Reports.{refusal_in_notice}
 use Rattle.wsn_scan.specs.Feeding.{heads_in}
@@ -16,7 +16,6 @@ loop-at-init g c = record {
   kept = refl;
   room = omega arith;
   takes = ([], takes_none c.args.scan.now c.args.piece.now, prints_nothing c.args.output.now c.requires.writable);
-  reported = λ none. none;
 }
 
 pub returns-in-Refused : goal.returns-in-Refused
@@ -35,7 +34,7 @@ returns-in-Refused g c =
         heads = c.loop-at.invariant.takes.0 ++ heads_in c.next-taken.result.1;
         takes = takes_on c.args.scan.now c.loop-at.scan c.next-taken.new.self c.next-taken.result.1 c.args.piece.now share c.next-taken.new.piece at taken c.loop-at.invariant.takes.0 c.loop-at.invariant.in_bytes is c.loop-at.invariant.takes.1 c.next-taken.ensures.taken;
         all = λ none. cc;
-        reported = λ none. c.next-taken.ensures.reported ∙ ap (λ (notice : Notice). refusal_in_notice notice) c.in-Refused.is;
+        told = sym (c.next-taken.ensures.reported ∙ ap (λ (notice : Notice). refusal_in_notice notice) c.in-Refused.is);
       };
       printed = printed;
     }
@@ -78,7 +77,6 @@ loop-at-preserved g c =
         takes_on c.args.scan.now c.loop-at.scan c.next-taken.new.self c.next-taken.result.1 piece share c.next-taken.new.piece at taken c.loop-at.invariant.takes.0 c.loop-at.invariant.in_bytes is c.loop-at.invariant.takes.1 c.next-taken.ensures.taken,
         lines_on c.args.output.now c.print.new.output c.loop-at.invariant.takes.0 (heads_in c.next-taken.result.1) (c.print.ensures c.args.output.now (head_lines c.loop-at.invariant.takes.0) c.loop-at.invariant.takes.2),
       );
-      reported = λ none. c.next-taken.ensures.reported ∙ (no_refusal c.next-taken.result.1 c.in_default.not-Refused).1;
     }
 
 pub returns : goal.returns
@@ -90,7 +88,7 @@ returns g c = record {
     heads = c.loop-at.invariant.takes.0;
     takes = c.loop-at.invariant.takes.1;
     all = λ none. omega (arith, c.loop-at.invariant.within, c.loop-at.invariant.size);
-    reported = c.loop-at.invariant.reported;
+    told = c.refusal.ensures;
   };
   printed = c.loop-at.invariant.takes.2;
 }

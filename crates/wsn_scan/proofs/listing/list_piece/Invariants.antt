@@ -1,7 +1,7 @@
-use Rattle.std.proofs.Common.{◌≡◌, ◌+◌, ◌-◌, ◌*◌, ◌≤◌, None, List, length, drop}
+use Rattle.std.proofs.Common.{◌≡◌, ◌+◌, ◌-◌, ◌*◌, ◌≤◌, List, length, drop}
 use Rattle.wsn_wire.specs.Frame.{IsBytes}
 use Rattle.wsn_rules.specs.declared.head_info.HeadInfo.{HeadInfo}
-use Rattle.wsn_scan.specs.Scans.{ends_pending, refusal_in}
+use Rattle.wsn_scan.specs.Scans.{ends_pending}
 use Rattle.wsn_scan.specs.Feeding.{TakesFront}
 use Rattle.wsn_rules.specs.Lines.{head_lines}
 use Rattle.wsn_scan.proofs.listing.list_piece.Given as goal
@@ -16,7 +16,6 @@ invariant-loop-at g l = record {
   kept : drop l.at l.piece ≡ drop l.at l.fn.piece;
   room : l.scan.room + l.at ≡ l.fn.scan.room;
   takes : (more : List HeadInfo) × TakesFront l.fn.scan l.scan l.fn.piece l.at more × IsWrittenUpToFailure l.fn.output l.output (head_lines more);
-  reported : refusal_in l.fn.scan ≡ None → refusal_in l.scan ≡ None;
 }
 
 abbrev pub decreases-loop-at : goal.decreases-loop-at

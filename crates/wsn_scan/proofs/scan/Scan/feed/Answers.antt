@@ -12,7 +12,6 @@ loop-at-init c = record {
   kept = refl;
   room = omega arith;
   takes = ([], takes_none c.args.self.now c.args.piece.now);
-  reported = λ none. none;
 }
 
 pub returns-in-Some : goal.returns-in-Some
@@ -28,7 +27,7 @@ returns-in-Some c =
       heads = c.loop-at.invariant.takes.0 ++ heads_in c.next-taken.result.1;
       takes = takes_on c.args.self.now c.loop-at.self c.next-taken.new.self c.next-taken.result.1 c.args.piece.now share c.next-taken.new.piece at taken c.loop-at.invariant.takes.0 c.loop-at.invariant.in_bytes is c.loop-at.invariant.takes.1 c.next-taken.ensures.taken;
       all = λ none. cc;
-      reported = λ none. sym c.refusal.ensures ∙ c.in-Some.is;
+      told = sym c.in-Some.is ∙ c.refusal.ensures;
     }
 
 pub loop-at-smaller : goal.loop-at-smaller
@@ -77,5 +76,4 @@ loop-at-preserved c =
       kept = last.kept;
       room = last.room;
       takes = last.takes;
-      reported = λ none. frames.ensures.reported (sym c.refusal.ensures ∙ c.in_default.is);
     }

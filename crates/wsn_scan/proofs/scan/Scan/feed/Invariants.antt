@@ -1,7 +1,7 @@
-use Rattle.std.proofs.Common.{◌≡◌, ◌+◌, ◌-◌, ◌*◌, ◌≤◌, None, List, length, drop}
+use Rattle.std.proofs.Common.{◌≡◌, ◌+◌, ◌-◌, ◌*◌, ◌≤◌, List, length, drop}
 use Rattle.wsn_rules.specs.declared.head_info.HeadInfo.{HeadInfo}
 use Rattle.wsn_wire.specs.Frame.{IsBytes}
-use Rattle.wsn_scan.specs.Scans.{ends_pending, refusal_in}
+use Rattle.wsn_scan.specs.Scans.{ends_pending}
 use Rattle.wsn_scan.specs.Feeding.{TakesFront}
 use Rattle.wsn_scan.proofs.scan.Scan.feed.Given as goal
 
@@ -14,7 +14,6 @@ invariant-loop-at l = record {
   kept : drop l.at l.piece ≡ drop l.at l.fn.piece;
   room : l.self.room + l.at ≡ l.fn.self.room;
   takes : (more : List HeadInfo) × TakesFront l.fn.self l.self l.fn.piece l.at more;
-  reported : refusal_in l.fn.self ≡ None → refusal_in l.self ≡ None;
 }
 
 abbrev pub decreases-loop-at : goal.decreases-loop-at
