@@ -1,5 +1,5 @@
 -- Lines that are handed on as they come.
-use Rattle.std.proofs.Common.{◌≡◌, ◌≢◌, ℕ, ◌+◌, ◌<◌, ◌≤◌, List, [], ◌∷◌, ◌++◌, length, inl, refl, sym, ap, ◌∙◌, subst, append_assoc, append-nil, length-append, arith, ◌==◌, true, false, Err}
+use Rattle.std.proofs.Common.{◌≡◌, ◌≢◌, ℕ, ◌+◌, ◌<◌, ◌≤◌, List, [], ◌∷◌, ◌++◌, length, inl, inr, refl, sym, ap, ◌∙◌, subst, append_assoc, append-nil, length-append, arith, ◌==◌, true, false, Err}
 use Rattle.std.proofs.lemmas.Bool.{eqb-true}
 use Rattle.wsn_rules.specs.Limits.{Limits}
 use Rattle.wsn_capture.specs.declared.line_fault.LineFault.{LineFault}
@@ -142,7 +142,7 @@ module _ (limits : Limits) (old : Capture) (begun came : List ℕ) (split : HasH
   pub no_long : (capture : Capture) (after : List ℕ) → length after ≡ 8196 → HasTaken limits capture (split.lines ++ after ∷ []) → ⊥
   no_long capture after size has = not_taken limits capture split.lines after (omega (arith, size)) has
 
-  pub unfaulted : IsUnfaulted limits came
+  abbrev pub unfaulted : IsUnfaulted limits came
   unfaulted = record {
     lines = split.lines;
     begun = begun;
@@ -198,6 +198,7 @@ module _ (limits : Limits) (old : Capture) (begun came : List ℕ) (split : HasH
         ahead = ahead;
         whole = refl;
         unfaulted = unfaulted limits old (begun ++ bytes) (came ++ bytes) more;
+        shown = inl refl;
         stops = stop_lf limits old (begun ++ bytes) (came ++ bytes) more stop stops;
       }
 
@@ -215,6 +216,7 @@ module _ (limits : Limits) (old : Capture) (begun came : List ℕ) (split : HasH
         ahead = ahead;
         whole = append_assoc told (last ∷ []) ahead;
         unfaulted = unfaulted limits old (begun ++ told) (came ++ told) more;
+        shown = inr (omega (arith, size, sizes, length-append begun told));
         stops = stop_long limits old (begun ++ told) (came ++ told) more last stop
             (line_join (begun ++ told) (last ∷ []) more.in_line (line_right told (last ∷ []) line))
             (ap (λ (bs : List ℕ). length bs) same ∙ length-append begun (told ++ last ∷ []) ∙ size)
