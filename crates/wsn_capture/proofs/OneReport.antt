@@ -125,7 +125,7 @@ one_first limits entries (Some Server) (Some Server) is also = refl
 
 -- ---- the outcome
 
-abbrev outcome_at : ℕ → Outcome
+abbrev pub outcome_at : ℕ → Outcome
 outcome_at zero = Failed
 outcome_at (suc zero) = Clean
 outcome_at (suc (suc zero)) = Complete
@@ -133,7 +133,7 @@ outcome_at (suc (suc (suc zero))) = Abnormal
 outcome_at (suc (suc (suc (suc zero)))) = Half
 outcome_at (suc (suc (suc (suc (suc n))))) = Live
 
-at_its_place : (outcome : Outcome) → outcome_at (order_of outcome) ≡ outcome
+pub at_its_place : (outcome : Outcome) → outcome_at (order_of outcome) ≡ outcome
 at_its_place Failed = refl
 at_its_place Clean = refl
 at_its_place Complete = refl

@@ -2,7 +2,7 @@
 pub use Rattle.hex.specs.Hex.{decode_of, hex_digit_value, is_hex_digit}
 pub use Rattle.wsn_wire.specs.Frame.{Frame}
 pub use Rattle.wsn_wire.specs.Refusal.{word_of, code_of}
-pub use Rattle.wsn_rules.specs.Limits.{Limits}
+pub use Rattle.wsn_rules.specs.Limits.{Limits, InRange}
 pub use Rattle.wsn_rules.specs.Verdict.{IsVerdict}
 pub use Rattle.wsn_scan.specs.Stops.{IsPut}
 pub use Rattle.wsn_capture.specs.CaptureAnswers.{IsAnswerOf}
@@ -21,3 +21,4 @@ pub use Rattle.wsn_capture.specs.ScannedStreams.{HasStreamed}
 pub use Rattle.wsn_capture.specs.Sides.{IsSide, sent, has_ended, ended_as}
 pub use Rattle.wsn_capture.specs.declared.line_fault.LineFault.{LineFault}
 pub use Rattle.wsn_capture.specs.declared.report.Report.{Report}
+pub use Rattle.wsn_capture.specs.declared.capture_stop.CaptureStop.{CaptureStop}
