@@ -25,7 +25,7 @@ use Rattle.wsn_capture.specs.declared.report.Report.{Report}
 use Rattle.wsn_capture.specs.Entries.{Entry, IsGiven, AreEntries}
 use Rattle.wsn_capture.specs.Entries.Entry.{Nothing, Bytes, Mark}
 use Rattle.wsn_capture.specs.Sides.{bytes_in, sent, has_ended, side_of, IsSide}
-use Rattle.wsn_capture.specs.Reports.{IsRefused, IsClosed, IsEndedEarly, Fits, order_of, echo_of, seen_of, IsOutcome, IsReport}
+use Rattle.wsn_capture.specs.Reports.{IsRefused, IsClosed, IsEndedEarly, Fits, outcome_order, echo_of, seen_of, IsOutcome, IsReport}
 use Rattle.wsn_capture.specs.CloseLines.{earlier_of}
 use Rattle.wsn_capture.specs.Captures.{IsUnclosed, IsClosedBy, IsCloseLine}
 use Rattle.wsn_capture.proofs.PairedDigits.{pair_of}
@@ -177,7 +177,7 @@ both (inl a) (inl b) = inl (a, b)
 both (inl a) (inr none) = inr (λ is. none is.1)
 both (inr none) b = inr (λ is. none is.0)
 
-order_at : (n : ℕ) → n ≤ 5 → order_of (outcome_at n) ≡ n
+order_at : (n : ℕ) → n ≤ 5 → outcome_order (outcome_at n) ≡ n
 order_at zero le = refl
 order_at (suc zero) le = refl
 order_at (suc (suc zero)) le = refl
@@ -200,12 +200,12 @@ module _ (client server : Side) (client_ended server_ended : Bool) where
 
   -- none before this place fits
   abbrev NoneBefore : ℕ → Type 0
-  NoneBefore n = (other : Outcome) → Fits client server client_ended server_ended other → n ≤ order_of other
+  NoneBefore n = (other : Outcome) → Fits client server client_ended server_ended other → n ≤ outcome_order other
 
   none_there : (n : ℕ) → NoneBefore n → (Fits client server client_ended server_ended (outcome_at n) → ⊥) → NoneBefore (suc n)
   none_there n before none other held =
       let behind = before other held in
-      elim (cases_eq (order_of other) n) [
+      elim (cases_eq (outcome_order other) n) [
         | inl here ↦ absurd (none (subst (Fits client server client_ended server_ended) (sym (at_its_place other) ∙ ap outcome_at here) held))
         | inr there ↦ omega (arith, behind, there)
       ]

@@ -9,9 +9,8 @@ use Rattle.wsn_capture.specs.declared.capture_stop.CaptureStop.TheVariants.{Read
 use Rattle.wsn_capture.specs.declared.capture.Capture.{Capture}
 use Rattle.wsn_capture.specs.declared.report.Report.{Report}
 use Rattle.wsn_lines.specs.TextLines.{IsLine, ended, AreLines}
-use Rattle.wsn_capture.specs.Entries.{without_cr}
-use Rattle.wsn_capture.specs.Entries.{Entry}
-use Rattle.wsn_capture.specs.LineFaults.{order_of, HasFault, IsFirstFault, IsTaken, AreTakenBehind, IsFaultBehind}
+use Rattle.wsn_capture.specs.Entries.{without_cr, Entry}
+use Rattle.wsn_capture.specs.LineFaults.{fault_order, HasFault, IsFirstFault, IsTaken, AreTakenBehind, IsFaultBehind}
 use Rattle.wsn_capture.specs.Reports.{IsReport}
 use Rattle.wsn_capture.specs.Captures.{HasTaken}
 use Rattle.wsn_capture.specs.CaptureAnswers.{IsReported, IsFaulty, IsUnfaulted, IsAnswerOf}
@@ -28,7 +27,7 @@ without_cr_long (b ∷ c ∷ line) = let rest = without_cr_long (c ∷ line) in 
 too_long : (line more : List ℕ) → 8196 ≤ length line → 8194 < length (without_cr (line ++ more))
 too_long line more long = let kept = without_cr_long (line ++ more) in omega (arith, kept, length-append line more, long)
 
-behind_first : (limits : Limits) (given : List Entry) (text : List ℕ) → (HasFault limits given text TooManyLines → ⊥) → (other : LineFault) → HasFault limits given text other → 1 ≤ order_of other
+behind_first : (limits : Limits) (given : List Entry) (text : List ℕ) → (HasFault limits given text TooManyLines → ⊥) → (other : LineFault) → HasFault limits given text other → 1 ≤ fault_order other
 behind_first limits given text few TooManyLines held = absurd (few held)
 behind_first limits given text few TooLong held = omega arith
 behind_first limits given text few BadForm held = omega arith
@@ -36,7 +35,7 @@ behind_first limits given text few BadHex held = omega arith
 behind_first limits given text few AfterEnd held = omega arith
 behind_first limits given text few InputLimit held = omega arith
 
-still_first : (limits : Limits) (given : List Entry) (line more : List ℕ) (fault : LineFault) → 8196 ≤ length line → order_of fault ≤ 1 → IsFirstFault limits given line fault → IsFirstFault limits given (line ++ more) fault
+still_first : (limits : Limits) (given : List Entry) (line more : List ℕ) (fault : LineFault) → 8196 ≤ length line → fault_order fault ≤ 1 → IsFirstFault limits given line fault → IsFirstFault limits given (line ++ more) fault
 still_first limits given line more TooManyLines long low is = record { held = is.held; first = λ other held. omega arith }
 still_first limits given line more TooLong long low is = record {
   held = too_long line more long;

@@ -17,7 +17,7 @@ pub use Rattle.wsn_capture.specs.LineSplitters.{HasSplit, IsStopAt, IsStopBy, Is
 pub use Rattle.wsn_capture.specs.ReportLines.{report_lines, report_line, side_text, code_text, first_text, echo_text}
 pub use Rattle.wsn_capture.specs.ReportLines.{outcome_word}
 pub use Rattle.wsn_capture.specs.Reports.{IsReport, SendAlike}
-pub use Rattle.wsn_capture.specs.ScannedStreams.{HasStreamed}
+pub use Rattle.wsn_capture.specs.LimitedScans.{HasStreamed}
 pub use Rattle.wsn_capture.specs.Sides.{IsSide, sent, has_ended, ended_as}
 pub use Rattle.wsn_capture.specs.declared.line_fault.LineFault.{LineFault}
 pub use Rattle.wsn_capture.specs.declared.report.Report.{Report}

@@ -27,8 +27,8 @@ pub fn law_one_report()
         IsReport limits lines report → IsReport limits lines other → report ≡ other }
 {}
 
-/// How the bytes are cut into lines matters to nothing but `first`: all else of a report depends on the two sides'
-/// joined bytes and on their end marks.
+/// How the bytes are cut into lines matters to nothing but `first`: all else of a report depends on both
+/// streams, and on which have their end mark.
 pub fn law_any_lines()
     ensures { (limits : Limits) (lines others : List (List ℕ)) (report other : Report) →
         SendAlike lines others → IsReport limits lines report → IsReport limits others other →
