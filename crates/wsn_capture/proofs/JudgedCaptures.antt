@@ -74,7 +74,7 @@ module _ (limits : Limits) (old mid new : Incoming) (splitter : LineSplitter) (r
               ∙ sym (append_assoc (read.came ++ within.told) (within.last ∷ within.ahead) later)
               ∙ ap (λ (bs : List ℕ). bs ++ later) (sym whole) in
               subst (λ (bs : List ℕ). IsFaulty limits bs number fault) same (within.stops (within.ahead ++ later))),
-          record { told = read.came ++ within.told; last = within.last; ahead = within.ahead; whole = whole; unfaulted = within.unfaulted; few = omega (arith, sizes, size) },
+          record { told = read.came ++ within.told; last = within.last; ahead = within.ahead; whole = whole; unfaulted = within.unfaulted; shown = within.shown; few = omega (arith, sizes, size) },
         ),
         unfailed,
       )

@@ -12,3 +12,5 @@ pub mod SplitLines
 pub mod PieceFronts
 pub mod JudgedCaptures
 pub mod ReportTexts
+pub mod EveryReport
+pub mod OneAnswer

@@ -9,11 +9,10 @@ use Rattle.wsn_rules.specs.Limits.{Limits}
 use Rattle.wsn_rules.proofs.Prefixes.{head_same, tail_same}
 use Rattle.wsn_capture.specs.declared.line_fault.LineFault.{LineFault}
 use Rattle.wsn_capture.specs.declared.line_fault.LineFault.TheVariants.{TooManyLines, TooLong, BadForm, BadHex, AfterEnd, InputLimit}
-use Rattle.wsn_capture.specs.Entries.{without_cr}
-use Rattle.wsn_capture.specs.Entries.{Entry, IsHex, IsGiven, bytes_front, end_mark}
+use Rattle.wsn_capture.specs.Entries.{without_cr, Entry, IsHex, IsGiven, bytes_front, end_mark}
 use Rattle.wsn_capture.specs.Entries.Entry.{Nothing, Bytes, Mark}
 use Rattle.wsn_capture.specs.Sides.{sent, has_ended}
-use Rattle.wsn_capture.specs.LineFaults.{order_of, IsOf, HasNoForm, HasFault, IsFirstFault, IsTaken, most_lines, most_bytes}
+use Rattle.wsn_capture.specs.LineFaults.{fault_order, IsOf, HasNoForm, HasFault, IsFirstFault, IsTaken, most_lines, most_bytes}
 use Rattle.wsn_capture.proofs.OneEntry.{letter_of, front_is, mark_is, not_nothing, same_bytes_line, not_mark, same_mark, one_given}
 
 -- ---- the order of the faults
@@ -26,7 +25,7 @@ fault_at (suc (suc (suc zero))) = BadHex
 fault_at (suc (suc (suc (suc zero)))) = AfterEnd
 fault_at (suc (suc (suc (suc (suc n))))) = InputLimit
 
-at_its_place : (fault : LineFault) → fault_at (order_of fault) ≡ fault
+at_its_place : (fault : LineFault) → fault_at (fault_order fault) ≡ fault
 at_its_place TooManyLines = refl
 at_its_place TooLong = refl
 at_its_place BadForm = refl
@@ -34,7 +33,7 @@ at_its_place BadHex = refl
 at_its_place AfterEnd = refl
 at_its_place InputLimit = refl
 
-placed : (fault : LineFault) → order_of fault < 6
+placed : (fault : LineFault) → fault_order fault < 6
 placed TooManyLines = omega arith
 placed TooLong = omega arith
 placed BadForm = omega arith
@@ -46,14 +45,14 @@ pub one_first_fault : (limits : Limits) (given : List Entry) (line : List ℕ) (
 one_first_fault limits given line fault other is also =
     let up = is.first other also.held in
     let down = also.first fault is.held in
-    let same : order_of fault ≡ order_of other = omega (arith, up, down) in
+    let same : fault_order fault ≡ fault_order other = omega (arith, up, down) in
     sym (at_its_place fault) ∙ ap fault_at same ∙ at_its_place other
 
 -- In these, the faults from one on: from the first, or from the first that a text has by itself.
 module _ (limits : Limits) (given : List Entry) (text : List ℕ) (from : ℕ) where
   -- none of them comes before this place
   abbrev pub NoneBefore : ℕ → Type 0
-  NoneBefore n = (other : LineFault) → HasFault limits given text other → from ≤ order_of other → n ≤ order_of other
+  NoneBefore n = (other : LineFault) → HasFault limits given text other → from ≤ fault_order other → n ≤ fault_order other
 
   pub none_at_first : NoneBefore from
   none_at_first other held le = le
@@ -61,15 +60,15 @@ module _ (limits : Limits) (given : List Entry) (text : List ℕ) (from : ℕ) w
   pub none_further : (n : ℕ) → NoneBefore n → (HasFault limits given text (fault_at n) → ⊥) → NoneBefore (suc n)
   none_further n before none other held le =
       let behind = before other held le in
-      elim (cases_eq (order_of other) n) [
+      elim (cases_eq (fault_order other) n) [
         | inl here ↦ absurd (none (subst (HasFault limits given text) (sym (at_its_place other) ∙ ap fault_at here) held))
         | inr there ↦ omega (arith, behind, there)
       ]
 
   -- none of them is there
-  pub none_at_all : NoneBefore 6 → (other : LineFault) → HasFault limits given text other → order_of other < from
+  pub none_at_all : NoneBefore 6 → (other : LineFault) → HasFault limits given text other → fault_order other < from
   none_at_all before other held =
-      elim (cases_lt (order_of other) from) [
+      elim (cases_lt (fault_order other) from) [
         | inl less ↦ less
         | inr le ↦ let behind = before other held le in let few = placed other in absurd (omega (arith, behind, few))
       ]
@@ -213,8 +212,8 @@ module _ (limits : Limits) (given : List Entry) (text : List ℕ) (from : ℕ) w
 module _ (limits : Limits) (given : List Entry) (text : List ℕ) where
   -- the text is taken, or its first fault is known
   abbrev pub IsDecided : Type 0
-  IsDecided = ((entry : Entry) × IsGiven text entry × ((fault : LineFault) → HasFault limits given text fault → order_of fault < 0))
-      ⊎ ((fault : LineFault) × HasFault limits given text fault × NoneBefore limits given text 0 (order_of fault))
+  IsDecided = ((entry : Entry) × IsGiven text entry × ((fault : LineFault) → HasFault limits given text fault → fault_order fault < 0))
+      ⊎ ((fault : LineFault) × HasFault limits given text fault × NoneBefore limits given text 0 (fault_order fault))
 
   by_form : NoneBefore limits given text 0 2 → Form text → IsDecided
   by_form before (GivesNothing is) = inl (Nothing, is, none_at_all limits given text 0 (nothing_bad limits given text 0 is before))

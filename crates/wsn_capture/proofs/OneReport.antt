@@ -19,7 +19,7 @@ use Rattle.wsn_capture.specs.declared.report.Report.{Report}
 use Rattle.wsn_capture.specs.Entries.{Entry}
 use Rattle.wsn_capture.specs.Entries.Entry.{Nothing, Bytes, Mark}
 use Rattle.wsn_capture.specs.Sides.{bytes_in, sent, side_of, has_ended, IsSide}
-use Rattle.wsn_capture.specs.Reports.{ClosesIn, IsFirst, other_side, echo_of, seen_of, order_of, IsOutcome, IsReportOf, IsReport, SendAlike}
+use Rattle.wsn_capture.specs.Reports.{ClosesIn, IsFirst, other_side, echo_of, seen_of, outcome_order, IsOutcome, IsReportOf, IsReport, SendAlike}
 use Rattle.wsn_capture.proofs.OneEntry.{same_entries}
 
 -- ---- a side
@@ -125,7 +125,7 @@ one_first limits entries (Some Server) (Some Server) is also = refl
 
 -- ---- the outcome
 
-abbrev outcome_at : ℕ → Outcome
+abbrev pub outcome_at : ℕ → Outcome
 outcome_at zero = Failed
 outcome_at (suc zero) = Clean
 outcome_at (suc (suc zero)) = Complete
@@ -133,7 +133,7 @@ outcome_at (suc (suc (suc zero))) = Abnormal
 outcome_at (suc (suc (suc (suc zero)))) = Half
 outcome_at (suc (suc (suc (suc (suc n))))) = Live
 
-at_its_place : (outcome : Outcome) → outcome_at (order_of outcome) ≡ outcome
+pub at_its_place : (outcome : Outcome) → outcome_at (outcome_order outcome) ≡ outcome
 at_its_place Failed = refl
 at_its_place Clean = refl
 at_its_place Complete = refl
@@ -145,7 +145,7 @@ pub one_outcome : (client server : Side) (client_ended server_ended : Bool) (out
 one_outcome client server client_ended server_ended outcome other is also =
     let up = is.first other also.fits in
     let down = also.first outcome is.fits in
-    let same : order_of outcome ≡ order_of other = omega (arith, up, down) in
+    let same : outcome_order outcome ≡ outcome_order other = omega (arith, up, down) in
     sym (at_its_place outcome) ∙ ap outcome_at same ∙ at_its_place other
 
 -- ---- the report

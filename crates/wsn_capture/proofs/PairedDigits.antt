@@ -13,7 +13,7 @@ AreDecoded true digits bytes i =
 AreDecoded false digits bytes i = (e : FromHexError) × (decode_pairs 0 digits ≡ Err e)
 
 -- the byte of two digits, by their values
-abbrev pair_of : ℕ → ℕ → ℕ → Option ℕ → Option ℕ → Result ℕ FromHexError
+abbrev pub pair_of : ℕ → ℕ → ℕ → Option ℕ → Option ℕ → Result ℕ FromHexError
 pair_of high low i h l = digit_or_error high i h >>= (λ v. digit_or_error low (i + 1) l >>= (λ w. Ok (v * 16 + w)))
 
 by_values : (h l : Option ℕ) (digits bytes : List ℕ) (i : ℕ) → 2 * i + 1 < length digits → i < length bytes

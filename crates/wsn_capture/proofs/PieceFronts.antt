@@ -43,6 +43,19 @@ taken_more came piece at count =
 
 -- ---- stops
 
+-- the same bytes, written otherwise
+abbrev moved : {limits : Limits} {came others : List ℕ} → others ≡ came → (is : IsUnfaulted limits came) → IsUnfaulted limits others
+moved same is = record {
+  lines = is.lines;
+  begun = is.begun;
+  whole = same ∙ is.whole;
+  each = is.each;
+  in_line = is.in_line;
+  short = is.short;
+  given = is.given;
+  taken = is.taken;
+}
+
 -- one behind the front of a piece
 stop_behind : (limits : Limits) (came front rest : List ℕ) (stop : CaptureStop) → IsStopWithin limits (came ++ front) rest stop → IsStopWithin limits came (front ++ rest) stop
 stop_behind limits came front rest stop within =
@@ -52,7 +65,8 @@ stop_behind limits came front rest stop within =
       last = within.last;
       ahead = within.ahead;
       whole = ap (λ (bs : List ℕ). front ++ bs) within.whole ∙ sym (append_assoc front within.told (within.last ∷ within.ahead));
-      unfaulted = subst (IsUnfaulted limits) same within.unfaulted;
+      unfaulted = moved (sym same) within.unfaulted;
+      shown = within.shown;
       stops = subst (λ (bs : List ℕ). IsStopBy limits (bs ++ within.last ∷ []) stop) same within.stops;
     }
 

@@ -1,4 +1,4 @@
--- The report of what both directions know.
+-- The report of what both streams have.
 use Rattle.std.proofs.Common.{◌≡◌, ℕ, ◌<◌, ◌≤◌, nat_lt, Bool, true, false, cond, Option, None, Some, List, inl, inr, sym, ap, subst, arith}
 use Rattle.std.proofs.lemmas.Bool.{cases_lt, cases_eq}
 use Rattle.wsn_wire.specs.declared.endpoint.Role.{Role}

@@ -1,5 +1,5 @@
 -- Lines that are handed on as they come.
-use Rattle.std.proofs.Common.{◌≡◌, ◌≢◌, ℕ, ◌+◌, ◌<◌, ◌≤◌, List, [], ◌∷◌, ◌++◌, length, inl, refl, sym, ap, ◌∙◌, subst, append_assoc, append-nil, length-append, arith, ◌==◌, true, false, Err}
+use Rattle.std.proofs.Common.{◌≡◌, ◌≢◌, ℕ, ◌+◌, ◌<◌, ◌≤◌, List, [], ◌∷◌, ◌++◌, length, inl, inr, refl, sym, ap, ◌∙◌, subst, append_assoc, append-nil, length-append, arith, ◌==◌, true, false, Err}
 use Rattle.std.proofs.lemmas.Bool.{eqb-true}
 use Rattle.wsn_rules.specs.Limits.{Limits}
 use Rattle.wsn_capture.specs.declared.line_fault.LineFault.{LineFault}
@@ -9,9 +9,8 @@ use Rattle.wsn_capture.specs.declared.capture_stop.CaptureStop.TheVariants.{Read
 use Rattle.wsn_capture.specs.declared.capture.Capture.{Capture}
 use Rattle.wsn_capture.specs.declared.report.Report.{Report}
 use Rattle.wsn_lines.specs.TextLines.{IsLine, ended, AreLines}
-use Rattle.wsn_capture.specs.Entries.{without_cr}
-use Rattle.wsn_capture.specs.Entries.{Entry}
-use Rattle.wsn_capture.specs.LineFaults.{order_of, HasFault, IsFirstFault, IsTaken, AreTakenBehind, IsFaultBehind}
+use Rattle.wsn_capture.specs.Entries.{without_cr, Entry}
+use Rattle.wsn_capture.specs.LineFaults.{fault_order, HasFault, IsFirstFault, IsTaken, AreTakenBehind, IsFaultBehind}
 use Rattle.wsn_capture.specs.Reports.{IsReport}
 use Rattle.wsn_capture.specs.Captures.{HasTaken}
 use Rattle.wsn_capture.specs.CaptureAnswers.{IsReported, IsFaulty, IsUnfaulted, IsAnswerOf}
@@ -28,7 +27,7 @@ without_cr_long (b ∷ c ∷ line) = let rest = without_cr_long (c ∷ line) in 
 too_long : (line more : List ℕ) → 8196 ≤ length line → 8194 < length (without_cr (line ++ more))
 too_long line more long = let kept = without_cr_long (line ++ more) in omega (arith, kept, length-append line more, long)
 
-behind_first : (limits : Limits) (given : List Entry) (text : List ℕ) → (HasFault limits given text TooManyLines → ⊥) → (other : LineFault) → HasFault limits given text other → 1 ≤ order_of other
+behind_first : (limits : Limits) (given : List Entry) (text : List ℕ) → (HasFault limits given text TooManyLines → ⊥) → (other : LineFault) → HasFault limits given text other → 1 ≤ fault_order other
 behind_first limits given text few TooManyLines held = absurd (few held)
 behind_first limits given text few TooLong held = omega arith
 behind_first limits given text few BadForm held = omega arith
@@ -36,7 +35,7 @@ behind_first limits given text few BadHex held = omega arith
 behind_first limits given text few AfterEnd held = omega arith
 behind_first limits given text few InputLimit held = omega arith
 
-still_first : (limits : Limits) (given : List Entry) (line more : List ℕ) (fault : LineFault) → 8196 ≤ length line → order_of fault ≤ 1 → IsFirstFault limits given line fault → IsFirstFault limits given (line ++ more) fault
+still_first : (limits : Limits) (given : List Entry) (line more : List ℕ) (fault : LineFault) → 8196 ≤ length line → fault_order fault ≤ 1 → IsFirstFault limits given line fault → IsFirstFault limits given (line ++ more) fault
 still_first limits given line more TooManyLines long low is = record { held = is.held; first = λ other held. omega arith }
 still_first limits given line more TooLong long low is = record {
   held = too_long line more long;
@@ -142,7 +141,7 @@ module _ (limits : Limits) (old : Capture) (begun came : List ℕ) (split : HasH
   pub no_long : (capture : Capture) (after : List ℕ) → length after ≡ 8196 → HasTaken limits capture (split.lines ++ after ∷ []) → ⊥
   no_long capture after size has = not_taken limits capture split.lines after (omega (arith, size)) has
 
-  pub unfaulted : IsUnfaulted limits came
+  abbrev pub unfaulted : IsUnfaulted limits came
   unfaulted = record {
     lines = split.lines;
     begun = begun;
@@ -198,6 +197,7 @@ module _ (limits : Limits) (old : Capture) (begun came : List ℕ) (split : HasH
         ahead = ahead;
         whole = refl;
         unfaulted = unfaulted limits old (begun ++ bytes) (came ++ bytes) more;
+        shown = inl refl;
         stops = stop_lf limits old (begun ++ bytes) (came ++ bytes) more stop stops;
       }
 
@@ -215,6 +215,7 @@ module _ (limits : Limits) (old : Capture) (begun came : List ℕ) (split : HasH
         ahead = ahead;
         whole = append_assoc told (last ∷ []) ahead;
         unfaulted = unfaulted limits old (begun ++ told) (came ++ told) more;
+        shown = inr (omega (arith, size, sizes, length-append begun told));
         stops = stop_long limits old (begun ++ told) (came ++ told) more last stop
             (line_join (begun ++ told) (last ∷ []) more.in_line (line_right told (last ∷ []) line))
             (ap (λ (bs : List ℕ). length bs) same ∙ length-append begun (told ++ last ∷ []) ∙ size)

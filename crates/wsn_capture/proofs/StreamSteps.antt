@@ -14,7 +14,7 @@ use Rattle.wsn_scan.specs.declared.scan.Scan.{Scan}
 use Rattle.wsn_scan.specs.Scans.{refusal_in}
 use Rattle.wsn_scan.specs.Reports.{refusal_judged}
 use Rattle.wsn_scan.specs.Feeding.{HasFed}
-use Rattle.wsn_capture.specs.ScannedStreams.{IsSound, HasStreamed}
+use Rattle.wsn_capture.specs.LimitedScans.{IsSound, HasStreamed}
 
 -- bytes behind a refusal change nothing
 pub streamed_behind : (role : Role) (limits : Limits) (scan : Scan) (room : ℕ) (came more : List ℕ) → (refusal_in scan ≡ None → ⊥) → length more ≤ room

@@ -7,13 +7,12 @@ use Rattle.wsn_wire.specs.declared.endpoint.Role.TheVariants.{Client, Server}
 use Rattle.wsn_rules.specs.Limits.{Limits}
 use Rattle.wsn_capture.specs.declared.line_fault.LineFault.{LineFault}
 use Rattle.wsn_capture.specs.declared.line_fault.LineFault.TheVariants.{TooManyLines, TooLong, BadForm, BadHex, AfterEnd, InputLimit}
-use Rattle.wsn_capture.specs.declared.direction.Direction.{Direction}
+use Rattle.wsn_capture.specs.declared.sent_stream.SentStream.{SentStream}
 use Rattle.wsn_capture.specs.declared.capture.Capture.{Capture}
-use Rattle.wsn_capture.specs.Entries.{without_cr}
-use Rattle.wsn_capture.specs.Entries.{Entry, IsHex, IsGiven, AreEntries, bytes_front, end_mark}
+use Rattle.wsn_capture.specs.Entries.{without_cr, Entry, IsHex, IsGiven, AreEntries, bytes_front, end_mark}
 use Rattle.wsn_capture.specs.Entries.Entry.{Nothing, Bytes, Mark}
 use Rattle.wsn_capture.specs.Sides.{has_ended}
-use Rattle.wsn_capture.specs.LineFaults.{order_of, HasNoForm, HasFault, IsTaken, AreTakenBehind, IsFaultBehind}
+use Rattle.wsn_capture.specs.LineFaults.{fault_order, HasNoForm, HasFault, IsTaken, AreTakenBehind, IsFaultBehind}
 use Rattle.wsn_capture.specs.LineForms.{HasNoHex}
 use Rattle.wsn_capture.specs.Captures.{HasSent, IsLimited, AreSent, IsWellGiven, IsFirstOwnFault, TakesText, HasTaken}
 use Rattle.wsn_capture.proofs.OneFault.{none_at_first, none_further, none_at_all, nothing_bad, bytes_formed, bytes_taken, mark_formed, mark_taken, same_side}
@@ -46,20 +45,20 @@ module _ (limits : Limits) (given : List Entry) where
     first = none_further limits given (bytes_front role ++ digits) 2 2 (none_at_first limits given (bytes_front role ++ digits) 2) (λ bad. bad.1 role (inl (digits, refl)));
   }
 
-  module _ (role : Role) (direction : Direction) (has : HasSent role limits direction given) where
-    going : direction.ended ≡ false → has_ended role given ≡ false
+  module _ (role : Role) (sent_stream : SentStream) (has : HasSent role limits sent_stream given) where
+    going : sent_stream.ended ≡ false → has_ended role given ≡ false
     going open_end = sym has.ended ∙ open_end
 
-    formed : (digits bytes : List ℕ) → IsHex digits bytes → (other : LineFault) → HasFault limits given (bytes_front role ++ digits) other → 2 ≤ order_of other → 4 ≤ order_of other
+    formed : (digits bytes : List ℕ) → IsHex digits bytes → (other : LineFault) → HasFault limits given (bytes_front role ++ digits) other → 2 ≤ fault_order other → 4 ≤ fault_order other
     formed digits bytes hex = bytes_formed limits given (bytes_front role ++ digits) 2 role digits bytes refl hex (none_at_first limits given (bytes_front role ++ digits) 2)
 
-    pub bytes_well : (digits bytes : List ℕ) → IsHex digits bytes → direction.ended ≡ false → length bytes ≤ direction.stream.room → IsWellGiven limits given (bytes_front role ++ digits) (Bytes role bytes)
+    pub bytes_well : (digits bytes : List ℕ) → IsHex digits bytes → sent_stream.ended ≡ false → length bytes ≤ sent_stream.scan.room → IsWellGiven limits given (bytes_front role ++ digits) (Bytes role bytes)
     bytes_well digits bytes hex open_end fits = record {
       gives = (digits, refl, hex);
       none = none_at_all limits given (bytes_front role ++ digits) 2 (bytes_taken limits given (bytes_front role ++ digits) 2 role digits bytes refl hex (formed digits bytes hex) (going open_end) (omega (arith, fits, has.streamed.room)));
     }
 
-    pub bytes_limited : (digits bytes : List ℕ) → IsHex digits bytes → (fault : LineFault) → IsLimited direction (length bytes) fault → IsFirstOwnFault limits given (bytes_front role ++ digits) fault
+    pub bytes_limited : (digits bytes : List ℕ) → IsHex digits bytes → (fault : LineFault) → IsLimited sent_stream (length bytes) fault → IsFirstOwnFault limits given (bytes_front role ++ digits) fault
     bytes_limited digits bytes hex TooManyLines is = absurd is
     bytes_limited digits bytes hex TooLong is = absurd is
     bytes_limited digits bytes hex BadForm is = absurd is
@@ -71,16 +70,16 @@ module _ (limits : Limits) (given : List Entry) where
           (λ bad. let same = same_side role bad.0 (bytes_front role ++ digits) digits refl bad.1 in let both : true ≡ false = sym (ap (λ (r : Role). has_ended r given) same ∙ bad.2) ∙ going is.0 in cc);
     }
 
-    mark_first : (other : LineFault) → HasFault limits given (end_mark role) other → 2 ≤ order_of other → 4 ≤ order_of other
+    mark_first : (other : LineFault) → HasFault limits given (end_mark role) other → 2 ≤ fault_order other → 4 ≤ fault_order other
     mark_first = mark_formed limits given (end_mark role) 2 role refl (none_at_first limits given (end_mark role) 2)
 
-    pub mark_well : direction.ended ≡ false → IsWellGiven limits given (end_mark role) (Mark role)
+    pub mark_well : sent_stream.ended ≡ false → IsWellGiven limits given (end_mark role) (Mark role)
     mark_well open_end = record {
       gives = refl;
       none = none_at_all limits given (end_mark role) 2 (mark_taken limits given (end_mark role) 2 role refl mark_first (going open_end));
     }
 
-    pub mark_limited : (fault : LineFault) → IsLimited direction 0 fault → IsFirstOwnFault limits given (end_mark role) fault
+    pub mark_limited : (fault : LineFault) → IsLimited sent_stream 0 fault → IsFirstOwnFault limits given (end_mark role) fault
     mark_limited TooManyLines is = absurd is
     mark_limited TooLong is = absurd is
     mark_limited BadForm is = absurd is
@@ -100,7 +99,7 @@ module _ (limits : Limits) (given : List Entry) where
     };
   }
 
-  pub takes_client_bytes : (capture : Capture) (client : Direction) (digits bytes : List ℕ) → IsHex digits bytes → capture.client.ended ≡ false → length bytes ≤ capture.client.stream.room
+  pub takes_client_bytes : (capture : Capture) (client : SentStream) (digits bytes : List ℕ) → IsHex digits bytes → capture.client.ended ≡ false → length bytes ≤ capture.client.scan.room
       → (HasSent Client limits capture.client given → HasSent Client limits client (given ++ Bytes Client bytes ∷ [])) → AreSent limits capture given
       → TakesText limits (record capture { client = client }) given (bytes_front Client ++ digits)
   takes_client_bytes capture client digits bytes hex open_end fits takes has = record {
@@ -109,7 +108,7 @@ module _ (limits : Limits) (given : List Entry) where
     sent = record { client = takes has.client; server = sends_nothing Server limits capture.server given (Bytes Client bytes) refl refl has.server };
   }
 
-  pub takes_server_bytes : (capture : Capture) (server : Direction) (digits bytes : List ℕ) → IsHex digits bytes → capture.server.ended ≡ false → length bytes ≤ capture.server.stream.room
+  pub takes_server_bytes : (capture : Capture) (server : SentStream) (digits bytes : List ℕ) → IsHex digits bytes → capture.server.ended ≡ false → length bytes ≤ capture.server.scan.room
       → (HasSent Server limits capture.server given → HasSent Server limits server (given ++ Bytes Server bytes ∷ [])) → AreSent limits capture given
       → TakesText limits (record capture { server = server }) given (bytes_front Server ++ digits)
   takes_server_bytes capture server digits bytes hex open_end fits takes has = record {
@@ -118,7 +117,7 @@ module _ (limits : Limits) (given : List Entry) where
     sent = record { client = sends_nothing Client limits capture.client given (Bytes Server bytes) refl refl has.client; server = takes has.server };
   }
 
-  pub takes_client_mark : (capture : Capture) (client : Direction) → capture.client.ended ≡ false → (HasSent Client limits capture.client given → HasSent Client limits client (given ++ Mark Client ∷ [])) → AreSent limits capture given
+  pub takes_client_mark : (capture : Capture) (client : SentStream) → capture.client.ended ≡ false → (HasSent Client limits capture.client given → HasSent Client limits client (given ++ Mark Client ∷ [])) → AreSent limits capture given
       → TakesText limits (record capture { client = client }) given (end_mark Client)
   takes_client_mark capture client open_end takes has = record {
     entry = Mark Client;
@@ -126,7 +125,7 @@ module _ (limits : Limits) (given : List Entry) where
     sent = record { client = takes has.client; server = sends_nothing Server limits capture.server given (Mark Client) refl refl has.server };
   }
 
-  pub takes_server_mark : (capture : Capture) (server : Direction) → capture.server.ended ≡ false → (HasSent Server limits capture.server given → HasSent Server limits server (given ++ Mark Server ∷ [])) → AreSent limits capture given
+  pub takes_server_mark : (capture : Capture) (server : SentStream) → capture.server.ended ≡ false → (HasSent Server limits capture.server given → HasSent Server limits server (given ++ Mark Server ∷ [])) → AreSent limits capture given
       → TakesText limits (record capture { server = server }) given (end_mark Server)
   takes_server_mark capture server open_end takes has = record {
     entry = Mark Server;
@@ -179,7 +178,7 @@ module _ (limits : Limits) (capture : Capture) (lines : List (List ℕ)) (line :
     is = record { held = omega (arith, many, counted); first = λ other held. omega arith };
   }
 
-  few_lines : capture.lines < 1000000 → (other : LineFault) → HasFault limits has.entries (without_cr line) other → 0 ≤ order_of other → 1 ≤ order_of other
+  few_lines : capture.lines < 1000000 → (other : LineFault) → HasFault limits has.entries (without_cr line) other → 0 ≤ fault_order other → 1 ≤ fault_order other
   few_lines few = none_further limits has.entries (without_cr line) 0 0 (none_at_first limits has.entries (without_cr line) 0) (λ many. omega (arith, few, counted, many))
 
   pub too_long : capture.lines < 1000000 → 8194 < length (without_cr line) → IsFaultBehind limits lines line TooLong
@@ -189,7 +188,7 @@ module _ (limits : Limits) (capture : Capture) (lines : List (List ℕ)) (line :
     is = record { held = long; first = λ other held. few_lines few other held (omega arith) };
   }
 
-  own_faults : capture.lines < 1000000 → length (without_cr line) ≤ 8194 → (other : LineFault) → HasFault limits has.entries (without_cr line) other → 2 ≤ order_of other
+  own_faults : capture.lines < 1000000 → length (without_cr line) ≤ 8194 → (other : LineFault) → HasFault limits has.entries (without_cr line) other → 2 ≤ fault_order other
   own_faults few short other held = none_further limits has.entries (without_cr line) 0 1 (few_lines few) (λ long. omega (arith, short, long)) other held (omega arith)
 
   pub own_fault : (fault : LineFault) → capture.lines < 1000000 → length (without_cr line) ≤ 8194 → IsFirstOwnFault limits has.entries (without_cr line) fault → IsFaultBehind limits lines line fault

@@ -1,5 +1,5 @@
 -- What is answered of a capture's text: the report of its lines, or its first line that isn't taken.
-use Rattle.std.specs.Prelude.{◌≡◌, ℕ, ◌+◌, ◌*◌, ◌<◌, ◌≤◌, ◌⊎◌, false, true, Result, Ok, Err, List, ◌∷◌, ◌++◌, length}
+use Rattle.std.specs.Prelude.{◌≡◌, ℕ, suc, ◌+◌, ◌*◌, ◌<◌, ◌≤◌, ◌⊎◌, false, true, Result, Ok, Err, List, ◌∷◌, ◌++◌, length}
 use Rattle.std.specs.List.{AllByRecursion}
 use Rattle.std.specs.Io.KnownBytes.{IsAtEnd}
 use Rattle.wsn_wire.specs.Transfer.{Incoming, IsReceived}
@@ -55,13 +55,15 @@ pub record IsUnfaulted (limits : Limits) (came : List ℕ) : Type 0 where
   pub given : List Entry
   pub taken : AreTaken limits lines given
 
--- At most 4,095 bytes came behind those that are unfaulted and one more, which told the fault.
+-- The bytes up to this one are unfaulted, and with it the line is complete or too long whatever follows. At most 4,095
+-- bytes came behind it.
 pub record IsPrompt (limits : Limits) (came : List ℕ) : Type 0 where
   pub told : List ℕ
   pub last : ℕ
   pub ahead : List ℕ
   pub whole : came ≡ told ++ last ∷ ahead
   pub unfaulted : IsUnfaulted limits told
+  pub shown : (last ≡ 10) ⊎ (suc (length unfaulted.begun) ≡ line_most)
   pub few : length ahead ≤ 4095
 
 -- The fault is told by what came, whatever follows; or by the end of the input.

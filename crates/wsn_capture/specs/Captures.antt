@@ -7,15 +7,15 @@ use Rattle.wsn_rules.specs.Limits.{Limits}
 use Rattle.wsn_rules.specs.Accepted.{IsAccepted, EndsWithClose}
 use Rattle.wsn_capture.specs.declared.line_fault.LineFault.{LineFault}
 use Rattle.wsn_capture.specs.declared.line_fault.LineFault.TheVariants.{AfterEnd, InputLimit}
-use Rattle.wsn_capture.specs.declared.direction.Direction.{Direction}
+use Rattle.wsn_capture.specs.declared.sent_stream.SentStream.{SentStream}
 use Rattle.wsn_capture.specs.declared.capture.Capture.{Capture}
 use Rattle.wsn_capture.specs.Entries.{Entry, IsGiven}
 use Rattle.wsn_capture.specs.Sides.{sent, has_ended}
-use Rattle.wsn_capture.specs.LineFaults.{HasFault, AreTaken, order_of}
+use Rattle.wsn_capture.specs.LineFaults.{HasFault, AreTaken, fault_order}
 use Rattle.wsn_capture.specs.Reports.{ClosesIn}
-use Rattle.wsn_capture.specs.ScannedStreams.{HasStreamed}
+use Rattle.wsn_capture.specs.LimitedScans.{HasStreamed}
 
--- ---- one direction
+-- ---- one stream
 
 -- The stream has no Close.
 abbrev pub IsUnclosed : Role → Limits → List ℕ → Type 0
@@ -38,21 +38,21 @@ IsNoted role limits stream (Some line) now noted = noted ≡ Some line
 IsNoted role limits stream None now (Some line) = (line ≡ now) × IsClosedBy role limits stream true
 IsNoted role limits stream None now None = IsUnclosed role limits stream
 
--- What a direction knows of what the lines gave.
-pub record HasSent (role : Role) (limits : Limits) (direction : Direction) (given : List Entry) : Type 0 where
-  pub streamed : HasStreamed role limits direction.stream (sent role given)
-  pub ended : direction.ended ≡ has_ended role given
-  pub close_line : IsCloseLine role limits given direction.close_line
+-- What is known of the stream that lines gave.
+pub record HasSent (role : Role) (limits : Limits) (sent_stream : SentStream) (given : List Entry) : Type 0 where
+  pub streamed : HasStreamed role limits sent_stream.scan (sent role given)
+  pub ended : sent_stream.ended ≡ has_ended role given
+  pub close_line : IsCloseLine role limits given sent_stream.close_line
 
--- Why a direction doesn't take so many bytes more.
-abbrev pub IsLimited : Direction → ℕ → LineFault → Type 0
-IsLimited direction count AfterEnd = direction.ended ≡ true
-IsLimited direction count InputLimit = (direction.ended ≡ false) × (direction.stream.room < count)
-IsLimited direction count fault = ⊥
+-- Why a stream doesn't take so many bytes more.
+abbrev pub IsLimited : SentStream → ℕ → LineFault → Type 0
+IsLimited sent_stream count AfterEnd = sent_stream.ended ≡ true
+IsLimited sent_stream count InputLimit = (sent_stream.ended ≡ false) × (sent_stream.scan.room < count)
+IsLimited sent_stream count fault = ⊥
 
 -- ---- both
 
--- What both directions know of what the lines gave.
+-- What is known of both streams that lines gave.
 pub record AreSent (limits : Limits) (capture : Capture) (given : List Entry) : Type 0 where
   pub client : HasSent Client limits capture.client given
   pub server : HasSent Server limits capture.server given
@@ -60,13 +60,13 @@ pub record AreSent (limits : Limits) (capture : Capture) (given : List Entry) : 
 -- A text has no fault of its own, whatever the count and the length of lines, and gives this.
 pub record IsWellGiven (limits : Limits) (given : List Entry) (text : List ℕ) (entry : Entry) : Type 0 where
   pub gives : IsGiven text entry
-  pub none : (other : LineFault) → HasFault limits given text other → order_of other < 2
+  pub none : (other : LineFault) → HasFault limits given text other → fault_order other < 2
 
 -- Of a text's own faults, the first.
 pub record IsFirstOwnFault (limits : Limits) (given : List Entry) (text : List ℕ) (fault : LineFault) : Type 0 where
   pub held : HasFault limits given text fault
   pub first :
-      (other : LineFault) → HasFault limits given text other → 2 ≤ order_of other → order_of fault ≤ order_of other
+      (other : LineFault) → HasFault limits given text other → 2 ≤ fault_order other → fault_order fault ≤ fault_order other
 
 -- One text more was taken.
 pub record TakesText (limits : Limits) (new : Capture) (given : List Entry) (text : List ℕ) : Type 0 where

@@ -1,4 +1,4 @@
--- Which of two sides closed in an earlier line.
+-- Which endpoint closed in an earlier line.
 use Rattle.std.specs.Prelude.{ℕ, nat_lt, Option, None, Some, if◌then◌else◌}
 use Rattle.wsn_wire.specs.declared.endpoint.Role.{Role}
 use Rattle.wsn_wire.specs.declared.endpoint.Role.TheVariants.{Client, Server}

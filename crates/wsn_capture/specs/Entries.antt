@@ -10,18 +10,18 @@ without_cr [] = []
 without_cr (b ∷ []) = if b == 13 then [] else b ∷ []
 without_cr (b ∷ c ∷ line) = b ∷ without_cr (c ∷ line)
 
--- Nothing; bytes that a side sent; or a side's end mark, by which its direction of the connection ended.
+-- Nothing; bytes that an endpoint sent; or an endpoint's end mark, by which its stream ended.
 pub data Entry : Type 0 where
   Nothing : Entry
   Bytes : Role → List ℕ → Entry
   Mark : Role → Entry
 
--- what a line of a side's bytes begins with
+-- what a line of an endpoint's bytes begins with
 abbrev pub bytes_front : Role → List ℕ
 bytes_front Client = codes "C "
 bytes_front Server = codes "S "
 
--- a side's end mark
+-- an endpoint's end mark
 abbrev pub end_mark : Role → List ℕ
 end_mark Client = codes "C."
 end_mark Server = codes "S."

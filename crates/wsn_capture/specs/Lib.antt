@@ -8,7 +8,7 @@ pub mod CaptureAnswers
 -- how the code stands to these
 pub mod LineForms
 pub mod CloseLines
-pub mod ScannedStreams
+pub mod LimitedScans
 pub mod Captures
 pub mod LineSplitters
 -- what the clauses in src/ import

@@ -4,19 +4,18 @@ use Rattle.wsn_wire.specs.declared.endpoint.Role.{Role}
 use Rattle.wsn_rules.specs.Limits.{Limits}
 use Rattle.wsn_capture.specs.declared.line_fault.LineFault.{LineFault}
 use Rattle.wsn_capture.specs.declared.line_fault.LineFault.TheVariants.{TooManyLines, TooLong, BadForm, BadHex, AfterEnd, InputLimit}
-use Rattle.wsn_capture.specs.Entries.{without_cr}
-use Rattle.wsn_capture.specs.Entries.{Entry, IsHex, IsGiven, bytes_front, end_mark}
+use Rattle.wsn_capture.specs.Entries.{without_cr, Entry, IsHex, IsGiven, bytes_front, end_mark}
 use Rattle.wsn_capture.specs.Entries.Entry.{Nothing, Bytes}
 use Rattle.wsn_capture.specs.Sides.{sent, has_ended}
 
 -- the order of the faults
-abbrev pub order_of : LineFault → ℕ
-order_of TooManyLines = 0
-order_of TooLong = 1
-order_of BadForm = 2
-order_of BadHex = 3
-order_of AfterEnd = 4
-order_of InputLimit = 5
+abbrev pub fault_order : LineFault → ℕ
+fault_order TooManyLines = 0
+fault_order TooLong = 1
+fault_order BadForm = 2
+fault_order BadHex = 3
+fault_order AfterEnd = 4
+fault_order InputLimit = 5
 
 -- the word that is printed of it
 abbrev pub fault_word : LineFault → List ℕ
@@ -27,11 +26,11 @@ fault_word BadHex = codes "bad-hex"
 fault_word AfterEnd = codes "after-end"
 fault_word InputLimit = codes "input-limit"
 
--- A line of bytes or an end mark of a side, whatever stands for the bytes.
+-- A line of bytes or an end mark of an endpoint, whatever stands for the bytes.
 abbrev pub IsOf : Role → List ℕ → Type 0
 IsOf role text = ((digits : List ℕ) × (text ≡ bytes_front role ++ digits)) ⊎ (text ≡ end_mark role)
 
--- None of the forms of a line: it isn't empty, no comment, and of no side.
+-- None of the forms of a line: it isn't empty, no comment, and of no endpoint.
 abbrev pub HasNoForm : List ℕ → Type 0
 HasNoForm text = (IsGiven text Nothing → ⊥) × ((role : Role) → IsOf role text → ⊥)
 
@@ -58,7 +57,7 @@ HasFault limits given text InputLimit =
 -- Of a line's faults, the first.
 pub record IsFirstFault (limits : Limits) (given : List Entry) (line : List ℕ) (fault : LineFault) : Type 0 where
   pub held : HasFault limits given (without_cr line) fault
-  pub first : (other : LineFault) → HasFault limits given (without_cr line) other → order_of fault ≤ order_of other
+  pub first : (other : LineFault) → HasFault limits given (without_cr line) other → fault_order fault ≤ fault_order other
 
 -- The line has no fault, and gives this entry.
 pub record IsTaken (limits : Limits) (given : List Entry) (line : List ℕ) (entry : Entry) : Type 0 where

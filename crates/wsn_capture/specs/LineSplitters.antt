@@ -1,5 +1,5 @@
 -- How bytes that came in pieces stand to the lines that were handed on.
-use Rattle.std.specs.Prelude.{◌≡◌, ℕ, ◌+◌, ◌-◌, ◌*◌, ◌<◌, ◌≤◌, List, [], ◌∷◌, ◌++◌, length}
+use Rattle.std.specs.Prelude.{◌≡◌, ℕ, suc, ◌+◌, ◌-◌, ◌*◌, ◌<◌, ◌≤◌, ◌⊎◌, List, [], ◌∷◌, ◌++◌, length}
 use Rattle.std.specs.List.{AllByRecursion}
 use Rattle.wsn_rules.specs.Limits.{Limits}
 use Rattle.wsn_capture.specs.declared.capture_stop.CaptureStop.{CaptureStop}
@@ -38,11 +38,12 @@ IsStopBy limits came Read = ⊥
 abbrev pub left_of : LineSplitter → ℕ
 left_of splitter = (1000001 - count_of splitter.capture) * line_most - length splitter.begun.items
 
--- A stop by a byte of the piece that came behind these bytes.
+-- A stop by a byte of the piece that came behind these bytes. It ends its line, or makes it too long.
 pub record IsStopWithin (limits : Limits) (came piece : List ℕ) (stop : CaptureStop) : Type 0 where
   pub told : List ℕ
   pub last : ℕ
   pub ahead : List ℕ
   pub whole : piece ≡ told ++ last ∷ ahead
   pub unfaulted : IsUnfaulted limits (came ++ told)
+  pub shown : (last ≡ 10) ⊎ (suc (length unfaulted.begun) ≡ line_most)
   pub stops : IsStopBy limits ((came ++ told) ++ last ∷ []) stop

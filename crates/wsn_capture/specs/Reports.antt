@@ -1,4 +1,4 @@
--- What is reported of a capture's lines: of each side, and of both together. RFC 6455 sections 5.5.1, 7.1 and 7.4.1.
+-- What is reported of a capture's lines: of each stream, and of both together. RFC 6455 sections 5.5.1, 7.1 and 7.4.1.
 use Rattle.std.specs.Prelude.{◌≡◌, ℕ, suc, ◌<◌, ◌≤◌, ◌⊎◌, ◌==◌, Bool, true, false, Option, None, Some, List, length, take}
 use Rattle.wsn_wire.specs.declared.endpoint.Role.{Role}
 use Rattle.wsn_wire.specs.declared.endpoint.Role.TheVariants.{Client, Server}
@@ -19,8 +19,8 @@ abbrev pub other_side : Role → Role
 other_side Client = Server
 other_side Server = Client
 
--- The side sent a Close, whose last byte stands in the line with this index: the lines before have fewer bytes of the
--- side than its frames up to the Close, and with that line they have as many at least.
+-- The endpoint sent a Close, whose last byte stands in the line with this index: the lines before have fewer of its
+-- bytes than its frames up to the Close, and with that line they have as many at least.
 pub record ClosesIn (role : Role) (limits : Limits) (entries : List Entry) (line : ℕ) : Type 0 where
   pub frames : List Frame
   pub accepted : IsAccepted role limits (sent role entries) frames
@@ -28,21 +28,21 @@ pub record ClosesIn (role : Role) (limits : Limits) (entries : List Entry) (line
   pub before : length (sent role (take line entries)) < length (stream frames)
   pub behind : length (stream frames) ≤ length (sent role (take (suc line) entries))
 
--- Of the sides that sent a Close, the one whose Close was whole in an earlier line; none if neither did.
+-- Of the endpoints that sent a Close, the one whose Close was whole in an earlier line; none if neither did.
 abbrev pub IsFirst : Limits → List Entry → Option Role → Type 0
 IsFirst limits entries (Some role) =
     (line : ℕ) × ClosesIn role limits entries line
     × ((other : ℕ) → ClosesIn (other_side role) limits entries other → line < other)
 IsFirst limits entries None = (role : Role) (line : ℕ) → ClosesIn role limits entries line → ⊥
 
--- ---- whether the other side echoed it
+-- ---- whether the other endpoint echoed it
 
 abbrev pub is_same_code : Option ℕ → Option ℕ → Bool
 is_same_code None None = true
 is_same_code (Some code) (Some other) = code == other
 is_same_code code other = false
 
--- [5.5.1] where both sides sent a Close, whether both have the same code, or both none
+-- [5.5.1] where both endpoints sent a Close, whether both have the same code, or both none
 abbrev pub echo_of : Side → Side → Option Bool
 echo_of (Closed code) (Closed other) = Some (is_same_code code other)
 echo_of client server = None
@@ -69,22 +69,22 @@ abbrev pub IsClosed : Side → Type 0
 IsClosed (Closed code) = Unit {0}
 IsClosed side = ⊥
 
--- Its direction ended, and it had sent no Close.
+-- The stream ended without a Close.
 abbrev pub IsEndedEarly : Side → Type 0
 IsEndedEarly Ended = Unit {0}
 IsEndedEarly Cut = Unit {0}
 IsEndedEarly side = ⊥
 
 -- the order of the outcomes
-abbrev pub order_of : Outcome → ℕ
-order_of Failed = 0
-order_of Clean = 1
-order_of Complete = 2
-order_of Abnormal = 3
-order_of Half = 4
-order_of Live = 5
+abbrev pub outcome_order : Outcome → ℕ
+outcome_order Failed = 0
+outcome_order Clean = 1
+outcome_order Complete = 2
+outcome_order Abnormal = 3
+outcome_order Half = 4
+outcome_order Live = 5
 
--- Each outcome by itself, by what became of the two sides, and by whether both directions ended.
+-- Each outcome by itself, by what became of the two streams, and by whether each ended.
 abbrev pub Fits : Side → Side → Bool → Bool → Outcome → Type 0
 Fits client server client_ended server_ended Failed = IsRefused client ⊎ IsRefused server
 Fits client server client_ended server_ended Clean =
@@ -97,7 +97,7 @@ Fits client server client_ended server_ended Live = Unit {0}
 -- Of the outcomes that fit, the first.
 pub record IsOutcome (client server : Side) (client_ended server_ended : Bool) (outcome : Outcome) : Type 0 where
   pub fits : Fits client server client_ended server_ended outcome
-  pub first : (other : Outcome) → Fits client server client_ended server_ended other → order_of outcome ≤ order_of other
+  pub first : (other : Outcome) → Fits client server client_ended server_ended other → outcome_order outcome ≤ outcome_order other
 
 -- ---- the report
 
@@ -118,7 +118,7 @@ pub record IsReport (limits : Limits) (lines : List (List ℕ)) (report : Report
   pub given : AreEntries lines entries
   pub is : IsReportOf limits entries report
 
--- Both lists of lines have the same bytes of each side, in whatever lines, and the same end marks.
+-- Both lists of lines have the same bytes of each endpoint, in whatever lines, and the same end marks.
 pub record SendAlike (lines others : List (List ℕ)) : Type 0 where
   pub entries : List Entry
   pub other_entries : List Entry

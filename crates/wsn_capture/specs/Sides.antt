@@ -1,4 +1,4 @@
--- What became of each side of a connection. RFC 6455 sections 7.1.4 to 7.1.7.
+-- The stream that each endpoint sent, and what became of it. RFC 6455 sections 7.1.4 to 7.1.7.
 use Rattle.std.specs.Prelude.{◌≡◌, ℕ, Bool, true, false, Option, None, Some, List, [], if◌then◌else◌}
 use Rattle.std.specs.List.{list_any, flat_map}
 use Rattle.wsn_wire.specs.declared.endpoint.Role.{Role}
@@ -13,36 +13,36 @@ use Rattle.wsn_capture.specs.declared.report.Side.TheVariants.{Closed, Refused, 
 use Rattle.wsn_capture.specs.Entries.{Entry}
 use Rattle.wsn_capture.specs.Entries.Entry.{Bytes, Mark}
 
--- the bytes of a side in an entry
+-- the bytes of an endpoint in an entry
 abbrev pub bytes_in : Role → Entry → List ℕ
 bytes_in Client (Bytes Client bytes) = bytes
 bytes_in Server (Bytes Server bytes) = bytes
 bytes_in role entry = []
 
--- whether an entry is a side's end mark
+-- whether an entry is an endpoint's end mark
 abbrev pub is_mark : Role → Entry → Bool
 is_mark Client (Mark Client) = true
 is_mark Server (Mark Server) = true
 is_mark role entry = false
 
--- the stream that a side sent: its bytes, joined
+-- the stream that an endpoint sent: its bytes, joined
 abbrev pub sent : Role → List Entry → List ℕ
 sent role = flat_map (bytes_in role)
 
--- whether a side has its end mark
+-- whether the stream has its end mark
 abbrev pub has_ended : Role → List Entry → Bool
 has_ended role = list_any (is_mark role)
 
--- a side without a Close and without a refusal: what it is where its direction ended
+-- what became of a stream without a Close and without a refusal: this, where it ended
 abbrev pub ended_as : Side → Bool → Side
 ended_as side ended = if ended then side else Running
 
--- a side by the close of an accepted stream, and by whether its direction ended
+-- by the close of an accepted stream, and by whether it ended
 abbrev pub accepted_side : Option (Option ℕ) → Bool → Side
 accepted_side (Some code) ended = Closed code
 accepted_side None ended = ended_as Ended ended
 
--- a side by the verdict on its stream, and by whether its direction ended
+-- by the verdict on a stream, and by whether it ended
 abbrev pub side_of : Verdict → Bool → Side
 side_of (verdicts.Accepted summary) ended = accepted_side summary.close ended
 side_of (verdicts.Cut summary) ended = ended_as Cut ended

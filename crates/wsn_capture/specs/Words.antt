@@ -2,7 +2,7 @@
 pub use Rattle.hex.specs.Hex.{decode_of, hex_digit_value, is_hex_digit}
 pub use Rattle.wsn_wire.specs.Frame.{Frame}
 pub use Rattle.wsn_wire.specs.Refusal.{word_of, code_of}
-pub use Rattle.wsn_rules.specs.Limits.{Limits}
+pub use Rattle.wsn_rules.specs.Limits.{Limits, InRange}
 pub use Rattle.wsn_rules.specs.Verdict.{IsVerdict}
 pub use Rattle.wsn_scan.specs.Stops.{IsPut}
 pub use Rattle.wsn_capture.specs.CaptureAnswers.{IsAnswerOf}
@@ -17,7 +17,8 @@ pub use Rattle.wsn_capture.specs.LineSplitters.{HasSplit, IsStopAt, IsStopBy, Is
 pub use Rattle.wsn_capture.specs.ReportLines.{report_lines, report_line, side_text, code_text, first_text, echo_text}
 pub use Rattle.wsn_capture.specs.ReportLines.{outcome_word}
 pub use Rattle.wsn_capture.specs.Reports.{IsReport, SendAlike}
-pub use Rattle.wsn_capture.specs.ScannedStreams.{HasStreamed}
+pub use Rattle.wsn_capture.specs.LimitedScans.{HasStreamed}
 pub use Rattle.wsn_capture.specs.Sides.{IsSide, sent, has_ended, ended_as}
 pub use Rattle.wsn_capture.specs.declared.line_fault.LineFault.{LineFault}
 pub use Rattle.wsn_capture.specs.declared.report.Report.{Report}
+pub use Rattle.wsn_capture.specs.declared.capture_stop.CaptureStop.{CaptureStop}

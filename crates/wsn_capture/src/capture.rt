@@ -1,24 +1,24 @@
 ghost use Rattle.std.specs.Prelude.{◌≡◌};
 ghost use Rattle.wsn_capture.specs.CloseLines.{earlier_of};
 
-use crate::direction::Direction;
 use crate::line_fault::LineFault;
 use crate::line_form::{LineForm, decode, form_of, strip_cr};
 use crate::report::{Outcome, Report};
+use crate::sent_stream::SentStream;
 use wsn_rules::Limits;
 use wsn_wire::Role;
 
 /// The most lines of a capture.
 const LINES_MAX: u32 = 1_000_000;
 
-/// The most bytes of a line, the CR at its end not counted: a side's letter, a space and 8,192 digits.
+/// The most bytes of a line, the CR at its end not counted: an endpoint's letter, a space and 8,192 digits.
 const LINE_MAX: usize = 8194;
 
 /// Takes the lines of a capture and keeps none of them: it tells the report of all that it took.
 #[derive(Debug, Drop)]
 pub struct Capture {
-    client: Direction,
-    server: Direction,
+    client: SentStream,
+    server: SentStream,
     lines: u32,
 }
 
@@ -26,13 +26,13 @@ impl Capture {
     ghost use Rattle.std.specs.Prelude.{◌≡◌, ◌+◌, ◌≤◌, ℕ, List, [], ◌∷◌, ◌++◌, length, OnOk, IfErr};
     ghost use Rattle.wsn_capture.specs.Words.{Limits, Entry, bytes_front, end_mark, IsFaultBehind, IsReport, AreSent, TakesText, IsFirstOwnFault, HasTaken, count_of};
 
-    /// A capture that has taken no line. The limits hold for each side by itself.
+    /// A capture that has taken no line. The limits hold for each endpoint's stream by itself.
     pub fn new(limits: Limits) -> Capture
         ensures { HasTaken limits result [] }
     {
         Capture {
-            client: Direction::new(Role::Client, limits),
-            server: Direction::new(Role::Server, limits),
+            client: SentStream::new(Role::Client, limits),
+            server: SentStream::new(Role::Server, limits),
             lines: 0,
         }
     }
@@ -78,7 +78,7 @@ impl Capture {
         }
     }
 
-    /// Takes the bytes that the digits spell, for one side.
+    /// Takes the bytes of an endpoint that the digits spell.
     fn take_bytes(&mut self, role: Role, digits: &[u8]) -> Result<(), LineFault>
         requires { length digits.now ≤ 8192 }
         ensures taken { OnOk result ((limits : Limits) (given : List Entry) → self.old.lines ≡ length given →
@@ -96,7 +96,7 @@ impl Capture {
         }
     }
 
-    /// Takes a side's end mark.
+    /// Takes an endpoint's end mark.
     fn take_mark(&mut self, role: Role) -> Result<(), LineFault>
         ensures taken { OnOk result ((limits : Limits) (given : List Entry) →
             AreSent limits self.old given → TakesText limits self.new given (end_mark role)) }
@@ -142,7 +142,7 @@ impl Capture {
     }
 }
 
-/// Whose Close came in an earlier line, by the lines in which the two sides' Closes end.
+/// Whose Close came in an earlier line, by the lines in which the Closes end.
 fn first_closed(client: Option<u32>, server: Option<u32>) -> Option<Role>
     ensures { result ≡ earlier_of client server }
 {

@@ -6,10 +6,11 @@ use crate::line_splitter::LineSplitter;
 use crate::report::Report;
 use std::io::Read;
 use wsn_rules::Limits;
+use wsn_scan::PIECE;
 use wsn_wire::Input;
 
 /// Reads a capture's text to its end and tells the report of its lines; or, as soon as it is shown, the first line
-/// that isn't taken. It takes pieces of at most 4,096 bytes. The limits hold for each side by itself.
+/// that isn't taken. It takes pieces of at most [`PIECE`] bytes. The limits hold for each endpoint's stream by itself.
 pub fn judge_capture<R: Read>(input: &mut Input<R>, limits: Limits) -> Result<Report, CaptureStop>
     requires { input.old.failed ≡ false }
     ensures judged { IsCaptureJudged limits input.old input.new result }
@@ -18,7 +19,7 @@ pub fn judge_capture<R: Read>(input: &mut Input<R>, limits: Limits) -> Result<Re
     ensures failed { (result ≡ Err CaptureStop.Read) ↔ (input.new.failed ≡ true) }
 {
     let mut lines = LineSplitter::new(limits);
-    let mut piece = [0; 4096];
+    let mut piece = [0; PIECE];
     loop {
         let Some(count) = input.read(&mut piece) else {
             return Err(CaptureStop::Read);

@@ -5,24 +5,19 @@ use thiserror::Error;
 
 /// Why a line of a capture isn't taken (specs/LineFaults.antt). Of a line's faults the first counts.
 #[derive(Clone, Copy, Debug, PartialEq, Eq, Error)]
+#[error("{}", self.word())]
 pub enum LineFault {
     /// 1,000,000 lines were taken before.
-    #[error("too-many-lines")]
     TooManyLines,
     /// More than 8,194 bytes, the CR at its end not counted.
-    #[error("too-long")]
     TooLong,
     /// None of the forms of a line.
-    #[error("bad-form")]
     BadForm,
     /// What stands in the place of the bytes isn't pairs of hexadecimal digits.
-    #[error("bad-hex")]
     BadHex,
-    /// The side has its end mark.
-    #[error("after-end")]
+    /// The endpoint has its end mark.
     AfterEnd,
-    /// With these bytes the side has more than the input limit.
-    #[error("input-limit")]
+    /// With these bytes the endpoint has sent more than the input limit.
     InputLimit,
 }
 

@@ -1,7 +1,6 @@
 ghost use Rattle.std.specs.Prelude.{◌≡◌, ◌*◌, ◌+◌, ◌≤◌, MatchResult, length, take};
-ghost use Rattle.wsn_capture.specs.Entries.{without_cr};
 ghost use Rattle.wsn_capture.specs.LineForms.{IsForm, HasNoHex};
-ghost use Rattle.wsn_capture.specs.Entries.{IsHex};
+ghost use Rattle.wsn_capture.specs.Entries.{without_cr, IsHex};
 ghost use Rattle.wsn_capture.specs.declared.line_fault.LineFault.TheVariants.{BadHex};
 
 use crate::hex_pairs::decode_pairs;
@@ -13,9 +12,9 @@ use wsn_wire::Role;
 pub enum LineForm {
     /// Empty, or a comment.
     Nothing,
-    /// Bytes of a side: their digits stand behind two bytes.
+    /// Bytes of an endpoint: their digits stand behind two bytes.
     Bytes(Role),
-    /// A side's end mark.
+    /// An endpoint's end mark.
     Mark(Role),
 }
 

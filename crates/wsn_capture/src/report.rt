@@ -4,16 +4,16 @@ ghost use Rattle.wsn_capture.specs.Reports.{IsRefused, IsClosed, IsEndedEarly, I
 use wsn_rules::Refusal;
 use wsn_wire::Role;
 
-/// What became of one side: of the stream that an endpoint sent (specs/Sides.antt).
+/// What became of the stream that an endpoint sent (specs/Sides.antt).
 #[derive(Clone, Copy, Debug, PartialEq, Eq)]
 pub enum Side {
-    /// It sent a Close: its code, if it has one.
+    /// It has a Close: its code, if it has one.
     Closed(Option<u16>),
-    /// A byte shows that the stream isn't lawful.
+    /// A byte shows that it isn't lawful.
     Refused(Refusal),
-    /// The connection's direction ended between messages, without a Close.
+    /// It ended between messages, without a Close.
     Ended,
-    /// The connection's direction ended inside a frame or a message.
+    /// It ended inside a frame or a message.
     Cut,
     /// None of these: more may come.
     Running,
@@ -22,15 +22,15 @@ pub enum Side {
 /// How the connection closed (specs/Reports.antt): the first of these that fits.
 #[derive(Clone, Copy, Debug, PartialEq, Eq)]
 pub enum Outcome {
-    /// A side is refused.
+    /// A stream is refused.
     Failed,
-    /// Both sides sent a Close, and both directions ended.
+    /// Both endpoints sent a Close, and both streams ended.
     Clean,
-    /// Both sides sent a Close.
+    /// Both endpoints sent a Close.
     Complete,
-    /// A direction ended without a Close.
+    /// A stream ended without a Close.
     Abnormal,
-    /// One side sent a Close.
+    /// One endpoint sent a Close.
     Half,
     /// The connection is open.
     Live,
@@ -45,11 +45,12 @@ pub struct Report {
     pub server: Side,
     /// Whose Close was whole first, if there is one.
     pub first: Option<Role>,
-    /// Where both sides sent a Close, whether both have the same code or none.
+    /// Where both endpoints sent a Close, whether both have the same code or none.
     pub echo: Option<bool>,
-    /// The status code of the closing that the client sees (RFC 6455 section 7.1.5), if it has ended for it.
+    /// The status code by which the client sees the connection closed (RFC 6455 section 7.1.5): the server's Close
+    /// has it, 1005 stands for a Close without one, 1006 for none. `None` while the server may send more.
     pub client_sees: Option<u16>,
-    /// The same of the server.
+    /// The same of the server, by what the client sent.
     pub server_sees: Option<u16>,
     pub outcome: Outcome,
 }
@@ -68,7 +69,7 @@ impl Side {
         }
     }
 
-    /// Where both sides sent a Close, whether both have the same code or none (RFC 6455 section 5.5.1).
+    /// Where both endpoints sent a Close, whether both have the same code or none (RFC 6455 section 5.5.1).
     pub(crate) fn echo(&self, other: &Side) -> Option<bool>
         ensures { result ≡ echo_of self.now other.now }
     {
@@ -98,7 +99,7 @@ impl Side {
 }
 
 impl Outcome {
-    /// The outcome of what became of the two sides, and of whether both directions ended.
+    /// The outcome of what became of the two sides, and of whether both streams ended.
     pub(crate) fn of(
         client: &Side,
         server: &Side,

@@ -8,7 +8,7 @@ use wsn_rules::Refusal;
 use wsn_scan::{Stop, put_line};
 use wsn_wire::{Output, Role};
 
-/// The bytes of the longest report, or a few more: of two sides that are refused, at places of twenty digits.
+/// The bytes of the longest report, or a few more: of two streams that are refused, at places of twenty digits.
 const REPORT_MOST: usize = 280;
 
 /// Writes a report in seven lines, such as `client closed 1000`, `server closed 1000`, `first client`, `echo yes`,
@@ -65,7 +65,7 @@ fn outcome_word(outcome: Outcome) -> &'static str
     }
 }
 
-/// A line of what became of a side.
+/// A line of what became of a stream.
 fn push_side(lines: &mut Line<REPORT_MOST>, name: &str, side: &Side)
     requires { length lines.old + length name.now + 70 ≤ REPORT_MOST }
     ensures text { lines.new ≡ lines.old ++ report_line name.now (side_text side.now) }

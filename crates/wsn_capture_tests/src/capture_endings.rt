@@ -4,7 +4,7 @@ use crate::capture_answers::{judged_text, report_text};
 use std::test::Fail;
 use wsn_capture::{CaptureStop, LineFault, judge_capture, put_report};
 use wsn_doubles::readers::{Chopped, READS};
-use wsn_doubles::rows::greatest;
+use wsn_doubles::rows::{filled, greatest};
 use wsn_doubles::writers::{FULL, Narrow};
 use wsn_scan::{Limits, Stop};
 use wsn_wire::{Input, Output};
@@ -75,6 +75,29 @@ fn a_long_line_is_told_before_a_failed_read(rt: HostRuntime) -> Result<(), Fail>
         let stop = stop_of(&long, most, greatest()?);
         assert_eq!(rt; stop, Some(told), "by {most}");
     }
+    Ok(())
+}
+
+/// Behind a million lines it is the same: the first byte of one line more tells nothing yet.
+#[test]
+fn a_line_too_many_is_told_before_a_failed_read(rt: HostRuntime) -> Result<(), Fail> {
+    let alloc = rt.alloc();
+    let fault = LineFault::TooManyLines;
+    let number = 1_000_001;
+    let mut text = filled(alloc, b"", b'\n', 1_000_000)?;
+    for (count, wanted) in [
+        (1, CaptureStop::Read),
+        (8_194, CaptureStop::Read),
+        (1, CaptureStop::Line { number, fault }),
+    ] {
+        text.extend_from_slice(filled(alloc, b"", b'X', count)?.as_slice())?;
+        let stop = stop_of(text.as_slice(), usize::MAX, greatest()?);
+        assert_eq!(rt; stop, Some(wanted), "{count} bytes more");
+    }
+    text.truncate(1_000_001);
+    text.push(b'\n')?;
+    let stop = stop_of(text.as_slice(), usize::MAX, greatest()?);
+    assert_eq!(rt; stop, Some(CaptureStop::Line { number, fault }));
     Ok(())
 }
 

@@ -1,28 +1,28 @@
+use crate::limited_scan::LimitedScan;
 use crate::line_fault::LineFault;
 use crate::report::Side;
-use crate::scanned_stream::ScannedStream;
 use wsn_rules::{Limits, Verdict};
 use wsn_wire::Role;
 
-/// One direction of a connection: the stream that an endpoint sent.
+/// The stream that one endpoint sent.
 #[derive(Debug, Drop)]
-pub struct Direction {
-    stream: ScannedStream,
+pub struct SentStream {
+    scan: LimitedScan,
     /// How many lines came before the one in which the last byte of a Close stands.
     close_line: Option<u32>,
     ended: bool,
 }
 
-impl Direction {
+impl SentStream {
     ghost use Rattle.std.specs.Prelude.{◌≡◌, ◌≤◌, ℕ, List, [], ◌∷◌, ◌++◌, length, false, OnOk, IfErr};
     ghost use Rattle.wsn_capture.specs.Words.{Entry, Bytes, Mark, IsSide, sent, has_ended, ended_as, HasStreamed, HasSent, IsLimited, IsClosedBy, IsNoted};
 
     /// Nothing has come.
-    pub fn new(role: Role, limits: Limits) -> Direction
+    pub fn new(role: Role, limits: Limits) -> SentStream
         ensures { HasSent role limits result [] }
     {
-        Direction {
-            stream: ScannedStream::new(role, limits),
+        SentStream {
+            scan: LimitedScan::new(role, limits),
             close_line: None,
             ended: false,
         }
@@ -34,16 +34,16 @@ impl Direction {
         ensures taken { OnOk result ((role : Role) (limits : Limits) (given : List Entry) → lines ≡ length given →
             HasSent role limits self.old given → HasSent role limits self.new (given ++ Bytes role bytes.old ∷ [])) }
         ensures unended { OnOk result (self.old.ended ≡ false) }
-        ensures room { OnOk result (length bytes.old ≤ self.old.stream.room) }
+        ensures room { OnOk result (length bytes.old ≤ self.old.scan.room) }
         ensures fault { IfErr result (λ fault. (self.new ≡ self.old) × IsLimited self.old (length bytes.old) fault) }
     {
         if self.ended {
             return Err(LineFault::AfterEnd);
         }
-        if bytes.len() as u64 > self.stream.room() {
+        if bytes.len() as u64 > self.scan.room() {
             return Err(LineFault::InputLimit);
         }
-        self.stream.take(bytes);
+        self.scan.take(bytes);
         self.close_line = self.closed_in(lines);
         Ok(())
     }
@@ -52,7 +52,7 @@ impl Direction {
     /// these.
     fn closed_in(&self, lines: u32) -> Option<u32>
         ensures { (role : Role) (limits : Limits) (bytes : List ℕ) →
-            HasStreamed role limits self.now.stream bytes
+            HasStreamed role limits self.now.scan bytes
             → IsNoted role limits bytes self.now.close_line lines result }
     {
         match self.close_line {
@@ -65,9 +65,9 @@ impl Direction {
     /// Whether a Close has come.
     fn is_closed(&self) -> bool
         ensures { (role : Role) (limits : Limits) (bytes : List ℕ) →
-            HasStreamed role limits self.now.stream bytes → IsClosedBy role limits bytes result }
+            HasStreamed role limits self.now.scan bytes → IsClosedBy role limits bytes result }
     {
-        match self.stream.finish() {
+        match self.scan.finish() {
             Verdict::Accepted(summary) => summary.close.is_some(),
             Verdict::Cut(_) | Verdict::Refused(_) => false,
         }
@@ -92,7 +92,7 @@ impl Direction {
         ensures { (role : Role) (limits : Limits) (given : List Entry) →
             HasSent role limits self.now given → IsSide role limits (sent role given) (has_ended role given) result }
     {
-        match self.stream.finish() {
+        match self.scan.finish() {
             Verdict::Refused(refusal) => Side::Refused(refusal),
             Verdict::Accepted(summary) => match summary.close {
                 Some(code) => Side::Closed(code),
@@ -102,7 +102,7 @@ impl Direction {
         }
     }
 
-    /// The side without a Close: running until its end mark.
+    /// What became of a stream without a Close: it is running until its end mark.
     fn unclosed(&self, side: Side) -> Side
         ensures { result ≡ ended_as side self.now.ended }
     {

@@ -1,5 +1,5 @@
 use Rattle.wsn_capture.proofs.SentEntries.{sends_mark}
-use Rattle.wsn_capture.proofs.direction.Direction.end.Goals as goal
+use Rattle.wsn_capture.proofs.sent_stream.SentStream.end.Goals as goal
 
 pub returns-clause-taken : goal.returns-clause-taken
 returns-clause-taken c role limits given has = sends_mark role limits c.args.self.now given has

@@ -1,4 +1,4 @@
--- A stream that is read up to a refusal and counted up to its limit.
+-- A scan of a stream up to a refusal, and the count of its bytes up to the input limit.
 use Rattle.std.specs.Prelude.{◌≡◌, ℕ, ◌+◌, ◌≤◌, None, List, [], ◌++◌, length}
 use Rattle.wsn_wire.specs.declared.endpoint.Role.{Role}
 use Rattle.wsn_rules.specs.declared.head_info.HeadInfo.{HeadInfo}

@@ -3,7 +3,7 @@ use Rattle.wsn_rules.specs.declared.verdict.Verdict.{Verdict}
 use Rattle.wsn_rules.specs.Verdict.{IsVerdict}
 use Rattle.wsn_capture.specs.Captures.{IsClosedBy}
 use Rattle.wsn_capture.proofs.ClosingLines.{accepted_closed, cut_unclosed}
-use Rattle.wsn_capture.proofs.direction.Direction.is_closed.Goals as goal
+use Rattle.wsn_capture.proofs.sent_stream.SentStream.is_closed.Goals as goal
 
 pub returns-in-Accepted : goal.returns-in-Accepted
 returns-in-Accepted c role limits bytes has =

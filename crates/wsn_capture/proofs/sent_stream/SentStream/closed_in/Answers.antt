@@ -1,6 +1,6 @@
 use Rattle.std.proofs.Common.{ℕ, Option, None, subst, sym}
 use Rattle.wsn_capture.specs.Captures.{IsNoted}
-use Rattle.wsn_capture.proofs.direction.Direction.closed_in.Goals as goal
+use Rattle.wsn_capture.proofs.sent_stream.SentStream.closed_in.Goals as goal
 
 pub returns-in-None-2 : goal.returns-in-None-2
 returns-in-None-2 c role limits bytes has =

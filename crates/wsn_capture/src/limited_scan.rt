@@ -3,15 +3,15 @@ use wsn_rules::{Limits, Verdict};
 use wsn_scan::Scan;
 use wsn_wire::Role;
 
-/// A stream up to its input limit. What comes behind a refusal is counted, and not read.
+/// The scan of a stream up to the input limit. What comes behind a refusal is counted, and not read.
 #[derive(Debug, Drop)]
-pub struct ScannedStream {
+pub struct LimitedScan {
     scan: Scan,
     room: u64,
 }
 
-impl Model for ScannedStream {
-    ghost use Rattle.wsn_capture.specs.ScannedStreams.{Scanned, IsSound};
+impl Model for LimitedScan {
+    ghost use Rattle.wsn_capture.specs.LimitedScans.{Scanned, IsSound};
 
     ghost Value = { Scanned };
 
@@ -20,15 +20,15 @@ impl Model for ScannedStream {
     ghost invariant = { λ s. IsSound (record { scan = s.scan; room = s.room }) };
 }
 
-impl ScannedStream {
+impl LimitedScan {
     ghost use Rattle.std.specs.Prelude.{◌≡◌, ◌≤◌, ℕ, List, [], ◌++◌, length};
     ghost use Rattle.wsn_capture.specs.Words.{Frame, IsVerdict, HasStreamed};
 
-    /// A stream of which nothing has come.
-    pub fn new(role: Role, limits: Limits) -> ScannedStream
+    /// Nothing has come.
+    pub fn new(role: Role, limits: Limits) -> LimitedScan
         ensures { HasStreamed role limits result [] }
     {
-        ScannedStream {
+        LimitedScan {
             scan: Scan::new(role, limits),
             room: limits.input(),
         }

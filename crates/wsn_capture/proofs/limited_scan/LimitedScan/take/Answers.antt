@@ -1,7 +1,7 @@
 use Rattle.std.proofs.Common.{◌≤◌, length, sym, ◌∙◌, subst}
-use Rattle.wsn_capture.specs.ScannedStreams.{Scanned, HasStreamed}
+use Rattle.wsn_capture.specs.LimitedScans.{Scanned, HasStreamed}
 use Rattle.wsn_capture.proofs.StreamSteps.{streamed_behind, streamed_on, sound_on, some_refusal, no_refusal}
-use Rattle.wsn_capture.proofs.scanned_stream.ScannedStream.take.Goals as goal
+use Rattle.wsn_capture.proofs.limited_scan.LimitedScan.take.Goals as goal
 
 pub invariant_of-self-in-Accepted : goal.invariant_of-self-in-Accepted
 invariant_of-self-in-Accepted c =

@@ -2,7 +2,7 @@ use Rattle.std.proofs.Common.{Option, ap, sym, ◌∙◌, ℕ}
 use Rattle.wsn_rules.specs.declared.verdict.Verdict.{Verdict}
 use Rattle.wsn_capture.specs.Sides.{side_of, accepted_side}
 use Rattle.wsn_capture.proofs.SentEntries.{side_by}
-use Rattle.wsn_capture.proofs.direction.Direction.side.Goals as goal
+use Rattle.wsn_capture.proofs.sent_stream.SentStream.side.Goals as goal
 
 pub returns-in-Refused : goal.returns-in-Refused
 returns-in-Refused c role limits given has =

@@ -1,5 +1,5 @@
 use Rattle.wsn_capture.proofs.SentEntries.{sends_bytes}
-use Rattle.wsn_capture.proofs.direction.Direction.take.Goals as goal
+use Rattle.wsn_capture.proofs.sent_stream.SentStream.take.Goals as goal
 
 pub returns-clause-taken : goal.returns-clause-taken
 returns-clause-taken c role limits given count has =

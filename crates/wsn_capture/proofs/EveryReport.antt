@@ -1,0 +1,258 @@
+-- Every list of entries has a report, if the limits are in range.
+use Rattle.std.proofs.Common.{◌≡◌, ℕ, zero, suc, ◌+◌, ◌*◌, ◌%◌, ◌==◌, ◌<◌, ◌≤◌, ◌⊎◌, Bool, true, false, cond, Option, None, Some, is_some, Result, Ok, Err, List, [], ◌∷◌, ◌++◌, length, inl, inr, refl, sym, ap, ◌∙◌, subst, append_assoc, append-nil, arith}
+use Rattle.std.proofs.lemmas.Bool.{cases_eq}
+use Rattle.std.proofs.lemmas.List.Concat.{flat_map-append}
+use Rattle.hex.specs.Hex.{decode_of, decode_pairs, hex_digit_value, pair_value}
+use Rattle.hex.specs.declared.error.FromHexError.{FromHexError}
+use Rattle.hex.specs.declared.error.FromHexError.TheVariants.{OddLength}
+use Rattle.hex.proofs.Pairs.{cons_byte, decode_pairs-ok_pair, decode_pairs-err_pair}
+use Rattle.wsn_wire.specs.declared.endpoint.Role.{Role}
+use Rattle.wsn_wire.specs.declared.endpoint.Role.TheVariants.{Client, Server}
+use Rattle.wsn_wire.specs.Frame.{Frame, IsBytes, frame_bytes, stream}
+use Rattle.wsn_wire.proofs.FrameLemmas.{IsBytes-append, IsBytes-left}
+use Rattle.wsn_rules.specs.declared.verdict.Verdict.{Verdict}
+use Rattle.wsn_rules.specs.declared.verdict.Verdict.TheVariants.{Accepted, Cut, Refused}
+use Rattle.wsn_rules.specs.Limits.{Limits, InRange}
+use Rattle.wsn_rules.specs.Accepted.{IsAccepted, EndsWithClose}
+use Rattle.wsn_rules.specs.Verdict.{IsVerdict}
+use Rattle.wsn_rules.proofs.EveryInput.{has_verdict}
+use Rattle.wsn_rules.proofs.Prefixes.{nil-cons, nil-push, nil-parts}
+use Rattle.wsn_capture.specs.declared.report.Side.{Side}
+use Rattle.wsn_capture.specs.declared.report.Side.TheVariants.{Closed, Refused as RefusedSide, Ended, Cut as CutSide, Running}
+use Rattle.wsn_capture.specs.declared.report.Outcome.{Outcome}
+use Rattle.wsn_capture.specs.declared.report.Outcome.TheVariants.{Failed, Clean, Complete, Abnormal, Half, Live}
+use Rattle.wsn_capture.specs.declared.report.Report.{Report}
+use Rattle.wsn_capture.specs.Entries.{Entry, IsGiven, AreEntries}
+use Rattle.wsn_capture.specs.Entries.Entry.{Nothing, Bytes, Mark}
+use Rattle.wsn_capture.specs.Sides.{bytes_in, sent, has_ended, side_of, IsSide}
+use Rattle.wsn_capture.specs.Reports.{IsRefused, IsClosed, IsEndedEarly, Fits, outcome_order, echo_of, seen_of, IsOutcome, IsReport}
+use Rattle.wsn_capture.specs.CloseLines.{earlier_of}
+use Rattle.wsn_capture.specs.Captures.{IsUnclosed, IsClosedBy, IsCloseLine}
+use Rattle.wsn_capture.proofs.PairedDigits.{pair_of}
+use Rattle.wsn_capture.proofs.ClosingLines.{accepted_closed, cut_unclosed, sent-push, closes_longer, line_noted}
+use Rattle.wsn_capture.proofs.ReportedLines.{first_by_lines}
+use Rattle.wsn_capture.proofs.OneReport.{outcome_at, at_its_place}
+
+-- ---- what digits spell is bytes
+
+digit_small : (c v : ℕ) → hex_digit_value c ≡ Some v → v < 16
+digit_small c v is = grind (arith)
+
+pair_small : (high low i : ℕ) (h l : Option ℕ) (v : ℕ) → ((d : ℕ) → h ≡ Some d → d < 16) → ((d : ℕ) → l ≡ Some d → d < 16) → pair_of high low i h l ≡ Ok v → v < 256
+pair_small high low i (Some d) (Some e) v small also is =
+    let whole : d * 16 + e ≡ v = cc in
+    let high_small = small d refl in
+    let low_small = also e refl in
+    omega (arith, whole, high_small, low_small)
+pair_small high low i (Some d) None v small also is = absurd (cc is)
+pair_small high low i None l v small also is = absurd (cc is)
+
+decoded_bytes : (i : ℕ) (digits bytes : List ℕ) → decode_pairs i digits ≡ Ok bytes → IsBytes bytes
+unfolding decode_pairs
+decoded_bytes i [] bytes is = let none : [] ≡ bytes = cc in subst IsBytes none tt
+decoded_bytes i (digit ∷ []) bytes is = absurd (cc is)
+decoded_bytes i (high ∷ low ∷ rest) bytes is = by_pair (decoded_bytes (i + 2) rest) (pair_value high low i) refl
+  where
+    by_rest : (v : ℕ) (r : Result (List ℕ) FromHexError) → ((more : List ℕ) → r ≡ Ok more → IsBytes more) → v < 256 → cons_byte v r ≡ Ok bytes → IsBytes bytes
+    by_rest v (Ok more) behind small whole = let same : v ∷ more ≡ bytes = cc in subst IsBytes same (small, behind more refl)
+    by_rest v (Err e) behind small whole = absurd (cc whole)
+
+    by_pair : ((more : List ℕ) → decode_pairs (i + 2) rest ≡ Ok more → IsBytes more) → (r : Result ℕ FromHexError) → pair_value high low i ≡ r → IsBytes bytes
+    by_pair behind (Ok v) pair =
+        by_rest v (decode_pairs (i + 2) rest) behind (pair_small high low i (hex_digit_value high) (hex_digit_value low) v (digit_small high) (digit_small low) pair)
+        (sym (decode_pairs-ok_pair i high low v rest pair) ∙ is)
+    by_pair behind (Err e) pair = let both : Err e ≡ Ok bytes = sym (decode_pairs-err_pair i high low e rest pair) ∙ is in absurd (cc both)
+
+spelled_bytes : (digits bytes : List ℕ) → decode_of digits ≡ Ok bytes → IsBytes bytes
+spelled_bytes digits bytes is = by_parity (length digits % 2 == 1) is
+  where
+    by_parity : (odd : Bool) → cond odd (Err OddLength) (decode_pairs 0 digits) ≡ Ok bytes → IsBytes bytes
+    by_parity true whole = absurd (cc whole)
+    by_parity false whole = decoded_bytes 0 digits bytes whole
+
+entry_bytes : (role : Role) (text : List ℕ) (entry : Entry) → IsGiven text entry → IsBytes (bytes_in role entry)
+entry_bytes Client text Nothing is = tt
+entry_bytes Server text Nothing is = tt
+entry_bytes Client text (Bytes Client bytes) is = spelled_bytes is.0 bytes is.2.1
+entry_bytes Client text (Bytes Server bytes) is = tt
+entry_bytes Server text (Bytes Client bytes) is = tt
+entry_bytes Server text (Bytes Server bytes) is = spelled_bytes is.0 bytes is.2.1
+entry_bytes Client text (Mark role) is = tt
+entry_bytes Server text (Mark role) is = tt
+
+pub sent_bytes : (role : Role) (lines : List (List ℕ)) (entries : List Entry) → AreEntries lines entries → IsBytes (sent role entries)
+sent_bytes role [] [] are = tt
+sent_bytes role [] (entry ∷ entries) are = absurd are
+sent_bytes role (line ∷ lines) [] are = absurd are
+sent_bytes role (line ∷ lines) (entry ∷ entries) are =
+    IsBytes-append (bytes_in role entry) (sent role entries) (entry_bytes role _ entry are.0) (sent_bytes role lines entries are.1)
+
+-- ---- where a Close ends
+
+nothing_closed : (role : Role) (limits : Limits) → IsUnclosed role limits []
+nothing_closed role limits fs is closes =
+    elim is.ends [
+      | inl whole ↦ whole.0 closes.0 [] closes.1 closes.3 closes.2
+      | inr tail ↦
+          let none : [] ≡ stream fs = sym (nil-parts (stream fs) tail.1.0 tail.1.1).0 in
+          let parts : stream fs ≡ stream closes.0 ++ (frame_bytes closes.1 ++ []) = ap stream closes.3 ∙ flat_map-append frame_bytes closes.0 (closes.1 ∷ []) in
+          nil-push (stream closes.0) _ _ (none ∙ parts)
+    ]
+
+module _ (role : Role) (limits : Limits) (range : InRange limits) where
+  closed_or_not : (bytes : List ℕ) → IsBytes bytes → (closed : Bool) × IsClosedBy role limits bytes closed
+  closed_or_not bytes in_bytes = let found = has_verdict role limits range bytes in_bytes in by_verdict found.frames found.verdict found.is
+    where
+      by_verdict : (fs : List Frame) (verdict : Verdict) → IsVerdict role limits bytes fs verdict → (closed : Bool) × IsClosedBy role limits bytes closed
+      by_verdict fs (Accepted summary) is = (is_some summary.close, accepted_closed role limits bytes fs summary is)
+      by_verdict fs (Cut summary) is = (false, cut_unclosed role limits bytes fs (Cut summary) is (inl (summary, refl)))
+      by_verdict fs (Refused refusal) is = (false, cut_unclosed role limits bytes fs (Refused refusal) is (inr (refusal, refl)))
+
+  one_more : (given : List Entry) (entry : Entry) (known : Option ℕ) → IsCloseLine role limits given known → IsBytes (sent role (given ++ entry ∷ [])) → (noted : Option ℕ) × IsCloseLine role limits (given ++ entry ∷ []) noted
+  one_more given entry (Some line) is in_bytes = (Some line, closes_longer role limits given entry line is)
+  one_more given entry None is in_bytes =
+      let found = closed_or_not (sent role given ++ bytes_in role entry) (subst IsBytes (sent-push role limits given entry) in_bytes) in
+      by_closed found.0 found.1
+    where
+      by_closed : (closed : Bool) → IsClosedBy role limits (sent role given ++ bytes_in role entry) closed → (noted : Option ℕ) × IsCloseLine role limits (given ++ entry ∷ []) noted
+      by_closed true closes = (Some (length given), line_noted role limits given entry (length given) None (Some (length given)) refl is (refl, closes))
+      by_closed false unclosed = (None, line_noted role limits given entry (length given) None None refl is unclosed)
+
+  further : (given rest : List Entry) (known : Option ℕ) → IsCloseLine role limits given known → IsBytes (sent role (given ++ rest)) → (noted : Option ℕ) × IsCloseLine role limits (given ++ rest) noted
+  further given [] known is in_bytes = (known, subst (λ (es : List Entry). IsCloseLine role limits es known) (sym (append-nil given)) is)
+  further given (entry ∷ rest) known is in_bytes =
+      let same : (given ++ entry ∷ []) ++ rest ≡ given ++ entry ∷ rest = append_assoc given (entry ∷ []) rest in
+      let moved = subst (λ (es : List Entry). IsBytes (sent role es)) (sym same) in_bytes in
+      let front = IsBytes-left (sent role (given ++ entry ∷ [])) (sent role rest) (subst IsBytes (flat_map-append (bytes_in role) (given ++ entry ∷ []) rest) moved) in
+      let next = one_more given entry known is front in
+      let all = further (given ++ entry ∷ []) rest next.0 next.1 moved in
+      (all.0, subst (λ (es : List Entry). IsCloseLine role limits es all.0) same all.1)
+
+  pub has_close_line : (entries : List Entry) → IsBytes (sent role entries) → (line : Option ℕ) × IsCloseLine role limits entries line
+  has_close_line entries = further [] entries None (nothing_closed role limits)
+
+  pub has_side : (bytes : List ℕ) (ended : Bool) → IsBytes bytes → (side : Side) × IsSide role limits bytes ended side
+  has_side bytes ended in_bytes =
+      let found = has_verdict role limits range bytes in_bytes in
+      (side_of found.verdict ended, (found.frames, found.verdict, found.is, refl))
+
+-- ---- the outcome
+
+-- a fact that is decided
+abbrev Decided : Type 0 → Type 0
+Decided A = A ⊎ (A → ⊥)
+
+refused_or_not : (side : Side) → Decided (IsRefused side)
+refused_or_not (Closed code) = inr (λ is. is)
+refused_or_not (RefusedSide refusal) = inl tt
+refused_or_not Ended = inr (λ is. is)
+refused_or_not CutSide = inr (λ is. is)
+refused_or_not Running = inr (λ is. is)
+
+closed_or_open : (side : Side) → Decided (IsClosed side)
+closed_or_open (Closed code) = inl tt
+closed_or_open (RefusedSide refusal) = inr (λ is. is)
+closed_or_open Ended = inr (λ is. is)
+closed_or_open CutSide = inr (λ is. is)
+closed_or_open Running = inr (λ is. is)
+
+early_or_not : (side : Side) → Decided (IsEndedEarly side)
+early_or_not (Closed code) = inr (λ is. is)
+early_or_not (RefusedSide refusal) = inr (λ is. is)
+early_or_not Ended = inl tt
+early_or_not CutSide = inl tt
+early_or_not Running = inr (λ is. is)
+
+true_or_not : (b : Bool) → Decided (b ≡ true)
+true_or_not true = inl refl
+true_or_not false = inr (λ is. cc is)
+
+one_of : {A B : Type 0} → Decided A → Decided B → Decided (A ⊎ B)
+one_of (inl a) b = inl (inl a)
+one_of (inr none) (inl b) = inl (inr b)
+one_of (inr none) (inr neither) = inr (λ is. elim is [ inl a ↦ none a | inr b ↦ neither b ])
+
+both : {A B : Type 0} → Decided A → Decided B → Decided (A × B)
+both (inl a) (inl b) = inl (a, b)
+both (inl a) (inr none) = inr (λ is. none is.1)
+both (inr none) b = inr (λ is. none is.0)
+
+order_at : (n : ℕ) → n ≤ 5 → outcome_order (outcome_at n) ≡ n
+order_at zero le = refl
+order_at (suc zero) le = refl
+order_at (suc (suc zero)) le = refl
+order_at (suc (suc (suc zero))) le = refl
+order_at (suc (suc (suc (suc zero)))) le = refl
+order_at (suc (suc (suc (suc (suc n))))) le = omega (arith, le)
+
+module _ (client server : Side) (client_ended server_ended : Bool) where
+  fits_or_not : (outcome : Outcome) → Decided (Fits client server client_ended server_ended outcome)
+  fits_or_not Failed = one_of (refused_or_not client) (refused_or_not server)
+  fits_or_not Clean =
+      elim (both (both (closed_or_open client) (closed_or_open server)) (both (true_or_not client_ended) (true_or_not server_ended))) [
+        | inl all ↦ inl (all.0.0, all.0.1, all.1.0, all.1.1)
+        | inr none ↦ inr (λ is. none ((is.0, is.1), (is.2, is.3)))
+      ]
+  fits_or_not Complete = both (closed_or_open client) (closed_or_open server)
+  fits_or_not Abnormal = one_of (early_or_not client) (early_or_not server)
+  fits_or_not Half = one_of (closed_or_open client) (closed_or_open server)
+  fits_or_not Live = inl tt
+
+  -- none before this place fits
+  abbrev NoneBefore : ℕ → Type 0
+  NoneBefore n = (other : Outcome) → Fits client server client_ended server_ended other → n ≤ outcome_order other
+
+  none_there : (n : ℕ) → NoneBefore n → (Fits client server client_ended server_ended (outcome_at n) → ⊥) → NoneBefore (suc n)
+  none_there n before none other held =
+      let behind = before other held in
+      elim (cases_eq (outcome_order other) n) [
+        | inl here ↦ absurd (none (subst (Fits client server client_ended server_ended) (sym (at_its_place other) ∙ ap outcome_at here) held))
+        | inr there ↦ omega (arith, behind, there)
+      ]
+
+  from : (left n : ℕ) → n + left ≡ 5 → NoneBefore n → (outcome : Outcome) × IsOutcome client server client_ended server_ended outcome
+  from zero n place before = (Live, record { fits = tt; first = λ other held. let behind = before other held in omega (arith, place, behind) })
+  from (suc left) n place before =
+      let at = order_at n (omega (arith, place)) in
+      elim (fits_or_not (outcome_at n)) [
+        | inl fits ↦ (outcome_at n, record { fits = fits; first = λ other held. let behind = before other held in omega (arith, at, behind) })
+        | inr none ↦ from left (suc n) (omega (arith, place)) (none_there n before none)
+      ]
+
+  pub has_outcome : (outcome : Outcome) × IsOutcome client server client_ended server_ended outcome
+  has_outcome = from 5 0 refl (λ other held. omega arith)
+
+-- ---- the report
+
+pub has_report : (limits : Limits) (lines : List (List ℕ)) (entries : List Entry) → InRange limits → AreEntries lines entries → (report : Report) × IsReport limits lines report
+has_report limits lines entries range are =
+    let client_bytes = sent_bytes Client lines entries are in
+    let server_bytes = sent_bytes Server lines entries are in
+    let client = has_side Client limits range (sent Client entries) (has_ended Client entries) client_bytes in
+    let server = has_side Server limits range (sent Server entries) (has_ended Server entries) server_bytes in
+    let client_line = has_close_line Client limits range entries client_bytes in
+    let server_line = has_close_line Server limits range entries server_bytes in
+    let outcome = has_outcome client.0 server.0 (has_ended Client entries) (has_ended Server entries) in (
+      record {
+        client = client.0;
+        server = server.0;
+        first = earlier_of client_line.0 server_line.0;
+        echo = echo_of client.0 server.0;
+        client_sees = seen_of server.0;
+        server_sees = seen_of client.0;
+        outcome = outcome.0;
+      },
+      record {
+        entries = entries;
+        given = are;
+        is = record {
+          client = client.1;
+          server = server.1;
+          first = first_by_lines limits entries client_line.0 server_line.0 client_line.1 server_line.1;
+          echo = refl;
+          client_sees = refl;
+          server_sees = refl;
+          outcome = outcome.1;
+        };
+      },
+    )
