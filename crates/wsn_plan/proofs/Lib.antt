@@ -24,3 +24,5 @@ pub mod CutLines
 pub mod ReadNumbers
 pub mod WrittenPlans
 pub mod ReadPlans
+mod HeldPlans
+mod SameMeaning
