@@ -25,3 +25,5 @@ pub mod ReadNumbers
 pub mod WrittenPlans
 pub mod ReadPlans
 pub mod PlanFiles
+mod HeldPlans
+mod SameMeaning

@@ -4,6 +4,7 @@ pub mod Uniform
 pub mod Framing
 pub mod Recutting
 pub mod Planning
+pub mod Plans
 pub mod PlanText
 pub mod PlanFiles
 pub mod Cuts

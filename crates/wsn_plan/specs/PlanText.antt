@@ -1,6 +1,6 @@
 -- Plan text: a line for each step of a plan. Which text spells which plan, the text that is written of a plan, and
 -- what is wrong with a text that spells none.
-use Rattle.std.specs.Prelude.{◌≡◌, ◌≢◌, ℕ, ◌+◌, ◌^◌, ◌<◌, ◌⊎◌, Option, None, Some, List, [], ◌∷◌, ◌++◌, length, codes, decimal, IfSome, Result, Ok, Err, ⊤}
+use Rattle.std.specs.Prelude.{◌≡◌, ◌≢◌, ℕ, ◌+◌, ◌^◌, ◌<◌, Option, None, Some, List, [], ◌∷◌, ◌++◌, length, codes, decimal, IfSome, Result, Ok, Err, ⊤}
 use Rattle.std.specs.List.{AllByRecursion, AllZip, flat_map}
 use Rattle.hex.specs.Hex.{decode_of}
 use Rattle.wsn_wire.specs.declared.spelling.Form.{Form}

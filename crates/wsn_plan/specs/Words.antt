@@ -1,7 +1,7 @@
 -- The words that the clauses in src/ use, passed on.
 pub use Rattle.std.specs.List.{AllByRecursion}
 pub use Rattle.std.specs.Option.{option_copied}
-pub use Rattle.wsn_wire.specs.Frame.{FormFits, frame_bytes, is_control, wire_payload}
+pub use Rattle.wsn_wire.specs.Frame.{Frame, FormFits, frame_bytes, is_control, stream, wire_payload}
 pub use Rattle.wsn_wire.specs.Transfer.{Outgoing, IsWritten}
 pub use Rattle.wsn_wire.specs.declared.endpoint.Role.{Role}
 pub use Rattle.wsn_wire.specs.declared.endpoint.Role.TheVariants.{Client}
@@ -9,12 +9,14 @@ pub use Rattle.wsn_wire.specs.declared.opcode.Kind.{Kind}
 pub use Rattle.wsn_wire.specs.declared.opcode.Op.{Op}
 pub use Rattle.wsn_wire.specs.declared.spelling.Form.{Form}
 pub use Rattle.wsn_wire.specs.declared.spelling.Form.TheVariants.{Shortest, Two, Eight}
+pub use Rattle.wsn_rules.specs.Accepted.{IsAccepted}
 pub use Rattle.wsn_rules.specs.Fault.{IsFault}
 pub use Rattle.wsn_rules.specs.Fitting.{Fits}
+pub use Rattle.wsn_rules.specs.Group.{unfinished}
 pub use Rattle.wsn_rules.specs.LawfulEvents.{AreLawful}
 pub use Rattle.wsn_rules.specs.Limits.{InRange, Limits}
 pub use Rattle.wsn_rules.specs.Lines.{form_text}
-pub use Rattle.wsn_rules.specs.Meaning.{Message}
+pub use Rattle.wsn_rules.specs.Meaning.{MeantEvent, Message, meaning}
 pub use Rattle.wsn_rules.specs.Plan.{next_text, IsPlan, piece_length}
 pub use Rattle.wsn_rules.specs.Recut.{op_behind}
 pub use Rattle.wsn_rules.specs.UniformPlan.{piece_count, ahead, uniform_plan}

@@ -1,7 +1,7 @@
 //! Facts of this crate's answers. Each function does nothing: its contract is the fact.
 
-ghost use Rattle.std.specs.Prelude.{◌≡◌, ℕ, List, Result, Ok, false};
-ghost use Rattle.wsn_plan.specs.Words.{Role, Outgoing, IsWritten, Step, Verdict, Limits, InRange, Stop, IsNormalisedWhole, PlanAnswer, Plan, RecutAnswer, Done, AnswersAll, IsPlannedWhole, IsRestored, IsRecutWhole, Planned};
+ghost use Rattle.std.specs.Prelude.{◌≡◌, ℕ, List, [], Result, Ok, false};
+ghost use Rattle.wsn_plan.specs.Words.{Role, Frame, stream, Outgoing, IsWritten, IsAccepted, unfinished, MeantEvent, meaning, IsPlan, Step, Verdict, Limits, InRange, Stop, IsNormalisedWhole, PlanAnswer, Plan, RecutAnswer, Done, AnswersAll, IsPlannedWhole, IsRestored, IsRecutWhole, Planned};
 
 use std::alloc::Allocator;
 
@@ -38,4 +38,16 @@ pub fn law_restored<A: Allocator>()
         × ((recut_before recut_after : Outgoing) (answer : RecutAnswer) →
         IsRecutWhole role limits (λ _. plan) normal recut_before recut_after (Ok answer) →
         (answer ≡ Done) × IsRestored all verdict recut_before recut_after) }
+{}
+
+/// What [`recut`](crate::recut) writes means what its input does: of an input whose bytes are known, and with `Done`,
+/// the input is accepted, and so is what went out, which has no tail and leaves no message unfinished. Any
+/// [`Plan`](crate::Plan) is a plan, as its `steps` say, and so is each that
+/// [`recut_uniform`](crate::recut_uniform) cuts by.
+pub fn law_same_meaning()
+    ensures { (role : Role) (limits : Limits) (planned : Planned) (all : List ℕ) (before after : Outgoing) →
+        InRange limits → ((events : List MeantEvent) → IsPlan (planned events)) →
+        IsRecutWhole role limits planned all before after (Ok Done) →
+        (fs gs : List Frame) × IsAccepted role limits all fs × IsWritten before after (stream gs)
+        × IsAccepted role limits (stream gs) gs × (unfinished gs ≡ []) × (meaning gs ≡ meaning fs) }
 {}

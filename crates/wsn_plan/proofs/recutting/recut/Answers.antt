@@ -25,14 +25,14 @@ cut_again-requires-clause-lawful g c = rw c.deref_mut.ensures.value (are_lawful 
 
 pub returns-clause-recut : goal.returns-clause-recut
 returns-clause-recut g c =
-    let steps = subst (λ (steps : List Step). IsCutAgain c.args.role c.args.limits steps (map meant c.deref_mut.result.now) c.args.output.now c.cut_again.new.output c.cut_again.result) c.steps.ensures c.cut_again.ensures in
+    let steps = subst (λ (steps : List Step). IsCutAgain c.args.role c.args.limits steps (map meant c.deref_mut.result.now) c.args.output.now c.cut_again.new.output c.cut_again.result) c.steps.ensures.steps c.cut_again.ensures in
     let did = subst (λ (es : List (Event _)). IsCutAgain c.args.role c.args.limits c.args.plan.now (map meant es) c.args.output.now c.cut_again.new.output c.cut_again.result) c.deref_mut.ensures.value steps in
     let told = cut c.args.role c.args.limits (λ _. c.args.plan.now) c.args.input.now c.gather.new.input c.args.output.now c.in_ok-verdict.field-0 c.in_ok-verdict.ensures c.in-Accepted.field-0 c.in-Accepted.is c.cut_again.new.output c.cut_again.result did in
     told
 
 pub returns-clause-whole : goal.returns-clause-whole
 returns-clause-whole g c =
-    let steps = subst (λ (steps : List Step). IsCutAgain c.args.role c.args.limits steps (map meant c.deref_mut.result.now) c.args.output.now c.cut_again.new.output c.cut_again.result) c.steps.ensures c.cut_again.ensures in
+    let steps = subst (λ (steps : List Step). IsCutAgain c.args.role c.args.limits steps (map meant c.deref_mut.result.now) c.args.output.now c.cut_again.new.output c.cut_again.result) c.steps.ensures.steps c.cut_again.ensures in
     let did = subst (λ (es : List (Event _)). IsCutAgain c.args.role c.args.limits c.args.plan.now (map meant es) c.args.output.now c.cut_again.new.output c.cut_again.result) c.deref_mut.ensures.value steps in
     let told = cut c.args.role c.args.limits (λ _. c.args.plan.now) c.args.input.now c.gather.new.input c.args.output.now c.in_ok-verdict.field-0 c.in_ok-verdict.ensures c.in-Accepted.field-0 c.in-Accepted.is c.cut_again.new.output c.cut_again.result did in
     λ all known. whole_recut c.args.role c.args.limits (λ _. c.args.plan.now) c.args.input.now c.gather.new.input c.args.output.now c.cut_again.new.output c.cut_again.result all told known

@@ -37,7 +37,7 @@ returns-in_err-plan-clause-recut g c =
 pub returns-clause-recut : goal.returns-clause-recut
 returns-clause-recut g c =
     let same : c.steps.result.now ≡ uniform_plan c.args.size c.args.weave c.args.key (map meant c.in_ok-verdict.field-0.events.items) =
-    c.steps.ensures ∙ c.in_ok-plan.ensures.plan ∙ ap (λ (es : List (Event _)). uniform_plan c.args.size c.args.weave c.args.key (map meant es)) c.deref.ensures.value in
+    c.steps.ensures.steps ∙ c.in_ok-plan.ensures.plan ∙ ap (λ (es : List (Event _)). uniform_plan c.args.size c.args.weave c.args.key (map meant es)) c.deref.ensures.value in
     let steps = subst (λ (steps : List Step). IsCutAgain c.args.role c.args.limits steps (map meant c.deref_mut.result.now) c.args.output.now c.cut_again.new.output c.cut_again.result) same c.cut_again.ensures in
     let did = subst (λ (es : List (Event _)). IsCutAgain c.args.role c.args.limits (uniform_plan c.args.size c.args.weave c.args.key (map meant c.in_ok-verdict.field-0.events.items)) (map meant es) c.args.output.now c.cut_again.new.output c.cut_again.result) c.deref_mut.ensures.value steps in
     let told = cut c.args.role c.args.limits (uniform_plan c.args.size c.args.weave c.args.key) c.args.input.now c.gather.new.input c.args.output.now c.in_ok-verdict.field-0 c.in_ok-verdict.ensures c.in-Accepted.field-0 c.in-Accepted.is c.cut_again.new.output c.cut_again.result did in
@@ -46,7 +46,7 @@ returns-clause-recut g c =
 pub returns-clause-whole : goal.returns-clause-whole
 returns-clause-whole g c =
     let same : c.steps.result.now ≡ uniform_plan c.args.size c.args.weave c.args.key (map meant c.in_ok-verdict.field-0.events.items) =
-    c.steps.ensures ∙ c.in_ok-plan.ensures.plan ∙ ap (λ (es : List (Event _)). uniform_plan c.args.size c.args.weave c.args.key (map meant es)) c.deref.ensures.value in
+    c.steps.ensures.steps ∙ c.in_ok-plan.ensures.plan ∙ ap (λ (es : List (Event _)). uniform_plan c.args.size c.args.weave c.args.key (map meant es)) c.deref.ensures.value in
     let steps = subst (λ (steps : List Step). IsCutAgain c.args.role c.args.limits steps (map meant c.deref_mut.result.now) c.args.output.now c.cut_again.new.output c.cut_again.result) same c.cut_again.ensures in
     let did = subst (λ (es : List (Event _)). IsCutAgain c.args.role c.args.limits (uniform_plan c.args.size c.args.weave c.args.key (map meant c.in_ok-verdict.field-0.events.items)) (map meant es) c.args.output.now c.cut_again.new.output c.cut_again.result) c.deref_mut.ensures.value steps in
     let told = cut c.args.role c.args.limits (uniform_plan c.args.size c.args.weave c.args.key) c.args.input.now c.gather.new.input c.args.output.now c.in_ok-verdict.field-0 c.in_ok-verdict.ensures c.in-Accepted.field-0 c.in-Accepted.is c.cut_again.new.output c.cut_again.result did in
@@ -55,7 +55,7 @@ returns-clause-whole g c =
 pub returns-clause-only_fault : goal.returns-clause-only_fault
 returns-clause-only_fault g c =
     let same : c.steps.result.now ≡ uniform_plan c.args.size c.args.weave c.args.key (map meant c.in_ok-verdict.field-0.events.items) =
-    c.steps.ensures ∙ c.in_ok-plan.ensures.plan ∙ ap (λ (es : List (Event _)). uniform_plan c.args.size c.args.weave c.args.key (map meant es)) c.deref.ensures.value in
+    c.steps.ensures.steps ∙ c.in_ok-plan.ensures.plan ∙ ap (λ (es : List (Event _)). uniform_plan c.args.size c.args.weave c.args.key (map meant es)) c.deref.ensures.value in
     let steps = subst (λ (steps : List Step). IsCutAgain c.args.role c.args.limits steps (map meant c.deref_mut.result.now) c.args.output.now c.cut_again.new.output c.cut_again.result) same c.cut_again.ensures in
     let did = subst (λ (es : List (Event _)). IsCutAgain c.args.role c.args.limits (uniform_plan c.args.size c.args.weave c.args.key (map meant c.in_ok-verdict.field-0.events.items)) (map meant es) c.args.output.now c.cut_again.new.output c.cut_again.result) c.deref_mut.ensures.value steps in
     λ step why is.

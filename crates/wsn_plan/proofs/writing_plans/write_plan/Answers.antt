@@ -6,7 +6,7 @@ use Rattle.wsn_plan.proofs.writing_plans.write_plan.Goals as goal
 
 pub returns-in_err-put_line : goal.returns-in_err-put_line
 returns-in_err-put_line g c =
-    rw (← c.steps-step-items.ensures)
+    rw (← c.steps-step-items.ensures.steps)
     (plan_stopped c.args.output.now c.loop-step.output c.put_line.new.to c.steps-step-items.result.now c.loop-step.step-index (Piece 0 None Shortest)
     c.in_err-put_line.field-0.0 c.from_residual.result c.loop-step-test.true c.loop-step.invariant (rw (← c.line_of.ensures) c.in_err-put_line.ensures)
     c.from_residual.ensures.1)
