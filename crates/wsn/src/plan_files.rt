@@ -53,32 +53,3 @@ pub fn read_plan_file<A: Allocator + Copy, R: Read + Drop>(
         Err(fault) => Err(PlanFileFault::Faulty(fault)),
     }
 }
-
-#[cfg(test)]
-mod tests {
-    use super::*;
-    use std::test::Fail;
-
-    /// A file of lines that doesn't end, and how many of its bytes were read.
-    #[derive(Drop)]
-    struct Endless {
-        given: usize,
-    }
-
-    impl Read for Endless {
-        fn read(&mut self, buf: &mut [u8]) -> io::Result<usize> {
-            buf.fill(b'\n');
-            self.given = self.given.saturating_add(buf.len());
-            Ok(buf.len())
-        }
-    }
-
-    #[test]
-    fn of_a_file_that_is_too_long_a_byte_more_is_read(rt: HostRuntime) -> Result<(), Fail> {
-        let mut file = Endless { given: 0 };
-        let answer = read_plan_file(rt.alloc(), &mut file);
-        assert!(rt; matches!(&answer, Err(PlanFileFault::TooLong)));
-        assert_eq!(rt; file.given, 67_108_865);
-        Ok(())
-    }
-}

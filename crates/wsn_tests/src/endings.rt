@@ -92,7 +92,7 @@ static FRONTS: [(&[u8], &[&str]); 3] = [
 #[test]
 fn verdicts_behind_each_byte(rt: HostRuntime) -> Result<(), Fail> {
     let alloc = rt.alloc();
-    for (bytes, lines) in FRONTS {
+    for (bytes, lines) in FRONTS.iter() {
         assert_eq!(rt; lines.len(), bytes.len() + 1);
         for (count, line) in lines.iter().enumerate() {
             let front = bytes.get(..count).ok_or("no such front")?;
