@@ -15,6 +15,7 @@ pub struct Chopped<'a> {
 }
 
 impl<'a> Chopped<'a> {
+    /// One that never fails.
     pub fn new(bytes: &'a [u8], most: usize) -> Self {
         Chopped {
             rest: bytes,
@@ -70,6 +71,7 @@ pub struct Endless {
 }
 
 impl Endless {
+    /// One of the first bytes, and of the others over and over.
     pub fn new(first: &'static [u8], again: &'static [u8]) -> Self {
         Endless {
             rest: first,

@@ -180,7 +180,7 @@ impl Stream {
         }
     }
 
-    /// What its first bytes are: so many as one may wish in a short stream, the fewest and the most in a long one.
+    /// Its first bytes, so many as one may wish: of a long stream at most 200, or all but two at most.
     pub fn fronts(&self, alloc: Global) -> Result<Vec<&[u8]>, Fail> {
         let len = self.bytes.len();
         let mut fronts = Vec::new(alloc);

@@ -9,15 +9,17 @@ pub enum Full {
     Fails,
     FailsOnce,
     IsInterruptedOnce,
+    WouldBlockOnce,
     TakesNothing,
     TakesNothingOnce,
 }
 
 /// Each way of being full.
-pub const FULL: [Full; 5] = [
+pub const FULL: [Full; 6] = [
     Full::Fails,
     Full::FailsOnce,
     Full::IsInterruptedOnce,
+    Full::WouldBlockOnce,
     Full::TakesNothing,
     Full::TakesNothingOnce,
 ];
@@ -32,6 +34,7 @@ pub struct Narrow {
 }
 
 impl Narrow {
+    /// One that takes at most so many bytes a call, and is full behind so many.
     pub fn new(alloc: Global, most: usize, room: usize, full: Full) -> Self {
         Narrow {
             taken: Vec::new(alloc),
@@ -55,6 +58,7 @@ impl Narrow {
         match self.full {
             Full::Fails | Full::FailsOnce => Err(Error::from(ErrorKind::Other)),
             Full::IsInterruptedOnce => Err(Error::from(ErrorKind::Interrupted)),
+            Full::WouldBlockOnce => Err(Error::from(ErrorKind::WouldBlock)),
             Full::TakesNothing | Full::TakesNothingOnce => Ok(()),
         }
     }

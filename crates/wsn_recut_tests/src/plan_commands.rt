@@ -5,7 +5,7 @@ use crate::expecting::expect_outcome;
 use crate::plans::PLANNED;
 use crate::recut_faults::{FAULTS, STOPS};
 use crate::recuts::{Cut, FITS};
-use crate::uniform_recuts::{CUTS, Cut as SizedCut};
+use crate::uniform_recuts::{CUTS, SizedCut};
 use std::alloc::{Allocator, Global};
 use std::process::Abort;
 use std::test::Fail;

@@ -1,10 +1,10 @@
 //! Plan text: what is read of a text, what is written of a plan, and where memory or a write fails.
 
-use linked_list_allocator::LocalHeap;
 use std::alloc::{Allocator, Global};
 use std::io::Write;
 use std::process::Abort;
 use std::test::Fail;
+use wsn_doubles::heaps::heap_of;
 use wsn_doubles::writers::{Full, Narrow};
 use wsn_plan::{LineWhy, Plan, PlanFault, Step, read_plan, write_plan};
 use wsn_scan::Stop;
@@ -166,8 +166,8 @@ fn refused_memory_is_told(rt: HostRuntime) -> Result<(), Fail> {
     let alloc = rt.alloc();
     let mut refused = 0u32;
     let mut read = 0u32;
-    for size in 1..100usize {
-        let heap = LocalHeap::new(alloc, size * 16)?;
+    for blocks in 0..100usize {
+        let heap = heap_of(alloc, blocks)?;
         if is_read(&rt, &heap, NINE, 9) {
             read = read.saturating_add(1);
         } else {
@@ -182,7 +182,7 @@ fn refused_memory_is_told(rt: HostRuntime) -> Result<(), Fail> {
 /// A first line that spells no step needs no memory.
 #[test]
 fn a_fault_needs_no_memory(rt: HostRuntime) -> Result<(), Fail> {
-    let heap = LocalHeap::new(rt.alloc(), 32)?;
+    let heap = heap_of(rt.alloc(), 0)?;
     let fault = PlanFault::Line {
         number: 1,
         why: LineWhy::BadForm,

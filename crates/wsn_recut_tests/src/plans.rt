@@ -8,7 +8,9 @@ use wsn_doubles::engines::{planned, recut_by};
 use wsn_doubles::heaps::heap_of;
 use wsn_doubles::lines::{planned_line, recut_line};
 use wsn_doubles::readers::{Chopped, READS};
-use wsn_doubles::rows::{ANY_LENGTHS, GREATEST, Stream, Under, limits_under, line_behind, streams};
+use wsn_doubles::rows::{
+    ANY_LENGTHS, GREATEST, Stream, Under, limits_under, line_behind, stream_named, streams,
+};
 use wsn_plan::{Plan, PlanAnswer, write_plan};
 use wsn_scan::Stop;
 use wsn_wire::{Output, Role};
@@ -202,6 +204,19 @@ fn refused_memory_is_told(rt: HostRuntime) -> Result<(), Fail> {
             assert!(rt; !is_served || blocks > 0 || row.bytes.is_empty(), "{row:?}");
         }
         assert!(rt; is_served, "{row:?}");
+    }
+    Ok(())
+}
+
+#[test]
+fn fragments_of_65_535_bytes_and_of_one_are_planned(rt: HostRuntime) -> Result<(), Fail> {
+    let alloc = rt.alloc();
+    let stream = stream_named(alloc, "fragments of 65,535 bytes and of one")?;
+    for most in READS {
+        let reader = Chopped::new(stream.bytes.as_slice(), most);
+        let answer = planned(alloc, stream.role, stream.limits, reader);
+        let text = text_of(alloc, &answer)?;
+        assert_eq!(rt; text.as_slice(), b"piece 65535 -\nlast -\n", "by {most}");
     }
     Ok(())
 }

@@ -46,7 +46,7 @@ fn a_ping_and_hello_are_planned(rt: HostRuntime) -> Result<(), Fail> {
 
 /// A stream that is cut in frames of one size, and what comes of it.
 #[derive(Clone, Copy, Debug)]
-pub struct Cut {
+pub struct SizedCut {
     pub role: Role,
     pub under: Under,
     pub bytes: &'static [u8],
@@ -56,7 +56,7 @@ pub struct Cut {
 }
 
 /// "Hello" in two fragments and a ping between them, from a server.
-const FRAGMENTS: Cut = Cut {
+const FRAGMENTS: SizedCut = SizedCut {
     role: Role::Server,
     under: GREATEST,
     bytes: b"\x01\x03Hel\x89\x00\x80\x02lo",
@@ -68,9 +68,9 @@ const FRAGMENTS: Cut = Cut {
     out: b"\x01\x03Hel\x89\x00\x80\x02lo",
 };
 
-pub static CUTS: [Cut; 6] = [
+pub static CUTS: [SizedCut; 6] = [
     FRAGMENTS,
-    Cut {
+    SizedCut {
         under: TWO_FRAMES,
         sizes: Sizes {
             size: 2,
@@ -80,7 +80,7 @@ pub static CUTS: [Cut; 6] = [
         out: b"",
         ..FRAGMENTS
     },
-    Cut {
+    SizedCut {
         under: TWO_FRAMES,
         sizes: Sizes {
             size: 3,
@@ -89,7 +89,7 @@ pub static CUTS: [Cut; 6] = [
         out: b"\x89\x00\x01\x03Hel\x80\x02lo",
         ..FRAGMENTS
     },
-    Cut {
+    SizedCut {
         role: Role::Client,
         bytes: b"\x81\x85\x37\xfa\x21\x3d\x7f\x9f\x4d\x51\x58",
         sizes: Sizes {
@@ -102,13 +102,13 @@ pub static CUTS: [Cut; 6] = [
         ],
         ..FRAGMENTS
     },
-    Cut {
+    SizedCut {
         bytes: b"\x81\x01A\xc1",
         line: "refused 3 reserved-bits 1002",
         out: b"",
         ..FRAGMENTS
     },
-    Cut {
+    SizedCut {
         bytes: b"\x81\x01A\x01\x00",
         line: "cut 5",
         out: b"",

@@ -8,7 +8,7 @@ use wsn_canon::normalise;
 use wsn_doubles::engines::judged;
 use wsn_doubles::lines::answer_line;
 use wsn_doubles::readers::{Chopped, Endless, READS};
-use wsn_doubles::rows::{Stream, greatest, streams};
+use wsn_doubles::rows::{Stream, greatest, stream_named, streams};
 use wsn_scan::{Limits, MESSAGE_MAX, Stop, Verdict, judge, list};
 use wsn_wire::{Input, Output, Role};
 
@@ -25,7 +25,9 @@ fn expect_line(rt: &impl Abort, stream: &Stream, count: usize, line: &str) -> Re
 }
 
 #[test]
-fn a_front_is_accepted_or_cut_until_it_tells_the_answer(rt: HostRuntime) -> Result<(), Fail> {
+fn the_first_200_fronts_and_the_last_are_accepted_or_cut_until_they_tell_the_answer(
+    rt: HostRuntime,
+) -> Result<(), Fail> {
     let alloc = rt.alloc();
     for stream in streams(alloc)?.iter() {
         for front in stream.fronts(alloc)? {
@@ -35,6 +37,17 @@ fn a_front_is_accepted_or_cut_until_it_tells_the_answer(rt: HostRuntime) -> Resu
                 expect_line(&rt, stream, front.len(), line.as_str())?;
             }
         }
+    }
+    Ok(())
+}
+
+#[test]
+fn every_front_of_a_long_message_is_cut(rt: HostRuntime) -> Result<(), Fail> {
+    let stream = stream_named(rt.alloc(), "a binary message of 65,536 bytes")?;
+    for count in 1..stream.bytes.len() {
+        let answer = judged(&stream, Chopped::new(&stream.bytes[..count], usize::MAX));
+        let is_cut = matches!(&answer, Ok(Verdict::Cut(front)) if front.used == count as u64);
+        assert!(rt; is_cut, "{count} bytes");
     }
     Ok(())
 }
@@ -79,7 +92,7 @@ static FRONTS: [(&[u8], &[&str]); 3] = [
 #[test]
 fn verdicts_behind_each_byte(rt: HostRuntime) -> Result<(), Fail> {
     let alloc = rt.alloc();
-    for (bytes, lines) in FRONTS {
+    for (bytes, lines) in FRONTS.iter() {
         assert_eq!(rt; lines.len(), bytes.len() + 1);
         for (count, line) in lines.iter().enumerate() {
             let front = bytes.get(..count).ok_or("no such front")?;

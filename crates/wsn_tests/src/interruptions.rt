@@ -5,10 +5,13 @@ use std::alloc::Global;
 use std::io::ErrorKind;
 use std::process::Abort;
 use std::test::Fail;
-use wsn_doubles::engines::{Sizes, compared, judged, listed, normalised, recut_uniformly};
-use wsn_doubles::lines::{answer_line, compared_line, recut_line};
+use wsn_doubles::engines::{
+    Sizes, compared, judged, listed, normalised, planned, recut_by, recut_uniformly,
+};
+use wsn_doubles::lines::{answer_line, compared_line, planned_line, recut_line};
 use wsn_doubles::readers::Chopped;
 use wsn_doubles::rows::{Stream, line_behind, stream_named, streams};
+use wsn_plan::Plan;
 use wsn_scan::judge;
 use wsn_wire::Input;
 
@@ -44,7 +47,6 @@ impl<'a> Stumble<'a> {
 
 fn expect_told(rt: &impl Abort, alloc: Global, stumble: &Stumble) -> Result<(), Fail> {
     let stream = stumble.stream;
-    let (role, limits) = (stream.role, stream.limits);
     let mut out = Vec::new(alloc);
     for most in [2, 4_096] {
         let answer = judged(stream, stumble.reader(most));
@@ -53,13 +55,37 @@ fn expect_told(rt: &impl Abort, alloc: Global, stumble: &Stumble) -> Result<(), 
         stumble.expect(rt, answer_line(alloc, &answer)?.as_str());
         let answer = normalised(alloc, stream, stumble.reader(most), &mut out);
         stumble.expect(rt, answer_line(alloc, &answer)?.as_str());
-        let sizes = Sizes {
-            size: 2,
-            weave: false,
-        };
-        let answer = recut_uniformly(alloc, role, limits, sizes, stumble.reader(most), &mut out);
+    }
+    Ok(())
+}
+
+fn expect_planned(rt: &impl Abort, alloc: Global, stumble: &Stumble) -> Result<(), Fail> {
+    let (role, limits) = (stumble.stream.role, stumble.stream.limits);
+    for most in [2, 4_096] {
+        let answer = planned(alloc, role, limits, stumble.reader(most));
+        stumble.expect(rt, planned_line(alloc, &answer)?.as_str());
+    }
+    Ok(())
+}
+
+/// Whatever a recut is by: a plan of no steps, or a size.
+fn expect_recut(rt: &impl Abort, alloc: Global, stumble: &Stumble) -> Result<(), Fail> {
+    let (role, limits) = (stumble.stream.role, stumble.stream.limits);
+    let plan = Plan::new(alloc);
+    let sizes = Sizes {
+        size: 2,
+        weave: false,
+    };
+    let mut out = Vec::new(alloc);
+    for most in [2, 4_096] {
+        let reader = stumble.reader(most);
+        let answer = recut_by(alloc, role, limits, &plan, reader, &mut out);
+        stumble.expect(rt, recut_line(alloc, &answer)?.as_str());
+        let reader = stumble.reader(most);
+        let answer = recut_uniformly(alloc, role, limits, sizes, reader, &mut out);
         stumble.expect(rt, recut_line(alloc, &answer)?.as_str());
     }
+    assert!(rt; out.is_empty());
     Ok(())
 }
 
@@ -75,22 +101,30 @@ fn expect_compared(rt: &impl Abort, alloc: Global, stumble: &Stumble) -> Result<
     Ok(())
 }
 
+/// Each engine at each place of a stream where its reader may fail.
+fn expect_ended(rt: &impl Abort, alloc: Global, stream: &Stream) -> Result<(), Fail> {
+    for front in stream.fronts(alloc)? {
+        for kind in KINDS {
+            let stumble = Stumble {
+                stream,
+                count: front.len(),
+                kind,
+                wanted: line_behind(stream, front)?,
+            };
+            expect_told(rt, alloc, &stumble)?;
+            expect_planned(rt, alloc, &stumble)?;
+            expect_recut(rt, alloc, &stumble)?;
+            expect_compared(rt, alloc, &stumble)?;
+        }
+    }
+    Ok(())
+}
+
 #[test]
 fn any_error_of_a_reader_ends_the_work(rt: HostRuntime) -> Result<(), Fail> {
     let alloc = rt.alloc();
     for stream in streams(alloc)?.iter() {
-        for front in stream.fronts(alloc)? {
-            for kind in KINDS {
-                let stumble = Stumble {
-                    stream,
-                    count: front.len(),
-                    kind,
-                    wanted: line_behind(stream, front)?,
-                };
-                expect_told(&rt, alloc, &stumble)?;
-                expect_compared(&rt, alloc, &stumble)?;
-            }
-        }
+        expect_ended(&rt, alloc, stream)?;
     }
     Ok(())
 }

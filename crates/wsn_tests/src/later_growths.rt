@@ -85,7 +85,7 @@ fn messages_of(
 }
 
 #[test]
-fn a_source_tells_it(rt: HostRuntime) -> Result<(), Fail> {
+fn a_source_answers_that_a_later_growth_is_refused(rt: HostRuntime) -> Result<(), Fail> {
     let alloc = rt.alloc();
     let stream = two_messages(alloc)?;
     let mut seen = [false; 3];
@@ -105,7 +105,7 @@ fn a_source_tells_it(rt: HostRuntime) -> Result<(), Fail> {
 }
 
 #[test]
-fn normalise_tells_it(rt: HostRuntime) -> Result<(), Fail> {
+fn normalise_answers_that_a_later_growth_is_refused(rt: HostRuntime) -> Result<(), Fail> {
     let alloc = rt.alloc();
     let stream = two_messages(alloc)?;
     let fronts = [2, 2 + 2 + FIRST, stream.normal.len()];
@@ -142,7 +142,7 @@ fn readers<'a>(first: &'a Stream, second: &'a Stream) -> (Chopped<'a>, Chopped<'
 /// Two streams that differ in their first message. That is known before the second asks for memory, and still no
 /// difference is answered where it is refused, nor a verdict.
 #[test]
-fn comparing_tells_it(rt: HostRuntime) -> Result<(), Fail> {
+fn comparing_answers_that_a_later_growth_is_refused(rt: HostRuntime) -> Result<(), Fail> {
     let alloc = rt.alloc();
     let first = two_messages(alloc)?;
     let mut second = two_messages(alloc)?;

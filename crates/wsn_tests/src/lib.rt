@@ -5,12 +5,15 @@
 //! every rule. Each command has a file: `judge`, `frames`, `normal`, `same`. `scanner`, `source`, `events` and `limits`
 //! are of what the commands are made of. `peer` is of another implementation, the kit's `tungstenite`.
 //!
-//! Hostile use: `endings` is of streams that are cut short, go on or never end; `stops` of readers and writers that
-//! fail, `interruptions` of readers that would go on; `memory` and `later_growths` of memory that is refused.
+//! Hostile use: `endings` is of streams that are cut short, go on or never end; `stops` and `command_stops` of readers
+//! and writers that fail, `interruptions` of readers that would go on; `memory` and `later_growths` of memory that is
+//! refused.
 //!
 //! `expecting` asserts what is wanted of a command's run.
 #![tactic(auto)]
 
+#[cfg(test)]
+mod command_stops;
 #[cfg(test)]
 mod endings;
 #[cfg(test)]

@@ -91,7 +91,7 @@ fn expect_end<A: Allocator + Copy>(
 }
 
 #[test]
-fn a_source_tells_it(rt: HostRuntime) -> Result<(), Fail> {
+fn a_source_answers_that_memory_is_refused(rt: HostRuntime) -> Result<(), Fail> {
     let alloc = rt.alloc();
     for room in ROOMS {
         let heap = heap_of(alloc, room)?;
@@ -107,7 +107,7 @@ fn a_source_tells_it(rt: HostRuntime) -> Result<(), Fail> {
 }
 
 #[test]
-fn normalise_tells_it(rt: HostRuntime) -> Result<(), Fail> {
+fn normalise_answers_that_memory_is_refused(rt: HostRuntime) -> Result<(), Fail> {
     let alloc = rt.alloc();
     for room in ROOMS {
         let heap = heap_of(alloc, room)?;
@@ -134,7 +134,7 @@ fn normalise_tells_it(rt: HostRuntime) -> Result<(), Fail> {
 }
 
 #[test]
-fn the_command_tells_it(rt: HostRuntime) -> Result<(), Fail> {
+fn normal_says_that_memory_is_refused(rt: HostRuntime) -> Result<(), Fail> {
     let alloc = rt.alloc();
     for room in ROOMS {
         let heap = heap_of(alloc, room)?;
@@ -176,7 +176,7 @@ fn a_later_growth_is_refused_alike(rt: HostRuntime) -> Result<(), Fail> {
 }
 
 #[test]
-fn comparing_tells_it(rt: HostRuntime) -> Result<(), Fail> {
+fn comparing_answers_that_memory_is_refused(rt: HostRuntime) -> Result<(), Fail> {
     let alloc = rt.alloc();
     for room in ROOMS {
         let heap = heap_of(alloc, room)?;
@@ -195,7 +195,7 @@ fn comparing_tells_it(rt: HostRuntime) -> Result<(), Fail> {
 }
 
 #[test]
-fn the_command_that_compares_tells_it(rt: HostRuntime) -> Result<(), Fail> {
+fn same_says_that_memory_is_refused(rt: HostRuntime) -> Result<(), Fail> {
     let alloc = rt.alloc();
     for room in ROOMS {
         let heap = heap_of(alloc, room)?;

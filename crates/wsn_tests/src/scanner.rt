@@ -160,7 +160,7 @@ fn word_of(notice: &Notice) -> &'static str {
 #[test]
 fn each_call_takes_what_it_can(rt: HostRuntime) -> Result<(), Fail> {
     let limits = greatest()?;
-    for Calls { name, bytes, calls } in CALLS {
+    for Calls { name, bytes, calls } in CALLS.iter() {
         let mut scan = Scan::new(Role::Server, limits);
         let mut piece = bytes.to_vec(rt.alloc())?;
         let mut rest = piece.as_mut_slice();
