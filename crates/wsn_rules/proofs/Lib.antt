@@ -14,6 +14,7 @@ pub mod EveryInput
 pub mod OneVerdict
 pub mod StaysRefused
 pub mod Computed
+pub mod ComputedHeads
 pub mod Stages
 pub mod NextBytes
 pub mod HeadEvidence

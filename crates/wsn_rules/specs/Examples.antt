@@ -6,7 +6,10 @@ use Rattle.wsn_wire.specs.declared.spelling.Lengths.TheVariants.{Shortest}
 use Rattle.wsn_wire.specs.Frame.{Frame}
 use Rattle.wsn_rules.specs.declared.verdict.Verdict.{Verdict}
 use Rattle.wsn_rules.specs.declared.verdict.Verdict.TheVariants.{Accepted, Cut, Refused}
+use Rattle.wsn_rules.specs.declared.head_info.HeadInfo.{HeadInfo}
 use Rattle.wsn_rules.specs.Limits.{Limits}
+use Rattle.wsn_rules.specs.Heads.{AreHeads}
+use Rattle.wsn_rules.specs.Lines.{head_lines}
 use Rattle.wsn_rules.specs.Meaning.{MeantEvent, meaning}
 use Rattle.wsn_rules.specs.Verdict.{IsVerdict}
 
@@ -42,6 +45,15 @@ pub record Means (role : Role) (limits : Limits) (bytes : List ℕ) (events : Li
   pub verdict : Verdict
   pub is : IsVerdict role limits bytes frames verdict
   pub means : meaning frames ≡ events
+
+-- The heads that the bytes tell, accepted or cut or refused, are printed so.
+pub record Lists (role : Role) (limits : Limits) (bytes text : List ℕ) : Type 0 where
+  pub frames : List Frame
+  pub verdict : Verdict
+  pub is : IsVerdict role limits bytes frames verdict
+  pub heads : List HeadInfo
+  pub are : AreHeads role limits bytes frames heads
+  pub lines : head_lines heads ≡ text
 
 -- The greatest limits: on bytes alone, and with the shortest lengths.
 abbrev pub greatest : Limits

@@ -22,7 +22,6 @@ pub fn law_front_is_lawful()
 {}
 
 /// A lawful list without a Close goes on by one frame exactly if that is lawful behind it.
-#[tactic(auto, using(crate::proofs::LawfulLists::lawful_push, crate::proofs::LawfulLists::lawful_front, crate::proofs::LawfulLists::law_at_split, crate::proofs::LawfulLists::no_close_before))]
 pub fn law_one_frame_more()
     ensures goes_on { (role : Role) (limits : Limits) (fs : List Frame) (f : Frame) →
         IsLawful role limits fs → HasNoClose fs → LawAt role limits fs f → IsLawful role limits (fs ++ f ∷ []) }

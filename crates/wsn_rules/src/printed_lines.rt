@@ -1,11 +1,13 @@
-//! Printed lines that are written out, computed from the definitions in `specs/Lines.antt`.
+//! Printed lines that are written out, computed from the definitions in `specs/Heads.antt` and `specs/Lines.antt`.
 
 ghost use Rattle.std.specs.Prelude.{◌≡◌, true, false, None, Some, [], ◌∷◌, codes};
+ghost use Rattle.wsn_wire.specs.declared.endpoint.Role.TheVariants.{Server};
 ghost use Rattle.wsn_wire.specs.declared.opcode.Op.TheVariants.{Continue, Text, Binary, Close, Ping, Pong};
 ghost use Rattle.wsn_wire.specs.declared.spelling.Form.TheVariants.{Shortest, Two, Eight};
 ghost use Rattle.wsn_wire.specs.declared.refusal.Reason.TheVariants.{TextBad, LengthTopBit};
 ghost use Rattle.wsn_rules.specs.declared.verdict.Summary.{Summary};
 ghost use Rattle.wsn_rules.specs.declared.verdict.Verdict.TheVariants.{Accepted, Cut, Refused};
+ghost use Rattle.wsn_rules.specs.Examples.{Lists, greatest};
 ghost use Rattle.wsn_rules.specs.Lines.{verdict_line, head_line};
 
 /// The lines of verdicts, whatever else was counted.
@@ -66,4 +68,21 @@ pub fn of_heads()
         ≡ codes "300 fin close - 2\n" }
     ensures pong { head_line (record { place = 2; fin = true; op = Pong; key = None; form = Shortest; len = 125 })
         ≡ codes "2 fin pong - 125\n" }
+{}
+
+/// The lines of a stream's heads: each frame in its place, and none for what isn't a whole head, shows a reason by it,
+/// or stands behind a Close.
+pub fn of_streams()
+    ensures ping_between { Lists Server greatest
+        (0x01 ∷ 0x01 ∷ 0x48 ∷ 0x89 ∷ 0x00 ∷ 0x80 ∷ 0x01 ∷ 0x69 ∷ 0x81 ∷ [])
+        (codes "0 more text - 1\n3 fin ping - 0\n5 fin cont - 1\n") }
+    ensures refused_in_a_payload { Lists Server greatest (0x89 ∷ 0x00 ∷ 0x81 ∷ 0x02 ∷ 0x41 ∷ 0xff ∷ [])
+        (codes "0 fin ping - 0\n2 fin text - 2\n") }
+    ensures refused_in_a_head { Lists Server greatest (0x81 ∷ 0x01 ∷ 0x41 ∷ 0xc1 ∷ 0x00 ∷ [])
+        (codes "0 fin text - 1\n") }
+    ensures cut_by_an_empty_frame { Lists Server greatest (0x01 ∷ 0x01 ∷ 0xe2 ∷ 0x80 ∷ 0x00 ∷ [])
+        (codes "0 more text - 1\n") }
+    ensures ended_by_an_empty_frame { Lists Server greatest (0x01 ∷ 0x01 ∷ 0x41 ∷ 0x80 ∷ 0x00 ∷ 0x81 ∷ [])
+        (codes "0 more text - 1\n3 fin cont - 0\n") }
+    ensures behind_a_close { Lists Server greatest (0x88 ∷ 0x00 ∷ 0x81 ∷ 0x00 ∷ []) (codes "0 fin close - 0\n") }
 {}
