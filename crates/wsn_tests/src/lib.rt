@@ -1,6 +1,6 @@
 //! Tests that cross crates. Nothing here is a library.
 //!
-//! Each command has a file: `judge`, `frames`, `normal`, `same`; `plan` and `recut` share `plan_commands`. Each rule
+//! Each command has a file: `judge`, `frames`, `normal`, `same`, `closing`; `plan` and `recut` share `plan_commands`. Each rule
 //! has one, with the streams that show it, read in every way: `heads`, `masking`, `fragmentation`, `text`, `close`,
 //! `lengths`, `limits`; and `vectors` has short ones of every rule. `scanner`, `source` and `events` are of what the
 //! commands are made of. `peer` is of another implementation, the kit's `tungstenite`.
@@ -30,6 +30,8 @@ mod capture_lines;
 mod captures;
 #[cfg(test)]
 mod close;
+#[cfg(test)]
+mod closing;
 #[cfg(test)]
 mod doubles;
 #[cfg(test)]
