@@ -66,7 +66,8 @@ pub record IsWellGiven (limits : Limits) (given : List Entry) (text : List ℕ) 
 pub record IsFirstOwnFault (limits : Limits) (given : List Entry) (text : List ℕ) (fault : LineFault) : Type 0 where
   pub held : HasFault limits given text fault
   pub first :
-      (other : LineFault) → HasFault limits given text other → 2 ≤ fault_order other → fault_order fault ≤ fault_order other
+      (other : LineFault) → HasFault limits given text other → 2 ≤ fault_order other
+      → fault_order fault ≤ fault_order other
 
 -- One text more was taken.
 pub record TakesText (limits : Limits) (new : Capture) (given : List Entry) (text : List ℕ) : Type 0 where

@@ -57,7 +57,8 @@ HasFault limits given text InputLimit =
 -- Of a line's faults, the first.
 pub record IsFirstFault (limits : Limits) (given : List Entry) (line : List ℕ) (fault : LineFault) : Type 0 where
   pub held : HasFault limits given (without_cr line) fault
-  pub first : (other : LineFault) → HasFault limits given (without_cr line) other → fault_order fault ≤ fault_order other
+  pub first :
+      (other : LineFault) → HasFault limits given (without_cr line) other → fault_order fault ≤ fault_order other
 
 -- The line has no fault, and gives this entry.
 pub record IsTaken (limits : Limits) (given : List Entry) (line : List ℕ) (entry : Entry) : Type 0 where

@@ -97,7 +97,9 @@ Fits client server client_ended server_ended Live = Unit {0}
 -- Of the outcomes that fit, the first.
 pub record IsOutcome (client server : Side) (client_ended server_ended : Bool) (outcome : Outcome) : Type 0 where
   pub fits : Fits client server client_ended server_ended outcome
-  pub first : (other : Outcome) → Fits client server client_ended server_ended other → outcome_order outcome ≤ outcome_order other
+  pub first :
+      (other : Outcome) → Fits client server client_ended server_ended other
+      → outcome_order outcome ≤ outcome_order other
 
 -- ---- the report
 

@@ -45,6 +45,17 @@ impl Capture {
         ensures fault { IfErr result (λ fault. (limits : Limits) (lines : List (List ℕ)) →
             HasTaken limits self.old lines → IsFaultBehind limits lines text.now fault) }
         ensures unchanged { IfErr result (λ _. self.new ≡ self.old) }
+    {
+        self.take_line(text)
+    }
+
+    /// The same, and a line that is taken is counted.
+    pub(crate) fn take_line(&mut self, text: &[u8]) -> Result<(), LineFault>
+        ensures taken { OnOk result ((limits : Limits) (lines : List (List ℕ)) →
+            HasTaken limits self.old lines → HasTaken limits self.new (lines ++ text.now ∷ [])) }
+        ensures fault { IfErr result (λ fault. (limits : Limits) (lines : List (List ℕ)) →
+            HasTaken limits self.old lines → IsFaultBehind limits lines text.now fault) }
+        ensures unchanged { IfErr result (λ _. self.new ≡ self.old) }
         ensures count { OnOk result ((count_of self.new ≡ count_of self.old + 1) × (count_of self.new ≤ LINES_MAX)) }
     {
         if self.lines >= LINES_MAX {

@@ -163,7 +163,7 @@ fn hand_on(capture: &mut Capture, line: &[u8]) -> Result<(), CaptureStop>
     ensures count { OnOk result ((count_of capture.new ≡ count_of capture.old + 1) × (count_of capture.new ≤ 1000000)) }
 {
     let number = capture.count() + 1;
-    match capture.line(line) {
+    match capture.take_line(line) {
         Ok(()) => Ok(()),
         Err(fault) => Err(CaptureStop::Line { number, fault }),
     }

@@ -8,7 +8,7 @@ use wsn_doubles::readers::{Chopped, Endless, READS};
 use wsn_doubles::rows::{filled, greatest};
 
 /// A text, what is printed of it, and the fault of its first line that isn't taken.
-static FAULTY: [(&str, &str, LineFault); 25] = [
+pub static FAULTY: [(&str, &str, LineFault); 25] = [
     ("C 8", "line 1: bad-hex", LineFault::BadHex),
     ("C ", "line 1: bad-hex", LineFault::BadHex),
     ("S \n", "line 1: bad-hex", LineFault::BadHex),

@@ -10,13 +10,22 @@ use wsn_wire::Role;
 
 /// A capture, and the lines of its report.
 #[derive(Clone, Copy, Debug)]
-struct Row {
-    name: &'static str,
-    text: &'static str,
-    report: &'static str,
+pub struct Row {
+    pub name: &'static str,
+    pub text: &'static str,
+    pub report: &'static str,
 }
 
-static ROWS: [Row; 20] = [
+impl Row {
+    /// The exit status that its report calls for: 0 where both endpoints sent a Close and neither stream is refused.
+    pub fn status(&self) -> u8 {
+        let closed = self.report.starts_with("client closed ")
+            && self.report.contains("\nserver closed ");
+        if closed { 0 } else { 1 }
+    }
+}
+
+pub static ROWS: [Row; 20] = [
     Row {
         name: "both close by 1000, and both directions end",
         text: "C 88820000000003e8\nS 880203e8\nS.\nC.\n",

@@ -1,7 +1,9 @@
 //! Tests of captures, and of the reports on both sides of a connection. Nothing here is a library.
 //!
 //! `captures` is of what is reported of a capture, `capture_lines` of its lines, `capture_endings` of where its reader
-//! or a report's writer fails, and `capture_answers` says how both are run.
+//! or a report's writer fails, and `capture_answers` says how both are run. `closing` is of the command.
+//!
+//! `expecting` asserts what is wanted of a command's run.
 #![tactic(auto)]
 
 #[cfg(test)]
@@ -12,3 +14,7 @@ mod capture_endings;
 mod capture_lines;
 #[cfg(test)]
 mod captures;
+#[cfg(test)]
+mod closing;
+#[cfg(test)]
+mod expecting;

@@ -5,7 +5,7 @@ use Rattle.wsn_capture.specs.declared.line_fault.LineFault.{LineFault}
 use Rattle.wsn_capture.specs.LineFaults.{IsFaultBehind}
 use Rattle.wsn_capture.specs.Captures.{IsFirstOwnFault, TakesText, HasTaken}
 use Rattle.wsn_capture.proofs.TakenTexts.{too_many, too_long, own_fault, line_taken, count_given}
-use Rattle.wsn_capture.proofs.capture.Capture.line.Goals as goal
+use Rattle.wsn_capture.proofs.capture.Capture.take_line.Goals as goal
 
 pub returns-then-self-ge-LINES_MAX-clause-fault : goal.returns-then-self-ge-LINES_MAX-clause-fault
 returns-then-self-ge-LINES_MAX-clause-fault c limits lines has = too_many limits c.args.self.now lines c.args.text.now has c.if-self-ge-LINES_MAX.true

@@ -1,0 +1,262 @@
+//! `wsn closing`: the report's lines on standard output, or a stop's line on standard error, and its status. No memory
+//! is asked for.
+
+use crate::capture_answers::limits_of;
+use crate::capture_lines::FAULTY;
+use crate::captures::ROWS;
+use crate::expecting::expect_outcome;
+use std::alloc::Global;
+use std::io::ErrorKind;
+use std::process::Abort;
+use std::test::Fail;
+use wsn_doubles::heaps::heap_of;
+use wsn_doubles::outcomes::outcome_on;
+use wsn_doubles::readers::{Chopped, READS};
+use wsn_doubles::rows::{filled, greatest};
+use wsn_doubles::writers::{FULL, Full, Narrow};
+use wsn_job::{Job, run};
+use wsn_scan::Limits;
+use wsn_wire::{Input, Output};
+
+/// How a read may fail. Each would go on at the next call, and none is tried again.
+const KINDS: [ErrorKind; 3] = [
+    ErrorKind::Other,
+    ErrorKind::Interrupted,
+    ErrorKind::WouldBlock,
+];
+
+/// What a run is to leave: its status, what goes out, and what is told.
+#[derive(Clone, Copy)]
+struct Wanted<'a> {
+    status: u8,
+    out: &'a str,
+    told: &'a str,
+}
+
+const READ_FAILED: Wanted<'static> = Wanted {
+    status: 2,
+    out: "",
+    told: "read failed\n",
+};
+
+/// A capture's text, read by at most so many bytes a call. A read may fail behind so many of them.
+#[derive(Clone, Copy)]
+struct Given<'a> {
+    text: &'a [u8],
+    most: usize,
+    fails: Option<(usize, ErrorKind)>,
+}
+
+impl<'a> Given<'a> {
+    fn whole(text: &'a [u8], most: usize) -> Self {
+        Given {
+            text,
+            most,
+            fails: None,
+        }
+    }
+
+    fn reader(&self) -> Chopped<'a> {
+        match self.fails {
+            Some((count, kind)) => {
+                let left = self.text.len().saturating_sub(count);
+                Chopped::stumbling(self.text, self.most, left, kind)
+            }
+            None => Chopped::new(self.text, self.most),
+        }
+    }
+}
+
+/// Runs the command with no memory to be had, and with memory.
+fn expect(
+    rt: &impl Abort,
+    alloc: Global,
+    limits: Limits,
+    given: Given,
+    wanted: Wanted,
+) -> Result<(), Fail> {
+    let (out, told) = (wanted.out.as_bytes(), wanted.told.as_bytes());
+    let heap = heap_of(alloc, 0)?;
+    let job = Job::Closing(limits);
+    let done = outcome_on(&heap, alloc, &job, given.reader(), Narrow::wide(alloc));
+    expect_outcome(rt, &done, wanted.status, out, told);
+    let job = Job::Closing(limits);
+    let done = outcome_on(alloc, alloc, &job, given.reader(), Narrow::wide(alloc));
+    expect_outcome(rt, &done, wanted.status, out, told);
+    Ok(())
+}
+
+/// The same where a line isn't taken.
+fn expect_fault(
+    rt: &impl Abort,
+    alloc: Global,
+    limits: Limits,
+    given: Given,
+    words: &str,
+) -> Result<(), Fail> {
+    let line = format!(in alloc; "{words}\n")?;
+    let wanted = Wanted {
+        status: 2,
+        out: "",
+        told: line.as_str(),
+    };
+    expect(rt, alloc, limits, given, wanted)
+}
+
+#[test]
+fn reports_are_printed(rt: HostRuntime) -> Result<(), Fail> {
+    let alloc = rt.alloc();
+    for row in ROWS.iter() {
+        let wanted = Wanted {
+            status: row.status(),
+            out: row.report,
+            told: "",
+        };
+        for most in READS {
+            let given = Given::whole(row.text.as_bytes(), most);
+            expect(&rt, alloc, greatest()?, given, wanted)?;
+        }
+    }
+    Ok(())
+}
+
+#[test]
+fn the_first_faulty_line_is_told(rt: HostRuntime) -> Result<(), Fail> {
+    let alloc = rt.alloc();
+    for (text, words, _fault) in FAULTY.iter() {
+        for most in READS {
+            let given = Given::whole(text.as_bytes(), most);
+            expect_fault(&rt, alloc, greatest()?, given, words)?;
+        }
+    }
+    let given = Given::whole(b"C 81\nS 81\nS 00\n", 4_096);
+    expect_fault(&rt, alloc, limits_of(1)?, given, "line 3: input-limit")?;
+    let long = filled(alloc, b"#\n#", b'#', 8_194)?;
+    let given = Given::whole(long.as_slice(), 4_096);
+    expect_fault(&rt, alloc, greatest()?, given, "line 2: too-long")?;
+    let many = filled(alloc, b"", b'\n', 1_000_001)?;
+    let given = Given::whole(many.as_slice(), usize::MAX);
+    let words = "line 1000001: too-many-lines";
+    expect_fault(&rt, alloc, greatest()?, given, words)
+}
+
+#[test]
+fn a_failed_read_is_told_at_every_byte(rt: HostRuntime) -> Result<(), Fail> {
+    let alloc = rt.alloc();
+    for row in ROWS.iter() {
+        for count in 0..=row.text.len() {
+            for kind in KINDS {
+                let given = Given {
+                    text: row.text.as_bytes(),
+                    most: 3,
+                    fails: Some((count, kind)),
+                };
+                expect(&rt, alloc, greatest()?, given, READ_FAILED)?;
+            }
+        }
+    }
+    Ok(())
+}
+
+/// How many bytes of a text have so many LFs, if it has as many.
+fn end_of_line(text: &str, number: usize) -> Option<usize> {
+    let mut left = number;
+    for (at, byte) in text.as_bytes().iter().enumerate() {
+        if *byte == b'\n' {
+            left = left.saturating_sub(1);
+            if left == 0 {
+                return Some(at + 1);
+            }
+        }
+    }
+    None
+}
+
+/// The number of the line of which these words are told.
+fn number_of(words: &str) -> Result<usize, Fail> {
+    let number = words.split(' ').nth(1).ok_or("no number")?;
+    let digits = number.strip_suffix(':').ok_or("no colon")?;
+    Ok(digits.parse::<usize>()?)
+}
+
+/// A faulty line that is whole is told before the failed read, and one that isn't never.
+#[test]
+fn a_faulty_line_is_told_before_a_failed_read(rt: HostRuntime) -> Result<(), Fail> {
+    let alloc = rt.alloc();
+    for (text, words, _fault) in FAULTY.iter() {
+        let end = end_of_line(text, number_of(words)?);
+        for count in 0..=text.len() {
+            for kind in KINDS {
+                let given = Given {
+                    text: text.as_bytes(),
+                    most: 3,
+                    fails: Some((count, kind)),
+                };
+                if end.is_some_and(|end| end <= count) {
+                    expect_fault(&rt, alloc, greatest()?, given, words)?;
+                } else {
+                    expect(&rt, alloc, greatest()?, given, READ_FAILED)?;
+                }
+            }
+        }
+    }
+    Ok(())
+}
+
+/// Nothing goes out behind a failed write, also where the writer would take more.
+#[test]
+fn a_failed_write_is_told_at_every_byte(rt: HostRuntime) -> Result<(), Fail> {
+    let alloc = rt.alloc();
+    let heap = heap_of(alloc, 0)?;
+    for row in ROWS.iter() {
+        let report = row.report.as_bytes();
+        for room in 0..report.len() {
+            for full in FULL {
+                let job = Job::Closing(greatest()?);
+                let reader = Chopped::new(row.text.as_bytes(), usize::MAX);
+                let writer = Narrow::new(alloc, usize::MAX, room, full);
+                let done = outcome_on(&heap, alloc, &job, reader, writer);
+                expect_outcome(&rt, &done, 2, &report[..room], b"write failed\n");
+            }
+        }
+    }
+    Ok(())
+}
+
+#[test]
+fn a_writer_may_take_one_byte_a_call(rt: HostRuntime) -> Result<(), Fail> {
+    let alloc = rt.alloc();
+    let heap = heap_of(alloc, 0)?;
+    for row in ROWS.iter() {
+        let job = Job::Closing(greatest()?);
+        let reader = Chopped::new(row.text.as_bytes(), 1);
+        let writer = Narrow::new(alloc, 1, usize::MAX, Full::Fails);
+        let done = outcome_on(&heap, alloc, &job, reader, writer);
+        expect_outcome(&rt, &done, row.status(), row.report.as_bytes(), &[]);
+    }
+    Ok(())
+}
+
+/// Where the second output fails, the status says it all.
+#[test]
+fn a_stop_that_cannot_be_told_has_its_status(rt: HostRuntime) -> Result<(), Fail> {
+    let alloc = rt.alloc();
+    let line = b"line 1: bad-form\n";
+    for room in 0..line.len() {
+        for full in FULL {
+            let mut out = Vec::new(alloc);
+            let mut told = Narrow::new(alloc, usize::MAX, room, full);
+            let status = run(
+                alloc,
+                &Job::Closing(greatest()?),
+                &mut Input::new(Chopped::new(b"X\n", 1)),
+                &mut Output::new(&mut out),
+                &mut Output::new(&mut told),
+            );
+            assert_eq!(rt; status, 2);
+            assert!(rt; out.is_empty());
+            assert_eq!(rt; told.taken.as_slice(), &line[..room]);
+        }
+    }
+    Ok(())
+}
