@@ -16,7 +16,6 @@ pub mod laws;
 mod line_fields;
 mod plan;
 mod plan_fault;
-mod plan_text;
 pub mod plan_text_examples;
 mod planning;
 mod reading_plans;
@@ -29,7 +28,6 @@ mod writing_plans;
 
 pub use plan::Plan;
 pub use plan_fault::{LineWhy, PlanFault};
-pub use plan_text::{law_one_fault, law_one_plan};
 pub use planning::{PlanAnswer, plan_of};
 pub use reading_plans::read_plan;
 pub use recutting::{RecutAnswer, recut, recut_uniform};
