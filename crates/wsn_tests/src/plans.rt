@@ -3,6 +3,7 @@
 use crate::doubles::{Chopped, READS, heap_of};
 use crate::engines::{planned, recut_by};
 use crate::lines::{planned_line, recut_line};
+use crate::recuts::{NINE_MESSAGES, NINE_PLAN};
 use crate::rows::{ANY_LENGTHS, GREATEST, Stream, Under, limits_under, streams};
 use crate::stops::line_behind;
 use std::alloc::{Allocator, Global};
@@ -33,7 +34,7 @@ const NOTHING: Planned = Planned {
     text: "",
 };
 
-pub static PLANNED: [Planned; 11] = [
+pub static PLANNED: [Planned; 13] = [
     NOTHING,
     Planned {
         role: Role::Client,
@@ -88,6 +89,16 @@ pub static PLANNED: [Planned; 11] = [
     Planned {
         bytes: b"\x01\x03Hel\x89\x00",
         line: "cut 7",
+        ..NOTHING
+    },
+    Planned {
+        bytes: b"\x01\x00",
+        line: "cut 2",
+        ..NOTHING
+    },
+    Planned {
+        bytes: NINE_MESSAGES,
+        text: NINE_PLAN,
         ..NOTHING
     },
 ];
@@ -185,6 +196,9 @@ fn a_failed_read_is_told_before_the_answer_shows(rt: HostRuntime) -> Result<(), 
     Ok(())
 }
 
+/// Heaps of fewer blocks than this are tried, and the last has memory for all that is tried.
+pub const BLOCKS: usize = 128;
+
 /// Each growth refused in turn: no plan and no verdict in its place.
 #[test]
 fn refused_memory_is_told(rt: HostRuntime) -> Result<(), Fail> {
@@ -192,7 +206,7 @@ fn refused_memory_is_told(rt: HostRuntime) -> Result<(), Fail> {
     for row in PLANNED.iter() {
         let limits = limits_under(&row.under)?;
         let mut is_served = false;
-        for blocks in 0..64usize {
+        for blocks in 0..BLOCKS {
             let heap = heap_of(alloc, blocks)?;
             let answer = planned(&heap, row.role, limits, Chopped::new(row.bytes, 1));
             is_served = answer.is_ok();

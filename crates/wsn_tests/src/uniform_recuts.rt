@@ -5,6 +5,7 @@ use crate::doubles::{Chopped, READS};
 use crate::engines::{Sizes, compared, recut_uniformly};
 use crate::limits::TWO_FRAMES;
 use crate::lines::{compared_line, recut_line};
+use crate::recuts::NINE_MESSAGES;
 use crate::rows::{GREATEST, Stream, Under, limits_under, streams};
 use std::alloc::Global;
 use std::process::Abort;
@@ -67,7 +68,7 @@ const FRAGMENTS: Cut = Cut {
     out: b"\x01\x03Hel\x89\x00\x80\x02lo",
 };
 
-pub static CUTS: [Cut; 6] = [
+pub static CUTS: [Cut; 7] = [
     FRAGMENTS,
     Cut {
         under: TWO_FRAMES,
@@ -111,6 +112,15 @@ pub static CUTS: [Cut; 6] = [
         bytes: b"\x81\x01A\x01\x00",
         line: "cut 5",
         out: b"",
+        ..FRAGMENTS
+    },
+    Cut {
+        bytes: NINE_MESSAGES,
+        sizes: Sizes {
+            size: 5,
+            weave: true,
+        },
+        out: NINE_MESSAGES,
         ..FRAGMENTS
     },
 ];
