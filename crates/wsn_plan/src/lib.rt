@@ -20,8 +20,6 @@ pub mod plan_text_examples;
 mod planning;
 mod reading_plans;
 mod recutting;
-#[cfg(test)]
-mod tests;
 mod uniform_plans;
 mod walking;
 mod writing_plans;
