@@ -3,6 +3,7 @@ pub use Rattle.std.specs.Io.KnownBytes.{Appends}
 pub use Rattle.wsn_wire.specs.Frame.{frame_bytes, is_control, Frame}
 pub use Rattle.wsn_wire.specs.Transfer.{Outgoing, IsWritten}
 pub use Rattle.wsn_wire.specs.declared.endpoint.Role.{Role}
+pub use Rattle.wsn_wire.specs.declared.opcode.Op.{Op}
 pub use Rattle.wsn_rules.specs.Lawful.{IsLawful}
 pub use Rattle.wsn_rules.specs.LawfulEvents.{IsLawfulEvent, IsLawfulControl}
 pub use Rattle.wsn_rules.specs.Limits.{Limits, InRange}

@@ -1,5 +1,5 @@
-ghost use Rattle.std.specs.Prelude.{◌≡◌, ℕ, ◌<◌, ◌≤◌, ◌^◌, false, true, length, take, OnOk, OnErr, IfErr};
-ghost use Rattle.wsn_canon.specs.Words.{Appends, frame_bytes, is_control, Message, Control, IsLawfulEvent, meant, close_body, normal_frame, normal_key, op_of, IsPut};
+ghost use Rattle.std.specs.Prelude.{◌≡◌, ℕ, ◌<◌, ◌≤◌, ◌^◌, List, false, true, length, take, OnOk, OnErr, IfErr};
+ghost use Rattle.wsn_canon.specs.Words.{Appends, Op, frame_bytes, is_control, Message, Control, IsLawfulEvent, meant, close_body, normal_frame, normal_key, op_of, IsPut};
 
 use crate::event::{Event, Small};
 use arrayvec::ArrayVec;
@@ -63,6 +63,29 @@ fn put_control<W: Write>(to: &mut Output<W>, role: Role, op: Op, body: &[u8]) ->
     } else {
         Err(Stop::Write)
     }
+}
+
+/// A control's opcode and body (RFC 6455 section 5.5).
+pub fn control_of<A: Allocator>(event: &Event<A>) -> (Op, Small)
+    requires { (op : Op) × (body : List ℕ) × (meant event.now ≡ Control op body) × (length body ≤ 125) }
+    ensures { meant event.now ≡ Control result.0 result.1.items }
+{
+    match event {
+        Event::Message(..) => unreachable!(),
+        Event::Ping(body) => (Op::Ping, small_of(body)),
+        Event::Pong(body) => (Op::Pong, small_of(body)),
+        Event::Close(held) => (Op::Close, body_of_close(held)),
+    }
+}
+
+/// The same bytes.
+fn small_of(bytes: &[u8]) -> Small
+    requires { length bytes.now ≤ 125 }
+    ensures { result.items ≡ bytes.now }
+{
+    let mut small = Small::new();
+    let _fits = small.try_extend_from_slice(bytes);
+    small
 }
 
 /// A Close's body: nothing, or its code, the higher byte first, and its reason (RFC 6455 section 5.5.1).

@@ -22,7 +22,7 @@ use Rattle.wsn_rules.proofs.PlanTheory.StepDecided.{pending_fit}
 use Rattle.wsn_rules.proofs.PlanTheory.RecutSteps.{next_is, next_is_lawful}
 use Rattle.wsn_plan.specs.declared.walking.Walk.{Walk}
 use Rattle.wsn_plan.specs.Walking.{MayTake, IsTaken, held_after}
-use Rattle.wsn_plan.specs.Framing.{frame_here, HasForm}
+use Rattle.wsn_plan.specs.Framing.{frame_here, SpellsItsLength}
 use Rattle.wsn_plan.specs.Recutting.{FitsWithin}
 use Rattle.wsn_plan.proofs.WalkedSteps.{Follows, lawful_from, takes, held_is_small, follows_on}
 
@@ -55,7 +55,7 @@ module _ (role : Role) (limits : Limits) (es : List MeantEvent) (plan : List Ste
   frame_is (Last key form) = λ i. step_frame (walked.counted i) (walked.summed i) (walked.remaining i) (Last key form)
   frame_is (Control key) = λ i. step_frame (walked.counted i) (walked.summed i) (walked.remaining i) (Control key)
 
-  pub form_is : (step : Step) → BeginsToFit role limits (plan ++ step ∷ []) es → HasForm walk (drop walk.event es) step
+  pub form_is : (step : Step) → BeginsToFit role limits (plan ++ step ∷ []) es → SpellsItsLength walk (drop walk.event es) step
   form_is (Piece len key form) begins = (step_law role limits es plan (Piece len key form) begins).1.1.1
   form_is (Last key form) begins =
       let law = (step_law role limits es plan (Last key form) begins).1 in
@@ -93,7 +93,7 @@ module _ (es : List MeantEvent) (plan : List Step) (i : ℕ) (walk : Walk) (way 
     pub may_here : MayTake walk es (get_or plan i d)
     may_here = takes way.within.role way.within.limits es (take i plan) walk (get_or plan i d) way.follows (begins_here d less)
 
-    pub form_here : HasForm walk (drop walk.event es) (get_or plan i d)
+    pub form_here : SpellsItsLength walk (drop walk.event es) (get_or plan i d)
     form_here = form_is way.within.role way.within.limits es (take i plan) walk way.follows (get_or plan i d) (begins_here d less)
 
     pub small_here : walk.held < 2 ^ 64 → held_after walk.held (get_or plan i d) < 2 ^ 64

@@ -25,15 +25,16 @@ use Rattle.wsn_plan.specs.declared.gathering.Gathered.{Gathered}
 use Rattle.wsn_plan.specs.declared.recutting.RecutAnswer.{RecutAnswer}
 use Rattle.wsn_plan.specs.declared.recutting.RecutAnswer.TheVariants.{Done, NotAccepted, Fault}
 use Rattle.wsn_plan.specs.Gathering.{HasWholeFrame, IsStoppedBehind, IsGathered}
-use Rattle.wsn_plan.specs.Recutting.{IsAcceptance, IsAnswerTo, GoesOut, IsCutAgain, Planned, IsRecutOf, IsRecut, IsRecutWhole}
+use Rattle.wsn_canon.specs.Comparing.{IsAnAccepted}
+use Rattle.wsn_plan.specs.Recutting.{IsAnswerTo, GoesOut, IsCutAgain, Planned, IsRecutOf, IsRecut, IsRecutWhole}
 
-not_accepted : (verdict : Verdict) → ((s : Summary) → verdict ≡ Accepted s → ⊥) → IsAcceptance verdict → ⊥
+not_accepted : (verdict : Verdict) → ((s : Summary) → verdict ≡ Accepted s → ⊥) → IsAnAccepted verdict → ⊥
 not_accepted (Accepted s) none is = none s refl
 not_accepted (Cut s) none is = is
 not_accepted (Refused r) none is = is
 
-accepted : (verdict : Verdict) (s : Summary) → verdict ≡ Accepted s → IsAcceptance verdict
-accepted verdict s is = subst IsAcceptance (sym is) tt
+accepted : (verdict : Verdict) (s : Summary) → verdict ≡ Accepted s → IsAnAccepted verdict
+accepted verdict s is = subst IsAnAccepted (sym is) tt
 
 frames_front : (role : Role) (limits : Limits) (bytes : List ℕ) (fs : List Frame) → IsAccepted role limits bytes fs → (rest : List ℕ) × (bytes ≡ stream fs ++ rest)
 frames_front role limits bytes fs is =
@@ -73,7 +74,7 @@ module _ {A : Type 0} (role : Role) (limits : Limits) (planned : Planned) (old n
       pub cut : (after : Outgoing) (result : Result RecutAnswer Stop) → IsCutAgain role limits (planned events) events before after result → IsRecut role limits planned old new before after result
       cut after result did = record { came = gathered.came; received = gathered.received; of_bytes = of result did }
         where
-          ok : IsAcceptance g.verdict
+          ok : IsAnAccepted g.verdict
           ok = accepted g.verdict s is
 
           of : (r : Result RecutAnswer Stop) → IsCutAgain role limits (planned events) events before after r → IsRecutOf role limits planned new gathered.came before after r

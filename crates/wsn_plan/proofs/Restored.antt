@@ -27,7 +27,8 @@ use Rattle.wsn_plan.specs.declared.planning.PlanAnswer.TheVariants.{Plan}
 use Rattle.wsn_plan.specs.declared.recutting.RecutAnswer.{RecutAnswer}
 use Rattle.wsn_plan.specs.declared.recutting.RecutAnswer.TheVariants.{Done}
 use Rattle.wsn_plan.specs.Planning.{IsPlannedWhole, IsRestored}
-use Rattle.wsn_plan.specs.Recutting.{IsAcceptance, IsAnswerTo, GoesOut, IsRecutWhole}
+use Rattle.wsn_canon.specs.Comparing.{IsAnAccepted}
+use Rattle.wsn_plan.specs.Recutting.{IsAnswerTo, GoesOut, IsRecutWhole}
 use Rattle.wsn_plan.proofs.OneRecut.{one_recut_answer}
 
 -- ---- what was used, and the tail
@@ -128,7 +129,7 @@ module _ (role : Role) (limits : Limits) (range : InRange limits) (all : List �
   pub restored : (A : Type 0) → IsPlannedWhole {A = A} role limits all (Ok (Plan plan)) → IsNormalisedWhole role limits all before after (Ok verdict) → Restores
   restored A (v, fs, v_is, within, (accepted, finished, same)) (gs, is, also_within, written) = by_verdict v v_is accepted (one_verdict role limits all fs gs v verdict v_is is)
     where
-      by_verdict : (u : Verdict) → IsVerdict role limits all fs u → IsAcceptance u → (fs ≡ gs) × (u ≡ verdict) → Restores
+      by_verdict : (u : Verdict) → IsVerdict role limits all fs u → IsAnAccepted u → (fs ≡ gs) × (u ≡ verdict) → Restores
       by_verdict (Accepted s) u_is ok alike = (
         normal s fs u_is finished same,
         subst (λ (hs : List Frame). IsWritten before after (normal_form role (meaning hs))) (sym alike.0) written,

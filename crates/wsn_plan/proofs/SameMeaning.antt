@@ -16,7 +16,8 @@ use Rattle.wsn_rules.specs.Verdict.{IsVerdict}
 use Rattle.wsn_rules.proofs.LawfulMeaning.{lawful_meaning}
 use Rattle.wsn_rules.proofs.PlanTheory.RecutFrames.{recut_is_finished, recut_means, recut_is_accepted}
 use Rattle.wsn_plan.specs.declared.recutting.RecutAnswer.TheVariants.{Done}
-use Rattle.wsn_plan.specs.Recutting.{IsAcceptance, IsRecutWhole, Planned}
+use Rattle.wsn_canon.specs.Comparing.{IsAnAccepted}
+use Rattle.wsn_plan.specs.Recutting.{IsRecutWhole, Planned}
 
 module _ (role : Role) (limits : Limits) (planned : Planned) (all : List ℕ) (before after : Outgoing) (range : InRange limits) (are_plans : (events : List MeantEvent) → IsPlan (planned events)) where
   -- it went out, and with the input it is accepted and means the same
@@ -42,7 +43,7 @@ module _ (role : Role) (limits : Limits) (planned : Planned) (all : List ℕ) (b
   pub same_meaning : IsRecutWhole role limits planned all before after (Ok Done) → MeansTheSame
   same_meaning (verdict, fs, is, within, (ok, fits), written) = by_verdict verdict is ok
     where
-      by_verdict : (v : Verdict) → IsVerdict role limits all fs v → IsAcceptance v → MeansTheSame
+      by_verdict : (v : Verdict) → IsVerdict role limits all fs v → IsAnAccepted v → MeansTheSame
       by_verdict (Accepted summary) v_is accepted = of_accepted fs v_is.0 fits written
       by_verdict (Cut summary) v_is accepted = absurd accepted
       by_verdict (Refused refusal) v_is accepted = absurd accepted

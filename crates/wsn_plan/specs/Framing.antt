@@ -27,7 +27,7 @@ abbrev pub frame_here : Walk → List MeantEvent → Step → Frame
 frame_here walk left step = step_frame walk.pieces walk.held left step
 
 -- The step's form spells its frame's length.
-abbrev pub HasForm : Walk → List MeantEvent → Step → Type 0
-HasForm walk left (Piece len key form) = FormFits form len
-HasForm walk left (Last key form) = FormFits form (length (next_message left).1 - walk.held)
-HasForm walk left (Control key) = ⊤
+abbrev pub SpellsItsLength : Walk → List MeantEvent → Step → Type 0
+SpellsItsLength walk left (Piece len key form) = FormFits form len
+SpellsItsLength walk left (Last key form) = FormFits form (length (next_message left).1 - walk.held)
+SpellsItsLength walk left (Control key) = ⊤

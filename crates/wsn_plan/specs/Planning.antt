@@ -15,20 +15,20 @@ use Rattle.wsn_rules.specs.Verdict.{IsVerdict}
 use Rattle.wsn_scan.specs.declared.stop.Stop.{Stop}
 use Rattle.wsn_scan.specs.declared.stop.Stop.TheVariants as stop
 use Rattle.wsn_scan.specs.Judging.{IsReached, IsStopped, IsUnrefused}
+use Rattle.wsn_canon.specs.Comparing.{IsAnAccepted}
 use Rattle.wsn_canon.specs.Normalised.{IsWithinLimit}
 use Rattle.wsn_plan.specs.declared.planning.PlanAnswer.{PlanAnswer}
 use Rattle.wsn_plan.specs.declared.planning.PlanAnswer.TheVariants.{Plan, NotAccepted, Unfinished}
 use Rattle.wsn_plan.specs.Gathering.{HasWholeFrame}
-use Rattle.wsn_plan.specs.Recutting.{IsAcceptance}
 
 -- ---- the answer
 
 -- The answer for a stream with these frames and this verdict: the plan of the frames, if it is accepted and leaves no
 -- message unfinished.
 abbrev pub IsPlanFor : {A : Type 0} → List Frame → Verdict → PlanAnswer A → Type 0
-IsPlanFor frames verdict (Plan plan) = IsAcceptance verdict × (unfinished frames ≡ []) × (plan ≡ plan_of frames)
-IsPlanFor frames verdict (NotAccepted told) = (told ≡ verdict) × ¬ (IsAcceptance verdict)
-IsPlanFor frames verdict Unfinished = IsAcceptance verdict × IsOpen frames
+IsPlanFor frames verdict (Plan plan) = IsAnAccepted verdict × (unfinished frames ≡ []) × (plan ≡ plan_of frames)
+IsPlanFor frames verdict (NotAccepted told) = (told ≡ verdict) × ¬ (IsAnAccepted verdict)
+IsPlanFor frames verdict Unfinished = IsAnAccepted verdict × IsOpen frames
 
 -- What a result says of the bytes that came. Memory is refused only for the step of a whole frame.
 abbrev pub IsPlanOf : {A : Type 0} → Role → Limits → Incoming → List ℕ → Result (PlanAnswer A) Stop → Type 0

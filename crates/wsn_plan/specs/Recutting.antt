@@ -5,7 +5,6 @@ use Rattle.wsn_wire.specs.Frame.{Frame}
 use Rattle.wsn_wire.specs.Transfer.{Incoming, Outgoing, IsReceived, IsWritten, IsPartlyWritten}
 use Rattle.wsn_rules.specs.declared.step.Step.{Step}
 use Rattle.wsn_rules.specs.declared.verdict.Verdict.{Verdict}
-use Rattle.wsn_rules.specs.declared.verdict.Verdict.TheVariants.{Accepted}
 use Rattle.wsn_rules.specs.Limits.{Limits, InRange}
 use Rattle.wsn_rules.specs.LawfulEvents.{AreLawful}
 use Rattle.wsn_rules.specs.Meaning.{MeantEvent, meaning}
@@ -16,47 +15,25 @@ use Rattle.wsn_rules.specs.Recut.{recut_bytes}
 use Rattle.wsn_scan.specs.declared.stop.Stop.{Stop}
 use Rattle.wsn_scan.specs.declared.stop.Stop.TheVariants as stop
 use Rattle.wsn_scan.specs.Judging.{IsUnrefused}
+use Rattle.wsn_canon.specs.Comparing.{IsAnAccepted}
 use Rattle.wsn_canon.specs.Normalised.{IsWithinLimit}
 use Rattle.wsn_canon.specs.Sources.{IsLast}
 use Rattle.wsn_plan.specs.declared.recutting.RecutAnswer.{RecutAnswer}
 use Rattle.wsn_plan.specs.declared.recutting.RecutAnswer.TheVariants.{Done, NotAccepted, Fault}
 use Rattle.wsn_plan.specs.Gathering.{IsStoppedBehind}
 
-abbrev pub IsAcceptance : Verdict → Type 0
-IsAcceptance (Accepted summary) = ⊤
-IsAcceptance verdict = ⊥
-
 -- The answer to a plan for a stream with this verdict and these events: the stream isn't accepted; or it is, and the
 -- plan fits, or has this fault.
 abbrev pub IsAnswerTo : Role → Limits → List Step → Verdict → List MeantEvent → RecutAnswer → Type 0
-IsAnswerTo role limits plan verdict events Done = IsAcceptance verdict × Fits role limits plan events
-IsAnswerTo role limits plan verdict events (NotAccepted told) = (told ≡ verdict) × ¬ (IsAcceptance verdict)
+IsAnswerTo role limits plan verdict events Done = IsAnAccepted verdict × Fits role limits plan events
+IsAnswerTo role limits plan verdict events (NotAccepted told) = (told ≡ verdict) × ¬ (IsAnAccepted verdict)
 IsAnswerTo role limits plan verdict events (Fault step why) =
-    IsAcceptance verdict × IsFault role limits plan events step why
+    IsAnAccepted verdict × IsFault role limits plan events step why
 
 -- The recut goes out with Done, and nothing with another answer.
 abbrev pub GoesOut : List Step → List MeantEvent → Outgoing → Outgoing → RecutAnswer → Type 0
 GoesOut plan events before after Done = IsWritten before after (recut_bytes plan events)
 GoesOut plan events before after answer = after ≡ before
-
--- The events are lawful under some limits, and the plan fits them there.
-pub record FitsWithin (plan : List Step) (events : List MeantEvent) : Type 0 where
-  pub role : Role
-  pub limits : Limits
-  pub range : InRange limits
-  pub lawful : AreLawful limits.message events
-  pub fits : Fits role limits plan events
-
--- What came of these events and a plan: the recut went out, or a prefix of it; or the plan has this fault.
-abbrev pub IsCutAgain : Role → Limits → List Step → List MeantEvent → Outgoing → Outgoing → Result RecutAnswer Stop →
-    Type 0
-IsCutAgain role limits plan events before after (Ok Done) =
-    Fits role limits plan events × IsWritten before after (recut_bytes plan events)
-IsCutAgain role limits plan events before after (Ok (NotAccepted verdict)) = ⊥
-IsCutAgain role limits plan events before after (Ok (Fault step why)) =
-    IsFault role limits plan events step why × (after ≡ before)
-IsCutAgain role limits plan events before after (Err stopped) =
-    (stopped ≡ stop.Write) × Fits role limits plan events × IsPartlyWritten before after (recut_bytes plan events)
 
 -- A plan for each stream, by its events.
 abbrev pub Planned : Type 0
@@ -95,3 +72,24 @@ IsRecutWhole role limits planned all before after (Ok answer) =
 IsRecutWhole role limits planned all before after (Err stop.InputLimit) =
     (limits.input < length all) × IsUnrefused role limits (take limits.input all) × (after ≡ before)
 IsRecutWhole role limits planned all before after (Err stopped) = ⊤
+
+-- ---- at work
+
+-- The events are lawful under some limits, and the plan fits them there.
+pub record FitsWithin (plan : List Step) (events : List MeantEvent) : Type 0 where
+  pub role : Role
+  pub limits : Limits
+  pub range : InRange limits
+  pub lawful : AreLawful limits.message events
+  pub fits : Fits role limits plan events
+
+-- What came of these events and a plan: the recut went out, or a prefix of it; or the plan has this fault.
+abbrev pub IsCutAgain : Role → Limits → List Step → List MeantEvent → Outgoing → Outgoing → Result RecutAnswer Stop →
+    Type 0
+IsCutAgain role limits plan events before after (Ok Done) =
+    Fits role limits plan events × IsWritten before after (recut_bytes plan events)
+IsCutAgain role limits plan events before after (Ok (NotAccepted verdict)) = ⊥
+IsCutAgain role limits plan events before after (Ok (Fault step why)) =
+    IsFault role limits plan events step why × (after ≡ before)
+IsCutAgain role limits plan events before after (Err stopped) =
+    (stopped ≡ stop.Write) × Fits role limits plan events × IsPartlyWritten before after (recut_bytes plan events)

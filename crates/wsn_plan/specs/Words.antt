@@ -1,5 +1,4 @@
 -- The words that the clauses in src/ use, passed on.
-pub use Rattle.std.specs.List.{AllByRecursion}
 pub use Rattle.std.specs.Option.{option_copied}
 pub use Rattle.wsn_wire.specs.Frame.{Frame, FormFits, frame_bytes, is_control, stream, wire_payload}
 pub use Rattle.wsn_wire.specs.Transfer.{Outgoing, IsWritten}
@@ -17,7 +16,7 @@ pub use Rattle.wsn_rules.specs.LawfulEvents.{AreLawful}
 pub use Rattle.wsn_rules.specs.Limits.{InRange, Limits}
 pub use Rattle.wsn_rules.specs.Lines.{form_text}
 pub use Rattle.wsn_rules.specs.Meaning.{MeantEvent, Message, meaning}
-pub use Rattle.wsn_rules.specs.Plan.{next_text, IsPlan, piece_length}
+pub use Rattle.wsn_rules.specs.Plan.{next_text, IsPlan}
 pub use Rattle.wsn_rules.specs.Recut.{op_behind}
 pub use Rattle.wsn_rules.specs.UniformPlan.{piece_count, ahead, uniform_plan}
 pub use Rattle.wsn_rules.specs.declared.step.Step.{Step}
@@ -28,9 +27,10 @@ pub use Rattle.wsn_scan.specs.declared.stop.Stop.{Stop}
 pub use Rattle.wsn_canon.specs.EventsMeant.{meant, close_body}
 pub use Rattle.wsn_canon.specs.Normalised.{IsNormalisedWhole}
 pub use Rattle.wsn_plan.specs.Cuts.{IsNextLine}
-pub use Rattle.wsn_plan.specs.Framing.{control_frame, piece_frame, last_frame, frame_here, HasForm}
+pub use Rattle.wsn_plan.specs.Framing.{control_frame, piece_frame, last_frame, frame_here, SpellsItsLength}
 pub use Rattle.wsn_plan.specs.PlanText.{SpellsPlan, SpellsStep, IsLineFault, plan_text, IsFirstFault, behind}
 pub use Rattle.wsn_plan.specs.PlanText.{IsReadPlan, SpellsKey, SpellsNumber, step_line}
+pub use Rattle.wsn_plan.specs.Plans.{HasLengths}
 pub use Rattle.wsn_plan.specs.Planning.{IsPlannedWhole, IsRestored}
 pub use Rattle.wsn_plan.specs.Recutting.{IsRecutWhole, Planned}
 pub use Rattle.wsn_plan.specs.Uniform.{message_steps}

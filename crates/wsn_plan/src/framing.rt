@@ -1,11 +1,11 @@
 ghost use Rattle.std.specs.Prelude.{◌≡◌, ℕ, ◌+◌, ◌-◌, ◌<◌, ◌≤◌, ◌^◌, true, false, Option, Some, List, length, map, drop};
-ghost use Rattle.wsn_plan.specs.Words.{FormFits, frame_bytes, is_control, wire_payload, Kind, Message, AreLawful, next_text, Op, op_behind, IsPut, meant, close_body, IsPlaced, MayTake, control_frame, piece_frame, last_frame, frame_here, HasForm};
+ghost use Rattle.wsn_plan.specs.Words.{FormFits, frame_bytes, is_control, wire_payload, Kind, Message, AreLawful, next_text, Op, op_behind, IsPut, meant, close_body, IsPlaced, MayTake, control_frame, piece_frame, last_frame, frame_here, SpellsItsLength};
 ghost use Rattle.wsn_rules.specs.Meaning.{Control};
 
 use crate::walking::Walk;
 use std::alloc::Allocator;
 use std::io::Write;
-use wsn_canon::{Event, Small};
+use wsn_canon::{Event, control_of};
 use wsn_rules::Step;
 use wsn_scan::Stop;
 use wsn_wire::{Form, Kind, Op, Output, head_as, mask};
@@ -21,7 +21,7 @@ pub(crate) fn put_step<A: Allocator, W: Write>(
     requires unfailed { output.old.failed ≡ false }
     requires placed { IsPlaced walk.now (map meant events.old) }
     requires may { MayTake walk.now (map meant events.old) step.now }
-    requires form { HasForm walk.now (drop walk.now.event (map meant events.old)) step.now }
+    requires form { SpellsItsLength walk.now (drop walk.now.event (map meant events.old)) step.now }
     requires held { (text : List ℕ) → next_text (drop walk.now.event (map meant events.old)) ≡ Some text →
         (walk.now.held ≤ length text) × (length text < 2 ^ 63) }
     requires lawful { (most : ℕ) × AreLawful most (map meant events.old) }
@@ -126,34 +126,6 @@ fn put_control<A: Allocator, W: Write>(
 {
     let (op, mut body) = control_of(event);
     put_frame(output, true, op, key, Form::Shortest, &mut body)
-}
-
-/// A control's opcode and body. A Close's body is nothing, or its code, the higher byte first, and its reason (RFC
-/// 6455 section 5.5.1).
-fn control_of<A: Allocator>(event: &Event<A>) -> (Op, Small)
-    requires { (op : Op) × (body : List ℕ) × (meant event.now ≡ Control op body) × (length body ≤ 125) }
-    ensures { meant event.now ≡ Control result.0 result.1.items }
-{
-    let mut body = Small::new();
-    let op = match event {
-        Event::Message(..) => unreachable!(),
-        Event::Ping(bytes) => {
-            let _fits = body.try_extend_from_slice(bytes);
-            Op::Ping
-        }
-        Event::Pong(bytes) => {
-            let _fits = body.try_extend_from_slice(bytes);
-            Op::Pong
-        }
-        Event::Close(held) => {
-            if let Some((code, reason)) = held {
-                let _fits = body.try_extend_from_slice(&code.to_be_bytes());
-                let _fits = body.try_extend_from_slice(reason);
-            }
-            Op::Close
-        }
-    };
-    (op, body)
 }
 
 /// Writes a frame: its head, and its payload behind it, each in one call (RFC 6455 sections 5.2 and 5.3). With a key

@@ -12,7 +12,8 @@ use wsn_wire::{Form, Role};
 /// The uniform plan of events for an endpoint of this role: each control in one frame, and each message in frames of
 /// `size` bytes, the last of which holds what is left (RFC 6455 section 5.4). With `weave` the first frame of a
 /// message that has several stands in front of the controls directly before it. All frames have this key: one exactly
-/// for a client (section 5.1). `Memory`, and no other stop, if memory is refused, which no events ask for.
+/// for a client (section 5.1). `Memory`, and no other stop, if memory is refused: without events it asks for
+/// no memory.
 pub fn uniform<A: Allocator>(
     alloc: A,
     events: &[Event<A>],

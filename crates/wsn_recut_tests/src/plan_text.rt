@@ -1,5 +1,6 @@
 //! Plan text: what is read of a text, what is written of a plan, and where memory or a write fails.
 
+use crate::recuts::NINE_PLAN;
 use std::alloc::{Allocator, Global};
 use std::io::Write;
 use std::process::Abort;
@@ -145,9 +146,6 @@ fn a_failed_write_is_told(rt: HostRuntime) -> Result<(), Fail> {
     Ok(())
 }
 
-/// Nine steps grow a plan three times.
-const NINE: &[u8] = b"last -\nlast -\nlast -\nlast -\nlast -\nlast -\nlast -\nlast -\nlast -\n";
-
 fn is_read<A: Allocator>(rt: &impl Abort, heap: A, text: &[u8], steps: usize) -> bool {
     match read_plan(heap, text) {
         Ok(plan) => {
@@ -161,14 +159,15 @@ fn is_read<A: Allocator>(rt: &impl Abort, heap: A, text: &[u8], steps: usize) ->
     }
 }
 
+/// Eighteen steps grow a plan four times.
 #[test]
 fn refused_memory_is_told(rt: HostRuntime) -> Result<(), Fail> {
     let alloc = rt.alloc();
     let mut refused = 0u32;
     let mut read = 0u32;
-    for blocks in 0..100usize {
+    for blocks in 0..200usize {
         let heap = heap_of(alloc, blocks)?;
-        if is_read(&rt, &heap, NINE, 9) {
+        if is_read(&rt, &heap, NINE_PLAN.as_bytes(), 18) {
             read = read.saturating_add(1);
         } else {
             refused = refused.saturating_add(1);

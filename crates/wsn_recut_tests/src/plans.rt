@@ -1,6 +1,7 @@
 //! The plan of a stream's own frames, and that a recut of the stream's normal form by it is the stream again.
 
 use crate::expecting::expect_line;
+use crate::recuts::{NINE_MESSAGES, NINE_PLAN};
 use std::alloc::{Allocator, Global};
 use std::process::Abort;
 use std::test::Fail;
@@ -36,7 +37,7 @@ const NOTHING: Planned = Planned {
     text: "",
 };
 
-pub static PLANNED: [Planned; 11] = [
+pub static PLANNED: [Planned; 13] = [
     NOTHING,
     Planned {
         role: Role::Client,
@@ -91,6 +92,16 @@ pub static PLANNED: [Planned; 11] = [
     Planned {
         bytes: b"\x01\x03Hel\x89\x00",
         line: "cut 7",
+        ..NOTHING
+    },
+    Planned {
+        bytes: b"\x01\x00",
+        line: "cut 2",
+        ..NOTHING
+    },
+    Planned {
+        bytes: NINE_MESSAGES,
+        text: NINE_PLAN,
         ..NOTHING
     },
 ];
@@ -188,6 +199,9 @@ fn a_failed_read_is_told_before_the_answer_shows(rt: HostRuntime) -> Result<(), 
     Ok(())
 }
 
+/// Heaps of fewer blocks than this are tried, and the last has memory for all that is tried.
+pub const BLOCKS: usize = 128;
+
 /// Each growth refused in turn: no plan and no verdict in its place.
 #[test]
 fn refused_memory_is_told(rt: HostRuntime) -> Result<(), Fail> {
@@ -195,7 +209,7 @@ fn refused_memory_is_told(rt: HostRuntime) -> Result<(), Fail> {
     for row in PLANNED.iter() {
         let limits = limits_under(&row.under)?;
         let mut is_served = false;
-        for blocks in 0..64usize {
+        for blocks in 0..BLOCKS {
             let heap = heap_of(alloc, blocks)?;
             let answer = planned(&heap, row.role, limits, Chopped::new(row.bytes, 1));
             is_served = answer.is_ok();

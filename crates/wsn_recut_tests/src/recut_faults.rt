@@ -7,7 +7,7 @@ use wsn_doubles::limits::{INPUT_OF_4, ONE_FRAME, TWO_FRAMES};
 use wsn_wire::Role;
 
 /// Plans that don't fit.
-pub static FAULTS: [Cut; 14] = [
+pub static FAULTS: [Cut; 15] = [
     PING_HELLO,
     Cut {
         plan: "last -",
@@ -50,6 +50,11 @@ pub static FAULTS: [Cut; 14] = [
         bytes: b"\x81\x85\0\0\0\0Hello",
         plan: "last -",
         line: "fault 0 key-mismatch",
+        ..PING_HELLO
+    },
+    Cut {
+        plan: "piece 1 -\npiece 9 -",
+        line: "fault 1 piece-too-long",
         ..PING_HELLO
     },
     Cut {

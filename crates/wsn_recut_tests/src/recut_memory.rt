@@ -18,7 +18,7 @@ use wsn_scan::Stop;
 use wsn_wire::{Form, Kind, Role};
 
 /// Heaps of fewer blocks than this are tried, and the last has memory for all that is tried.
-const BLOCKS: usize = 256;
+pub const BLOCKS: usize = 1_024;
 
 const LAST: Step = Step::Last {
     key: None,
@@ -121,21 +121,16 @@ fn a_recut_in_frames_of_one_size_tells_it(rt: HostRuntime) -> Result<(), Fail> {
     Ok(())
 }
 
-/// Whether five pings and a message are planned in six steps, with memory from this heap.
-fn is_planned<A: Allocator + Copy>(rt: &impl Abort, heap: A, alloc: Global) -> Result<bool, Fail> {
-    let mut events: Vec<Event<A>> = Vec::new(alloc);
-    for _ in 0..5 {
-        events.push(Event::Ping(Default::default()))?;
-    }
-    events.push(Event::Message(Kind::Text, Vec::new(heap)))?;
-    match uniform(heap, events.as_slice(), Role::Server, 1, false, None) {
+/// Whether nine messages of nine bytes are planned in two frames each, with memory from this heap.
+fn is_planned<A: Allocator + Copy>(rt: &impl Abort, heap: A, events: &[Event<A>]) -> bool {
+    match uniform(heap, events, Role::Server, 5, false, None) {
         Ok(plan) => {
-            assert_eq!(rt; plan.steps().len(), 6);
-            Ok(true)
+            assert_eq!(rt; plan.steps().len(), 18);
+            true
         }
         Err(stop) => {
             assert_eq!(rt; stop, Stop::Memory);
-            Ok(false)
+            false
         }
     }
 }
@@ -143,10 +138,15 @@ fn is_planned<A: Allocator + Copy>(rt: &impl Abort, heap: A, alloc: Global) -> R
 #[test]
 fn planning_frames_of_one_size_tells_it(rt: HostRuntime) -> Result<(), Fail> {
     let alloc = rt.alloc();
+    let whole = heap_of(alloc, BLOCKS)?;
+    let mut events = Vec::new(alloc);
+    for _ in 0..9 {
+        events.push(Event::Message(Kind::Text, b"Hello you".to_vec(&whole)?))?;
+    }
     let mut is_served = false;
     for blocks in 0..BLOCKS {
         let heap = heap_of(alloc, blocks)?;
-        let served = is_planned(&rt, &heap, alloc)?;
+        let served = is_planned(&rt, &heap, events.as_slice());
         assert!(rt; served || !is_served);
         assert!(rt; !served || blocks > 0);
         is_served = served;

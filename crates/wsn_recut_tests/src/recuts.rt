@@ -40,8 +40,20 @@ const NOTHING: Cut = Cut {
     ..PING_HELLO
 };
 
+/// Nine messages of nine bytes from a server, each in two fragments. What holds a message, all of them and the steps
+/// of their plan grows more than once.
+pub const NINE_MESSAGES: &[u8] =
+    b"\x01\x05Hello\x80\x04 you\x01\x05Hello\x80\x04 you\x01\x05Hello\x80\x04 you\
+    \x01\x05Hello\x80\x04 you\x01\x05Hello\x80\x04 you\x01\x05Hello\x80\x04 you\
+    \x01\x05Hello\x80\x04 you\x01\x05Hello\x80\x04 you\x01\x05Hello\x80\x04 you";
+
+/// Their own plan, and the uniform one by fives.
+pub const NINE_PLAN: &str = "piece 5 -\nlast -\npiece 5 -\nlast -\npiece 5 -\nlast -\n\
+    piece 5 -\nlast -\npiece 5 -\nlast -\npiece 5 -\nlast -\n\
+    piece 5 -\nlast -\npiece 5 -\nlast -\npiece 5 -\nlast -\n";
+
 /// Plans that fit.
-pub static FITS: [Cut; 11] = [
+pub static FITS: [Cut; 12] = [
     NOTHING,
     Cut {
         role: Role::Client,
@@ -106,6 +118,12 @@ pub static FITS: [Cut; 11] = [
         bytes: b"\x81\x01A",
         plan: "last - eight",
         out: b"\x81\x7f\0\0\0\0\0\0\0\x01A",
+        ..NOTHING
+    },
+    Cut {
+        bytes: NINE_MESSAGES,
+        plan: NINE_PLAN,
+        out: NINE_MESSAGES,
         ..NOTHING
     },
 ];

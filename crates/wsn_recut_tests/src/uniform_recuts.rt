@@ -2,6 +2,7 @@
 //! what the stream does.
 
 use crate::expecting::expect_line;
+use crate::recuts::NINE_MESSAGES;
 use std::alloc::Global;
 use std::process::Abort;
 use std::test::Fail;
@@ -68,7 +69,7 @@ const FRAGMENTS: SizedCut = SizedCut {
     out: b"\x01\x03Hel\x89\x00\x80\x02lo",
 };
 
-pub static CUTS: [SizedCut; 6] = [
+pub static CUTS: [SizedCut; 7] = [
     FRAGMENTS,
     SizedCut {
         under: TWO_FRAMES,
@@ -112,6 +113,15 @@ pub static CUTS: [SizedCut; 6] = [
         bytes: b"\x81\x01A\x01\x00",
         line: "cut 5",
         out: b"",
+        ..FRAGMENTS
+    },
+    Cut {
+        bytes: NINE_MESSAGES,
+        sizes: Sizes {
+            size: 5,
+            weave: true,
+        },
+        out: NINE_MESSAGES,
         ..FRAGMENTS
     },
 ];

@@ -6,7 +6,7 @@ use Rattle.wsn_rules.specs.Plan.{next_text}
 use Rattle.wsn_rules.specs.Recut.{next_message}
 use Rattle.wsn_canon.specs.EventsMeant.{meant}
 use Rattle.wsn_plan.specs.Walking.{MayTake}
-use Rattle.wsn_plan.specs.Framing.{HasForm}
+use Rattle.wsn_plan.specs.Framing.{SpellsItsLength}
 use Rattle.wsn_plan.proofs.NextEvents.{is_within, is_there, first_there, control_is_short}
 use Rattle.wsn_plan.proofs.framing.put_step.Goals as goal
 
@@ -26,7 +26,7 @@ pub put_last-requires-clause-message : goal.put_last-requires-clause-message
 put_last-requires-clause-message g c =
     let may = subst (MayTake c.args.walk.now (map meant c.args.events.now)) c.in-Last.is c.requires.may in
     let held = c.requires.held may.1 (ap next_text may.3) in
-    let form = subst (HasForm c.args.walk.now (drop c.args.walk.now.event (map meant c.args.events.now))) c.in-Last.is c.requires.form in
+    let form = subst (SpellsItsLength c.args.walk.now (drop c.args.walk.now.event (map meant c.args.events.now))) c.in-Last.is c.requires.form in
     let text : (next_message (drop c.args.walk.now.event (map meant c.args.events.now))).1 ≡ may.1 = ap (λ (left : List MeantEvent). (next_message left).1) may.3 in (
       may.0,
       may.1,

@@ -2,7 +2,7 @@ use Rattle.wsn_plan.proofs.SpelledLines.{one_step}
 use Rattle.wsn_plan.proofs.LineFaults.{one_line_fault, not_step_and_fault}
 use Rattle.wsn_plan.proofs.DecidedLines.{step_or_fault}
 use Rattle.wsn_plan.proofs.TextFaults.{plan_or_fault, one_first_fault, not_plan_and_fault}
-use Rattle.wsn_plan.proofs.plan_text.law_one_fault.Goals as goal
+use Rattle.wsn_plan.proofs.laws.law_one_line_fault.Goals as goal
 
 pub returns-clause-line : goal.returns-clause-line
 returns-clause-line c = step_or_fault

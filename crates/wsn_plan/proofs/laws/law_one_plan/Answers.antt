@@ -1,6 +1,6 @@
 use Rattle.wsn_plan.proofs.TextFaults.{one_plan}
 use Rattle.wsn_plan.proofs.WrittenLines.{text_spells_plan}
-use Rattle.wsn_plan.proofs.plan_text.law_one_plan.Goals as goal
+use Rattle.wsn_plan.proofs.laws.law_one_plan.Goals as goal
 
 pub returns-clause-one : goal.returns-clause-one
 returns-clause-one c = one_plan
