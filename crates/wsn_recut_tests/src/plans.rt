@@ -230,7 +230,11 @@ fn fragments_of_65_535_bytes_and_of_one_are_planned(rt: HostRuntime) -> Result<(
         let reader = Chopped::new(stream.bytes.as_slice(), most);
         let answer = planned(alloc, stream.role, stream.limits, reader);
         let text = text_of(alloc, &answer)?;
-        assert_eq!(rt; text.as_slice(), b"piece 65535 -\nlast -\n", "by {most}");
+        assert_eq!(rt;
+            text.as_slice(),
+            b"piece 65535 -\nlast -\n".as_slice(),
+            "by {most}"
+        );
     }
     Ok(())
 }

@@ -115,7 +115,7 @@ pub static CUTS: [SizedCut; 7] = [
         out: b"",
         ..FRAGMENTS
     },
-    Cut {
+    SizedCut {
         bytes: NINE_MESSAGES,
         sizes: Sizes {
             size: 5,
