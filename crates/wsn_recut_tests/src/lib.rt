@@ -2,7 +2,8 @@
 //!
 //! Plans: `plan_text` is of their text, `plans` of the plan of a stream's own frames. Recuts: `recuts` by plans that
 //! fit, `recut_faults` by plans that don't, `uniform_recuts` in frames of one size, and `long_plans` in a million.
-//! `plan_commands` is of both commands.
+//! `plan_commands` is of both commands. `peer` is of another implementation, the kit's `tungstenite`: what it reads of
+//! recuts and normal forms, and that what it writes is accepted.
 //!
 //! Hostile use: `recut_stops` is of readers and writers that fail, `recut_memory` of memory that is refused.
 //!
@@ -13,6 +14,8 @@
 mod expecting;
 #[cfg(test)]
 mod long_plans;
+#[cfg(test)]
+mod peer;
 #[cfg(test)]
 mod plan_commands;
 #[cfg(test)]

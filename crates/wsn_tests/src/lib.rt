@@ -3,7 +3,7 @@
 //!
 //! `every_way` reads each stream that is written out in `wsn_doubles`, in every way, and `vectors` names short ones of
 //! every rule. Each command has a file: `judge`, `frames`, `normal`, `same`. `scanner`, `source`, `events` and `limits`
-//! are of what the commands are made of. `peer` is of another implementation, the kit's `tungstenite`.
+//! are of what the commands are made of.
 //!
 //! Hostile use: `endings` is of streams that are cut short, go on or never end; `stops` and `command_stops` of readers
 //! and writers that fail, `interruptions` of readers that would go on; `memory` and `later_growths` of memory that is
@@ -36,8 +36,6 @@ mod limits;
 mod memory;
 #[cfg(test)]
 mod normal;
-#[cfg(test)]
-mod peer;
 #[cfg(test)]
 mod same;
 #[cfg(test)]
