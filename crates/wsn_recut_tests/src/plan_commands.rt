@@ -73,8 +73,8 @@ fn line_of_front(line: &'static str, count: usize, whole: usize) -> &'static str
 fn a_failed_read_is_told_of_a_plan(rt: HostRuntime) -> Result<(), Fail> {
     let alloc = rt.alloc();
     for row in PLANNED.iter() {
-        let job = Job::Plan(row.role, limits_under(&row.under)?);
         for count in 0..=row.bytes.len() {
+            let job = Job::Plan(row.role, limits_under(&row.under)?);
             let reader = Chopped::breaking(&row.bytes[..count], 3);
             let done = outcome_on(alloc, alloc, &job, reader, Narrow::wide(alloc));
             let line = line_of_front(row.line, count, row.bytes.len());
@@ -88,9 +88,9 @@ fn a_failed_read_is_told_of_a_plan(rt: HostRuntime) -> Result<(), Fail> {
 fn a_failed_write_is_told_of_a_plan(rt: HostRuntime) -> Result<(), Fail> {
     let alloc = rt.alloc();
     for row in PLANNED.iter() {
-        let job = Job::Plan(row.role, limits_under(&row.under)?);
         for full in FULL {
             for room in 0..row.text.len() {
+                let job = Job::Plan(row.role, limits_under(&row.under)?);
                 let reader = Chopped::new(row.bytes, 3);
                 let writer = Narrow::new(alloc, 1, room, full);
                 let done = outcome_on(alloc, alloc, &job, reader, writer);
