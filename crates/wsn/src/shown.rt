@@ -7,6 +7,7 @@ pub struct Shown<'a> {
 }
 
 impl<'a> Shown<'a> {
+    /// A word as it is shown: its control characters are spelled out.
     pub fn new(word: &'a str) -> Self {
         Shown { word }
     }

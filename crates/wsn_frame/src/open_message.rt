@@ -12,6 +12,7 @@ pub struct OpenMessage {
     pub text: Option<Utf8>,
     /// The bytes of its payloads.
     pub size: u32,
+    /// The frames that it has so far.
     pub frames: u64,
 }
 

@@ -31,7 +31,7 @@ impl Op {
         }
     }
 
-    // Close, Ping and Pong are control frames (RFC 6455 section 5.5).
+    /// Whether it is of a control frame: Close, Ping or Pong (RFC 6455 section 5.5).
     pub fn is_control(self) -> bool
         ensures { result ≡ is_control self }
     {

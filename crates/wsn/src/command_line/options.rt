@@ -53,6 +53,7 @@ fn with_message_limits<'a>(alloc: Global, command: Command<'a>) -> Result<Comman
     command.arg(limit)?.arg(frames)
 }
 
+/// The endpoint that sent the stream, by `--role`.
 pub fn role_of(matches: &ArgMatches<'_>) -> Role {
     match matches.get_str("role") {
         Some("server") => Role::Server,
@@ -67,6 +68,8 @@ fn lengths_of(matches: &ArgMatches<'_>) -> Lengths {
     }
 }
 
+/// The limits that a stream is read under, by `--limit`, `--frames` and `--lengths`; `None` where a number is out of
+/// its range.
 pub fn limits_of(matches: &ArgMatches<'_>) -> Option<Limits> {
     let message = matches.get_one::<u32>("limit").unwrap_or(MESSAGE_MAX);
     let limits = Limits::new(message, INPUT_MAX)?.with_lengths(lengths_of(matches));

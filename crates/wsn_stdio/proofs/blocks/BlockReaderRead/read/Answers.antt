@@ -2,7 +2,7 @@ use Rattle.std.proofs.Common.{rules, ◌≡◌, ℕ, ◌≤◌, ◌<◌, List, �
 use Rattle.std.proofs.lemmas.List.{drop-take, take_at, length-append, length-drop}
 use Rattle.std.specs.Io.KnownBytes.{Consumes, prepend_known}
 use Rattle.std.proofs.KnownBytes.{prepend_known-read}
-use Rattle.wsn_streams.proofs.blocks.BlockReaderRead.read.Goals as goal
+use Rattle.wsn_stdio.proofs.blocks.BlockReaderRead.read.Goals as goal
 
 -- what is held, in two parts
 parts : (block : List ℕ) (start end count : ℕ) → start + count ≤ end → slice_range block start end ≡ take count (slice_range block start end) ++ slice_range block (start + count) end

@@ -1,7 +1,7 @@
 use Rattle.std.proofs.Common.{◌≡◌, ℕ, Option, List, ◌++◌, take, subst, rules}
 use Rattle.std.specs.Io.KnownBytes.{Appends}
-use Rattle.wsn_streams.proofs.Fronts.{front_of_first, front_of_second}
-use Rattle.wsn_streams.proofs.blocks.BlockWriter.put.Goals as goal
+use Rattle.wsn_stdio.proofs.Fronts.{front_of_first, front_of_second}
+use Rattle.wsn_stdio.proofs.blocks.BlockWriter.put.Goals as goal
 
 pub returns-then-flush-clause-front : goal.returns-then-flush-clause-front
 returns-then-flush-clause-front g c = λ failed.

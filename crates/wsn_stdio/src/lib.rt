@@ -1,4 +1,4 @@
-//! The streams between a program and the system, by fixed arrays and no memory.
+//! Standard input and standard output in large blocks, by fixed arrays and no memory.
 //!
 //! [`BlockReader`] asks for large blocks and hands them on in pieces; [`BlockWriter`] gathers what is written.
 //! [`TiedReader`] and [`TiedWriter`] tie the two: what was written goes out before more is read, so that a program at

@@ -1,6 +1,6 @@
 ghost use Rattle.std.specs.Prelude.{◌≡◌, ℕ, ◌≤◌, ◌++◌, [], length, take, slice_range, false, not, true, OnOk};
 ghost use Rattle.std.specs.Io.KnownBytes.{Appends, IsAtEnd, Keeps, prepend_known};
-ghost use Rattle.wsn_streams.specs.Blocks.{all_of};
+ghost use Rattle.wsn_stdio.specs.Blocks.{all_of};
 
 use arrayvec::ArrayVec;
 use std::io::{self, Read, Write};
@@ -77,7 +77,7 @@ pub struct BlockWriter<W: Write> {
 }
 
 impl<W: Write> Model for BlockWriter<W> {
-    ghost use Rattle.wsn_streams.specs.Blocks.{BlockOutput};
+    ghost use Rattle.wsn_stdio.specs.Blocks.{BlockOutput};
 
     ghost Value = { BlockOutput };
 

@@ -11,11 +11,11 @@ use std::rt::Runtime;
 use std::{fs, str};
 use wsn_job::{How, Job, run, run_same};
 use wsn_plan::{PlanFileFault, read_plan_file};
-use wsn_streams::{BlockReader, BlockWriter, TiedReader, TiedWriter};
+use wsn_stdio::{BlockReader, BlockWriter, TiedReader, TiedWriter};
 use wsn_wire::{Input, Output};
 
 /// A line that waits to be printed, of an answer, a verdict or a fault.
-type Lines = ArrayVec<u8, 128>;
+type OneLine = ArrayVec<u8, 128>;
 
 /// Prints a text on standard error, and answers the status of a fault. What can't be written is dropped.
 pub fn tell<R: Eprint>(rt: &R, text: &str) -> u8 {
@@ -36,22 +36,22 @@ pub fn show<R: Print + Eprint>(rt: &R, text: &str) -> u8 {
 pub fn perform<R: Runtime + AllocGlobal>(rt: &R, job: &Job) -> u8
     requires { MayRun job.now }
 {
-    let mut lines = Lines::new();
-    match work(rt.alloc(), job, rt.reader(), io::writer(rt), &mut lines) {
-        Some(status) => finish(rt, &lines, status),
+    let mut told = OneLine::new();
+    match work(rt.alloc(), job, rt.reader(), io::writer(rt), &mut told) {
+        Some(status) => finish(rt, &told, status),
         None => tell(rt, "write failed\n"),
     }
 }
 
 /// Does a command's work over an input and an output that are tied: what was told goes out before the input is asked
-/// for more. It answers the exit status, and leaves in `lines` what is to be told on standard error; `None` where the
+/// for more. It answers the exit status, and leaves in `told` what is to be told on standard error; `None` where the
 /// output failed.
 fn work<A: Allocator + Copy, R: Read + Drop, W: Write + Drop>(
     alloc: A,
     job: &Job<A>,
     input: R,
     output: W,
-    lines: &mut Lines,
+    told: &mut OneLine,
 ) -> Option<u8>
     requires { MayRun job.now }
 {
@@ -63,7 +63,7 @@ fn work<A: Allocator + Copy, R: Read + Drop, W: Write + Drop>(
         job,
         &mut Input::new(&mut reader),
         &mut Output::new(&mut writer),
-        &mut Output::new(lines),
+        &mut Output::new(told),
     );
     writer.flush().is_ok().then_some(status)
 }
@@ -94,8 +94,8 @@ pub fn compare<R: Runtime + AllocGlobal>(rt: &R, pair: &Pair) -> u8 {
     let Ok(second) = fs::open(rt, &pair.second) else {
         return tell_unread(rt, pair.second.as_str());
     };
-    let mut answer = Lines::new();
-    let mut lines = Lines::new();
+    let mut answer = OneLine::new();
+    let mut told = OneLine::new();
     let status = run_same(
         rt.alloc(),
         &mut Input::new(&mut BlockReader::new(first)),
@@ -103,12 +103,12 @@ pub fn compare<R: Runtime + AllocGlobal>(rt: &R, pair: &Pair) -> u8 {
         pair.role,
         pair.limits,
         &mut Output::new(&mut answer),
-        &mut Output::new(&mut lines),
+        &mut Output::new(&mut told),
     );
     if Print::write_all(rt, answer.as_slice()).is_err() {
         return tell(rt, "write failed\n");
     }
-    finish(rt, &lines, status)
+    finish(rt, &told, status)
 }
 
 /// Says that a file can't be read, and answers the status of a fault.
@@ -119,8 +119,8 @@ fn tell_unread<R: Eprint>(rt: &R, file: &str) -> u8 {
 }
 
 /// Says on standard error what waited for standard output, and answers the exit status.
-fn finish<R: Eprint>(rt: &R, lines: &Lines, status: u8) -> u8 {
-    if let Ok(text) = str::from_utf8(lines.as_slice()) {
+fn finish<R: Eprint>(rt: &R, told: &OneLine, status: u8) -> u8 {
+    if let Ok(text) = str::from_utf8(told.as_slice()) {
         let _ = rt.eprint(text);
     }
     status
