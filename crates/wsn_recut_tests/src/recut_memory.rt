@@ -85,7 +85,7 @@ fn refusals_of(rt: &impl Abort, alloc: Global, cut: &Cut) -> Result<u32, Fail> {
 
 /// All that an input means is held, so an input that means something asks for memory.
 #[test]
-fn a_recut_tells_it(rt: HostRuntime) -> Result<(), Fail> {
+fn a_recut_tells_refused_memory(rt: HostRuntime) -> Result<(), Fail> {
     let alloc = rt.alloc();
     for cut in FITS.iter().chain(FAULTS.iter()) {
         let refused = refusals_of(&rt, alloc, cut)?;
@@ -103,7 +103,7 @@ fn a_stream_that_is_not_accepted_is_told_with_memory(rt: HostRuntime) -> Result<
 }
 
 #[test]
-fn a_recut_in_frames_of_one_size_tells_it(rt: HostRuntime) -> Result<(), Fail> {
+fn a_recut_in_frames_of_one_size_tells_refused_memory(rt: HostRuntime) -> Result<(), Fail> {
     let alloc = rt.alloc();
     for cut in CUTS.iter() {
         let limits = limits_under(&cut.under)?;
@@ -121,32 +121,32 @@ fn a_recut_in_frames_of_one_size_tells_it(rt: HostRuntime) -> Result<(), Fail> {
     Ok(())
 }
 
-/// Whether nine messages of nine bytes are planned in two frames each, with memory from this heap.
-fn is_planned<A: Allocator + Copy>(rt: &impl Abort, heap: A, events: &[Event<A>]) -> bool {
-    match uniform(heap, events, Role::Server, 5, false, None) {
+/// Whether seventeen pings and a message are planned in eighteen steps, with memory from this heap.
+fn is_planned<A: Allocator + Copy>(rt: &impl Abort, heap: A, alloc: Global) -> Result<bool, Fail> {
+    let mut events: Vec<Event<A>> = Vec::new(alloc);
+    for _ in 0..17 {
+        events.push(Event::Ping(Default::default()))?;
+    }
+    events.push(Event::Message(Kind::Text, Vec::new(heap)))?;
+    match uniform(heap, events.as_slice(), Role::Server, 1, false, None) {
         Ok(plan) => {
             assert_eq!(rt; plan.steps().len(), 18);
-            true
+            Ok(true)
         }
         Err(stop) => {
             assert_eq!(rt; stop, Stop::Memory);
-            false
+            Ok(false)
         }
     }
 }
 
 #[test]
-fn planning_frames_of_one_size_tells_it(rt: HostRuntime) -> Result<(), Fail> {
+fn planning_frames_of_one_size_tells_refused_memory(rt: HostRuntime) -> Result<(), Fail> {
     let alloc = rt.alloc();
-    let whole = heap_of(alloc, BLOCKS)?;
-    let mut events = Vec::new(alloc);
-    for _ in 0..9 {
-        events.push(Event::Message(Kind::Text, b"Hello you".to_vec(&whole)?))?;
-    }
     let mut is_served = false;
     for blocks in 0..BLOCKS {
         let heap = heap_of(alloc, blocks)?;
-        let served = is_planned(&rt, &heap, events.as_slice());
+        let served = is_planned(&rt, &heap, alloc)?;
         assert!(rt; served || !is_served);
         assert!(rt; !served || blocks > 0);
         is_served = served;
