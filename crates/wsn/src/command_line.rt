@@ -92,18 +92,19 @@ fn command<'a>(
 
 /// The command over the streams in two files.
 fn over_files<'a>(alloc: Global) -> Result<Command<'a>, AllocError> {
-    let first = Arg::new(alloc, "first")
-        .required(true)
-        .action(ArgAction::Set)
-        .value_name("FIRST")
-        .help("The file with the first stream");
-    let second = Arg::new(alloc, "second")
-        .required(true)
-        .action(ArgAction::Set)
-        .value_name("SECOND")
-        .help("The file with the second stream");
+    let first = file(alloc, "first", "FIRST", "The file with the first stream");
+    let second = file(alloc, "second", "SECOND", "The file with the second stream");
     let same = command(alloc, "same", help::SAME, help::SAME_DETAILS)?;
     same.arg(first)?.arg(second)
+}
+
+/// The name of a file, which has to be given.
+fn file<'a>(alloc: Global, name: &'a str, value: &'a str, help: &'a str) -> Arg<'a> {
+    Arg::new(alloc, name)
+        .required(true)
+        .action(ArgAction::Set)
+        .value_name(value)
+        .help(help)
 }
 
 /// The command over a capture.

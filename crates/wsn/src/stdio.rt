@@ -74,7 +74,9 @@ pub fn recut_by<R: Runtime + AllocGlobal>(rt: &R, recut: &PlannedRecut) -> u8 {
     let Ok(file) = fs::open(rt, &recut.plan) else {
         return tell_unread(rt, recut.plan.as_str());
     };
-    match read_plan_file(rt.alloc(), file) {
+    // the file is closed here, before standard input is read
+    let plan = read_plan_file(rt.alloc(), &mut Input::new(file));
+    match plan {
         Ok(plan) => perform(rt, &Job::Recut(recut.role, recut.limits, How::ByPlan(plan))),
         Err(PlanFileFault::Unread) => tell_unread(rt, recut.plan.as_str()),
         Err(PlanFileFault::TooLong) => tell(rt, "plan file too long\n"),

@@ -13,7 +13,7 @@ use wsn_wire::{Input, Output};
 const STOP_MOST: usize = 42;
 
 /// Why a capture's report isn't printed.
-#[derive(Clone, Copy, Debug)]
+#[derive(Clone, Copy)]
 pub(crate) enum ClosingStop {
     /// The capture has none.
     Capture(CaptureStop),

@@ -1,14 +1,18 @@
-ghost use Rattle.std.specs.Prelude.{IfSome};
-ghost use Rattle.wsn_plan.specs.PlanFiles.{IsPlanOfFile};
+ghost use Rattle.std.specs.Prelude.{◌≡◌, Err, IfErr, IfOk, false};
+ghost use Rattle.wsn_plan.specs.PlanFiles.{IsPlanFileRead, IsTextRead};
 
 use crate::plan::Plan;
 use crate::plan_fault::PlanFault;
 use crate::reading_plans::read_plan;
-use std::alloc::Allocator;
-use std::io::{self, ErrorKind, Read};
+use std::alloc::{AllocError, Allocator};
+use std::io::Read;
+use wsn_wire::Input;
 
 /// The most bytes of a plan file.
 const MOST: usize = 67_108_864;
+
+/// The most bytes that one read takes.
+const PIECE: usize = 4_096;
 
 /// Why a plan file gives no plan.
 #[derive(Drop)]
@@ -21,37 +25,55 @@ pub enum PlanFileFault {
     Faulty(PlanFault),
 }
 
-impl From<io::Error> for PlanFileFault {
-    ghost use Rattle.std.specs.Prelude.{◌≡◌, ◌⊎◌};
+impl From<AllocError> for PlanFileFault {
+    ghost use Rattle.std.specs.Prelude.{◌≡◌};
     ghost use Rattle.wsn_plan.specs.declared.plan_fault.PlanFault.TheVariants.{Memory};
-    ghost use Rattle.wsn_plan.specs.declared.plan_files.PlanFileFault.TheVariants.{Faulty, Unread};
+    ghost use Rattle.wsn_plan.specs.declared.plan_files.PlanFileFault.TheVariants.{Faulty};
 
-    ghost from_gives = { λ _ fault. (fault ≡ Unread) ⊎ (fault ≡ Faulty Memory) };
+    ghost from_gives = { λ _ fault. fault ≡ Faulty Memory };
 
-    fn from(error: io::Error) -> Self {
-        if error.kind() == ErrorKind::OutOfMemory {
-            PlanFileFault::Faulty(PlanFault::Memory)
-        } else {
-            PlanFileFault::Unread
-        }
+    fn from(_: AllocError) -> Self {
+        PlanFileFault::Faulty(PlanFault::Memory)
     }
 }
 
-/// Reads the plan that a file's text spells, and no more than a byte past the greatest length. The text is held
-/// beside the plan.
-pub fn read_plan_file<A: Allocator + Copy, R: Read + Drop>(
+/// Reads a file to its end, and answers the plan that its text spells. `Unread` where a read fails, `TooLong` once
+/// 67,108,865 bytes have come, and `Faulty` where the text has a faulty line or memory is refused, behind the file's
+/// first byte. The text is held beside the plan.
+pub fn read_plan_file<A: Allocator + Copy, R: Read>(
     alloc: A,
-    file: R,
+    file: &mut Input<R>,
 ) -> Result<Plan<A>, PlanFileFault>
-    ensures { IfSome (R.remaining file) (λ bytes. IsPlanOfFile bytes result) }
+    requires readable { file.old.failed ≡ false }
+    ensures { IsPlanFileRead file.old file.new result }
 {
-    let mut text = Vec::new(alloc);
-    file.take(MOST as u64 + 1).read_to_end(&mut text)?;
-    if text.len() > MOST {
-        return Err(PlanFileFault::TooLong);
-    }
+    let text = read_text(alloc, file)?;
     match read_plan(alloc, text.as_slice()) {
         Ok(plan) => Ok(plan),
         Err(fault) => Err(PlanFileFault::Faulty(fault)),
     }
+}
+
+/// The bytes of a file, if they are no more than the most.
+fn read_text<A: Allocator, R: Read>(
+    alloc: A,
+    file: &mut Input<R>,
+) -> Result<Vec<u8, A>, PlanFileFault>
+    requires readable { file.old.failed ≡ false }
+    ensures text { IfOk result (λ text. IsTextRead file.old file.new text.items) }
+    ensures fault { IfErr result (λ fault. IsPlanFileRead file.old file.new (Err fault)) }
+{
+    let mut text = Vec::new(alloc);
+    let mut piece = [0; PIECE];
+    while text.len() <= MOST {
+        let wanted = (MOST + 1 - text.len()).min(PIECE);
+        let Some(count) = file.read(&mut piece[..wanted]) else {
+            return Err(PlanFileFault::Unread);
+        };
+        if count == 0 {
+            return Ok(text);
+        }
+        text.extend_from_slice(&piece[..count])?;
+    }
+    Err(PlanFileFault::TooLong)
 }

@@ -1,13 +1,54 @@
-//! Plan files: how much of one that is too long is read.
+//! Plan files: read in pieces, by readers that fail, without memory, and how much of one that is too long is read.
 
 use std::test::Fail;
-use wsn_doubles::readers::Endless;
-use wsn_plan::{PlanFileFault, read_plan_file};
+use wsn_doubles::heaps::heap_of;
+use wsn_doubles::readers::{Chopped, Endless, READS};
+use wsn_plan::{PlanFault, PlanFileFault, Step, read_plan_file};
+use wsn_wire::{Form, Input};
+
+const TEXT: &[u8] = b"piece 3 -\ncontrol -\nlast -\n";
+
+static STEPS: [Step; 3] = [
+    Step::Piece {
+        len: 3,
+        key: None,
+        form: Form::Shortest,
+    },
+    Step::Control { key: None },
+    Step::Last {
+        key: None,
+        form: Form::Shortest,
+    },
+];
+
+#[test]
+fn a_plan_file_is_read_to_its_end(rt: HostRuntime) -> Result<(), Fail> {
+    for most in READS {
+        let mut file = Input::new(Chopped::new(TEXT, most));
+        let plan = read_plan_file(rt.alloc(), &mut file).ok().ok_or("no plan")?;
+        assert!(rt; plan.steps() == STEPS, "by {most}");
+        let mut file = Input::new(Chopped::breaking(TEXT, most));
+        let answer = read_plan_file(rt.alloc(), &mut file);
+        assert!(rt; matches!(&answer, Err(PlanFileFault::Unread)), "by {most}");
+    }
+    Ok(())
+}
+
+#[test]
+fn a_plan_file_wants_memory(rt: HostRuntime) -> Result<(), Fail> {
+    let heap = heap_of(rt.alloc(), 0)?;
+    let answer = read_plan_file(&heap, &mut Input::new(Chopped::new(TEXT, 1)));
+    let Err(PlanFileFault::Faulty(fault)) = &answer else {
+        return Err(Fail::new("not refused"));
+    };
+    assert_eq!(rt; *fault, PlanFault::Memory);
+    Ok(())
+}
 
 #[test]
 fn of_a_file_without_an_end_a_byte_more_than_the_most_is_read(rt: HostRuntime) -> Result<(), Fail> {
     let mut file = Endless::new(b"", b"\n");
-    let answer = read_plan_file(rt.alloc(), &mut file);
+    let answer = read_plan_file(rt.alloc(), &mut Input::new(&mut file));
     assert!(rt; matches!(&answer, Err(PlanFileFault::TooLong)));
     assert_eq!(rt; file.given, 67_108_865);
     Ok(())

@@ -26,7 +26,7 @@ const LAST: Step = Step::Last {
 };
 
 /// What came of one call on heaps that grow.
-#[derive(Debug, Drop)]
+#[derive(Drop)]
 struct Tally {
     refused: u32,
     served: bool,

@@ -118,7 +118,7 @@ fn what_stands_behind_a_refusal_changes_nothing(rt: HostRuntime) -> Result<(), F
 
 /// A server's stream that never ends: some bytes, and then others over and over. At its input limit the lines are these
 /// of its frames, and the normal form this of its events.
-#[derive(Debug, Drop)]
+#[derive(Drop)]
 struct Unending {
     first: &'static [u8],
     again: &'static [u8],

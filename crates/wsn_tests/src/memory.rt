@@ -20,7 +20,7 @@ use wsn_wire::{Input, Output, Role};
 
 /// A stream with one message, its verdict and its normal form. Memory is asked for where a byte of the message comes:
 /// `before` is the normal form of the events that end before it.
-#[derive(Clone, Copy, Debug)]
+#[derive(Clone, Copy)]
 struct Growing {
     role: Role,
     bytes: &'static [u8],

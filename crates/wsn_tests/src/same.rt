@@ -13,7 +13,7 @@ use wsn_scan::{Limits, MESSAGE_MAX};
 use wsn_wire::Role;
 
 /// Two streams of a server, the line that tells how they compare, and how many messages are in memory at a time.
-#[derive(Clone, Copy, Debug)]
+#[derive(Clone, Copy)]
 pub struct Pair {
     pub first: &'static [u8],
     pub second: &'static [u8],

@@ -8,7 +8,7 @@ use wsn_scan::{Notice, Scan};
 use wsn_wire::Role;
 
 /// What a scanner told of a stream: the lines of its frames, its payload, and the line of its verdict.
-#[derive(Debug, Drop)]
+#[derive(Drop)]
 pub struct Told {
     pub frames: String,
     pub payload: Vec<u8>,
@@ -61,7 +61,7 @@ pub fn told_of(alloc: Global, stream: &Stream, size: usize) -> Result<Told, Fail
 
 /// A server's stream that comes in one piece, and the calls until it is taken or refused and one call behind
 /// them: how many bytes each takes, and what it tells.
-#[derive(Clone, Copy, Debug)]
+#[derive(Clone, Copy)]
 struct Calls {
     name: &'static str,
     bytes: &'static [u8],

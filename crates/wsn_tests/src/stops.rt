@@ -98,7 +98,7 @@ fn normalise_tells_a_failed_read_before_the_answer_shows(rt: HostRuntime) -> Res
 
 /// Behind how many bytes of a stream each line of its frames is due, and behind how many so many bytes of its normal
 /// form are.
-#[derive(Clone, Copy, Debug)]
+#[derive(Clone, Copy)]
 struct Due {
     name: &'static str,
     lines: &'static [usize],

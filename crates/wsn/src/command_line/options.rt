@@ -9,48 +9,43 @@ static ROLES: [&str; 2] = ["client", "server"];
 
 static SPELLINGS: [&str; 2] = ["shortest", "any"];
 
+/// An option that takes a value.
+pub fn option<'a>(alloc: Global, name: &'a str, value: &'a str, help: &'a str) -> Arg<'a> {
+    Arg::new(alloc, name)
+        .long(name)
+        .action(ArgAction::Set)
+        .value_name(value)
+        .help(help)
+}
+
 /// `--role`, which each command over streams wants.
 pub fn with_role<'a>(alloc: Global, command: Command<'a>) -> Result<Command<'a>, AllocError> {
-    let role = Arg::new(alloc, "role")
-        .long("role")
-        .required(true)
-        .action(ArgAction::Set)
-        .value_parser(ROLES.as_slice())
-        .value_name("client|server")
-        .hide_possible_values(true)
-        .help("The endpoint that sent the stream");
-    command.arg(role)
+    let help = "The endpoint that sent the stream";
+    let role = option(alloc, "role", "client|server", help).required(true);
+    command.arg(one_of(role, &ROLES))
+}
+
+/// An option whose value is one of these words, which stand in its value's name.
+fn one_of<'a>(option: Arg<'a>, words: &'a [&'a str]) -> Arg<'a> {
+    option.value_parser(words).hide_possible_values(true)
 }
 
 /// `--limit`, `--frames` and `--lengths`, which each command takes.
 pub fn with_limits<'a>(alloc: Global, command: Command<'a>) -> Result<Command<'a>, AllocError> {
-    let lengths = Arg::new(alloc, "lengths")
-        .long("lengths")
-        .action(ArgAction::Set)
-        .value_parser(SPELLINGS.as_slice())
-        .value_name("shortest|any")
-        .hide_possible_values(true)
-        .default_value("shortest")
-        .hide_default_value(true)
-        .help("Which spellings of a length are taken\n[default: shortest]");
-    with_message_limits(alloc, command)?.arg(lengths)
+    let help = "Which spellings of a length are taken\n[default: shortest]";
+    let lengths = option(alloc, "lengths", "shortest|any", help);
+    let lengths = one_of(lengths, &SPELLINGS).default_value("shortest");
+    with_message_limits(alloc, command)?.arg(lengths.hide_default_value(true))
 }
 
 /// `--limit` and `--frames`.
 fn with_message_limits<'a>(alloc: Global, command: Command<'a>) -> Result<Command<'a>, AllocError> {
-    let limit = Arg::new(alloc, "limit")
-        .long("limit")
-        .action(ArgAction::Set)
-        .value_parser(value_parser!(u32).range(0..16_777_217))
-        .value_name("BYTES")
-        .help("The most bytes of a message, 0 to 16777216\n[default: 16777216]");
-    let frames = Arg::new(alloc, "frames")
-        .long("frames")
-        .action(ArgAction::Set)
-        .value_parser(value_parser!(u32).range(1..))
-        .value_name("COUNT")
-        .help("The most frames of a message, 1 to 4294967295;\nwithout it any number is taken");
-    command.arg(limit)?.arg(frames)
+    let help = "The most bytes of a message, 0 to 16777216\n[default: 16777216]";
+    let limit = option(alloc, "limit", "BYTES", help);
+    let command = command.arg(limit.value_parser(value_parser!(u32).range(0..16_777_217)))?;
+    let help = "The most frames of a message, 1 to 4294967295;\nwithout it any number is taken";
+    let frames = option(alloc, "frames", "COUNT", help);
+    command.arg(frames.value_parser(value_parser!(u32).range(1..)))
 }
 
 /// The endpoint that sent the stream, by `--role`.

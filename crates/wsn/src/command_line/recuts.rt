@@ -1,7 +1,7 @@
 ghost use Rattle.std.specs.Prelude.{IfOk};
 ghost use Rattle.wsn.specs.Requests.{MayDo};
 
-use super::options::{limits_of, role_of, with_limits, with_role};
+use super::options::{limits_of, option, role_of, with_limits, with_role};
 use super::{PlannedRecut, Request, Usage, help};
 use clap::builder::ValueParser;
 use clap::{Arg, ArgAction, ArgMatches, Command, value_parser};
@@ -20,17 +20,10 @@ pub fn recut<'a>(alloc: Global) -> Result<Command<'a>, AllocError> {
 
 /// `--plan` and `--size`, of which one is given.
 fn with_sizes<'a>(alloc: Global, command: Command<'a>) -> Result<Command<'a>, AllocError> {
-    let plan = Arg::new(alloc, "plan")
-        .long("plan")
-        .action(ArgAction::Set)
-        .value_name("FILE")
-        .help("Cut by the plan in this file");
-    let size = Arg::new(alloc, "size")
-        .long("size")
-        .action(ArgAction::Set)
-        .value_parser(value_parser!(u32).range(1..))
-        .value_name("BYTES")
-        .help("Cut messages into frames of so many bytes,\n1 to 4294967295");
+    let plan = option(alloc, "plan", "FILE", "Cut by the plan in this file");
+    let help = "Cut messages into frames of so many bytes,\n1 to 4294967295";
+    let size = option(alloc, "size", "BYTES", help);
+    let size = size.value_parser(value_parser!(u32).range(1..));
     command.arg(plan)?.arg(size)
 }
 
@@ -42,14 +35,9 @@ fn with_frames<'a>(alloc: Global, command: Command<'a>) -> Result<Command<'a>, A
         .help(
             "With --size: put the controls that stand before\na cut message behind its first frame",
         );
-    let key = Arg::new(alloc, "key")
-        .long("key")
-        .action(ArgAction::Set)
-        .value_name("HEX")
-        .help(
-            "With --size, for a client: each frame's key,\n8 hexadecimal digits [default: 00000000]",
-        );
-    command.arg(weave)?.arg(key)
+    let help =
+        "With --size, for a client: each frame's key,\n8 hexadecimal digits [default: 00000000]";
+    command.arg(weave)?.arg(option(alloc, "key", "HEX", help))
 }
 
 /// What the arguments of `recut` ask for. `Own` unless there is a plan or a size, and not both; where `--weave` or

@@ -1,7 +1,6 @@
 use super::*;
 use std::process::Abort;
 use std::test::Fail;
-use wsn_wire::Lengths;
 
 /// What a line's words ask for, parted by single spaces.
 pub fn asked_by(alloc: Global, line: &str) -> Result<Result<Request, Usage>, Fail> {
@@ -12,108 +11,90 @@ pub fn asked_by(alloc: Global, line: &str) -> Result<Result<Request, Usage>, Fai
     Ok(asked(alloc, words.as_slice()))
 }
 
-pub fn job_in<'a>(rt: &impl Abort, request: &'a Result<Request, Usage>) -> &'a Job {
-    match request {
-        Ok(Request::Run(job)) => job,
-        _ => panic!(rt; "not a job"),
+/// A job in words: its command, whose stream it reads, and the limits.
+fn job_in_words(alloc: Global, job: &Job) -> Result<String, AllocError> {
+    let (command, role, limits) = match job {
+        Job::Judge(role, limits) => ("judge", Some(*role), *limits),
+        Job::Frames(role, limits) => ("frames", Some(*role), *limits),
+        Job::Normal(role, limits) => ("normal", Some(*role), *limits),
+        Job::Plan(role, limits) => ("plan", Some(*role), *limits),
+        Job::Recut(role, limits, _) => ("recut", Some(*role), *limits),
+        Job::Closing(limits) => ("closing", None, *limits),
+    };
+    in_words(alloc, command, role, limits)
+}
+
+pub fn in_words(
+    alloc: Global,
+    command: &str,
+    role: Option<Role>,
+    limits: Limits,
+) -> Result<String, AllocError> {
+    let (message, input) = (limits.message(), limits.input());
+    let (frames, lengths) = (limits.frames(), limits.lengths());
+    format!(in alloc; "{command} {role:?}: {message} {input} {frames:?} {lengths:?}")
+}
+
+/// Lines that ask for a job, and the job in words.
+static JOBS: [(&str, &str); 8] = [
+    (
+        "wsn normal --role client",
+        "normal Some(Client): 16777216 1099511627776 None Shortest",
+    ),
+    (
+        "wsn normal --role server --limit 16777216 --frames 1 --lengths shortest",
+        "normal Some(Server): 16777216 1099511627776 Some(1) Shortest",
+    ),
+    (
+        "wsn judge --frames 4294967295 --role=server --lengths any --limit 0",
+        "judge Some(Server): 0 1099511627776 Some(4294967295) Any",
+    ),
+    (
+        "wsn frames --role server --limit 7",
+        "frames Some(Server): 7 1099511627776 None Shortest",
+    ),
+    (
+        "wsn plan --frames 2 --role client",
+        "plan Some(Client): 16777216 1099511627776 Some(2) Shortest",
+    ),
+    (
+        "wsn recut --role server --size 3 --limit 9 --frames 4 --lengths any",
+        "recut Some(Server): 9 1099511627776 Some(4) Any",
+    ),
+    (
+        "wsn closing",
+        "closing None: 16777216 1099511627776 None Shortest",
+    ),
+    (
+        "wsn closing --lengths any --limit 7 --frames 3",
+        "closing None: 7 1099511627776 Some(3) Any",
+    ),
+];
+
+#[test]
+fn a_job_is_as_its_options_say(rt: HostRuntime) -> Result<(), Fail> {
+    let alloc = rt.alloc();
+    for (line, wanted) in JOBS {
+        let Ok(Request::Run(job)) = asked_by(alloc, line)? else {
+            panic!(rt; "no job: {line}");
+        };
+        assert_eq!(rt; job_in_words(alloc, &job)?.as_str(), wanted, "{line}");
     }
-}
-
-#[test]
-fn normal_has_the_greatest_limits(rt: HostRuntime) -> Result<(), Fail> {
-    let asked = asked_by(rt.alloc(), "wsn normal --role client")?;
-    let Job::Normal(role, limits) = job_in(&rt, &asked) else {
-        panic!(rt; "not normal");
-    };
-    assert_eq!(rt; *role, Role::Client);
-    assert_eq!(rt; limits.message(), 16_777_216);
-    assert_eq!(rt; limits.input(), 1_099_511_627_776);
-    assert_eq!(rt; limits.frames(), None);
-    assert_eq!(rt; limits.lengths(), Lengths::Shortest);
-    Ok(())
-}
-
-#[test]
-fn limits_are_as_spelled(rt: HostRuntime) -> Result<(), Fail> {
-    let line = "wsn judge --frames 4294967295 --role=server --lengths any --limit 0";
-    let asked = asked_by(rt.alloc(), line)?;
-    let Job::Judge(role, limits) = job_in(&rt, &asked) else {
-        panic!(rt; "not judge");
-    };
-    assert_eq!(rt; *role, Role::Server);
-    assert_eq!(rt; limits.message(), 0);
-    assert_eq!(rt; limits.frames(), Some(4_294_967_295));
-    assert_eq!(rt; limits.lengths(), Lengths::Any);
-    Ok(())
-}
-
-#[test]
-fn the_ends_of_the_ranges_are_taken(rt: HostRuntime) -> Result<(), Fail> {
-    let line = "wsn normal --role server --limit 16777216 --frames 1 --lengths shortest";
-    let asked = asked_by(rt.alloc(), line)?;
-    let Job::Normal(role, limits) = job_in(&rt, &asked) else {
-        panic!(rt; "not normal");
-    };
-    assert_eq!(rt; *role, Role::Server);
-    assert_eq!(rt; limits.message(), 16_777_216);
-    assert_eq!(rt; limits.frames(), Some(1));
-    assert_eq!(rt; limits.lengths(), Lengths::Shortest);
-    Ok(())
-}
-
-#[test]
-fn plan_is_asked_for(rt: HostRuntime) -> Result<(), Fail> {
-    let asked = asked_by(rt.alloc(), "wsn plan --frames 2 --role client")?;
-    let Job::Plan(role, limits) = job_in(&rt, &asked) else {
-        panic!(rt; "not plan");
-    };
-    assert_eq!(rt; *role, Role::Client);
-    assert_eq!(rt; limits.message(), 16_777_216);
-    assert_eq!(rt; limits.frames(), Some(2));
-    Ok(())
-}
-
-#[test]
-fn closing_wants_no_role(rt: HostRuntime) -> Result<(), Fail> {
-    let asked = asked_by(rt.alloc(), "wsn closing")?;
-    let Job::Closing(limits) = job_in(&rt, &asked) else {
-        panic!(rt; "not closing");
-    };
-    assert_eq!(rt; limits.message(), 16_777_216);
-    assert_eq!(rt; limits.input(), 1_099_511_627_776);
-    assert_eq!(rt; limits.frames(), None);
-    assert_eq!(rt; limits.lengths(), Lengths::Shortest);
-    let asked = asked_by(rt.alloc(), "wsn closing --lengths any --limit 7 --frames 3")?;
-    let Job::Closing(limits) = job_in(&rt, &asked) else {
-        panic!(rt; "not closing");
-    };
-    assert_eq!(rt; limits.message(), 7);
-    assert_eq!(rt; limits.frames(), Some(3));
-    assert_eq!(rt; limits.lengths(), Lengths::Any);
-    Ok(())
-}
-
-#[test]
-fn frames_is_asked_for(rt: HostRuntime) -> Result<(), Fail> {
-    let asked = asked_by(rt.alloc(), "wsn frames --role server --limit 7")?;
-    let Job::Frames(role, limits) = job_in(&rt, &asked) else {
-        panic!(rt; "not frames");
-    };
-    assert_eq!(rt; *role, Role::Server);
-    assert_eq!(rt; limits.message(), 7);
     Ok(())
 }
 
 #[test]
 fn same_is_asked_for(rt: HostRuntime) -> Result<(), Fail> {
-    let asked = asked_by(rt.alloc(), "wsn same --role client a --limit 7 b")?;
-    let Ok(Request::Same(pair)) = &asked else {
+    let alloc = rt.alloc();
+    let Ok(Request::Same(pair)) = asked_by(alloc, "wsn same --role client a --limit 7 b")? else {
         panic!(rt; "not same");
     };
-    assert_eq!(rt; pair.role, Role::Client);
-    assert_eq!(rt; pair.limits.message(), 7);
-    assert_eq!(rt; pair.first.as_str(), "a");
-    assert_eq!(rt; pair.second.as_str(), "b");
+    let words = in_words(alloc, "same", Some(pair.role), pair.limits)?;
+    assert_eq!(rt;
+        words.as_str(),
+        "same Some(Client): 7 1099511627776 None Shortest"
+    );
+    assert_eq!(rt; (pair.first.as_str(), pair.second.as_str()), ("a", "b"));
     Ok(())
 }
 

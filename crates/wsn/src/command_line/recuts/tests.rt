@@ -1,63 +1,54 @@
-use crate::command_line::tests::{asked_by, job_in};
+use crate::command_line::tests::{asked_by, in_words};
 use crate::command_line::{Request, Usage};
-use std::alloc::Global;
-use std::process::Abort;
 use std::test::Fail;
 use wsn_job::{How, Job};
-use wsn_wire::{Lengths, Role};
+use wsn_wire::Role;
 
-/// What a line that asks for frames of one size says of them: whose they are, their size, whether they are woven, and
-/// their key.
-fn size_by(
-    rt: &impl Abort,
-    alloc: Global,
-    line: &str,
-) -> Result<(Role, u32, bool, Option<[u8; 4]>), Fail> {
-    let asked = asked_by(alloc, line)?;
-    match job_in(rt, &asked) {
-        Job::Recut(role, _, How::BySize { size, weave, key }) => Ok((*role, *size, *weave, *key)),
-        _ => panic!(rt; "not by size: {line}"),
-    }
-}
+/// Lines that ask for frames of one size, and their role, size, weave and key in words.
+static SIZES: [(&str, &str); 4] = [
+    ("wsn recut --role server --size 1", "Server 1 false None"),
+    (
+        "wsn recut --size 4294967295 --role client",
+        "Client 4294967295 false Some([0, 0, 0, 0])",
+    ),
+    (
+        "wsn recut --weave --role server --size=7",
+        "Server 7 true None",
+    ),
+    (
+        "wsn recut --role client --size 2 --key 01aBcDeF --weave",
+        "Client 2 true Some([1, 171, 205, 239])",
+    ),
+];
 
 #[test]
 fn a_size_is_asked_for(rt: HostRuntime) -> Result<(), Fail> {
-    let server = size_by(&rt, rt.alloc(), "wsn recut --role server --size 1")?;
-    assert!(rt; server == (Role::Server, 1, false, None));
-    let client = size_by(&rt, rt.alloc(), "wsn recut --size 4294967295 --role client")?;
-    assert!(rt; client == (Role::Client, 4_294_967_295, false, Some([0; 4])));
-    let woven = size_by(&rt, rt.alloc(), "wsn recut --weave --role server --size=7")?;
-    assert!(rt; woven == (Role::Server, 7, true, None));
-    let line = "wsn recut --role client --size 2 --key 01aBcDeF --weave";
-    let masked = size_by(&rt, rt.alloc(), line)?;
-    assert!(rt; masked == (Role::Client, 2, true, Some([0x01, 0xab, 0xcd, 0xef])));
-    Ok(())
-}
-
-#[test]
-fn a_size_goes_with_limits(rt: HostRuntime) -> Result<(), Fail> {
-    let line = "wsn recut --role server --size 3 --limit 9 --frames 4 --lengths any";
-    let asked = asked_by(rt.alloc(), line)?;
-    let Job::Recut(_, limits, _) = job_in(&rt, &asked) else {
-        panic!(rt; "not recut");
-    };
-    assert_eq!(rt; limits.message(), 9);
-    assert_eq!(rt; limits.frames(), Some(4));
-    assert_eq!(rt; limits.lengths(), Lengths::Any);
+    let alloc = rt.alloc();
+    for (line, wanted) in SIZES {
+        let Ok(Request::Run(Job::Recut(role, _, How::BySize { size, weave, key }))) = asked_by(
+            alloc, line,
+        )?
+        else {
+            panic!(rt; "not by size: {line}");
+        };
+        let words = format!(in alloc; "{role:?} {size} {weave} {key:?}")?;
+        assert_eq!(rt; words.as_str(), wanted, "{line}");
+    }
     Ok(())
 }
 
 #[test]
 fn a_plan_file_is_asked_for(rt: HostRuntime) -> Result<(), Fail> {
-    let asked = asked_by(
-        rt.alloc(),
-        "wsn recut --plan a/file --role server --limit 7",
-    )?;
-    let Ok(Request::RecutBy(recut)) = &asked else {
+    let alloc = rt.alloc();
+    let line = "wsn recut --plan a/file --role server --limit 7";
+    let Ok(Request::RecutBy(recut)) = asked_by(alloc, line)? else {
         panic!(rt; "not by a plan");
     };
-    assert_eq!(rt; recut.role, Role::Server);
-    assert_eq!(rt; recut.limits.message(), 7);
+    let words = in_words(alloc, "recut", Some(recut.role), recut.limits)?;
+    assert_eq!(rt;
+        words.as_str(),
+        "recut Some(Server): 7 1099511627776 None Shortest"
+    );
     assert_eq!(rt; recut.plan.as_str(), "a/file");
     Ok(())
 }
