@@ -26,7 +26,7 @@ fn a_plan_file_is_read_to_its_end(rt: HostRuntime) -> Result<(), Fail> {
     for most in READS {
         let mut file = Input::new(Chopped::new(TEXT, most));
         let plan = read_plan_file(rt.alloc(), &mut file).ok().ok_or("no plan")?;
-        assert!(rt; plan.steps() == STEPS, "by {most}");
+        assert!(rt; plan.steps() == STEPS.as_slice(), "by {most}");
         let mut file = Input::new(Chopped::breaking(TEXT, most));
         let answer = read_plan_file(rt.alloc(), &mut file);
         assert!(rt; matches!(&answer, Err(PlanFileFault::Unread)), "by {most}");
