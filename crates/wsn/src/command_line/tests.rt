@@ -24,6 +24,8 @@ fn job_in_words(alloc: Global, job: &Job) -> Result<String, AllocError> {
     in_words(alloc, command, role, limits)
 }
 
+/// A command in words: whose stream it reads, the most bytes of a message and of an input, the most frames of a message,
+/// and which spellings of a length are taken.
 pub fn in_words(
     alloc: Global,
     command: &str,
