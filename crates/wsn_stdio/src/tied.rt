@@ -65,6 +65,3 @@ impl<W: Write> Write for TiedWriter<'_, W> {
         Err(ErrorKind::Other.into())
     }
 }
-
-#[cfg(test)]
-mod tests;

@@ -9,9 +9,14 @@
 //! and writers that fail, `interruptions` of readers that would go on; `memory` and `later_growths` of memory that is
 //! refused.
 //!
+//! What a stream is read and written by: `heads`, `masking` and `reasons` of a frame's parts, `utf8` and `close_codes` of
+//! payloads, `inputs_and_outputs` and `tied` of readers and writers.
+//!
 //! `expecting` asserts what is wanted of a command's run.
 #![tactic(auto)]
 
+#[cfg(test)]
+mod close_codes;
 #[cfg(test)]
 mod command_stops;
 #[cfg(test)]
@@ -25,6 +30,10 @@ mod expecting;
 #[cfg(test)]
 mod frames;
 #[cfg(test)]
+mod heads;
+#[cfg(test)]
+mod inputs_and_outputs;
+#[cfg(test)]
 mod interruptions;
 #[cfg(test)]
 mod judge;
@@ -33,9 +42,13 @@ mod later_growths;
 #[cfg(test)]
 mod limits;
 #[cfg(test)]
+mod masking;
+#[cfg(test)]
 mod memory;
 #[cfg(test)]
 mod normal;
+#[cfg(test)]
+mod reasons;
 #[cfg(test)]
 mod same;
 #[cfg(test)]
@@ -44,5 +57,9 @@ mod scanner;
 mod source;
 #[cfg(test)]
 mod stops;
+#[cfg(test)]
+mod tied;
+#[cfg(test)]
+mod utf8;
 #[cfg(test)]
 mod vectors;

@@ -10,8 +10,6 @@
 mod codes;
 pub mod laws;
 mod pieces;
-#[cfg(test)]
-mod tests;
 
 pub use codes::code_allowed;
 pub use pieces::Utf8;

@@ -18,8 +18,6 @@ mod opcode;
 mod reading;
 mod refusal;
 mod spelling;
-#[cfg(test)]
-mod tests;
 mod writing;
 
 pub use endpoint::Role;

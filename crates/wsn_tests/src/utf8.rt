@@ -1,7 +1,9 @@
-use crate::{Utf8, code_allowed};
-use std::test::Fail;
+//! UTF-8 in one piece, byte by byte and cut inside characters.
 
-// Bytes, the offset of the first bad one, and whether they are UTF-8.
+use std::test::Fail;
+use wsn_text::Utf8;
+
+/// Bytes, the offset of the first bad one, and whether they are UTF-8.
 const EXAMPLES: [(&[u8], Option<usize>, bool); 22] = [
     (&[0xC0, 0x80], Some(0), false),
     (&[0x80], Some(0), false),
@@ -67,7 +69,7 @@ fn examples_byte_by_byte(rt: HostRuntime) {
     }
 }
 
-// Long enough for whole blocks; cut inside each of its characters.
+/// Long enough for whole blocks; cut inside each of its characters.
 #[test]
 fn a_long_text_in_two_pieces(rt: HostRuntime) -> Result<(), Fail> {
     let mut text = Vec::new(rt.alloc());
@@ -90,29 +92,4 @@ fn a_long_text_in_two_pieces(rt: HostRuntime) -> Result<(), Fail> {
         );
     }
     Ok(())
-}
-
-// The first and the last code of each row, and whether a Close may carry them.
-const CODES: [(u16, u16, bool); 8] = [
-    (0, 999, false),
-    (1000, 1003, true),
-    (1004, 1006, false),
-    (1007, 1011, true),
-    (1012, 1014, true),
-    (1015, 2999, false),
-    (3000, 4999, true),
-    (5000, 65_535, false),
-];
-
-#[test]
-fn every_code(rt: HostRuntime) {
-    let mut next = 0;
-    for (first, last, allowed) in CODES {
-        assert_eq!(rt; u32::from(first), next);
-        for code in first..=last {
-            assert_eq!(rt; code_allowed(code), allowed, "{code}");
-        }
-        next = u32::from(last) + 1;
-    }
-    assert_eq!(rt; next, 65_536);
 }

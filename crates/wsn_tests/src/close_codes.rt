@@ -1,0 +1,28 @@
+//! Which codes a Close may carry: every one.
+
+use wsn_text::code_allowed;
+
+/// The first and the last code of each row, and whether a Close may carry them.
+const CODES: [(u16, u16, bool); 8] = [
+    (0, 999, false),
+    (1000, 1003, true),
+    (1004, 1006, false),
+    (1007, 1011, true),
+    (1012, 1014, true),
+    (1015, 2999, false),
+    (3000, 4999, true),
+    (5000, 65_535, false),
+];
+
+#[test]
+fn every_code(rt: HostRuntime) {
+    let mut next = 0;
+    for (first, last, allowed) in CODES {
+        assert_eq!(rt; u32::from(first), next);
+        for code in first..=last {
+            assert_eq!(rt; code_allowed(code), allowed, "{code}");
+        }
+        next = u32::from(last) + 1;
+    }
+    assert_eq!(rt; next, 65_536);
+}
