@@ -13,8 +13,7 @@ pub no_memory : (old mid new : Incoming) (text piece : List ℕ) (n : ℕ) → C
     new.failed ≡ false → IsPlanFileRead old new (Err (Faulty Memory))
 no_memory old mid new text piece n before came within few some unfailed =
     let size : length (text ++ take n piece) ≡ length text + n =
-      omega (arith, length-append text (take n piece), length-take-le n piece within) in
-    (
+    omega (arith, length-append text (take n piece), length-take-le n piece within) in (
       text ++ take n piece,
       record {
         consumed = Consumes-trans old.remaining mid.remaining new.remaining text (take n piece) before came;

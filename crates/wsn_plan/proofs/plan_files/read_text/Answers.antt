@@ -8,7 +8,7 @@ pub returns-in_err-extend_from_slice-clause-fault : goal.returns-in_err-extend_f
 returns-in_err-extend_from_slice-clause-fault g c =
     let is : c.from_residual.result ≡ Err (Faulty Memory) = search rules in
     let size : length (take c.min-wanted.result c.loop-piece.piece) ≡ c.min-wanted.result =
-      length-take-le c.min-wanted.result c.loop-piece.piece (omega arith) in
+    length-take-le c.min-wanted.result c.loop-piece.piece (omega arith) in
     rw is (no_memory c.args.file.now c.loop-piece.file c.read.new.self c.loop-piece.text.items c.read.new.into
     c.in-Some.count c.loop-piece.invariant.consumed c.in-Some.ensures.bytes c.in-Some.ensures.within
     (omega (arith, c.in-Some.ensures.within, c.read.auto.into)) (omega arith) (search rules))
