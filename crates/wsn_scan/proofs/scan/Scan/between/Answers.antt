@@ -1,6 +1,0 @@
--- `search` finds it; written out, since a wrong body is refused sooner so
-use Rattle.std.proofs.Common.{rules}
-use Rattle.wsn_scan.proofs.scan.Scan.between.Goals as goal
-
-pub returns-in-Some : goal.returns-in-Some
-returns-in-Some g c = search rules
