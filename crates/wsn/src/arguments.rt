@@ -40,6 +40,3 @@ fn read_word<E: Env>(env: &E, place: usize, bytes: &mut Vec<u8>) -> Result<Optio
     }
     Err(Usage::Memory)
 }
-
-#[cfg(test)]
-mod tests;

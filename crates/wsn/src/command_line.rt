@@ -242,6 +242,3 @@ pub fn asked(alloc: Global, words: &[String]) -> Result<Request, Usage>
         },
     }
 }
-
-#[cfg(test)]
-mod tests;

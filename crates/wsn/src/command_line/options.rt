@@ -1,3 +1,5 @@
+ghost use Rattle.std.specs.Prelude.{◌≡◌, ◌^◌, IfSome};
+
 use super::Usage;
 use clap::builder::ValueParser;
 use clap::{Arg, ArgAction, ArgMatches, Command, value_parser};
@@ -64,8 +66,10 @@ fn lengths_of(matches: &ArgMatches<'_>) -> Lengths {
 }
 
 /// The limits that a stream is read under, by `--limit`, `--frames` and `--lengths`; `None` where a number is out of
-/// its range.
-pub fn limits_of(matches: &ArgMatches<'_>) -> Option<Limits> {
+/// its range. The input limit is the greatest there is.
+pub fn limits_of(matches: &ArgMatches<'_>) -> Option<Limits>
+    ensures greatest_input { IfSome result (λ limits. limits.input ≡ 2 ^ 40) }
+{
     let message = matches.get_one::<u32>("limit").unwrap_or(MESSAGE_MAX);
     let limits = Limits::new(message, INPUT_MAX)?.with_lengths(lengths_of(matches));
     match matches.get_one::<u32>("frames") {

@@ -75,6 +75,3 @@ fn key_of(digits: Option<&str>) -> Result<Option<[u8; 4]>, Usage> {
         Err(_) => Err(Usage::Own),
     }
 }
-
-#[cfg(test)]
-mod tests;
