@@ -1,4 +1,4 @@
-use Rattle.std.proofs.Common.{◌≡◌, ℕ, ◌-◌, List, length, map, drop, ap, subst}
+use Rattle.std.proofs.Common.{◌≡◌, ℕ, ◌-◌, List, length, map, drop, ap, refl, subst}
 use Rattle.std.proofs.Math.Seq.{map-set_same}
 use Rattle.wsn_wire.specs.Frame.{FormFits}
 use Rattle.wsn_rules.specs.Meaning.{MeantEvent}
@@ -72,3 +72,18 @@ returns-in-Control-clause-put g c =
     let there = is_there c.args.events.now c.args.walk.now.event c.index-events-walk-in-Control.result _ _ c.index-events-walk-in-Control.is may.3 in
     let put = c.put_control.ensures may.0 may.1 (rw (← c.index-events-walk-in-Control.is) there) in
     rw (c.in-Control.is, may.3) put
+
+pub put_piece-requires-clause-unfailed : goal.put_piece-requires-clause-unfailed
+put_piece-requires-clause-unfailed g c = c.requires.unfailed
+
+pub put_last-requires-clause-unfailed : goal.put_last-requires-clause-unfailed
+put_last-requires-clause-unfailed g c = c.requires.unfailed
+
+pub put_control-requires-clause-unfailed : goal.put_control-requires-clause-unfailed
+put_control-requires-clause-unfailed g c = c.requires.unfailed
+
+pub put_piece-requires-clause-form : goal.put_piece-requires-clause-form
+put_piece-requires-clause-form g c = subst (SpellsItsLength c.args.walk.now (drop c.args.walk.now.event (map meant c.args.events.now))) c.in-Piece.is c.requires.form
+
+pub returns-in-Control-clause-same : goal.returns-in-Control-clause-same
+returns-in-Control-clause-same g c = refl

@@ -12,3 +12,12 @@ returns-in_err-extend_from_slice-clause-fault g c =
     rw is (no_memory c.args.file.now c.loop-piece.file c.read.new.self c.loop-piece.text.items c.read.new.into
     c.in-Some.count c.loop-piece.invariant.consumed c.in-Some.ensures.bytes c.in-Some.ensures.within
     (omega (arith, c.in-Some.ensures.within, c.read.auto.into)) (omega arith) (search rules))
+
+pub returns-clause-fault : goal.returns-clause-fault
+returns-clause-fault g c = search rules
+
+pub returns-in_default-clause-text : goal.returns-in_default-clause-text
+returns-in_default-clause-text g c = search rules
+
+pub returns-then-count-eq0-clause-fault : goal.returns-then-count-eq0-clause-fault
+returns-then-count-eq0-clause-fault g c = search rules

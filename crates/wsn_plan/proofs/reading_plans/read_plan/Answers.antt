@@ -1,4 +1,4 @@
-use Rattle.std.proofs.Common.{arith, subst, sym, ◌+◌, length, ◌<◌}
+use Rattle.std.proofs.Common.{arith, subst, sym, ◌+◌, length, ◌<◌, rules}
 use Rattle.wsn_plan.proofs.CutLines.{empty_text}
 use Rattle.wsn_plan.proofs.ReadPlans.{HasReadPlan, all_read, begins_read, fault_read, one_more_read, shorter}
 use Rattle.wsn_plan.proofs.reading_plans.read_plan.Goals as goal
@@ -30,3 +30,6 @@ pub returns : goal.returns
 returns g c =
     all_read c.args.text.now c.loop-rest.rest.now c.loop-rest.plan c.loop-rest.number c.loop-rest.invariant.read
     (empty_text c.loop-rest.rest.now c.is_empty.result c.is_empty.ensures c.loop-rest-test.false)
+
+pub loop-rest-init : goal.loop-rest-init
+loop-rest-init g c = search rules

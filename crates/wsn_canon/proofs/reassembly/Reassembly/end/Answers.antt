@@ -1,7 +1,8 @@
-use Rattle.std.proofs.Common.{◌≡◌, ℕ, List, true, false, ◌∙◌, ap}
+use Rattle.std.proofs.Common.{◌≡◌, ℕ, List, true, false, ◌∙◌, ap, arith}
 use Rattle.wsn_wire.specs.Frame.{is_control}
 use Rattle.wsn_rules.specs.Meaning.{Message}
 use Rattle.wsn_canon.proofs.ReassembledFrames.{fragment, message_event, message_ended}
+use Rattle.std.proofs.lemmas.Grind.{common_steps}
 use Rattle.wsn_canon.proofs.reassembly.Reassembly.end.Goals as goal
 
 pub returns-then-not-final_frame : goal.returns-then-not-final_frame
@@ -18,3 +19,6 @@ returns g c role limits done f is lawful within =
       (final, ap (λ (bs : List ℕ). Message c.args.self.now.kind bs) text ∙ message_event role limits c.args.self.now done f lawful within other),
       message_ended (record { op = c.args.self.now.op; kind = c.args.self.now.kind; message = c.replace-message.new.dest; body = c.args.self.now.body }) done f other final nothing,
     )
+
+pub returns-then-is_control : goal.returns-then-is_control
+returns-then-is_control g c = grind (arith, common_steps)

@@ -1,4 +1,4 @@
-use Rattle.std.proofs.Common.{◌≡◌, ◌∙◌, ◌+◌, ◌-◌, ◌<◌, ℕ, List, [], ◌++◌, length, drop, refl, sym, arith, ap, length-drop}
+use Rattle.std.proofs.Common.{◌≡◌, ◌∙◌, ◌+◌, ◌-◌, ◌<◌, ℕ, List, [], ◌++◌, length, drop, refl, sym, arith, ap, length-drop, rules}
 use borrow.Rule.Slice.PartMut.{mid_of, put_mid}
 use Rattle.wsn_scan.specs.Feeding.{heads_in}
 use Rattle.wsn_scan.proofs.FedPieces.{IsFedTo, bytes_below, share_is, takes_none, takes_by, takes_on, fed_further, none_told, falls, falls_further}
@@ -77,3 +77,6 @@ loop-at-preserved c =
       room = last.room;
       takes = last.takes;
     }
+
+pub returns : goal.returns
+returns c = search rules

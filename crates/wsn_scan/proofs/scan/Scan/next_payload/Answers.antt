@@ -1,4 +1,4 @@
-use Rattle.std.proofs.Common.{◌≡◌, ◌+◌, ◌≤◌, ◌^◌, ℕ, List, [], ◌∷◌, ◌++◌, length, take, drop, Ok, Err, inr, refl, sym, ap, ◌∙◌, subst, arith, append_assoc, length-append}
+use Rattle.std.proofs.Common.{◌≡◌, ◌+◌, ◌≤◌, ◌^◌, ℕ, List, [], ◌∷◌, ◌++◌, length, take, drop, Ok, Err, inr, refl, sym, ap, ◌∙◌, subst, arith, append_assoc, length-append, rules}
 use Rattle.std.proofs.lemmas.List.{length-take-le, take-take}
 use Rattle.wsn_wire.specs.Frame.{first_byte, stream}
 use Rattle.wsn_wire.proofs.FrameLemmas.{first_byte_fields}
@@ -125,3 +125,6 @@ pub returns-in-Err-clause-kept : goal.returns-in-Err-clause-kept
 returns-in-Err-clause-kept c =
     masked_again c.args.inside.head.key c.args.inside.done c.min-count.result c.args.piece.now c.unmask.new.bytes (omega (arith, c.min-count.ensures)) c.unmask.ensures
     c.min-taken.result c.unmask-in-Err.new.bytes (omega (arith, c.min-taken.ensures)) c.unmask-in-Err.ensures
+
+pub returns-else-last-clause-takes : goal.returns-else-last-clause-takes
+returns-else-last-clause-takes c = search rules

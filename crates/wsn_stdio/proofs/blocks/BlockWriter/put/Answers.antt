@@ -22,3 +22,9 @@ returns-else-flush-clause-front g c = λ failed.
     let sent = subst (λ (bs : List ℕ). Appends before c.flush.new.self.written (take front.0 bs)) kept front.1 in
     subst (λ (a : Option (List ℕ)). (n : ℕ) × Appends a c.flush.new.self.written (take n (c.args.self.now.pending ++ c.args.bytes.now))) begun
     (front_of_first before c.flush.new.self.written c.args.self.now.pending c.args.bytes.now front.0 sent)
+
+pub returns-in-Ok-clause-failed : goal.returns-in-Ok-clause-failed
+returns-in-Ok-clause-failed g c = search rules
+
+pub returns-in-Ok-clause-for_good : goal.returns-in-Ok-clause-for_good
+returns-in-Ok-clause-for_good g c = search rules

@@ -1,7 +1,8 @@
-use Rattle.std.proofs.Common.{◌≡◌, Err, length, rules}
+use Rattle.std.proofs.Common.{◌≡◌, Err, length, rules, arith}
 use Rattle.std.specs.Result.{MatchResult}
 use Rattle.wsn_text.specs.Piece.{Validates, Breaks}
 use Rattle.wsn_text.proofs.Taking.{Shifted, answers_behind, answers_before, taken_of, ok_of, first_bad_of, after_bad_of}
+use Rattle.std.proofs.lemmas.Grind.{common_steps}
 use Rattle.wsn_text.proofs.pieces.Utf8.feed.Goals as goal
 
 -- the character that was begun breaks
@@ -40,3 +41,9 @@ returns-clause-first_bad c = first_bad_of c.args.self.now c.take_rest.new.self c
 
 pub returns-clause-after_bad : goal.returns-clause-after_bad
 returns-clause-after_bad c = after_bad_of c.args.self.now c.take_rest.new.self c.args.piece.now c.map_err.result (whole c)
+
+pub returns-then-is_bad-clause-ok : goal.returns-then-is_bad-clause-ok
+returns-then-is_bad-clause-ok c = grind (arith, common_steps)
+
+pub returns-then-is_bad-clause-after_bad : goal.returns-then-is_bad-clause-after_bad
+returns-then-is_bad-clause-after_bad c = search rules

@@ -15,3 +15,6 @@ loop-taken-preserved g c =
       out = rw (take-add taken c.in-Ok.n bytes) (Appends-trans _ _ _ (take taken bytes) (take c.in-Ok.n (drop taken bytes)) c.loop-taken.invariant.out took);
       same = search rules;
     }
+
+pub returns-in_default-clause-failed : goal.returns-in_default-clause-failed
+returns-in_default-clause-failed g c = search rules

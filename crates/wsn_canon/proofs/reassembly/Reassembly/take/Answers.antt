@@ -1,0 +1,9 @@
+use Rattle.std.proofs.Common.{rules, arith}
+use Rattle.std.proofs.lemmas.Grind.{common_steps}
+use Rattle.wsn_canon.proofs.reassembly.Reassembly.take.Goals as goal
+
+pub returns-then-is_control-clause-taken : goal.returns-then-is_control-clause-taken
+returns-then-is_control-clause-taken g c = grind (arith, common_steps)
+
+pub returns-then-is_control-clause-refused : goal.returns-then-is_control-clause-refused
+returns-then-is_control-clause-refused g c = search rules

@@ -1,0 +1,11 @@
+use Rattle.std.proofs.Common.{rules}
+use Rattle.wsn_capture.proofs.report.Side.seen.Goals as goal
+
+pub returns-in-Refused : goal.returns-in-Refused
+returns-in-Refused c = search rules
+
+pub returns-in-Refused-2 : goal.returns-in-Refused-2
+returns-in-Refused-2 c = search rules
+
+pub returns-in-Refused-3 : goal.returns-in-Refused-3
+returns-in-Refused-3 c = search rules

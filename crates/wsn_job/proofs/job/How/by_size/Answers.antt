@@ -1,0 +1,11 @@
+use Rattle.std.proofs.Common.{rules}
+use Rattle.wsn_job.proofs.job.How.by_size.Goals as goal
+
+pub returns-clause-may : goal.returns-clause-may
+returns-clause-may g c = search rules
+
+pub returns-clause-how : goal.returns-clause-how
+returns-clause-how g c = search rules
+
+pub returns-clause-none : goal.returns-clause-none
+returns-clause-none g c = search rules

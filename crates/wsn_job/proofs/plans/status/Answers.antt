@@ -1,0 +1,5 @@
+use Rattle.std.proofs.Common.{rules}
+use Rattle.wsn_job.proofs.plans.status.Goals as goal
+
+pub returns-in-Ok-Plan : goal.returns-in-Ok-Plan
+returns-in-Ok-Plan g c = search rules

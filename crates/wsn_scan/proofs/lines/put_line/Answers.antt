@@ -1,0 +1,5 @@
+use Rattle.std.proofs.Common.{rules}
+use Rattle.wsn_scan.proofs.lines.put_line.Goals as goal
+
+pub returns-else-put : goal.returns-else-put
+returns-else-put g c = search rules

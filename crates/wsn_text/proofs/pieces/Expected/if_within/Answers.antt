@@ -1,0 +1,5 @@
+use Rattle.std.proofs.Common.{rules}
+use Rattle.wsn_text.proofs.pieces.Expected.if_within.Goals as goal
+
+pub returns-else-contains : goal.returns-else-contains
+returns-else-contains c = search rules
