@@ -1,11 +1,14 @@
 //! Captures whose reader fails, and reports whose writer does.
 
-use crate::capture_answers::{judged_text, report_text};
+use crate::capture_answers::{expect_judged, report_text, stop_text};
+use crate::expecting::{expect_bytes, expect_text, expect_true};
+use std::alloc::Global;
+use std::process::Abort;
 use std::test::Fail;
-use wsn_capture::{CaptureStop, LineFault, judge_capture, put_report};
+use wsn_capture::{CaptureStop, LineFault, Report, judge_capture, put_report};
 use wsn_doubles::readers::{Chopped, READS};
 use wsn_doubles::rows::{filled, greatest};
-use wsn_doubles::writers::{FULL, Narrow};
+use wsn_doubles::writers::{FULL, Full, Narrow};
 use wsn_scan::{Limits, Stop};
 use wsn_wire::{Input, Output};
 
@@ -18,17 +21,32 @@ fn stop_of(text: &[u8], most: usize, limits: Limits) -> Option<CaptureStop> {
     judge_capture(&mut Input::new(Chopped::breaking(text, most)), limits).err()
 }
 
+/// Fails unless the capture of a text, whose reader fails behind its last byte, stops so.
+fn expect_stop(rt: &impl Abort, text: &[u8], most: usize, wanted: CaptureStop) -> Result<(), Fail> {
+    let stop = stop_of(text, most, greatest()?);
+    let count = text.len();
+    assert_eq!(rt; stop, Some(wanted), "{count} bytes by {most}");
+    Ok(())
+}
+
+/// Fails unless these words are printed of a stop.
+fn expect_words(
+    rt: &impl Abort,
+    alloc: Global,
+    stop: CaptureStop,
+    words: &str,
+) -> Result<(), Fail> {
+    let printed = stop_text(alloc, &stop)?;
+    expect_text(rt, printed.as_str(), words, &stop);
+    Ok(())
+}
+
 #[test]
 fn words_of_a_stop(rt: HostRuntime) -> Result<(), Fail> {
     let fault = LineFault::BadHex;
-    for (stop, words) in [
-        (CaptureStop::Read, "read failed"),
-        (CaptureStop::Line { number: 7, fault }, "line 7: bad-hex"),
-    ] {
-        let printed = format!(in rt.alloc(); "{stop}")?;
-        assert_eq!(rt; printed.as_str(), words);
-    }
-    Ok(())
+    let line = CaptureStop::Line { number: 7, fault };
+    expect_words(&rt, rt.alloc(), CaptureStop::Read, "read failed")?;
+    expect_words(&rt, rt.alloc(), line, "line 7: bad-hex")
 }
 
 /// A failed read is no end: not behind a whole capture, and not behind a line that has begun.
@@ -36,13 +54,10 @@ fn words_of_a_stop(rt: HostRuntime) -> Result<(), Fail> {
 fn a_failed_read_is_told_at_every_byte(rt: HostRuntime) -> Result<(), Fail> {
     for count in 0..=CLEAN.len() {
         for most in READS {
-            let stop = stop_of(&CLEAN[..count], most, greatest()?);
-            assert_eq!(rt; stop, Some(CaptureStop::Read), "{count} bytes by {most}");
+            expect_stop(&rt, &CLEAN[..count], most, CaptureStop::Read)?;
         }
     }
-    let stop = stop_of(b"C 8800", usize::MAX, greatest()?);
-    assert_eq!(rt; stop, Some(CaptureStop::Read));
-    Ok(())
+    expect_stop(&rt, b"C 8800", usize::MAX, CaptureStop::Read)
 }
 
 /// A fault that shows before the read fails is told, and no other.
@@ -56,8 +71,7 @@ fn a_fault_is_told_before_a_failed_read(rt: HostRuntime) -> Result<(), Fail> {
             CaptureStop::Line { number: 2, fault }
         };
         for most in READS {
-            let stop = stop_of(&BAD_FORM[..count], most, greatest()?);
-            assert_eq!(rt; stop, Some(wanted), "{count} bytes by {most}");
+            expect_stop(&rt, &BAD_FORM[..count], most, wanted)?;
         }
     }
     Ok(())
@@ -70,10 +84,8 @@ fn a_long_line_is_told_before_a_failed_read(rt: HostRuntime) -> Result<(), Fail>
     let fault = LineFault::TooLong;
     let told = CaptureStop::Line { number: 1, fault };
     for most in READS {
-        let stop = stop_of(&long[..8_195], most, greatest()?);
-        assert_eq!(rt; stop, Some(CaptureStop::Read), "by {most}");
-        let stop = stop_of(&long, most, greatest()?);
-        assert_eq!(rt; stop, Some(told), "by {most}");
+        expect_stop(&rt, &long[..8_195], most, CaptureStop::Read)?;
+        expect_stop(&rt, &long, most, told)?;
     }
     Ok(())
 }
@@ -90,36 +102,56 @@ fn a_line_too_many_is_told_before_a_failed_read(rt: HostRuntime) -> Result<(), F
         (8_194, CaptureStop::Read),
         (1, CaptureStop::Line { number, fault }),
     ] {
-        text.extend_from_slice(filled(alloc, b"", b'X', count)?.as_slice())?;
-        let stop = stop_of(text.as_slice(), usize::MAX, greatest()?);
-        assert_eq!(rt; stop, Some(wanted), "{count} bytes more");
+        for _ in 0..count {
+            text.push(b'X')?;
+        }
+        expect_stop(&rt, text.as_slice(), usize::MAX, wanted)?;
     }
     text.truncate(1_000_001);
     text.push(b'\n')?;
-    let stop = stop_of(text.as_slice(), usize::MAX, greatest()?);
-    assert_eq!(rt; stop, Some(CaptureStop::Line { number, fault }));
-    Ok(())
+    let told = CaptureStop::Line { number, fault };
+    expect_stop(&rt, text.as_slice(), usize::MAX, told)
+}
+
+/// The report of a clean end.
+fn clean_report() -> Result<Report, Fail> {
+    match judge_capture(&mut Input::new(CLEAN), greatest()?) {
+        Ok(report) => Ok(report),
+        Err(_stop) => Err(Fail::from("a capture wasn't read")),
+    }
+}
+
+/// Fails unless a failed write behind these first bytes of a report is told.
+fn expect_full(rt: &impl Abort, alloc: Global, report: &Report, full: Full, front: &[u8]) {
+    let room = front.len();
+    let mut writer = Narrow::new(alloc, usize::MAX, room, full);
+    let written = put_report(&mut Output::new(&mut writer), report);
+    expect_true(rt, written == Err(Stop::Write), &(room, full));
+    expect_bytes(rt, writer.taken.as_slice(), front, &(room, full));
 }
 
 #[test]
 fn a_failed_write_of_a_report(rt: HostRuntime) -> Result<(), Fail> {
     let alloc = rt.alloc();
-    let Ok(report) = judge_capture(&mut Input::new(CLEAN), greatest()?) else {
-        return Err(Fail::from("a capture wasn't read"));
-    };
+    let report = clean_report()?;
     let whole = report_text(alloc, &report)?;
     for room in 0..whole.len() {
         for full in FULL {
-            let mut writer = Narrow::new(alloc, usize::MAX, room, full);
-            let written = put_report(&mut Output::new(&mut writer), &report);
-            assert_eq!(rt; written, Err(Stop::Write), "{room} bytes, {full:?}");
-            assert_eq!(rt; writer.taken.as_slice(), &whole.as_bytes()[..room]);
+            expect_full(&rt, alloc, &report, full, &whole.as_bytes()[..room]);
         }
     }
-    let mut slow = Narrow::new(alloc, 1, usize::MAX, FULL[0]);
-    assert_eq!(rt; put_report(&mut Output::new(&mut slow), &report), Ok(()));
-    assert_eq!(rt; slow.taken.as_slice(), whole.as_bytes());
-    let told = judged_text(alloc, CLEAN, greatest()?)?;
-    assert_eq!(rt; told.as_str(), whole.as_str());
     Ok(())
+}
+
+/// Also by a writer that takes a byte a call.
+#[test]
+fn a_report_that_is_written_whole(rt: HostRuntime) -> Result<(), Fail> {
+    let alloc = rt.alloc();
+    let report = clean_report()?;
+    let whole = report_text(alloc, &report)?;
+    let mut slow = Narrow::new(alloc, 1, usize::MAX, Full::Fails);
+    let written = put_report(&mut Output::new(&mut slow), &report);
+    expect_true(&rt, written == Ok(()), &whole);
+    expect_bytes(&rt, slow.taken.as_slice(), whole.as_bytes(), &whole);
+    expect_judged(&rt, alloc, CLEAN, greatest()?, whole.as_str(), &CLEAN)
 }

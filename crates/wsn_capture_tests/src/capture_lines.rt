@@ -1,7 +1,9 @@
 //! The lines of a capture: which aren't taken, which of their faults is told, and the greatest that are.
 
-use crate::capture_answers::{handed, judged_text, limits_of};
+use crate::capture_answers::{expect_judged, handed, judged_text, limits_of};
+use crate::expecting::{expect_line, expect_text, expect_true};
 use std::alloc::Global;
+use std::process::Abort;
 use std::test::Fail;
 use wsn_capture::{Capture, LineFault, Side};
 use wsn_doubles::readers::{Chopped, Endless, READS};
@@ -42,12 +44,17 @@ fn faulty_lines_are_told_by_reads_of_every_size(rt: HostRuntime) -> Result<(), F
     for (text, words, fault) in FAULTY.iter() {
         for most in READS {
             let reader = Chopped::new(text.as_bytes(), most);
-            let told = judged_text(alloc, reader, greatest()?)?;
-            assert_eq!(rt; told.as_str(), *words, "{text}, by {most}");
+            expect_judged(&rt, alloc, reader, greatest()?, words, &(text, most))?;
         }
-        let (_capture, told) = handed(text, greatest()?);
-        assert_eq!(rt; told, Some(*fault), "{text}");
+        expect_fault(&rt, text, *fault)?;
     }
+    Ok(())
+}
+
+/// Fails unless this is the first fault of lines that are handed one by one.
+fn expect_fault(rt: &impl Abort, text: &str, wanted: LineFault) -> Result<(), Fail> {
+    let (_capture, fault) = handed(text, greatest()?);
+    assert_eq!(rt; fault, Some(wanted), "{text}");
     Ok(())
 }
 
@@ -61,8 +68,7 @@ fn lines_past_the_limit(rt: HostRuntime) -> Result<(), Fail> {
         ("S.\nS 8100", "line 2: after-end"),
     ] {
         let reader = Chopped::new(text.as_bytes(), usize::MAX);
-        let told = judged_text(alloc, reader, limits_of(1)?)?;
-        assert_eq!(rt; told.as_str(), words, "{text}");
+        expect_judged(&rt, alloc, reader, limits_of(1)?, words, &text)?;
     }
     Ok(())
 }
@@ -77,9 +83,15 @@ fn words_of_a_fault(rt: HostRuntime) -> Result<(), Fail> {
         (LineFault::AfterEnd, "after-end"),
         (LineFault::InputLimit, "input-limit"),
     ] {
-        let printed = format!(in rt.alloc(); "{fault}")?;
-        assert_eq!(rt; printed.as_str(), word);
+        expect_word(&rt, rt.alloc(), fault, word)?;
     }
+    Ok(())
+}
+
+/// Fails unless this word is printed of a fault.
+fn expect_word(rt: &impl Abort, alloc: Global, fault: LineFault, word: &str) -> Result<(), Fail> {
+    let printed = format!(in alloc; "{fault}")?;
+    expect_text(rt, printed.as_str(), word, &fault);
     Ok(())
 }
 
@@ -87,61 +99,82 @@ fn words_of_a_fault(rt: HostRuntime) -> Result<(), Fail> {
 #[test]
 fn an_lf_in_a_line_is_a_byte_like_any_other(rt: HostRuntime) -> Result<(), Fail> {
     let mut capture = Capture::new(greatest()?);
-    assert_eq!(rt; capture.line(b"C.\n"), Err(LineFault::BadForm));
-    assert_eq!(rt; capture.line(b"\n"), Err(LineFault::BadForm));
-    assert_eq!(rt; capture.line(b"C 81\n"), Err(LineFault::BadHex));
-    assert_eq!(rt; capture.line(b"C 81\n00"), Err(LineFault::BadHex));
-    assert_eq!(rt; capture.line(b"# a\nb"), Ok(()));
-    assert_eq!(rt; capture.line(b"\r"), Ok(()));
-    assert_eq!(rt; capture.report().client, Side::Running);
+    expect_line(&rt, &mut capture, b"C.\n", Err(LineFault::BadForm));
+    expect_line(&rt, &mut capture, b"\n", Err(LineFault::BadForm));
+    expect_line(&rt, &mut capture, b"C 81\n", Err(LineFault::BadHex));
+    expect_line(&rt, &mut capture, b"C 81\n00", Err(LineFault::BadHex));
+    expect_line(&rt, &mut capture, b"# a\nb", Ok(()));
+    expect_line(&rt, &mut capture, b"\r", Ok(()));
+    expect_true(&rt, capture.report().client == Side::Running, &"no end");
     Ok(())
 }
 
-/// What is told of a line with so many bytes between these, as the only one and with a CR and an LF behind it.
-fn told_of_long(
-    alloc: Global,
-    first: &[u8],
-    byte: u8,
-    count: usize,
-    last: &[u8],
-    most: usize,
-) -> Result<String, Fail> {
-    let mut text = filled(alloc, first, byte, count)?;
-    text.extend_from_slice(last)?;
-    judged_text(alloc, Chopped::new(text.as_slice(), most), greatest()?)
+/// The report where neither side sent anything.
+const OPEN: &str = "client running\nserver running\nfirst -\necho -\n\
+    client-sees -\nserver-sees -\noutcome open\n";
+
+/// The report where the server's first byte is refused.
+const REFUSED: &str = "client running\nserver refused 0 nothing-to-continue 1002\nfirst -\necho -\n\
+    client-sees 1006\nserver-sees -\noutcome failed\n";
+
+/// A line's first bytes, another byte and how often it stands behind them, and what is told, whatever the line's end.
+static LONGEST: [(&str, u8, usize, &str); 5] = [
+    ("#", b'#', 8_193, OPEN),
+    ("S ", b'0', 8_192, REFUSED),
+    ("#", b'#', 8_194, "line 1: too-long"),
+    ("S ", b'0', 8_193, "line 1: too-long"),
+    ("S ", b'0', 8_194, "line 1: too-long"),
+];
+
+/// The same of lines with an end of their own, which stands last.
+static ENDED: [(&str, u8, usize, &str, &str); 4] = [
+    ("#", b'#', 8_193, "line 1: too-long", "\r\r\n"),
+    ("#\n#", b'#', 8_194, "line 2: too-long", "\n"),
+    ("", b'x', 8_195, "line 1: too-long", "\n"),
+    ("", b'x', 8_194, "line 1: bad-form", "\n"),
+];
+
+/// How long lines are read: by at most so many bytes a call.
+const LONG_READS: [usize; 5] = [1, 4_095, 4_096, 8_195, usize::MAX];
+
+/// Fails unless a text is told so, read by each size.
+fn expect_long(rt: &impl Abort, alloc: Global, text: &[u8], wanted: &str) -> Result<(), Fail> {
+    for most in LONG_READS {
+        let of = (text.len(), most);
+        expect_judged(
+            rt,
+            alloc,
+            Chopped::new(text, most),
+            greatest()?,
+            wanted,
+            &of,
+        )?;
+    }
+    Ok(())
 }
 
 /// A comment, and digits, of the greatest length and of a byte more.
 #[test]
 fn the_longest_lines(rt: HostRuntime) -> Result<(), Fail> {
     let alloc = rt.alloc();
-    for most in [1, 4_095, 4_096, 8_195, usize::MAX] {
-        for last in [
-            b"".as_slice(),
-            b"\n".as_slice(),
-            b"\r".as_slice(),
-            b"\r\n".as_slice(),
-        ] {
-            let comment = told_of_long(alloc, b"#", b'#', 8_193, last, most)?;
-            assert!(rt; comment.as_str().starts_with("client running\n"));
-            let digits = told_of_long(alloc, b"S ", b'0', 8_192, last, most)?;
-            let refused = "client running\nserver refused 0 nothing-to-continue 1002\n";
-            assert!(rt; digits.as_str().starts_with(refused));
-            let comment = told_of_long(alloc, b"#", b'#', 8_194, last, most)?;
-            assert_eq!(rt; comment.as_str(), "line 1: too-long");
-            let digits = told_of_long(alloc, b"S ", b'0', 8_193, last, most)?;
-            assert_eq!(rt; digits.as_str(), "line 1: too-long");
-            let digits = told_of_long(alloc, b"S ", b'0', 8_194, last, most)?;
-            assert_eq!(rt; digits.as_str(), "line 1: too-long");
+    for (first, byte, count, wanted) in LONGEST {
+        for end in ["", "\n", "\r", "\r\n"] {
+            let mut text = filled(alloc, first.as_bytes(), byte, count)?;
+            text.extend_from_slice(end.as_bytes())?;
+            expect_long(&rt, alloc, text.as_slice(), wanted)?;
         }
-        let inside = told_of_long(alloc, b"#", b'#', 8_193, b"\r\r\n", most)?;
-        assert_eq!(rt; inside.as_str(), "line 1: too-long");
-        let second = told_of_long(alloc, b"#\n#", b'#', 8_194, b"\n", most)?;
-        assert_eq!(rt; second.as_str(), "line 2: too-long");
-        let no_form = told_of_long(alloc, b"", b'x', 8_195, b"\n", most)?;
-        assert_eq!(rt; no_form.as_str(), "line 1: too-long");
-        let no_form = told_of_long(alloc, b"", b'x', 8_194, b"\n", most)?;
-        assert_eq!(rt; no_form.as_str(), "line 1: bad-form");
+    }
+    Ok(())
+}
+
+/// A CR inside a line is counted, and each line by itself. A line that is too long has no other fault.
+#[test]
+fn long_lines_with_ends_of_their_own(rt: HostRuntime) -> Result<(), Fail> {
+    let alloc = rt.alloc();
+    for (first, byte, count, wanted, end) in ENDED {
+        let mut text = filled(alloc, first.as_bytes(), byte, count)?;
+        text.extend_from_slice(end.as_bytes())?;
+        expect_long(&rt, alloc, text.as_slice(), wanted)?;
     }
     Ok(())
 }
@@ -151,22 +184,15 @@ fn the_longest_lines(rt: HostRuntime) -> Result<(), Fail> {
 fn the_most_lines(rt: HostRuntime) -> Result<(), Fail> {
     let alloc = rt.alloc();
     let mut text = filled(alloc, b"", b'\n', 1_000_000)?;
-    let told = judged_text(
-        alloc,
-        Chopped::new(text.as_slice(), usize::MAX),
-        greatest()?,
-    )?;
-    assert!(rt; told.as_str().starts_with("client running\n"));
-    text.extend_from_slice(b"X")?;
-    let told = judged_text(
-        alloc,
-        Chopped::new(text.as_slice(), usize::MAX),
-        greatest()?,
-    )?;
-    assert_eq!(rt; told.as_str(), "line 1000001: too-many-lines");
-    text.extend_from_slice(b"\n\n")?;
-    let told = judged_text(alloc, Chopped::new(text.as_slice(), 4_095), greatest()?)?;
-    assert_eq!(rt; told.as_str(), "line 1000001: too-many-lines");
+    for (more, most, wanted) in [
+        ("", usize::MAX, OPEN),
+        ("X", usize::MAX, "line 1000001: too-many-lines"),
+        ("\n\n", 4_095, "line 1000001: too-many-lines"),
+    ] {
+        text.extend_from_slice(more.as_bytes())?;
+        let reader = Chopped::new(text.as_slice(), most);
+        expect_judged(&rt, alloc, reader, greatest()?, wanted, &(more, most))?;
+    }
     Ok(())
 }
 
@@ -175,30 +201,44 @@ fn the_most_lines(rt: HostRuntime) -> Result<(), Fail> {
 fn faulty_lines_are_no_lines(rt: HostRuntime) -> Result<(), Fail> {
     let mut capture = Capture::new(greatest()?);
     for _ in 0..1_000_000 {
-        assert_eq!(rt; capture.line(b"X"), Err(LineFault::BadForm));
+        expect_line(&rt, &mut capture, b"X", Err(LineFault::BadForm));
     }
     for _ in 0..1_000_000 {
-        assert_eq!(rt; capture.line(b""), Ok(()));
+        expect_line(&rt, &mut capture, b"", Ok(()));
     }
-    assert_eq!(rt; capture.line(b""), Err(LineFault::TooManyLines));
-    assert_eq!(rt; capture.line(b"X"), Err(LineFault::TooManyLines));
+    expect_line(&rt, &mut capture, b"", Err(LineFault::TooManyLines));
+    expect_line(&rt, &mut capture, b"X", Err(LineFault::TooManyLines));
     Ok(())
 }
 
 /// The fault of a line without an end is told once enough of it came.
 #[test]
 fn endless_lines(rt: HostRuntime) -> Result<(), Fail> {
-    let alloc = rt.alloc();
-    let mut comments = Endless::new(b"", b"#");
-    let told = judged_text(alloc, &mut comments, greatest()?)?;
-    assert_eq!(rt; told.as_str(), "line 1: too-long");
-    assert!(rt; comments.given <= 8_196 + 4_095);
-    let mut digits = Endless::new(b"C ", b"0");
-    let told = judged_text(alloc, &mut digits, greatest()?)?;
-    assert_eq!(rt; told.as_str(), "line 1: too-long");
-    let mut empty = Endless::new(b"", b"\n");
-    let told = judged_text(alloc, &mut empty, greatest()?)?;
-    assert_eq!(rt; told.as_str(), "line 1000001: too-many-lines");
-    assert!(rt; empty.given <= 1_000_001 + 4_095);
+    for (first, again, wanted, most) in [
+        (b"".as_slice(), b"#", "line 1: too-long", 8_196 + 4_095),
+        (b"C ", b"0", "line 1: too-long", 8_196 + 4_095),
+        (
+            b"",
+            b"\n",
+            "line 1000001: too-many-lines",
+            1_000_001 + 4_095,
+        ),
+    ] {
+        expect_endless(&rt, rt.alloc(), Endless::new(first, again), wanted, most)?;
+    }
+    Ok(())
+}
+
+/// Fails unless this is told of what a reader without an end gives, once it gave so many bytes at most.
+fn expect_endless(
+    rt: &impl Abort,
+    alloc: Global,
+    mut reader: Endless,
+    wanted: &str,
+    most: usize,
+) -> Result<(), Fail> {
+    let told = judged_text(alloc, &mut reader, greatest()?)?;
+    expect_text(rt, told.as_str(), wanted, &most);
+    expect_true(rt, reader.given <= most, &reader.given);
     Ok(())
 }

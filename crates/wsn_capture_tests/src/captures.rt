@@ -1,15 +1,18 @@
 //! Captures: what is reported of both sides, in the lines that are printed.
 
-use crate::capture_answers::{cut_small, handed, judged_text, limits_of, report_text};
+use crate::capture_answers::{cut_small, expect_judged, handed, limits_of, report_text};
+use crate::expecting::{expect_line, expect_text, expect_true};
+use std::alloc::Global;
+use std::process::Abort;
 use std::test::Fail;
-use wsn_capture::{Capture, LineFault, Outcome, Side};
+use wsn_capture::{Capture, LineFault, Outcome, Report, Side};
 use wsn_doubles::readers::{Chopped, READS};
 use wsn_doubles::rows::greatest;
 use wsn_scan::INPUT_MAX;
 use wsn_wire::Role;
 
 /// A capture, and the lines of its report.
-#[derive(Clone, Copy, Debug)]
+#[derive(Clone, Copy)]
 pub struct Row {
     pub name: &'static str,
     pub text: &'static str,
@@ -152,11 +155,16 @@ pub static ROWS: [Row; 20] = [
 fn reports_by_reads_of_every_size(rt: HostRuntime) -> Result<(), Fail> {
     let alloc = rt.alloc();
     for row in ROWS.iter() {
-        let name = row.name;
         for most in READS {
             let reader = Chopped::new(row.text.as_bytes(), most);
-            let told = judged_text(alloc, reader, greatest()?)?;
-            assert_eq!(rt; told.as_str(), row.report, "{name}, by {most}");
+            expect_judged(
+                &rt,
+                alloc,
+                reader,
+                greatest()?,
+                row.report,
+                &(row.name, most),
+            )?;
         }
     }
     Ok(())
@@ -164,14 +172,18 @@ fn reports_by_reads_of_every_size(rt: HostRuntime) -> Result<(), Fail> {
 
 #[test]
 fn reports_of_lines_handed_one_by_one(rt: HostRuntime) -> Result<(), Fail> {
-    let alloc = rt.alloc();
     for row in ROWS.iter() {
-        let name = row.name;
-        let (capture, fault) = handed(row.text, greatest()?);
-        assert!(rt; fault.is_none(), "{name}");
-        let told = report_text(alloc, &capture.report())?;
-        assert_eq!(rt; told.as_str(), row.report, "{name}");
+        expect_handed(&rt, rt.alloc(), row)?;
     }
+    Ok(())
+}
+
+/// Fails unless this is reported of lines that are handed one by one.
+fn expect_handed(rt: &impl Abort, alloc: Global, row: &Row) -> Result<(), Fail> {
+    let (capture, fault) = handed(row.text, greatest()?);
+    expect_true(rt, fault.is_none(), &row.name);
+    let told = report_text(alloc, &capture.report())?;
+    expect_text(rt, told.as_str(), row.report, &row.name);
     Ok(())
 }
 
@@ -179,11 +191,9 @@ fn reports_of_lines_handed_one_by_one(rt: HostRuntime) -> Result<(), Fail> {
 fn reports_of_a_line_for_each_byte(rt: HostRuntime) -> Result<(), Fail> {
     let alloc = rt.alloc();
     for row in ROWS.iter() {
-        let name = row.name;
         let small = cut_small(alloc, row.text)?;
         let reader = Chopped::new(small.as_bytes(), usize::MAX);
-        let told = judged_text(alloc, reader, greatest()?)?;
-        assert_eq!(rt; told.as_str(), row.report, "{name}");
+        expect_judged(&rt, alloc, reader, greatest()?, row.report, &row.name)?;
     }
     Ok(())
 }
@@ -191,14 +201,16 @@ fn reports_of_a_line_for_each_byte(rt: HostRuntime) -> Result<(), Fail> {
 #[test]
 fn a_report_has_its_parts(rt: HostRuntime) -> Result<(), Fail> {
     let (capture, _fault) = handed("C 88820000000003e8\nS 8800", limits_of(INPUT_MAX)?);
-    let report = capture.report();
-    assert_eq!(rt; report.client, Side::Closed(Some(1000)));
-    assert_eq!(rt; report.server, Side::Closed(None));
-    assert_eq!(rt; report.first, Some(Role::Client));
-    assert_eq!(rt; report.echo, Some(false));
-    assert_eq!(rt; report.client_sees, Some(1005));
-    assert_eq!(rt; report.server_sees, Some(1000));
-    assert_eq!(rt; report.outcome, Outcome::Complete);
+    let wanted = Report {
+        client: Side::Closed(Some(1000)),
+        server: Side::Closed(None),
+        first: Some(Role::Client),
+        echo: Some(false),
+        client_sees: Some(1005),
+        server_sees: Some(1000),
+        outcome: Outcome::Complete,
+    };
+    assert_eq!(rt; capture.report(), wanted);
     Ok(())
 }
 
@@ -206,16 +218,22 @@ fn a_report_has_its_parts(rt: HostRuntime) -> Result<(), Fail> {
 #[test]
 fn the_limit_is_one_of_each_side(rt: HostRuntime) -> Result<(), Fail> {
     let mut capture = Capture::new(limits_of(1)?);
-    assert_eq!(rt; capture.line(b"S 8100"), Err(LineFault::InputLimit));
-    assert_eq!(rt; capture.report().server, Side::Running);
-    assert_eq!(rt; capture.line(b"S c1"), Ok(()));
-    assert_eq!(rt; capture.line(b"S 00"), Err(LineFault::InputLimit));
-    assert_eq!(rt; capture.line(b"C c1"), Ok(()));
-    assert_eq!(rt; capture.line(b"S."), Ok(()));
-    let mut none = Capture::new(limits_of(0)?);
-    assert_eq!(rt; none.line(b"C 00"), Err(LineFault::InputLimit));
-    assert_eq!(rt; none.line(b"C."), Ok(()));
-    assert_eq!(rt; none.report().client, Side::Ended);
+    expect_line(&rt, &mut capture, b"S 8100", Err(LineFault::InputLimit));
+    expect_true(&rt, capture.report().server == Side::Running, &"S 8100");
+    expect_line(&rt, &mut capture, b"S c1", Ok(()));
+    expect_line(&rt, &mut capture, b"S 00", Err(LineFault::InputLimit));
+    expect_line(&rt, &mut capture, b"C c1", Ok(()));
+    expect_line(&rt, &mut capture, b"S.", Ok(()));
+    Ok(())
+}
+
+/// A limit of none leaves room for the end mark alone.
+#[test]
+fn a_limit_of_no_bytes(rt: HostRuntime) -> Result<(), Fail> {
+    let mut capture = Capture::new(limits_of(0)?);
+    expect_line(&rt, &mut capture, b"C 00", Err(LineFault::InputLimit));
+    expect_line(&rt, &mut capture, b"C.", Ok(()));
+    expect_true(&rt, capture.report().client == Side::Ended, &"C.");
     Ok(())
 }
 
@@ -223,8 +241,8 @@ fn the_limit_is_one_of_each_side(rt: HostRuntime) -> Result<(), Fail> {
 #[test]
 fn what_is_behind_a_refusal_counts(rt: HostRuntime) -> Result<(), Fail> {
     let mut capture = Capture::new(limits_of(3)?);
-    assert_eq!(rt; capture.line(b"S c1"), Ok(()));
-    assert_eq!(rt; capture.line(b"S 0000"), Ok(()));
-    assert_eq!(rt; capture.line(b"S 00"), Err(LineFault::InputLimit));
+    expect_line(&rt, &mut capture, b"S c1", Ok(()));
+    expect_line(&rt, &mut capture, b"S 0000", Ok(()));
+    expect_line(&rt, &mut capture, b"S 00", Err(LineFault::InputLimit));
     Ok(())
 }

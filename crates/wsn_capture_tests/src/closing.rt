@@ -4,13 +4,13 @@
 use crate::capture_answers::limits_of;
 use crate::capture_lines::FAULTY;
 use crate::captures::ROWS;
-use crate::expecting::expect_outcome;
-use std::alloc::Global;
+use crate::expecting::{expect_bytes, expect_outcome, expect_true};
+use std::alloc::{Allocator, Global};
 use std::io::ErrorKind;
 use std::process::Abort;
 use std::test::Fail;
 use wsn_doubles::heaps::heap_of;
-use wsn_doubles::outcomes::outcome_on;
+use wsn_doubles::outcomes::{Outcome, outcome_on};
 use wsn_doubles::readers::{Chopped, READS};
 use wsn_doubles::rows::{filled, greatest};
 use wsn_doubles::writers::{FULL, Full, Narrow};
@@ -25,7 +25,7 @@ const KINDS: [ErrorKind; 3] = [
     ErrorKind::WouldBlock,
 ];
 
-/// What a run is to leave: its status, what goes out, and what is told.
+/// What a run is to leave: its status, what goes out, and the line that is told, if any.
 #[derive(Clone, Copy)]
 struct Wanted<'a> {
     status: u8,
@@ -36,7 +36,7 @@ struct Wanted<'a> {
 const READ_FAILED: Wanted<'static> = Wanted {
     status: 2,
     out: "",
-    told: "read failed\n",
+    told: "read failed",
 };
 
 /// A capture's text, read by at most so many bytes a call. A read may fail behind so many of them.
@@ -75,15 +75,24 @@ fn expect(
     given: Given,
     wanted: Wanted,
 ) -> Result<(), Fail> {
-    let (out, told) = (wanted.out.as_bytes(), wanted.told.as_bytes());
     let heap = heap_of(alloc, 0)?;
-    let job = Job::Closing(limits);
-    let done = outcome_on(&heap, alloc, &job, given.reader(), Narrow::wide(alloc));
-    expect_outcome(rt, &done, wanted.status, out, told);
-    let job = Job::Closing(limits);
-    let done = outcome_on(alloc, alloc, &job, given.reader(), Narrow::wide(alloc));
-    expect_outcome(rt, &done, wanted.status, out, told);
+    expect_on(rt, &heap, alloc, limits, given, wanted);
+    expect_on(rt, alloc, alloc, limits, given, wanted);
     Ok(())
+}
+
+/// Runs the command with memory from this heap.
+fn expect_on<A: Allocator + Copy>(
+    rt: &impl Abort,
+    heap: A,
+    alloc: Global,
+    limits: Limits,
+    given: Given,
+    wanted: Wanted,
+) {
+    let job = Job::Closing(limits);
+    let done = outcome_on(heap, alloc, &job, given.reader(), Narrow::wide(alloc));
+    expect_outcome(rt, &done, wanted.status, wanted.out.as_bytes(), wanted.told);
 }
 
 /// The same where a line isn't taken.
@@ -94,11 +103,10 @@ fn expect_fault(
     given: Given,
     words: &str,
 ) -> Result<(), Fail> {
-    let line = format!(in alloc; "{words}\n")?;
     let wanted = Wanted {
         status: 2,
         out: "",
-        told: line.as_str(),
+        told: words,
     };
     expect(rt, alloc, limits, given, wanted)
 }
@@ -129,6 +137,12 @@ fn the_first_faulty_line_is_told(rt: HostRuntime) -> Result<(), Fail> {
             expect_fault(&rt, alloc, greatest()?, given, words)?;
         }
     }
+    Ok(())
+}
+
+#[test]
+fn a_line_past_a_limit_is_told(rt: HostRuntime) -> Result<(), Fail> {
+    let alloc = rt.alloc();
     let given = Given::whole(b"C 81\nS 81\nS 00\n", 4_096);
     expect_fault(&rt, alloc, limits_of(1)?, given, "line 3: input-limit")?;
     let long = filled(alloc, b"#\n#", b'#', 8_194)?;
@@ -206,33 +220,41 @@ fn a_faulty_line_is_told_before_a_failed_read(rt: HostRuntime) -> Result<(), Fai
 /// Nothing goes out behind a failed write, also where the writer would take more.
 #[test]
 fn a_failed_write_is_told_at_every_byte(rt: HostRuntime) -> Result<(), Fail> {
-    let alloc = rt.alloc();
-    let heap = heap_of(alloc, 0)?;
     for row in ROWS.iter() {
         let report = row.report.as_bytes();
         for room in 0..report.len() {
-            for full in FULL {
-                let job = Job::Closing(greatest()?);
-                let reader = Chopped::new(row.text.as_bytes(), usize::MAX);
-                let writer = Narrow::new(alloc, usize::MAX, room, full);
-                let done = outcome_on(&heap, alloc, &job, reader, writer);
-                expect_outcome(&rt, &done, 2, &report[..room], b"write failed\n");
-            }
+            expect_full(&rt, rt.alloc(), row.text, &report[..room])?;
         }
     }
     Ok(())
 }
 
+/// Fails unless a failed write behind these first bytes of a report is told, whatever the writer does then.
+fn expect_full(rt: &impl Abort, alloc: Global, text: &str, front: &[u8]) -> Result<(), Fail> {
+    for full in FULL {
+        let reader = Chopped::new(text.as_bytes(), usize::MAX);
+        let writer = Narrow::new(alloc, usize::MAX, front.len(), full);
+        let done = closed(alloc, reader, writer)?;
+        expect_outcome(rt, &done, 2, front, "write failed");
+    }
+    Ok(())
+}
+
+/// What a run leaves with no memory to be had, over this reader and writer.
+fn closed(alloc: Global, reader: Chopped, writer: Narrow) -> Result<Outcome, Fail> {
+    let heap = heap_of(alloc, 0)?;
+    let job = Job::Closing(greatest()?);
+    Ok(outcome_on(&heap, alloc, &job, reader, writer))
+}
+
 #[test]
 fn a_writer_may_take_one_byte_a_call(rt: HostRuntime) -> Result<(), Fail> {
     let alloc = rt.alloc();
-    let heap = heap_of(alloc, 0)?;
     for row in ROWS.iter() {
-        let job = Job::Closing(greatest()?);
         let reader = Chopped::new(row.text.as_bytes(), 1);
         let writer = Narrow::new(alloc, 1, usize::MAX, Full::Fails);
-        let done = outcome_on(&heap, alloc, &job, reader, writer);
-        expect_outcome(&rt, &done, row.status(), row.report.as_bytes(), &[]);
+        let done = closed(alloc, reader, writer)?;
+        expect_outcome(&rt, &done, row.status(), row.report.as_bytes(), "");
     }
     Ok(())
 }
@@ -240,23 +262,28 @@ fn a_writer_may_take_one_byte_a_call(rt: HostRuntime) -> Result<(), Fail> {
 /// Where the second output fails, the status says it all.
 #[test]
 fn a_stop_that_cannot_be_told_has_its_status(rt: HostRuntime) -> Result<(), Fail> {
-    let alloc = rt.alloc();
     let line = b"line 1: bad-form\n";
     for room in 0..line.len() {
         for full in FULL {
-            let mut out = Vec::new(alloc);
-            let mut told = Narrow::new(alloc, usize::MAX, room, full);
-            let status = run(
-                alloc,
-                &Job::Closing(greatest()?),
-                &mut Input::new(Chopped::new(b"X\n", 1)),
-                &mut Output::new(&mut out),
-                &mut Output::new(&mut told),
-            );
-            assert_eq!(rt; status, 2);
-            assert!(rt; out.is_empty());
-            assert_eq!(rt; told.taken.as_slice(), &line[..room]);
+            expect_untold(&rt, rt.alloc(), full, &line[..room])?;
         }
     }
+    Ok(())
+}
+
+/// Fails unless a bad form has its status where its line can't be written behind these first bytes.
+fn expect_untold(rt: &impl Abort, alloc: Global, full: Full, front: &[u8]) -> Result<(), Fail> {
+    let job = Job::Closing(greatest()?);
+    let mut out = Vec::new(alloc);
+    let mut told = Narrow::new(alloc, usize::MAX, front.len(), full);
+    let status = run(
+        alloc,
+        &job,
+        &mut Input::new(Chopped::new(b"X\n", 1)),
+        &mut Output::new(&mut out),
+        &mut Output::new(&mut told),
+    );
+    expect_true(rt, status == 2 && out.is_empty(), &(full, status));
+    expect_bytes(rt, told.taken.as_slice(), front, &full);
     Ok(())
 }

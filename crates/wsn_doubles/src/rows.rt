@@ -7,7 +7,7 @@ use wsn_scan::{INPUT_MAX, Limits, MESSAGE_MAX};
 use wsn_wire::{Lengths, Role};
 
 /// A stream, and what must come of it.
-#[derive(Clone, Copy, Debug)]
+#[derive(Clone, Copy)]
 pub struct Row {
     pub name: &'static str,
     pub role: Role,
@@ -29,7 +29,7 @@ pub struct Row {
 }
 
 /// A byte many times over: so often in the stream, and so often in its normal form.
-#[derive(Clone, Copy, Debug)]
+#[derive(Clone, Copy)]
 pub struct Fill {
     pub byte: u8,
     pub count: usize,
@@ -100,7 +100,7 @@ pub fn greatest() -> Result<Limits, Fail> {
 }
 
 /// A row in memory.
-#[derive(Debug, Drop)]
+#[derive(Drop)]
 pub struct Stream {
     pub name: &'static str,
     pub role: Role,

@@ -1,6 +1,7 @@
 //! Plans of a million steps, and streams of a million frames. Work that grows with the square of these wouldn't end in
 //! the minute that a test has.
 
+use crate::expecting::{expect_line, expect_true};
 use std::alloc::Global;
 use std::process::Abort;
 use std::test::Fail;
@@ -8,95 +9,134 @@ use wsn_doubles::engines::{Sizes, planned, recut_by, recut_uniformly};
 use wsn_doubles::lines::recut_line;
 use wsn_doubles::readers::Chopped;
 use wsn_doubles::rows::{filled, greatest};
-use wsn_plan::{Plan, PlanAnswer, read_plan, write_plan};
+use wsn_plan::{Plan, PlanAnswer, RecutAnswer, read_plan, write_plan};
+use wsn_scan::Stop;
 use wsn_wire::{Output, Role};
 
 const MANY: usize = 1_000_000;
 
-/// The same text so many times.
-fn repeated(alloc: Global, text: &[u8], count: usize) -> Result<Vec<u8>, Fail> {
-    let mut all = Vec::new(alloc);
+/// The same bytes so many times, between these.
+fn repeated(
+    alloc: Global,
+    first: &[u8],
+    again: &[u8],
+    count: usize,
+    last: &[u8],
+) -> Result<Vec<u8>, Fail> {
+    let mut all = first.to_vec(alloc)?;
     for _ in 0..count {
-        all.extend_from_slice(text)?;
+        all.extend_from_slice(again)?;
     }
+    all.extend_from_slice(last)?;
     Ok(all)
 }
 
-/// Cuts a server's stream by a plan that fits.
-fn cut(rt: &impl Abort, alloc: Global, bytes: &[u8], plan: &Plan) -> Result<Vec<u8>, Fail> {
+/// Fails unless a recut is done, and wrote these bytes.
+fn expect_done(
+    rt: &impl Abort,
+    alloc: Global,
+    answer: &Result<RecutAnswer, Stop>,
+    out: &[u8],
+    wanted: &[u8],
+) -> Result<(), Fail> {
+    let line = recut_line(alloc, answer)?;
+    expect_line(rt, line.as_str(), "done", &wanted.len());
+    expect_true(rt, out == wanted, &wanted.len());
+    Ok(())
+}
+
+/// Fails unless these bytes come of a server's stream by a plan.
+fn expect_cut(
+    rt: &impl Abort,
+    alloc: Global,
+    bytes: &[u8],
+    plan: &Plan,
+    wanted: &[u8],
+) -> Result<(), Fail> {
+    let limits = greatest()?;
     let mut out = Vec::new(alloc);
     let reader = Chopped::new(bytes, usize::MAX);
-    let answer = recut_by(alloc, Role::Server, greatest()?, plan, reader, &mut out);
-    assert_eq!(rt; recut_line(alloc, &answer)?.as_str(), "done");
-    Ok(out)
+    let answer = recut_by(alloc, Role::Server, limits, plan, reader, &mut out);
+    expect_done(rt, alloc, &answer, out.as_slice(), wanted)
+}
+
+/// Fails unless these bytes come of a server's stream in frames of a byte.
+fn expect_cut_in_bytes(
+    rt: &impl Abort,
+    alloc: Global,
+    bytes: &[u8],
+    wanted: &[u8],
+) -> Result<(), Fail> {
+    let limits = greatest()?;
+    let mut out = Vec::new(alloc);
+    let sizes = Sizes {
+        size: 1,
+        weave: true,
+    };
+    let reader = Chopped::new(bytes, usize::MAX);
+    let answer = recut_uniformly(alloc, Role::Server, limits, sizes, reader, &mut out);
+    expect_done(rt, alloc, &answer, out.as_slice(), wanted)
 }
 
 #[test]
 fn a_million_steps_are_read_and_written(rt: HostRuntime) -> Result<(), Fail> {
     let alloc = rt.alloc();
-    let text = repeated(alloc, b"piece 1 01020304 two\n", MANY)?;
+    let text = repeated(alloc, b"", b"piece 1 01020304 two\n", MANY, b"")?;
     let plan = read_plan(alloc, text.as_slice())?;
-    assert_eq!(rt; plan.steps().len(), MANY);
+    expect_true(&rt, plan.steps().len() == MANY, &plan.steps().len());
     let mut out = Vec::new(alloc);
     write_plan(&mut Output::new(&mut out), &plan)?;
-    assert!(rt; out.as_slice() == text.as_slice());
+    expect_true(&rt, out.as_slice() == text.as_slice(), &out.len());
     Ok(())
+}
+
+/// Fails unless this is the plan of a server's stream.
+fn expect_planned(rt: &impl Abort, alloc: Global, bytes: &[u8], plan: &Plan) -> Result<(), Fail> {
+    let reader = Chopped::new(bytes, usize::MAX);
+    match planned(alloc, Role::Server, greatest()?, reader)? {
+        PlanAnswer::Plan(own) => {
+            expect_true(rt, own.steps() == plan.steps(), &own.steps().len());
+            Ok(())
+        }
+        _ => Err(Fail::from("no plan")),
+    }
 }
 
 #[test]
 fn a_million_controls_are_planned_and_cut(rt: HostRuntime) -> Result<(), Fail> {
     let alloc = rt.alloc();
-    let pings = repeated(alloc, b"\x89\x00", MANY)?;
-    let text = repeated(alloc, b"control -\n", MANY)?;
+    let pings = repeated(alloc, b"", b"\x89\x00", MANY, b"")?;
+    let text = repeated(alloc, b"", b"control -\n", MANY, b"")?;
     let plan = read_plan(alloc, text.as_slice())?;
-    let out = cut(&rt, alloc, pings.as_slice(), &plan)?;
-    assert!(rt; out.as_slice() == pings.as_slice());
-    let reader = Chopped::new(pings.as_slice(), usize::MAX);
-    let PlanAnswer::Plan(own) = planned(alloc, Role::Server, greatest()?, reader)? else {
-        panic!(rt; "no plan");
-    };
-    assert!(rt; own.steps() == plan.steps());
-    Ok(())
+    expect_cut(&rt, alloc, pings.as_slice(), &plan, pings.as_slice())?;
+    expect_planned(&rt, alloc, pings.as_slice(), &plan)
 }
 
 /// Pieces that stand in front of a million controls belong to the message behind these.
 #[test]
 fn a_million_controls_in_front_of_a_message_are_cut(rt: HostRuntime) -> Result<(), Fail> {
     let alloc = rt.alloc();
-    let mut bytes = repeated(alloc, b"\x8a\x00", MANY)?;
-    bytes.extend_from_slice(b"\x82\x02AB")?;
-    let mut text = repeated(alloc, b"piece 0 -\ncontrol -\n", MANY)?;
-    text.extend_from_slice(b"last -\n")?;
+    let bytes = repeated(alloc, b"", b"\x8a\x00", MANY, b"\x82\x02AB")?;
+    let text = repeated(alloc, b"", b"piece 0 -\ncontrol -\n", MANY, b"last -\n")?;
+    let (first, again, last) = (b"\x02\x00\x8a\x00", b"\x00\x00\x8a\x00", b"\x80\x02AB");
+    let wanted = repeated(alloc, first, again, MANY - 1, last)?;
     let plan = read_plan(alloc, text.as_slice())?;
-    let out = cut(&rt, alloc, bytes.as_slice(), &plan)?;
-    let mut wanted = b"\x02\x00\x8a\x00".to_vec(alloc)?;
-    wanted.extend_from_slice(repeated(alloc, b"\x00\x00\x8a\x00", MANY - 1)?.as_slice())?;
-    wanted.extend_from_slice(b"\x80\x02AB")?;
-    assert!(rt; out.as_slice() == wanted.as_slice());
-    Ok(())
+    expect_cut(&rt, alloc, bytes.as_slice(), &plan, wanted.as_slice())
+}
+
+/// The plan of a message in a million frames of a byte.
+fn plan_of_bytes(alloc: Global) -> Result<Plan, Fail> {
+    let text = repeated(alloc, b"", b"piece 1 -\n", MANY - 1, b"last -\n")?;
+    Ok(read_plan(alloc, text.as_slice())?)
 }
 
 #[test]
 fn a_message_is_cut_in_a_million_frames(rt: HostRuntime) -> Result<(), Fail> {
     let alloc = rt.alloc();
     let message = filled(alloc, b"\x82\x7f\0\0\0\0\0\x0f\x42\x40", 0x2a, MANY)?;
-    let mut text = repeated(alloc, b"piece 1 -\n", MANY - 1)?;
-    text.extend_from_slice(b"last -\n")?;
-    let mut wanted = b"\x02\x01\x2a".to_vec(alloc)?;
-    wanted.extend_from_slice(repeated(alloc, b"\x00\x01\x2a", MANY - 2)?.as_slice())?;
-    wanted.extend_from_slice(b"\x80\x01\x2a")?;
-    let plan = read_plan(alloc, text.as_slice())?;
-    let out = cut(&rt, alloc, message.as_slice(), &plan)?;
-    assert!(rt; out.as_slice() == wanted.as_slice());
-
-    let mut out = Vec::new(alloc);
-    let sizes = Sizes {
-        size: 1,
-        weave: true,
-    };
-    let reader = Chopped::new(message.as_slice(), usize::MAX);
-    let answer = recut_uniformly(alloc, Role::Server, greatest()?, sizes, reader, &mut out);
-    assert_eq!(rt; recut_line(alloc, &answer)?.as_str(), "done");
-    assert!(rt; out.as_slice() == wanted.as_slice());
-    Ok(())
+    let (first, again, last) = (b"\x02\x01\x2a", b"\x00\x01\x2a", b"\x80\x01\x2a");
+    let wanted = repeated(alloc, first, again, MANY - 2, last)?;
+    let plan = plan_of_bytes(alloc)?;
+    expect_cut(&rt, alloc, message.as_slice(), &plan, wanted.as_slice())?;
+    expect_cut_in_bytes(&rt, alloc, message.as_slice(), wanted.as_slice())
 }

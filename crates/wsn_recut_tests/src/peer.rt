@@ -1,5 +1,6 @@
 //! A real peer, the kit's `tungstenite`: its server reads what is written here, and what it writes is read here.
 
+use crate::expecting::{expect_line, expect_true};
 use std::alloc::Global;
 use std::process::Abort;
 use std::test::Fail;
@@ -55,23 +56,48 @@ fn kind_and_len(message: &Message) -> (&'static str, usize) {
 
 /// A server reads the session from these bytes, and another sends its data messages on.
 fn expect_session(rt: &impl Abort, alloc: Global, bytes: &[u8]) -> Result<(), Fail> {
+    let wanted = messages(alloc)?;
+    let sent = passed_on(rt, alloc, bytes)?;
+    expect_equal(rt, alloc, sent.as_slice(), wanted.as_slice())
+}
+
+/// What a server writes that sends on the data messages of the session, which another reads from these bytes.
+fn passed_on(rt: &impl Abort, alloc: Global, bytes: &[u8]) -> Result<Vec<u8>, Fail> {
     let mut reading = server(alloc, bytes);
     let mut sending = server(alloc, b"");
-    for wanted in [
+    for (kind, len) in [
         ("text", 5),
         ("ping", 1),
         ("binary", 300),
         ("text", 3),
         ("close", 3),
     ] {
-        let message = reading.read()?;
-        assert_eq!(rt; kind_and_len(&message), wanted);
-        if message.is_text() || message.is_binary() {
-            sending.send(message)?;
-        }
+        pass_on(rt, &mut reading, &mut sending, kind, len)?;
     }
-    let sent = sending.into_inner().writer;
-    expect_equal(rt, alloc, sent.as_slice(), messages(alloc)?.as_slice())
+    Ok(sending.into_inner().writer)
+}
+
+/// Fails unless a message is of this kind and length.
+fn expect_message(rt: &impl Abort, message: &Message, kind: &str, len: usize) {
+    let (kind_read, len_read) = kind_and_len(message);
+    expect_line(rt, kind_read, kind, &len);
+    expect_true(rt, len_read == len, &kind);
+}
+
+/// A server reads a message of this kind and length, and another sends it on if it is of data.
+fn pass_on(
+    rt: &impl Abort,
+    reading: &mut Server,
+    sending: &mut Server,
+    kind: &str,
+    len: usize,
+) -> Result<(), Fail> {
+    let message = reading.read()?;
+    expect_message(rt, &message, kind, len);
+    if message.is_text() || message.is_binary() {
+        sending.send(message)?;
+    }
+    Ok(())
 }
 
 /// Fails unless two streams of a server mean the same.
@@ -83,7 +109,8 @@ fn expect_equal(rt: &impl Abort, alloc: Global, first: &[u8], second: &[u8]) -> 
         Role::Server,
         greatest()?,
     );
-    assert_eq!(rt; compared_line(alloc, &answer)?.as_str(), "equal");
+    let line = compared_line(alloc, &answer)?;
+    expect_line(rt, line.as_str(), "equal", &first.len());
     Ok(())
 }
 
@@ -99,29 +126,51 @@ fn a_server_reads_frames_of_each_size(rt: HostRuntime) -> Result<(), Fail> {
     let bytes = session(alloc)?;
     for size in [1, 2, 125, 65_536] {
         for weave in [false, true] {
-            let mut out = Vec::new(alloc);
-            let sizes = Sizes { size, weave };
-            let reader = Chopped::new(bytes.as_slice(), usize::MAX);
-            let answer = recut_uniformly(alloc, Role::Client, greatest()?, sizes, reader, &mut out);
-            assert_eq!(rt; recut_line(alloc, &answer)?.as_str(), "done");
-            expect_session(&rt, alloc, out.as_slice())?;
+            expect_session_in(&rt, alloc, bytes.as_slice(), Sizes { size, weave })?;
         }
     }
+    Ok(())
+}
+
+/// A server reads the session in frames of one size.
+fn expect_session_in(
+    rt: &impl Abort,
+    alloc: Global,
+    bytes: &[u8],
+    sizes: Sizes,
+) -> Result<(), Fail> {
+    let limits = greatest()?;
+    let mut out = Vec::new(alloc);
+    let reader = Chopped::new(bytes, usize::MAX);
+    let answer = recut_uniformly(alloc, Role::Client, limits, sizes, reader, &mut out);
+    let line = recut_line(alloc, &answer)?;
+    expect_line(rt, line.as_str(), "done", &sizes);
+    expect_session(rt, alloc, out.as_slice())
+}
+
+/// What a server writes of text "Hello", 126 bytes of binary, and close 1000.
+fn sent(alloc: Global) -> Result<Vec<u8>, Fail> {
+    let mut socket = server(alloc, b"");
+    send_data(alloc, &mut socket)?;
+    socket.close(Some(CloseFrame {
+        code: CloseCode::Normal,
+        reason: Utf8Bytes::from_static(""),
+    }))?;
+    Ok(socket.into_inner().writer)
+}
+
+/// Sends text "Hello" and 126 bytes of binary.
+fn send_data(alloc: Global, socket: &mut Server) -> Result<(), Fail> {
+    socket.send(Message::text(alloc, "Hello")?)?;
+    let binary = filled(alloc, b"", 0x2a, 126)?;
+    socket.send(Message::binary(alloc, binary.as_slice())?)?;
     Ok(())
 }
 
 #[test]
 fn what_a_server_writes_is_accepted(rt: HostRuntime) -> Result<(), Fail> {
     let alloc = rt.alloc();
-    let mut socket = server(alloc, b"");
-    socket.send(Message::text(alloc, "Hello")?)?;
-    let binary = filled(alloc, b"", 0x2a, 126)?;
-    socket.send(Message::binary(alloc, binary.as_slice())?)?;
-    socket.close(Some(CloseFrame {
-        code: CloseCode::Normal,
-        reason: Utf8Bytes::from_static(""),
-    }))?;
-    let sent = socket.into_inner().writer;
+    let sent = sent(alloc)?;
     let mut wanted = filled(alloc, b"\x81\x05Hello\x82\x7e\x00\x7e", 0x2a, 126)?;
     wanted.extend_from_slice(b"\x88\x02\x03\xe8")?;
     expect_equal(&rt, alloc, sent.as_slice(), wanted.as_slice())

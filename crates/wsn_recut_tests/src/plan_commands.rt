@@ -1,16 +1,14 @@
 //! `wsn plan` and `wsn recut`: the plan or the recut on standard output, what keeps the command from it in one line on
 //! standard error, and the status.
 
-use crate::expecting::expect_outcome;
-use crate::plans::{self, PLANNED};
+use crate::expecting::{expect_outcome, expect_true};
+use crate::plans::{self, PLANNED, Planned};
 use crate::recut_faults::{FAULTS, STOPS};
 use crate::recut_memory;
 use crate::recuts::{Cut, FITS};
-use crate::uniform_recuts::{CUTS, SizedCut};
 use std::alloc::{Allocator, Global};
 use std::process::Abort;
 use std::test::Fail;
-use wsn_doubles::engines::KEY;
 use wsn_doubles::heaps::heap_of;
 use wsn_doubles::outcomes::{Outcome, outcome_on};
 use wsn_doubles::readers::Chopped;
@@ -30,19 +28,32 @@ fn status_of(line: &str) -> u8 {
 }
 
 /// Fails unless a command ended so: with these bytes on standard output, and this line on standard error, if any.
-fn expect_end(
+pub fn expect_end(rt: &impl Abort, done: &Outcome, out: &[u8], line: &str) {
+    expect_outcome(rt, done, status_of(line), out, line);
+}
+
+/// Runs the command that plans the stream of a row, over this reader and writer, with memory from this heap.
+fn planned_on<A: Allocator + Copy>(
+    heap: A,
+    alloc: Global,
+    row: &Planned,
+    reader: Chopped,
+    writer: Narrow,
+) -> Result<Outcome, Fail> {
+    let job = Job::Plan(row.role, limits_under(&row.under)?);
+    Ok(outcome_on(heap, alloc, &job, reader, writer))
+}
+
+/// Fails unless the command that plans the stream of a row ends so, over this reader and writer.
+fn expect_planned(
     rt: &impl Abort,
     alloc: Global,
-    done: &Outcome,
-    out: &[u8],
-    line: &str,
+    row: &Planned,
+    over: (Chopped, Narrow),
+    wanted: (&[u8], &str),
 ) -> Result<(), Fail> {
-    let said = if line.is_empty() {
-        String::new(alloc)
-    } else {
-        format!(in alloc; "{line}\n")?
-    };
-    expect_outcome(rt, done, status_of(line), out, said.as_bytes());
+    let done = planned_on(alloc, alloc, row, over.0, over.1)?;
+    expect_end(rt, &done, wanted.0, wanted.1);
     Ok(())
 }
 
@@ -50,18 +61,16 @@ fn expect_end(
 fn plans_are_printed(rt: HostRuntime) -> Result<(), Fail> {
     let alloc = rt.alloc();
     for row in PLANNED.iter() {
-        let job = Job::Plan(row.role, limits_under(&row.under)?);
-        let reader = Chopped::new(row.bytes, 3);
-        let done = outcome_on(alloc, alloc, &job, reader, Narrow::wide(alloc));
-        let line = if row.line == "plan" { "" } else { row.line };
-        expect_end(&rt, alloc, &done, row.text.as_bytes(), line)?;
+        let over = (Chopped::new(row.bytes, 3), Narrow::wide(alloc));
+        let wanted = (row.text.as_bytes(), told(row.line));
+        expect_planned(&rt, alloc, row, over, wanted)?;
     }
     Ok(())
 }
 
 /// The line of a stream with this line, read by a reader that fails behind so many bytes of so many: a refusal is told
 /// once its byte came.
-fn line_of_front(line: &'static str, count: usize, whole: usize) -> &'static str {
+pub fn line_of_front(line: &'static str, count: usize, whole: usize) -> &'static str {
     if count == whole && line.starts_with("refused") {
         line
     } else {
@@ -74,11 +83,9 @@ fn a_failed_read_is_told_of_a_plan(rt: HostRuntime) -> Result<(), Fail> {
     let alloc = rt.alloc();
     for row in PLANNED.iter() {
         for count in 0..=row.bytes.len() {
-            let job = Job::Plan(row.role, limits_under(&row.under)?);
             let reader = Chopped::breaking(&row.bytes[..count], 3);
-            let done = outcome_on(alloc, alloc, &job, reader, Narrow::wide(alloc));
             let line = line_of_front(row.line, count, row.bytes.len());
-            expect_end(&rt, alloc, &done, b"", line)?;
+            expect_planned(&rt, alloc, row, (reader, Narrow::wide(alloc)), (b"", line))?;
         }
     }
     Ok(())
@@ -88,58 +95,64 @@ fn a_failed_read_is_told_of_a_plan(rt: HostRuntime) -> Result<(), Fail> {
 fn a_failed_write_is_told_of_a_plan(rt: HostRuntime) -> Result<(), Fail> {
     let alloc = rt.alloc();
     for row in PLANNED.iter() {
-        for full in FULL {
-            for room in 0..row.text.len() {
-                let job = Job::Plan(row.role, limits_under(&row.under)?);
-                let reader = Chopped::new(row.bytes, 3);
-                let writer = Narrow::new(alloc, 1, room, full);
-                let done = outcome_on(alloc, alloc, &job, reader, writer);
-                expect_end(
-                    &rt,
-                    alloc,
-                    &done,
-                    &row.text.as_bytes()[..room],
-                    "write failed",
-                )?;
-            }
+        for room in 0..row.text.len() {
+            expect_unprinted(&rt, alloc, row, &row.text.as_bytes()[..room])?;
         }
+    }
+    Ok(())
+}
+
+/// Fails unless a failed write behind these first bytes of a plan is told, whatever the writer does then.
+fn expect_unprinted(
+    rt: &impl Abort,
+    alloc: Global,
+    row: &Planned,
+    front: &[u8],
+) -> Result<(), Fail> {
+    for full in FULL {
+        let over = (
+            Chopped::new(row.bytes, 3),
+            Narrow::new(alloc, 1, front.len(), full),
+        );
+        expect_planned(rt, alloc, row, over, (front, "write failed"))?;
     }
     Ok(())
 }
 
 /// Whether a command had memory enough. Fails unless it ended so then, and otherwise told that memory was refused, with
 /// nothing on standard output.
-fn is_served(
+pub fn is_served(rt: &impl Abort, done: &Outcome, out: &[u8], line: &str) -> bool {
+    if done.said.as_slice() == b"out of memory\n".as_slice() {
+        expect_end(rt, done, b"", "out of memory");
+        return false;
+    }
+    expect_end(rt, done, out, line);
+    true
+}
+
+/// Whether the command that plans the stream of a row has memory enough in a heap of so many blocks.
+fn is_plan_served(
     rt: &impl Abort,
     alloc: Global,
-    done: &Outcome,
-    out: &[u8],
-    line: &str,
+    row: &Planned,
+    blocks: usize,
 ) -> Result<bool, Fail> {
-    if done.said.as_slice() == b"out of memory\n".as_slice() {
-        expect_end(rt, alloc, done, b"", "out of memory")?;
-        return Ok(false);
-    }
-    expect_end(rt, alloc, done, out, line)?;
-    Ok(true)
+    let heap = heap_of(alloc, blocks)?;
+    let reader = Chopped::new(row.bytes, 3);
+    let done = planned_on(&heap, alloc, row, reader, Narrow::wide(alloc))?;
+    Ok(is_served(rt, &done, row.text.as_bytes(), told(row.line)))
 }
 
 /// Each growth refused in turn.
 #[test]
 fn refused_memory_is_told_of_a_plan(rt: HostRuntime) -> Result<(), Fail> {
-    let alloc = rt.alloc();
     for row in PLANNED.iter() {
-        let line = if row.line == "plan" { "" } else { row.line };
         let mut served = false;
         for blocks in 0..plans::BLOCKS {
-            let heap = heap_of(alloc, blocks)?;
-            let job = Job::Plan(row.role, limits_under(&row.under)?);
-            let reader = Chopped::new(row.bytes, 3);
-            let done = outcome_on(&heap, alloc, &job, reader, Narrow::wide(alloc));
-            served = is_served(&rt, alloc, &done, row.text.as_bytes(), line)?;
-            assert!(rt; !served || blocks > 0 || row.text.is_empty(), "{row:?}");
+            served = is_plan_served(&rt, rt.alloc(), row, blocks)?;
+            expect_true(&rt, !served || blocks > 0 || row.text.is_empty(), row);
         }
-        assert!(rt; served, "{row:?}");
+        expect_true(&rt, served, row);
     }
     Ok(())
 }
@@ -162,24 +175,43 @@ fn recut_on<A: Allocator + Copy>(
     Ok(Some(outcome_on(heap, alloc, &job, reader, writer)))
 }
 
-/// Runs a recut by the plan of a row, over this reader and writer, with all memory.
-fn recut_with(alloc: Global, cut: &Cut, reader: Chopped, writer: Narrow) -> Result<Outcome, Fail> {
-    let done = recut_on(alloc, alloc, cut, reader, writer)?;
-    Ok(done.ok_or("no memory for a plan")?)
+/// Fails unless a recut by the plan of a row ends so, over this reader and writer, with all memory.
+fn expect_recut(
+    rt: &impl Abort,
+    alloc: Global,
+    cut: &Cut,
+    over: (Chopped, Narrow),
+    wanted: (&[u8], &str),
+) -> Result<(), Fail> {
+    match recut_on(alloc, alloc, cut, over.0, over.1)? {
+        Some(done) => {
+            expect_end(rt, &done, wanted.0, wanted.1);
+            Ok(())
+        }
+        None => Err(Fail::from("no memory for a plan")),
+    }
 }
 
-/// The line that tells what came of a recut, if any.
-fn told(line: &'static str) -> &'static str {
-    if line == "done" { "" } else { line }
+/// The line that tells what came of a plan or a recut, if any.
+pub fn told(line: &'static str) -> &'static str {
+    match line {
+        "plan" | "done" => "",
+        _ => line,
+    }
 }
 
 #[test]
 fn recuts_by_a_plan_are_written(rt: HostRuntime) -> Result<(), Fail> {
-    let alloc = rt.alloc();
-    for cut in FITS.iter().chain(FAULTS.iter()).chain(STOPS.iter()) {
-        let reader = Chopped::new(cut.bytes, 3);
-        let done = recut_with(alloc, cut, reader, Narrow::wide(alloc))?;
-        expect_end(&rt, alloc, &done, cut.out, told(cut.line))?;
+    expect_written(&rt, rt.alloc(), FITS.as_slice())?;
+    expect_written(&rt, rt.alloc(), FAULTS.as_slice())?;
+    expect_written(&rt, rt.alloc(), STOPS.as_slice())
+}
+
+/// Fails unless the recuts of these rows are written, or what keeps them from it is told.
+fn expect_written(rt: &impl Abort, alloc: Global, cuts: &[Cut]) -> Result<(), Fail> {
+    for cut in cuts.iter() {
+        let over = (Chopped::new(cut.bytes, 3), Narrow::wide(alloc));
+        expect_recut(rt, alloc, cut, over, (cut.out, told(cut.line)))?;
     }
     Ok(())
 }
@@ -189,9 +221,11 @@ fn a_failed_read_is_told_of_a_recut(rt: HostRuntime) -> Result<(), Fail> {
     let alloc = rt.alloc();
     for cut in FITS.iter() {
         for count in 0..=cut.bytes.len() {
-            let reader = Chopped::breaking(&cut.bytes[..count], 3);
-            let done = recut_with(alloc, cut, reader, Narrow::wide(alloc))?;
-            expect_end(&rt, alloc, &done, b"", "read failed")?;
+            let over = (
+                Chopped::breaking(&cut.bytes[..count], 3),
+                Narrow::wide(alloc),
+            );
+            expect_recut(&rt, alloc, cut, over, (b"", "read failed"))?;
         }
     }
     Ok(())
@@ -201,117 +235,53 @@ fn a_failed_read_is_told_of_a_recut(rt: HostRuntime) -> Result<(), Fail> {
 fn a_failed_write_is_told_of_a_recut(rt: HostRuntime) -> Result<(), Fail> {
     let alloc = rt.alloc();
     for cut in FITS.iter() {
-        for full in FULL {
-            for room in 0..cut.out.len() {
-                let reader = Chopped::new(cut.bytes, 3);
-                let writer = Narrow::new(alloc, 1, room, full);
-                let done = recut_with(alloc, cut, reader, writer)?;
-                expect_end(&rt, alloc, &done, &cut.out[..room], "write failed")?;
-            }
+        for room in 0..cut.out.len() {
+            expect_unwritten(&rt, alloc, cut, &cut.out[..room])?;
         }
     }
     Ok(())
+}
+
+/// Fails unless a failed write behind these first bytes of a recut is told, whatever the writer does then.
+fn expect_unwritten(rt: &impl Abort, alloc: Global, cut: &Cut, front: &[u8]) -> Result<(), Fail> {
+    for full in FULL {
+        let over = (
+            Chopped::new(cut.bytes, 3),
+            Narrow::new(alloc, 1, front.len(), full),
+        );
+        expect_recut(rt, alloc, cut, over, (front, "write failed"))?;
+    }
+    Ok(())
+}
+
+/// Whether a recut by the plan of a row has memory enough in a heap of so many blocks. None, where the heap has no room
+/// for the plan.
+fn is_recut_served(
+    rt: &impl Abort,
+    alloc: Global,
+    cut: &Cut,
+    blocks: usize,
+) -> Result<Option<bool>, Fail> {
+    let heap = heap_of(alloc, blocks)?;
+    let reader = Chopped::new(cut.bytes, 3);
+    match recut_on(&heap, alloc, cut, reader, Narrow::wide(alloc))? {
+        Some(done) => Ok(Some(is_served(rt, &done, cut.out, told(cut.line)))),
+        None => Ok(None),
+    }
 }
 
 /// Each growth refused in turn, of the events and behind that of the plan.
 #[test]
 fn refused_memory_is_told_of_a_recut(rt: HostRuntime) -> Result<(), Fail> {
-    let alloc = rt.alloc();
     for cut in FITS.iter().chain(FAULTS.iter()) {
         let mut served = false;
         for blocks in 0..recut_memory::BLOCKS {
-            let heap = heap_of(alloc, blocks)?;
-            let reader = Chopped::new(cut.bytes, 3);
-            if let Some(done) = recut_on(&heap, alloc, cut, reader, Narrow::wide(alloc))? {
-                served = is_served(&rt, alloc, &done, cut.out, told(cut.line))?;
-                assert!(rt; !served || blocks > 0 || cut.bytes.is_empty(), "{cut:?}");
+            if let Some(is_served) = is_recut_served(&rt, rt.alloc(), cut, blocks)? {
+                served = is_served;
+                expect_true(&rt, !served || blocks > 0 || cut.bytes.is_empty(), cut);
             }
         }
-        assert!(rt; served, "{cut:?}");
-    }
-    Ok(())
-}
-
-/// Runs a recut in frames of one size, over this reader and writer, with memory from this heap.
-fn sized_on<A: Allocator + Copy>(
-    heap: A,
-    alloc: Global,
-    cut: &SizedCut,
-    reader: Chopped,
-    writer: Narrow,
-) -> Result<Outcome, Fail> {
-    let limits = limits_under(&cut.under)?;
-    let size = cut.sizes.size.max(1);
-    let weave = cut.sizes.weave;
-    match cut.role {
-        Role::Client => {
-            let key = Some(KEY);
-            let job = Job::Recut(Role::Client, limits, How::BySize { size, weave, key });
-            Ok(outcome_on(heap, alloc, &job, reader, writer))
-        }
-        Role::Server => {
-            let key = None;
-            let job = Job::Recut(Role::Server, limits, How::BySize { size, weave, key });
-            Ok(outcome_on(heap, alloc, &job, reader, writer))
-        }
-    }
-}
-
-#[test]
-fn recuts_by_size_are_written(rt: HostRuntime) -> Result<(), Fail> {
-    let alloc = rt.alloc();
-    for cut in CUTS.iter() {
-        let reader = Chopped::new(cut.bytes, 3);
-        let done = sized_on(alloc, alloc, cut, reader, Narrow::wide(alloc))?;
-        expect_end(&rt, alloc, &done, cut.out, told(cut.line))?;
-    }
-    Ok(())
-}
-
-#[test]
-fn a_failed_read_is_told_of_a_recut_by_size(rt: HostRuntime) -> Result<(), Fail> {
-    let alloc = rt.alloc();
-    for cut in CUTS.iter() {
-        for count in 0..=cut.bytes.len() {
-            let reader = Chopped::breaking(&cut.bytes[..count], 3);
-            let done = sized_on(alloc, alloc, cut, reader, Narrow::wide(alloc))?;
-            let line = line_of_front(cut.line, count, cut.bytes.len());
-            expect_end(&rt, alloc, &done, b"", line)?;
-        }
-    }
-    Ok(())
-}
-
-#[test]
-fn a_failed_write_is_told_of_a_recut_by_size(rt: HostRuntime) -> Result<(), Fail> {
-    let alloc = rt.alloc();
-    for cut in CUTS.iter() {
-        for full in FULL {
-            for room in 0..cut.out.len() {
-                let reader = Chopped::new(cut.bytes, 3);
-                let writer = Narrow::new(alloc, 1, room, full);
-                let done = sized_on(alloc, alloc, cut, reader, writer)?;
-                expect_end(&rt, alloc, &done, &cut.out[..room], "write failed")?;
-            }
-        }
-    }
-    Ok(())
-}
-
-/// Each growth refused in turn, of the events and behind that of the plan.
-#[test]
-fn refused_memory_is_told_of_a_recut_by_size(rt: HostRuntime) -> Result<(), Fail> {
-    let alloc = rt.alloc();
-    for cut in CUTS.iter() {
-        let mut served = false;
-        for blocks in 0..recut_memory::BLOCKS {
-            let heap = heap_of(alloc, blocks)?;
-            let reader = Chopped::new(cut.bytes, 3);
-            let done = sized_on(&heap, alloc, cut, reader, Narrow::wide(alloc))?;
-            served = is_served(&rt, alloc, &done, cut.out, told(cut.line))?;
-            assert!(rt; !served || blocks > 0, "{cut:?}");
-        }
-        assert!(rt; served, "{cut:?}");
+        expect_true(&rt, served, cut);
     }
     Ok(())
 }

@@ -1,5 +1,6 @@
 //! Plan text: what is read of a text, what is written of a plan, and where memory or a write fails.
 
+use crate::expecting::{expect_bytes, expect_line, expect_true};
 use crate::recuts::NINE_PLAN;
 use std::alloc::{Allocator, Global};
 use std::io::Write;
@@ -77,13 +78,18 @@ fn written<A: Allocator, W: Write>(writer: &mut W, plan: &Plan<A>) -> Result<(),
 
 #[test]
 fn plans_are_read_and_written(rt: HostRuntime) -> Result<(), Fail> {
-    let alloc = rt.alloc();
     for (text, wanted) in PLANS.iter() {
-        let plan = read_plan(alloc, text.as_bytes())?;
-        let mut output = Vec::new(alloc);
-        written(&mut output, &plan)?;
-        assert_eq!(rt; output.as_slice(), wanted.as_bytes());
+        expect_rewritten(&rt, rt.alloc(), text, wanted)?;
     }
+    Ok(())
+}
+
+/// Fails unless this is written of the plan of a text.
+fn expect_rewritten(rt: &impl Abort, alloc: Global, text: &str, wanted: &str) -> Result<(), Fail> {
+    let plan = read_plan(alloc, text.as_bytes())?;
+    let mut output = Vec::new(alloc);
+    written(&mut output, &plan)?;
+    expect_bytes(rt, output.as_slice(), wanted.as_bytes(), &text);
     Ok(())
 }
 
@@ -114,19 +120,36 @@ fn steps_are_those_of_the_lines(rt: HostRuntime) -> Result<(), Fail> {
 #[test]
 fn the_first_fault_is_told(rt: HostRuntime) -> Result<(), Fail> {
     let alloc = rt.alloc();
-    for (text, line, fault, word) in FAULTS.iter() {
-        let Err(told) = read_plan(alloc, text.as_bytes()) else {
-            return Err(Fail::from("a faulty text was read"));
-        };
+    for (text, line, why, word) in FAULTS.iter() {
         let wanted = PlanFault::Line {
             number: *line,
-            why: *fault,
+            why: *why,
         };
+        let told = fault_of(alloc, text)?;
         assert_eq!(rt; told, wanted, "{text:?}");
-        let shown = format!(in alloc; "{told}")?;
-        let printed = format!(in alloc; "plan line {line}: {word}")?;
-        assert_eq!(rt; shown.as_str(), printed.as_str());
+        let line = format!(in alloc; "plan line {line}: {word}")?;
+        expect_printed(&rt, alloc, &told, line.as_str())?;
     }
+    Ok(())
+}
+
+/// The fault that is told of a text.
+fn fault_of(alloc: Global, text: &str) -> Result<PlanFault, Fail> {
+    match read_plan(alloc, text.as_bytes()) {
+        Ok(_plan) => Err(Fail::from("a faulty text was read")),
+        Err(fault) => Ok(fault),
+    }
+}
+
+/// Fails unless this is printed of a fault.
+fn expect_printed(
+    rt: &impl Abort,
+    alloc: Global,
+    fault: &PlanFault,
+    wanted: &str,
+) -> Result<(), Fail> {
+    let printed = format!(in alloc; "{fault}")?;
+    expect_line(rt, printed.as_str(), wanted, fault);
     Ok(())
 }
 
@@ -137,13 +160,18 @@ fn a_failed_write_is_told(rt: HostRuntime) -> Result<(), Fail> {
     let plan = read_plan(alloc, text.as_bytes())?;
     for full in [Full::Fails, Full::TakesNothing] {
         for room in 0..text.len() {
-            let mut writer = Narrow::new(alloc, 1, room, full);
-            let answer = written(&mut writer, &plan);
-            assert_eq!(rt; answer, Err(Stop::Write));
-            assert_eq!(rt; writer.taken.as_slice(), &text.as_bytes()[..room]);
+            expect_unwritten(&rt, alloc, &plan, full, &text.as_bytes()[..room]);
         }
     }
     Ok(())
+}
+
+/// Fails unless a failed write behind these first bytes of a plan's text is told.
+fn expect_unwritten(rt: &impl Abort, alloc: Global, plan: &Plan, full: Full, front: &[u8]) {
+    let mut writer = Narrow::new(alloc, 1, front.len(), full);
+    let answer = written(&mut writer, plan);
+    expect_true(rt, answer == Err(Stop::Write), &full);
+    expect_bytes(rt, writer.taken.as_slice(), front, &full);
 }
 
 fn is_read<A: Allocator>(rt: &impl Abort, heap: A, text: &[u8], steps: usize) -> bool {
@@ -162,12 +190,10 @@ fn is_read<A: Allocator>(rt: &impl Abort, heap: A, text: &[u8], steps: usize) ->
 /// Eighteen steps grow a plan four times.
 #[test]
 fn refused_memory_is_told(rt: HostRuntime) -> Result<(), Fail> {
-    let alloc = rt.alloc();
     let mut refused = 0u32;
     let mut read = 0u32;
     for blocks in 0..200usize {
-        let heap = heap_of(alloc, blocks)?;
-        if is_read(&rt, &heap, NINE_PLAN.as_bytes(), 18) {
+        if is_nine_read(&rt, rt.alloc(), blocks)? {
             read = read.saturating_add(1);
         } else {
             refused = refused.saturating_add(1);
@@ -176,6 +202,12 @@ fn refused_memory_is_told(rt: HostRuntime) -> Result<(), Fail> {
     assert!(rt; refused > 20);
     assert!(rt; read > 20);
     Ok(())
+}
+
+/// Whether the plan of nine messages is read with memory from a heap of so many blocks.
+fn is_nine_read(rt: &impl Abort, alloc: Global, blocks: usize) -> Result<bool, Fail> {
+    let heap = heap_of(alloc, blocks)?;
+    Ok(is_read(rt, &heap, NINE_PLAN.as_bytes(), 18))
 }
 
 /// A first line that spells no step needs no memory.

@@ -1,13 +1,14 @@
 //! The plan of a stream's own frames, and that a recut of the stream's normal form by it is the stream again.
 
-use crate::expecting::expect_line;
+use crate::expecting::{expect_bytes, expect_line, expect_recut, expect_true};
 use crate::recuts::{NINE_MESSAGES, NINE_PLAN};
 use std::alloc::{Allocator, Global};
+use std::fmt::Debug;
 use std::process::Abort;
 use std::test::Fail;
 use wsn_doubles::engines::{planned, recut_by};
 use wsn_doubles::heaps::heap_of;
-use wsn_doubles::lines::{planned_line, recut_line};
+use wsn_doubles::lines::planned_line;
 use wsn_doubles::readers::{Chopped, READS};
 use wsn_doubles::rows::{
     ANY_LENGTHS, GREATEST, Stream, Under, limits_under, line_behind, stream_named, streams,
@@ -106,34 +107,50 @@ pub static PLANNED: [Planned; 13] = [
     },
 ];
 
-/// The text of a plan, or nothing where there is none.
-fn text_of<A: Allocator>(
+#[test]
+fn streams_are_planned(rt: HostRuntime) -> Result<(), Fail> {
+    for row in PLANNED.iter() {
+        for most in READS {
+            expect_planned(&rt, rt.alloc(), row, most)?;
+        }
+    }
+    Ok(())
+}
+
+/// Fails unless a row's line and its plan's text come of its stream, by reads of at most so many bytes.
+fn expect_planned(rt: &impl Abort, alloc: Global, row: &Planned, most: usize) -> Result<(), Fail> {
+    let limits = limits_under(&row.under)?;
+    let answer = planned(alloc, row.role, limits, Chopped::new(row.bytes, most));
+    expect_text(rt, alloc, &answer, row.text, &(row, most))?;
+    expect_told(rt, alloc, &answer, row.line, &(row, most))
+}
+
+/// Fails unless this is the text of a plan, or nothing where there is none.
+fn expect_text(
+    rt: &impl Abort,
     alloc: Global,
-    answer: &Result<PlanAnswer<A>, Stop>,
-) -> Result<Vec<u8>, Fail> {
+    answer: &Result<PlanAnswer, Stop>,
+    wanted: &str,
+    of: &impl Debug,
+) -> Result<(), Fail> {
     let mut text = Vec::new(alloc);
     if let Ok(PlanAnswer::Plan(plan)) = answer {
         write_plan(&mut Output::new(&mut text), plan)?;
     }
-    Ok(text)
+    expect_bytes(rt, text.as_slice(), wanted.as_bytes(), of);
+    Ok(())
 }
 
-#[test]
-fn streams_are_planned(rt: HostRuntime) -> Result<(), Fail> {
-    let alloc = rt.alloc();
-    for row in PLANNED.iter() {
-        for most in READS {
-            let limits = limits_under(&row.under)?;
-            let answer = planned(alloc, row.role, limits, Chopped::new(row.bytes, most));
-            assert_eq!(rt;
-                planned_line(alloc, &answer)?.as_str(),
-                row.line,
-                "{row:?} by {most}"
-            );
-            let text = text_of(alloc, &answer)?;
-            assert_eq!(rt; text.as_slice(), row.text.as_bytes(), "{row:?} by {most}");
-        }
-    }
+/// Fails unless planning answered this line.
+fn expect_told<A: Allocator>(
+    rt: &impl Abort,
+    alloc: Global,
+    answer: &Result<PlanAnswer<A>, Stop>,
+    wanted: &str,
+    of: &impl Debug,
+) -> Result<(), Fail> {
+    let line = planned_line(alloc, answer)?;
+    expect_line(rt, line.as_str(), wanted, of);
     Ok(())
 }
 
@@ -148,55 +165,79 @@ fn expect_restored(
     rt: &impl Abort,
     alloc: Global,
     stream: &Stream,
-    plan: Plan,
+    plan: &Plan,
 ) -> Result<(), Fail> {
+    let count = used(stream)?;
+    let front = stream.bytes.get(..count).ok_or("used more than there is")?;
     let mut out = Vec::new(alloc);
     let reader = Chopped::new(stream.normal.as_slice(), 4_095);
-    let answer = recut_by(alloc, stream.role, stream.limits, &plan, reader, &mut out);
-    let line = recut_line(alloc, &answer)?;
-    expect_line(rt, stream, line.as_str(), "done");
-    let name = stream.name;
-    assert!(rt; stream.bytes.starts_with(out.as_slice()), "{name}");
-    assert_eq!(rt; out.len(), used(stream)?, "{name}");
-    Ok(())
+    let answer = recut_by(alloc, stream.role, stream.limits, plan, reader, &mut out);
+    expect_recut(
+        rt,
+        alloc,
+        (&answer, out.as_slice()),
+        ("done", front),
+        &stream.name,
+    )
 }
 
 #[test]
 fn a_stream_comes_back_from_its_plan_and_its_normal_form(rt: HostRuntime) -> Result<(), Fail> {
-    let alloc = rt.alloc();
-    for stream in streams(alloc)?.iter() {
-        if !stream.is_accepted() {
-            continue;
-        }
-        let reader = Chopped::new(stream.bytes.as_slice(), 4_095);
-        match planned(alloc, stream.role, stream.limits, reader)? {
-            PlanAnswer::Plan(plan) => expect_restored(&rt, alloc, stream, plan)?,
-            PlanAnswer::Unfinished => assert!(rt; !stream.verdict.ends_with(" -")),
-            PlanAnswer::NotAccepted(_verdict) => Err("not accepted")?,
+    for stream in streams(rt.alloc())?.iter() {
+        if stream.is_accepted() {
+            expect_back(&rt, rt.alloc(), stream)?;
         }
     }
     Ok(())
+}
+
+/// Fails unless a stream comes back by its plan, or is unfinished and has none.
+fn expect_back(rt: &impl Abort, alloc: Global, stream: &Stream) -> Result<(), Fail> {
+    let reader = Chopped::new(stream.bytes.as_slice(), 4_095);
+    match planned(alloc, stream.role, stream.limits, reader)? {
+        PlanAnswer::Plan(plan) => expect_restored(rt, alloc, stream, &plan),
+        PlanAnswer::Unfinished => {
+            expect_true(rt, !stream.verdict.ends_with(" -"), &stream.name);
+            Ok(())
+        }
+        PlanAnswer::NotAccepted(_verdict) => Err(Fail::from("not accepted")),
+    }
 }
 
 #[test]
 fn a_failed_read_is_told_before_the_answer_shows(rt: HostRuntime) -> Result<(), Fail> {
     let alloc = rt.alloc();
     for stream in streams(alloc)?.iter() {
-        let name = stream.name;
-        for front in stream.fronts(alloc)? {
-            let wanted = line_behind(stream, front)?;
-            for most in [1, 4_096] {
-                let reader = Chopped::breaking(front, most);
-                let answer = planned(alloc, stream.role, stream.limits, reader);
-                assert_eq!(rt;
-                    planned_line(alloc, &answer)?.as_str(),
-                    wanted,
-                    "{name}: by {most}"
-                );
-            }
+        for front in stream.fronts(alloc)?.iter() {
+            expect_unplanned_by(&rt, alloc, stream, front)?;
         }
     }
     Ok(())
+}
+
+/// Fails unless a failed read behind these first bytes of a stream is told, by reads of two sizes.
+fn expect_unplanned_by(
+    rt: &impl Abort,
+    alloc: Global,
+    stream: &Stream,
+    front: &[u8],
+) -> Result<(), Fail> {
+    expect_unplanned(rt, alloc, stream, front, 1)?;
+    expect_unplanned(rt, alloc, stream, front, 4_096)
+}
+
+/// Fails unless a failed read behind these first bytes of a stream is told, by reads of at most so many bytes.
+fn expect_unplanned(
+    rt: &impl Abort,
+    alloc: Global,
+    stream: &Stream,
+    front: &[u8],
+    most: usize,
+) -> Result<(), Fail> {
+    let wanted = line_behind(stream, front)?;
+    let reader = Chopped::breaking(front, most);
+    let answer = planned(alloc, stream.role, stream.limits, reader);
+    expect_told(rt, alloc, &answer, wanted, &(stream.name, most))
 }
 
 /// Heaps of fewer blocks than this are tried, and the last has memory for all that is tried.
@@ -205,21 +246,27 @@ pub const BLOCKS: usize = 128;
 /// Each growth refused in turn: no plan and no verdict in its place.
 #[test]
 fn refused_memory_is_told(rt: HostRuntime) -> Result<(), Fail> {
-    let alloc = rt.alloc();
     for row in PLANNED.iter() {
-        let limits = limits_under(&row.under)?;
-        let mut is_served = false;
+        let mut served = false;
         for blocks in 0..BLOCKS {
-            let heap = heap_of(alloc, blocks)?;
-            let answer = planned(&heap, row.role, limits, Chopped::new(row.bytes, 1));
-            is_served = answer.is_ok();
-            let line = if is_served { row.line } else { "out of memory" };
-            assert_eq!(rt; planned_line(alloc, &answer)?.as_str(), line, "{row:?}");
-            assert!(rt; !is_served || blocks > 0 || row.bytes.is_empty(), "{row:?}");
+            served = is_served(&rt, rt.alloc(), row, blocks)?;
+            expect_true(&rt, !served || blocks > 0 || row.bytes.is_empty(), row);
         }
-        assert!(rt; is_served, "{row:?}");
+        expect_true(&rt, served, row);
     }
     Ok(())
+}
+
+/// Whether planning the stream of a row has memory enough in a heap of so many blocks. Fails unless it answers the
+/// row's line then, and otherwise that memory was refused.
+fn is_served(rt: &impl Abort, alloc: Global, row: &Planned, blocks: usize) -> Result<bool, Fail> {
+    let limits = limits_under(&row.under)?;
+    let heap = heap_of(alloc, blocks)?;
+    let answer = planned(&heap, row.role, limits, Chopped::new(row.bytes, 1));
+    let is_served = answer.is_ok();
+    let wanted = if is_served { row.line } else { "out of memory" };
+    expect_told(rt, alloc, &answer, wanted, &(row, blocks))?;
+    Ok(is_served)
 }
 
 #[test]
@@ -229,12 +276,7 @@ fn fragments_of_65_535_bytes_and_of_one_are_planned(rt: HostRuntime) -> Result<(
     for most in READS {
         let reader = Chopped::new(stream.bytes.as_slice(), most);
         let answer = planned(alloc, stream.role, stream.limits, reader);
-        let text = text_of(alloc, &answer)?;
-        assert_eq!(rt;
-            text.as_slice(),
-            b"piece 65535 -\nlast -\n".as_slice(),
-            "by {most}"
-        );
+        expect_text(&rt, alloc, &answer, "piece 65535 -\nlast -\n", &most)?;
     }
     Ok(())
 }

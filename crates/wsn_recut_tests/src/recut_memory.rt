@@ -1,9 +1,10 @@
 //! Plans and recuts where memory is refused, one growth after another: `Memory` and nothing in its place, nothing
 //! written, and a plan that is as it was.
 
+use crate::expecting::expect_true;
 use crate::recut_faults::{FAULTS, STOPS};
 use crate::recuts::{Cut, FITS};
-use crate::uniform_recuts::CUTS;
+use crate::uniform_recuts::{CUTS, SizedCut};
 use std::alloc::{Allocator, Global};
 use std::process::Abort;
 use std::test::Fail;
@@ -42,7 +43,7 @@ impl Tally {
 
     /// Counts an answer, whose line and output are either that of refused memory and nothing, or these.
     fn count(&mut self, rt: &impl Abort, found: (&str, &[u8]), wanted: (&str, &[u8])) {
-        if found == ("out of memory", &[]) {
+        if found.0 == "out of memory" && found.1.is_empty() {
             self.refused = self.refused.saturating_add(1);
             self.served = false;
         } else {
@@ -60,26 +61,48 @@ fn cut_on<A: Allocator + Copy>(
     alloc: Global,
     cut: &Cut,
 ) -> Result<(String, Vec<u8>), Fail> {
-    let mut out = Vec::new(alloc);
-    let plan = match read_plan(heap, cut.plan.as_bytes()) {
-        Ok(plan) => plan,
-        Err(fault) => return Ok((format!(in alloc; "{fault}")?, out)),
-    };
+    match read_plan(heap, cut.plan.as_bytes()) {
+        Ok(plan) => cut_by(heap, alloc, cut, &plan),
+        Err(fault) => Ok((format!(in alloc; "{fault}")?, Vec::new(alloc))),
+    }
+}
+
+/// Cuts the stream of a row by this plan, with memory from this heap alone: the line of the answer, and what was
+/// written.
+fn cut_by<A: Allocator + Copy>(
+    heap: A,
+    alloc: Global,
+    cut: &Cut,
+    plan: &Plan<A>,
+) -> Result<(String, Vec<u8>), Fail> {
     let limits = limits_under(&cut.under)?;
+    let mut out = Vec::new(alloc);
     let reader = Chopped::new(cut.bytes, 1);
-    let answer = recut_by(heap, cut.role, limits, &plan, reader, &mut out);
+    let answer = recut_by(heap, cut.role, limits, plan, reader, &mut out);
     Ok((recut_line(alloc, &answer)?, out))
+}
+
+/// Counts what comes of a row with memory from a heap of so many blocks.
+fn count_on(
+    rt: &impl Abort,
+    alloc: Global,
+    cut: &Cut,
+    blocks: usize,
+    tally: &mut Tally,
+) -> Result<(), Fail> {
+    let heap = heap_of(alloc, blocks)?;
+    let (line, out) = cut_on(&heap, alloc, cut)?;
+    tally.count(rt, (line.as_str(), out.as_slice()), (cut.line, cut.out));
+    Ok(())
 }
 
 /// How often memory was refused, and that it was enough in the end.
 fn refusals_of(rt: &impl Abort, alloc: Global, cut: &Cut) -> Result<u32, Fail> {
     let mut tally = Tally::new();
     for blocks in 0..BLOCKS {
-        let heap = heap_of(alloc, blocks)?;
-        let (line, out) = cut_on(&heap, alloc, cut)?;
-        tally.count(rt, (line.as_str(), out.as_slice()), (cut.line, cut.out));
+        count_on(rt, alloc, cut, blocks, &mut tally)?;
     }
-    assert!(rt; tally.served, "{cut:?}");
+    expect_true(rt, tally.served, cut);
     Ok(tally.refused)
 }
 
@@ -89,7 +112,7 @@ fn a_recut_tells_refused_memory(rt: HostRuntime) -> Result<(), Fail> {
     let alloc = rt.alloc();
     for cut in FITS.iter().chain(FAULTS.iter()) {
         let refused = refusals_of(&rt, alloc, cut)?;
-        assert_eq!(rt; refused > 0, !cut.bytes.is_empty(), "{cut:?}");
+        expect_true(&rt, (refused > 0) == !cut.bytes.is_empty(), cut);
     }
     Ok(())
 }
@@ -104,30 +127,47 @@ fn a_stream_that_is_not_accepted_is_told_with_memory(rt: HostRuntime) -> Result<
 
 #[test]
 fn a_recut_in_frames_of_one_size_tells_refused_memory(rt: HostRuntime) -> Result<(), Fail> {
-    let alloc = rt.alloc();
     for cut in CUTS.iter() {
-        let limits = limits_under(&cut.under)?;
         let mut tally = Tally::new();
         for blocks in 0..BLOCKS {
-            let heap = heap_of(alloc, blocks)?;
-            let mut out = Vec::new(alloc);
-            let reader = Chopped::new(cut.bytes, 1);
-            let answer = recut_uniformly(&heap, cut.role, limits, cut.sizes, reader, &mut out);
-            let line = recut_line(alloc, &answer)?;
-            tally.count(&rt, (line.as_str(), out.as_slice()), (cut.line, cut.out));
+            count_sized_on(&rt, rt.alloc(), cut, blocks, &mut tally)?;
         }
-        assert!(rt; tally.served && tally.refused > 0, "{cut:?}");
+        expect_true(&rt, tally.served && tally.refused > 0, cut);
     }
     Ok(())
 }
 
-/// Whether seventeen pings and a message are planned in eighteen steps, with memory from this heap.
-fn is_planned<A: Allocator + Copy>(rt: &impl Abort, heap: A, alloc: Global) -> Result<bool, Fail> {
+/// Counts what comes of a row in frames of one size, with memory from a heap of so many blocks.
+fn count_sized_on(
+    rt: &impl Abort,
+    alloc: Global,
+    cut: &SizedCut,
+    blocks: usize,
+    tally: &mut Tally,
+) -> Result<(), Fail> {
+    let limits = limits_under(&cut.under)?;
+    let heap = heap_of(alloc, blocks)?;
+    let mut out = Vec::new(alloc);
+    let reader = Chopped::new(cut.bytes, 1);
+    let answer = recut_uniformly(&heap, cut.role, limits, cut.sizes, reader, &mut out);
+    let line = recut_line(alloc, &answer)?;
+    tally.count(rt, (line.as_str(), out.as_slice()), (cut.line, cut.out));
+    Ok(())
+}
+
+/// Seventeen pings and a message, which has its memory from this heap.
+fn pings_and_message<A: Allocator + Copy>(heap: A, alloc: Global) -> Result<Vec<Event<A>>, Fail> {
     let mut events: Vec<Event<A>> = Vec::new(alloc);
     for _ in 0..17 {
         events.push(Event::Ping(Default::default()))?;
     }
     events.push(Event::Message(Kind::Text, Vec::new(heap)))?;
+    Ok(events)
+}
+
+/// Whether seventeen pings and a message are planned in eighteen steps, with memory from this heap.
+fn is_planned<A: Allocator + Copy>(rt: &impl Abort, heap: A, alloc: Global) -> Result<bool, Fail> {
+    let events = pings_and_message(heap, alloc)?;
     match uniform(heap, events.as_slice(), Role::Server, 1, false, None) {
         Ok(plan) => {
             assert_eq!(rt; plan.steps().len(), 18);
@@ -142,47 +182,93 @@ fn is_planned<A: Allocator + Copy>(rt: &impl Abort, heap: A, alloc: Global) -> R
 
 #[test]
 fn planning_frames_of_one_size_tells_refused_memory(rt: HostRuntime) -> Result<(), Fail> {
-    let alloc = rt.alloc();
     let mut is_served = false;
     for blocks in 0..BLOCKS {
-        let heap = heap_of(alloc, blocks)?;
-        let served = is_planned(&rt, &heap, alloc)?;
-        assert!(rt; served || !is_served);
-        assert!(rt; !served || blocks > 0);
+        let served = is_planned_by(&rt, rt.alloc(), blocks)?;
+        expect_true(&rt, served || !is_served, &blocks);
+        expect_true(&rt, !served || blocks > 0, &blocks);
         is_served = served;
     }
-    assert!(rt; is_served);
+    expect_true(&rt, is_served, &BLOCKS);
     Ok(())
+}
+
+/// Whether they are planned with memory from a heap of so many blocks.
+fn is_planned_by(rt: &impl Abort, alloc: Global, blocks: usize) -> Result<bool, Fail> {
+    let heap = heap_of(alloc, blocks)?;
+    is_planned(rt, &heap, alloc)
 }
 
 /// A push where a heap is full, and one where it has memory again.
 #[test]
 fn a_plan_is_as_it_was_and_goes_on_with_memory(rt: HostRuntime) -> Result<(), Fail> {
-    let alloc = rt.alloc();
     let mut refused = 0u32;
     for count in 0..64usize {
-        let heap = heap_of(alloc, 1_024)?;
-        let mut plan = Plan::new(&heap);
-        for len in 0..count as u64 {
-            plan.push(Step::Piece {
-                len,
-                key: None,
-                form: Form::Two,
-            })?;
-        }
-        let before = plan.steps().to_vec(alloc)?;
-        let ballast = fill(alloc, &heap)?;
-        if let Err(stop) = plan.push(LAST) {
+        if is_refused_once(&rt, rt.alloc(), count)? {
             refused = refused.saturating_add(1);
-            assert_eq!(rt; stop, Stop::Memory);
-            assert_eq!(rt; plan.steps(), before.as_slice());
-            drop(ballast);
-            plan.push(LAST)?;
         }
-        assert_eq!(rt; plan.steps().len(), count + 1);
-        assert!(rt; plan.steps().starts_with(before.as_slice()));
-        assert!(rt; plan.steps().last() == Some(&LAST));
     }
-    assert!(rt; refused >= 4);
+    expect_true(&rt, refused >= 4, &refused);
     Ok(())
+}
+
+/// Whether a plan of so many pieces is refused the memory for a step more, on a full heap. In the end it has that step.
+fn is_refused_once(rt: &impl Abort, alloc: Global, count: usize) -> Result<bool, Fail> {
+    let heap = heap_of(alloc, 1_024)?;
+    let mut plan = pieces(&heap, count)?;
+    let ballast = fill(alloc, &heap)?;
+    let is_refused = is_pushed_again(rt, &mut plan, count, ballast)?;
+    let first = plan.steps().strip_suffix(&[LAST]);
+    expect_true(
+        rt,
+        first.is_some_and(|steps| are_pieces(steps, count)),
+        &count,
+    );
+    Ok(is_refused)
+}
+
+/// A piece of so many bytes.
+fn piece(len: u64) -> Step {
+    Step::Piece {
+        len,
+        key: None,
+        form: Form::Two,
+    }
+}
+
+/// A plan of so many pieces, one of no byte and each other of a byte more, with memory from this heap.
+fn pieces<A: Allocator>(heap: A, count: usize) -> Result<Plan<A>, Fail> {
+    let mut plan = Plan::new(heap);
+    for len in 0..count as u64 {
+        plan.push(piece(len))?;
+    }
+    Ok(plan)
+}
+
+/// Whether these are the steps of that plan.
+fn are_pieces(steps: &[Step], count: usize) -> bool {
+    for (at, step) in steps.iter().enumerate() {
+        if *step != piece(at as u64) {
+            return false;
+        }
+    }
+    steps.len() == count
+}
+
+/// Pushes a step behind so many pieces, and again without the ballast where memory was refused: whether it was. The
+/// plan is as it was then.
+fn is_pushed_again<A: Allocator, B: Drop>(
+    rt: &impl Abort,
+    plan: &mut Plan<A>,
+    count: usize,
+    ballast: B,
+) -> Result<bool, Fail> {
+    let Err(stop) = plan.push(LAST) else {
+        return Ok(false);
+    };
+    expect_true(rt, stop == Stop::Memory, &count);
+    expect_true(rt, are_pieces(plan.steps(), count), &count);
+    drop(ballast);
+    plan.push(LAST)?;
+    Ok(true)
 }

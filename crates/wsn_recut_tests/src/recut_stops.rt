@@ -1,13 +1,12 @@
 //! Recuts whose reader or writer fails: nothing is written before the input and the plan are checked whole.
 
-use crate::expecting::expect_line;
-use crate::recuts::FITS;
-use crate::uniform_recuts::CUTS;
+use crate::expecting::expect_recut;
+use crate::recuts::{Cut, FITS};
+use crate::uniform_recuts::{CUTS, SizedCut};
 use std::alloc::Global;
 use std::process::Abort;
 use std::test::Fail;
 use wsn_doubles::engines::{Sizes, recut_by, recut_uniformly};
-use wsn_doubles::lines::recut_line;
 use wsn_doubles::readers::Chopped;
 use wsn_doubles::rows::{Stream, limits_under, line_behind, streams};
 use wsn_doubles::writers::{FULL, Full, Narrow};
@@ -27,10 +26,13 @@ fn expect_unwritten(
     };
     let mut out = Vec::new(alloc);
     let answer = recut_uniformly(alloc, stream.role, stream.limits, sizes, reader, &mut out);
-    let line = recut_line(alloc, &answer)?;
-    expect_line(rt, stream, line.as_str(), wanted);
-    assert!(rt; out.is_empty());
-    Ok(())
+    expect_recut(
+        rt,
+        alloc,
+        (&answer, out.as_slice()),
+        (wanted, b""),
+        &stream.name,
+    )
 }
 
 #[test]
@@ -39,9 +41,8 @@ fn a_failed_read_is_told_before_the_answer_shows(rt: HostRuntime) -> Result<(), 
     for stream in streams(alloc)?.iter() {
         for front in stream.fronts(alloc)? {
             let wanted = line_behind(stream, front)?;
-            for most in [1, 4_096] {
-                expect_unwritten(&rt, alloc, stream, Chopped::breaking(front, most), wanted)?;
-            }
+            expect_unwritten(&rt, alloc, stream, Chopped::breaking(front, 1), wanted)?;
+            expect_unwritten(&rt, alloc, stream, Chopped::breaking(front, 4_096), wanted)?;
         }
     }
     Ok(())
@@ -51,24 +52,35 @@ fn a_failed_read_is_told_before_the_answer_shows(rt: HostRuntime) -> Result<(), 
 #[test]
 fn a_failed_read_is_told_whatever_the_plan(rt: HostRuntime) -> Result<(), Fail> {
     let alloc = rt.alloc();
-    let nothing = Plan::new(alloc);
     for cut in FITS.iter() {
-        for plan in [&nothing, &read_plan(alloc, cut.plan.as_bytes())?] {
-            for count in 0..=cut.bytes.len() {
-                let mut out = Vec::new(alloc);
-                let reader = Chopped::breaking(&cut.bytes[..count], 1);
-                let limits = limits_under(&cut.under)?;
-                let answer = recut_by(alloc, cut.role, limits, plan, reader, &mut out);
-                assert_eq!(rt;
-                    recut_line(alloc, &answer)?.as_str(),
-                    "read failed",
-                    "{cut:?}"
-                );
-                assert!(rt; out.is_empty(), "{cut:?}");
-            }
-        }
+        expect_unread(&rt, alloc, cut, &Plan::new(alloc))?;
+        expect_unread(&rt, alloc, cut, &read_plan(alloc, cut.plan.as_bytes())?)?;
     }
     Ok(())
+}
+
+/// Fails unless a failed read behind any count of a row's bytes is told, whatever this plan.
+fn expect_unread(rt: &impl Abort, alloc: Global, cut: &Cut, plan: &Plan) -> Result<(), Fail> {
+    for count in 0..=cut.bytes.len() {
+        expect_unread_behind(rt, alloc, cut, plan, &cut.bytes[..count])?;
+    }
+    Ok(())
+}
+
+/// Fails unless a failed read behind these first bytes of a row is told, whatever this plan.
+fn expect_unread_behind(
+    rt: &impl Abort,
+    alloc: Global,
+    cut: &Cut,
+    plan: &Plan,
+    front: &[u8],
+) -> Result<(), Fail> {
+    let limits = limits_under(&cut.under)?;
+    let mut out = Vec::new(alloc);
+    let reader = Chopped::breaking(front, 1);
+    let answer = recut_by(alloc, cut.role, limits, plan, reader, &mut out);
+    let found = (&answer, out.as_slice());
+    expect_recut(rt, alloc, found, ("read failed", b""), &(cut, front.len()))
 }
 
 #[test]
@@ -76,67 +88,89 @@ fn a_failed_write_is_told(rt: HostRuntime) -> Result<(), Fail> {
     let alloc = rt.alloc();
     for cut in FITS.iter() {
         let plan = read_plan(alloc, cut.plan.as_bytes())?;
-        let limits = limits_under(&cut.under)?;
         for full in FULL {
             for room in 0..cut.out.len() {
-                let mut writer = Narrow::new(alloc, 1, room, full);
-                let reader = Chopped::new(cut.bytes, usize::MAX);
-                let answer = recut_by(alloc, cut.role, limits, &plan, reader, &mut writer);
-                let line = recut_line(alloc, &answer)?;
-                assert_eq!(rt;
-                    line.as_str(),
-                    "write failed",
-                    "{cut:?}: {full:?} behind {room}"
-                );
-                assert_eq!(rt; writer.taken.as_slice(), &cut.out[..room], "{cut:?}");
+                expect_full(&rt, alloc, cut, &plan, full, &cut.out[..room])?;
             }
         }
     }
     Ok(())
+}
+
+/// Fails unless a failed write behind these first bytes of a row's recut is told.
+fn expect_full(
+    rt: &impl Abort,
+    alloc: Global,
+    cut: &Cut,
+    plan: &Plan,
+    full: Full,
+    front: &[u8],
+) -> Result<(), Fail> {
+    let limits = limits_under(&cut.under)?;
+    let mut writer = Narrow::new(alloc, 1, front.len(), full);
+    let reader = Chopped::new(cut.bytes, usize::MAX);
+    let answer = recut_by(alloc, cut.role, limits, plan, reader, &mut writer);
+    let found = (&answer, writer.taken.as_slice());
+    expect_recut(
+        rt,
+        alloc,
+        found,
+        ("write failed", front),
+        &(cut, full, front.len()),
+    )
 }
 
 #[test]
 fn a_failed_write_is_told_of_frames_of_one_size(rt: HostRuntime) -> Result<(), Fail> {
     let alloc = rt.alloc();
     for cut in CUTS.iter() {
-        let limits = limits_under(&cut.under)?;
         for full in FULL {
             for room in 0..cut.out.len() {
-                let mut writer = Narrow::new(alloc, 1, room, full);
-                let reader = Chopped::new(cut.bytes, usize::MAX);
-                let answer = recut_uniformly(
-                    alloc,
-                    cut.role,
-                    limits,
-                    cut.sizes,
-                    reader,
-                    &mut writer,
-                );
-                let line = recut_line(alloc, &answer)?;
-                assert_eq!(rt;
-                    line.as_str(),
-                    "write failed",
-                    "{cut:?}: {full:?} behind {room}"
-                );
-                assert_eq!(rt; writer.taken.as_slice(), &cut.out[..room], "{cut:?}");
+                expect_sized_full(&rt, alloc, cut, full, &cut.out[..room])?;
             }
         }
     }
     Ok(())
 }
 
+/// Fails unless a failed write behind these first bytes of a row's recut in frames of one size is told.
+fn expect_sized_full(
+    rt: &impl Abort,
+    alloc: Global,
+    cut: &SizedCut,
+    full: Full,
+    front: &[u8],
+) -> Result<(), Fail> {
+    let limits = limits_under(&cut.under)?;
+    let mut writer = Narrow::new(alloc, 1, front.len(), full);
+    let reader = Chopped::new(cut.bytes, usize::MAX);
+    let answer = recut_uniformly(alloc, cut.role, limits, cut.sizes, reader, &mut writer);
+    let found = (&answer, writer.taken.as_slice());
+    expect_recut(
+        rt,
+        alloc,
+        found,
+        ("write failed", front),
+        &(cut, full, front.len()),
+    )
+}
+
 /// What is written is as long as the writer has room.
 #[test]
 fn a_writer_may_take_one_byte_a_call(rt: HostRuntime) -> Result<(), Fail> {
-    let alloc = rt.alloc();
     for cut in FITS.iter() {
-        let plan = read_plan(alloc, cut.plan.as_bytes())?;
-        let mut writer = Narrow::new(alloc, 1, cut.out.len(), Full::Fails);
-        let reader = Chopped::new(cut.bytes, 3);
-        let limits = limits_under(&cut.under)?;
-        let answer = recut_by(alloc, cut.role, limits, &plan, reader, &mut writer);
-        assert_eq!(rt; recut_line(alloc, &answer)?.as_str(), "done", "{cut:?}");
-        assert_eq!(rt; writer.taken.as_slice(), cut.out, "{cut:?}");
+        expect_room_enough(&rt, rt.alloc(), cut)?;
     }
     Ok(())
+}
+
+/// Fails unless a writer with room for a row's recut alone takes it, a byte a call.
+fn expect_room_enough(rt: &impl Abort, alloc: Global, cut: &Cut) -> Result<(), Fail> {
+    let limits = limits_under(&cut.under)?;
+    let plan = read_plan(alloc, cut.plan.as_bytes())?;
+    let mut writer = Narrow::new(alloc, 1, cut.out.len(), Full::Fails);
+    let reader = Chopped::new(cut.bytes, 3);
+    let answer = recut_by(alloc, cut.role, limits, &plan, reader, &mut writer);
+    let found = (&answer, writer.taken.as_slice());
+    expect_recut(rt, alloc, found, ("done", cut.out), cut)
 }

@@ -1,13 +1,14 @@
 //! Recuts by a plan that fits: what is written.
 
+use crate::expecting::{expect_line, expect_recut, expect_true};
 use std::alloc::Global;
 use std::process::Abort;
 use std::test::Fail;
 use wsn_doubles::engines::recut_by;
 use wsn_doubles::lines::recut_line;
 use wsn_doubles::readers::{Chopped, READS};
-use wsn_doubles::rows::{ANY_LENGTHS, GREATEST, Under, filled, limits_under, stream_named};
-use wsn_plan::read_plan;
+use wsn_doubles::rows::{ANY_LENGTHS, GREATEST, Stream, Under, filled, limits_under, stream_named};
+use wsn_plan::{Plan, read_plan};
 use wsn_wire::Role;
 
 /// A stream, a plan for it, and what comes of the two.
@@ -131,19 +132,26 @@ pub static FITS: [Cut; 12] = [
 /// Fails unless a stream is cut so, by whatever reads it comes.
 pub fn expect_cut(rt: &impl Abort, alloc: Global, cut: &Cut) -> Result<(), Fail> {
     let plan = read_plan(alloc, cut.plan.as_bytes())?;
-    let limits = limits_under(&cut.under)?;
     for most in READS {
-        let mut out = Vec::new(alloc);
-        let reader = Chopped::new(cut.bytes, most);
-        let answer = recut_by(alloc, cut.role, limits, &plan, reader, &mut out);
-        assert_eq!(rt;
-            recut_line(alloc, &answer)?.as_str(),
-            cut.line,
-            "{cut:?} by {most}"
-        );
-        assert_eq!(rt; out.as_slice(), cut.out, "{cut:?} by {most}");
+        expect_cut_by(rt, alloc, cut, &plan, most)?;
     }
     Ok(())
+}
+
+/// Fails unless a stream is cut so by this plan, by reads of at most so many bytes.
+fn expect_cut_by(
+    rt: &impl Abort,
+    alloc: Global,
+    cut: &Cut,
+    plan: &Plan,
+    most: usize,
+) -> Result<(), Fail> {
+    let limits = limits_under(&cut.under)?;
+    let mut out = Vec::new(alloc);
+    let reader = Chopped::new(cut.bytes, most);
+    let answer = recut_by(alloc, cut.role, limits, plan, reader, &mut out);
+    let found = (&answer, out.as_slice());
+    expect_recut(rt, alloc, found, (cut.line, cut.out), &(cut, most))
 }
 
 #[test]
@@ -165,20 +173,25 @@ fn a_length_of_two_bytes_is_spelled_in_eight_alone(rt: HostRuntime) -> Result<()
         ("last - eight", "done", eight.as_slice()),
         ("last -", "done", bytes.as_slice()),
     ] {
-        let plan = read_plan(alloc, text.as_bytes())?;
-        let mut out = Vec::new(alloc);
-        let answer = recut_by(
-            alloc,
-            Role::Server,
-            limits_under(&ANY_LENGTHS)?,
-            &plan,
-            Chopped::new(bytes.as_slice(), usize::MAX),
-            &mut out,
-        );
-        assert_eq!(rt; recut_line(alloc, &answer)?.as_str(), line);
-        assert_eq!(rt; out.as_slice(), wanted);
+        expect_cut_in_any_length(&rt, alloc, bytes.as_slice(), text, (line, wanted))?;
     }
     Ok(())
+}
+
+/// Fails unless a server's stream, with lengths in any spelling, is cut so by the plan of this text.
+fn expect_cut_in_any_length(
+    rt: &impl Abort,
+    alloc: Global,
+    bytes: &[u8],
+    text: &str,
+    wanted: (&str, &[u8]),
+) -> Result<(), Fail> {
+    let plan = read_plan(alloc, text.as_bytes())?;
+    let limits = limits_under(&ANY_LENGTHS)?;
+    let mut out = Vec::new(alloc);
+    let reader = Chopped::new(bytes, usize::MAX);
+    let answer = recut_by(alloc, Role::Server, limits, &plan, reader, &mut out);
+    expect_recut(rt, alloc, (&answer, out.as_slice()), wanted, &text)
 }
 
 #[test]
@@ -187,11 +200,24 @@ fn fragments_of_65_535_bytes_and_of_one_come_back(rt: HostRuntime) -> Result<(),
     let stream = stream_named(alloc, "fragments of 65,535 bytes and of one")?;
     let plan = read_plan(alloc, b"piece 65535 -\nlast -\n")?;
     for most in READS {
-        let mut out = Vec::new(alloc);
-        let reader = Chopped::new(stream.normal.as_slice(), most);
-        let answer = recut_by(alloc, stream.role, stream.limits, &plan, reader, &mut out);
-        assert_eq!(rt; recut_line(alloc, &answer)?.as_str(), "done");
-        assert!(rt; out.as_slice() == stream.bytes.as_slice(), "by {most}");
+        expect_back(&rt, alloc, &stream, &plan, most)?;
     }
+    Ok(())
+}
+
+/// Fails unless a stream comes back from its normal form by this plan, by reads of at most so many bytes.
+fn expect_back(
+    rt: &impl Abort,
+    alloc: Global,
+    stream: &Stream,
+    plan: &Plan,
+    most: usize,
+) -> Result<(), Fail> {
+    let mut out = Vec::new(alloc);
+    let reader = Chopped::new(stream.normal.as_slice(), most);
+    let answer = recut_by(alloc, stream.role, stream.limits, plan, reader, &mut out);
+    expect_true(rt, out.as_slice() == stream.bytes.as_slice(), &most);
+    let line = recut_line(alloc, &answer)?;
+    expect_line(rt, line.as_str(), "done", &most);
     Ok(())
 }

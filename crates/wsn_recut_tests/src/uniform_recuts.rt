@@ -1,7 +1,7 @@
 //! Recuts in frames of one size: the plans of events that are written out, what is written by them, and that it means
 //! what the stream does.
 
-use crate::expecting::expect_line;
+use crate::expecting::{expect_bytes, expect_line, expect_recut};
 use crate::recuts::NINE_MESSAGES;
 use std::alloc::Global;
 use std::process::Abort;
@@ -26,22 +26,34 @@ static PLANS: [(u32, bool, &str); 4] = [
 #[test]
 fn a_ping_and_hello_are_planned(rt: HostRuntime) -> Result<(), Fail> {
     let alloc = rt.alloc();
+    let events = ping_and_hello(alloc)?;
+    for (size, weave, text) in PLANS {
+        expect_plan(&rt, alloc, events.as_slice(), Sizes { size, weave }, text)?;
+    }
+    Ok(())
+}
+
+/// A ping and "Hello".
+fn ping_and_hello(alloc: Global) -> Result<Vec<Event>, Fail> {
     let mut events: Vec<Event> = Vec::new(alloc);
     events.push(Event::Ping(Default::default()))?;
     events.push(Event::Message(Kind::Text, b"Hello".to_vec(alloc)?))?;
-    for (size, weave, text) in PLANS {
-        let plan = uniform(
-            alloc,
-            events.as_slice(),
-            Role::Server,
-            size.max(1),
-            weave,
-            None,
-        )?;
-        let mut out = Vec::new(alloc);
-        write_plan(&mut Output::new(&mut out), &plan)?;
-        assert_eq!(rt; out.as_slice(), text.as_bytes(), "{size}, {weave}");
-    }
+    Ok(events)
+}
+
+/// Fails unless this is the text of the plan of a server's events.
+fn expect_plan(
+    rt: &impl Abort,
+    alloc: Global,
+    events: &[Event],
+    sizes: Sizes,
+    text: &str,
+) -> Result<(), Fail> {
+    let size = sizes.size.max(1);
+    let plan = uniform(alloc, events, Role::Server, size, sizes.weave, None)?;
+    let mut out = Vec::new(alloc);
+    write_plan(&mut Output::new(&mut out), &plan)?;
+    expect_bytes(rt, out.as_slice(), text.as_bytes(), &sizes);
     Ok(())
 }
 
@@ -128,22 +140,22 @@ pub static CUTS: [SizedCut; 7] = [
 
 #[test]
 fn streams_are_cut_in_frames_of_one_size(rt: HostRuntime) -> Result<(), Fail> {
-    let alloc = rt.alloc();
     for cut in CUTS.iter() {
-        let limits = limits_under(&cut.under)?;
         for most in READS {
-            let mut out = Vec::new(alloc);
-            let reader = Chopped::new(cut.bytes, most);
-            let answer = recut_uniformly(alloc, cut.role, limits, cut.sizes, reader, &mut out);
-            assert_eq!(rt;
-                recut_line(alloc, &answer)?.as_str(),
-                cut.line,
-                "{cut:?} by {most}"
-            );
-            assert_eq!(rt; out.as_slice(), cut.out, "{cut:?} by {most}");
+            expect_cut(&rt, rt.alloc(), cut, most)?;
         }
     }
     Ok(())
+}
+
+/// Fails unless a stream is cut so, by reads of at most so many bytes.
+fn expect_cut(rt: &impl Abort, alloc: Global, cut: &SizedCut, most: usize) -> Result<(), Fail> {
+    let limits = limits_under(&cut.under)?;
+    let mut out = Vec::new(alloc);
+    let reader = Chopped::new(cut.bytes, most);
+    let answer = recut_uniformly(alloc, cut.role, limits, cut.sizes, reader, &mut out);
+    let found = (&answer, out.as_slice());
+    expect_recut(rt, alloc, found, (cut.line, cut.out), &(cut, most))
 }
 
 /// A stream in frames of one size.
@@ -157,7 +169,7 @@ fn cut_again(
     let reader = Chopped::new(stream.bytes.as_slice(), usize::MAX);
     let answer = recut_uniformly(alloc, stream.role, stream.limits, sizes, reader, &mut out);
     let line = recut_line(alloc, &answer)?;
-    expect_line(rt, stream, line.as_str(), "done");
+    expect_line(rt, line.as_str(), "done", &(stream.name, sizes));
     Ok(out)
 }
 
@@ -172,21 +184,25 @@ fn expect_equal(rt: &impl Abort, alloc: Global, stream: &Stream, sizes: Sizes) -
         stream.limits,
     );
     let line = compared_line(alloc, &answer)?;
-    expect_line(rt, stream, line.as_str(), "equal");
+    expect_line(rt, line.as_str(), "equal", &(stream.name, sizes));
     Ok(())
 }
 
 #[test]
 fn what_is_accepted_means_the_same_once_it_is_cut(rt: HostRuntime) -> Result<(), Fail> {
-    let alloc = rt.alloc();
-    for stream in streams(alloc)?.iter() {
-        if !stream.is_accepted() || stream.limits.frames().is_some() {
-            continue;
+    for stream in streams(rt.alloc())?.iter() {
+        if stream.is_accepted() && stream.limits.frames().is_none() {
+            expect_equal_by_sizes(&rt, rt.alloc(), stream)?;
         }
-        for size in [1, 2, 125] {
-            for weave in [false, true] {
-                expect_equal(&rt, alloc, stream, Sizes { size, weave })?;
-            }
+    }
+    Ok(())
+}
+
+/// Fails unless the stream means the same in frames of each size.
+fn expect_equal_by_sizes(rt: &impl Abort, alloc: Global, stream: &Stream) -> Result<(), Fail> {
+    for size in [1, 2, 125] {
+        for weave in [false, true] {
+            expect_equal(rt, alloc, stream, Sizes { size, weave })?;
         }
     }
     Ok(())

@@ -36,6 +36,17 @@ const LISTED: [usize; 12] = [0, 0, 16, 16, 16, 16, 16, 31, 31, 46, 46, 46];
 /// The ping is due behind its head, and "Hello" behind its last byte.
 const NORMALISED: [usize; 12] = [0, 0, 0, 0, 0, 0, 0, 2, 2, 2, 2, 9];
 
+/// Fails unless a command tells that its reader fails behind these bytes, by reads of each size.
+fn expect_failed_read(rt: &impl Abort, alloc: Global, job: &Job, front: &[u8], out: &[u8])
+    requires { MayRun job.now }
+{
+    for most in READS {
+        let reader = Chopped::breaking(front, most);
+        let done = outcome_on(alloc, alloc, job, reader, Narrow::wide(alloc));
+        expect_outcome(rt, &done, 2, out, b"read failed\n");
+    }
+}
+
 fn expect_failed_reads(
     rt: &impl Abort,
     alloc: Global,
@@ -44,30 +55,41 @@ fn expect_failed_reads(
 ) -> Result<(), Fail>
     requires { MayRun job.now }
 {
-    assert_eq!(rt; wanted.due.len(), wanted.stream.bytes.len() + 1);
+    assert!(rt; wanted.due.len() == wanted.stream.bytes.len() + 1);
     for (count, due) in wanted.due.iter().enumerate() {
         let front = wanted.stream.bytes.get(..count).ok_or("no such front")?;
         let out = wanted.out.get(..*due).ok_or("more than it writes")?;
-        for most in READS {
-            let reader = Chopped::breaking(front, most);
-            let done = outcome_on(alloc, alloc, job, reader, Narrow::wide(alloc));
-            expect_outcome(rt, &done, 2, out, b"read failed\n");
-        }
+        expect_failed_read(rt, alloc, job, front, out);
     }
     Ok(())
+}
+
+/// Fails unless a command tells that its writer fails behind each byte, where it takes so many a call and is full in
+/// that way.
+fn expect_failed_write(
+    rt: &impl Abort,
+    alloc: Global,
+    job: &Job,
+    wanted: &Wanted,
+    most: usize,
+    full: Full,
+)
+    requires { MayRun job.now }
+{
+    for room in 0..wanted.out.len() {
+        let reader = Chopped::new(wanted.stream.bytes.as_slice(), 3);
+        let writer = Narrow::new(alloc, most, room, full);
+        let done = outcome_on(alloc, alloc, job, reader, writer);
+        expect_outcome(rt, &done, 2, &wanted.out[..room], b"write failed\n");
+    }
 }
 
 fn expect_failed_writes(rt: &impl Abort, alloc: Global, job: &Job, wanted: &Wanted)
     requires { MayRun job.now }
 {
     for full in FULL {
-        for room in 0..wanted.out.len() {
-            for most in [1, usize::MAX] {
-                let reader = Chopped::new(wanted.stream.bytes.as_slice(), 3);
-                let writer = Narrow::new(alloc, most, room, full);
-                let done = outcome_on(alloc, alloc, job, reader, writer);
-                expect_outcome(rt, &done, 2, &wanted.out[..room], b"write failed\n");
-            }
+        for most in [1, usize::MAX] {
+            expect_failed_write(rt, alloc, job, wanted, most, full);
         }
     }
 }
@@ -130,6 +152,29 @@ fn normal_is_stopped(rt: HostRuntime) -> Result<(), Fail> {
     expect_stops(&rt, alloc, &job, &wanted)
 }
 
+/// Fails unless `same` tells that a reader fails behind so many bytes, be it the first or the second.
+fn expect_stopped_by_a_read(
+    rt: &impl Abort,
+    alloc: Global,
+    stream: &Stream,
+    front: &[u8],
+    most: usize,
+) -> Result<(), Fail> {
+    let limits = greatest()?;
+    for is_first in [true, false] {
+        let failing = Chopped::breaking(front, most);
+        let whole = Chopped::new(stream.normal.as_slice(), most);
+        let (first, second) = if is_first {
+            (failing, whole)
+        } else {
+            (whole, failing)
+        };
+        let done = compared_on(alloc, alloc, limits, first, second, Narrow::wide(alloc));
+        expect_outcome(rt, &done, 2, &[], b"read failed\n");
+    }
+    Ok(())
+}
+
 /// Of `same` either reader may fail.
 #[test]
 fn same_is_stopped_by_a_failed_read(rt: HostRuntime) -> Result<(), Fail> {
@@ -137,39 +182,41 @@ fn same_is_stopped_by_a_failed_read(rt: HostRuntime) -> Result<(), Fail> {
     let stream = fragments(alloc)?;
     for count in 0..=stream.bytes.len() {
         for most in READS {
-            for is_first in [true, false] {
-                let failing = Chopped::breaking(&stream.bytes[..count], most);
-                let whole = Chopped::new(stream.normal.as_slice(), most);
-                let (first, second) = if is_first {
-                    (failing, whole)
-                } else {
-                    (whole, failing)
-                };
-                let writer = Narrow::wide(alloc);
-                let done = compared_on(alloc, alloc, greatest()?, first, second, writer);
-                expect_outcome(&rt, &done, 2, &[], b"read failed\n");
-            }
+            let front = &stream.bytes[..count];
+            expect_stopped_by_a_read(&rt, alloc, &stream, front, most)?;
         }
+    }
+    Ok(())
+}
+
+/// Fails unless `same` tells that its writer fails behind so many bytes, if these aren't all of its line.
+fn expect_stopped_by_a_write(
+    rt: &impl Abort,
+    alloc: Global,
+    stream: &Stream,
+    room: usize,
+    full: Full,
+) -> Result<(), Fail> {
+    let line = b"equal\n";
+    let limits = greatest()?;
+    let first = Chopped::new(stream.bytes.as_slice(), usize::MAX);
+    let second = Chopped::new(stream.normal.as_slice(), usize::MAX);
+    let writer = Narrow::new(alloc, 1, room, full);
+    let done = compared_on(alloc, alloc, limits, first, second, writer);
+    if room < line.len() {
+        expect_outcome(rt, &done, 2, &line[..room], b"write failed\n");
+    } else {
+        expect_outcome(rt, &done, 0, line, &[]);
     }
     Ok(())
 }
 
 #[test]
 fn same_is_stopped_by_a_failed_write(rt: HostRuntime) -> Result<(), Fail> {
-    let alloc = rt.alloc();
-    let stream = fragments(alloc)?;
-    let line = b"equal\n";
+    let stream = fragments(rt.alloc())?;
     for full in FULL {
-        for room in 0..=line.len() {
-            let first = Chopped::new(stream.bytes.as_slice(), usize::MAX);
-            let second = Chopped::new(stream.normal.as_slice(), usize::MAX);
-            let writer = Narrow::new(alloc, 1, room, full);
-            let done = compared_on(alloc, alloc, greatest()?, first, second, writer);
-            if room < line.len() {
-                expect_outcome(&rt, &done, 2, &line[..room], b"write failed\n");
-            } else {
-                expect_outcome(&rt, &done, 0, line, &[]);
-            }
+        for room in 0..=b"equal\n".len() {
+            expect_stopped_by_a_write(&rt, rt.alloc(), &stream, room, full)?;
         }
     }
     Ok(())

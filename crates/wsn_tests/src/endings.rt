@@ -1,6 +1,7 @@
 //! How a stream may end: cut short behind each byte, with more behind a refusal, and not at all.
 
 use crate::every_way::expect_stream;
+use crate::expecting::{Reading, expect_answer, expect_bytes};
 use std::alloc::Global;
 use std::process::Abort;
 use std::test::Fail;
@@ -13,13 +14,33 @@ use wsn_scan::{Limits, MESSAGE_MAX, Stop, Verdict, judge, list};
 use wsn_wire::{Input, Output, Role};
 
 /// Fails unless the line is that of the stream's verdict, or, where so few bytes don't tell that, of one that is open.
-fn expect_line(rt: &impl Abort, stream: &Stream, count: usize, line: &str) -> Result<(), Fail> {
-    let name = stream.name;
-    if stream.is_told_by(count)? {
-        assert_eq!(rt; line, stream.verdict, "{name}: {count} bytes");
+fn expect_told(
+    rt: &impl Abort,
+    stream: &Stream,
+    line: &str,
+    reading: &Reading,
+) -> Result<(), Fail> {
+    if stream.is_told_by(reading.count)? {
+        reading.expect_line(rt, line, stream.verdict);
     } else {
         let is_open = line.starts_with("accepted") || line.starts_with("cut");
-        assert!(rt; is_open, "{name}: {count} bytes");
+        reading.expect(rt, is_open, "neither accepted nor cut");
+    }
+    Ok(())
+}
+
+/// What `judge` tells of the first bytes of a stream, by reads of each size.
+fn expect_front(rt: &impl Abort, alloc: Global, stream: &Stream, front: &[u8]) -> Result<(), Fail> {
+    for most in READS {
+        let answer = judged(stream, Chopped::new(front, most));
+        let line = answer_line(alloc, &answer)?;
+        let reading = Reading {
+            name: stream.name,
+            how: "judged",
+            count: front.len(),
+            most,
+        };
+        expect_told(rt, stream, line.as_str(), &reading)?;
     }
     Ok(())
 }
@@ -31,11 +52,7 @@ fn the_first_200_fronts_and_the_last_are_accepted_or_cut_until_they_tell_the_ans
     let alloc = rt.alloc();
     for stream in streams(alloc)?.iter() {
         for front in stream.fronts(alloc)? {
-            for most in READS {
-                let answer = judged(stream, Chopped::new(front, most));
-                let line = answer_line(alloc, &answer)?;
-                expect_line(&rt, stream, front.len(), line.as_str())?;
-            }
+            expect_front(&rt, alloc, stream, front)?;
         }
     }
     Ok(())
@@ -89,29 +106,38 @@ static FRONTS: [(&[u8], &[&str]); 3] = [
     ),
 ];
 
+/// Fails unless this is the line of the verdict on a server's stream.
+fn expect_verdict(rt: &impl Abort, alloc: Global, bytes: &[u8], line: &str) -> Result<(), Fail> {
+    let mut reader = Chopped::new(bytes, 1);
+    let answer = judge(&mut Input::new(&mut reader), Role::Server, greatest()?);
+    expect_answer(rt, alloc, &answer, line)
+}
+
 #[test]
 fn verdicts_behind_each_byte(rt: HostRuntime) -> Result<(), Fail> {
-    let alloc = rt.alloc();
     for (bytes, lines) in FRONTS.iter() {
-        assert_eq!(rt; lines.len(), bytes.len() + 1);
+        assert!(rt; lines.len() == bytes.len() + 1);
         for (count, line) in lines.iter().enumerate() {
             let front = bytes.get(..count).ok_or("no such front")?;
-            let mut reader = Chopped::new(front, 1);
-            let answer = judge(&mut Input::new(&mut reader), Role::Server, greatest()?);
-            assert_eq!(rt; answer_line(alloc, &answer)?.as_str(), *line);
+            expect_verdict(&rt, rt.alloc(), front, line)?;
         }
+    }
+    Ok(())
+}
+
+/// A refused stream is read alike in every way with more bytes behind it.
+fn expect_more_behind(rt: &impl Abort, alloc: Global, stream: &mut Stream) -> Result<(), Fail> {
+    if stream.verdict.starts_with("refused") {
+        stream.bytes.extend_from_slice(&[0x00, 0xff, 0x81])?;
+        expect_stream(rt, alloc, stream)?;
     }
     Ok(())
 }
 
 #[test]
 fn what_stands_behind_a_refusal_changes_nothing(rt: HostRuntime) -> Result<(), Fail> {
-    let alloc = rt.alloc();
-    for mut stream in streams(alloc)? {
-        if stream.verdict.starts_with("refused") {
-            stream.bytes.extend_from_slice(&[0x00, 0xff, 0x81])?;
-            expect_stream(&rt, alloc, &stream)?;
-        }
+    for stream in streams(rt.alloc())?.iter_mut() {
+        expect_more_behind(&rt, rt.alloc(), stream)?;
     }
     Ok(())
 }
@@ -154,7 +180,7 @@ impl Unending {
             self.limits,
         );
         self.expect_limit(rt, &answer, &reader);
-        assert_eq!(rt; text.as_slice(), self.lines.as_bytes());
+        expect_bytes(rt, text.as_slice(), self.lines.as_bytes());
     }
 
     fn expect_normalised(&self, rt: &impl Abort, alloc: Global) {
@@ -168,7 +194,7 @@ impl Unending {
             self.limits,
         );
         self.expect_limit(rt, &answer, &reader);
-        assert_eq!(rt; out.as_slice(), self.normal.as_slice());
+        expect_bytes(rt, out.as_slice(), self.normal.as_slice());
     }
 
     fn expect(&self, rt: &impl Abort, alloc: Global) {
@@ -178,37 +204,45 @@ impl Unending {
     }
 }
 
-#[test]
-fn endless_pings_end_at_the_input_limit(rt: HostRuntime) -> Result<(), Fail> {
-    let alloc = rt.alloc();
+/// The lines of 500 pings.
+fn lines_of_pings(alloc: Global) -> Result<String, Fail> {
     let mut lines = String::new(alloc);
-    let mut normal = Vec::new(alloc);
     for i in 0..500u64 {
         let place = 2 * i;
-        lines.push_str(format!(in alloc; "{place} fin ping - 0\n")?.as_str())?;
-        normal.extend_from_slice(&[0x89, 0x00])?;
+        let line = format!(in alloc; "{place} fin ping - 0\n")?;
+        lines.push_str(line.as_str())?;
     }
+    Ok(lines)
+}
+
+#[test]
+fn endless_pings_end_at_the_input_limit(rt: HostRuntime) -> Result<(), Fail> {
+    let limits = Limits::new(MESSAGE_MAX, 1_001).ok_or("out of range")?;
+    let normal = [0x89, 0x00].repeat(rt.alloc(), 500)?;
+    let lines = lines_of_pings(rt.alloc())?;
     let pings = Unending {
         first: &[],
         again: &[0x89, 0x00],
-        limits: Limits::new(MESSAGE_MAX, 1_001).ok_or("out of range")?,
+        limits,
         lines,
         normal,
     };
-    pings.expect(&rt, alloc);
+    pings.expect(&rt, rt.alloc());
     Ok(())
 }
 
 #[test]
 fn an_endless_tail_ends_at_the_input_limit(rt: HostRuntime) -> Result<(), Fail> {
-    let alloc = rt.alloc();
+    let limits = Limits::new(MESSAGE_MAX, 9).ok_or("out of range")?;
+    let normal = [0x88, 0x00].to_vec(rt.alloc())?;
+    let lines = String::from_str(rt.alloc(), "0 fin close - 0\n")?;
     let close = Unending {
         first: &[0x88, 0x00],
         again: &[0x00],
-        limits: Limits::new(MESSAGE_MAX, 9).ok_or("out of range")?,
-        lines: String::from_str(alloc, "0 fin close - 0\n")?,
-        normal: [0x88, 0x00].to_vec(alloc)?,
+        limits,
+        lines,
+        normal,
     };
-    close.expect(&rt, alloc);
+    close.expect(&rt, rt.alloc());
     Ok(())
 }

@@ -1,6 +1,7 @@
 //! `put_event` and `is_lawful`: the examples of RFC 6455 section 5.7, each spelling of a length, a close, and a write
 //! that fails.
 
+use crate::expecting::expect_bytes;
 use std::alloc::Global;
 use std::process::Abort;
 use std::test::Fail;
@@ -19,15 +20,13 @@ fn small(bytes: &[u8]) -> Result<Small, Fail> {
     Ok(Small::try_from(bytes).ok().ok_or("too long")?)
 }
 
-/// Writes a lawful event, and answers its bytes.
-fn put(rt: &impl Abort, alloc: Global, role: Role, event: &Event) -> Vec<u8> {
+/// Fails unless an event is lawful, and written to these bytes.
+fn expect_put(rt: &impl Abort, alloc: Global, role: Role, event: &Event, wanted: &[u8]) {
     assert!(rt; is_lawful(event));
-    let mut writer = Narrow::new(alloc, usize::MAX, usize::MAX, Full::Fails);
-    assert_eq!(rt;
-        put_event(&mut Output::new(&mut writer), role, event),
-        Ok(())
-    );
-    writer.taken
+    let mut writer = Narrow::wide(alloc);
+    let put = put_event(&mut Output::new(&mut writer), role, event);
+    assert!(rt; put == Ok(()));
+    expect_bytes(rt, writer.taken.as_slice(), wanted);
 }
 
 /// A payload of so many bytes, of which none is like those beside it.
@@ -44,28 +43,41 @@ fn expect_binary(rt: &impl Abort, alloc: Global, size: usize, head: &[u8]) -> Re
     let payload = payload_of(alloc, size)?;
     let mut wanted = head.to_vec(alloc)?;
     wanted.extend_from_slice(payload.as_slice())?;
-    let out = put(
-        rt,
-        alloc,
-        Role::Server,
-        &Event::Message(Kind::Binary, payload),
-    );
-    assert!(rt; out.as_slice() == wanted.as_slice(), "{size} bytes");
+    let event = Event::Message(Kind::Binary, payload);
+    expect_put(rt, alloc, Role::Server, &event, wanted.as_slice());
     Ok(())
 }
 
 #[test]
-fn the_examples_of_the_rfc(rt: HostRuntime) -> Result<(), Fail> {
-    let alloc = rt.alloc();
-    let hello = message(alloc, Kind::Text, b"Hello")?;
-    let out = put(&rt, alloc, Role::Server, &hello);
-    assert_eq!(rt; out.as_slice(), b"\x81\x05Hello".as_slice());
+fn a_text_of_the_rfc(rt: HostRuntime) -> Result<(), Fail> {
+    let hello = message(rt.alloc(), Kind::Text, b"Hello")?;
+    expect_put(&rt, rt.alloc(), Role::Server, &hello, b"\x81\x05Hello");
+    Ok(())
+}
+
+#[test]
+fn a_ping_of_the_rfc(rt: HostRuntime) -> Result<(), Fail> {
     let ping = Event::Ping(small(b"Hello")?);
-    let out = put(&rt, alloc, Role::Server, &ping);
-    assert_eq!(rt; out.as_slice(), b"\x89\x05Hello".as_slice());
+    expect_put(&rt, rt.alloc(), Role::Server, &ping, b"\x89\x05Hello");
+    Ok(())
+}
+
+#[test]
+fn a_pong_of_the_rfc(rt: HostRuntime) -> Result<(), Fail> {
     let pong = Event::Pong(small(b"Hello")?);
-    let out = put(&rt, alloc, Role::Client, &pong);
-    assert_eq!(rt; out.as_slice(), b"\x8a\x85\0\0\0\0Hello".as_slice());
+    expect_put(
+        &rt,
+        rt.alloc(),
+        Role::Client,
+        &pong,
+        b"\x8a\x85\0\0\0\0Hello",
+    );
+    Ok(())
+}
+
+#[test]
+fn binary_messages_of_the_rfc(rt: HostRuntime) -> Result<(), Fail> {
+    let alloc = rt.alloc();
     expect_binary(&rt, alloc, 256, &[0x82, 0x7e, 1, 0])?;
     expect_binary(&rt, alloc, 65_536, &[0x82, 0x7f, 0, 0, 0, 0, 0, 1, 0, 0])
 }
@@ -73,44 +85,58 @@ fn the_examples_of_the_rfc(rt: HostRuntime) -> Result<(), Fail> {
 #[test]
 fn a_close_with_and_without_a_code(rt: HostRuntime) -> Result<(), Fail> {
     let alloc = rt.alloc();
-    let out = put(&rt, alloc, Role::Server, &Event::Close(None));
-    assert_eq!(rt; out.as_slice(), [0x88, 0].as_slice());
+    expect_put(&rt, alloc, Role::Server, &Event::Close(None), &[0x88, 0]);
     let close = Event::Close(Some((1002, small(b"bye")?)));
-    let out = put(&rt, alloc, Role::Client, &close);
-    assert_eq!(rt; out.as_slice(), b"\x88\x85\0\0\0\0\x03\xeabye".as_slice());
+    let wanted = b"\x88\x85\0\0\0\0\x03\xeabye";
+    expect_put(&rt, alloc, Role::Client, &close, wanted);
+    Ok(())
+}
+
+/// Part of a character.
+const CUT: [u8; 2] = [0xe2, 0x82];
+
+#[test]
+fn a_text_is_lawful_only_if_it_is_utf8(rt: HostRuntime) -> Result<(), Fail> {
+    for (kind, lawful) in [(Kind::Text, false), (Kind::Binary, true)] {
+        let event = message(rt.alloc(), kind, &CUT)?;
+        assert!(rt; is_lawful(&event) == lawful);
+    }
+    Ok(())
+}
+
+/// Fails unless a Close with this code and reason is lawful, or isn't.
+fn expect_close(rt: &impl Abort, code: u16, reason: &[u8], lawful: bool) -> Result<(), Fail> {
+    let close: Event = Event::Close(Some((code, small(reason)?)));
+    assert_eq!(rt; is_lawful(&close), lawful, "{code}");
     Ok(())
 }
 
 #[test]
-fn what_is_not_lawful(rt: HostRuntime) -> Result<(), Fail> {
-    let alloc = rt.alloc();
-    let cut = [0xe2, 0x82];
-    assert!(rt; !is_lawful(&message(alloc, Kind::Text, cut.as_slice())?));
-    assert!(rt; is_lawful(&message(alloc, Kind::Binary, cut.as_slice())?));
-    for (code, reason, lawful) in [
-        (1000, b"".as_slice(), true),
-        (1000, cut.as_slice(), false),
-        (1000, [0x61; 123].as_slice(), true),
-        (1000, [0x61; 124].as_slice(), false),
-        (1005, b"".as_slice(), false),
-    ] {
-        let close: Event = Event::Close(Some((code, small(reason)?)));
-        assert_eq!(rt; is_lawful(&close), lawful, "{code}");
-    }
-    Ok(())
+fn which_closes_are_lawful(rt: HostRuntime) -> Result<(), Fail> {
+    expect_close(&rt, 1000, b"", true)?;
+    expect_close(&rt, 1000, &CUT, false)?;
+    expect_close(&rt, 1000, &[0x61; 123], true)?;
+    expect_close(&rt, 1000, &[0x61; 124], false)?;
+    expect_close(&rt, 1005, b"", false)
+}
+
+/// Fails unless an event isn't written by a client where the writer has room for all but some of its bytes.
+fn expect_failed(rt: &impl Abort, alloc: Global, event: &Event, front: &[u8]) {
+    assert!(rt; is_lawful(event));
+    let mut writer = Narrow::new(alloc, 1, front.len(), Full::TakesNothing);
+    let put = put_event(&mut Output::new(&mut writer), Role::Client, event);
+    assert!(rt; put == Err(Stop::Write));
+    expect_bytes(rt, writer.taken.as_slice(), front);
 }
 
 #[test]
 fn a_write_that_fails(rt: HostRuntime) -> Result<(), Fail> {
     let alloc = rt.alloc();
     let hello = message(alloc, Kind::Text, b"Hello")?;
-    let whole = put(&rt, alloc, Role::Client, &hello);
+    let whole = b"\x81\x85\0\0\0\0Hello";
+    expect_put(&rt, alloc, Role::Client, &hello, whole);
     for room in 0..whole.len() {
-        assert!(rt; is_lawful(&hello));
-        let mut writer = Narrow::new(alloc, 1, room, Full::TakesNothing);
-        let mut out = Output::new(&mut writer);
-        assert_eq!(rt; put_event(&mut out, Role::Client, &hello), Err(Stop::Write));
-        assert_eq!(rt; writer.taken.as_slice(), &whole[..room]);
+        expect_failed(&rt, alloc, &hello, &whole[..room]);
     }
     Ok(())
 }

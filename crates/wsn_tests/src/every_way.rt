@@ -1,12 +1,13 @@
 //! A stream read in every way: by the scanner, whole and in pieces; by `judge`, `list` and `normalise`, by reads of one
 //! byte and of many; and its normal form by `normalise`.
 
+use crate::expecting::Reading;
 use crate::scanner::told_of;
 use std::alloc::Global;
 use std::process::Abort;
 use std::test::Fail;
 use wsn_doubles::engines::{judged, listed, normalised};
-use wsn_doubles::lines::{answer_line, listing};
+use wsn_doubles::lines::listing;
 use wsn_doubles::readers::{Chopped, READS};
 use wsn_doubles::rows::{Stream, streams};
 use wsn_scan::Verdict;
@@ -20,15 +21,21 @@ pub fn expect_stream(rt: &impl Abort, alloc: Global, stream: &Stream) -> Result<
         expect_judged(rt, alloc, stream, most)?;
         expect_listed(rt, alloc, stream, most)?;
         expect_normalised(rt, alloc, stream, most)?;
-        expect_its_own_normal_form(rt, alloc, stream, most)?;
+        expect_its_own_normal_form(rt, alloc, stream, most);
     }
     Ok(())
 }
 
-/// Fails unless this is the line of the stream's verdict.
-fn expect_verdict(rt: &impl Abort, stream: &Stream, line: &str, how: &str, size: usize) {
-    let name = stream.name;
-    assert_eq!(rt; line, stream.verdict, "{name}: {how} {size}");
+/// Fails unless a scanner tells a stream's frames, payload and verdict, by pieces of so many bytes.
+fn expect_pieces(rt: &impl Abort, alloc: Global, stream: &Stream, size: usize) -> Result<(), Fail> {
+    let told = told_of(alloc, stream, size)?;
+    let reading = Reading::whole(stream, "scanned in pieces", size);
+    reading.expect_line(rt, told.verdict.as_str(), stream.verdict);
+    reading.expect_line(rt, told.frames.as_str(), stream.frames);
+    if let Some(payload) = &stream.payload {
+        reading.expect_bytes(rt, told.payload.as_slice(), payload.as_slice());
+    }
+    Ok(())
 }
 
 /// A scanner takes no more than an input may be, so it has no answer for a stream that is longer.
@@ -36,50 +43,25 @@ fn expect_scanned(rt: &impl Abort, alloc: Global, stream: &Stream) -> Result<(),
     if stream.is_too_long() {
         return Ok(());
     }
-    let name = stream.name;
     for size in PIECES {
-        let told = told_of(alloc, stream, size)?;
-        expect_verdict(
-            rt,
-            stream,
-            told.verdict.as_str(),
-            "scanned in pieces of",
-            size,
-        );
-        assert_eq!(rt;
-            told.frames.as_str(),
-            stream.frames,
-            "{name}, in pieces of {size}"
-        );
-        if let Some(payload) = &stream.payload {
-            assert!(rt;
-                told.payload.as_slice() == payload.as_slice(),
-                "{name}, in pieces of {size}"
-            );
-        }
+        expect_pieces(rt, alloc, stream, size)?;
     }
     Ok(())
 }
 
 fn expect_judged(rt: &impl Abort, alloc: Global, stream: &Stream, most: usize) -> Result<(), Fail> {
     let answer = judged(stream, Chopped::new(stream.bytes.as_slice(), most));
-    let line = answer_line(alloc, &answer)?;
-    expect_verdict(rt, stream, line.as_str(), "judged by reads of", most);
-    Ok(())
+    Reading::whole(stream, "judged", most).expect_answer(rt, alloc, &answer, stream.verdict)
 }
 
 fn expect_listed(rt: &impl Abort, alloc: Global, stream: &Stream, most: usize) -> Result<(), Fail> {
     let mut text = Vec::new(alloc);
     let reader = Chopped::new(stream.bytes.as_slice(), most);
     let answer = listed(stream, reader, &mut text);
-    let line = answer_line(alloc, &answer)?;
-    expect_verdict(rt, stream, line.as_str(), "listed by reads of", most);
-    let name = stream.name;
-    assert_eq!(rt;
-        text.as_slice(),
-        listing(alloc, stream)?.as_bytes(),
-        "{name}, by {most}"
-    );
+    let reading = Reading::whole(stream, "listed", most);
+    reading.expect_answer(rt, alloc, &answer, stream.verdict)?;
+    let lines = listing(alloc, stream)?;
+    reading.expect_bytes(rt, text.as_slice(), lines.as_bytes());
     Ok(())
 }
 
@@ -92,33 +74,19 @@ fn expect_normalised(
     let mut out = Vec::new(alloc);
     let reader = Chopped::new(stream.bytes.as_slice(), most);
     let answer = normalised(alloc, stream, reader, &mut out);
-    let line = answer_line(alloc, &answer)?;
-    expect_verdict(rt, stream, line.as_str(), "normalised by reads of", most);
-    let name = stream.name;
-    assert!(rt;
-        out.as_slice() == stream.normal.as_slice(),
-        "{name}, by {most}"
-    );
-    Ok(())
+    let reading = Reading::whole(stream, "normalised", most);
+    reading.expect_bytes(rt, out.as_slice(), stream.normal.as_slice());
+    reading.expect_answer(rt, alloc, &answer, stream.verdict)
 }
 
-fn expect_its_own_normal_form(
-    rt: &impl Abort,
-    alloc: Global,
-    stream: &Stream,
-    most: usize,
-) -> Result<(), Fail> {
+fn expect_its_own_normal_form(rt: &impl Abort, alloc: Global, stream: &Stream, most: usize) {
     let mut out = Vec::new(alloc);
     let reader = Chopped::new(stream.normal.as_slice(), most);
-    let Ok(Verdict::Accepted(_)) = normalised(alloc, stream, reader, &mut out) else {
-        panic!(rt; "the normal form of {} isn't accepted", stream.name);
-    };
-    let name = stream.name;
-    assert!(rt;
-        out.as_slice() == stream.normal.as_slice(),
-        "{name}, by {most}"
-    );
-    Ok(())
+    let answer = normalised(alloc, stream, reader, &mut out);
+    let reading = Reading::whole(stream, "its normal form normalised", most);
+    let is_accepted = matches!(&answer, Ok(Verdict::Accepted(_)));
+    reading.expect(rt, is_accepted, "the normal form isn't accepted");
+    reading.expect_bytes(rt, out.as_slice(), stream.normal.as_slice());
 }
 
 #[test]

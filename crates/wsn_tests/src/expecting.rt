@@ -1,11 +1,198 @@
-//! What is expected of a command's run.
+//! What is expected of lines and bytes that a stream is read to, and of a command's run.
+ghost use Rattle.wsn_job.specs.Jobs.{MayRun};
 
+use std::alloc::{AllocError, Allocator, Global};
 use std::process::Abort;
-use wsn_doubles::outcomes::Outcome;
+use std::test::Fail;
+use wsn_canon::{Next, Source};
+use wsn_doubles::lines::{answer_line, verdict_line};
+use wsn_doubles::outcomes::{Outcome, outcome_on};
+use wsn_doubles::readers::Chopped;
+use wsn_doubles::rows::Stream;
+use wsn_doubles::writers::{FULL, Narrow};
+use wsn_job::Job;
+use wsn_scan::{Stop, Verdict};
+use wsn_wire::Input;
+
+/// Fails unless this is the line that is wanted.
+pub fn expect_line(rt: &impl Abort, line: &str, wanted: &str) {
+    assert_eq!(rt; line, wanted);
+}
+
+/// Fails unless these are the bytes that are wanted.
+pub fn expect_bytes(rt: &impl Abort, bytes: &[u8], wanted: &[u8]) {
+    assert_eq!(rt; bytes, wanted);
+}
+
+/// Fails unless so many is how many are wanted.
+pub fn expect_count(rt: &impl Abort, count: usize, wanted: usize) {
+    assert_eq!(rt; count, wanted);
+}
+
+/// Fails unless this is the line of the answer.
+pub fn expect_answer(
+    rt: &impl Abort,
+    alloc: Global,
+    answer: &Result<Verdict, Stop>,
+    wanted: &str,
+) -> Result<(), Fail> {
+    let line = answer_line(alloc, answer)?;
+    expect_line(rt, line.as_str(), wanted);
+    Ok(())
+}
+
+/// The line of what `next` answered: of a verdict, or of a stop.
+pub fn last_line<A: Allocator>(
+    alloc: Global,
+    answer: &Result<Next<A>, Stop>,
+) -> Result<String, AllocError> {
+    match answer {
+        Ok(Next::Event(_)) => format!(in alloc; "an event"),
+        Ok(Next::Done(verdict)) => verdict_line(alloc, verdict),
+        Err(stop) => format!(in alloc; "{stop}"),
+    }
+}
+
+/// Fails unless this is the line of what `next` answered.
+pub fn expect_last<A: Allocator>(
+    rt: &impl Abort,
+    alloc: Global,
+    answer: &Result<Next<A>, Stop>,
+    wanted: &str,
+) -> Result<(), Fail> {
+    let line = last_line(alloc, answer)?;
+    expect_line(rt, line.as_str(), wanted);
+    Ok(())
+}
+
+/// Fails unless a source answers this without a read.
+fn expect_at_its_end<A: Allocator + Copy>(
+    rt: &impl Abort,
+    alloc: Global,
+    source: &mut Source<A>,
+    line: &str,
+) -> Result<(), Fail> {
+    let mut reader = Chopped::new(&[0x89, 0x00], 2);
+    let again = source.next(&mut Input::new(&mut reader));
+    expect_count(rt, reader.left(), 2);
+    expect_last(rt, alloc, &again, line)
+}
+
+/// Behind its end a source answers the same, and doesn't read.
+pub fn expect_again<A: Allocator + Copy>(
+    rt: &impl Abort,
+    alloc: Global,
+    source: &mut Source<A>,
+    line: &str,
+) -> Result<(), Fail> {
+    expect_at_its_end(rt, alloc, source, line)?;
+    expect_at_its_end(rt, alloc, source, line)
+}
+
+/// How a stream is read: its name, what is made of it, how many of its bytes are given, and how many at most by each
+/// call.
+#[derive(Clone, Copy)]
+pub struct Reading<'a> {
+    pub name: &'a str,
+    pub how: &'static str,
+    pub count: usize,
+    pub most: usize,
+}
+
+impl<'a> Reading<'a> {
+    /// Of all of a stream's bytes, by at most so many a call.
+    pub fn whole(stream: &'a Stream, how: &'static str, most: usize) -> Self {
+        Reading {
+            name: stream.name,
+            how,
+            count: stream.bytes.len(),
+            most,
+        }
+    }
+
+    /// Fails unless this is the line that is wanted.
+    pub fn expect_line(&self, rt: &impl Abort, line: &str, wanted: &str) {
+        let Reading {
+            name,
+            how,
+            count,
+            most,
+        } = *self;
+        assert_eq!(rt; line, wanted, "{name}, {how}: {count} bytes by {most}");
+    }
+
+    /// Fails unless this is the line of the answer.
+    pub fn expect_answer(
+        &self,
+        rt: &impl Abort,
+        alloc: Global,
+        answer: &Result<Verdict, Stop>,
+        wanted: &str,
+    ) -> Result<(), Fail> {
+        let line = answer_line(alloc, answer)?;
+        self.expect_line(rt, line.as_str(), wanted);
+        Ok(())
+    }
+
+    /// Fails unless this holds.
+    pub fn expect(&self, rt: &impl Abort, holds: bool, told: &str) {
+        let Reading {
+            name,
+            how,
+            count,
+            most,
+        } = *self;
+        assert!(rt; holds, "{name}, {how}: {count} bytes by {most}: {told}");
+    }
+
+    /// Fails unless these are the bytes that are wanted.
+    pub fn expect_bytes(&self, rt: &impl Abort, bytes: &[u8], wanted: &[u8]) {
+        self.expect(rt, bytes == wanted, "other bytes than are wanted");
+    }
+
+    /// Fails unless the first of the bytes are these.
+    pub fn expect_front(&self, rt: &impl Abort, front: &[u8], bytes: &[u8]) {
+        self.expect(rt, bytes.starts_with(front), "no front of what is wanted");
+    }
+}
 
 /// Fails unless a run ended by this status, with these bytes on standard output and these on standard error.
 pub fn expect_outcome(rt: &impl Abort, done: &Outcome, status: u8, out: &[u8], said: &[u8]) {
-    assert_eq!(rt; done.out.as_slice(), out);
-    assert_eq!(rt; done.said.as_slice(), said);
-    assert_eq!(rt; done.status, status);
+    expect_bytes(rt, done.out.as_slice(), out);
+    expect_bytes(rt, done.said.as_slice(), said);
+    expect_count(rt, usize::from(done.status), usize::from(status));
+}
+
+/// Fails unless a command tells in one line that its reader failed before the first byte.
+pub fn expect_failed_read<A: Allocator + Copy>(
+    rt: &impl Abort,
+    heap: A,
+    alloc: Global,
+    job: &Job<A>,
+)
+    requires { MayRun job.now }
+{
+    let reader = Chopped::breaking(&[], 1);
+    let done = outcome_on(heap, alloc, job, reader, Narrow::wide(alloc));
+    expect_outcome(rt, &done, 2, &[], b"read failed\n");
+}
+
+/// Fails unless a command of these bytes tells in one line that its writer failed behind what is written out, in each
+/// way.
+pub fn expect_failed_writes<A: Allocator + Copy>(
+    rt: &impl Abort,
+    heap: A,
+    alloc: Global,
+    job: &Job<A>,
+    bytes: &[u8],
+    out: &[u8],
+)
+    requires { MayRun job.now }
+{
+    for full in FULL {
+        let reader = Chopped::new(bytes, usize::MAX);
+        let writer = Narrow::new(alloc, 1, out.len(), full);
+        let done = outcome_on(heap, alloc, job, reader, writer);
+        expect_outcome(rt, &done, 2, out, b"write failed\n");
+    }
 }

@@ -1,45 +1,62 @@
 //! A head's bytes, read one after another and written.
 
-use std::test::Fail;
+use crate::expecting::expect_bytes;
+use std::process::Abort;
 use wsn_wire::{
     FirstByte, Form, LenForm, Lengths, Op, Reason, Role, eight, first, head, head_as, second, two,
 };
 
-#[test]
-fn first_bytes(rt: HostRuntime) -> Result<(), Fail> {
-    assert_eq!(rt; first(0xc1), Err(Reason::ReservedBits));
-    assert_eq!(rt; first(0x0b), Err(Reason::ReservedOpcode));
-    assert_eq!(rt; first(0x09), Err(Reason::ControlNotFinal));
-    let last = first(0x80).ok().ok_or("80")?;
-    assert_eq!(rt; (last.fin, last.op), (true, Op::Continue));
-    let text = first(0x01).ok().ok_or("01")?;
-    assert_eq!(rt; (text.fin, text.op), (false, Op::Text));
-    let pong = first(0x8a).ok().ok_or("8a")?;
-    assert_eq!(rt; (pong.fin, pong.op), (true, Op::Pong));
-    Ok(())
+/// Fails unless a first byte is final and of an opcode as told, or is refused so.
+fn expect_first(rt: &impl Abort, byte: u8, wanted: Result<(bool, Op), Reason>) {
+    let told = match first(byte) {
+        Ok(first) => Ok((first.fin, first.op)),
+        Err(reason) => Err(reason),
+    };
+    assert_eq!(rt; told, wanted, "{byte}");
 }
 
 #[test]
-fn second_bytes(rt: HostRuntime) {
+fn first_bytes(rt: HostRuntime) {
+    expect_first(&rt, 0xc1, Err(Reason::ReservedBits));
+    expect_first(&rt, 0x0b, Err(Reason::ReservedOpcode));
+    expect_first(&rt, 0x09, Err(Reason::ControlNotFinal));
+    expect_first(&rt, 0x80, Ok((true, Op::Continue)));
+    expect_first(&rt, 0x01, Ok((false, Op::Text)));
+    expect_first(&rt, 0x8a, Ok((true, Op::Pong)));
+}
+
+/// Fails unless a second byte behind that first one is of a length as told, or is refused so.
+fn expect_second(
+    rt: &impl Abort,
+    first: FirstByte,
+    role: Role,
+    byte: u8,
+    wanted: Result<LenForm, Reason>,
+) {
+    assert_eq!(rt; second(first, role, byte), wanted, "{byte}");
+}
+
+#[test]
+fn second_bytes_of_a_control(rt: HostRuntime) {
     let close = FirstByte {
         fin: true,
         op: Op::Close,
     };
-    for (role, byte, want) in [
-        (Role::Client, 0x01, Err(Reason::MaskMissing)),
-        (Role::Server, 0x01, Err(Reason::CloseOneByte)),
-        (Role::Server, 0xfe, Err(Reason::MaskPresent)),
-        (Role::Server, 0x7e, Err(Reason::ControlTooLong)),
-        (Role::Server, 0x7d, Ok(LenForm::Short(125))),
-    ] {
-        assert_eq!(rt; second(close, role, byte), want, "{role:?} {byte}");
-    }
+    expect_second(&rt, close, Role::Client, 0x01, Err(Reason::MaskMissing));
+    expect_second(&rt, close, Role::Server, 0x01, Err(Reason::CloseOneByte));
+    expect_second(&rt, close, Role::Server, 0xfe, Err(Reason::MaskPresent));
+    expect_second(&rt, close, Role::Server, 0x7e, Err(Reason::ControlTooLong));
+    expect_second(&rt, close, Role::Server, 0x7d, Ok(LenForm::Short(125)));
+}
+
+#[test]
+fn second_bytes_of_a_message(rt: HostRuntime) {
     let text = FirstByte {
         fin: true,
         op: Op::Text,
     };
-    assert_eq!(rt; second(text, Role::Server, 0x7f), Ok(LenForm::Eight));
-    assert_eq!(rt; second(text, Role::Client, 0xfe), Ok(LenForm::Two));
+    expect_second(&rt, text, Role::Server, 0x7f, Ok(LenForm::Eight));
+    expect_second(&rt, text, Role::Client, 0xfe, Ok(LenForm::Two));
 }
 
 #[test]
@@ -78,19 +95,16 @@ fn heads(rt: HostRuntime) {
         (65535, &[0x82, 0x7e, 0xff, 0xff]),
         (65536, &[0x82, 0x7f, 0, 0, 0, 0, 0, 1, 0, 0]),
     ] {
-        let written = head(true, Op::Binary, None, len);
-        assert_eq!(rt; written.as_slice(), bytes, "{len}");
+        expect_bytes(&rt, head(true, Op::Binary, None, len).as_slice(), bytes);
     }
+}
+
+#[test]
+fn heads_with_a_key_or_in_a_longer_form(rt: HostRuntime) {
     let hello = head(true, Op::Text, Some([0x37, 0xfa, 0x21, 0x3d]), 5);
-    assert_eq!(rt;
-        hello.as_slice(),
-        [0x81, 0x85, 0x37, 0xfa, 0x21, 0x3d].as_slice()
-    );
+    expect_bytes(&rt, hello.as_slice(), &[0x81, 0x85, 0x37, 0xfa, 0x21, 0x3d]);
     let two = head_as(true, Op::Text, None, 1, Form::Two);
-    assert_eq!(rt; two.as_slice(), [0x81, 0x7e, 0x00, 0x01].as_slice());
+    expect_bytes(&rt, two.as_slice(), &[0x81, 0x7e, 0x00, 0x01]);
     let eight = head_as(true, Op::Text, None, 1, Form::Eight);
-    assert_eq!(rt;
-        eight.as_slice(),
-        [0x81, 0x7f, 0, 0, 0, 0, 0, 0, 0, 1].as_slice()
-    );
+    expect_bytes(&rt, eight.as_slice(), &[0x81, 0x7f, 0, 0, 0, 0, 0, 0, 0, 1]);
 }

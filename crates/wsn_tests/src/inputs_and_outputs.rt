@@ -1,7 +1,9 @@
 //! An input and an output over readers and writers that chop, fail and stall: each call of them, and none again.
 
+use crate::expecting::expect_bytes;
 use arrayvec::ArrayVec;
 use std::io::{self, Read, Write};
+use std::process::Abort;
 use wsn_wire::{Input, Output};
 
 /// Gives one byte, then an error, then nothing.
@@ -24,19 +26,28 @@ impl Read for FailsOnce {
     }
 }
 
+/// Fails unless a read by an input answers this, and behind it a read has failed, or hasn't.
+fn expect_read(
+    rt: &impl Abort,
+    input: &mut Input<&mut FailsOnce>,
+    into: &mut [u8; 4],
+    wanted: Option<usize>,
+    failed: bool,
+) {
+    assert_eq!(rt; input.read(into), wanted);
+    assert!(rt; input.failed() == failed);
+}
+
 #[test]
 fn an_input_calls_its_reader_once(rt: HostRuntime) {
     let mut reader = FailsOnce { calls: 0 };
     let mut input = Input::new(&mut reader);
     let mut into = [0; 4];
-    assert_eq!(rt; input.read(&mut into), Some(1));
-    assert_eq!(rt; into, [7, 0, 0, 0]);
-    assert!(rt; !input.failed());
-    assert_eq!(rt; input.read(&mut into), None);
-    assert!(rt; input.failed());
-    assert_eq!(rt; input.read(&mut into), Some(0));
-    assert!(rt; input.failed());
-    assert_eq!(rt; reader.calls, 3);
+    expect_read(&rt, &mut input, &mut into, Some(1), false);
+    assert!(rt; into == [7, 0, 0, 0]);
+    expect_read(&rt, &mut input, &mut into, None, true);
+    expect_read(&rt, &mut input, &mut into, Some(0), true);
+    assert!(rt; reader.calls == 3);
 }
 
 /// Takes at most three bytes a call, and fails at the call `bad`.
@@ -61,6 +72,18 @@ impl Write for Choppy {
     }
 }
 
+/// Fails unless an output puts these bytes, or doesn't, and behind them a write has failed, or hasn't.
+fn expect_put<W: Write>(
+    rt: &impl Abort,
+    output: &mut Output<W>,
+    bytes: &[u8],
+    is_put: bool,
+    failed: bool,
+) {
+    assert!(rt; output.put(bytes) == is_put, "{bytes:?}");
+    assert!(rt; output.failed() == failed, "{bytes:?}");
+}
+
 #[test]
 fn an_output_goes_on_after_a_short_write(rt: HostRuntime) {
     let mut writer = Choppy {
@@ -69,24 +92,20 @@ fn an_output_goes_on_after_a_short_write(rt: HostRuntime) {
         bad: 4,
     };
     let mut output = Output::new(&mut writer);
-    assert!(rt; output.put(b""));
-    assert!(rt; output.put(b"abcdefg"));
-    assert!(rt; !output.failed());
-    assert!(rt; !output.put(b"hi"));
-    assert!(rt; output.failed());
-    assert!(rt; output.put(b"jk"));
-    assert!(rt; output.failed());
-    assert_eq!(rt; writer.calls, 5);
-    assert_eq!(rt; writer.got.as_slice(), b"abcdefgjk".as_slice());
+    expect_put(&rt, &mut output, b"", true, false);
+    expect_put(&rt, &mut output, b"abcdefg", true, false);
+    expect_put(&rt, &mut output, b"hi", false, true);
+    expect_put(&rt, &mut output, b"jk", true, true);
+    assert!(rt; writer.calls == 5);
+    expect_bytes(&rt, writer.got.as_slice(), b"abcdefgjk");
 }
 
 #[test]
 fn an_output_that_is_full_fails(rt: HostRuntime) {
     let mut full: ArrayVec<u8, 4> = ArrayVec::new();
     let mut output = Output::new(&mut full);
-    assert!(rt; !output.put(b"abcdef"));
-    assert!(rt; output.failed());
-    assert_eq!(rt; full.as_slice(), b"abcd".as_slice());
+    expect_put(&rt, &mut output, b"abcdef", false, true);
+    expect_bytes(&rt, full.as_slice(), b"abcd");
 }
 
 /// Takes nothing, or fails, at its first call, and would take all at the next.
@@ -123,9 +142,7 @@ fn an_output_tries_nothing_again(rt: HostRuntime) {
             fails,
         };
         let mut output = Output::new(&mut writer);
-        assert!(rt; !output.put(b"ab"), "{fails}");
-        assert!(rt; output.failed(), "{fails}");
-        assert_eq!(rt; writer.calls, 1, "{fails}");
-        assert!(rt; writer.got.is_empty(), "{fails}");
+        expect_put(&rt, &mut output, b"ab", false, true);
+        assert!(rt; writer.calls == 1 && writer.got.is_empty(), "{fails}");
     }
 }

@@ -1,6 +1,7 @@
 //! Readers that are interrupted or would block, and would go on at the next call: any error counts, and nothing is
 //! tried again.
 
+use crate::expecting::{expect_answer, expect_count};
 use std::alloc::Global;
 use std::io::ErrorKind;
 use std::process::Abort;
@@ -11,8 +12,8 @@ use wsn_doubles::engines::{
 use wsn_doubles::lines::{answer_line, compared_line, planned_line, recut_line};
 use wsn_doubles::readers::Chopped;
 use wsn_doubles::rows::{Stream, line_behind, stream_named, streams};
-use wsn_plan::Plan;
-use wsn_scan::judge;
+use wsn_plan::{Plan, RecutAnswer};
+use wsn_scan::{Stop, Verdict, judge};
 use wsn_wire::Input;
 
 const KINDS: [ErrorKind; 2] = [ErrorKind::Interrupted, ErrorKind::WouldBlock];
@@ -43,78 +44,136 @@ impl<'a> Stumble<'a> {
         let count = self.count;
         assert_eq!(rt; line, self.wanted, "{name}: behind {count}");
     }
+
+    fn expect_answer(
+        &self,
+        rt: &impl Abort,
+        alloc: Global,
+        answer: &Result<Verdict, Stop>,
+    ) -> Result<(), Fail> {
+        let line = answer_line(alloc, answer)?;
+        self.expect(rt, line.as_str());
+        Ok(())
+    }
+
+    fn expect_recut(
+        &self,
+        rt: &impl Abort,
+        alloc: Global,
+        answer: &Result<RecutAnswer, Stop>,
+    ) -> Result<(), Fail> {
+        let line = recut_line(alloc, answer)?;
+        self.expect(rt, line.as_str());
+        Ok(())
+    }
+
+    /// Fails unless this is told of how two readers compare.
+    fn expect_stopped(
+        &self,
+        rt: &impl Abort,
+        alloc: Global,
+        first: Chopped,
+        second: Chopped,
+    ) -> Result<(), Fail> {
+        let answer = compared(alloc, first, second, self.stream.role, self.stream.limits);
+        let line = compared_line(alloc, &answer)?;
+        self.expect(rt, line.as_str());
+        Ok(())
+    }
 }
 
-fn expect_told(rt: &impl Abort, alloc: Global, stumble: &Stumble) -> Result<(), Fail> {
+/// What `judge`, `list` and `normalise` tell, by reads of at most so many bytes.
+fn expect_told(rt: &impl Abort, alloc: Global, stumble: &Stumble, most: usize) -> Result<(), Fail> {
     let stream = stumble.stream;
     let mut out = Vec::new(alloc);
-    for most in [2, 4_096] {
-        let answer = judged(stream, stumble.reader(most));
-        stumble.expect(rt, answer_line(alloc, &answer)?.as_str());
-        let answer = listed(stream, stumble.reader(most), &mut out);
-        stumble.expect(rt, answer_line(alloc, &answer)?.as_str());
-        let answer = normalised(alloc, stream, stumble.reader(most), &mut out);
-        stumble.expect(rt, answer_line(alloc, &answer)?.as_str());
-    }
-    Ok(())
+    stumble.expect_answer(rt, alloc, &judged(stream, stumble.reader(most)))?;
+    let answer = listed(stream, stumble.reader(most), &mut out);
+    stumble.expect_answer(rt, alloc, &answer)?;
+    let answer = normalised(alloc, stream, stumble.reader(most), &mut out);
+    stumble.expect_answer(rt, alloc, &answer)
 }
 
-fn expect_planned(rt: &impl Abort, alloc: Global, stumble: &Stumble) -> Result<(), Fail> {
+/// What planning tells, by reads of at most so many bytes.
+fn expect_planned(
+    rt: &impl Abort,
+    alloc: Global,
+    stumble: &Stumble,
+    most: usize,
+) -> Result<(), Fail> {
     let (role, limits) = (stumble.stream.role, stumble.stream.limits);
-    for most in [2, 4_096] {
-        let answer = planned(alloc, role, limits, stumble.reader(most));
-        stumble.expect(rt, planned_line(alloc, &answer)?.as_str());
-    }
+    let answer = planned(alloc, role, limits, stumble.reader(most));
+    let line = planned_line(alloc, &answer)?;
+    stumble.expect(rt, line.as_str());
     Ok(())
 }
 
-/// Whatever a recut is by: a plan of no steps, or a size.
-fn expect_recut(rt: &impl Abort, alloc: Global, stumble: &Stumble) -> Result<(), Fail> {
+/// What a recut by a plan of no steps tells, by reads of at most so many bytes. It writes nothing.
+fn expect_recut_by_plan(
+    rt: &impl Abort,
+    alloc: Global,
+    stumble: &Stumble,
+    most: usize,
+) -> Result<(), Fail> {
     let (role, limits) = (stumble.stream.role, stumble.stream.limits);
     let plan = Plan::new(alloc);
+    let mut out = Vec::new(alloc);
+    let answer = recut_by(alloc, role, limits, &plan, stumble.reader(most), &mut out);
+    assert!(rt; out.is_empty());
+    stumble.expect_recut(rt, alloc, &answer)
+}
+
+/// What a recut by a size tells, by reads of at most so many bytes. It writes nothing.
+fn expect_recut_by_size(
+    rt: &impl Abort,
+    alloc: Global,
+    stumble: &Stumble,
+    most: usize,
+) -> Result<(), Fail> {
+    let (role, limits) = (stumble.stream.role, stumble.stream.limits);
     let sizes = Sizes {
         size: 2,
         weave: false,
     };
     let mut out = Vec::new(alloc);
-    for most in [2, 4_096] {
-        let reader = stumble.reader(most);
-        let answer = recut_by(alloc, role, limits, &plan, reader, &mut out);
-        stumble.expect(rt, recut_line(alloc, &answer)?.as_str());
-        let reader = stumble.reader(most);
-        let answer = recut_uniformly(alloc, role, limits, sizes, reader, &mut out);
-        stumble.expect(rt, recut_line(alloc, &answer)?.as_str());
-    }
+    let answer = recut_uniformly(alloc, role, limits, sizes, stumble.reader(most), &mut out);
     assert!(rt; out.is_empty());
+    stumble.expect_recut(rt, alloc, &answer)
+}
+
+/// What `same` tells of a failed read of either.
+fn expect_compared(rt: &impl Abort, alloc: Global, stumble: &Stumble) -> Result<(), Fail> {
+    if stumble.wanted == "read failed" {
+        let empty = Chopped::new(&[], 2);
+        stumble.expect_stopped(rt, alloc, stumble.reader(2), empty)?;
+        let empty = Chopped::new(&[], 2);
+        stumble.expect_stopped(rt, alloc, empty, stumble.reader(2))?;
+    }
     Ok(())
 }
 
-fn expect_compared(rt: &impl Abort, alloc: Global, stumble: &Stumble) -> Result<(), Fail> {
-    if stumble.wanted != "read failed" {
-        return Ok(());
+/// Each engine where a stream's reader fails once.
+fn expect_each(rt: &impl Abort, alloc: Global, stumble: &Stumble) -> Result<(), Fail> {
+    for most in [2, 4_096] {
+        expect_told(rt, alloc, stumble, most)?;
+        expect_planned(rt, alloc, stumble, most)?;
+        expect_recut_by_plan(rt, alloc, stumble, most)?;
+        expect_recut_by_size(rt, alloc, stumble, most)?;
     }
-    let (role, limits) = (stumble.stream.role, stumble.stream.limits);
-    let answer = compared(alloc, stumble.reader(2), Chopped::new(&[], 2), role, limits);
-    stumble.expect(rt, compared_line(alloc, &answer)?.as_str());
-    let answer = compared(alloc, Chopped::new(&[], 2), stumble.reader(2), role, limits);
-    stumble.expect(rt, compared_line(alloc, &answer)?.as_str());
-    Ok(())
+    expect_compared(rt, alloc, stumble)
 }
 
 /// Each engine at each place of a stream where its reader may fail.
 fn expect_ended(rt: &impl Abort, alloc: Global, stream: &Stream) -> Result<(), Fail> {
     for front in stream.fronts(alloc)? {
+        let wanted = line_behind(stream, front)?;
         for kind in KINDS {
             let stumble = Stumble {
                 stream,
                 count: front.len(),
                 kind,
-                wanted: line_behind(stream, front)?,
+                wanted,
             };
-            expect_told(rt, alloc, &stumble)?;
-            expect_planned(rt, alloc, &stumble)?;
-            expect_recut(rt, alloc, &stumble)?;
-            expect_compared(rt, alloc, &stumble)?;
+            expect_each(rt, alloc, &stumble)?;
         }
     }
     Ok(())
@@ -122,11 +181,26 @@ fn expect_ended(rt: &impl Abort, alloc: Global, stream: &Stream) -> Result<(), F
 
 #[test]
 fn any_error_of_a_reader_ends_the_work(rt: HostRuntime) -> Result<(), Fail> {
-    let alloc = rt.alloc();
-    for stream in streams(alloc)?.iter() {
-        expect_ended(&rt, alloc, stream)?;
+    for stream in streams(rt.alloc())?.iter() {
+        expect_ended(&rt, rt.alloc(), stream)?;
     }
     Ok(())
+}
+
+/// Fails unless `judge` reads nothing behind the place where its reader fails.
+fn expect_left(
+    rt: &impl Abort,
+    alloc: Global,
+    stream: &Stream,
+    left: usize,
+    kind: ErrorKind,
+) -> Result<(), Fail> {
+    let mut reader = Chopped::stumbling(stream.bytes.as_slice(), 3, left, kind);
+    let mut input = Input::new(&mut reader);
+    let answer = judge(&mut input, stream.role, stream.limits);
+    assert!(rt; input.failed());
+    expect_count(rt, reader.left(), left);
+    expect_answer(rt, alloc, &answer, "read failed")
 }
 
 /// The reader isn't called again.
@@ -134,15 +208,9 @@ fn any_error_of_a_reader_ends_the_work(rt: HostRuntime) -> Result<(), Fail> {
 fn nothing_is_read_behind_an_error(rt: HostRuntime) -> Result<(), Fail> {
     let alloc = rt.alloc();
     let stream = stream_named(alloc, "Hello in two fragments, and a ping between them")?;
-    let bytes = stream.bytes.as_slice();
-    for left in 0..=bytes.len() {
+    for left in 0..=stream.bytes.len() {
         for kind in KINDS {
-            let mut reader = Chopped::stumbling(bytes, 3, left, kind);
-            let mut input = Input::new(&mut reader);
-            let answer = judge(&mut input, stream.role, stream.limits);
-            assert!(rt; input.failed());
-            assert_eq!(rt; answer_line(alloc, &answer)?.as_str(), "read failed");
-            assert_eq!(rt; reader.left(), left);
+            expect_left(&rt, alloc, &stream, left, kind)?;
         }
     }
     Ok(())

@@ -5,14 +5,14 @@
 //! every rule. Each command has a file: `judge`, `frames`, `normal`, `same`. `scanner`, `source`, `events` and `limits`
 //! are of what the commands are made of.
 //!
-//! Hostile use: `endings` is of streams that are cut short, go on or never end; `stops` and `command_stops` of readers
-//! and writers that fail, `interruptions` of readers that would go on; `memory` and `later_growths` of memory that is
-//! refused.
+//! Hostile use: `endings` is of streams that are cut short, go on or never end; `stops`, `failed_writes` and
+//! `command_stops` of readers and writers that fail, `interruptions` of readers that would go on; `memory`,
+//! `memory_of_same` and `later_growths` of memory that is refused.
 //!
 //! What a stream is read and written by: `heads`, `masking` and `reasons` of a frame's parts, `utf8` and `close_codes` of
 //! payloads, `inputs_and_outputs` and `tied` of readers and writers.
 //!
-//! `expecting` asserts what is wanted of a command's run.
+//! `expecting` asserts what is wanted of lines, bytes, a source's last answer and a command's run.
 #![tactic(auto)]
 
 #[cfg(test)]
@@ -27,6 +27,8 @@ mod events;
 mod every_way;
 #[cfg(test)]
 mod expecting;
+#[cfg(test)]
+mod failed_writes;
 #[cfg(test)]
 mod frames;
 #[cfg(test)]
@@ -45,6 +47,8 @@ mod limits;
 mod masking;
 #[cfg(test)]
 mod memory;
+#[cfg(test)]
+mod memory_of_same;
 #[cfg(test)]
 mod normal;
 #[cfg(test)]

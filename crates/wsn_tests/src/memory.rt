@@ -1,21 +1,18 @@
 //! Memory that is refused, one growth after another: each call then answers that, and nothing in its place. Where
 //! there is enough it answers what it does elsewhere.
 
-use crate::expecting::expect_outcome;
-use crate::same::PAIRS;
-use crate::source::{expect_again, last_line};
+use crate::expecting::{expect_again, expect_answer, expect_bytes, expect_last, expect_outcome};
 use std::alloc::{Allocator, Global};
 use std::process::Abort;
 use std::test::Fail;
 use wsn_canon::{Next, Source, normalise};
-use wsn_doubles::engines::compared;
 use wsn_doubles::heaps::{BLOCK, heap_of};
-use wsn_doubles::lines::{answer_line, compared_line};
-use wsn_doubles::outcomes::{compared_on, outcome_on};
+use wsn_doubles::outcomes::outcome_on;
 use wsn_doubles::readers::Chopped;
 use wsn_doubles::rows::{filled, greatest, stream_named};
 use wsn_doubles::writers::Narrow;
 use wsn_job::Job;
+use wsn_scan::Stop;
 use wsn_wire::{Input, Output, Role};
 
 /// A stream with one message, its verdict and its normal form. Memory is asked for where a byte of the message comes:
@@ -66,8 +63,25 @@ static GROWING: [Growing; 4] = [
 ];
 
 /// For how many short messages there is memory.
-const ROOMS: [usize; 3] = [0, 1, 2];
+pub const ROOMS: [usize; 3] = [0, 1, 2];
 
+/// What a source answers behind two events at most.
+fn last_of<A: Allocator + Copy>(
+    rt: &impl Abort,
+    source: &mut Source<A>,
+    input: &mut Input<&mut Chopped>,
+) -> Result<Next<A>, Stop> {
+    for _ in 0..3 {
+        assert!(rt; !input.failed());
+        let next = source.next(input);
+        if !matches!(&next, Ok(Next::Event(_))) {
+            return next;
+        }
+    }
+    panic!(rt; "no end")
+}
+
+/// Fails unless a source tells events and then the line, and that from then on.
 fn expect_end<A: Allocator + Copy>(
     rt: &impl Abort,
     heap: A,
@@ -75,81 +89,133 @@ fn expect_end<A: Allocator + Copy>(
     growing: &Growing,
     line: &str,
 ) -> Result<(), Fail> {
+    let limits = greatest()?;
     let mut reader = Chopped::new(growing.bytes, 1);
     let mut input = Input::new(&mut reader);
-    let mut source = Source::new(heap, growing.role, greatest()?);
-    for _ in 0..3 {
-        assert!(rt; !input.failed());
-        let next = source.next(&mut input);
-        if let Ok(Next::Event(_)) = &next {
-            continue;
-        }
-        assert_eq!(rt; last_line(alloc, &next)?.as_str(), line);
-        return expect_again(rt, alloc, &mut source, line);
+    let mut source = Source::new(heap, growing.role, limits);
+    let last = last_of(rt, &mut source, &mut input);
+    expect_last(rt, alloc, &last, line)?;
+    expect_again(rt, alloc, &mut source, line)
+}
+
+/// What a source answers where there is memory for so many short messages.
+fn expect_sources(rt: &impl Abort, alloc: Global, room: usize) -> Result<(), Fail> {
+    let heap = heap_of(alloc, room)?;
+    for growing in GROWING.iter() {
+        let line = match room {
+            0 => "out of memory",
+            _ => growing.verdict,
+        };
+        expect_end(rt, &heap, alloc, growing, line)?;
     }
-    panic!(rt; "no end")
+    Ok(())
 }
 
 #[test]
 fn a_source_answers_that_memory_is_refused(rt: HostRuntime) -> Result<(), Fail> {
-    let alloc = rt.alloc();
     for room in ROOMS {
-        let heap = heap_of(alloc, room)?;
-        for growing in GROWING.iter() {
-            let line = match room {
-                0 => "out of memory",
-                _ => growing.verdict,
-            };
-            expect_end(&rt, &heap, alloc, growing, line)?;
-        }
+        expect_sources(&rt, rt.alloc(), room)?;
+    }
+    Ok(())
+}
+
+/// Fails unless `normalise` writes these bytes, and its answer has this line.
+fn expect_normalised<A: Allocator + Copy>(
+    rt: &impl Abort,
+    heap: A,
+    alloc: Global,
+    growing: &Growing,
+    line: &str,
+    written: &[u8],
+) -> Result<(), Fail> {
+    let limits = greatest()?;
+    let mut out = Vec::new(alloc);
+    let answer = normalise(
+        heap,
+        &mut Input::new(&mut Chopped::new(growing.bytes, 1)),
+        &mut Output::new(&mut out),
+        growing.role,
+        limits,
+    );
+    expect_bytes(rt, out.as_slice(), written);
+    expect_answer(rt, alloc, &answer, line)
+}
+
+/// What `normalise` answers where there is memory for so many short messages.
+fn expect_normal_forms(rt: &impl Abort, alloc: Global, room: usize) -> Result<(), Fail> {
+    let heap = heap_of(alloc, room)?;
+    for growing in GROWING.iter() {
+        let (line, written) = match room {
+            0 => ("out of memory", growing.before),
+            _ => (growing.verdict, growing.normal),
+        };
+        expect_normalised(rt, &heap, alloc, growing, line, written)?;
     }
     Ok(())
 }
 
 #[test]
 fn normalise_answers_that_memory_is_refused(rt: HostRuntime) -> Result<(), Fail> {
-    let alloc = rt.alloc();
     for room in ROOMS {
-        let heap = heap_of(alloc, room)?;
-        for growing in GROWING.iter() {
-            let mut out = Vec::new(alloc);
-            let answer = normalise(
-                &heap,
-                &mut Input::new(&mut Chopped::new(growing.bytes, 1)),
-                &mut Output::new(&mut out),
-                growing.role,
-                greatest()?,
-            );
-            let line = answer_line(alloc, &answer)?;
-            if room == 0 {
-                assert_eq!(rt; line.as_str(), "out of memory");
-                assert_eq!(rt; out.as_slice(), growing.before);
-            } else {
-                assert_eq!(rt; line.as_str(), growing.verdict);
-                assert_eq!(rt; out.as_slice(), growing.normal);
-            }
-        }
+        expect_normal_forms(&rt, rt.alloc(), room)?;
+    }
+    Ok(())
+}
+
+/// Fails unless the command writes what it does where memory is refused, or where there is enough.
+fn expect_normal<A: Allocator + Copy>(
+    rt: &impl Abort,
+    heap: A,
+    alloc: Global,
+    growing: &Growing,
+    is_served: bool,
+) -> Result<(), Fail> {
+    let job = Job::Normal(growing.role, greatest()?);
+    let reader = Chopped::new(growing.bytes, 1);
+    let done = outcome_on(heap, alloc, &job, reader, Narrow::wide(alloc));
+    if is_served {
+        expect_outcome(rt, &done, 0, growing.normal, &[]);
+    } else {
+        expect_outcome(rt, &done, 2, growing.before, b"out of memory\n");
+    }
+    Ok(())
+}
+
+/// What `normal` says where there is memory for so many short messages.
+fn expect_each_normal(rt: &impl Abort, alloc: Global, room: usize) -> Result<(), Fail> {
+    let heap = heap_of(alloc, room)?;
+    for growing in GROWING.iter() {
+        expect_normal(rt, &heap, alloc, growing, room > 0)?;
     }
     Ok(())
 }
 
 #[test]
 fn normal_says_that_memory_is_refused(rt: HostRuntime) -> Result<(), Fail> {
-    let alloc = rt.alloc();
     for room in ROOMS {
-        let heap = heap_of(alloc, room)?;
-        for growing in GROWING.iter() {
-            let job = Job::Normal(growing.role, greatest()?);
-            let reader = Chopped::new(growing.bytes, 1);
-            let done = outcome_on(&heap, alloc, &job, reader, Narrow::wide(alloc));
-            if room > 0 {
-                expect_outcome(&rt, &done, 0, growing.normal, &[]);
-            } else {
-                expect_outcome(&rt, &done, 2, growing.before, b"out of memory\n");
-            }
-        }
+        expect_each_normal(&rt, rt.alloc(), room)?;
     }
     Ok(())
+}
+
+/// Whether the command has memory enough in a heap for a ping and a message, which come by 7 bytes. Fails unless it
+/// writes both then, and else the ping alone.
+fn is_served<A: Allocator + Copy>(
+    rt: &impl Abort,
+    heap: A,
+    alloc: Global,
+    bytes: &[u8],
+) -> Result<bool, Fail> {
+    let job = Job::Normal(Role::Server, greatest()?);
+    let reader = Chopped::new(bytes, 7);
+    let done = outcome_on(heap, alloc, &job, reader, Narrow::wide(alloc));
+    let is_served = done.status == 0;
+    if is_served {
+        expect_outcome(rt, &done, 0, bytes, &[]);
+    } else {
+        expect_outcome(rt, &done, 2, &[0x89, 0x00], b"out of memory\n");
+    }
+    Ok(is_served)
 }
 
 /// A ping, and a message of 60 bytes that comes by 7, which grows more than once. No heap of fewer bytes has room.
@@ -157,66 +223,28 @@ fn normal_says_that_memory_is_refused(rt: HostRuntime) -> Result<(), Fail> {
 fn a_later_growth_is_refused_alike(rt: HostRuntime) -> Result<(), Fail> {
     let alloc = rt.alloc();
     let bytes = filled(alloc, &[0x89, 0x00, 0x82, 0x3c], 0, 60)?;
-    let mut is_served = false;
+    let mut served = false;
     for blocks in 1..16usize {
         let heap = heap_of(alloc, blocks)?;
-        let job = Job::Normal(Role::Server, greatest()?);
-        let reader = Chopped::new(bytes.as_slice(), 7);
-        let done = outcome_on(&heap, alloc, &job, reader, Narrow::wide(alloc));
-        is_served = done.status == 0;
-        assert!(rt; !is_served || blocks * BLOCK >= 60);
-        if is_served {
-            expect_outcome(&rt, &done, 0, bytes.as_slice(), &[]);
-        } else {
-            expect_outcome(&rt, &done, 2, &[0x89, 0x00], b"out of memory\n");
-        }
+        served = is_served(&rt, &heap, alloc, bytes.as_slice())?;
+        assert!(rt; !served || blocks * BLOCK >= 60);
     }
-    assert!(rt; is_served);
+    assert!(rt; served);
     Ok(())
 }
 
-#[test]
-fn comparing_answers_that_memory_is_refused(rt: HostRuntime) -> Result<(), Fail> {
-    let alloc = rt.alloc();
-    for room in ROOMS {
-        let heap = heap_of(alloc, room)?;
-        for pair in PAIRS.iter() {
-            let (first, second) = (pair.first_reader(), pair.second_reader());
-            let answer = compared(&heap, first, second, Role::Server, greatest()?);
-            let line = if room < pair.messages {
-                "out of memory"
-            } else {
-                pair.line
-            };
-            assert_eq!(rt; compared_line(alloc, &answer)?.as_str(), line);
-        }
-    }
-    Ok(())
-}
-
-#[test]
-fn same_says_that_memory_is_refused(rt: HostRuntime) -> Result<(), Fail> {
-    let alloc = rt.alloc();
-    for room in ROOMS {
-        let heap = heap_of(alloc, room)?;
-        for pair in PAIRS.iter() {
-            let done = compared_on(
-                &heap,
-                alloc,
-                greatest()?,
-                pair.first_reader(),
-                pair.second_reader(),
-                Narrow::wide(alloc),
-            );
-            if room < pair.messages {
-                expect_outcome(&rt, &done, 2, &[], b"out of memory\n");
-            } else {
-                let line = pair.line;
-                let printed = format!(in alloc; "{line}\n")?;
-                expect_outcome(&rt, &done, pair.status(), printed.as_bytes(), &[]);
-            }
-        }
-    }
+/// Fails unless the command writes the normal form of the row of that name, with memory from this heap.
+fn expect_control<A: Allocator + Copy>(
+    rt: &impl Abort,
+    heap: A,
+    alloc: Global,
+    name: &str,
+) -> Result<(), Fail> {
+    let stream = stream_named(alloc, name)?;
+    let job = Job::Normal(stream.role, stream.limits);
+    let reader = Chopped::new(stream.bytes.as_slice(), 4_096);
+    let done = outcome_on(heap, alloc, &job, reader, Narrow::wide(alloc));
+    expect_outcome(rt, &done, 0, stream.normal.as_slice(), &[]);
     Ok(())
 }
 
@@ -225,12 +253,6 @@ fn same_says_that_memory_is_refused(rt: HostRuntime) -> Result<(), Fail> {
 fn controls_ask_for_none(rt: HostRuntime) -> Result<(), Fail> {
     let alloc = rt.alloc();
     let heap = heap_of(alloc, 0)?;
-    for name in ["a ping of 125 bytes", "a Close with a reason of 123 bytes"] {
-        let stream = stream_named(alloc, name)?;
-        let job = Job::Normal(stream.role, stream.limits);
-        let reader = Chopped::new(stream.bytes.as_slice(), 4_096);
-        let done = outcome_on(&heap, alloc, &job, reader, Narrow::wide(alloc));
-        expect_outcome(&rt, &done, 0, stream.normal.as_slice(), &[]);
-    }
-    Ok(())
+    expect_control(&rt, &heap, alloc, "a ping of 125 bytes")?;
+    expect_control(&rt, &heap, alloc, "a Close with a reason of 123 bytes")
 }

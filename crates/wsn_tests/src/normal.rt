@@ -1,30 +1,36 @@
 //! `wsn normal`: the normal form on standard output, a verdict that isn't accepted on standard error, and the status.
 
-use crate::expecting::expect_outcome;
+use crate::expecting::{Reading, expect_failed_read, expect_failed_writes, expect_outcome};
+use std::alloc::Global;
+use std::process::Abort;
 use std::test::Fail;
 use wsn_doubles::engines::normalised;
-use wsn_doubles::lines::answer_line;
 use wsn_doubles::outcomes::outcome_on;
 use wsn_doubles::readers::Chopped;
-use wsn_doubles::rows::streams;
-use wsn_doubles::writers::{FULL, Full, Narrow};
+use wsn_doubles::rows::{Stream, streams};
+use wsn_doubles::writers::{Full, Narrow};
 use wsn_job::Job;
+
+/// Fails unless the command writes a stream's normal form, and says its verdict if that isn't accepted.
+fn expect_normal(rt: &impl Abort, alloc: Global, stream: &Stream) -> Result<(), Fail> {
+    let job = Job::Normal(stream.role, stream.limits);
+    let reader = Chopped::new(stream.bytes.as_slice(), 4_096);
+    let done = outcome_on(alloc, alloc, &job, reader, Narrow::wide(alloc));
+    let verdict = stream.verdict;
+    let line = format!(in alloc; "{verdict}\n")?;
+    let normal = stream.normal.as_slice();
+    if stream.is_accepted() {
+        expect_outcome(rt, &done, 0, normal, &[]);
+    } else {
+        expect_outcome(rt, &done, stream.status(), normal, line.as_bytes());
+    }
+    Ok(())
+}
 
 #[test]
 fn normal_forms_are_written_and_other_verdicts_told(rt: HostRuntime) -> Result<(), Fail> {
-    let alloc = rt.alloc();
-    for stream in streams(alloc)?.iter() {
-        let job = Job::Normal(stream.role, stream.limits);
-        let reader = Chopped::new(stream.bytes.as_slice(), 4_096);
-        let done = outcome_on(alloc, alloc, &job, reader, Narrow::wide(alloc));
-        let verdict = stream.verdict;
-        let line = format!(in alloc; "{verdict}\n")?;
-        let said: &[u8] = if stream.is_accepted() {
-            &[]
-        } else {
-            line.as_bytes()
-        };
-        expect_outcome(&rt, &done, stream.status(), stream.normal.as_slice(), said);
+    for stream in streams(rt.alloc())?.iter() {
+        expect_normal(&rt, rt.alloc(), stream)?;
     }
     Ok(())
 }
@@ -34,9 +40,7 @@ fn a_failed_read_is_told_in_one_line(rt: HostRuntime) -> Result<(), Fail> {
     let alloc = rt.alloc();
     for stream in streams(alloc)?.iter() {
         let job = Job::Normal(stream.role, stream.limits);
-        let reader = Chopped::breaking(&[], 1);
-        let done = outcome_on(alloc, alloc, &job, reader, Narrow::wide(alloc));
-        expect_outcome(&rt, &done, 2, &[], b"read failed\n");
+        expect_failed_read(&rt, alloc, alloc, &job);
     }
     Ok(())
 }
@@ -45,34 +49,28 @@ fn a_failed_read_is_told_in_one_line(rt: HostRuntime) -> Result<(), Fail> {
 fn a_failed_write_is_told_in_one_line(rt: HostRuntime) -> Result<(), Fail> {
     let alloc = rt.alloc();
     for stream in streams(alloc)?.iter() {
-        if stream.normal.is_empty() {
-            continue;
-        }
-        let job = Job::Normal(stream.role, stream.limits);
-        for full in FULL {
-            let reader = Chopped::new(stream.bytes.as_slice(), usize::MAX);
-            let writer = Narrow::new(alloc, 1, 1, full);
-            let done = outcome_on(alloc, alloc, &job, reader, writer);
-            expect_outcome(&rt, &done, 2, &stream.normal[..1], b"write failed\n");
+        if let Some(front) = stream.normal.get(..1) {
+            let job = Job::Normal(stream.role, stream.limits);
+            expect_failed_writes(&rt, alloc, alloc, &job, stream.bytes.as_slice(), front);
         }
     }
     Ok(())
 }
 
+/// Fails unless a writer that takes one byte a call is given the normal form.
+fn expect_by_one(rt: &impl Abort, alloc: Global, stream: &Stream) -> Result<(), Fail> {
+    let mut writer = Narrow::new(alloc, 1, usize::MAX, Full::Fails);
+    let reader = Chopped::new(stream.bytes.as_slice(), usize::MAX);
+    let answer = normalised(alloc, stream, reader, &mut writer);
+    let reading = Reading::whole(stream, "normalised", usize::MAX);
+    reading.expect_bytes(rt, writer.taken.as_slice(), stream.normal.as_slice());
+    reading.expect_answer(rt, alloc, &answer, stream.verdict)
+}
+
 #[test]
 fn a_writer_may_take_one_byte_a_call(rt: HostRuntime) -> Result<(), Fail> {
-    let alloc = rt.alloc();
-    for stream in streams(alloc)?.iter() {
-        let mut writer = Narrow::new(alloc, 1, usize::MAX, Full::Fails);
-        let reader = Chopped::new(stream.bytes.as_slice(), usize::MAX);
-        let answer = normalised(alloc, stream, reader, &mut writer);
-        let line = answer_line(alloc, &answer)?;
-        let name = stream.name;
-        assert_eq!(rt; line.as_str(), stream.verdict, "{name}");
-        assert!(rt;
-            writer.taken.as_slice() == stream.normal.as_slice(),
-            "{name}"
-        );
+    for stream in streams(rt.alloc())?.iter() {
+        expect_by_one(&rt, rt.alloc(), stream)?;
     }
     Ok(())
 }

@@ -26,8 +26,7 @@ const REASONS: [(Reason, u8, &str, u16); 17] = [
 #[test]
 fn the_table_of_reasons(rt: HostRuntime) {
     for (reason, number, word, code) in REASONS {
-        assert_eq!(rt; reason.number(), number, "{reason:?}");
-        assert_eq!(rt; reason.word(), word);
-        assert_eq!(rt; reason.code(), code, "{reason:?}");
+        let told = (reason.number(), reason.word(), reason.code());
+        assert_eq!(rt; told, (number, word, code));
     }
 }

@@ -1,14 +1,16 @@
 //! `wsn same`: streams that mean the same, streams that don't, and streams that aren't accepted; the line on standard
 //! output, and the status.
 
-use crate::expecting::expect_outcome;
+use crate::expecting::{Reading, expect_line, expect_outcome};
+use std::alloc::{Allocator, Global};
+use std::process::Abort;
 use std::test::Fail;
 use wsn_doubles::engines::compared;
 use wsn_doubles::lines::compared_line;
 use wsn_doubles::outcomes::compared_on;
 use wsn_doubles::readers::{Chopped, READS};
-use wsn_doubles::rows::{greatest, streams};
-use wsn_doubles::writers::{FULL, Narrow};
+use wsn_doubles::rows::{Stream, greatest, streams};
+use wsn_doubles::writers::{FULL, Full, Narrow};
 use wsn_scan::{Limits, MESSAGE_MAX};
 use wsn_wire::Role;
 
@@ -99,55 +101,93 @@ pub static PAIRS: [Pair; 10] = [
     },
 ];
 
+/// Fails unless this is the line of how the streams of a server compare that two readers give.
+pub fn expect_compared(
+    rt: &impl Abort,
+    alloc: Global,
+    first: Chopped,
+    second: Chopped,
+    wanted: &str,
+) -> Result<(), Fail> {
+    let answer = compared(alloc, first, second, Role::Server, greatest()?);
+    let line = compared_line(alloc, &answer)?;
+    expect_line(rt, line.as_str(), wanted);
+    Ok(())
+}
+
 #[test]
 fn streams_are_compared_by_what_they_mean(rt: HostRuntime) -> Result<(), Fail> {
-    let alloc = rt.alloc();
-    let limits = greatest()?;
     for pair in PAIRS.iter() {
         for most in READS {
-            let answer = compared(
-                alloc,
-                Chopped::new(pair.first, most),
-                Chopped::new(pair.second, 1),
-                Role::Server,
-                limits,
-            );
-            assert_eq!(rt; compared_line(alloc, &answer)?.as_str(), pair.line);
+            let (first, second) = (Chopped::new(pair.first, most), Chopped::new(pair.second, 1));
+            expect_compared(&rt, rt.alloc(), first, second, pair.line)?;
         }
     }
+    Ok(())
+}
+
+/// Fails unless a stream means the same as its normal form.
+fn expect_equal(rt: &impl Abort, alloc: Global, stream: &Stream) -> Result<(), Fail> {
+    let answer = compared(
+        alloc,
+        Chopped::new(stream.bytes.as_slice(), 4_095),
+        Chopped::new(stream.normal.as_slice(), 4_097),
+        stream.role,
+        stream.limits,
+    );
+    let line = compared_line(alloc, &answer)?;
+    Reading::whole(stream, "compared", 4_095).expect_line(rt, line.as_str(), "equal");
     Ok(())
 }
 
 #[test]
 fn what_is_accepted_means_the_same_as_its_normal_form(rt: HostRuntime) -> Result<(), Fail> {
-    let alloc = rt.alloc();
-    for stream in streams(alloc)?.iter() {
-        if !stream.is_accepted() {
-            continue;
+    for stream in streams(rt.alloc())?.iter() {
+        if stream.is_accepted() {
+            expect_equal(&rt, rt.alloc(), stream)?;
         }
-        let answer = compared(
-            alloc,
-            Chopped::new(stream.bytes.as_slice(), 4_095),
-            Chopped::new(stream.normal.as_slice(), 4_097),
-            stream.role,
-            stream.limits,
-        );
-        let name = stream.name;
-        assert_eq!(rt; compared_line(alloc, &answer)?.as_str(), "equal", "{name}");
     }
+    Ok(())
+}
+
+/// Fails unless the command prints how a pair compares, with memory from this heap.
+pub fn expect_printed<A: Allocator + Copy>(
+    rt: &impl Abort,
+    heap: A,
+    alloc: Global,
+    pair: &Pair,
+) -> Result<(), Fail> {
+    let line = pair.line;
+    let printed = format!(in alloc; "{line}\n")?;
+    let limits = greatest()?;
+    let (first, second) = (pair.first_reader(), pair.second_reader());
+    let done = compared_on(heap, alloc, limits, first, second, Narrow::wide(alloc));
+    expect_outcome(rt, &done, pair.status(), printed.as_bytes(), &[]);
     Ok(())
 }
 
 #[test]
 fn the_answer_is_printed(rt: HostRuntime) -> Result<(), Fail> {
-    let alloc = rt.alloc();
-    let limits = greatest()?;
     for pair in PAIRS.iter() {
-        let line = pair.line;
-        let printed = format!(in alloc; "{line}\n")?;
+        expect_printed(&rt, rt.alloc(), rt.alloc(), pair)?;
+    }
+    Ok(())
+}
+
+/// Fails unless the command tells that its writer fails behind each byte of the line, where it is full in that way.
+fn expect_failed_line(
+    rt: &impl Abort,
+    alloc: Global,
+    pair: &Pair,
+    printed: &[u8],
+    full: Full,
+) -> Result<(), Fail> {
+    let limits = greatest()?;
+    for room in 0..printed.len() {
         let (first, second) = (pair.first_reader(), pair.second_reader());
-        let done = compared_on(alloc, alloc, limits, first, second, Narrow::wide(alloc));
-        expect_outcome(&rt, &done, pair.status(), printed.as_bytes(), &[]);
+        let writer = Narrow::new(alloc, 1, room, full);
+        let done = compared_on(alloc, alloc, limits, first, second, writer);
+        expect_outcome(rt, &done, 2, &printed[..room], b"write failed\n");
     }
     Ok(())
 }
@@ -155,58 +195,48 @@ fn the_answer_is_printed(rt: HostRuntime) -> Result<(), Fail> {
 #[test]
 fn a_failed_write_is_told_in_one_line(rt: HostRuntime) -> Result<(), Fail> {
     let alloc = rt.alloc();
-    let limits = greatest()?;
     for pair in PAIRS.iter() {
         let line = pair.line;
         let printed = format!(in alloc; "{line}\n")?;
         for full in FULL {
-            for room in 0..printed.len() {
-                let (first, second) = (pair.first_reader(), pair.second_reader());
-                let writer = Narrow::new(alloc, 1, room, full);
-                let done = compared_on(alloc, alloc, limits, first, second, writer);
-                expect_outcome(
-                    &rt,
-                    &done,
-                    2,
-                    &printed.as_bytes()[..room],
-                    b"write failed\n",
-                );
-            }
+            expect_failed_line(&rt, alloc, pair, printed.as_bytes(), full)?;
         }
     }
     Ok(())
 }
 
-#[test]
-fn a_stop_of_either_is_told_in_one_line(rt: HostRuntime) -> Result<(), Fail> {
-    let alloc = rt.alloc();
+/// A Close, which is as long as the input may be here.
+const CLOSE: &[u8] = b"\x88\x02\x03\xe8";
+
+/// A Close, and a byte more than the input may have here.
+const LONG: &[u8] = b"\x88\x02\x03\xe8\x81";
+
+/// Fails unless the command, with an input limit of four bytes, says this of the streams that two readers give.
+fn expect_said(
+    rt: &impl Abort,
+    alloc: Global,
+    first: Chopped,
+    second: Chopped,
+    said: &[u8],
+) -> Result<(), Fail> {
     let limits = Limits::new(MESSAGE_MAX, 4).ok_or("out of range")?;
-    let close: &[u8] = b"\x88\x02\x03\xe8";
-    let long: &[u8] = b"\x88\x02\x03\xe8\x81";
-    for (first, second, said) in [
-        (
-            Chopped::new(long, 2),
-            Chopped::new(close, 2),
-            "input limit\n",
-        ),
-        (
-            Chopped::new(close, 2),
-            Chopped::new(long, 2),
-            "input limit\n",
-        ),
-        (
-            Chopped::breaking(close, 2),
-            Chopped::new(close, 2),
-            "read failed\n",
-        ),
-        (
-            Chopped::new(close, 2),
-            Chopped::breaking(close, 2),
-            "read failed\n",
-        ),
-    ] {
-        let done = compared_on(alloc, alloc, limits, first, second, Narrow::wide(alloc));
-        expect_outcome(&rt, &done, 2, &[], said.as_bytes());
-    }
+    let done = compared_on(alloc, alloc, limits, first, second, Narrow::wide(alloc));
+    expect_outcome(rt, &done, 2, &[], said);
     Ok(())
+}
+
+#[test]
+fn an_input_limit_of_either_is_told_in_one_line(rt: HostRuntime) -> Result<(), Fail> {
+    let (close, long) = (Chopped::new(CLOSE, 2), Chopped::new(LONG, 2));
+    expect_said(&rt, rt.alloc(), long, close, b"input limit\n")?;
+    let (close, long) = (Chopped::new(CLOSE, 2), Chopped::new(LONG, 2));
+    expect_said(&rt, rt.alloc(), close, long, b"input limit\n")
+}
+
+#[test]
+fn a_failed_read_of_either_is_told_in_one_line(rt: HostRuntime) -> Result<(), Fail> {
+    let (close, broken) = (Chopped::new(CLOSE, 2), Chopped::breaking(CLOSE, 2));
+    expect_said(&rt, rt.alloc(), broken, close, b"read failed\n")?;
+    let (close, broken) = (Chopped::new(CLOSE, 2), Chopped::breaking(CLOSE, 2));
+    expect_said(&rt, rt.alloc(), close, broken, b"read failed\n")
 }

@@ -1,6 +1,7 @@
 //! The scanner: what each call takes of a stream and tells of it, and all that it tells of a stream in pieces.
 
 use std::alloc::Global;
+use std::process::Abort;
 use std::test::Fail;
 use wsn_doubles::lines::{frame_line, verdict_line};
 use wsn_doubles::rows::{Stream, greatest};
@@ -16,10 +17,33 @@ pub struct Told {
 }
 
 impl Told {
+    /// Notes what a scanner told of the bytes that it took. Whether that is a refusal.
+    fn note(&mut self, alloc: Global, notice: &Notice, taken: &[u8]) -> Result<bool, Fail> {
+        match notice {
+            Notice::Head(head) => {
+                let line = frame_line(alloc, head)?;
+                self.frames.push_str(line.as_str())?;
+            }
+            Notice::Payload => self.payload.extend_from_slice(taken)?,
+            Notice::Refused(_) => return Ok(true),
+            Notice::More | Notice::FrameEnd { .. } | Notice::Closed => {}
+        }
+        Ok(false)
+    }
+
     /// Hands a piece to the scanner until all of it is taken. Whether it was refused.
     fn take(&mut self, alloc: Global, scan: &mut Scan, piece: &[u8]) -> Result<bool, Fail> {
         let mut bytes = piece.to_vec(alloc)?;
-        let mut rest = bytes.as_mut_slice();
+        self.take_all(alloc, scan, bytes.as_mut_slice())
+    }
+
+    /// Hands bytes to the scanner until all of them are taken. Whether they were refused.
+    fn take_all(
+        &mut self,
+        alloc: Global,
+        scan: &mut Scan,
+        mut rest: &mut [u8],
+    ) -> Result<bool, Fail> {
         for _ in 0..u64::MAX {
             if rest.is_empty() {
                 break;
@@ -29,15 +53,28 @@ impl Told {
                 return Err("less room than before")?;
             }
             let (taken, notice) = scan.next(given);
-            match notice {
-                Notice::Head(head) => self.frames.push_str(frame_line(alloc, &head)?.as_str())?,
-                Notice::Payload => self.payload.extend_from_slice(&given[..taken])?,
-                Notice::Refused(_) => return Ok(true),
-                Notice::More | Notice::FrameEnd { .. } | Notice::Closed => {}
+            if self.note(alloc, &notice, &given[..taken])? {
+                return Ok(true);
             }
             rest = &mut given[taken..];
         }
         Ok(false)
+    }
+
+    /// Hands a stream to the scanner, in pieces of so many bytes, until it is refused.
+    fn take_pieces(
+        &mut self,
+        alloc: Global,
+        scan: &mut Scan,
+        bytes: &[u8],
+        size: usize,
+    ) -> Result<(), Fail> {
+        for piece in bytes.chunks(size.max(1)) {
+            if self.take(alloc, scan, piece)? {
+                break;
+            }
+        }
+        Ok(())
     }
 }
 
@@ -50,11 +87,7 @@ pub fn told_of(alloc: Global, stream: &Stream, size: usize) -> Result<Told, Fail
     };
     let mut scan = Scan::new(stream.role, stream.limits);
     let within = scan.room().min(stream.bytes.len() as u64) as usize;
-    for piece in stream.bytes[..within].chunks(size.max(1)) {
-        if told.take(alloc, &mut scan, piece)? {
-            break;
-        }
-    }
+    told.take_pieces(alloc, &mut scan, &stream.bytes[..within], size)?;
     told.verdict = verdict_line(alloc, &scan.finish())?;
     Ok(told)
 }
@@ -157,22 +190,42 @@ fn word_of(notice: &Notice) -> &'static str {
     }
 }
 
+/// Hands the scanner what is left of a stream, and answers how many bytes it took. Fails unless these are as many as
+/// are wanted, and it tells what is wanted.
+fn expect_call(
+    rt: &impl Abort,
+    scan: &mut Scan,
+    rest: &mut [u8],
+    count: usize,
+    word: &str,
+    name: &str,
+) -> Result<usize, Fail> {
+    if rest.len() as u64 > scan.room() {
+        return Err("less room than before")?;
+    }
+    let (taken, notice) = scan.next(rest);
+    assert_eq!(rt; (taken, word_of(&notice)), (count, word), "{name}");
+    Ok(taken)
+}
+
+/// Fails unless a scanner's calls take and tell what is written out.
+fn expect_calls(rt: &impl Abort, alloc: Global, calls: &Calls) -> Result<(), Fail> {
+    let mut scan = Scan::new(Role::Server, greatest()?);
+    let mut piece = calls.bytes.to_vec(alloc)?;
+    let mut at = 0usize;
+    for (count, word) in calls.calls.iter() {
+        let from = at.min(piece.len());
+        let rest = &mut piece[from..];
+        let taken = expect_call(rt, &mut scan, rest, *count, word, calls.name)?;
+        at = at.saturating_add(taken);
+    }
+    Ok(())
+}
+
 #[test]
 fn each_call_takes_what_it_can(rt: HostRuntime) -> Result<(), Fail> {
-    let limits = greatest()?;
-    for Calls { name, bytes, calls } in CALLS.iter() {
-        let mut scan = Scan::new(Role::Server, limits);
-        let mut piece = bytes.to_vec(rt.alloc())?;
-        let mut rest = piece.as_mut_slice();
-        for (count, word) in calls.iter() {
-            let given = rest;
-            if given.len() as u64 > scan.room() {
-                return Err("less room than before")?;
-            }
-            let (taken, notice) = scan.next(given);
-            assert_eq!(rt; (taken, word_of(&notice)), (*count, *word), "{name}");
-            rest = &mut given[taken..];
-        }
+    for calls in CALLS.iter() {
+        expect_calls(&rt, rt.alloc(), calls)?;
     }
     Ok(())
 }

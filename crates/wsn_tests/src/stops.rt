@@ -1,14 +1,15 @@
-//! What ends an engine's work before its verdict: readers and writers that fail, behind each byte; and a stop's words.
+//! What ends an engine's work before its verdict: readers that fail, behind each byte; and a stop's words.
 
-use crate::same::PAIRS;
+use crate::expecting::{Reading, expect_line};
+use crate::same::{PAIRS, expect_compared};
+use std::alloc::Global;
+use std::process::Abort;
 use std::test::Fail;
-use wsn_doubles::engines::{compared, judged, listed, normalised};
-use wsn_doubles::lines::{answer_line, compared_line, listing};
+use wsn_doubles::engines::{judged, listed, normalised};
+use wsn_doubles::lines::listing;
 use wsn_doubles::readers::{Chopped, READS};
-use wsn_doubles::rows::{Stream, filled, greatest, line_behind, stream_named, streams};
-use wsn_doubles::writers::{FULL, Full, Narrow};
+use wsn_doubles::rows::{Stream, line_behind, stream_named, streams};
 use wsn_scan::Stop;
-use wsn_wire::Role;
 
 #[test]
 fn words_of_a_stop(rt: HostRuntime) -> Result<(), Fail> {
@@ -19,79 +20,144 @@ fn words_of_a_stop(rt: HostRuntime) -> Result<(), Fail> {
         (Stop::Write, "write failed"),
     ] {
         let printed = format!(in rt.alloc(); "{stop}")?;
-        assert_eq!(rt; printed.as_str(), words);
+        expect_line(&rt, printed.as_str(), words);
+    }
+    Ok(())
+}
+
+/// A stream whose reader fails behind its first bytes, by so many a call, and the line that an engine tells of it.
+#[derive(Clone, Copy)]
+struct Broken<'a> {
+    stream: &'a Stream,
+    front: &'a [u8],
+    most: usize,
+    wanted: &'static str,
+}
+
+impl<'a> Broken<'a> {
+    fn reader(&self) -> Chopped<'a> {
+        Chopped::breaking(self.front, self.most)
+    }
+
+    fn reading(&self, how: &'static str) -> Reading<'a> {
+        Reading {
+            name: self.stream.name,
+            how,
+            count: self.front.len(),
+            most: self.most,
+        }
+    }
+
+    /// Fails unless all that is due was written where the answer is the stream's verdict, and else a front of it.
+    fn expect_written(
+        &self,
+        rt: &impl Abort,
+        reading: &Reading,
+        written: &[u8],
+        whole: &[u8],
+        front_of: &[u8],
+    ) {
+        if self.wanted == self.stream.verdict {
+            reading.expect_bytes(rt, written, whole);
+        } else {
+            reading.expect_front(rt, written, front_of);
+        }
+    }
+
+    fn expect_judged(&self, rt: &impl Abort, alloc: Global) -> Result<(), Fail> {
+        let answer = judged(self.stream, self.reader());
+        self.reading("judged")
+            .expect_answer(rt, alloc, &answer, self.wanted)
+    }
+
+    fn expect_listed(&self, rt: &impl Abort, alloc: Global, whole: &[u8]) -> Result<(), Fail> {
+        let mut text = Vec::new(alloc);
+        let answer = listed(self.stream, self.reader(), &mut text);
+        let reading = self.reading("listed");
+        let lines = self.stream.frames.as_bytes();
+        self.expect_written(rt, &reading, text.as_slice(), whole, lines);
+        reading.expect_answer(rt, alloc, &answer, self.wanted)
+    }
+
+    fn expect_normalised(&self, rt: &impl Abort, alloc: Global) -> Result<(), Fail> {
+        let mut out = Vec::new(alloc);
+        let answer = normalised(alloc, self.stream, self.reader(), &mut out);
+        let normal = self.stream.normal.as_slice();
+        let reading = self.reading("normalised");
+        self.expect_written(rt, &reading, out.as_slice(), normal, normal);
+        reading.expect_answer(rt, alloc, &answer, self.wanted)
+    }
+}
+
+/// Adds the ways in which a stream's reader may fail behind these bytes: by reads of each size.
+fn push_breaks<'a>(
+    breaks: &mut Vec<Broken<'a>>,
+    stream: &'a Stream,
+    front: &'a [u8],
+) -> Result<(), Fail> {
+    let wanted = line_behind(stream, front)?;
+    for most in READS {
+        breaks.push(Broken {
+            stream,
+            front,
+            most,
+            wanted,
+        })?;
+    }
+    Ok(())
+}
+
+/// Every way in which a stream's reader may fail: behind each of its fronts, by reads of each size.
+fn breaks<'a>(alloc: Global, stream: &'a Stream) -> Result<Vec<Broken<'a>>, Fail> {
+    let mut breaks = Vec::new(alloc);
+    for front in stream.fronts(alloc)?.iter() {
+        push_breaks(&mut breaks, stream, front)?;
+    }
+    Ok(breaks)
+}
+
+fn expect_judged_breaks(rt: &impl Abort, alloc: Global, stream: &Stream) -> Result<(), Fail> {
+    for broken in breaks(alloc, stream)?.iter() {
+        broken.expect_judged(rt, alloc)?;
     }
     Ok(())
 }
 
 #[test]
 fn judge_tells_a_failed_read_before_the_answer_shows(rt: HostRuntime) -> Result<(), Fail> {
-    let alloc = rt.alloc();
-    for stream in streams(alloc)?.iter() {
-        let name = stream.name;
-        for front in stream.fronts(alloc)? {
-            let wanted = line_behind(stream, front)?;
-            let count = front.len();
-            for most in READS {
-                let answer = judged(stream, Chopped::breaking(front, most));
-                let line = answer_line(alloc, &answer)?;
-                assert_eq!(rt; line.as_str(), wanted, "{name}: {count} bytes by {most}");
-            }
-        }
+    for stream in streams(rt.alloc())?.iter() {
+        expect_judged_breaks(&rt, rt.alloc(), stream)?;
+    }
+    Ok(())
+}
+
+fn expect_listed_breaks(rt: &impl Abort, alloc: Global, stream: &Stream) -> Result<(), Fail> {
+    let whole = listing(alloc, stream)?;
+    for broken in breaks(alloc, stream)?.iter() {
+        broken.expect_listed(rt, alloc, whole.as_bytes())?;
     }
     Ok(())
 }
 
 #[test]
 fn list_tells_a_failed_read_before_the_answer_shows(rt: HostRuntime) -> Result<(), Fail> {
-    let alloc = rt.alloc();
-    for stream in streams(alloc)?.iter() {
-        let name = stream.name;
-        let whole = listing(alloc, stream)?;
-        for front in stream.fronts(alloc)? {
-            let wanted = line_behind(stream, front)?;
-            for most in READS {
-                let mut text = Vec::new(alloc);
-                let answer = listed(stream, Chopped::breaking(front, most), &mut text);
-                let line = answer_line(alloc, &answer)?;
-                assert_eq!(rt; line.as_str(), wanted, "{name}: by {most}");
-                if wanted == stream.verdict {
-                    assert_eq!(rt; text.as_slice(), whole.as_bytes(), "{name}: by {most}");
-                } else {
-                    assert!(rt;
-                        stream.frames.as_bytes().starts_with(text.as_slice()),
-                        "{name}"
-                    );
-                }
-            }
-        }
+    for stream in streams(rt.alloc())?.iter() {
+        expect_listed_breaks(&rt, rt.alloc(), stream)?;
+    }
+    Ok(())
+}
+
+fn expect_normalised_breaks(rt: &impl Abort, alloc: Global, stream: &Stream) -> Result<(), Fail> {
+    for broken in breaks(alloc, stream)?.iter() {
+        broken.expect_normalised(rt, alloc)?;
     }
     Ok(())
 }
 
 #[test]
 fn normalise_tells_a_failed_read_before_the_answer_shows(rt: HostRuntime) -> Result<(), Fail> {
-    let alloc = rt.alloc();
-    for stream in streams(alloc)?.iter() {
-        let name = stream.name;
-        for front in stream.fronts(alloc)? {
-            let wanted = line_behind(stream, front)?;
-            for most in READS {
-                let mut out = Vec::new(alloc);
-                let answer = normalised(alloc, stream, Chopped::breaking(front, most), &mut out);
-                let line = answer_line(alloc, &answer)?;
-                assert_eq!(rt; line.as_str(), wanted, "{name}: by {most}");
-                if wanted == stream.verdict {
-                    assert_eq!(rt;
-                        out.as_slice(),
-                        stream.normal.as_slice(),
-                        "{name}: by {most}"
-                    );
-                } else {
-                    assert!(rt; stream.normal.starts_with(out.as_slice()), "{name}");
-                }
-            }
-        }
+    for stream in streams(rt.alloc())?.iter() {
+        expect_normalised_breaks(&rt, rt.alloc(), stream)?;
     }
     Ok(())
 }
@@ -135,107 +201,69 @@ impl Due {
     }
 }
 
+/// Fails unless `list` writes these lines before it tells that the reader fails behind these bytes.
+fn expect_lines(rt: &impl Abort, alloc: Global, broken: &Broken, lines: &[u8]) -> Result<(), Fail> {
+    let mut text = Vec::new(alloc);
+    let answer = listed(broken.stream, broken.reader(), &mut text);
+    let reading = broken.reading("listed");
+    reading.expect_bytes(rt, text.as_slice(), lines);
+    reading.expect_answer(rt, alloc, &answer, "read failed")
+}
+
+fn expect_due_lines(
+    rt: &impl Abort,
+    alloc: Global,
+    due: &Due,
+    stream: &Stream,
+) -> Result<(), Fail> {
+    for broken in breaks(alloc, stream)?.iter() {
+        let lines = due.lines_of(stream, broken.front.len())?;
+        expect_lines(rt, alloc, broken, lines)?;
+    }
+    Ok(())
+}
+
 #[test]
 fn list_writes_the_lines_that_came_before_a_failed_read(rt: HostRuntime) -> Result<(), Fail> {
-    let alloc = rt.alloc();
     for due in DUE.iter() {
-        let stream = stream_named(alloc, due.name)?;
-        for front in stream.fronts(alloc)? {
-            let lines = due.lines_of(&stream, front.len())?;
-            for most in READS {
-                let mut text = Vec::new(alloc);
-                let answer = listed(&stream, Chopped::breaking(front, most), &mut text);
-                assert_eq!(rt; answer_line(alloc, &answer)?.as_str(), "read failed");
-                assert_eq!(rt; text.as_slice(), lines, "by {most}");
-            }
-        }
+        let stream = stream_named(rt.alloc(), due.name)?;
+        expect_due_lines(&rt, rt.alloc(), due, &stream)?;
+    }
+    Ok(())
+}
+
+/// Fails unless `normalise` writes these bytes before it tells that the reader fails behind these bytes.
+fn expect_events(
+    rt: &impl Abort,
+    alloc: Global,
+    broken: &Broken,
+    normal: &[u8],
+) -> Result<(), Fail> {
+    let mut out = Vec::new(alloc);
+    let answer = normalised(alloc, broken.stream, broken.reader(), &mut out);
+    let reading = broken.reading("normalised");
+    reading.expect_bytes(rt, out.as_slice(), normal);
+    reading.expect_answer(rt, alloc, &answer, "read failed")
+}
+
+fn expect_due_events(
+    rt: &impl Abort,
+    alloc: Global,
+    due: &Due,
+    stream: &Stream,
+) -> Result<(), Fail> {
+    for broken in breaks(alloc, stream)?.iter() {
+        let normal = due.normal_of(stream, broken.front.len())?;
+        expect_events(rt, alloc, broken, normal)?;
     }
     Ok(())
 }
 
 #[test]
 fn normalise_writes_the_events_that_came_before_a_failed_read(rt: HostRuntime) -> Result<(), Fail> {
-    let alloc = rt.alloc();
     for due in DUE.iter() {
-        let stream = stream_named(alloc, due.name)?;
-        for front in stream.fronts(alloc)? {
-            let normal = due.normal_of(&stream, front.len())?;
-            for most in READS {
-                let mut out = Vec::new(alloc);
-                let answer = normalised(alloc, &stream, Chopped::breaking(front, most), &mut out);
-                assert_eq!(rt; answer_line(alloc, &answer)?.as_str(), "read failed");
-                assert_eq!(rt; out.as_slice(), normal, "by {most}");
-            }
-        }
-    }
-    Ok(())
-}
-
-#[test]
-fn list_tells_a_failed_write(rt: HostRuntime) -> Result<(), Fail> {
-    let alloc = rt.alloc();
-    for stream in streams(alloc)?.iter() {
-        let whole = listing(alloc, stream)?;
-        let name = stream.name;
-        for full in FULL {
-            for room in 0..whole.len() {
-                let mut writer = Narrow::new(alloc, 1, room, full);
-                let reader = Chopped::new(stream.bytes.as_slice(), usize::MAX);
-                let answer = listed(stream, reader, &mut writer);
-                assert!(rt;
-                    matches!(&answer, Err(Stop::Write)),
-                    "{name}: {full:?} behind {room}"
-                );
-                assert_eq!(rt;
-                    writer.taken.as_slice(),
-                    &whole.as_bytes()[..room],
-                    "{name}"
-                );
-            }
-        }
-    }
-    Ok(())
-}
-
-#[test]
-fn normalise_tells_a_failed_write(rt: HostRuntime) -> Result<(), Fail> {
-    let alloc = rt.alloc();
-    for stream in streams(alloc)?.iter() {
-        let normal = stream.normal.as_slice();
-        let name = stream.name;
-        for full in FULL {
-            for room in 0..normal.len().min(200) {
-                let mut writer = Narrow::new(alloc, 1, room, full);
-                let reader = Chopped::new(stream.bytes.as_slice(), usize::MAX);
-                let answer = normalised(alloc, stream, reader, &mut writer);
-                assert!(rt;
-                    matches!(&answer, Err(Stop::Write)),
-                    "{name}: {full:?} behind {room}"
-                );
-                assert_eq!(rt; writer.taken.as_slice(), &normal[..room], "{name}");
-            }
-        }
-    }
-    Ok(())
-}
-
-/// An output of several blocks, which ends behind each of its bytes.
-#[test]
-fn normalise_tells_a_failed_write_behind_each_byte(rt: HostRuntime) -> Result<(), Fail> {
-    let alloc = rt.alloc();
-    let mut stream = stream_named(alloc, "an empty text")?;
-    stream.bytes = filled(alloc, b"\x89\x00\x82\x7e\x10\x68", 0x2a, 4_200)?;
-    let rest = filled(alloc, b"\x8a\x01A\x81\x7e\x10\x68", 0x2a, 4_200)?;
-    stream.bytes.extend_from_slice(rest.as_slice())?;
-    for room in 0..stream.bytes.len() {
-        let mut writer = Narrow::new(alloc, usize::MAX, room, Full::FailsOnce);
-        let reader = Chopped::new(stream.bytes.as_slice(), usize::MAX);
-        let answer = normalised(alloc, &stream, reader, &mut writer);
-        assert!(rt; matches!(&answer, Err(Stop::Write)), "behind {room}");
-        assert!(rt;
-            writer.taken.as_slice() == &stream.bytes[..room],
-            "behind {room}"
-        );
+        let stream = stream_named(rt.alloc(), due.name)?;
+        expect_due_events(&rt, rt.alloc(), due, &stream)?;
     }
     Ok(())
 }
@@ -249,21 +277,17 @@ fn front_of(bytes: &[u8]) -> &[u8] {
 #[test]
 fn same_tells_a_failed_read_of_either(rt: HostRuntime) -> Result<(), Fail> {
     let alloc = rt.alloc();
-    let limits = greatest()?;
     for pair in PAIRS.iter() {
-        for (first, second) in [
-            (
-                Chopped::breaking(front_of(pair.first), 1),
-                Chopped::new(&[], 1),
-            ),
-            (
-                Chopped::new(pair.first, 1),
-                Chopped::breaking(front_of(pair.second), 1),
-            ),
-        ] {
-            let answer = compared(alloc, first, second, Role::Server, limits);
-            assert_eq!(rt; compared_line(alloc, &answer)?.as_str(), "read failed");
-        }
+        let first = Chopped::breaking(front_of(pair.first), 1);
+        expect_compared(&rt, alloc, first, Chopped::new(&[], 1), "read failed")?;
+        let second = Chopped::breaking(front_of(pair.second), 1);
+        expect_compared(
+            &rt,
+            alloc,
+            Chopped::new(pair.first, 1),
+            second,
+            "read failed",
+        )?;
     }
     Ok(())
 }

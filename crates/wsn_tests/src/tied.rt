@@ -1,5 +1,6 @@
 //! An output that is tied to an input: what waits goes out before the input is asked for more.
 
+use crate::expecting::{expect_bytes, expect_count};
 use std::cell::{Cell, RefCell};
 use std::io::{self, ErrorKind, Read, Write};
 use std::process::Abort;
@@ -47,11 +48,27 @@ impl Write for Counted<'_> {
     }
 }
 
+/// Fails unless a read of two bytes gives these.
 fn expect_read(rt: &impl Abort, reader: &mut impl Read, bytes: &[u8]) {
     let mut into = [0; 2];
     let count = reader.read(&mut into).unwrap_or(9);
-    assert_eq!(rt; count, bytes.len());
-    assert_eq!(rt; &into[..count.min(2)], bytes);
+    expect_bytes(rt, &into[..count.min(2)], bytes);
+    expect_count(rt, count, bytes.len());
+}
+
+/// Fails unless a writer takes these bytes.
+fn expect_taken(rt: &impl Abort, writer: &mut impl Write, bytes: &[u8]) {
+    assert!(rt; writer.write(bytes).is_ok(), "{bytes:?}");
+}
+
+/// Fails unless a writer is flushed.
+fn expect_flushed(rt: &impl Abort, writer: &mut impl Write) {
+    assert!(rt; writer.flush().is_ok());
+}
+
+/// Fails unless so many bytes are noted.
+fn expect_noted(rt: &impl Abort, cell: &Cell<usize>, count: usize) {
+    expect_count(rt, cell.get(), count);
 }
 
 #[test]
@@ -71,15 +88,16 @@ fn what_is_pending_goes_out_before_the_system_is_asked(rt: HostRuntime) {
         &output,
     ));
     expect_read(&rt, &mut reader, b"ab");
-    assert_eq!(rt; noted.get(), 0);
-    assert!(rt; writer.write(b"line").is_ok());
+    expect_noted(&rt, &noted, 0);
+    expect_taken(&rt, &mut writer, b"line");
+    // what is left of the block is given with no need to ask
     expect_read(&rt, &mut reader, b"c");
-    assert_eq!(rt; written.get(), 0, "no need to ask yet");
+    expect_noted(&rt, &written, 0);
     expect_read(&rt, &mut reader, b"ab");
-    assert_eq!(rt; noted.get(), 4);
-    assert!(rt; writer.write(b"more").is_ok());
-    assert!(rt; writer.flush().is_ok());
-    assert_eq!(rt; written.get(), 8);
+    expect_noted(&rt, &noted, 4);
+    expect_taken(&rt, &mut writer, b"more");
+    expect_flushed(&rt, &mut writer);
+    expect_noted(&rt, &written, 8);
 }
 
 #[test]
@@ -98,12 +116,12 @@ fn a_failed_flush_is_seen_by_the_next_write(rt: HostRuntime) {
         },
         &output,
     ));
-    assert!(rt; writer.write(b"line").is_ok());
+    expect_taken(&rt, &mut writer, b"line");
     expect_read(&rt, &mut reader, b"ab");
     fails.set(false);
     assert!(rt; writer.write(b"more").is_err());
     assert!(rt; writer.flush().is_err());
-    assert_eq!(rt; written.get(), 0);
+    expect_noted(&rt, &written, 0);
 }
 
 #[test]
@@ -114,11 +132,11 @@ fn more_than_can_wait_goes_out_at_once(rt: HostRuntime) {
         fails: &fails,
     }));
     let mut writer = TiedWriter::new(&output);
-    assert!(rt; writer.write(b"line").is_ok());
-    assert!(rt; writer.write(&[0; 10_000]).is_ok());
-    assert_eq!(rt; written.get(), 10_004);
-    assert!(rt; writer.write(b"more").is_ok());
-    assert_eq!(rt; written.get(), 10_004);
-    assert!(rt; writer.flush().is_ok());
-    assert_eq!(rt; written.get(), 10_008);
+    expect_taken(&rt, &mut writer, b"line");
+    expect_taken(&rt, &mut writer, &[0; 10_000]);
+    expect_noted(&rt, &written, 10_004);
+    expect_taken(&rt, &mut writer, b"more");
+    expect_noted(&rt, &written, 10_004);
+    expect_flushed(&rt, &mut writer);
+    expect_noted(&rt, &written, 10_008);
 }

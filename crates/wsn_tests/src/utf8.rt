@@ -1,5 +1,6 @@
 //! UTF-8 in one piece, byte by byte and cut inside characters.
 
+use std::process::Abort;
 use std::test::Fail;
 use wsn_text::Utf8;
 
@@ -42,17 +43,51 @@ const EXAMPLES: [(&[u8], Option<usize>, bool); 22] = [
     ),
 ];
 
+/// Fails unless a piece is taken so by a text that is tried.
+fn expect_fed(
+    rt: &impl Abort,
+    utf8: &mut Utf8,
+    piece: &[u8],
+    wanted: Result<(), usize>,
+    text: &[u8],
+) {
+    assert_eq!(rt; utf8.feed(piece), wanted, "{piece:?} of {text:?}");
+}
+
+/// Fails unless what was taken of a text is whole, or isn't.
+fn expect_whole(rt: &impl Abort, utf8: &Utf8, whole: bool, text: &[u8]) {
+    assert_eq!(rt; utf8.is_whole(), whole, "{text:?}");
+}
+
+/// Behind a bad byte nothing is taken, neither nothing nor a letter.
+fn expect_bad_from_then_on(rt: &impl Abort, utf8: &mut Utf8, text: &[u8]) {
+    expect_fed(rt, utf8, b"", Err(0), text);
+    expect_fed(rt, utf8, b"a", Err(0), text);
+    expect_whole(rt, utf8, false, text);
+}
+
 #[test]
 fn examples_in_one_piece(rt: HostRuntime) {
     for (bytes, first_bad, whole) in EXAMPLES {
         let mut utf8 = Utf8::new();
-        assert_eq!(rt; utf8.feed(bytes).err(), first_bad, "{bytes:?}");
-        assert_eq!(rt; utf8.is_whole(), whole, "{bytes:?}");
+        let wanted = match first_bad {
+            Some(at) => Err(at),
+            None => Ok(()),
+        };
+        expect_fed(&rt, &mut utf8, bytes, wanted, bytes);
+        expect_whole(&rt, &utf8, whole, bytes);
         if first_bad.is_some() {
-            assert_eq!(rt; utf8.feed(b""), Err(0), "{bytes:?}, then nothing");
-            assert_eq!(rt; utf8.feed(b"a"), Err(0), "{bytes:?}, then a letter");
-            assert!(rt; !utf8.is_whole(), "{bytes:?}, then a letter");
+            expect_bad_from_then_on(&rt, &mut utf8, bytes);
         }
+    }
+}
+
+/// Feeds a text byte by byte, and fails unless its first bad byte is that one, and all behind it are bad.
+fn expect_each_byte(rt: &impl Abort, utf8: &mut Utf8, text: &[u8], first_bad: Option<usize>) {
+    for (i, byte) in text.iter().enumerate() {
+        let bad = first_bad.is_some_and(|at| at <= i);
+        let wanted = if bad { Err(0) } else { Ok(()) };
+        assert_eq!(rt; utf8.feed(&[*byte]), wanted, "byte {i} of {text:?}");
     }
 }
 
@@ -60,36 +95,36 @@ fn examples_in_one_piece(rt: HostRuntime) {
 fn examples_byte_by_byte(rt: HostRuntime) {
     for (bytes, first_bad, whole) in EXAMPLES {
         let mut utf8 = Utf8::new();
-        for (i, byte) in bytes.iter().enumerate() {
-            let bad = first_bad.is_some_and(|at| at <= i);
-            let expected = if bad { Err(0) } else { Ok(()) };
-            assert_eq!(rt; utf8.feed(&[*byte]), expected, "byte {i} of {bytes:?}");
-        }
-        assert_eq!(rt; utf8.is_whole(), whole, "{bytes:?}");
+        expect_each_byte(&rt, &mut utf8, bytes, first_bad);
+        expect_whole(&rt, &utf8, whole, bytes);
     }
 }
 
-/// Long enough for whole blocks; cut inside each of its characters.
+/// Fails unless a text that is fed in two pieces is taken so, the first piece of which is good.
+fn expect_cut(
+    rt: &impl Abort,
+    text: &[u8],
+    cut: usize,
+    wanted: Result<(), usize>,
+) -> Result<(), Fail> {
+    let (first, rest) = text.split_at_checked(cut).ok_or("no such cut")?;
+    let mut utf8 = Utf8::new();
+    assert!(rt; utf8.feed(first).is_ok(), "the first {cut}");
+    assert_eq!(rt; utf8.feed(rest), wanted, "the rest from {cut}");
+    assert!(rt; utf8.is_whole() == wanted.is_ok(), "cut at {cut}");
+    Ok(())
+}
+
+/// Long enough for whole blocks; cut inside each of its characters. A bad byte stands behind it the second time.
 #[test]
 fn a_long_text_in_two_pieces(rt: HostRuntime) -> Result<(), Fail> {
-    let mut text = Vec::new(rt.alloc());
-    for _ in 0..50 {
-        text.extend_from_slice("aé€😀".as_bytes())?;
-    }
+    let text = "aé€😀".repeat(rt.alloc(), 50)?;
+    let mut bad = text.as_bytes().to_vec(rt.alloc())?;
+    bad.push(0xFF)?;
     let whole = text.len();
-    text.push(0xFF)?;
     for cut in 0..=whole {
-        let mut utf8 = Utf8::new();
-        assert_eq!(rt; utf8.feed(&text[..cut]), Ok(()), "the first {cut}");
-        assert_eq!(rt; utf8.feed(&text[cut..whole]), Ok(()), "the rest from {cut}");
-        assert!(rt; utf8.is_whole(), "cut at {cut}");
-        let mut utf8 = Utf8::new();
-        assert_eq!(rt; utf8.feed(&text[..cut]), Ok(()), "the first {cut}");
-        assert_eq!(rt;
-            utf8.feed(&text[cut..]),
-            Err(whole - cut),
-            "the bad rest from {cut}"
-        );
+        expect_cut(&rt, text.as_bytes(), cut, Ok(()))?;
+        expect_cut(&rt, bad.as_slice(), cut, Err(whole - cut))?;
     }
     Ok(())
 }

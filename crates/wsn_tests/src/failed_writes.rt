@@ -1,0 +1,122 @@
+//! Writers that fail, behind each byte that an engine writes.
+
+use std::alloc::Global;
+use std::process::Abort;
+use std::test::Fail;
+use wsn_doubles::engines::{listed, normalised};
+use wsn_doubles::lines::listing;
+use wsn_doubles::readers::Chopped;
+use wsn_doubles::rows::{Stream, filled, stream_named, streams};
+use wsn_doubles::writers::{FULL, Full, Narrow};
+use wsn_scan::{Stop, Verdict};
+
+/// Fails unless an engine told that its writer failed, and that has taken these bytes.
+fn expect_full(
+    rt: &impl Abort,
+    name: &str,
+    full: Full,
+    answer: &Result<Verdict, Stop>,
+    written: &[u8],
+    front: &[u8],
+) {
+    let room = front.len();
+    let is_told = matches!(answer, Err(Stop::Write)) && written == front;
+    assert!(rt; is_told, "{name}: {full:?} behind {room}");
+}
+
+/// Fails unless `list` tells that its writer fails behind each byte of the lines, where it is full in that way.
+fn expect_full_list(rt: &impl Abort, alloc: Global, stream: &Stream, lines: &[u8], full: Full) {
+    for room in 0..lines.len() {
+        let mut writer = Narrow::new(alloc, 1, room, full);
+        let reader = Chopped::new(stream.bytes.as_slice(), usize::MAX);
+        let answer = listed(stream, reader, &mut writer);
+        expect_full(
+            rt,
+            stream.name,
+            full,
+            &answer,
+            writer.taken.as_slice(),
+            &lines[..room],
+        );
+    }
+}
+
+/// The same, in each way of being full.
+fn expect_full_lists(rt: &impl Abort, alloc: Global, stream: &Stream) -> Result<(), Fail> {
+    let whole = listing(alloc, stream)?;
+    for full in FULL {
+        expect_full_list(rt, alloc, stream, whole.as_bytes(), full);
+    }
+    Ok(())
+}
+
+#[test]
+fn list_tells_a_failed_write(rt: HostRuntime) -> Result<(), Fail> {
+    for stream in streams(rt.alloc())?.iter() {
+        expect_full_lists(&rt, rt.alloc(), stream)?;
+    }
+    Ok(())
+}
+
+/// Fails unless `normalise` tells that its writer fails behind each of the first 200 bytes, where it is full in that
+/// way.
+fn expect_full_normal(rt: &impl Abort, alloc: Global, stream: &Stream, full: Full) {
+    let normal = stream.normal.as_slice();
+    for room in 0..normal.len().min(200) {
+        let mut writer = Narrow::new(alloc, 1, room, full);
+        let reader = Chopped::new(stream.bytes.as_slice(), usize::MAX);
+        let answer = normalised(alloc, stream, reader, &mut writer);
+        expect_full(
+            rt,
+            stream.name,
+            full,
+            &answer,
+            writer.taken.as_slice(),
+            &normal[..room],
+        );
+    }
+}
+
+#[test]
+fn normalise_tells_a_failed_write(rt: HostRuntime) -> Result<(), Fail> {
+    let alloc = rt.alloc();
+    for stream in streams(alloc)?.iter() {
+        for full in FULL {
+            expect_full_normal(&rt, alloc, stream, full);
+        }
+    }
+    Ok(())
+}
+
+/// A ping, a message of 4,200 bytes, a pong and another message, which are their own normal form.
+fn of_several_blocks(alloc: Global) -> Result<Stream, Fail> {
+    let mut bytes = filled(alloc, b"\x89\x00\x82\x7e\x10\x68", 0x2a, 4_200)?;
+    let rest = filled(alloc, b"\x8a\x01A\x81\x7e\x10\x68", 0x2a, 4_200)?;
+    bytes.extend_from_slice(rest.as_slice())?;
+    let mut stream = stream_named(alloc, "an empty text")?;
+    stream.bytes = bytes;
+    Ok(stream)
+}
+
+/// An output of several blocks, which ends behind each of its bytes.
+#[test]
+fn normalise_tells_a_failed_write_behind_each_byte(rt: HostRuntime) -> Result<(), Fail> {
+    let alloc = rt.alloc();
+    let stream = of_several_blocks(alloc)?;
+    let bytes = stream.bytes.as_slice();
+    for room in 0..bytes.len() {
+        let full = Full::FailsOnce;
+        let mut writer = Narrow::new(alloc, usize::MAX, room, full);
+        let answer = normalised(alloc, &stream, Chopped::new(bytes, usize::MAX), &mut writer);
+        let written = writer.taken.as_slice();
+        expect_full(
+            &rt,
+            "several blocks",
+            full,
+            &answer,
+            written,
+            &bytes[..room],
+        );
+    }
+    Ok(())
+}
