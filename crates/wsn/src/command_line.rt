@@ -10,7 +10,7 @@ use crate::shown::Shown;
 use clap::error::ErrorKind;
 use clap::{Arg, ArgAction, ArgMatches, Command, Error};
 use options::{check_digits, limits_of, role_of, with_limits, with_role};
-use recuts::{recut, recut_of};
+use recuts::{recut_of, with_cuts};
 use std::alloc::{AllocError, AllocFailed, Global};
 use wsn_job::Job;
 use wsn_scan::Limits;
@@ -79,23 +79,91 @@ impl<T: Drop> From<AllocFailed<T>> for Usage {
     }
 }
 
-/// A command over streams of one role.
-fn command<'a>(
-    alloc: Global,
+/// A command: its name, what its help says, and what it reads.
+struct Described {
     name: &'static str,
     about: &'static str,
     details: &'static str,
-) -> Result<Command<'a>, AllocError> {
-    let command = Command::new(alloc, name).about(about).after_help(details);
-    with_limits(alloc, with_role(alloc, command)?)
+    reads: Reads,
 }
 
-/// The command over the streams in two files.
-fn over_files<'a>(alloc: Global) -> Result<Command<'a>, AllocError> {
+/// What a command reads, and so which options it takes beside those for limits.
+enum Reads {
+    /// The stream on standard input, of one role.
+    Stream,
+    /// That stream, to cut it again.
+    StreamToCut,
+    /// The streams in two files, of one role.
+    Files,
+    /// A capture of both sides.
+    Capture,
+}
+
+/// The commands, in the order in which help lists them.
+static COMMANDS: [Described; 7] = [
+    Described {
+        name: "judge",
+        about: help::JUDGE,
+        details: help::JUDGE_DETAILS,
+        reads: Reads::Stream,
+    },
+    Described {
+        name: "frames",
+        about: help::FRAMES,
+        details: help::FRAMES_DETAILS,
+        reads: Reads::Stream,
+    },
+    Described {
+        name: "normal",
+        about: help::NORMAL,
+        details: help::NORMAL_DETAILS,
+        reads: Reads::Stream,
+    },
+    Described {
+        name: "same",
+        about: help::SAME,
+        details: help::SAME_DETAILS,
+        reads: Reads::Files,
+    },
+    Described {
+        name: "plan",
+        about: help::PLAN,
+        details: help::PLAN_DETAILS,
+        reads: Reads::Stream,
+    },
+    Described {
+        name: "recut",
+        about: help::RECUT,
+        details: help::RECUT_DETAILS,
+        reads: Reads::StreamToCut,
+    },
+    Described {
+        name: "closing",
+        about: help::CLOSING,
+        details: help::CLOSING_DETAILS,
+        reads: Reads::Capture,
+    },
+];
+
+/// The command as it is described.
+fn command<'a>(alloc: Global, described: &'a Described) -> Result<Command<'a>, AllocError> {
+    let command = Command::new(alloc, described.name)
+        .about(described.about)
+        .after_help(described.details);
+    let command = match described.reads {
+        Reads::Stream => with_role(alloc, command)?,
+        Reads::StreamToCut => with_cuts(alloc, command)?,
+        Reads::Files => with_files(alloc, command)?,
+        Reads::Capture => command,
+    };
+    with_limits(alloc, command)
+}
+
+/// `--role` and the names of two files.
+fn with_files<'a>(alloc: Global, command: Command<'a>) -> Result<Command<'a>, AllocError> {
     let first = file(alloc, "first", "FIRST", "The file with the first stream");
     let second = file(alloc, "second", "SECOND", "The file with the second stream");
-    let same = command(alloc, "same", help::SAME, help::SAME_DETAILS)?;
-    same.arg(first)?.arg(second)
+    with_role(alloc, command)?.arg(first)?.arg(second)
 }
 
 /// The name of a file, which has to be given.
@@ -107,42 +175,16 @@ fn file<'a>(alloc: Global, name: &'a str, value: &'a str, help: &'a str) -> Arg<
         .help(help)
 }
 
-/// The command over a capture.
-fn closing<'a>(alloc: Global) -> Result<Command<'a>, AllocError> {
-    let closing = Command::new(alloc, "closing")
-        .about(help::CLOSING)
-        .after_help(help::CLOSING_DETAILS);
-    with_limits(alloc, closing)
-}
-
-/// The commands that tell of a stream.
-fn with_verdicts<'a>(alloc: Global, program: Command<'a>) -> Result<Command<'a>, AllocError> {
-    let judge = command(alloc, "judge", help::JUDGE, help::JUDGE_DETAILS)?;
-    let frames = command(alloc, "frames", help::FRAMES, help::FRAMES_DETAILS)?;
-    program.subcommand(judge)?.subcommand(frames)
-}
-
-/// The commands on what streams mean.
-fn with_meanings<'a>(alloc: Global, program: Command<'a>) -> Result<Command<'a>, AllocError> {
-    let normal = command(alloc, "normal", help::NORMAL, help::NORMAL_DETAILS)?;
-    program.subcommand(normal)?.subcommand(over_files(alloc)?)
-}
-
-/// The commands on how a stream is cut.
-fn with_plans<'a>(alloc: Global, program: Command<'a>) -> Result<Command<'a>, AllocError> {
-    let plan = command(alloc, "plan", help::PLAN, help::PLAN_DETAILS)?;
-    program.subcommand(plan)?.subcommand(recut(alloc)?)
-}
-
 fn program<'a>(alloc: Global) -> Result<Command<'a>, AllocError> {
-    let program = Command::new(alloc, "wsn")
+    let mut program = Command::new(alloc, "wsn")
         .about(help::PROGRAM)
         .after_help(help::PROGRAM_DETAILS)
         .version(help::VERSION)
         .subcommand_required(true);
-    let program = with_verdicts(alloc, program)?;
-    let program = with_plans(alloc, with_meanings(alloc, program)?)?;
-    program.subcommand(closing(alloc)?)
+    for described in &COMMANDS {
+        program = program.subcommand(command(alloc, described)?)?;
+    }
+    Ok(program)
 }
 
 /// What clap answers in the place of matches: a text that was asked for, or a rule that the words break.

@@ -29,6 +29,7 @@ pub enum Compared {
 /// sections 5.3 and 5.4). It reads both to their ends, or up to a refusal, and holds one event of each. A stop of
 /// either is answered before any verdict: `Read` if a reader fails, `InputLimit` if more bytes come than the input
 /// limit, `Memory` if memory is refused for a message.
+#[tactic(none)]
 pub fn same<A: Allocator + Copy, R: Read, S: Read>(
     alloc: A,
     first: &mut Input<R>,
@@ -68,6 +69,7 @@ enum Round {
 }
 
 /// What both gave. It gives back the memory of their events.
+#[tactic(none)]
 fn round_of<A: Allocator>(next: Next<A>, other: Next<A>) -> Round
     ensures { IsRoundOf next other result }
 {
@@ -79,6 +81,7 @@ fn round_of<A: Allocator>(next: Next<A>, other: Next<A>) -> Round
 }
 
 /// What both verdicts and the first difference come to.
+#[tactic(none)]
 fn outcome(verdict: Verdict, other: Verdict, difference: Option<u64>) -> Compared
     ensures { IsOutcome verdict other difference result }
 {

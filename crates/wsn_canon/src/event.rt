@@ -99,6 +99,7 @@ fn is_text(bytes: &[u8]) -> bool
 }
 
 /// Whether two events are the same, wherever their bytes lie.
+#[tactic(none)]
 pub(crate) fn is_same<A: Allocator, B: Allocator>(one: &Event<A>, other: &Event<B>) -> bool
     ensures { IsTrue result ↔ (meant one.now ≡ meant other.now) }
 {

@@ -13,6 +13,7 @@ use wsn_wire::{Input, Output, Role};
 /// the reader fails and `InputLimit` if more bytes come than the input limit: the events went out that end in the
 /// bytes that came, within the limit. `Memory` if memory is refused for a message: some first events went out.
 /// `Write` if the writer fails: some bytes at the front of the normal form went out.
+#[tactic(none)]
 pub fn normalise<A: Allocator + Copy, R: Read, W: Write>(
     alloc: A,
     input: &mut Input<R>,

@@ -28,6 +28,7 @@ pub fn put_event<A: Allocator, W: Write>(
     }
 }
 
+#[tactic(none)]
 fn put_message<W: Write>(
     to: &mut Output<W>,
     role: Role,
@@ -50,6 +51,7 @@ fn put_message<W: Write>(
 const CONTROL_MAX: usize = 131;
 
 /// Writes a control frame in one piece.
+#[tactic(none)]
 fn put_control<W: Write>(to: &mut Output<W>, role: Role, op: Op, body: &[u8]) -> Result<(), Stop>
     requires unfailed { to.old.failed ≡ false }
     requires size { length body.now ≤ 125 }
@@ -66,6 +68,7 @@ fn put_control<W: Write>(to: &mut Output<W>, role: Role, op: Op, body: &[u8]) ->
 }
 
 /// A control's opcode and body (RFC 6455 section 5.5).
+#[tactic(none)]
 pub fn control_of<A: Allocator>(event: &Event<A>) -> (Op, Small)
     requires { (op : Op) × (body : List ℕ) × (meant event.now ≡ Control op body) × (length body ≤ 125) }
     ensures { meant event.now ≡ Control result.0 result.1.items }
@@ -89,6 +92,7 @@ fn small_of(bytes: &[u8]) -> Small
 }
 
 /// A Close's body: nothing, or its code, the higher byte first, and its reason (RFC 6455 section 5.5.1).
+#[tactic(none)]
 fn body_of_close(held: &Option<(u16, Small)>) -> Small
     requires { length (close_body held.now) ≤ 125 }
     ensures { result.items ≡ close_body held.now }
@@ -112,6 +116,7 @@ fn op_of(kind: Kind) -> Op
     }
 }
 
+#[tactic(none)]
 fn key_of(role: Role) -> Option<[u8; 4]>
     ensures { result ≡ normal_key role }
 {

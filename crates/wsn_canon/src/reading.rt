@@ -19,6 +19,7 @@ impl<A: Allocator + Copy> Reading<A> {
     ghost use Rattle.wsn_canon.specs.Words.{Role, MeantEvent, HasGiven, IsAtWork, GoesOn, IsEvent, answered, held_of, left_of, next_of};
 
     /// Nothing was read.
+    #[tactic(none)]
     pub fn new(alloc: A, role: Role, limits: Limits) -> Self
         ensures { HasGiven role limits result [] [] }
     {
@@ -30,6 +31,7 @@ impl<A: Allocator + Copy> Reading<A> {
     }
 
     /// How many bytes of the open message are held.
+    #[tactic(none)]
     pub fn held(&self) -> usize
         ensures { result ≡ held_of self.now }
     {
@@ -44,6 +46,7 @@ impl<A: Allocator + Copy> Reading<A> {
     }
 
     /// Reads on to the next event, or to the end.
+    #[tactic(none)]
     pub fn next<R: Read>(&mut self, input: &mut Input<R>) -> Result<Next<A>, Stop>
         requires begun { IsAtWork self.old }
         requires readable { input.old.failed ≡ false }

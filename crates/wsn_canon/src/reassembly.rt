@@ -36,6 +36,7 @@ impl<A: Allocator + Copy> Reassembly<A> {
     }
 
     /// Gives the open message's memory back.
+    #[tactic(none)]
     pub fn release(&mut self)
         ensures { self.new.message.items ≡ [] }
     {
@@ -43,6 +44,7 @@ impl<A: Allocator + Copy> Reassembly<A> {
     }
 
     /// A frame's head came.
+    #[tactic(none)]
     pub fn begin(&mut self, op: Op)
         ensures { (done : List Frame) → IsBetweenFrames self.old done → IsInFrame self.new done op [] }
     {
@@ -56,6 +58,7 @@ impl<A: Allocator + Copy> Reassembly<A> {
     }
 
     /// More of the frame's payload came. False where memory is refused, which only a data frame asks for.
+    #[tactic(none)]
     pub fn take(&mut self, payload: &[u8]) -> bool
         ensures taken { (done : List Frame) (op : _) (before : List ℕ) → result ≡ true →
             IsInFrame self.old done op before → IsInFrame self.new done op (before ++ payload.now) }
@@ -69,6 +72,7 @@ impl<A: Allocator + Copy> Reassembly<A> {
     }
 
     /// The frame is whole: it answers the event that it ends, if it is final.
+    #[tactic(none)]
     pub fn end(&mut self, final_frame: bool) -> Option<Event<A>>
         requires lawful { final_frame ≡ true → is_control self.old.op ≡ true →
             IsLawfulControl self.old.op self.old.body.items }

@@ -56,6 +56,7 @@ impl<A: Allocator + Copy> Source<A> {
     /// fails and `InputLimit` if more bytes come than the input limit, each behind the events that end in the bytes
     /// that came; `Memory` if memory is refused for a message. After `Done` or an error it answers the same again,
     /// and reads nothing.
+    #[tactic(none)]
     pub fn next<R: Read>(&mut self, input: &mut Input<R>) -> Result<Next<A>, Stop>
         requires readable { answered self.old ≡ None → input.old.failed ≡ false }
         ensures next { (role : Role) (limits : _) (came : List ℕ) (given : List MeantEvent) →

@@ -50,6 +50,7 @@ impl Capture {
     }
 
     /// The same, and a line that is taken is counted.
+    #[tactic(none)]
     pub(crate) fn take_line(&mut self, text: &[u8]) -> Result<(), LineFault>
         ensures taken { OnOk result ((limits : Limits) (lines : List (List ℕ)) →
             HasTaken limits self.old lines → HasTaken limits self.new (lines ++ text.now ∷ [])) }
@@ -90,6 +91,7 @@ impl Capture {
     }
 
     /// Takes the bytes of an endpoint that the digits spell.
+    #[tactic(none)]
     fn take_bytes(&mut self, role: Role, digits: &[u8]) -> Result<(), LineFault>
         requires { length digits.now ≤ 8192 }
         ensures taken { OnOk result ((limits : Limits) (given : List Entry) → self.old.lines ≡ length given →
@@ -108,6 +110,7 @@ impl Capture {
     }
 
     /// Takes an endpoint's end mark.
+    #[tactic(none)]
     fn take_mark(&mut self, role: Role) -> Result<(), LineFault>
         ensures taken { OnOk result ((limits : Limits) (given : List Entry) →
             AreSent limits self.old given → TakesText limits self.new given (end_mark role)) }
@@ -130,6 +133,7 @@ impl Capture {
     }
 
     /// The report of the lines taken.
+    #[tactic(none)]
     pub fn report(&self) -> Report
         ensures { (limits : Limits) (lines : List (List ℕ)) →
             HasTaken limits self.now lines → IsReport limits lines result }

@@ -6,6 +6,7 @@ ghost use Rattle.wsn_capture.specs.Words.{decode_of, hex_digit_value, is_hex_dig
 ///
 /// The loop has no way out at a bad digit: whether one is a letter can't be foreseen, and a branch at each would take
 /// longer than all else that is done with a line.
+#[tactic(none)]
 pub fn decode_pairs(digits: &[u8], bytes: &mut [u8]) -> bool
     requires { length digits.now ≡ 2 * length bytes.old }
     ensures { MatchBool result (decode_of digits.now ≡ Ok bytes.new) (HasNoHex digits.now) }

@@ -11,6 +11,7 @@ use wsn_wire::Input;
 
 /// Reads a capture's text to its end and tells the report of its lines; or, as soon as it is shown, the first line
 /// that isn't taken. It takes pieces of at most [`PIECE`] bytes. The limits hold for each endpoint's stream by itself.
+#[tactic(none)]
 pub fn judge_capture<R: Read>(input: &mut Input<R>, limits: Limits) -> Result<Report, CaptureStop>
     requires { input.old.failed ≡ false }
     ensures judged { IsCaptureJudged limits input.old input.new result }

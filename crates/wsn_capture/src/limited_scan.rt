@@ -42,6 +42,7 @@ impl LimitedScan {
     }
 
     /// Takes bytes, no more than `room`. It may unmask payload in place.
+    #[tactic(none)]
     pub fn take(&mut self, bytes: &mut [u8])
         requires { length bytes.old ≤ self.old.room }
         ensures { (role : Role) (limits : Limits) (came : List ℕ) →

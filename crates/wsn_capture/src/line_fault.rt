@@ -23,6 +23,7 @@ pub enum LineFault {
 
 impl LineFault {
     /// The word that is printed of it.
+    #[tactic(none)]
     pub fn word(&self) -> &'static str
         ensures word { result.now ≡ fault_word self.now }
         ensures short { length result.now ≤ 14 }

@@ -19,6 +19,7 @@ pub enum LineForm {
 }
 
 /// The line without the CR at its end, if it has one there.
+#[tactic(none)]
 pub fn strip_cr(line: &[u8]) -> &[u8]
     ensures { result.now ≡ without_cr line.now }
 {
@@ -29,6 +30,7 @@ pub fn strip_cr(line: &[u8]) -> &[u8]
 }
 
 /// The form of a line without its CR; `None` if it has none.
+#[tactic(none)]
 pub fn form_of(text: &[u8]) -> Option<LineForm>
     ensures { IsForm text.now result }
 {
@@ -44,6 +46,7 @@ pub fn form_of(text: &[u8]) -> Option<LineForm>
 
 /// Puts the bytes that the digits spell at the front of `bytes`, and answers how many: one at least. The fault is
 /// `BadHex`, and then `bytes` is left open.
+#[tactic(none)]
 pub fn decode(digits: &[u8], bytes: &mut [u8]) -> Result<usize, LineFault>
     requires { length digits.now ≤ 2 * length bytes.old + 1 }
     ensures { MatchResult result

@@ -56,6 +56,7 @@ impl LineSplitter {
     }
 
     /// Takes the front of a piece, and answers how many bytes: to the end of a line, or all that may be of one.
+    #[tactic(none)]
     fn take_front(&mut self, piece: &[u8]) -> Result<usize, CaptureStop>
         requires some { 0 < length piece.now }
         requires few { count_of self.old.capture ≤ 1000000 }
@@ -104,6 +105,7 @@ impl LineSplitter {
     }
 
     /// Goes on with the line. It is handed on once these bytes make it too long.
+    #[tactic(none)]
     fn go_on(&mut self, bytes: &[u8]) -> Result<(), CaptureStop>
         requires few { count_of self.old.capture ≤ 1000000 }
         requires fits { length self.old.begun.items + length bytes.now ≤ BEGUN_MAX }
@@ -140,6 +142,7 @@ impl LineSplitter {
     }
 
     /// The answer at the end of the text: what has begun is its last line, unless it is empty.
+    #[tactic(none)]
     pub fn finish(&mut self) -> Result<Report, CaptureStop>
         requires few { count_of self.old.capture ≤ 1000000 }
         ensures { (limits : Limits) (came : List ℕ) →
@@ -154,6 +157,7 @@ impl LineSplitter {
 }
 
 /// Hands a line to a capture, and tells its number with its fault.
+#[tactic(none)]
 fn hand_on(capture: &mut Capture, line: &[u8]) -> Result<(), CaptureStop>
     requires few { count_of capture.old ≤ 1000000 }
     ensures taken { OnOk result ((limits : Limits) (lines : List (List ℕ)) →

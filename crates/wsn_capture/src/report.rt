@@ -58,6 +58,7 @@ pub struct Report {
 impl Side {
     /// The status code that the other endpoint sees (RFC 6455 section 7.1.5): 1005 for a Close without a code, 1006
     /// without a Close; `None` while more may come.
+    #[tactic(none)]
     pub(crate) fn seen(&self) -> Option<u16>
         ensures { result ≡ seen_of self.now }
     {
@@ -70,6 +71,7 @@ impl Side {
     }
 
     /// Where both endpoints sent a Close, whether both have the same code or none (RFC 6455 section 5.5.1).
+    #[tactic(none)]
     pub(crate) fn echo(&self, other: &Side) -> Option<bool>
         ensures { result ≡ echo_of self.now other.now }
     {
@@ -100,6 +102,7 @@ impl Side {
 
 impl Outcome {
     /// The outcome of what became of the two sides, and of whether both streams ended.
+    #[tactic(none)]
     pub(crate) fn of(
         client: &Side,
         server: &Side,

@@ -14,6 +14,7 @@ const REPORT_MOST: usize = 280;
 /// Writes a report in seven lines, such as `client closed 1000`, `server closed 1000`, `first client`, `echo yes`,
 /// `client-sees 1000`, `server-sees 1000`, `outcome clean`. `Stop::Write` if the writer fails: of the lines only some
 /// bytes at their front went out.
+#[tactic(none)]
 pub fn put_report<W: Write>(to: &mut Output<W>, report: &Report) -> Result<(), Stop>
     requires { to.old.failed ≡ false }
     ensures { IsPut to.old to.new (report_lines report.now) result }

@@ -30,6 +30,7 @@ impl SentStream {
 
     /// Takes the bytes of a line, before which some `lines` came. It may unmask payload in place. The fault is
     /// `AfterEnd` behind the end mark, else `InputLimit` past the limit, and then nothing changes.
+    #[tactic(none)]
     pub fn take(&mut self, bytes: &mut [u8], lines: u32) -> Result<(), LineFault>
         ensures taken { OnOk result ((role : Role) (limits : Limits) (given : List Entry) → lines ≡ length given →
             HasSent role limits self.old given → HasSent role limits self.new (given ++ Bytes role bytes.old ∷ [])) }
@@ -50,6 +51,7 @@ impl SentStream {
 
     /// How many lines came before the one in which a Close ends, if one has come: those that were kept, or else
     /// these.
+    #[tactic(none)]
     fn closed_in(&self, lines: u32) -> Option<u32>
         ensures { (role : Role) (limits : Limits) (bytes : List ℕ) →
             HasStreamed role limits self.now.scan bytes
@@ -74,6 +76,7 @@ impl SentStream {
     }
 
     /// Takes the end mark. The fault is `AfterEnd` behind another, and then nothing changes.
+    #[tactic(none)]
     pub fn end(&mut self) -> Result<(), LineFault>
         ensures taken { OnOk result ((role : Role) (limits : Limits) (given : List Entry) →
             HasSent role limits self.old given → HasSent role limits self.new (given ++ Mark role ∷ [])) }
@@ -113,6 +116,7 @@ impl SentStream {
     }
 
     /// How many lines came before the one in which the last byte of a Close stands.
+    #[tactic(none)]
     pub fn close_line(&self) -> Option<u32>
         ensures { result ≡ self.now.close_line }
     {

@@ -159,12 +159,24 @@ fn the_longest_lines(rt: HostRuntime) -> Result<(), Fail> {
     let alloc = rt.alloc();
     for (first, byte, count, wanted) in LONGEST {
         for end in ["", "\n", "\r", "\r\n"] {
-            let mut text = filled(alloc, first.as_bytes(), byte, count)?;
-            text.extend_from_slice(end.as_bytes())?;
+            let text = long_line(alloc, first, byte, count, end)?;
             expect_long(&rt, alloc, text.as_slice(), wanted)?;
         }
     }
     Ok(())
+}
+
+/// A line's first bytes, another so many times, and the end of the line.
+fn long_line(
+    alloc: Global,
+    first: &str,
+    byte: u8,
+    count: usize,
+    end: &str,
+) -> Result<Vec<u8>, Fail> {
+    let mut line = filled(alloc, first.as_bytes(), byte, count)?;
+    line.extend_from_slice(end.as_bytes())?;
+    Ok(line)
 }
 
 /// A CR inside a line is counted, and each line by itself. A line that is too long has no other fault.
@@ -172,8 +184,7 @@ fn the_longest_lines(rt: HostRuntime) -> Result<(), Fail> {
 fn long_lines_with_ends_of_their_own(rt: HostRuntime) -> Result<(), Fail> {
     let alloc = rt.alloc();
     for (first, byte, count, wanted, end) in ENDED {
-        let mut text = filled(alloc, first.as_bytes(), byte, count)?;
-        text.extend_from_slice(end.as_bytes())?;
+        let text = long_line(alloc, first, byte, count, end)?;
         expect_long(&rt, alloc, text.as_slice(), wanted)?;
     }
     Ok(())

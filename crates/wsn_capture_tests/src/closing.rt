@@ -33,12 +33,6 @@ struct Wanted<'a> {
     told: &'a str,
 }
 
-const READ_FAILED: Wanted<'static> = Wanted {
-    status: 2,
-    out: "",
-    told: "read failed",
-};
-
 /// A capture's text, read by at most so many bytes a call. A read may fail behind so many of them.
 #[derive(Clone, Copy)]
 struct Given<'a> {
@@ -95,8 +89,8 @@ fn expect_on<A: Allocator + Copy>(
     expect_outcome(rt, &done, wanted.status, wanted.out.as_bytes(), wanted.told);
 }
 
-/// The same where a line isn't taken.
-fn expect_fault(
+/// The same where nothing goes out, and this line is told.
+fn expect_stop(
     rt: &impl Abort,
     alloc: Global,
     limits: Limits,
@@ -134,24 +128,38 @@ fn the_first_faulty_line_is_told(rt: HostRuntime) -> Result<(), Fail> {
     for (text, words, _fault) in FAULTY.iter() {
         for most in READS {
             let given = Given::whole(text.as_bytes(), most);
-            expect_fault(&rt, alloc, greatest()?, given, words)?;
+            expect_stop(&rt, alloc, greatest()?, given, words)?;
         }
     }
     Ok(())
 }
 
 #[test]
-fn a_line_past_a_limit_is_told(rt: HostRuntime) -> Result<(), Fail> {
-    let alloc = rt.alloc();
+fn a_line_past_the_input_limit_is_told(rt: HostRuntime) -> Result<(), Fail> {
     let given = Given::whole(b"C 81\nS 81\nS 00\n", 4_096);
-    expect_fault(&rt, alloc, limits_of(1)?, given, "line 3: input-limit")?;
+    expect_stop(&rt, rt.alloc(), limits_of(1)?, given, "line 3: input-limit")
+}
+
+#[test]
+fn a_line_that_is_too_long_is_told(rt: HostRuntime) -> Result<(), Fail> {
+    let alloc = rt.alloc();
     let long = filled(alloc, b"#\n#", b'#', 8_194)?;
     let given = Given::whole(long.as_slice(), 4_096);
-    expect_fault(&rt, alloc, greatest()?, given, "line 2: too-long")?;
+    expect_stop(&rt, alloc, greatest()?, given, "line 2: too-long")
+}
+
+#[test]
+fn a_line_too_many_is_told(rt: HostRuntime) -> Result<(), Fail> {
+    let alloc = rt.alloc();
     let many = filled(alloc, b"", b'\n', 1_000_001)?;
     let given = Given::whole(many.as_slice(), usize::MAX);
-    let words = "line 1000001: too-many-lines";
-    expect_fault(&rt, alloc, greatest()?, given, words)
+    expect_stop(
+        &rt,
+        alloc,
+        greatest()?,
+        given,
+        "line 1000001: too-many-lines",
+    )
 }
 
 #[test]
@@ -159,14 +167,7 @@ fn a_failed_read_is_told_at_every_byte(rt: HostRuntime) -> Result<(), Fail> {
     let alloc = rt.alloc();
     for row in ROWS.iter() {
         for count in 0..=row.text.len() {
-            for kind in KINDS {
-                let given = Given {
-                    text: row.text.as_bytes(),
-                    most: 3,
-                    fails: Some((count, kind)),
-                };
-                expect(&rt, alloc, greatest()?, given, READ_FAILED)?;
-            }
+            expect_failed_read(&rt, alloc, row.text, count, "read failed")?;
         }
     }
     Ok(())
@@ -200,19 +201,34 @@ fn a_faulty_line_is_told_before_a_failed_read(rt: HostRuntime) -> Result<(), Fai
     for (text, words, _fault) in FAULTY.iter() {
         let end = end_of_line(text, number_of(words)?);
         for count in 0..=text.len() {
-            for kind in KINDS {
-                let given = Given {
-                    text: text.as_bytes(),
-                    most: 3,
-                    fails: Some((count, kind)),
-                };
-                if end.is_some_and(|end| end <= count) {
-                    expect_fault(&rt, alloc, greatest()?, given, words)?;
-                } else {
-                    expect(&rt, alloc, greatest()?, given, READ_FAILED)?;
-                }
-            }
+            let told = end.is_some_and(|end| end <= count);
+            expect_failed_read(
+                &rt,
+                alloc,
+                text,
+                count,
+                if told { words } else { "read failed" },
+            )?;
         }
+    }
+    Ok(())
+}
+
+/// Fails unless this line is told where a read fails behind so many bytes of a text, however it fails.
+fn expect_failed_read(
+    rt: &impl Abort,
+    alloc: Global,
+    text: &str,
+    count: usize,
+    words: &str,
+) -> Result<(), Fail> {
+    for kind in KINDS {
+        let given = Given {
+            text: text.as_bytes(),
+            most: 3,
+            fails: Some((count, kind)),
+        };
+        expect_stop(rt, alloc, greatest()?, given, words)?;
     }
     Ok(())
 }

@@ -23,6 +23,7 @@ struct Length {
 /// The head at the front of the piece, and its size in bytes, where the piece is as long as the longest head,
 /// the length stands in at most two bytes of its own, and nothing is shown. `None` says nothing of the piece.
 #[inline(always)]
+#[tactic(none)]
 pub fn whole_head(piece: &[u8], context: &FrameContext) -> Option<(usize, Head)>
     ensures { IfSome result
         (λ found. IsHeadAtFront context.now.role context.now.limits context.now.message piece.now found.0 found.1) }
@@ -62,6 +63,7 @@ fn key_at(piece: &[u8], at: usize) -> [u8; 4]
 
 /// A first byte that shows nothing.
 #[inline(always)]
+#[tactic(none)]
 fn first_byte(byte: u8, context: &FrameContext) -> Option<FirstByte>
     ensures { IfSome result (λ first. (role : Role) (group : List Frame) → IsOpenMessage context.now.message group →
         IsInHead role context.now.limits group (PartialHead.First first) (byte ∷ [])) }

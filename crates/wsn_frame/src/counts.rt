@@ -14,6 +14,7 @@ impl Counts {
     ghost use Rattle.wsn_frame.specs.Words.{Frame, AreCounts};
 
     /// No frame.
+    #[tactic(none)]
     pub fn new() -> Counts
         ensures { AreCounts result [] }
     {
@@ -26,6 +27,7 @@ impl Counts {
     }
 
     /// One frame more.
+    #[tactic(none)]
     pub fn with(self, fin: bool, op: Op) -> Counts
         ensures { (fs : List Frame) (f : Frame) → AreCounts self fs → length fs < 2 ^ 63 → f.fin ≡ fin → f.op ≡ op →
             AreCounts result (fs ++ f ∷ []) }

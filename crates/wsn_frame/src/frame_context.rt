@@ -19,6 +19,7 @@ impl FrameContext {
     /// Why a frame may not stand behind the open message, by its opcode (RFC 6455 section 5.4), or by how many
     /// frames the message has (section 10.4).
     #[inline(always)]
+    #[tactic(none)]
     pub fn misplaced(&self, op: Op) -> Option<Reason>
         ensures { (group : List Frame) (first : ℕ) → IsOpenMessage self.now.message group →
             opcode_field first ≡ opcode op → ((reason : Reason) → ¬ (ShownByFirst reason first)) →
@@ -45,6 +46,7 @@ impl FrameContext {
     }
 
     /// Whether the message has as many frames as it may (RFC 6455 section 10.4).
+    #[tactic(none)]
     fn has_all_frames(&self, message: OpenMessage) -> bool
         ensures { IsTrue result ↔ (self.now.limits.frames ≡ Some message.frames) }
     {
@@ -56,6 +58,7 @@ impl FrameContext {
 
     /// Whether the message passes the limit with a payload of `len` bytes more (RFC 6455 section 10.4).
     #[inline(always)]
+    #[tactic(none)]
     pub fn is_too_big(&self, op: Op, len: u64) -> bool
         ensures { (group : List Frame) → IsOpenMessage self.now.message group →
             IsTrue result ↔ (IsDataOpcode (opcode op) × (self.now.limits.message < length (text_of group) + len)) }

@@ -17,6 +17,7 @@ pub struct OpenMessage {
 }
 
 /// The message that is open behind one frame more, whose payload was checked so.
+#[tactic(none)]
 pub fn message_after(
     message: Option<OpenMessage>,
     head: &Head,
@@ -37,6 +38,7 @@ pub fn message_after(
 }
 
 /// The message with one fragment more.
+#[tactic(none)]
 fn longer(message: Option<OpenMessage>, len: u64, check: &PayloadCheck) -> OpenMessage
     ensures { IsOneFragmentMore message len check.now result }
 {

@@ -95,6 +95,7 @@ fn with_second(first: FirstByte, byte: u8, context: &FrameContext) -> HeadStep
 }
 
 // One of the two bytes of a length (RFC 6455 section 5.2).
+#[tactic(none)]
 fn with_two(
     first: FirstByte,
     mut came: ArrayVec<u8, 2>,
@@ -185,6 +186,7 @@ fn with_key(
 
 impl PartialHead {
     /// Whether no byte of the head came.
+    #[tactic(none)]
     pub fn is_empty(&self) -> bool
         ensures { IsTrue result ↔ (self.now ≡ PartialHead.Empty) }
     {
@@ -194,6 +196,7 @@ impl PartialHead {
 
 impl Head {
     /// What is reported of it, where the frame begins at `place`.
+    #[tactic(none)]
     pub fn info(&self, place: u64) -> HeadInfo
         ensures { result ≡ info_at place self.now }
     {
@@ -208,6 +211,7 @@ impl Head {
     }
 
     /// How the length is spelled: in a longer form only where fewer bytes would do.
+    #[tactic(none)]
     fn form(&self) -> Form
         ensures { result ≡ form_spelled self.now.spelled self.now.len }
     {

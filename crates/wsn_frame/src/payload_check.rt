@@ -46,6 +46,7 @@ pub struct BadByte {
 impl PayloadCheck {
     /// What the payload of a frame with this first byte is checked for, behind the message that is open. A
     /// frame goes on with an open message, and begins one only where none is open (RFC 6455 section 5.4).
+    #[tactic(none)]
     pub fn new(first: FirstByte, message: Option<OpenMessage>) -> PayloadCheck
         ensures { (group : List Frame) → IsOpenMessage message group → (first.op ≡ Continue → group ≢ [])
             → ((first.op ≡ Text) ⊎ (first.op ≡ Binary) → group ≡ [])
@@ -87,6 +88,7 @@ impl PayloadCheck {
     }
 
     /// Whether a final frame that has no payload cuts the message's text.
+    #[tactic(none)]
     pub fn is_cut(&self, fin: bool) -> bool
         ensures { (group : List Frame) (first : ℕ) → HasChecked group first self.now [] → fin_bit first ≡ fin
             → (IsTrue result ↔ EvidentByPayload group TextCut first 0 [])
@@ -101,6 +103,7 @@ impl PayloadCheck {
 
 impl CloseBody {
     /// The code that a whole body holds.
+    #[tactic(none)]
     pub fn code(self) -> Option<u16>
         ensures { (payload : List ℕ) → IsBody self payload → length payload ≢ 1 → result ≡ close_code payload }
     {
@@ -111,6 +114,7 @@ impl CloseBody {
     }
 
     /// Takes the next bytes of the body, as [`PayloadCheck::feed`] does.
+    #[tactic(none)]
     fn feed(self, piece: &[u8], last: bool) -> Result<PayloadCheck, BadByte>
         requires { 0 < length piece.now }
         ensures within { IfErr result (λ bad. bad.at ≤ length piece.now) }
@@ -172,6 +176,7 @@ fn feed_reason(reason: Utf8, piece: &[u8], last: bool) -> Result<Utf8, BadByte>
 /// Takes more of a text, which ends with this piece if `ends` is true. The reason is `bad` where a byte can't
 /// follow, and `cut` where the text ends inside a character (RFC 6455 section 8.1).
 #[inline(always)]
+#[tactic(none)]
 fn feed_text(
     mut utf8: Utf8,
     piece: &[u8],

@@ -22,6 +22,7 @@ pub(crate) enum ClosingStop {
 }
 
 /// Prints the report of the capture that is the input, and tells what keeps it from that.
+#[tactic(none)]
 pub(crate) fn run_closing<R: Read, W: Write, E: Write>(
     input: &mut Input<R>,
     limits: Limits,
@@ -42,6 +43,7 @@ pub(crate) fn run_closing<R: Read, W: Write, E: Write>(
 }
 
 /// Prints the report.
+#[tactic(none)]
 fn print_report<R: Read, W: Write>(
     input: &mut Input<R>,
     limits: Limits,
@@ -59,6 +61,7 @@ fn print_report<R: Read, W: Write>(
 }
 
 /// The line that tells a stop on standard error.
+#[tactic(none)]
 fn line_of_stop(stop: ClosingStop) -> Line<STOP_MOST>
     ensures { result ≡ closing_stop_line stop }
 {
@@ -87,6 +90,7 @@ fn status(done: Result<Report, ClosingStop>) -> u8
     }
 }
 
+#[tactic(none)]
 fn status_of_outcome(outcome: Outcome) -> u8
     ensures { result ≡ outcome_status outcome }
 {

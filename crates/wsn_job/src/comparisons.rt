@@ -16,6 +16,7 @@ const DIFFERENCE_MOST: usize = 31;
 /// program's exit status: `equal` and 0; `different K` and 1, where K is the index of the first event that differs;
 /// and for a stream that isn't accepted `first ` or `second ` and its verdict's line, and 1. Status 2 after one line
 /// on `errors` that tells a stop; what can't be written there is dropped.
+#[tactic(none)]
 pub fn run_same<A: Allocator + Copy, R: Read, S: Read, W: Write, E: Write>(
     alloc: A,
     first: &mut Input<R>,
@@ -50,6 +51,7 @@ pub fn run_same<A: Allocator + Copy, R: Read, S: Read, W: Write, E: Write>(
 }
 
 /// Compares two streams and prints the answer.
+#[tactic(none)]
 fn compare<A: Allocator + Copy, R: Read, S: Read, W: Write>(
     alloc: A,
     first: &mut Input<R>,
@@ -69,6 +71,7 @@ fn compare<A: Allocator + Copy, R: Read, S: Read, W: Write>(
 }
 
 /// Writes an answer's line. `Write` if the writer fails.
+#[tactic(none)]
 fn put_compared<W: Write>(output: &mut Output<W>, compared: Compared) -> Result<(), Stop>
     requires { output.old.failed ≡ false }
     ensures { IsPut output.old output.new (comparison_line compared) result }

@@ -42,6 +42,7 @@ pub enum How<A: Allocator = Global> {
 impl<A: Allocator> How<A> {
     /// Frames of `size` bytes. A client's have this key, or one of zeros; a server's have none. `None` for frames of
     /// no bytes, and for a server's frames with a key (RFC 6455 section 5.1).
+    #[tactic(none)]
     pub fn by_size(role: Role, size: u32, weave: bool, key: Option<[u8; 4]>) -> Option<Self>
         ensures may { IfSome result (MayCut role) }
         ensures how { IfSome result (λ how. how ≡ BySize size weave (key_by_size role key)) }

@@ -29,6 +29,7 @@ pub(crate) fn run_plan<A: Allocator + Copy, R: Read, W: Write, E: Write>(
 }
 
 /// Prints the plan, if there is one.
+#[tactic(none)]
 fn print_plan<A: Allocator + Copy, R: Read, W: Write>(
     alloc: A,
     input: &mut Input<R>,
@@ -47,6 +48,7 @@ fn print_plan<A: Allocator + Copy, R: Read, W: Write>(
     Ok(answer)
 }
 
+#[tactic(none)]
 fn tell_answer<A: Allocator, E: Write>(done: &Result<PlanAnswer<A>, Stop>, errors: &mut Output<E>)
     ensures { IsPlanTold done.now errors.old errors.new }
 {
@@ -59,6 +61,7 @@ fn tell_answer<A: Allocator, E: Write>(done: &Result<PlanAnswer<A>, Stop>, error
 }
 
 /// The exit status of an answer or a stop.
+#[tactic(none)]
 fn status<A: Allocator>(done: &Result<PlanAnswer<A>, Stop>) -> u8
     ensures { result ≡ plan_status done.now }
 {

@@ -69,6 +69,7 @@ fn tell_answer<E: Write>(done: Result<RecutAnswer, Stop>, errors: &mut Output<E>
     }
 }
 
+#[tactic(none)]
 fn line_of_fault(step: u64, why: Why) -> Line<FAULT_MOST>
     ensures { result ≡ fault_line step why }
 {
@@ -82,6 +83,7 @@ fn line_of_fault(step: u64, why: Why) -> Line<FAULT_MOST>
 }
 
 /// The exit status of an answer or a stop.
+#[tactic(none)]
 fn status(done: Result<RecutAnswer, Stop>) -> u8
     ensures { result ≡ recut_status done }
 {

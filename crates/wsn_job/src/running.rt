@@ -13,6 +13,7 @@ use wsn_wire::{Input, Output};
 /// Does a command's work and answers the program's exit status: 0 for what it was asked for of an accepted stream, or a
 /// connection that both sides closed; 1 for any other answer, which is told in one line on `errors` if it isn't
 /// printed; or 2 after one line there that tells a stop. What can't be written there is dropped.
+#[tactic(none)]
 pub fn run<A: Allocator + Copy, R: Read, W: Write, E: Write>(
     alloc: A,
     job: &Job<A>,

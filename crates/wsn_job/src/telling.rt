@@ -6,6 +6,7 @@ use wsn_scan::{Stop, Verdict, put_verdict};
 use wsn_wire::Output;
 
 /// Tells a line on `errors`. What can't be written there is dropped, and after a failed write nothing more is written.
+#[tactic(none)]
 pub fn tell<E: Write>(errors: &mut Output<E>, line: &[u8])
     ensures { IsToldOn errors.old errors.new line.now }
 {
@@ -31,6 +32,7 @@ pub fn tell_stop<E: Write>(errors: &mut Output<E>, stop: Stop)
 }
 
 /// The line that tells a stop on standard error.
+#[tactic(none)]
 fn line_of_stop(stop: Stop) -> &'static str
     ensures { result.now ≡ stop_line stop }
 {

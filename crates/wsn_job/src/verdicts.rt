@@ -28,6 +28,7 @@ pub(crate) fn run_judge<R: Read, W: Write, E: Write>(
 }
 
 /// Prints a line for each frame of the input, and the verdict on it.
+#[tactic(none)]
 pub(crate) fn run_frames<R: Read, W: Write, E: Write>(
     input: &mut Input<R>,
     role: Role,
@@ -47,6 +48,7 @@ pub(crate) fn run_frames<R: Read, W: Write, E: Write>(
 }
 
 /// Writes the normal form of what the input means, and tells a verdict that isn't accepted.
+#[tactic(none)]
 pub(crate) fn run_normal<A: Allocator + Copy, R: Read, W: Write, E: Write>(
     alloc: A,
     input: &mut Input<R>,
@@ -67,6 +69,7 @@ pub(crate) fn run_normal<A: Allocator + Copy, R: Read, W: Write, E: Write>(
 }
 
 /// Writes the verdict on the input.
+#[tactic(none)]
 fn print_verdict<R: Read, W: Write>(
     input: &mut Input<R>,
     role: Role,
@@ -82,6 +85,7 @@ fn print_verdict<R: Read, W: Write>(
     Ok(verdict)
 }
 
+#[tactic(none)]
 fn tell_if_stopped<E: Write>(done: Result<Verdict, Stop>, errors: &mut Output<E>)
     ensures { IsStopTold done errors.old errors.new }
 {
@@ -90,6 +94,7 @@ fn tell_if_stopped<E: Write>(done: Result<Verdict, Stop>, errors: &mut Output<E>
     }
 }
 
+#[tactic(none)]
 fn tell_unless_accepted<E: Write>(done: Result<Verdict, Stop>, errors: &mut Output<E>)
     ensures { IsVerdictTold done errors.old errors.new }
 {
@@ -101,6 +106,7 @@ fn tell_unless_accepted<E: Write>(done: Result<Verdict, Stop>, errors: &mut Outp
 }
 
 /// The exit status of a verdict or a stop.
+#[tactic(none)]
 fn status(done: Result<Verdict, Stop>) -> u8
     ensures { result ≡ verdict_status done }
 {

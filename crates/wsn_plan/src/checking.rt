@@ -9,6 +9,7 @@ use wsn_scan::Limits;
 use wsn_wire::Role;
 
 /// The fault of a plan for these events: its step, counted from 0, and the reason. `None` if it fits them.
+#[tactic(none)]
 pub(crate) fn fault_of<A: Allocator>(
     role: Role,
     limits: Limits,

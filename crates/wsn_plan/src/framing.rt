@@ -155,6 +155,7 @@ pub(crate) fn put_frame<W: Write>(
 }
 
 /// Masks a whole payload, if there is a key.
+#[tactic(none)]
 fn mask_by(key: Option<[u8; 4]>, payload: &mut [u8])
     requires { length payload.old < 2 ^ 63 }
     ensures { payload.new ≡ wire_payload key payload.old }

@@ -16,6 +16,7 @@ pub(crate) struct Gathered<A: Allocator> {
 
 /// Reads an input to its verdict and keeps its events. Where it stops, `Memory` is told behind a payload byte of a
 /// data frame or a whole frame.
+#[tactic(none)]
 pub(crate) fn gather<A: Allocator + Copy, R: Read>(
     alloc: A,
     input: &mut Input<R>,

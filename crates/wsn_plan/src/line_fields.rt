@@ -23,6 +23,7 @@ pub enum Fields<'a> {
 }
 
 /// A line's fields. `None` if the first word is unknown, a field is empty, or there are too few or too many.
+#[tactic(none)]
 pub fn fields_of(line: &[u8]) -> Option<Fields<'_>>
     ensures { MatchOption result
         ((fields : text.Fields) → ¬ (HasFields line.now fields))
@@ -62,6 +63,7 @@ fn piece_fields(rest: &[u8]) -> Option<Fields<'_>>
 }
 
 /// A key, and the field behind it, if there is one.
+#[tactic(none)]
 fn key_and_form(text: &[u8]) -> Option<(&[u8], Option<&[u8]>)>
     ensures { MatchOption result
         ((key : List ℕ) (form : Option (List ℕ)) → ¬ (AreKeyAndForm text.now key form))

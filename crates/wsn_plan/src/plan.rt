@@ -35,6 +35,7 @@ impl<A: Allocator> Plan<A> {
     }
 
     /// Appends a step. `Memory` if memory is refused, and then the plan is as it was.
+    #[tactic(none)]
     pub fn push(&mut self, step: Step) -> Result<(), Stop>
         ensures pushed { IfOk result (λ _. self.new ≡ self.old ++ step ∷ []) }
         ensures refused { IfErr result (λ stop. (stop ≡ Stop.Memory) × (self.new ≡ self.old)) }

@@ -55,6 +55,7 @@ pub fn read_plan_file<A: Allocator + Copy, R: Read>(
 }
 
 /// The bytes of a file, if they are no more than the most.
+#[tactic(none)]
 fn read_text<A: Allocator, R: Read>(
     alloc: A,
     file: &mut Input<R>,

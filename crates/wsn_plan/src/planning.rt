@@ -25,6 +25,7 @@ pub enum PlanAnswer<A: Allocator = Global> {
 ///
 /// It holds one piece of the input, no payload, and 24 bytes for each frame that ended, in a vector that may have room
 /// for twice as many.
+#[tactic(none)]
 pub fn plan_of<A: Allocator + Copy, R: Read>(
     alloc: A,
     input: &mut Input<R>,
@@ -54,6 +55,7 @@ pub fn plan_of<A: Allocator + Copy, R: Read>(
 }
 
 /// The step of a frame with this head.
+#[tactic(none)]
 fn step_of(head: &HeadInfo) -> Step
     ensures { result ≡ step_behind head.now }
 {
@@ -68,6 +70,7 @@ fn step_of(head: &HeadInfo) -> Step
 }
 
 /// What a plan of the frames of an input with this verdict comes to.
+#[tactic(none)]
 fn answer_of<A: Allocator>(verdict: Verdict, plan: Plan<A>) -> PlanAnswer<A>
     ensures { IsAnswerWith verdict plan result }
 {

@@ -13,6 +13,7 @@ use wsn_wire::Form;
 /// Reads the plan that a text spells: a line for each step, such as `piece 3 -`, `last 37FA213D` or `last - two`.
 /// `Line` with the number of the first line that spells no step, from 1, and its first fault. `Memory` if memory is
 /// refused, which may come in front of a faulty line.
+#[tactic(none)]
 pub fn read_plan<A: Allocator>(alloc: A, text: &[u8]) -> Result<Plan<A>, PlanFault>
     ensures { IsReadPlan text.now result }
 {
@@ -35,6 +36,7 @@ pub fn read_plan<A: Allocator>(alloc: A, text: &[u8]) -> Result<Plan<A>, PlanFau
 }
 
 /// The first line without its LF, and the text behind it.
+#[tactic(none)]
 fn next_line(text: &[u8]) -> (&[u8], &[u8])
     requires { text.now ≢ [] }
     ensures { IsNextLine text.now result.0.now result.1.now }
@@ -44,6 +46,7 @@ fn next_line(text: &[u8]) -> (&[u8], &[u8])
 }
 
 /// The step that a line spells, or the line's first fault.
+#[tactic(none)]
 fn step_of(line: &[u8]) -> Result<Step, LineWhy>
     ensures { MatchResult result (SpellsStep line.now) (IsLineFault line.now) }
 {
@@ -82,6 +85,7 @@ fn number_of(field: &[u8]) -> Result<u64, LineWhy>
 }
 
 /// Whether a number begins with a digit other than 0, or is 0.
+#[tactic(none)]
 fn is_plain(field: &[u8]) -> bool
     ensures { IsTrue result
         ↔ ((field.now ≡ codes "0") ⊎ ((48 < slice_index field.now 0) × (slice_index field.now 0 < 58))) }
@@ -90,6 +94,7 @@ fn is_plain(field: &[u8]) -> bool
 }
 
 /// A key's four bytes in hexadecimal digits; none, if there is a dash.
+#[tactic(none)]
 fn key_of(field: &[u8]) -> Result<Option<[u8; 4]>, LineWhy>
     ensures { MatchResult result
         (SpellsKey field.now)

@@ -99,6 +99,7 @@ pub fn recut_uniform<A: Allocator + Copy, R: Read, W: Write>(
 }
 
 /// Writes events by a plan that fits them, or answers its fault and writes nothing.
+#[tactic(none)]
 fn cut_again<A: Allocator, W: Write>(
     output: &mut Output<W>,
     role: Role,
@@ -119,6 +120,7 @@ fn cut_again<A: Allocator, W: Write>(
 }
 
 /// Writes the frames of a plan that fits the events. `Write` if the writer fails: a prefix of them went out.
+#[tactic(none)]
 fn put_steps<A: Allocator, W: Write>(
     output: &mut Output<W>,
     events: &mut [Event<A>],

@@ -44,6 +44,7 @@ pub fn uniform<A: Allocator>(
 }
 
 /// Appends the steps of a message and of the controls directly before it.
+#[tactic(none)]
 fn push_message<A: Allocator>(
     plan: &mut Plan<A>,
     size: u32,
@@ -73,6 +74,7 @@ fn push_message<A: Allocator>(
 }
 
 /// How many Pieces of a message stand in front of the controls directly before it, at most.
+#[tactic(none)]
 fn most_ahead(weave: bool) -> u64
     ensures { result ≡ ahead weave }
 {

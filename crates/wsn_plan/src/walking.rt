@@ -42,6 +42,7 @@ impl Walk {
     }
 
     /// The first reason against the next step of a plan, if there is one.
+    #[tactic(none)]
     pub fn reason_against<A: Allocator>(
         &self,
         role: Role,
@@ -100,6 +101,7 @@ impl Walk {
 
     /// A message's last frame must have a key exactly for a client, end a message that is the next event, and may be
     /// spelled in its form.
+    #[tactic(none)]
     fn against_last<A: Allocator>(
         &self,
         role: Role,
@@ -237,6 +239,7 @@ fn has_key_of(role: Role, key: Option<[u8; 4]>) -> bool
 }
 
 /// Whether so many Pieces leave no room for one more and the message's last frame.
+#[tactic(none)]
 fn is_one_too_many(limits: Limits, pieces: u64) -> bool
     requires { pieces + 1 < 2 ^ 64 }
     ensures { IsTrue result ↔ ((most : ℕ) × (limits.frames ≡ Some most) × (most ≤ pieces + 1)) }

@@ -14,6 +14,7 @@ const STEP_MOST: usize = 42;
 
 /// Writes a plan as text: a line for each step, such as `piece 3 -`, `last 37fa213d` or `last - two`. `Write` if
 /// the writer fails: of the text only some bytes at its front went out.
+#[tactic(none)]
 pub fn write_plan<W: Write, A: Allocator>(
     output: &mut Output<W>,
     plan: &Plan<A>,

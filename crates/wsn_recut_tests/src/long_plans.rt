@@ -84,9 +84,14 @@ fn a_million_steps_are_read_and_written(rt: HostRuntime) -> Result<(), Fail> {
     let text = repeated(alloc, b"", b"piece 1 01020304 two\n", MANY, b"")?;
     let plan = read_plan(alloc, text.as_slice())?;
     expect_true(&rt, plan.steps().len() == MANY, &plan.steps().len());
+    expect_written(&rt, alloc, &plan, text.as_slice())
+}
+
+/// Fails unless this text is written of a plan.
+fn expect_written(rt: &impl Abort, alloc: Global, plan: &Plan, text: &[u8]) -> Result<(), Fail> {
     let mut out = Vec::new(alloc);
-    write_plan(&mut Output::new(&mut out), &plan)?;
-    expect_true(&rt, out.as_slice() == text.as_slice(), &out.len());
+    write_plan(&mut Output::new(&mut out), plan)?;
+    expect_true(rt, out.as_slice() == text, &out.len());
     Ok(())
 }
 

@@ -22,6 +22,15 @@ fn server(alloc: Global, bytes: &[u8]) -> Server<'_> {
     WebSocket::from_raw_socket(alloc, stream, NoMask, tungstenite::Role::Server, None)
 }
 
+/// The kinds of the session's messages, and how long they are: of a close, its reason.
+const SESSION: [(&str, usize); 5] = [
+    ("text", 5),
+    ("ping", 1),
+    ("binary", 300),
+    ("text", 3),
+    ("close", 3),
+];
+
 /// The normal form of a client's text "Hello", ping `01`, 300 bytes of binary, text of a euro sign, and close 1000
 /// "bye".
 fn session(alloc: Global) -> Result<Vec<u8>, Fail> {
@@ -63,18 +72,17 @@ fn expect_session(rt: &impl Abort, alloc: Global, bytes: &[u8]) -> Result<(), Fa
 
 /// What a server writes that sends on the data messages of the session, which another reads from these bytes.
 fn passed_on(rt: &impl Abort, alloc: Global, bytes: &[u8]) -> Result<Vec<u8>, Fail> {
-    let mut reading = server(alloc, bytes);
     let mut sending = server(alloc, b"");
-    for (kind, len) in [
-        ("text", 5),
-        ("ping", 1),
-        ("binary", 300),
-        ("text", 3),
-        ("close", 3),
-    ] {
-        pass_on(rt, &mut reading, &mut sending, kind, len)?;
-    }
+    pass_session_on(rt, server(alloc, bytes), &mut sending)?;
     Ok(sending.into_inner().writer)
+}
+
+/// The messages of the session, one by one.
+fn pass_session_on(rt: &impl Abort, mut reading: Server, sending: &mut Server) -> Result<(), Fail> {
+    for (kind, len) in SESSION {
+        pass_on(rt, &mut reading, sending, kind, len)?;
+    }
+    Ok(())
 }
 
 /// Fails unless a message is of this kind and length.

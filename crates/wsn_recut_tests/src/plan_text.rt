@@ -120,17 +120,18 @@ fn steps_are_those_of_the_lines(rt: HostRuntime) -> Result<(), Fail> {
 #[test]
 fn the_first_fault_is_told(rt: HostRuntime) -> Result<(), Fail> {
     let alloc = rt.alloc();
-    for (text, line, why, word) in FAULTS.iter() {
-        let wanted = PlanFault::Line {
-            number: *line,
-            why: *why,
-        };
+    for (text, number, why, word) in FAULTS.iter() {
         let told = fault_of(alloc, text)?;
-        assert_eq!(rt; told, wanted, "{text:?}");
-        let line = format!(in alloc; "plan line {line}: {word}")?;
+        expect_fault(&rt, text, told, *number, *why);
+        let line = format!(in alloc; "plan line {number}: {word}")?;
         expect_printed(&rt, alloc, &told, line.as_str())?;
     }
     Ok(())
+}
+
+/// Fails unless the fault that is told of a text is this one, of this line.
+fn expect_fault(rt: &impl Abort, text: &str, told: PlanFault, number: u64, why: LineWhy) {
+    expect_true(rt, told == PlanFault::Line { number, why }, &text);
 }
 
 /// The fault that is told of a text.

@@ -168,14 +168,21 @@ fn pings_and_message<A: Allocator + Copy>(heap: A, alloc: Global) -> Result<Vec<
 /// Whether seventeen pings and a message are planned in eighteen steps, with memory from this heap.
 fn is_planned<A: Allocator + Copy>(rt: &impl Abort, heap: A, alloc: Global) -> Result<bool, Fail> {
     let events = pings_and_message(heap, alloc)?;
-    match uniform(heap, events.as_slice(), Role::Server, 1, false, None) {
+    let plan = uniform(heap, events.as_slice(), Role::Server, 1, false, None);
+    Ok(has_eighteen_steps(rt, &plan))
+}
+
+/// Whether there is a plan, which must have eighteen steps then, or else memory was refused.
+fn has_eighteen_steps<A: Allocator>(rt: &impl Abort, plan: &Result<Plan<A>, Stop>) -> bool {
+    match plan {
         Ok(plan) => {
-            assert_eq!(rt; plan.steps().len(), 18);
-            Ok(true)
+            let steps = plan.steps().len();
+            expect_true(rt, steps == 18, &steps);
+            true
         }
         Err(stop) => {
-            assert_eq!(rt; stop, Stop::Memory);
-            Ok(false)
+            expect_true(rt, *stop == Stop::Memory, stop);
+            false
         }
     }
 }

@@ -39,13 +39,29 @@ fn expect_unwritten(
 fn a_failed_read_is_told_before_the_answer_shows(rt: HostRuntime) -> Result<(), Fail> {
     let alloc = rt.alloc();
     for stream in streams(alloc)?.iter() {
-        for front in stream.fronts(alloc)? {
-            let wanted = line_behind(stream, front)?;
-            expect_unwritten(&rt, alloc, stream, Chopped::breaking(front, 1), wanted)?;
-            expect_unwritten(&rt, alloc, stream, Chopped::breaking(front, 4_096), wanted)?;
-        }
+        expect_broken(&rt, alloc, stream)?;
     }
     Ok(())
+}
+
+/// Fails unless a failed read behind any of a stream's first bytes is told, or what these bytes tell.
+fn expect_broken(rt: &impl Abort, alloc: Global, stream: &Stream) -> Result<(), Fail> {
+    for front in stream.fronts(alloc)? {
+        expect_broken_behind(rt, alloc, stream, front)?;
+    }
+    Ok(())
+}
+
+/// The same behind these first bytes, which come one by one or at once.
+fn expect_broken_behind(
+    rt: &impl Abort,
+    alloc: Global,
+    stream: &Stream,
+    front: &[u8],
+) -> Result<(), Fail> {
+    let wanted = line_behind(stream, front)?;
+    expect_unwritten(rt, alloc, stream, Chopped::breaking(front, 1), wanted)?;
+    expect_unwritten(rt, alloc, stream, Chopped::breaking(front, 4_096), wanted)
 }
 
 /// A failed read goes before any fault of the plan.

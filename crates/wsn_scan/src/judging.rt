@@ -12,6 +12,7 @@ pub const PIECE: usize = 4096;
 
 /// Reads an input to its verdict: to its end, or up to a refusal. It takes pieces of at most 4,096 bytes, and one
 /// byte past the input limit at most. A refusal is answered before anything that came behind it.
+#[tactic(none)]
 pub fn judge<R: Read>(input: &mut Input<R>, role: Role, limits: Limits) -> Result<Verdict, Stop>
     requires { input.old.failed ≡ false }
     ensures judged { IsJudged role limits input.old input.new result }

@@ -14,6 +14,7 @@ const VERDICT_MOST: usize = 88;
 const HEAD_MOST: usize = 69;
 
 /// Writes a line. `Stop::Write` if the writer fails: of the line only some bytes at its front went out.
+#[tactic(none)]
 pub fn put_line<W: Write, const MOST: usize>(
     to: &mut Output<W>,
     line: &Line<MOST>,
@@ -82,6 +83,7 @@ fn line_of_cut(summary: &Summary) -> Line<VERDICT_MOST>
     line
 }
 
+#[tactic(none)]
 fn line_of_refused(refusal: &Refusal) -> Line<VERDICT_MOST>
     ensures { result ≡ verdict_line (Verdict.Refused refusal.now) }
 {
@@ -97,6 +99,7 @@ fn line_of_refused(refusal: &Refusal) -> Line<VERDICT_MOST>
     line
 }
 
+#[tactic(none)]
 fn line_of_head(head: &HeadInfo) -> Line<HEAD_MOST>
     ensures { result ≡ head_line head.now }
 {

@@ -14,6 +14,7 @@ use wsn_wire::{Input, Output, Role};
 /// came whole and showed no reason to refuse it, as soon as it came, and then the verdict's line. Before `Read`
 /// or `InputLimit` it has printed the lines of the heads that came, and none of a verdict. `Write` if the
 /// writer fails: some bytes at the front of the lines went out.
+#[tactic(none)]
 pub fn list<R: Read, W: Write>(
     input: &mut Input<R>,
     output: &mut Output<W>,
@@ -51,6 +52,7 @@ pub fn list<R: Read, W: Write>(
 }
 
 /// Writes the verdict and answers it.
+#[tactic(none)]
 fn end<W: Write>(output: &mut Output<W>, verdict: Verdict) -> Result<Verdict, Stop>
     requires { output.old.failed ≡ false }
     ensures { IsEnded output.old output.new verdict result }
@@ -61,6 +63,7 @@ fn end<W: Write>(output: &mut Output<W>, verdict: Verdict) -> Result<Verdict, St
 
 /// Hands the piece to the scan, all of it or up to a refusal, which it answers, and prints each head that the
 /// scan tells. After a failed write it only scans on.
+#[tactic(none)]
 fn list_piece<W: Write>(
     scan: &mut Scan,
     piece: &mut [u8],
@@ -84,6 +87,7 @@ fn list_piece<W: Write>(
 }
 
 /// Writes the head that a notice tells, unless a write has failed.
+#[tactic(none)]
 fn print<W: Write>(output: &mut Output<W>, notice: &Notice)
     ensures { (before : Outgoing) (text : List ℕ) → IsWrittenUpToFailure before output.old text →
         IsWrittenUpToFailure before output.new (text ++ head_lines (heads_in notice.now)) }

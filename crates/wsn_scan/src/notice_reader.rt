@@ -47,6 +47,7 @@ impl NoticeReader {
     ghost use Rattle.wsn_scan.specs.Words.{Role, Position, BetweenFrames, HasTold, IsReading, left_of, payload_of, ReadsOn, IsNotice, Tells, Progresses, IsUsed, IsFilled};
 
     /// A reader that has read nothing. It takes no memory.
+    #[tactic(none)]
     pub fn new(role: Role, limits: Limits) -> NoticeReader
         ensures { HasTold role limits result [] [] BetweenFrames }
     {
@@ -61,6 +62,7 @@ impl NoticeReader {
     }
 
     /// The bytes of the payload that the last `Payload` told of.
+    #[tactic(none)]
     pub fn payload(&self) -> &[u8]
         ensures { result.now ≡ payload_of self.now }
     {
@@ -71,6 +73,7 @@ impl NoticeReader {
     /// input's end, or where a byte shows a refusal. `Read` if the reader fails, and `InputLimit` if more bytes come
     /// than the input limit. Before each of these every head in the bytes that came was told, and each whole frame to
     /// its end; of a frame that has begun, its payload may not be told. It is called no more behind these.
+    #[tactic(none)]
     pub fn next<R: Read>(&mut self, input: &mut Input<R>) -> Result<NextNotice, Stop>
         requires begun { IsReading self.old }
         requires readable { input.old.failed ≡ false }
@@ -110,6 +113,7 @@ impl NoticeReader {
     }
 
     /// Reads once, where all that came was scanned. It answers the verdict if the input has ended.
+    #[tactic(none)]
     fn fill<R: Read>(&mut self, input: &mut Input<R>) -> Result<Option<Verdict>, Stop>
         requires readable { input.old.failed ≡ false }
         ensures filled { (role : Role) (limits : _) (came : List ℕ) (done : List Frame) (at : Position) →

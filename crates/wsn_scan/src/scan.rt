@@ -25,6 +25,7 @@ impl Scan {
     ghost use Rattle.wsn_scan.specs.Words.{Frame, Takes, Stands, room_of, GetsOn, refusal_in, taken_of, Advances, Reported, nothing_reported, refusal_in_notice, Role};
 
     /// A scan that has taken nothing.
+    #[tactic(none)]
     pub fn new(role: Role, limits: Limits) -> Scan
         ensures { Stands role limits result [] [] [] nothing_reported }
     {
@@ -42,6 +43,7 @@ impl Scan {
     }
 
     /// How many bytes it may take yet: the input limit less those taken.
+    #[tactic(none)]
     pub fn room(&self) -> u64
         ensures { result ≡ room_of self.now }
     {
@@ -49,6 +51,7 @@ impl Scan {
     }
 
     /// The refusal that it has reported.
+    #[tactic(none)]
     pub(crate) fn refusal(&self) -> Option<Refusal>
         ensures { result ≡ refusal_in self.now }
     {
@@ -59,6 +62,7 @@ impl Scan {
     }
 
     /// How many bytes it has taken.
+    #[tactic(none)]
     fn taken(&self) -> u64
         ensures { result ≡ taken_of self.now }
     {
@@ -69,6 +73,7 @@ impl Scan {
     /// they are. Payload is unmasked in place; the bytes behind those taken stay as they were. A refusal is
     /// answered by the call that takes the byte at its place, and again from then on.
     #[inline(always)]
+    #[tactic(none)]
     pub fn next(&mut self, piece: &mut [u8]) -> (usize, Notice)
         requires { length piece.old ≤ room_of self.old }
         ensures taken { Advances self.old self.new piece.old piece.new result.0 result.1 }

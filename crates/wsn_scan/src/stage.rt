@@ -49,6 +49,7 @@ impl Stage {
 
     /// Whether no byte of a frame came since the last one, which is no Close.
     #[inline(always)]
+    #[tactic(none)]
     pub fn is_between(&self) -> bool
         ensures between { IsTrue result →
             (role : _) (limits : _) (bytes rest : List ℕ) (fs : List Frame) (reported : Reported) →

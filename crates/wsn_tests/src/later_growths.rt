@@ -107,6 +107,24 @@ fn expect_answered<A: Allocator + Copy>(
     expect_again(rt, alloc, source, line)
 }
 
+/// The next event of a source that has told so many messages: how many there are with it. `None` at its answer.
+fn event_told<A: Allocator + Copy>(
+    rt: &impl Abort,
+    alloc: Global,
+    stream: &Stream,
+    source: &mut Source<A>,
+    input: &mut Input<&mut Chopped>,
+    messages: usize,
+) -> Result<Option<usize>, Fail> {
+    assert!(rt; !input.failed());
+    let next = source.next(input);
+    if let Ok(Next::Event(event)) = &next {
+        return Ok(Some(message_of(rt, event, messages)));
+    }
+    expect_answered(rt, alloc, source, &next, line_with(stream, messages))?;
+    Ok(None)
+}
+
 /// The events of a source until its answer: how many messages there are.
 fn messages_told<A: Allocator + Copy>(
     rt: &impl Abort,
@@ -117,13 +135,9 @@ fn messages_told<A: Allocator + Copy>(
 ) -> Result<usize, Fail> {
     let mut messages = 0usize;
     for _ in 0..5 {
-        assert!(rt; !input.failed());
-        let next = source.next(input);
-        if let Ok(Next::Event(event)) = &next {
-            messages = message_of(rt, event, messages);
-        } else {
-            expect_answered(rt, alloc, source, &next, line_with(stream, messages))?;
-            return Ok(messages);
+        match event_told(rt, alloc, stream, source, input, messages)? {
+            Some(more) => messages = more,
+            None => return Ok(messages),
         }
     }
     panic!(rt; "no end")

@@ -1,21 +1,18 @@
 ghost use Rattle.std.specs.Prelude.{IfOk};
 ghost use Rattle.wsn.specs.Requests.{MayDo};
 
-use super::options::{limits_of, option, role_of, with_limits, with_role};
-use super::{PlannedRecut, Request, Usage, help};
+use super::options::{limits_of, option, role_of, with_role};
+use super::{PlannedRecut, Request, Usage};
 use clap::builder::ValueParser;
 use clap::{Arg, ArgAction, ArgMatches, Command, value_parser};
 use hex::FromHex;
 use std::alloc::{AllocError, Global};
 use wsn_job::{How, Job};
 
-/// The command that cuts a stream again.
-pub fn recut<'a>(alloc: Global) -> Result<Command<'a>, AllocError> {
-    let recut = Command::new(alloc, "recut")
-        .about(help::RECUT)
-        .after_help(help::RECUT_DETAILS);
-    let recut = with_sizes(alloc, with_role(alloc, recut)?)?;
-    with_limits(alloc, with_frames(alloc, recut)?)
+/// `--role`, and how the stream is cut.
+pub fn with_cuts<'a>(alloc: Global, command: Command<'a>) -> Result<Command<'a>, AllocError> {
+    let command = with_sizes(alloc, with_role(alloc, command)?)?;
+    with_frames(alloc, command)
 }
 
 /// `--plan` and `--size`, of which one is given.

@@ -9,6 +9,7 @@ impl Scan {
 
     /// Takes the piece, which is no longer than `room`: all of it, or up to a refusal, which it answers, and again from
     /// then on. It unmasks payload in place.
+    #[tactic(none)]
     pub fn feed(&mut self, piece: &mut [u8]) -> Option<Refusal>
         requires begun { IsRunning self.old }
         requires fits { length piece.old ≤ room_of self.old }

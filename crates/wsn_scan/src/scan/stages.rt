@@ -53,6 +53,7 @@ impl Scan {
 
     /// In a payload.
     #[inline(always)]
+    #[tactic(none)]
     pub(super) fn next_payload(&mut self, inside: Inside, piece: &mut [u8]) -> (usize, Notice)
         requires { length piece.old ≤ room_of self.old }
         ensures taken { AdvancesFrom (Stage.Payload inside) self.old self.new piece.old piece.new result.0 result.1 }
@@ -122,6 +123,7 @@ impl Scan {
 
     /// The last of these bytes ends a head.
     #[inline(always)]
+    #[tactic(none)]
     fn begin(&mut self, count: usize, head: Head) -> Notice
         requires { count ≤ room_of self.old }
         ensures taken { BeginsFrame self.old self.new count head result }
@@ -149,6 +151,7 @@ impl Scan {
     }
 
     /// All of a frame came.
+    #[tactic(none)]
     pub(super) fn end(&mut self, head: &Head, check: &PayloadCheck)
         ensures taken { EndsWithPayload self.old self.new head.now check.now }
         ensures room { room_of self.new ≡ room_of self.old }

@@ -35,6 +35,7 @@ impl Scan {
     }
 
     /// Behind a Close: what follows it is the tail.
+    #[tactic(none)]
     fn closed(&self, code: Option<u16>) -> Verdict
         ensures { result ≡ Verdict.Accepted (summary_of self.now self.now.used (taken_of self.now - self.now.used)
             (Some code)) }
@@ -44,6 +45,7 @@ impl Scan {
     }
 
     /// Between frames: nothing is missing unless a message is open.
+    #[tactic(none)]
     fn between(&self) -> Verdict
         ensures { result ≡ verdict_between self.now self.now.context.message }
     {

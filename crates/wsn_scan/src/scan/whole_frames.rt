@@ -30,6 +30,7 @@ impl Scan {
     /// Takes the frame at the front of the piece at once and answers its size, where no other frame is begun, all of
     /// it lies in the piece, and it has a payload and shows nothing. Else nothing changes.
     #[inline(always)]
+    #[tactic(none)]
     fn take_frame(&mut self, piece: &mut [u8]) -> Option<usize>
         requires { length piece.old ≤ room_of self.old }
         ensures taken { IfSome result (λ n. IsBytes piece.old → (heads : List HeadInfo)

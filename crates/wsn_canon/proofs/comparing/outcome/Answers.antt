@@ -1,3 +1,4 @@
+use Rattle.std.proofs.Common.{rules}
 use Rattle.wsn_canon.proofs.Comparisons.{first_not_accepted, second_not_accepted, are_equal}
 use Rattle.wsn_canon.proofs.comparing.outcome.Goals as goal
 
@@ -10,3 +11,6 @@ returns-in_default-other c = second_not_accepted c.args.verdict c.args.other c.a
 pub returns-in-None : goal.returns-in-None
 returns-in-None c =
     are_equal c.args.verdict c.args.other c.args.difference c.in-Accepted.field-0 c.in-Accepted-other.field-0 c.in-Accepted.is c.in-Accepted-other.is c.in-None.is
+
+pub returns-in-Some : goal.returns-in-Some
+returns-in-Some c = search rules

@@ -103,3 +103,27 @@ loop-others-preserved g c =
       difference = on.0;
       rounds = omega (arith, on.1, at.rounds);
     }
+
+pub next-requires : goal.next-requires
+next-requires g c = search rules
+
+pub returns-in_err-next-clause-whole : goal.returns-in_err-next-clause-whole
+returns-in_err-next-clause-whole g c = search rules
+
+pub same-others : goal.same-others
+same-others g c = search rules
+
+pub next-requires-in-loop-others : goal.next-requires-in-loop-others
+next-requires-in-loop-others g c = search rules
+
+pub returns-in_err-next-2-clause-whole : goal.returns-in_err-next-2-clause-whole
+returns-in_err-next-2-clause-whole g c = search rules
+
+pub overflow_add-index : goal.overflow_add-index
+overflow_add-index g c = search rules
+
+pub same-events : goal.same-events
+same-events g c = search rules
+
+pub same-others-in-loop-others : goal.same-others-in-loop-others
+same-others-in-loop-others g c = search rules

@@ -60,3 +60,21 @@ returns-in-Done g c =
       normalised = done;
       whole = λ all known. whole_normal_form c.args.role c.args.limits c.args.input.now c.next.new.input c.args.output.now c.loop-source.output (Ok c.in-Done.verdict) all done known;
     }
+
+pub next-requires : goal.next-requires
+next-requires g c = search rules
+
+pub put_event-requires-clause-unfailed : goal.put_event-requires-clause-unfailed
+put_event-requires-clause-unfailed g c = search rules
+
+pub same-source : goal.same-source
+same-source g c = search rules
+
+pub loop-source-smaller-in_ok-put_event-in-Event : goal.loop-source-smaller-in_ok-put_event-in-Event
+loop-source-smaller-in_ok-put_event-in-Event g c = search rules
+
+pub same-source-in_ok-put_event-in-Event-2 : goal.same-source-in_ok-put_event-in-Event-2
+same-source-in_ok-put_event-in-Event-2 g c = search rules
+
+pub loop-source-smaller : goal.loop-source-smaller
+loop-source-smaller g c = search rules

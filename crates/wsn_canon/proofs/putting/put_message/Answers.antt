@@ -21,3 +21,12 @@ returns-else-put g c =
           rw w.to-is (front_of_head c.args.role (op_of c.args.kind) c.args.text.now c.deref.result.now c.args.to.now head (search rules) c.put.new.self
           (c.put.ensures.failed w.if-put.false) (c.put.ensures.front w.if-put.false))
     ]
+
+pub head-head-requires-clause-size : goal.head-head-requires-clause-size
+head-head-requires-clause-size g c = search rules
+
+pub head-head-requires-clause-control : goal.head-head-requires-clause-control
+head-head-requires-clause-control g c = search rules
+
+pub deref-requires : goal.deref-requires
+deref-requires g c = search rules

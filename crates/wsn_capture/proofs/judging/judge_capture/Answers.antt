@@ -51,3 +51,36 @@ returns-in_err-take-clause-whole g c all known unfailed =
 
 pub returns-in_err-take-clause-failed : goal.returns-in_err-take-clause-failed
 returns-in_err-take-clause-failed g c = failed_by c.args.limits c.args.input.now c.read.new.self c.from_residual.result (returns-in_err-take-clause-judged g c)
+
+pub loop-count-init : goal.loop-count-init
+loop-count-init g c = search rules
+
+pub slice_bounds-read-end : goal.slice_bounds-read-end
+slice_bounds-read-end g c = search rules
+
+pub read-requires : goal.read-requires
+read-requires g c = search rules
+
+pub returns-in_default-clause-whole : goal.returns-in_default-clause-whole
+returns-in_default-clause-whole g c = search rules
+
+pub returns-in_default-clause-failed : goal.returns-in_default-clause-failed
+returns-in_default-clause-failed g c = search rules
+
+pub finish-requires : goal.finish-requires
+finish-requires g c = search rules
+
+pub slice_bounds-piece-end : goal.slice_bounds-piece-end
+slice_bounds-piece-end g c = search rules
+
+pub slice_bounds-take-end : goal.slice_bounds-take-end
+slice_bounds-take-end g c = search rules
+
+pub take-requires-clause-few : goal.take-requires-clause-few
+take-requires-clause-few g c = search rules
+
+pub take-requires-clause-short : goal.take-requires-clause-short
+take-requires-clause-short g c = search rules
+
+pub loop-count-smaller : goal.loop-count-smaller
+loop-count-smaller g c = search rules

@@ -1,4 +1,4 @@
-use Rattle.std.proofs.Common.{ℕ, List, ◌++◌, codes, ap, ◌∙◌, subst}
+use Rattle.std.proofs.Common.{ℕ, List, ◌++◌, codes, ap, ◌∙◌, subst, rules}
 use Rattle.wsn_scan.specs.Stops.{IsPut}
 use Rattle.wsn_capture.specs.ReportLines.{report_line}
 use Rattle.wsn_capture.proofs.ReportTexts.{all_lines}
@@ -16,3 +16,30 @@ returns g c =
     c.push_code.ensures.text c.push_code-2.ensures.text
     (c.push_word-3.ensures.text ∙ ap (λ (w : List ℕ). c.push_code-2.new.lines ++ report_line (codes "outcome ") w) c.outcome_word.ensures.word) in
     subst (λ (bs : List ℕ). IsPut c.args.to.now c.put_line.new.to bs c.put_line.result) all c.put_line.ensures
+
+pub new-lines-requires : goal.new-lines-requires
+new-lines-requires g c = search rules
+
+pub push_side-requires : goal.push_side-requires
+push_side-requires g c = search rules
+
+pub push_side-requires-2 : goal.push_side-requires-2
+push_side-requires-2 g c = search rules
+
+pub push_word-requires : goal.push_word-requires
+push_word-requires g c = search rules
+
+pub push_word-requires-2 : goal.push_word-requires-2
+push_word-requires-2 g c = search rules
+
+pub push_code-requires : goal.push_code-requires
+push_code-requires g c = search rules
+
+pub push_code-requires-2 : goal.push_code-requires-2
+push_code-requires-2 g c = search rules
+
+pub push_word-requires-3 : goal.push_word-requires-3
+push_word-requires-3 g c = search rules
+
+pub put_line-requires : goal.put_line-requires
+put_line-requires g c = search rules

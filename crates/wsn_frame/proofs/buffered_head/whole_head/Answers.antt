@@ -1,4 +1,4 @@
-use Rattle.std.proofs.Common.{ℕ, [], List, Some, take, ◌+◌, refl, sym, subst, arith}
+use Rattle.std.proofs.Common.{ℕ, [], List, Some, take, ◌+◌, refl, sym, subst, arith, rules}
 use Rattle.std.proofs.lemmas.Bool.{false≢true}
 use Rattle.wsn_frame.specs.declared.partial_head.PartialHead.TheVariants.{First}
 use Rattle.wsn_frame.specs.PartialHeads.{IsInHead, IsHead}
@@ -41,3 +41,15 @@ returns-in-Server c =
           no_key_follows role limits group first length.spelled length.len (take length.end piece) (c.in-Some-length_at_front.ensures.reported group part)
           (λ big. false≢true ((c.if-is_too_big.ensures group is_open).1 big)) c.in-Server.is,
     )
+
+pub bounds-piece-0 : goal.bounds-piece-0
+bounds-piece-0 c = search rules
+
+pub length_at_front-requires : goal.length_at_front-requires
+length_at_front-requires c = search rules
+
+pub overflow_add-size : goal.overflow_add-size
+overflow_add-size c = search rules
+
+pub key_at-requires : goal.key_at-requires
+key_at-requires c = search rules

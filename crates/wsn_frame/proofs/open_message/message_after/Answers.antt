@@ -6,3 +6,6 @@ returns-in-Close c = search rules
 
 pub returns-else-head : goal.returns-else-head
 returns-else-head c = search rules
+
+pub returns-then-head : goal.returns-then-head
+returns-then-head c = search rules

@@ -1,5 +1,5 @@
 -- A byte of a length in two bytes leaves a part of a head, or ends the length, which may be refused.
-use Rattle.std.proofs.Common.{length, refl, ap, ◌∙◌, subst, arith}
+use Rattle.std.proofs.Common.{length, refl, ap, ◌∙◌, subst, arith, rules}
 use Rattle.std.proofs.lemmas.Bool.{false≢true}
 use Rattle.wsn_wire.specs.declared.spelling.LenForm.TheVariants.{Two}
 use Rattle.wsn_wire.specs.Refusal.{IsFirstShown}
@@ -38,3 +38,9 @@ returns-in-Err-two c group bytes is_open part =
     (c.in-Ok.ensures.ok ∙ push)
     (ap length c.in-Ok.ensures.ok ∙ c.in-Ok.ensures.variant.0 refl)
     (subst (λ lengths. IsFirstShown (λ r. ShownByLength lengths r Two c.in-Ok.whole) c.in-Err-two.reason) c.lengths.ensures c.in-Err-two.ensures.refused)
+
+pub try_push-fits-requires : goal.try_push-fits-requires
+try_push-fits-requires c = search rules
+
+pub into_inner-requires : goal.into_inner-requires
+into_inner-requires c = search rules

@@ -3,3 +3,21 @@ use Rattle.wsn_job.proofs.recuts.line_of_fault.Goals as goal
 
 pub returns : goal.returns
 returns c = search rules
+
+pub new-line-requires : goal.new-line-requires
+new-line-requires c = search rules
+
+pub push-requires : goal.push-requires
+push-requires c = search rules
+
+pub push_number-requires : goal.push_number-requires
+push_number-requires c = search rules
+
+pub push-requires-2 : goal.push-requires-2
+push-requires-2 c = search rules
+
+pub push-requires-3 : goal.push-requires-3
+push-requires-3 c = search rules
+
+pub push-requires-4 : goal.push-requires-4
+push-requires-4 c = search rules

@@ -9,3 +9,9 @@ returns-in_err-put_verdict g c = search rules
 
 pub returns : goal.returns
 returns g c = search rules
+
+pub judge-requires : goal.judge-requires
+judge-requires g c = search rules
+
+pub put_verdict-requires : goal.put_verdict-requires
+put_verdict-requires g c = search rules

@@ -1,4 +1,4 @@
-use Rattle.std.proofs.Common.{None, map, take, drop, get_or, arith}
+use Rattle.std.proofs.Common.{None, map, take, drop, get_or, arith, rules}
 use Rattle.std.proofs.lemmas.List.{length-map}
 use Rattle.wsn_wire.specs.declared.spelling.Form.TheVariants.{Shortest}
 use Rattle.wsn_rules.specs.declared.step.Step.TheVariants.{Piece}
@@ -61,3 +61,21 @@ returns g c =
     walked_fits c.args.role c.args.limits (map meant c.args.events.now) c.args.steps.now walk.pieces walk.held (drop walk.event (map meant c.args.events.now)) follows
     (none_left walk c.args.events.now c.loop-index.invariant.placed
     (let within = c.loop-index.invariant.placed.event in omega (arith, within, length-map c.args.events.now meant, c.if-walk-events.false)))
+
+pub offset_bounds-steps-index : goal.offset_bounds-steps-index
+offset_bounds-steps-index g c = search rules
+
+pub bounds-steps-index : goal.bounds-steps-index
+bounds-steps-index g c = search rules
+
+pub reason_against-requires-clause-placed : goal.reason_against-requires-clause-placed
+reason_against-requires-clause-placed g c = search rules
+
+pub reason_against-requires-clause-few : goal.reason_against-requires-clause-few
+reason_against-requires-clause-few g c = search rules
+
+pub take-requires-clause-placed : goal.take-requires-clause-placed
+take-requires-clause-placed g c = search rules
+
+pub take-requires-clause-few : goal.take-requires-clause-few
+take-requires-clause-few g c = search rules

@@ -33,3 +33,12 @@ returns-in-Done g c =
     let gathered = c.loop-events.invariant in
     is_done c.args.role c.args.limits c.args.input.now c.loop-events.input c.next.new.input c.loop-events.source c.next.new.self c.loop-events.events.items gathered
     c.in_ok-event.field-0 c.in-Done.verdict _ c.in-Done.is refl refl (c.in_ok-event.ensures.next c.args.role c.args.limits gathered.came _ gathered.has)
+
+pub next-requires : goal.next-requires
+next-requires g c = search rules
+
+pub same-source : goal.same-source
+same-source g c = search rules
+
+pub loop-events-smaller : goal.loop-events-smaller
+loop-events-smaller g c = search rules

@@ -1,4 +1,4 @@
-use Rattle.std.proofs.Common.{ap}
+use Rattle.std.proofs.Common.{ap, rules}
 use Rattle.std.specs.Option.{option_copied}
 use Rattle.wsn_plan.proofs.CutLines.{fields_of_cut}
 use Rattle.wsn_plan.proofs.line_fields.fields_of.Goals as goal
@@ -7,3 +7,6 @@ pub returns : goal.returns
 returns c =
     fields_of_cut c.args.line.now c.cut.result.0.now c.in_ok-rest.field-0.now (option_copied c.cut.result.1) c.fields_behind.result c.cut.ensures
     (ap option_copied c.in_ok-rest.was) c.fields_behind.ensures
+
+pub returns-in_err-rest : goal.returns-in_err-rest
+returns-in_err-rest c = search rules

@@ -1,4 +1,4 @@
-use Rattle.std.proofs.Common.{ap}
+use Rattle.std.proofs.Common.{ap, rules}
 use Rattle.std.specs.Option.{option_copied}
 use Rattle.wsn_plan.proofs.CutLines.{empty_text, empty_key, bad_form}
 use Rattle.wsn_plan.proofs.line_fields.key_and_form.Goals as goal
@@ -12,3 +12,6 @@ pub returns-then-not-is_field : goal.returns-then-not-is_field
 returns-then-not-is_field c = λ key form are.
     bad_form c.args.text.now c.cut.result.0.now key c.in-Some.form.now (option_copied c.cut.result.1) form c.cut.ensures
     (ap option_copied c.in-Some.is) (λ field. let holds = c.is_field.ensures.1 field in let fails = c.if-not-is_field.true in cc (holds, fails)) are
+
+pub returns : goal.returns
+returns c = search rules

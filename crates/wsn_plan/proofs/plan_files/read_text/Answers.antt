@@ -1,4 +1,5 @@
 use Rattle.std.proofs.Common.{◌≡◌, Err, length, take, arith, length-take-le, rules}
+use Rattle.std.proofs.lemmas.Grind.{common_steps}
 use Rattle.wsn_plan.specs.declared.plan_fault.PlanFault.TheVariants.{Memory}
 use Rattle.wsn_plan.specs.declared.plan_files.PlanFileFault.TheVariants.{Faulty}
 use Rattle.wsn_plan.proofs.PlanFiles.{no_memory}
@@ -21,3 +22,42 @@ returns-in_default-clause-text g c = search rules
 
 pub returns-then-count-eq0-clause-fault : goal.returns-then-count-eq0-clause-fault
 returns-then-count-eq0-clause-fault g c = search rules
+
+pub loop-piece-init : goal.loop-piece-init
+loop-piece-init g c = search rules
+
+pub overflow_add-min : goal.overflow_add-min
+overflow_add-min g c = search rules
+
+pub overflow_sub-len : goal.overflow_sub-len
+overflow_sub-len g c = search rules
+
+pub slice_bounds-piece-end : goal.slice_bounds-piece-end
+slice_bounds-piece-end g c = search rules
+
+pub slice_bounds-read-end : goal.slice_bounds-read-end
+slice_bounds-read-end g c = search rules
+
+pub read-requires : goal.read-requires
+read-requires g c = search rules
+
+pub returns-in_default-clause-fault : goal.returns-in_default-clause-fault
+returns-in_default-clause-fault g c = search rules
+
+pub returns-then-count-eq0-clause-text : goal.returns-then-count-eq0-clause-text
+returns-then-count-eq0-clause-text g c = search rules
+
+pub slice_bounds-piece-end-in-loop-piece : goal.slice_bounds-piece-end-in-loop-piece
+slice_bounds-piece-end-in-loop-piece g c = search rules
+
+pub slice_bounds-extend_from_slice-end : goal.slice_bounds-extend_from_slice-end
+slice_bounds-extend_from_slice-end g c = search rules
+
+pub loop-piece-smaller : goal.loop-piece-smaller
+loop-piece-smaller g c = search rules
+
+pub loop-piece-preserved : goal.loop-piece-preserved
+loop-piece-preserved g c = grind (arith, common_steps)
+
+pub returns-in_err-extend_from_slice-clause-text : goal.returns-in_err-extend_from_slice-clause-text
+returns-in_err-extend_from_slice-clause-text g c = search rules

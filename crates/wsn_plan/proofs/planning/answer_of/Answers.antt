@@ -6,3 +6,9 @@ returns-in-Cut g c = search rules
 
 pub returns-in-Accepted : goal.returns-in-Accepted
 returns-in-Accepted g c = search rules
+
+pub same-plan : goal.same-plan
+same-plan g c = search rules
+
+pub returns-in-Accepted-2 : goal.returns-in-Accepted-2
+returns-in-Accepted-2 g c = search rules

@@ -66,3 +66,39 @@ returns-in-Done-clause-whole g c =
     λ all known. whole_plan c.args.role c.args.limits c.args.input.now c.next.new.input (Ok c.answer_of.result) all
     (is_done c.args.role c.args.limits c.args.input.now c.loop-plan.input c.next.new.input c.loop-plan.reader c.next.new.self c.loop-plan.plan c.loop-plan.begun planned
     c.in_ok-head.field-0 c.in-Done.verdict c.answer_of.result c.in-Done.is (c.in_ok-head.ensures.next c.args.role c.args.limits planned.came planned.done planned.at planned.told) c.answer_of.ensures) known
+
+pub next-requires-clause-begun : goal.next-requires-clause-begun
+next-requires-clause-begun g c = search rules
+
+pub next-requires-clause-readable : goal.next-requires-clause-readable
+next-requires-clause-readable g c = search rules
+
+pub same-plan : goal.same-plan
+same-plan g c = search rules
+
+pub loop-plan-smaller-in-Head : goal.loop-plan-smaller-in-Head
+loop-plan-smaller-in-Head g c = search rules
+
+pub same-plan-in-Payload : goal.same-plan-in-Payload
+same-plan-in-Payload g c = search rules
+
+pub loop-plan-smaller-in-Payload : goal.loop-plan-smaller-in-Payload
+loop-plan-smaller-in-Payload g c = search rules
+
+pub unreachable-unreachable : goal.unreachable-unreachable
+unreachable-unreachable g c = search rules
+
+pub same-plan-in-FrameEnd : goal.same-plan-in-FrameEnd
+same-plan-in-FrameEnd g c = search rules
+
+pub same-plan-in-Continue-branch-3 : goal.same-plan-in-Continue-branch-3
+same-plan-in-Continue-branch-3 g c = search rules
+
+pub loop-plan-smaller : goal.loop-plan-smaller
+loop-plan-smaller g c = search rules
+
+pub returns-in_err-push-in-FrameEnd-clause-whole : goal.returns-in_err-push-in-FrameEnd-clause-whole
+returns-in_err-push-in-FrameEnd-clause-whole g c = search rules
+
+pub same-plan-in-Done : goal.same-plan-in-Done
+same-plan-in-Done g c = search rules

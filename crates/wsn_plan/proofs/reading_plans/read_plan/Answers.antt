@@ -1,4 +1,5 @@
 use Rattle.std.proofs.Common.{arith, subst, sym, ◌+◌, length, ◌<◌, rules}
+use Rattle.std.proofs.lemmas.Grind.{common_steps}
 use Rattle.wsn_plan.proofs.CutLines.{empty_text}
 use Rattle.wsn_plan.proofs.ReadPlans.{HasReadPlan, all_read, begins_read, fault_read, one_more_read, shorter}
 use Rattle.wsn_plan.proofs.reading_plans.read_plan.Goals as goal
@@ -33,3 +34,18 @@ returns g c =
 
 pub loop-rest-init : goal.loop-rest-init
 loop-rest-init g c = search rules
+
+pub next_line-requires : goal.next_line-requires
+next_line-requires g c = search rules
+
+pub overflow_add-number : goal.overflow_add-number
+overflow_add-number g c = search rules
+
+pub same-plan : goal.same-plan
+same-plan g c = search rules
+
+pub same-plan-in-loop-rest : goal.same-plan-in-loop-rest
+same-plan-in-loop-rest g c = search rules
+
+pub loop-rest-smaller : goal.loop-rest-smaller
+loop-rest-smaller g c = grind (arith, common_steps)

@@ -63,3 +63,18 @@ loop-step-preserved g c =
 
 pub returns : goal.returns
 returns g c = all_written (map meant c.args.events.now) c.args.steps.now c.loop-step.step-index c.loop-step.walk c.loop-step.invariant.way c.args.output.now c.loop-step.output (omega arith) c.loop-step.invariant.written
+
+pub offset_bounds-steps-step-index : goal.offset_bounds-steps-step-index
+offset_bounds-steps-step-index g c = search rules
+
+pub put_step-requires-clause-unfailed : goal.put_step-requires-clause-unfailed
+put_step-requires-clause-unfailed g c = search rules
+
+pub put_step-requires-clause-placed : goal.put_step-requires-clause-placed
+put_step-requires-clause-placed g c = search rules
+
+pub take-requires-clause-placed : goal.take-requires-clause-placed
+take-requires-clause-placed g c = search rules
+
+pub take-requires-clause-few : goal.take-requires-clause-few
+take-requires-clause-few g c = search rules

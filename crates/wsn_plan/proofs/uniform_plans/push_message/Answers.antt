@@ -1,4 +1,4 @@
-use Rattle.std.proofs.Common.{◌≡◌, ◌-◌, ◌++◌, ◌∷◌, [], min, replicate}
+use Rattle.std.proofs.Common.{◌≡◌, ◌-◌, ◌++◌, ◌∷◌, [], min, replicate, rules}
 use Rattle.wsn_wire.specs.declared.spelling.Form.TheVariants.{Shortest}
 use Rattle.wsn_rules.specs.declared.step.Step.TheVariants.{Piece, Last, Control}
 use Rattle.wsn_rules.specs.UniformPlan.{piece_count, ahead}
@@ -18,3 +18,30 @@ returns-clause-pushed g c =
     ok_on c.push.result (c.push.new.self ≡ c.push_times-3.new.plan ++ Last c.args.key Shortest ∷ []) (c.push.new.self ≡ c.args.plan.now ++ message_steps c.args.size c.args.weave c.args.key c.args.controls c.args.bytes)
     (λ fourth. message_pushed c.args.size c.args.weave c.args.key c.args.plan.now c.push_times.new.plan c.push_times-2.new.plan c.push_times-3.new.plan c.push.new.self c.args.controls c.args.bytes m least first second third fourth)
     c.push.ensures.pushed
+
+pub nonzero_div-pieces : goal.nonzero_div-pieces
+nonzero_div-pieces g c = search rules
+
+pub returns-in_err-push_times-clause-pushed : goal.returns-in_err-push_times-clause-pushed
+returns-in_err-push_times-clause-pushed g c = search rules
+
+pub returns-in_err-push_times-clause-stop : goal.returns-in_err-push_times-clause-stop
+returns-in_err-push_times-clause-stop g c = search rules
+
+pub returns-in_err-push_times-2-clause-pushed : goal.returns-in_err-push_times-2-clause-pushed
+returns-in_err-push_times-2-clause-pushed g c = search rules
+
+pub returns-in_err-push_times-2-clause-stop : goal.returns-in_err-push_times-2-clause-stop
+returns-in_err-push_times-2-clause-stop g c = search rules
+
+pub overflow_sub-pieces : goal.overflow_sub-pieces
+overflow_sub-pieces g c = search rules
+
+pub returns-in_err-push_times-3-clause-pushed : goal.returns-in_err-push_times-3-clause-pushed
+returns-in_err-push_times-3-clause-pushed g c = search rules
+
+pub returns-in_err-push_times-3-clause-stop : goal.returns-in_err-push_times-3-clause-stop
+returns-in_err-push_times-3-clause-stop g c = search rules
+
+pub returns-clause-stop : goal.returns-clause-stop
+returns-clause-stop g c = search rules

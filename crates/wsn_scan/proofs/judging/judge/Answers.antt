@@ -1,4 +1,4 @@
-use Rattle.std.proofs.Common.{◌≡◌, ℕ, [], ◌++◌, length, take, drop, refl, subst, arith, length-append, length-drop, length-take-le}
+use Rattle.std.proofs.Common.{◌≡◌, ℕ, [], ◌++◌, length, take, drop, refl, subst, arith, length-append, length-drop, length-take-le, rules}
 use Rattle.std.specs.Io.KnownBytes.{Consumes}
 use Rattle.wsn_rules.specs.declared.verdict.Verdict.TheVariants.{Refused}
 use Rattle.wsn_scan.proofs.JudgedInputs.{begins, stopped, ended, goes_on, passes_limit, refuses_input, whole_verdict, whole_limit}
@@ -62,3 +62,45 @@ loop-count-preserved g c =
       );
       size = omega (arith, c.feed.auto.piece, length-append c.feed.new.piece (drop c.min-fits.result c.read_piece.new.buffer), length-drop c.min-fits.result c.read_piece.new.buffer, c.in-Some.ensures.within);
     }
+
+pub slice_bounds-read_piece-end : goal.slice_bounds-read_piece-end
+slice_bounds-read_piece-end g c = search rules
+
+pub read_piece-requires : goal.read_piece-requires
+read_piece-requires g c = search rules
+
+pub returns-in_default-clause-limit : goal.returns-in_default-clause-limit
+returns-in_default-clause-limit g c = search rules
+
+pub returns-in_default-clause-failed : goal.returns-in_default-clause-failed
+returns-in_default-clause-failed g c = search rules
+
+pub returns-then-count-eq0-clause-limit : goal.returns-then-count-eq0-clause-limit
+returns-then-count-eq0-clause-limit g c = search rules
+
+pub returns-then-count-eq0-clause-failed : goal.returns-then-count-eq0-clause-failed
+returns-then-count-eq0-clause-failed g c = search rules
+
+pub slice_bounds-buffer-end : goal.slice_bounds-buffer-end
+slice_bounds-buffer-end g c = search rules
+
+pub slice_bounds-feed-end : goal.slice_bounds-feed-end
+slice_bounds-feed-end g c = search rules
+
+pub feed-requires-clause-begun : goal.feed-requires-clause-begun
+feed-requires-clause-begun g c = search rules
+
+pub feed-requires-clause-fits : goal.feed-requires-clause-fits
+feed-requires-clause-fits g c = search rules
+
+pub returns-in-Some-feed-clause-limit : goal.returns-in-Some-feed-clause-limit
+returns-in-Some-feed-clause-limit g c = search rules
+
+pub returns-in-Some-feed-clause-failed : goal.returns-in-Some-feed-clause-failed
+returns-in-Some-feed-clause-failed g c = search rules
+
+pub returns-then-count-fits-clause-failed : goal.returns-then-count-fits-clause-failed
+returns-then-count-fits-clause-failed g c = search rules
+
+pub loop-count-smaller : goal.loop-count-smaller
+loop-count-smaller g c = search rules

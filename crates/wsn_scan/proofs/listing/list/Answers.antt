@@ -1,4 +1,4 @@
-use Rattle.std.proofs.Common.{◌≡◌, ◌∙◌, ℕ, Option, [], length, take, drop, refl, sym, subst, arith, length-append, length-drop, length-take-le}
+use Rattle.std.proofs.Common.{◌≡◌, ◌∙◌, ℕ, Option, [], length, take, drop, refl, sym, subst, arith, length-append, length-drop, length-take-le, rules}
 use Rattle.std.proofs.KnownBytes.{Appends-nil}
 use Rattle.std.specs.Io.KnownBytes.{Consumes}
 use Rattle.wsn_rules.specs.declared.verdict.Refusal.{Refusal}
@@ -83,3 +83,33 @@ loop-count-preserved g c =
       unfailed = sym c.failed.ensures ∙ c.if-failed.false;
       size = omega (arith, c.list_piece-refusal.auto.piece, length-append c.list_piece-refusal.new.piece (drop c.min-fits.result c.read_piece.new.buffer), length-drop c.min-fits.result c.read_piece.new.buffer, c.in-Some.ensures.within);
     }
+
+pub slice_bounds-read_piece-end : goal.slice_bounds-read_piece-end
+slice_bounds-read_piece-end g c = search rules
+
+pub read_piece-requires : goal.read_piece-requires
+read_piece-requires g c = search rules
+
+pub end-requires : goal.end-requires
+end-requires g c = search rules
+
+pub slice_bounds-buffer-end : goal.slice_bounds-buffer-end
+slice_bounds-buffer-end g c = search rules
+
+pub slice_bounds-list_piece-end : goal.slice_bounds-list_piece-end
+slice_bounds-list_piece-end g c = search rules
+
+pub list_piece-refusal-requires-clause-begun : goal.list_piece-refusal-requires-clause-begun
+list_piece-refusal-requires-clause-begun g c = search rules
+
+pub list_piece-refusal-requires-clause-fits : goal.list_piece-refusal-requires-clause-fits
+list_piece-refusal-requires-clause-fits g c = search rules
+
+pub list_piece-refusal-requires-clause-writable : goal.list_piece-refusal-requires-clause-writable
+list_piece-refusal-requires-clause-writable g c = search rules
+
+pub end-requires-in-Some-refusal : goal.end-requires-in-Some-refusal
+end-requires-in-Some-refusal g c = search rules
+
+pub loop-count-smaller : goal.loop-count-smaller
+loop-count-smaller g c = search rules

@@ -1,4 +1,4 @@
-use Rattle.std.proofs.Common.{◌≡◌, ◌∙◌, ◌+◌, ◌-◌, ◌<◌, ◌≤◌, ℕ, List, [], ◌++◌, length, drop, refl, sym, arith, ap, length-drop}
+use Rattle.std.proofs.Common.{◌≡◌, ◌∙◌, ◌+◌, ◌-◌, ◌<◌, ◌≤◌, ℕ, List, [], ◌++◌, length, drop, refl, sym, arith, ap, length-drop, rules}
 use borrow.Rule.Slice.PartMut.{mid_of, same_len_mid}
 use Rattle.wsn_scan.specs.Reports.{refusal_in_notice}
 use Rattle.wsn_scan.specs.Feeding.{heads_in}
@@ -92,3 +92,18 @@ returns g c = record {
   };
   printed = c.loop-at.invariant.takes.2;
 }
+
+pub slice_bounds-next-count : goal.slice_bounds-next-count
+slice_bounds-next-count g c = search rules
+
+pub slice_bounds-next-start : goal.slice_bounds-next-start
+slice_bounds-next-start g c = search rules
+
+pub slice_bounds-next-end : goal.slice_bounds-next-end
+slice_bounds-next-end g c = search rules
+
+pub next-taken-requires : goal.next-taken-requires
+next-taken-requires g c = search rules
+
+pub overflow_add-at : goal.overflow_add-at
+overflow_add-at g c = search rules

@@ -1,4 +1,4 @@
-use Rattle.std.proofs.Common.{◌≡◌, ◌∙◌, ◌++◌, List, ℕ, sym, ap, append-nil, subst}
+use Rattle.std.proofs.Common.{◌≡◌, ◌∙◌, ◌++◌, List, ℕ, sym, ap, append-nil, subst, rules}
 use Rattle.wsn_scan.specs.declared.notice.Notice.{Notice}
 use Rattle.wsn_scan.specs.Feeding.{heads_in}
 use Rattle.wsn_rules.specs.Lines.{head_line, head_lines}
@@ -18,3 +18,9 @@ returns-then-not-failed g c before text printed =
 pub returns-else-not-failed : goal.returns-else-not-failed
 returns-else-not-failed g c before text printed =
     prints_no_more before c.args.output.now text (head_lines (heads_in c.args.notice.now)) (sym c.failed.ensures ∙ c.if-not-failed.false) printed
+
+pub put_head-stop-requires : goal.put_head-stop-requires
+put_head-stop-requires g c = search rules
+
+pub returns-in_default : goal.returns-in_default
+returns-in_default g c = search rules

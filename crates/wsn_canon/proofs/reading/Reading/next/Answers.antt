@@ -109,3 +109,39 @@ returns-in-Err-clause-next g c role limits came given has =
     ends role limits c.args.input.now came given c.loop-head.input c.next.new.input c.loop-head.self c.next.new.self read c.next.result reads c.finish-in-Err.new.self (Err c.in-Err.stop) c.finish-in-Err.result
     (stopped role limits c.args.input.now came given c.loop-head.input c.next.new.input c.loop-head.self c.next.new.self read c.next.result reads c.in-Err.stop c.in-Err.is)
     c.finish-in-Err.ensures.answer c.finish-in-Err.ensures.held c.finish-in-Err.ensures.result
+
+pub loop-head-init : goal.loop-head-init
+loop-head-init g c = search rules
+
+pub next-requires-clause-readable : goal.next-requires-clause-readable
+next-requires-clause-readable g c = search rules
+
+pub loop-head-smaller-in-Ok-Head : goal.loop-head-smaller-in-Ok-Head
+loop-head-smaller-in-Ok-Head g c = search rules
+
+pub returns-then-not-take-clause-falls : goal.returns-then-not-take-clause-falls
+returns-then-not-take-clause-falls g c = search rules
+
+pub returns-then-not-take-clause-sound : goal.returns-then-not-take-clause-sound
+returns-then-not-take-clause-sound g c = search rules
+
+pub loop-head-smaller-else-not-take : goal.loop-head-smaller-else-not-take
+loop-head-smaller-else-not-take g c = search rules
+
+pub returns-in-Some-clause-falls : goal.returns-in-Some-clause-falls
+returns-in-Some-clause-falls g c = search rules
+
+pub loop-head-smaller : goal.loop-head-smaller
+loop-head-smaller g c = search rules
+
+pub returns-in-Ok-Done-clause-falls : goal.returns-in-Ok-Done-clause-falls
+returns-in-Ok-Done-clause-falls g c = search rules
+
+pub returns-in-Ok-Done-clause-sound : goal.returns-in-Ok-Done-clause-sound
+returns-in-Ok-Done-clause-sound g c = search rules
+
+pub returns-in-Err-clause-falls : goal.returns-in-Err-clause-falls
+returns-in-Err-clause-falls g c = search rules
+
+pub returns-in-Err-clause-sound : goal.returns-in-Err-clause-sound
+returns-in-Err-clause-sound g c = search rules

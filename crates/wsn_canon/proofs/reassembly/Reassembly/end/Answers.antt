@@ -1,4 +1,4 @@
-use Rattle.std.proofs.Common.{◌≡◌, ℕ, List, true, false, ◌∙◌, ap, arith}
+use Rattle.std.proofs.Common.{◌≡◌, ℕ, List, true, false, ◌∙◌, ap, arith, rules}
 use Rattle.wsn_wire.specs.Frame.{is_control}
 use Rattle.wsn_rules.specs.Meaning.{Message}
 use Rattle.wsn_canon.proofs.ReassembledFrames.{fragment, message_event, message_ended}
@@ -22,3 +22,9 @@ returns g c role limits done f is lawful within =
 
 pub returns-then-is_control : goal.returns-then-is_control
 returns-then-is_control g c = grind (arith, common_steps)
+
+pub new-requires : goal.new-requires
+new-requires g c = search rules
+
+pub control-requires : goal.control-requires
+control-requires g c = search rules

@@ -37,3 +37,42 @@ pub returns-in-Server-clause-fault : goal.returns-in-Server-clause-fault
 returns-in-Server-clause-fault c =
     subst (λ (r : Role). IfErr c.take-in-Server.result (λ fault. (limits : Limits) (given : List Entry) → AreSent limits c.args.self.now given → IsFirstOwnFault limits given (bytes_front r ++ c.args.digits.now) fault)) (sym c.in-Server.is)
     (if_err c.take-in-Server.result c.take-in-Server.ensures.fault (λ fault is limits given has. bytes_limited limits given Server c.args.self.now.server has.server c.args.digits.now _ c.in_ok-count.ensures.1 fault is.1))
+
+pub slice_bounds-decode-end : goal.slice_bounds-decode-end
+slice_bounds-decode-end c = search rules
+
+pub decode-requires : goal.decode-requires
+decode-requires c = search rules
+
+pub returns-in_err-count-clause-taken : goal.returns-in_err-count-clause-taken
+returns-in_err-count-clause-taken c = search rules
+
+pub returns-in_err-count-clause-unchanged : goal.returns-in_err-count-clause-unchanged
+returns-in_err-count-clause-unchanged c = search rules
+
+pub returns-in_err-count-clause-lines : goal.returns-in_err-count-clause-lines
+returns-in_err-count-clause-lines c = search rules
+
+pub slice_bounds-bytes-end : goal.slice_bounds-bytes-end
+slice_bounds-bytes-end c = search rules
+
+pub slice_bounds-take-end : goal.slice_bounds-take-end
+slice_bounds-take-end c = search rules
+
+pub slice_bounds-bytes-end-in-Server : goal.slice_bounds-bytes-end-in-Server
+slice_bounds-bytes-end-in-Server c = search rules
+
+pub slice_bounds-take-end-in-Server : goal.slice_bounds-take-end-in-Server
+slice_bounds-take-end-in-Server c = search rules
+
+pub returns-in-Client-clause-unchanged : goal.returns-in-Client-clause-unchanged
+returns-in-Client-clause-unchanged c = search rules
+
+pub returns-in-Client-clause-lines : goal.returns-in-Client-clause-lines
+returns-in-Client-clause-lines c = search rules
+
+pub returns-in-Server-clause-unchanged : goal.returns-in-Server-clause-unchanged
+returns-in-Server-clause-unchanged c = search rules
+
+pub returns-in-Server-clause-lines : goal.returns-in-Server-clause-lines
+returns-in-Server-clause-lines c = search rules

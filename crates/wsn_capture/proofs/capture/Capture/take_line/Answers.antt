@@ -30,3 +30,27 @@ returns-clause-taken c limits lines has =
     (subst (λ (bs : List ℕ). TakesText limits c.take.new.self has.entries bs) c.strip_cr-text.ensures
     (c.in_ok-take.ensures.taken limits has.entries (count_given limits c.args.self.now lines c.args.text.now has) has.sides))
     c.in_ok-take.ensures.lines
+
+pub returns-then-self-ge-LINES_MAX-clause-unchanged : goal.returns-then-self-ge-LINES_MAX-clause-unchanged
+returns-then-self-ge-LINES_MAX-clause-unchanged c = search rules
+
+pub returns-then-text-gt-LINE_MAX-clause-unchanged : goal.returns-then-text-gt-LINE_MAX-clause-unchanged
+returns-then-text-gt-LINE_MAX-clause-unchanged c = search rules
+
+pub take-requires : goal.take-requires
+take-requires c = search rules
+
+pub returns-in_err-take-clause-taken : goal.returns-in_err-take-clause-taken
+returns-in_err-take-clause-taken c = search rules
+
+pub returns-in_err-take-clause-unchanged : goal.returns-in_err-take-clause-unchanged
+returns-in_err-take-clause-unchanged c = search rules
+
+pub returns-in_err-take-clause-count : goal.returns-in_err-take-clause-count
+returns-in_err-take-clause-count c = search rules
+
+pub overflow_add-self : goal.overflow_add-self
+overflow_add-self c = search rules
+
+pub returns-clause-count : goal.returns-clause-count
+returns-clause-count c = search rules

@@ -1,4 +1,4 @@
-use Rattle.std.proofs.Common.{◌≤◌, length, sym, ◌∙◌, subst}
+use Rattle.std.proofs.Common.{◌≤◌, length, sym, ◌∙◌, subst, rules}
 use Rattle.wsn_capture.specs.LimitedScans.{Scanned, HasStreamed}
 use Rattle.wsn_capture.proofs.StreamSteps.{streamed_behind, streamed_on, sound_on, some_refusal, no_refusal}
 use Rattle.wsn_capture.proofs.limited_scan.LimitedScan.take.Goals as goal
@@ -21,3 +21,12 @@ returns-in-Accepted c role limits came has =
     (sym c.finish.ensures.reported ∙ no_refusal c.finish.result c.in-Accepted.is)
     (subst (λ (s : Scanned). length c.args.bytes.now ≤ s.room) (sym c.self.view_is) c.requires) c.feed-refusal.ensures
     (subst (λ (s : Scanned). HasStreamed role limits s came) (sym c.self.view_is) has)
+
+pub overflow_sub-self : goal.overflow_sub-self
+overflow_sub-self c = search rules
+
+pub invariant_of-self : goal.invariant_of-self
+invariant_of-self c = search rules
+
+pub feed-refusal-requires : goal.feed-refusal-requires
+feed-refusal-requires c = search rules

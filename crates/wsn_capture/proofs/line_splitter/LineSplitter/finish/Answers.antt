@@ -19,3 +19,9 @@ pub returns : goal.returns
 returns c limits came split =
     let has = c.in_ok-end_begun.ensures.taken limits split.lines split.taken in
     reported_last limits c.args.self.now.capture c.args.self.now.begun.items came split c.end_begun.new.self.capture c.report-2.result (not_empty c.args.self.now.begun.items (sym c.is_empty.ensures ∙ c.if-is_empty.false)) has (c.report-2.ensures limits _ has)
+
+pub is_empty-requires : goal.is_empty-requires
+is_empty-requires c = search rules
+
+pub end_begun-requires : goal.end_begun-requires
+end_begun-requires c = search rules

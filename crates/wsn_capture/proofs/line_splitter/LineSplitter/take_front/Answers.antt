@@ -32,3 +32,84 @@ returns-in_ok-go_on-in-None-clause-split c limits came split =
     let size = length-take-le c.min.result c.args.piece.now (omega arith) in
     subst (λ (n : ℕ). HasSplit limits c.go_on.new.self (came ++ take n c.args.piece.now)) (sym size)
     (c.in_ok-go_on-in-None.ensures.split limits came (no_lf_in (take c.min.result c.args.piece.now) (λ k within. c.in-None.ensures k (omega arith) within)) split)
+
+pub len-room-requires : goal.len-room-requires
+len-room-requires c = search rules
+
+pub overflow_sub-room : goal.overflow_sub-room
+overflow_sub-room c = search rules
+
+pub slice_bounds-front-end : goal.slice_bounds-front-end
+slice_bounds-front-end c = search rules
+
+pub slice_bounds-end_line-end : goal.slice_bounds-end_line-end
+slice_bounds-end_line-end c = search rules
+
+pub end_line-requires-clause-few : goal.end_line-requires-clause-few
+end_line-requires-clause-few c = search rules
+
+pub end_line-requires-clause-fits : goal.end_line-requires-clause-fits
+end_line-requires-clause-fits c = search rules
+
+pub returns-in_err-end_line-in-Some-clause-within : goal.returns-in_err-end_line-in-Some-clause-within
+returns-in_err-end_line-in-Some-clause-within c = search rules
+
+pub returns-in_err-end_line-in-Some-clause-split : goal.returns-in_err-end_line-in-Some-clause-split
+returns-in_err-end_line-in-Some-clause-split c = search rules
+
+pub returns-in_err-end_line-in-Some-clause-few : goal.returns-in_err-end_line-in-Some-clause-few
+returns-in_err-end_line-in-Some-clause-few c = search rules
+
+pub returns-in_err-end_line-in-Some-clause-short : goal.returns-in_err-end_line-in-Some-clause-short
+returns-in_err-end_line-in-Some-clause-short c = search rules
+
+pub returns-in_err-end_line-in-Some-clause-left : goal.returns-in_err-end_line-in-Some-clause-left
+returns-in_err-end_line-in-Some-clause-left c = search rules
+
+pub overflow_add-result : goal.overflow_add-result
+overflow_add-result c = search rules
+
+pub go_on-requires-clause-few : goal.go_on-requires-clause-few
+go_on-requires-clause-few c = search rules
+
+pub go_on-requires-clause-fits : goal.go_on-requires-clause-fits
+go_on-requires-clause-fits c = search rules
+
+pub returns-in_err-go_on-in-None-clause-within : goal.returns-in_err-go_on-in-None-clause-within
+returns-in_err-go_on-in-None-clause-within c = search rules
+
+pub returns-in_err-go_on-in-None-clause-split : goal.returns-in_err-go_on-in-None-clause-split
+returns-in_err-go_on-in-None-clause-split c = search rules
+
+pub returns-in_err-go_on-in-None-clause-few : goal.returns-in_err-go_on-in-None-clause-few
+returns-in_err-go_on-in-None-clause-few c = search rules
+
+pub returns-in_err-go_on-in-None-clause-short : goal.returns-in_err-go_on-in-None-clause-short
+returns-in_err-go_on-in-None-clause-short c = search rules
+
+pub returns-in_err-go_on-in-None-clause-left : goal.returns-in_err-go_on-in-None-clause-left
+returns-in_err-go_on-in-None-clause-left c = search rules
+
+pub returns-in_ok-end_line-in-Some-clause-within : goal.returns-in_ok-end_line-in-Some-clause-within
+returns-in_ok-end_line-in-Some-clause-within c = search rules
+
+pub returns-in_ok-end_line-in-Some-clause-few : goal.returns-in_ok-end_line-in-Some-clause-few
+returns-in_ok-end_line-in-Some-clause-few c = search rules
+
+pub returns-in_ok-end_line-in-Some-clause-short : goal.returns-in_ok-end_line-in-Some-clause-short
+returns-in_ok-end_line-in-Some-clause-short c = search rules
+
+pub returns-in_ok-end_line-in-Some-clause-left : goal.returns-in_ok-end_line-in-Some-clause-left
+returns-in_ok-end_line-in-Some-clause-left c = search rules
+
+pub returns-in_ok-go_on-in-None-clause-within : goal.returns-in_ok-go_on-in-None-clause-within
+returns-in_ok-go_on-in-None-clause-within c = search rules
+
+pub returns-in_ok-go_on-in-None-clause-few : goal.returns-in_ok-go_on-in-None-clause-few
+returns-in_ok-go_on-in-None-clause-few c = search rules
+
+pub returns-in_ok-go_on-in-None-clause-short : goal.returns-in_ok-go_on-in-None-clause-short
+returns-in_ok-go_on-in-None-clause-short c = search rules
+
+pub returns-in_ok-go_on-in-None-clause-left : goal.returns-in_ok-go_on-in-None-clause-left
+returns-in_ok-go_on-in-None-clause-left c = search rules

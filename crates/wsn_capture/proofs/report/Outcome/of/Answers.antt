@@ -9,3 +9,12 @@ returns-then-is_closed-4 c = search rules
 
 pub returns-else-is_closed-4 : goal.returns-else-is_closed-4
 returns-else-is_closed-4 c = search rules
+
+pub returns-then-is_refused-2 : goal.returns-then-is_refused-2
+returns-then-is_refused-2 c = search rules
+
+pub returns-then-server_ended : goal.returns-then-server_ended
+returns-then-server_ended c = search rules
+
+pub returns-else-client_ended : goal.returns-else-client_ended
+returns-else-client_ended c = search rules

@@ -7,3 +7,6 @@ returns-clause-taken c role limits given has = sends_mark role limits c.args.sel
 
 pub returns-clause-unended : goal.returns-clause-unended
 returns-clause-unended c = search rules
+
+pub returns-then-has_ended-clause-fault : goal.returns-then-has_ended-clause-fault
+returns-then-has_ended-clause-fault c = search rules

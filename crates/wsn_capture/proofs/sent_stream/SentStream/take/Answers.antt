@@ -11,3 +11,12 @@ returns-then-bytes-room-clause-fault c = search rules
 
 pub returns-clause-unended : goal.returns-clause-unended
 returns-clause-unended c = search rules
+
+pub returns-then-self-clause-fault : goal.returns-then-self-clause-fault
+returns-then-self-clause-fault c = search rules
+
+pub take-requires : goal.take-requires
+take-requires c = search rules
+
+pub returns-clause-room : goal.returns-clause-room
+returns-clause-room c = search rules

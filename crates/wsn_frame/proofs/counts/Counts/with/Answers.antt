@@ -1,4 +1,5 @@
 use Rattle.std.proofs.Common.{◌≡◌, ◌≤◌, ◌∙◌, Bool, true, false, cond, inl, inr, refl, arith}
+use Rattle.std.proofs.lemmas.Grind.{common_steps}
 use mir.Val.{bool_byte}
 use Rattle.wsn_wire.specs.declared.opcode.Op.TheVariants.{Continue, Text, Binary, Ping, Pong}
 use Rattle.wsn_frame.proofs.CountedFrames.{tallies_push, within_frames}
@@ -34,3 +35,6 @@ returns-in-Continue c fs f counts few is_fin is_op =
         | inr binary ↦ tallies_push c.args.self fs f c.args.fin Binary _ _ _ _ counts is_fin (is_op ∙ binary) (omega arith) (omega arith) (omega arith) (omega arith)
       ]
     ]
+
+pub returns-in-Close : goal.returns-in-Close
+returns-in-Close c = grind (arith, common_steps)

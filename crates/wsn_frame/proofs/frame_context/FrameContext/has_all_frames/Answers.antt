@@ -3,3 +3,6 @@ use Rattle.wsn_frame.proofs.frame_context.FrameContext.has_all_frames.Goals as g
 
 pub returns-in-Some : goal.returns-in-Some
 returns-in-Some c = search rules
+
+pub returns-in-None : goal.returns-in-None
+returns-in-None c = search rules

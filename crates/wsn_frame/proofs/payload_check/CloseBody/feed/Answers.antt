@@ -1,5 +1,6 @@
 -- A body goes on with its reason, or with its code.
-use Rattle.std.proofs.Common.{◌≡◌, Err, rules}
+use Rattle.std.proofs.Common.{◌≡◌, Err, rules, arith}
+use Rattle.std.proofs.lemmas.Grind.{common_steps}
 use Rattle.wsn_frame.proofs.PayloadRows.{reason_checked, reason_refused, half_code_goes_on, empty_goes_on}
 use Rattle.wsn_frame.proofs.payload_check.CloseBody.feed.Goals as goal
 
@@ -19,3 +20,54 @@ returns-in-HalfCode-clause-checked c =
 pub returns-in-Empty-2-clause-checked : goal.returns-in-Empty-2-clause-checked
 returns-in-Empty-2-clause-checked c =
     rw c.in-Empty-2.is (empty_goes_on c.args.piece.now c.args.last c.feed_code.result c.requires c.if-piece-eq1.false c.feed_code.ensures.checked)
+
+pub bounds-piece-0 : goal.bounds-piece-0
+bounds-piece-0 c = search rules
+
+pub bounds-piece-0-in-Empty-2 : goal.bounds-piece-0-in-Empty-2
+bounds-piece-0-in-Empty-2 c = search rules
+
+pub bounds-piece-1 : goal.bounds-piece-1
+bounds-piece-1 c = search rules
+
+pub slice_bounds-feed_code-count : goal.slice_bounds-feed_code-count
+slice_bounds-feed_code-count c = search rules
+
+pub slice_bounds-feed_code-start : goal.slice_bounds-feed_code-start
+slice_bounds-feed_code-start c = search rules
+
+pub slice_bounds-feed_code-end : goal.slice_bounds-feed_code-end
+slice_bounds-feed_code-end c = search rules
+
+pub feed_code-requires : goal.feed_code-requires
+feed_code-requires c = search rules
+
+pub bounds-piece-0-in-HalfCode : goal.bounds-piece-0-in-HalfCode
+bounds-piece-0-in-HalfCode c = search rules
+
+pub slice_bounds-feed_code-count-in-HalfCode : goal.slice_bounds-feed_code-count-in-HalfCode
+slice_bounds-feed_code-count-in-HalfCode c = search rules
+
+pub slice_bounds-feed_code-start-in-HalfCode : goal.slice_bounds-feed_code-start-in-HalfCode
+slice_bounds-feed_code-start-in-HalfCode c = search rules
+
+pub slice_bounds-feed_code-end-in-HalfCode : goal.slice_bounds-feed_code-end-in-HalfCode
+slice_bounds-feed_code-end-in-HalfCode c = search rules
+
+pub feed_code-requires-in-HalfCode : goal.feed_code-requires-in-HalfCode
+feed_code-requires-in-HalfCode c = search rules
+
+pub feed_reason-requires : goal.feed_reason-requires
+feed_reason-requires c = search rules
+
+pub returns-in_err-reason-in-Code-clause-within : goal.returns-in_err-reason-in-Code-clause-within
+returns-in_err-reason-in-Code-clause-within c = search rules
+
+pub returns-in-Empty-clause-checked : goal.returns-in-Empty-clause-checked
+returns-in-Empty-clause-checked c = grind (arith, common_steps)
+
+pub returns-in-Empty-2-clause-within : goal.returns-in-Empty-2-clause-within
+returns-in-Empty-2-clause-within c = search rules
+
+pub returns-in-HalfCode-clause-within : goal.returns-in-HalfCode-clause-within
+returns-in-HalfCode-clause-within c = search rules

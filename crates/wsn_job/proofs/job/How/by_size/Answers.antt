@@ -9,3 +9,9 @@ returns-clause-how g c = search rules
 
 pub returns-clause-none : goal.returns-clause-none
 returns-clause-none g c = search rules
+
+pub returns-in-Server-Some-clause-none : goal.returns-in-Server-Some-clause-none
+returns-in-Server-Some-clause-none g c = search rules
+
+pub returns-then-size-eq0-clause-none : goal.returns-then-size-eq0-clause-none
+returns-then-size-eq0-clause-none g c = search rules

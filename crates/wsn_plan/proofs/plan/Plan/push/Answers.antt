@@ -8,3 +8,6 @@ invariant_of-self g c =
 
 pub returns-clause-pushed : goal.returns-clause-pushed
 returns-clause-pushed g c = search rules
+
+pub returns-clause-refused : goal.returns-clause-refused
+returns-clause-refused g c = search rules

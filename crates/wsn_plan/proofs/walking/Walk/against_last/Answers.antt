@@ -1,4 +1,5 @@
-use Rattle.std.proofs.Common.{◌≡◌, ℕ, ◌-◌, length, map, drop, refl, sym, ap, ◌∙◌, true≢false}
+use Rattle.std.proofs.Common.{◌≡◌, ℕ, ◌-◌, length, map, drop, refl, sym, ap, ◌∙◌, true≢false, rules, arith}
+use Rattle.std.proofs.lemmas.Grind.{common_steps}
 use Rattle.wsn_rules.specs.declared.step.Step.TheVariants.{Last}
 use Rattle.wsn_canon.specs.EventsMeant.{meant}
 use Rattle.wsn_plan.proofs.EventsAhead.{first_is_first, text_is, some_left, begins_with_message, begins_with_control, message_or_not}
@@ -29,3 +30,9 @@ returns g c =
     let size : c.saturating_sub.result ≡ length c.in-Some.ensures.0 - c.args.self.now.held = c.saturating_sub.ensures ∙ ap (λ (n : ℕ). n - c.args.self.now.held) c.in-Some.ensures.2 in
     last_passes c.args.role c.args.limits c.args.self.now.pieces c.args.self.now.held (drop c.args.self.now.event (map meant c.args.events.now)) c.args.key c.args.form (c.if-not-has_key_of.ensures.0 refl) (some_left c.args.self.now c.args.events.now c.requires c.if-self-events.false) c.in-Some.ensures.0 (text_is c.args.self.now c.args.events.now c.requires ∙ c.in-Some.ensures.1) (λ control. message_or_not (drop c.args.self.now.event (map meant c.args.events.now)) (begins_with_message c.args.self.now c.args.events.now c.requires c.if-self.false (some_left c.args.self.now c.args.events.now c.requires c.if-self-events.false)) control)
     (rw (← size, ← c.lengths.ensures) (c.if-not-is_allowed_form.ensures.0 refl))
+
+pub returns-then-not-has_key_of : goal.returns-then-not-has_key_of
+returns-then-not-has_key_of g c = search rules
+
+pub returns-then-self-events : goal.returns-then-self-events
+returns-then-self-events g c = grind (arith, common_steps)

@@ -1,3 +1,4 @@
+use Rattle.std.proofs.Common.{rules}
 use Rattle.wsn_plan.proofs.walking.Walk.reason_against.Goals as goal
 
 pub returns-in-Piece : goal.returns-in-Piece
@@ -8,3 +9,15 @@ returns-in-Last g c = rw c.in-Last.is c.against_last.ensures
 
 pub returns-in-Control : goal.returns-in-Control
 returns-in-Control g c = rw c.in-Control.is (c.against_control.ensures c.args.limits)
+
+pub against_piece-requires-clause-placed : goal.against_piece-requires-clause-placed
+against_piece-requires-clause-placed g c = search rules
+
+pub against_piece-requires-clause-few : goal.against_piece-requires-clause-few
+against_piece-requires-clause-few g c = search rules
+
+pub against_last-requires : goal.against_last-requires
+against_last-requires g c = search rules
+
+pub against_control-requires : goal.against_control-requires
+against_control-requires g c = search rules

@@ -1,4 +1,4 @@
-use Rattle.std.proofs.Common.{◌≡◌, ℕ, ◌+◌, ◌≤◌, length, take, refl, ◌∙◌, subst, arith}
+use Rattle.std.proofs.Common.{◌≡◌, ℕ, ◌+◌, ◌≤◌, length, take, refl, ◌∙◌, subst, arith, rules}
 use Rattle.std.proofs.KnownBytes.{Consumes-nil, Consumes-kept}
 use Rattle.std.specs.Io.KnownBytes.{Consumes}
 use Rattle.wsn_scan.specs.Scans.{room_of}
@@ -32,3 +32,39 @@ returns-clause-filled g c role limits came done at used =
     goes_on role limits c.args.self.now came done at used _ n c.if-self.false c.if-count-eq0.false most in_buffer c.in-Some.ensures.in_bytes refl refl
     (λ less. omega (arith, c.min.ensures, c.room-room.ensures)) (λ more. omega (arith, c.min.ensures, c.room-room.ensures)) refl
     c.args.input.now c.read_piece.new.input c.in-Some.ensures.bytes (c.in-Some.ensures.some ∙ c.requires.readable)
+
+pub returns-then-self-clause-left : goal.returns-then-self-clause-left
+returns-then-self-clause-left g c = search rules
+
+pub returns-then-self-clause-within : goal.returns-then-self-clause-within
+returns-then-self-clause-within g c = search rules
+
+pub read_piece-requires : goal.read_piece-requires
+read_piece-requires g c = search rules
+
+pub invariant_of-self : goal.invariant_of-self
+invariant_of-self g c = search rules
+
+pub returns-in_default-clause-left : goal.returns-in_default-clause-left
+returns-in_default-clause-left g c = search rules
+
+pub returns-in_default-clause-within : goal.returns-in_default-clause-within
+returns-in_default-clause-within g c = search rules
+
+pub invariant_of-self-then-count-eq0 : goal.invariant_of-self-then-count-eq0
+invariant_of-self-then-count-eq0 g c = search rules
+
+pub returns-then-count-eq0-clause-left : goal.returns-then-count-eq0-clause-left
+returns-then-count-eq0-clause-left g c = search rules
+
+pub returns-then-count-eq0-clause-within : goal.returns-then-count-eq0-clause-within
+returns-then-count-eq0-clause-within g c = search rules
+
+pub invariant_of-self-2 : goal.invariant_of-self-2
+invariant_of-self-2 g c = search rules
+
+pub returns-clause-left : goal.returns-clause-left
+returns-clause-left g c = search rules
+
+pub returns-clause-within : goal.returns-clause-within
+returns-clause-within g c = search rules

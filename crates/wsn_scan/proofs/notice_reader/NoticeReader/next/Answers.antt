@@ -93,3 +93,27 @@ loop-head-preserved g c =
       unfailed = (filled_by b.role b.limits b.came b.done b.at b.told).next.2;
       left = omega (arith, falls.0, c.fill.ensures.left, c.loop-head.invariant.left);
     }
+
+pub loop-head-init : goal.loop-head-init
+loop-head-init g c = search rules
+
+pub returns-in-Head-clause-falls : goal.returns-in-Head-clause-falls
+returns-in-Head-clause-falls g c = search rules
+
+pub returns-in-Payload-clause-falls : goal.returns-in-Payload-clause-falls
+returns-in-Payload-clause-falls g c = search rules
+
+pub returns-in-FrameEnd-clause-falls : goal.returns-in-FrameEnd-clause-falls
+returns-in-FrameEnd-clause-falls g c = search rules
+
+pub returns-in-Refused-clause-falls : goal.returns-in-Refused-clause-falls
+returns-in-Refused-clause-falls g c = search rules
+
+pub fill-requires : goal.fill-requires
+fill-requires g c = search rules
+
+pub returns-in_err-verdict-in-More-clause-falls : goal.returns-in_err-verdict-in-More-clause-falls
+returns-in_err-verdict-in-More-clause-falls g c = search rules
+
+pub returns-in-Some-clause-falls : goal.returns-in-Some-clause-falls
+returns-in-Some-clause-falls g c = search rules

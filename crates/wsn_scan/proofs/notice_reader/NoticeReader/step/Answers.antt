@@ -1,4 +1,4 @@
-use Rattle.std.proofs.Common.{◌+◌, refl, ◌∙◌, arith}
+use Rattle.std.proofs.Common.{◌+◌, refl, ◌∙◌, arith, rules}
 use Rattle.wsn_scan.specs.declared.notice_reader.NoticeReader.{NoticeReader}
 use Rattle.wsn_scan.proofs.ReaderSteps.{tells, progresses}
 use Rattle.wsn_scan.proofs.notice_reader.NoticeReader.step.Goals as goal
@@ -28,3 +28,15 @@ returns-clause-falls c =
     } in
     progresses b.role b.limits old new c.scan_part-taken.result.0 b.came b.done b.at b.told c.scan_part-taken.result.1
     (record { in_bytes = e.in_bytes; advances = e.taken; takes = e.takes; kept = e.kept; room = e.room; reported = e.reported; from_is = refl; at_is = refl; end_is = refl; past_is = refl })
+
+pub slice_bounds-scan_part-end : goal.slice_bounds-scan_part-end
+slice_bounds-scan_part-end c = search rules
+
+pub scan_part-taken-requires-clause-within : goal.scan_part-taken-requires-clause-within
+scan_part-taken-requires-clause-within c = search rules
+
+pub overflow_add-self : goal.overflow_add-self
+overflow_add-self c = search rules
+
+pub invariant_of-self : goal.invariant_of-self
+invariant_of-self c = search rules

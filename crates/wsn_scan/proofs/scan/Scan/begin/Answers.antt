@@ -1,4 +1,4 @@
-use Rattle.std.proofs.Common.{◌≡◌, ◌++◌, [], ◌∷◌, true, false, inl, inr, refl, sym, ◌∙◌, arith, append-nil}
+use Rattle.std.proofs.Common.{◌≡◌, ◌++◌, [], ◌∷◌, true, false, inl, inr, refl, sym, ◌∙◌, arith, append-nil, rules}
 use Rattle.wsn_wire.specs.declared.refusal.Reason.TheVariants.{TextCut}
 use Rattle.wsn_wire.specs.Frame.{first_byte}
 use Rattle.wsn_wire.proofs.FrameLemmas.{first_byte_fields}
@@ -66,3 +66,39 @@ returns-clause-taken c role limits bytes rest last taken fs reported knows none 
     (knows_more role limits c.args.self.now _ bytes rest last fs (record { sender = refl; under = refl; room = omega (arith, c.requires); used = refl; counts = refl; message = refl }) in_bytes knows)
     none holds (sym empty) (heads_with head fs reported.heads c.args.self.now.used c.info-info.result heads knows.used c.info-info.ensures) ends (unmasked_nothing head.key) in
     record { frames = fs ++ ends.frame ∷ []; since = []; stands = ends.stands; tells = tt }
+
+pub overflow_sub-self : goal.overflow_sub-self
+overflow_sub-self c = search rules
+
+pub returns-then-head-gt0-clause-takes : goal.returns-then-head-gt0-clause-takes
+returns-then-head-gt0-clause-takes c = search rules
+
+pub returns-then-head-gt0-clause-room : goal.returns-then-head-gt0-clause-room
+returns-then-head-gt0-clause-room c = search rules
+
+pub returns-then-head-gt0-clause-reported : goal.returns-then-head-gt0-clause-reported
+returns-then-head-gt0-clause-reported c = search rules
+
+pub refuse-requires : goal.refuse-requires
+refuse-requires c = search rules
+
+pub returns-then-is_cut-clause-takes : goal.returns-then-is_cut-clause-takes
+returns-then-is_cut-clause-takes c = search rules
+
+pub returns-then-is_cut-clause-room : goal.returns-then-is_cut-clause-room
+returns-then-is_cut-clause-room c = search rules
+
+pub returns-then-is_cut-clause-reported : goal.returns-then-is_cut-clause-reported
+returns-then-is_cut-clause-reported c = search rules
+
+pub overflow_sub-self-2 : goal.overflow_sub-self-2
+overflow_sub-self-2 c = search rules
+
+pub returns-clause-takes : goal.returns-clause-takes
+returns-clause-takes c = search rules
+
+pub returns-clause-room : goal.returns-clause-room
+returns-clause-room c = search rules
+
+pub returns-clause-reported : goal.returns-clause-reported
+returns-clause-reported c = search rules

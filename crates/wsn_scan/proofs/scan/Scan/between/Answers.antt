@@ -3,3 +3,6 @@ use Rattle.wsn_scan.proofs.scan.Scan.between.Goals as goal
 
 pub returns-in-Some : goal.returns-in-Some
 returns-in-Some c = search rules
+
+pub returns-in-None : goal.returns-in-None
+returns-in-None c = search rules

@@ -1,4 +1,4 @@
-use Rattle.std.proofs.Common.{refl}
+use Rattle.std.proofs.Common.{refl, rules}
 use Rattle.wsn_scan.proofs.FrameEnds.{frame_ends}
 use Rattle.wsn_scan.proofs.scan.Scan.end.Goals as goal
 
@@ -14,3 +14,9 @@ returns-clause-taken c role limits bytes rest wire fs reported =
       message = c.message_after-self.ensures;
       stage = c.behind-self.ensures.stands;
     })
+
+pub returns-clause-room : goal.returns-clause-room
+returns-clause-room c = search rules
+
+pub returns-clause-reported : goal.returns-clause-reported
+returns-clause-reported c = search rules

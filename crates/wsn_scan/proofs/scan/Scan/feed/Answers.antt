@@ -80,3 +80,33 @@ loop-at-preserved c =
 
 pub returns : goal.returns
 returns c = search rules
+
+pub slice_bounds-next-count : goal.slice_bounds-next-count
+slice_bounds-next-count c = search rules
+
+pub slice_bounds-next-start : goal.slice_bounds-next-start
+slice_bounds-next-start c = search rules
+
+pub slice_bounds-next-end : goal.slice_bounds-next-end
+slice_bounds-next-end c = search rules
+
+pub next-taken-requires : goal.next-taken-requires
+next-taken-requires c = search rules
+
+pub overflow_add-at : goal.overflow_add-at
+overflow_add-at c = search rules
+
+pub slice_bounds-take_frames-count : goal.slice_bounds-take_frames-count
+slice_bounds-take_frames-count c = search rules
+
+pub slice_bounds-take_frames-start : goal.slice_bounds-take_frames-start
+slice_bounds-take_frames-start c = search rules
+
+pub slice_bounds-take_frames-end : goal.slice_bounds-take_frames-end
+slice_bounds-take_frames-end c = search rules
+
+pub take_frames-at-requires : goal.take_frames-at-requires
+take_frames-at-requires c = search rules
+
+pub overflow_add-at-in-loop-at : goal.overflow_add-at-in-loop-at
+overflow_add-at-in-loop-at c = search rules

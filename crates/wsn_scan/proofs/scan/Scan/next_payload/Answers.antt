@@ -1,4 +1,5 @@
 use Rattle.std.proofs.Common.{◌≡◌, ◌+◌, ◌≤◌, ◌^◌, ℕ, List, [], ◌∷◌, ◌++◌, length, take, drop, Ok, Err, inr, refl, sym, ap, ◌∙◌, subst, arith, append_assoc, length-append, rules}
+use Rattle.std.proofs.lemmas.Grind.{common_steps}
 use Rattle.std.proofs.lemmas.List.{length-take-le, take-take}
 use Rattle.wsn_wire.specs.Frame.{first_byte, stream}
 use Rattle.wsn_wire.proofs.FrameLemmas.{first_byte_fields}
@@ -128,3 +129,114 @@ returns-in-Err-clause-kept c =
 
 pub returns-else-last-clause-takes : goal.returns-else-last-clause-takes
 returns-else-last-clause-takes c = search rules
+
+pub returns-then-count-eq0-clause-taken : goal.returns-then-count-eq0-clause-taken
+returns-then-count-eq0-clause-taken c = search rules
+
+pub returns-then-count-eq0-clause-takes : goal.returns-then-count-eq0-clause-takes
+returns-then-count-eq0-clause-takes c = search rules
+
+pub returns-then-count-eq0-clause-within : goal.returns-then-count-eq0-clause-within
+returns-then-count-eq0-clause-within c = search rules
+
+pub returns-then-count-eq0-clause-kept : goal.returns-then-count-eq0-clause-kept
+returns-then-count-eq0-clause-kept c = search rules
+
+pub returns-then-count-eq0-clause-room : goal.returns-then-count-eq0-clause-room
+returns-then-count-eq0-clause-room c = search rules
+
+pub returns-then-count-eq0-clause-some : goal.returns-then-count-eq0-clause-some
+returns-then-count-eq0-clause-some c = search rules
+
+pub returns-then-count-eq0-clause-reported : goal.returns-then-count-eq0-clause-reported
+returns-then-count-eq0-clause-reported c = search rules
+
+pub slice_bounds-unmask-end : goal.slice_bounds-unmask-end
+slice_bounds-unmask-end c = search rules
+
+pub slice_bounds-unmask-end-2 : goal.slice_bounds-unmask-end-2
+slice_bounds-unmask-end-2 c = search rules
+
+pub unmask-requires : goal.unmask-requires
+unmask-requires c = search rules
+
+pub slice_bounds-feed-end : goal.slice_bounds-feed-end
+slice_bounds-feed-end c = search rules
+
+pub slice_bounds-feed-end-2 : goal.slice_bounds-feed-end-2
+slice_bounds-feed-end-2 c = search rules
+
+pub feed-requires : goal.feed-requires
+feed-requires c = search rules
+
+pub overflow_sub-self : goal.overflow_sub-self
+overflow_sub-self c = search rules
+
+pub overflow_add-self : goal.overflow_add-self
+overflow_add-self c = search rules
+
+pub overflow_add-inside : goal.overflow_add-inside
+overflow_add-inside c = search rules
+
+pub slice_bounds-unmask-count : goal.slice_bounds-unmask-count
+slice_bounds-unmask-count c = search rules
+
+pub slice_bounds-unmask-start : goal.slice_bounds-unmask-start
+slice_bounds-unmask-start c = search rules
+
+pub slice_bounds-unmask-end-in-Err : goal.slice_bounds-unmask-end-in-Err
+slice_bounds-unmask-end-in-Err c = search rules
+
+pub unmask-requires-in-Err : goal.unmask-requires-in-Err
+unmask-requires-in-Err c = search rules
+
+pub refuse-requires : goal.refuse-requires
+refuse-requires c = search rules
+
+pub returns-then-last-clause-takes : goal.returns-then-last-clause-takes
+returns-then-last-clause-takes c = search rules
+
+pub returns-then-last-clause-within : goal.returns-then-last-clause-within
+returns-then-last-clause-within c = search rules
+
+pub returns-then-last-clause-kept : goal.returns-then-last-clause-kept
+returns-then-last-clause-kept c = grind (arith, common_steps)
+
+pub returns-then-last-clause-room : goal.returns-then-last-clause-room
+returns-then-last-clause-room c = search rules
+
+pub returns-then-last-clause-some : goal.returns-then-last-clause-some
+returns-then-last-clause-some c = search rules
+
+pub returns-then-last-clause-reported : goal.returns-then-last-clause-reported
+returns-then-last-clause-reported c = search rules
+
+pub returns-else-last-clause-within : goal.returns-else-last-clause-within
+returns-else-last-clause-within c = search rules
+
+pub returns-else-last-clause-kept : goal.returns-else-last-clause-kept
+returns-else-last-clause-kept c = grind (arith, common_steps)
+
+pub returns-else-last-clause-room : goal.returns-else-last-clause-room
+returns-else-last-clause-room c = search rules
+
+pub returns-else-last-clause-some : goal.returns-else-last-clause-some
+returns-else-last-clause-some c = search rules
+
+pub returns-else-last-clause-reported : goal.returns-else-last-clause-reported
+returns-else-last-clause-reported c = search rules
+
+pub returns-in-Err-clause-takes : goal.returns-in-Err-clause-takes
+returns-in-Err-clause-takes c = search rules
+
+pub returns-in-Err-clause-within : goal.returns-in-Err-clause-within
+returns-in-Err-clause-within c = search rules
+
+pub returns-in-Err-clause-room : goal.returns-in-Err-clause-room
+returns-in-Err-clause-room c = search rules
+
+pub returns-in-Err-clause-some : goal.returns-in-Err-clause-some
+returns-in-Err-clause-some c = search rules
+
+pub returns-in-Err-clause-reported : goal.returns-in-Err-clause-reported
+returns-in-Err-clause-reported c = search rules

@@ -1,4 +1,4 @@
-use Rattle.std.proofs.Common.{◌≡◌, ◌+◌, ◌-◌, ◌≤◌, ℕ, Ok, List, [], ◌∷◌, ◌++◌, length, take, refl, ap, ◌∙◌, subst, arith}
+use Rattle.std.proofs.Common.{◌≡◌, ◌+◌, ◌-◌, ◌≤◌, ℕ, Ok, List, [], ◌∷◌, ◌++◌, length, take, refl, ap, ◌∙◌, subst, arith, rules}
 use Rattle.std.proofs.lemmas.List.{length-take-le}
 use borrow.Rule.Slice.PartMut.{mid_of, mid_len}
 use Rattle.wsn_wire.specs.declared.endpoint.Role.{Role}
@@ -66,3 +66,87 @@ returns-in-Err-clause-none c =
     let start = c.in_ok-start.start in
     let end = start + c.in_ok-start.head.len in
     (refl, masked_back c.in_ok-start.head.key start end c.args.piece.now c.unmask.new.bytes (omega arith) (omega (arith, c.in_ok-start.ensures.1, c.if-head-room.false)) c.unmask.ensures c.unmask-in-Err.new.bytes c.unmask-in-Err.ensures)
+
+pub returns-then-not-is_between-clause-none : goal.returns-then-not-is_between-clause-none
+returns-then-not-is_between-clause-none c = search rules
+
+pub returns-in_err-start-clause-taken : goal.returns-in_err-start-clause-taken
+returns-in_err-start-clause-taken c = search rules
+
+pub returns-in_err-start-clause-within : goal.returns-in_err-start-clause-within
+returns-in_err-start-clause-within c = search rules
+
+pub returns-in_err-start-clause-kept : goal.returns-in_err-start-clause-kept
+returns-in_err-start-clause-kept c = search rules
+
+pub returns-in_err-start-clause-room : goal.returns-in_err-start-clause-room
+returns-in_err-start-clause-room c = search rules
+
+pub returns-in_err-start-clause-reported : goal.returns-in_err-start-clause-reported
+returns-in_err-start-clause-reported c = search rules
+
+pub returns-in_err-start-clause-none : goal.returns-in_err-start-clause-none
+returns-in_err-start-clause-none c = search rules
+
+pub overflow_sub-room : goal.overflow_sub-room
+overflow_sub-room c = search rules
+
+pub returns-then-head-eq0-clause-none : goal.returns-then-head-eq0-clause-none
+returns-then-head-eq0-clause-none c = search rules
+
+pub overflow_add-end : goal.overflow_add-end
+overflow_add-end c = search rules
+
+pub slice_bounds-unmask-count : goal.slice_bounds-unmask-count
+slice_bounds-unmask-count c = search rules
+
+pub slice_bounds-unmask-start : goal.slice_bounds-unmask-start
+slice_bounds-unmask-start c = search rules
+
+pub slice_bounds-unmask-end : goal.slice_bounds-unmask-end
+slice_bounds-unmask-end c = search rules
+
+pub unmask-requires : goal.unmask-requires
+unmask-requires c = search rules
+
+pub slice_bounds-feed-count : goal.slice_bounds-feed-count
+slice_bounds-feed-count c = search rules
+
+pub slice_bounds-feed-start : goal.slice_bounds-feed-start
+slice_bounds-feed-start c = search rules
+
+pub slice_bounds-feed-end : goal.slice_bounds-feed-end
+slice_bounds-feed-end c = search rules
+
+pub feed-requires : goal.feed-requires
+feed-requires c = search rules
+
+pub overflow_sub-self : goal.overflow_sub-self
+overflow_sub-self c = search rules
+
+pub slice_bounds-unmask-count-in-Err : goal.slice_bounds-unmask-count-in-Err
+slice_bounds-unmask-count-in-Err c = search rules
+
+pub slice_bounds-unmask-start-in-Err : goal.slice_bounds-unmask-start-in-Err
+slice_bounds-unmask-start-in-Err c = search rules
+
+pub slice_bounds-unmask-end-in-Err : goal.slice_bounds-unmask-end-in-Err
+slice_bounds-unmask-end-in-Err c = search rules
+
+pub unmask-requires-in-Err : goal.unmask-requires-in-Err
+unmask-requires-in-Err c = search rules
+
+pub shape_of-piece-in-Ok : goal.shape_of-piece-in-Ok
+shape_of-piece-in-Ok c = search rules
+
+pub returns-in-Ok-clause-within : goal.returns-in-Ok-clause-within
+returns-in-Ok-clause-within c = search rules
+
+pub returns-in-Ok-clause-room : goal.returns-in-Ok-clause-room
+returns-in-Ok-clause-room c = search rules
+
+pub returns-in-Ok-clause-reported : goal.returns-in-Ok-clause-reported
+returns-in-Ok-clause-reported c = search rules
+
+pub shape_of-piece-in-Err : goal.shape_of-piece-in-Err
+shape_of-piece-in-Err c = search rules
