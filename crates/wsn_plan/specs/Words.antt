@@ -1,20 +1,17 @@
 -- The words that the clauses in src/ use, passed on.
-pub use Rattle.std.specs.Option.{option_copied}
 pub use Rattle.wsn_wire.specs.Frame.{Frame, FormFits, frame_bytes, is_control, stream, wire_payload}
 pub use Rattle.wsn_wire.specs.Transfer.{Outgoing, IsWritten}
 pub use Rattle.wsn_wire.specs.declared.endpoint.Role.{Role}
 pub use Rattle.wsn_wire.specs.declared.endpoint.Role.TheVariants.{Client}
 pub use Rattle.wsn_wire.specs.declared.opcode.Kind.{Kind}
 pub use Rattle.wsn_wire.specs.declared.opcode.Op.{Op}
-pub use Rattle.wsn_wire.specs.declared.spelling.Form.{Form}
-pub use Rattle.wsn_wire.specs.declared.spelling.Form.TheVariants.{Shortest, Two, Eight}
+pub use Rattle.wsn_wire.specs.declared.spelling.Form.TheVariants.{Shortest}
 pub use Rattle.wsn_rules.specs.Accepted.{IsAccepted}
 pub use Rattle.wsn_rules.specs.Fault.{IsFault}
 pub use Rattle.wsn_rules.specs.Fitting.{Fits}
 pub use Rattle.wsn_rules.specs.Group.{unfinished}
 pub use Rattle.wsn_rules.specs.LawfulEvents.{AreLawful}
 pub use Rattle.wsn_rules.specs.Limits.{InRange, Limits}
-pub use Rattle.wsn_rules.specs.Lines.{form_text}
 pub use Rattle.wsn_rules.specs.Meaning.{MeantEvent, Message, meaning}
 pub use Rattle.wsn_rules.specs.Plan.{next_text, IsPlan}
 pub use Rattle.wsn_rules.specs.Recut.{op_behind}
@@ -26,17 +23,11 @@ pub use Rattle.wsn_scan.specs.Stops.{AnswersAll, IsPut}
 pub use Rattle.wsn_scan.specs.declared.stop.Stop.{Stop}
 pub use Rattle.wsn_canon.specs.EventsMeant.{meant, close_body}
 pub use Rattle.wsn_canon.specs.Normalised.{IsNormalisedWhole}
-pub use Rattle.wsn_plan.specs.Cuts.{IsNextLine}
 pub use Rattle.wsn_plan.specs.Framing.{control_frame, piece_frame, last_frame, frame_here, SpellsItsLength}
-pub use Rattle.wsn_plan.specs.PlanText.{SpellsPlan, SpellsStep, IsLineFault, plan_text, IsFirstFault, behind}
-pub use Rattle.wsn_plan.specs.PlanText.{IsReadPlan, SpellsKey, SpellsNumber, step_line}
-pub use Rattle.wsn_plan.specs.Plans.{HasLengths}
 pub use Rattle.wsn_plan.specs.Planning.{IsPlannedWhole, IsRestored}
 pub use Rattle.wsn_plan.specs.Recutting.{IsRecutWhole, Planned}
 pub use Rattle.wsn_plan.specs.Uniform.{message_steps}
 pub use Rattle.wsn_plan.specs.Walking.{IsPlaced, MayTake}
-pub use Rattle.wsn_plan.specs.declared.plan_fault.LineWhy.{LineWhy}
-pub use Rattle.wsn_plan.specs.declared.plan_fault.LineWhy.TheVariants.{BadKey, BadLength, BadNumber}
 pub use Rattle.wsn_plan.specs.declared.planning.PlanAnswer.{PlanAnswer}
 pub use Rattle.wsn_plan.specs.declared.planning.PlanAnswer.TheVariants.{Plan}
 pub use Rattle.wsn_plan.specs.declared.recutting.RecutAnswer.{RecutAnswer}

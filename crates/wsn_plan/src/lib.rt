@@ -1,37 +1,27 @@
-//! Plans, their text, and streams cut again by them (RFC 6455 sections 5.2 to 5.4).
+//! Plans of streams, and streams cut again by them (RFC 6455 sections 5.2 to 5.4).
 //!
-//! A [`Plan`] has one [`Step`] for each frame. [`read_plan`] reads one from text, [`read_plan_file`] from a file, and
-//! [`write_plan`] writes it.
-//! [`recut`] writes what an accepted input means in frames as a plan says, or tells what is wrong with the plan.
-//! [`uniform`] plans frames of one size, and [`recut_uniform`] cuts a stream again by that plan.
+//! A [`Plan`] has one [`Step`] for each frame; `wsn_plan_text` reads and writes it as text.
+//! [`plan_of`] answers the plan of a stream's own frames, and [`uniform`] plans frames of one size.
+//! [`recut`] writes what an accepted input means in frames as a plan says, or tells what is wrong with the plan, and
+//! [`recut_uniform`] cuts a stream again by the plan of one size.
 //!
-//! Which plans fit, their faults and their recuts are defined in `wsn_rules`. `specs/PlanText.antt` says which text
-//! spells which plan, `specs/Recutting.antt` what a recut answers and writes, and `specs/Gathering.antt` what is known
-//! where it stops.
+//! Which plans fit, their faults and their recuts are defined in `wsn_rules`. `specs/Recutting.antt` says what a recut
+//! answers and writes, and `specs/Gathering.antt` what is known where it stops.
 #![tactic(auto)]
 
 mod checking;
 mod framing;
 mod gathering;
 pub mod laws;
-mod line_fields;
-mod plan;
-mod plan_fault;
-mod plan_files;
-pub mod plan_text_examples;
 mod planning;
-mod reading_plans;
 mod recutting;
 mod uniform_plans;
 mod walking;
-mod writing_plans;
 
-pub use plan::Plan;
-pub use plan_fault::{LineWhy, PlanFault};
-pub use plan_files::{PlanFileFault, read_plan_file};
 pub use planning::{PlanAnswer, plan_of};
-pub use reading_plans::read_plan;
 pub use recutting::{RecutAnswer, recut, recut_uniform};
 pub use uniform_plans::uniform;
-pub use writing_plans::write_plan;
+pub use wsn_plan_text::{
+    LineWhy, Plan, PlanFault, PlanFileFault, read_plan, read_plan_file, write_plan,
+};
 pub use wsn_rules::{Step, Why};

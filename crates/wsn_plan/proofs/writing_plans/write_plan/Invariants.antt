@@ -1,8 +1,0 @@
-use Rattle.std.proofs.Common.{take}
-use Rattle.wsn_wire.specs.Transfer.{IsWritten}
-use Rattle.wsn_plan.specs.PlanText.{plan_text}
-use Rattle.wsn_plan.proofs.writing_plans.write_plan.Given as goal
-
--- the lines of the steps so far are written
-abbrev pub invariant-loop-step : goal.invariant-loop-step
-invariant-loop-step g l = IsWritten l.fn.output l.output (plan_text (take l.step-index l.step-items))

@@ -1,0 +1,18 @@
+-- What is known of a plan that a program holds stays true where a step is pushed.
+use Rattle.std.proofs.Common.{◌≡◌, ◌<◌, ◌^◌, Bool, true, false, List, [], ◌∷◌, ◌++◌, IfSome, sym, subst}
+use Rattle.std.specs.Prelude.{if◌then◌else◌}
+use Rattle.std.specs.List.{AllByRecursion}
+use Rattle.wsn_wire.specs.Frame.{IsKey}
+use Rattle.wsn_rules.specs.declared.step.Step.{Step}
+use Rattle.wsn_rules.specs.Plan.{IsPlan, key_of, piece_length}
+use Rattle.wsn_plan_text.specs.Plans.{HasLengths}
+
+each_pushed : {X : Type 0} → (P : X → Type 0) (xs : List X) (x : X) → AllByRecursion P xs → P x → AllByRecursion P (xs ++ x ∷ [])
+each_pushed P [] x all one = (one, tt)
+each_pushed P (y ∷ ys) x all one = (all.0, each_pushed P ys x all.1 one)
+
+pub pushed_held : (plan new : List Step) (step : Step) (pushed : Bool) → new ≡ (if pushed then plan ++ step ∷ [] else plan)
+    → IsPlan plan × HasLengths plan → IfSome (key_of step) IsKey → piece_length step < 2 ^ 64 → IsPlan new × HasLengths new
+pushed_held plan new step true is held key small = subst (λ (steps : List Step). IsPlan steps × HasLengths steps) (sym is)
+    (each_pushed (λ (s : Step). IfSome (key_of s) IsKey) plan step held.0 key, each_pushed (λ (s : Step). piece_length s < 2 ^ 64) plan step held.1 small)
+pushed_held plan new step false is held key small = subst (λ (steps : List Step). IsPlan steps × HasLengths steps) (sym is) held

@@ -1,0 +1,63 @@
+use Rattle.std.proofs.Common.{◌≡◌, Err, length, take, arith, length-take-le, rules}
+use Rattle.std.proofs.lemmas.Grind.{common_steps}
+use Rattle.wsn_plan_text.specs.declared.plan_fault.PlanFault.TheVariants.{Memory}
+use Rattle.wsn_plan_text.specs.declared.plan_files.PlanFileFault.TheVariants.{Faulty}
+use Rattle.wsn_plan_text.proofs.PlanFiles.{no_memory}
+use Rattle.wsn_plan_text.proofs.plan_files.read_text.Goals as goal
+
+pub returns-in_err-extend_from_slice-clause-fault : goal.returns-in_err-extend_from_slice-clause-fault
+returns-in_err-extend_from_slice-clause-fault g c =
+    let is : c.from_residual.result ≡ Err (Faulty Memory) = search rules in
+    let size : length (take c.min-wanted.result c.loop-piece.piece) ≡ c.min-wanted.result =
+    length-take-le c.min-wanted.result c.loop-piece.piece (omega arith) in
+    rw is (no_memory c.args.file.now c.loop-piece.file c.read.new.self c.loop-piece.text.items c.read.new.into
+    c.in-Some.count c.loop-piece.invariant.consumed c.in-Some.ensures.bytes c.in-Some.ensures.within
+    (omega (arith, c.in-Some.ensures.within, c.read.auto.into)) (omega arith) (search rules))
+
+pub returns-clause-fault : goal.returns-clause-fault
+returns-clause-fault g c = search rules
+
+pub returns-in_default-clause-text : goal.returns-in_default-clause-text
+returns-in_default-clause-text g c = search rules
+
+pub returns-then-count-eq0-clause-fault : goal.returns-then-count-eq0-clause-fault
+returns-then-count-eq0-clause-fault g c = search rules
+
+pub loop-piece-init : goal.loop-piece-init
+loop-piece-init g c = search rules
+
+pub overflow_add-min : goal.overflow_add-min
+overflow_add-min g c = search rules
+
+pub overflow_sub-len : goal.overflow_sub-len
+overflow_sub-len g c = search rules
+
+pub slice_bounds-piece-end : goal.slice_bounds-piece-end
+slice_bounds-piece-end g c = search rules
+
+pub slice_bounds-read-end : goal.slice_bounds-read-end
+slice_bounds-read-end g c = search rules
+
+pub read-requires : goal.read-requires
+read-requires g c = search rules
+
+pub returns-in_default-clause-fault : goal.returns-in_default-clause-fault
+returns-in_default-clause-fault g c = search rules
+
+pub returns-then-count-eq0-clause-text : goal.returns-then-count-eq0-clause-text
+returns-then-count-eq0-clause-text g c = search rules
+
+pub slice_bounds-piece-end-in-loop-piece : goal.slice_bounds-piece-end-in-loop-piece
+slice_bounds-piece-end-in-loop-piece g c = search rules
+
+pub slice_bounds-extend_from_slice-end : goal.slice_bounds-extend_from_slice-end
+slice_bounds-extend_from_slice-end g c = search rules
+
+pub loop-piece-smaller : goal.loop-piece-smaller
+loop-piece-smaller g c = search rules
+
+pub loop-piece-preserved : goal.loop-piece-preserved
+loop-piece-preserved g c = grind (arith, common_steps)
+
+pub returns-in_err-extend_from_slice-clause-text : goal.returns-in_err-extend_from_slice-clause-text
+returns-in_err-extend_from_slice-clause-text g c = search rules

@@ -1,0 +1,25 @@
+//! Plans and their text: how a stream's events are to be cut into frames, a line for each (RFC 6455 sections 5.2 to
+//! 5.4).
+//!
+//! A [`Plan`] has one [`Step`] for each frame. [`read_plan`] reads one from text, [`read_plan_file`] from a file, and
+//! [`write_plan`] writes it. `wsn_plan` makes plans and cuts streams again by them, and hands these names on.
+//!
+//! `specs/PlanText.antt` says which text spells which plan, and what is wrong with a text that spells none;
+//! `specs/PlanFiles.antt` what a file gives.
+#![tactic(auto)]
+
+pub mod laws;
+mod line_fields;
+mod plan;
+mod plan_fault;
+mod plan_files;
+pub mod plan_text_examples;
+mod reading_plans;
+mod writing_plans;
+
+pub use plan::Plan;
+pub use plan_fault::{LineWhy, PlanFault};
+pub use plan_files::{PlanFileFault, read_plan_file};
+pub use reading_plans::read_plan;
+pub use writing_plans::write_plan;
+pub use wsn_rules::Step;
