@@ -13,10 +13,9 @@ use Rattle.wsn_wire.proofs.FrameLemmas.{IsBytes-append, IsBytes-left}
 use Rattle.wsn_rules.specs.declared.verdict.Verdict.{Verdict}
 use Rattle.wsn_rules.specs.declared.verdict.Verdict.TheVariants.{Accepted, Cut, Refused}
 use Rattle.wsn_rules.specs.Limits.{Limits, InRange}
-use Rattle.wsn_rules.specs.Accepted.{IsAccepted, EndsWithClose}
 use Rattle.wsn_rules.specs.Verdict.{IsVerdict}
 use Rattle.wsn_rules.proofs.EveryInput.{has_verdict}
-use Rattle.wsn_rules.proofs.Prefixes.{nil-cons, nil-push, nil-parts}
+use Rattle.wsn_rules.proofs.Prefixes.{nil-push, nil-parts}
 use Rattle.wsn_capture.specs.declared.report.Side.{Side}
 use Rattle.wsn_capture.specs.declared.report.Side.TheVariants.{Closed, Refused as RefusedSide, Ended, Cut as CutSide, Running}
 use Rattle.wsn_capture.specs.declared.report.Outcome.{Outcome}

@@ -1,7 +1,7 @@
 -- A capture's text has exactly one right answer.
-use Rattle.std.proofs.Common.{◌≡◌, ℕ, suc, ◌+◌, ◌⊎◌, Result, Ok, Err, List, [], ◌∷◌, ◌++◌, length, inl, inr, refl, sym, ap, ◌∙◌, subst, append_assoc, append-nil, arith}
+use Rattle.std.proofs.Common.{◌≡◌, ℕ, ◌+◌, ◌⊎◌, Result, Ok, Err, List, [], ◌∷◌, ◌++◌, length, inl, inr, refl, sym, ap, ◌∙◌, subst, append_assoc, append-nil}
 use Rattle.wsn_rules.specs.Limits.{Limits, InRange}
-use Rattle.wsn_rules.proofs.Prefixes.{two_fronts, head_same, tail_same, nil-cons}
+use Rattle.wsn_rules.proofs.Prefixes.{two_fronts, head_same}
 use Rattle.wsn_lines.specs.TextLines.{AreLines}
 use Rattle.wsn_lines.proofs.TextLines.{has_lines, same_lines}
 use Rattle.wsn_capture.specs.declared.line_fault.LineFault.{LineFault}
