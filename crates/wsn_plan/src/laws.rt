@@ -4,6 +4,7 @@ ghost use Rattle.std.specs.Prelude.{◌≡◌, ℕ, List, [], Result, Ok, false}
 ghost use Rattle.wsn_plan.specs.Words.{Role, Frame, stream, Outgoing, IsWritten, IsAccepted, unfinished, MeantEvent, meaning, IsPlan, Step, Verdict, Limits, InRange, Stop, IsNormalisedWhole, PlanAnswer, Plan, RecutAnswer, Done, AnswersAll, IsPlannedWhole, IsRestored, IsRecutWhole, Planned};
 
 use std::alloc::Allocator;
+pub use wsn_plan_text::laws::{law_one_line_fault, law_one_plan};
 
 /// Of an input whose bytes are known [`recut`](crate::recut) has one answer and writes one list of bytes, in whatever
 /// pieces it comes, unless a read, a write or memory fails. So has [`recut_uniform`](crate::recut_uniform).
