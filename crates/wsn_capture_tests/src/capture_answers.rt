@@ -1,42 +1,43 @@
 //! What is answered of a capture's text, as text: the report's lines, or why there is none.
 
-use crate::expecting::expect_text;
-use std::alloc::{AllocError, Global};
-use std::fmt::Debug;
+use std::alloc::Global;
+use std::fmt::{Debug, Display};
 use std::io::Read;
 use std::process::Abort;
-use std::test::Fail;
-use wsn_capture::{Capture, CaptureStop, LineFault, Report, judge_capture, put_report};
-use wsn_doubles::rows::{GREATEST, Under, limits_under};
+use wsn_capture::{Capture, LineFault, Report, judge_capture, put_report};
+use wsn_doubles::expecting::expect_line_of;
+use wsn_doubles::readers::Chopped;
+use wsn_doubles::rows::{GREATEST, Under, greatest, limits_under};
 use wsn_scan::Limits;
 use wsn_wire::{Input, Output};
 
 /// The greatest message, and so many bytes of each side.
-pub fn limits_of(input: u64) -> Result<Limits, Fail> {
-    limits_under(&Under { input, ..GREATEST })
+pub fn limits_of(rt: &impl Abort, input: u64) -> Limits {
+    limits_under(rt, &Under { input, ..GREATEST })
 }
 
 /// The lines that are printed of a report.
-pub fn report_text(alloc: Global, report: &Report) -> Result<String, Fail> {
+pub fn report_text(rt: &impl Abort, alloc: Global, report: &Report) -> String {
     let mut text = Vec::new(alloc);
-    put_report(&mut Output::new(&mut text), report)?;
-    Ok(String::from_utf8(text).ok().ok_or("a report isn't text")?)
+    put_report(&mut Output::new(&mut text), report).expect(rt, "memory");
+    String::from_utf8(text).expect(rt, "a report that is text")
 }
 
-/// What is printed of a stop.
-pub fn stop_text(alloc: Global, stop: &CaptureStop) -> Result<String, AllocError> {
-    format!(in alloc; "{stop}")
+/// What is printed of a value: of a stop, or of a fault.
+pub fn shown(rt: &impl Abort, alloc: Global, value: &impl Display) -> String {
+    format!(in alloc; "{value}").expect(rt, "memory")
 }
 
 /// What `judge_capture` answers of what the reader gives.
 pub fn judged_text<R: Read + Drop>(
+    rt: &impl Abort,
     alloc: Global,
     reader: R,
     limits: Limits,
-) -> Result<String, Fail> {
+) -> String {
     match judge_capture(&mut Input::new(reader), limits) {
-        Ok(report) => report_text(alloc, &report),
-        Err(stop) => Ok(stop_text(alloc, &stop)?),
+        Ok(report) => report_text(rt, alloc, &report),
+        Err(stop) => shown(rt, alloc, &stop),
     }
 }
 
@@ -48,10 +49,24 @@ pub fn expect_judged<R: Read + Drop>(
     limits: Limits,
     wanted: &str,
     of: &impl Debug,
-) -> Result<(), Fail> {
-    let told = judged_text(alloc, reader, limits)?;
-    expect_text(rt, told.as_str(), wanted, of);
-    Ok(())
+) {
+    let told = judged_text(rt, alloc, reader, limits);
+    expect_line_of(rt, told.as_str(), wanted, of);
+}
+
+/// Fails unless `judge_capture` answers this of a text, read by each of these sizes.
+pub fn expect_judged_by(
+    rt: &impl Abort,
+    alloc: Global,
+    sizes: &[usize],
+    text: &[u8],
+    wanted: &str,
+    of: &impl Debug,
+) {
+    for most in sizes.iter() {
+        let reader = Chopped::new(text, *most);
+        expect_judged(rt, alloc, reader, greatest(), wanted, &(of, *most));
+    }
 }
 
 /// A capture to which these lines were handed one by one, and the first fault, if there is one.
@@ -65,34 +80,34 @@ pub fn handed(lines: &str, limits: Limits) -> (Capture, Option<LineFault>) {
     (capture, None)
 }
 
+/// Puts these bytes behind a text's.
+pub fn put(rt: &impl Abort, text: &mut Vec<u8>, bytes: &[u8]) {
+    text.extend_from_slice(bytes).expect(rt, "memory");
+}
+
 /// The same bytes of each side, a line for each of them.
-pub fn cut_small(alloc: Global, text: &str) -> Result<String, AllocError> {
-    let mut small = String::new(alloc);
+pub fn cut_small(rt: &impl Abort, alloc: Global, text: &str) -> Vec<u8> {
+    let mut small = Vec::new(alloc);
     for line in text.split('\n') {
         match line.split_once(' ') {
             Some((side, digits)) if side == "C" || side == "S" => {
-                push_digits(&mut small, side, digits.trim_end())?;
+                put_pairs(rt, &mut small, side, digits.trim_end());
             }
             _ => {
-                small.push_str(line)?;
-                small.push('\n')?;
+                put(rt, &mut small, line.as_bytes());
+                put(rt, &mut small, b"\n");
             }
         }
     }
-    Ok(small)
+    small
 }
 
-/// Pushes a line of this side for every two of its digits.
-fn push_digits(small: &mut String, side: &str, digits: &str) -> Result<(), AllocError> {
-    for (at, digit) in digits.char_indices() {
-        if at % 2 == 0 {
-            small.push_str(side)?;
-            small.push(' ')?;
-        }
-        small.push(digit)?;
-        if at % 2 == 1 {
-            small.push('\n')?;
-        }
+/// Puts a line of this side for every two of its digits.
+fn put_pairs(rt: &impl Abort, small: &mut Vec<u8>, side: &str, digits: &str) {
+    for pair in digits.as_bytes().chunks(2) {
+        put(rt, small, side.as_bytes());
+        put(rt, small, b" ");
+        put(rt, small, pair);
+        put(rt, small, b"\n");
     }
-    Ok(())
 }

@@ -1,16 +1,18 @@
 //! The lines of a capture: which aren't taken, which of their faults is told, and the greatest that are.
 
-use crate::capture_answers::{expect_judged, handed, judged_text, limits_of};
-use crate::expecting::{expect_line, expect_text, expect_true};
+use crate::capture_answers::{
+    expect_judged, expect_judged_by, handed, judged_text, limits_of, put,
+};
+use crate::expecting::{expect_answer, expect_shown};
 use std::alloc::Global;
 use std::process::Abort;
-use std::test::Fail;
 use wsn_capture::{Capture, LineFault, Side};
+use wsn_doubles::expecting::{expect, expect_equal_of, expect_line_of, expect_of};
 use wsn_doubles::readers::{Chopped, Endless, READS};
 use wsn_doubles::rows::{filled, greatest};
 
 /// A text, what is printed of it, and the fault of its first line that isn't taken.
-pub static FAULTY: [(&str, &str, LineFault); 25] = [
+static FAULTY: [(&str, &str, LineFault); 25] = [
     ("C 8", "line 1: bad-hex", LineFault::BadHex),
     ("C ", "line 1: bad-hex", LineFault::BadHex),
     ("S \n", "line 1: bad-hex", LineFault::BadHex),
@@ -38,29 +40,30 @@ pub static FAULTY: [(&str, &str, LineFault); 25] = [
     ("C.\nC zz", "line 2: bad-hex", LineFault::BadHex),
 ];
 
+/// All of these. Tests ask for them here, since each function that names the table itself takes longer to prove.
+pub fn faulty() -> &'static [(&'static str, &'static str, LineFault)] {
+    FAULTY.as_slice()
+}
+
 #[test]
-fn faulty_lines_are_told_by_reads_of_every_size(rt: HostRuntime) -> Result<(), Fail> {
+fn faulty_lines_are_told_by_reads_of_every_size(rt: HostRuntime) {
     let alloc = rt.alloc();
-    for (text, words, fault) in FAULTY.iter() {
-        for most in READS {
-            let reader = Chopped::new(text.as_bytes(), most);
-            expect_judged(&rt, alloc, reader, greatest()?, words, &(text, most))?;
-        }
-        expect_fault(&rt, text, *fault)?;
+    for (text, words, fault) in faulty() {
+        let bytes = text.as_bytes();
+        expect_judged_by(&rt, alloc, READS.as_slice(), bytes, words, text);
+        expect_fault(&rt, text, *fault);
     }
-    Ok(())
 }
 
 /// Fails unless this is the first fault of lines that are handed one by one.
-fn expect_fault(rt: &impl Abort, text: &str, wanted: LineFault) -> Result<(), Fail> {
-    let (_capture, fault) = handed(text, greatest()?);
-    assert_eq!(rt; fault, Some(wanted), "{text}");
-    Ok(())
+fn expect_fault(rt: &impl Abort, text: &str, wanted: LineFault) {
+    let (_capture, fault) = handed(text, greatest());
+    expect_equal_of(rt, &fault, &Some(wanted), &text);
 }
 
 /// A line past the input limit is told as one, unless its side has ended.
 #[test]
-fn lines_past_the_limit(rt: HostRuntime) -> Result<(), Fail> {
+fn lines_past_the_limit(rt: HostRuntime) {
     let alloc = rt.alloc();
     for (text, words) in [
         ("S 8100", "line 1: input-limit"),
@@ -68,13 +71,12 @@ fn lines_past_the_limit(rt: HostRuntime) -> Result<(), Fail> {
         ("S.\nS 8100", "line 2: after-end"),
     ] {
         let reader = Chopped::new(text.as_bytes(), usize::MAX);
-        expect_judged(&rt, alloc, reader, limits_of(1)?, words, &text)?;
+        expect_judged(&rt, alloc, reader, limits_of(&rt, 1), words, &text);
     }
-    Ok(())
 }
 
 #[test]
-fn words_of_a_fault(rt: HostRuntime) -> Result<(), Fail> {
+fn words_of_a_fault(rt: HostRuntime) {
     for (fault, word) in [
         (LineFault::TooManyLines, "too-many-lines"),
         (LineFault::TooLong, "too-long"),
@@ -83,30 +85,21 @@ fn words_of_a_fault(rt: HostRuntime) -> Result<(), Fail> {
         (LineFault::AfterEnd, "after-end"),
         (LineFault::InputLimit, "input-limit"),
     ] {
-        expect_word(&rt, rt.alloc(), fault, word)?;
+        expect_shown(&rt, rt.alloc(), &fault, word);
     }
-    Ok(())
-}
-
-/// Fails unless this word is printed of a fault.
-fn expect_word(rt: &impl Abort, alloc: Global, fault: LineFault, word: &str) -> Result<(), Fail> {
-    let printed = format!(in alloc; "{fault}")?;
-    expect_text(rt, printed.as_str(), word, &fault);
-    Ok(())
 }
 
 /// An LF that is handed with a line is a byte of it.
 #[test]
-fn an_lf_in_a_line_is_a_byte_like_any_other(rt: HostRuntime) -> Result<(), Fail> {
-    let mut capture = Capture::new(greatest()?);
-    expect_line(&rt, &mut capture, b"C.\n", Err(LineFault::BadForm));
-    expect_line(&rt, &mut capture, b"\n", Err(LineFault::BadForm));
-    expect_line(&rt, &mut capture, b"C 81\n", Err(LineFault::BadHex));
-    expect_line(&rt, &mut capture, b"C 81\n00", Err(LineFault::BadHex));
-    expect_line(&rt, &mut capture, b"# a\nb", Ok(()));
-    expect_line(&rt, &mut capture, b"\r", Ok(()));
-    expect_true(&rt, capture.report().client == Side::Running, &"no end");
-    Ok(())
+fn an_lf_in_a_line_is_a_byte_like_any_other(rt: HostRuntime) {
+    let mut capture = Capture::new(greatest());
+    expect_answer(&rt, &mut capture, b"C.\n", Err(LineFault::BadForm));
+    expect_answer(&rt, &mut capture, b"\n", Err(LineFault::BadForm));
+    expect_answer(&rt, &mut capture, b"C 81\n", Err(LineFault::BadHex));
+    expect_answer(&rt, &mut capture, b"C 81\n00", Err(LineFault::BadHex));
+    expect_answer(&rt, &mut capture, b"# a\nb", Ok(()));
+    expect_answer(&rt, &mut capture, b"\r", Ok(()));
+    expect(&rt, capture.report().client == Side::Running);
 }
 
 /// The report where neither side sent anything.
@@ -137,94 +130,82 @@ static ENDED: [(&str, u8, usize, &str, &str); 4] = [
 /// How long lines are read: by at most so many bytes a call.
 const LONG_READS: [usize; 5] = [1, 4_095, 4_096, 8_195, usize::MAX];
 
-/// Fails unless a text is told so, read by each size.
-fn expect_long(rt: &impl Abort, alloc: Global, text: &[u8], wanted: &str) -> Result<(), Fail> {
-    for most in LONG_READS {
-        let of = (text.len(), most);
-        expect_judged(
-            rt,
-            alloc,
-            Chopped::new(text, most),
-            greatest()?,
-            wanted,
-            &of,
-        )?;
-    }
-    Ok(())
-}
-
-/// A comment, and digits, of the greatest length and of a byte more.
-#[test]
-fn the_longest_lines(rt: HostRuntime) -> Result<(), Fail> {
-    let alloc = rt.alloc();
-    for (first, byte, count, wanted) in LONGEST {
-        for end in ["", "\n", "\r", "\r\n"] {
-            let text = long_line(alloc, first, byte, count, end)?;
-            expect_long(&rt, alloc, text.as_slice(), wanted)?;
-        }
-    }
-    Ok(())
-}
-
-/// A line's first bytes, another so many times, and the end of the line.
-fn long_line(
+/// Fails unless a text is told so, read by each size: its first bytes, another so many times, and its end.
+fn expect_long(
+    rt: &impl Abort,
     alloc: Global,
     first: &str,
     byte: u8,
     count: usize,
     end: &str,
-) -> Result<Vec<u8>, Fail> {
-    let mut line = filled(alloc, first.as_bytes(), byte, count)?;
-    line.extend_from_slice(end.as_bytes())?;
-    Ok(line)
+    wanted: &str,
+) {
+    let mut text = filled(rt, alloc, first.as_bytes(), byte, count);
+    put(rt, &mut text, end.as_bytes());
+    let of = (first, count, end);
+    expect_judged_by(
+        rt,
+        alloc,
+        LONG_READS.as_slice(),
+        text.as_slice(),
+        wanted,
+        &of,
+    );
+}
+
+/// A comment, and digits, of the greatest length and of a byte more.
+#[test]
+fn the_longest_lines(rt: HostRuntime) {
+    let alloc = rt.alloc();
+    for (first, byte, count, wanted) in LONGEST.iter() {
+        for end in ["", "\n", "\r", "\r\n"] {
+            expect_long(&rt, alloc, first, *byte, *count, end, wanted);
+        }
+    }
 }
 
 /// A CR inside a line is counted, and each line by itself. A line that is too long has no other fault.
 #[test]
-fn long_lines_with_ends_of_their_own(rt: HostRuntime) -> Result<(), Fail> {
+fn long_lines_with_ends_of_their_own(rt: HostRuntime) {
     let alloc = rt.alloc();
-    for (first, byte, count, wanted, end) in ENDED {
-        let text = long_line(alloc, first, byte, count, end)?;
-        expect_long(&rt, alloc, text.as_slice(), wanted)?;
+    for (first, byte, count, wanted, end) in ENDED.iter() {
+        expect_long(&rt, alloc, first, *byte, *count, end, wanted);
     }
-    Ok(())
 }
 
 /// A million lines are taken, and whatever the next one is, it is one too many.
 #[test]
-fn the_most_lines(rt: HostRuntime) -> Result<(), Fail> {
+fn the_most_lines(rt: HostRuntime) {
     let alloc = rt.alloc();
-    let mut text = filled(alloc, b"", b'\n', 1_000_000)?;
+    let mut text = filled(&rt, alloc, b"", b'\n', 1_000_000);
     for (more, most, wanted) in [
         ("", usize::MAX, OPEN),
         ("X", usize::MAX, "line 1000001: too-many-lines"),
         ("\n\n", 4_095, "line 1000001: too-many-lines"),
     ] {
-        text.extend_from_slice(more.as_bytes())?;
+        put(&rt, &mut text, more.as_bytes());
         let reader = Chopped::new(text.as_slice(), most);
-        expect_judged(&rt, alloc, reader, greatest()?, wanted, &(more, most))?;
+        expect_judged(&rt, alloc, reader, greatest(), wanted, &more);
     }
-    Ok(())
 }
 
 /// Lines that aren't taken aren't counted.
 #[test]
-fn faulty_lines_are_no_lines(rt: HostRuntime) -> Result<(), Fail> {
-    let mut capture = Capture::new(greatest()?);
+fn faulty_lines_are_no_lines(rt: HostRuntime) {
+    let mut capture = Capture::new(greatest());
     for _ in 0..1_000_000 {
-        expect_line(&rt, &mut capture, b"X", Err(LineFault::BadForm));
+        expect_answer(&rt, &mut capture, b"X", Err(LineFault::BadForm));
     }
     for _ in 0..1_000_000 {
-        expect_line(&rt, &mut capture, b"", Ok(()));
+        expect_answer(&rt, &mut capture, b"", Ok(()));
     }
-    expect_line(&rt, &mut capture, b"", Err(LineFault::TooManyLines));
-    expect_line(&rt, &mut capture, b"X", Err(LineFault::TooManyLines));
-    Ok(())
+    expect_answer(&rt, &mut capture, b"", Err(LineFault::TooManyLines));
+    expect_answer(&rt, &mut capture, b"X", Err(LineFault::TooManyLines));
 }
 
 /// The fault of a line without an end is told once enough of it came.
 #[test]
-fn endless_lines(rt: HostRuntime) -> Result<(), Fail> {
+fn endless_lines(rt: HostRuntime) {
     for (first, again, wanted, most) in [
         (b"".as_slice(), b"#", "line 1: too-long", 8_196 + 4_095),
         (b"C ", b"0", "line 1: too-long", 8_196 + 4_095),
@@ -235,21 +216,13 @@ fn endless_lines(rt: HostRuntime) -> Result<(), Fail> {
             1_000_001 + 4_095,
         ),
     ] {
-        expect_endless(&rt, rt.alloc(), Endless::new(first, again), wanted, most)?;
+        expect_endless(&rt, rt.alloc(), Endless::new(first, again), wanted, most);
     }
-    Ok(())
 }
 
 /// Fails unless this is told of what a reader without an end gives, once it gave so many bytes at most.
-fn expect_endless(
-    rt: &impl Abort,
-    alloc: Global,
-    mut reader: Endless,
-    wanted: &str,
-    most: usize,
-) -> Result<(), Fail> {
-    let told = judged_text(alloc, &mut reader, greatest()?)?;
-    expect_text(rt, told.as_str(), wanted, &most);
-    expect_true(rt, reader.given <= most, &reader.given);
-    Ok(())
+fn expect_endless(rt: &impl Abort, alloc: Global, mut reader: Endless, wanted: &str, most: usize) {
+    let told = judged_text(rt, alloc, &mut reader, greatest());
+    expect_line_of(rt, told.as_str(), wanted, &most);
+    expect_of(rt, reader.given <= most, &reader.given);
 }

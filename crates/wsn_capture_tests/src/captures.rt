@@ -1,11 +1,13 @@
 //! Captures: what is reported of both sides, in the lines that are printed.
 
-use crate::capture_answers::{cut_small, expect_judged, handed, limits_of, report_text};
-use crate::expecting::{expect_line, expect_text, expect_true};
+use crate::capture_answers::{
+    cut_small, expect_judged, expect_judged_by, handed, limits_of, report_text,
+};
+use crate::expecting::expect_answer;
 use std::alloc::Global;
 use std::process::Abort;
-use std::test::Fail;
 use wsn_capture::{Capture, LineFault, Outcome, Report, Side};
+use wsn_doubles::expecting::{expect_equal_of, expect_line_of, expect_of};
 use wsn_doubles::readers::{Chopped, READS};
 use wsn_doubles::rows::greatest;
 use wsn_scan::INPUT_MAX;
@@ -28,7 +30,7 @@ impl Row {
     }
 }
 
-pub static ROWS: [Row; 20] = [
+static ROWS: [Row; 20] = [
     Row {
         name: "both close by 1000, and both directions end",
         text: "C 88820000000003e8\nS 880203e8\nS.\nC.\n",
@@ -151,56 +153,49 @@ pub static ROWS: [Row; 20] = [
     },
 ];
 
-#[test]
-fn reports_by_reads_of_every_size(rt: HostRuntime) -> Result<(), Fail> {
-    let alloc = rt.alloc();
-    for row in ROWS.iter() {
-        for most in READS {
-            let reader = Chopped::new(row.text.as_bytes(), most);
-            expect_judged(
-                &rt,
-                alloc,
-                reader,
-                greatest()?,
-                row.report,
-                &(row.name, most),
-            )?;
-        }
-    }
-    Ok(())
+/// All rows. Tests ask for them here, since each function that names the table itself takes longer to prove.
+pub fn rows() -> &'static [Row] {
+    ROWS.as_slice()
 }
 
 #[test]
-fn reports_of_lines_handed_one_by_one(rt: HostRuntime) -> Result<(), Fail> {
-    for row in ROWS.iter() {
-        expect_handed(&rt, rt.alloc(), row)?;
+fn reports_by_reads_of_every_size(rt: HostRuntime) {
+    let alloc = rt.alloc();
+    for row in rows() {
+        let text = row.text.as_bytes();
+        expect_judged_by(&rt, alloc, READS.as_slice(), text, row.report, &row.name);
     }
-    Ok(())
+}
+
+#[test]
+fn reports_of_lines_handed_one_by_one(rt: HostRuntime) {
+    for row in rows() {
+        expect_handed(&rt, rt.alloc(), row);
+    }
 }
 
 /// Fails unless this is reported of lines that are handed one by one.
-fn expect_handed(rt: &impl Abort, alloc: Global, row: &Row) -> Result<(), Fail> {
-    let (capture, fault) = handed(row.text, greatest()?);
-    expect_true(rt, fault.is_none(), &row.name);
-    let told = report_text(alloc, &capture.report())?;
-    expect_text(rt, told.as_str(), row.report, &row.name);
-    Ok(())
+fn expect_handed(rt: &impl Abort, alloc: Global, row: &Row) {
+    let (capture, fault) = handed(row.text, greatest());
+    expect_of(rt, fault.is_none(), &row.name);
+    let told = report_text(rt, alloc, &capture.report());
+    expect_line_of(rt, told.as_str(), row.report, &row.name);
 }
 
 #[test]
-fn reports_of_a_line_for_each_byte(rt: HostRuntime) -> Result<(), Fail> {
+fn reports_of_a_line_for_each_byte(rt: HostRuntime) {
     let alloc = rt.alloc();
-    for row in ROWS.iter() {
-        let small = cut_small(alloc, row.text)?;
-        let reader = Chopped::new(small.as_bytes(), usize::MAX);
-        expect_judged(&rt, alloc, reader, greatest()?, row.report, &row.name)?;
+    for row in rows() {
+        let small = cut_small(&rt, alloc, row.text);
+        let reader = Chopped::new(small.as_slice(), usize::MAX);
+        expect_judged(&rt, alloc, reader, greatest(), row.report, &row.name);
     }
-    Ok(())
 }
 
 #[test]
-fn a_report_has_its_parts(rt: HostRuntime) -> Result<(), Fail> {
-    let (capture, _fault) = handed("C 88820000000003e8\nS 8800", limits_of(INPUT_MAX)?);
+fn a_report_has_its_parts(rt: HostRuntime) {
+    let text = "C 88820000000003e8\nS 8800";
+    let (capture, _fault) = handed(text, limits_of(&rt, INPUT_MAX));
     let wanted = Report {
         client: Side::Closed(Some(1000)),
         server: Side::Closed(None),
@@ -210,39 +205,35 @@ fn a_report_has_its_parts(rt: HostRuntime) -> Result<(), Fail> {
         server_sees: Some(1000),
         outcome: Outcome::Complete,
     };
-    assert_eq!(rt; capture.report(), wanted);
-    Ok(())
+    expect_equal_of(&rt, &capture.report(), &wanted, &text);
 }
 
 /// A line past the limit leaves its side as it was, and the other side has a limit of its own.
 #[test]
-fn the_limit_is_one_of_each_side(rt: HostRuntime) -> Result<(), Fail> {
-    let mut capture = Capture::new(limits_of(1)?);
-    expect_line(&rt, &mut capture, b"S 8100", Err(LineFault::InputLimit));
-    expect_true(&rt, capture.report().server == Side::Running, &"S 8100");
-    expect_line(&rt, &mut capture, b"S c1", Ok(()));
-    expect_line(&rt, &mut capture, b"S 00", Err(LineFault::InputLimit));
-    expect_line(&rt, &mut capture, b"C c1", Ok(()));
-    expect_line(&rt, &mut capture, b"S.", Ok(()));
-    Ok(())
+fn the_limit_is_one_of_each_side(rt: HostRuntime) {
+    let mut capture = Capture::new(limits_of(&rt, 1));
+    expect_answer(&rt, &mut capture, b"S 8100", Err(LineFault::InputLimit));
+    expect_of(&rt, capture.report().server == Side::Running, &"S 8100");
+    expect_answer(&rt, &mut capture, b"S c1", Ok(()));
+    expect_answer(&rt, &mut capture, b"S 00", Err(LineFault::InputLimit));
+    expect_answer(&rt, &mut capture, b"C c1", Ok(()));
+    expect_answer(&rt, &mut capture, b"S.", Ok(()));
 }
 
 /// A limit of none leaves room for the end mark alone.
 #[test]
-fn a_limit_of_no_bytes(rt: HostRuntime) -> Result<(), Fail> {
-    let mut capture = Capture::new(limits_of(0)?);
-    expect_line(&rt, &mut capture, b"C 00", Err(LineFault::InputLimit));
-    expect_line(&rt, &mut capture, b"C.", Ok(()));
-    expect_true(&rt, capture.report().client == Side::Ended, &"C.");
-    Ok(())
+fn a_limit_of_no_bytes(rt: HostRuntime) {
+    let mut capture = Capture::new(limits_of(&rt, 0));
+    expect_answer(&rt, &mut capture, b"C 00", Err(LineFault::InputLimit));
+    expect_answer(&rt, &mut capture, b"C.", Ok(()));
+    expect_of(&rt, capture.report().client == Side::Ended, &"C.");
 }
 
 /// Bytes behind a refusal aren't read, and count.
 #[test]
-fn what_is_behind_a_refusal_counts(rt: HostRuntime) -> Result<(), Fail> {
-    let mut capture = Capture::new(limits_of(3)?);
-    expect_line(&rt, &mut capture, b"S c1", Ok(()));
-    expect_line(&rt, &mut capture, b"S 0000", Ok(()));
-    expect_line(&rt, &mut capture, b"S 00", Err(LineFault::InputLimit));
-    Ok(())
+fn what_is_behind_a_refusal_counts(rt: HostRuntime) {
+    let mut capture = Capture::new(limits_of(&rt, 3));
+    expect_answer(&rt, &mut capture, b"S c1", Ok(()));
+    expect_answer(&rt, &mut capture, b"S 0000", Ok(()));
+    expect_answer(&rt, &mut capture, b"S 00", Err(LineFault::InputLimit));
 }

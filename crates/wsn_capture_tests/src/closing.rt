@@ -2,13 +2,12 @@
 //! is asked for.
 
 use crate::capture_answers::limits_of;
-use crate::capture_lines::FAULTY;
-use crate::captures::ROWS;
-use crate::expecting::{expect_bytes, expect_outcome, expect_true};
+use crate::capture_lines::faulty;
+use crate::captures::rows;
 use std::alloc::{Allocator, Global};
 use std::io::ErrorKind;
 use std::process::Abort;
-use std::test::Fail;
+use wsn_doubles::expecting::{expect_bytes_of, expect_of, expect_outcome};
 use wsn_doubles::heaps::heap_of;
 use wsn_doubles::outcomes::{Outcome, outcome_on};
 use wsn_doubles::readers::{Chopped, READS};
@@ -61,21 +60,14 @@ impl<'a> Given<'a> {
     }
 }
 
-/// Runs the command with no memory to be had, and with memory.
-fn expect(
-    rt: &impl Abort,
-    alloc: Global,
-    limits: Limits,
-    given: Given,
-    wanted: Wanted,
-) -> Result<(), Fail> {
-    let heap = heap_of(alloc, 0)?;
+/// Fails unless the command leaves this, with no memory to be had and with memory.
+fn expect_run(rt: &impl Abort, alloc: Global, limits: Limits, given: Given, wanted: Wanted) {
+    let heap = heap_of(rt, alloc, 0);
     expect_on(rt, &heap, alloc, limits, given, wanted);
     expect_on(rt, alloc, alloc, limits, given, wanted);
-    Ok(())
 }
 
-/// Runs the command with memory from this heap.
+/// Fails unless the command leaves this, with memory from this heap.
 fn expect_on<A: Allocator + Copy>(
     rt: &impl Abort,
     heap: A,
@@ -90,25 +82,19 @@ fn expect_on<A: Allocator + Copy>(
 }
 
 /// The same where nothing goes out, and this line is told.
-fn expect_stop(
-    rt: &impl Abort,
-    alloc: Global,
-    limits: Limits,
-    given: Given,
-    words: &str,
-) -> Result<(), Fail> {
+fn expect_stop(rt: &impl Abort, alloc: Global, limits: Limits, given: Given, words: &str) {
     let wanted = Wanted {
         status: 2,
         out: "",
         told: words,
     };
-    expect(rt, alloc, limits, given, wanted)
+    expect_run(rt, alloc, limits, given, wanted);
 }
 
 #[test]
-fn reports_are_printed(rt: HostRuntime) -> Result<(), Fail> {
+fn reports_are_printed(rt: HostRuntime) {
     let alloc = rt.alloc();
-    for row in ROWS.iter() {
+    for row in rows() {
         let wanted = Wanted {
             status: row.status(),
             out: row.report,
@@ -116,61 +102,59 @@ fn reports_are_printed(rt: HostRuntime) -> Result<(), Fail> {
         };
         for most in READS {
             let given = Given::whole(row.text.as_bytes(), most);
-            expect(&rt, alloc, greatest()?, given, wanted)?;
+            expect_run(&rt, alloc, greatest(), given, wanted);
         }
     }
-    Ok(())
 }
 
 #[test]
-fn the_first_faulty_line_is_told(rt: HostRuntime) -> Result<(), Fail> {
+fn the_first_faulty_line_is_told(rt: HostRuntime) {
     let alloc = rt.alloc();
-    for (text, words, _fault) in FAULTY.iter() {
+    for (text, words, _fault) in faulty() {
         for most in READS {
             let given = Given::whole(text.as_bytes(), most);
-            expect_stop(&rt, alloc, greatest()?, given, words)?;
+            expect_stop(&rt, alloc, greatest(), given, words);
         }
     }
-    Ok(())
 }
 
 #[test]
-fn a_line_past_the_input_limit_is_told(rt: HostRuntime) -> Result<(), Fail> {
+fn a_line_past_the_input_limit_is_told(rt: HostRuntime) {
     let given = Given::whole(b"C 81\nS 81\nS 00\n", 4_096);
-    expect_stop(&rt, rt.alloc(), limits_of(1)?, given, "line 3: input-limit")
+    let limits = limits_of(&rt, 1);
+    expect_stop(&rt, rt.alloc(), limits, given, "line 3: input-limit");
 }
 
 #[test]
-fn a_line_that_is_too_long_is_told(rt: HostRuntime) -> Result<(), Fail> {
+fn a_line_that_is_too_long_is_told(rt: HostRuntime) {
     let alloc = rt.alloc();
-    let long = filled(alloc, b"#\n#", b'#', 8_194)?;
+    let long = filled(&rt, alloc, b"#\n#", b'#', 8_194);
     let given = Given::whole(long.as_slice(), 4_096);
-    expect_stop(&rt, alloc, greatest()?, given, "line 2: too-long")
+    expect_stop(&rt, alloc, greatest(), given, "line 2: too-long");
 }
 
 #[test]
-fn a_line_too_many_is_told(rt: HostRuntime) -> Result<(), Fail> {
+fn a_line_too_many_is_told(rt: HostRuntime) {
     let alloc = rt.alloc();
-    let many = filled(alloc, b"", b'\n', 1_000_001)?;
+    let many = filled(&rt, alloc, b"", b'\n', 1_000_001);
     let given = Given::whole(many.as_slice(), usize::MAX);
     expect_stop(
         &rt,
         alloc,
-        greatest()?,
+        greatest(),
         given,
         "line 1000001: too-many-lines",
-    )
+    );
 }
 
 #[test]
-fn a_failed_read_is_told_at_every_byte(rt: HostRuntime) -> Result<(), Fail> {
+fn a_failed_read_is_told_at_every_byte(rt: HostRuntime) {
     let alloc = rt.alloc();
-    for row in ROWS.iter() {
+    for row in rows() {
         for count in 0..=row.text.len() {
-            expect_failed_read(&rt, alloc, row.text, count, "read failed")?;
+            expect_failed_read(&rt, alloc, row.text, count, "read failed");
         }
     }
-    Ok(())
 }
 
 /// How many bytes of a text have so many LFs, if it has as many.
@@ -188,18 +172,17 @@ fn end_of_line(text: &str, number: usize) -> Option<usize> {
 }
 
 /// The number of the line of which these words are told.
-fn number_of(words: &str) -> Result<usize, Fail> {
-    let number = words.split(' ').nth(1).ok_or("no number")?;
-    let digits = number.strip_suffix(':').ok_or("no colon")?;
-    Ok(digits.parse::<usize>()?)
+fn number_of(rt: &impl Abort, words: &str) -> usize {
+    let number = words.split([' ', ':']).nth(1).expect(rt, "a line's words");
+    number.parse::<usize>().expect(rt, "a line's number")
 }
 
 /// A faulty line that is whole is told before the failed read, and one that isn't never.
 #[test]
-fn a_faulty_line_is_told_before_a_failed_read(rt: HostRuntime) -> Result<(), Fail> {
+fn a_faulty_line_is_told_before_a_failed_read(rt: HostRuntime) {
     let alloc = rt.alloc();
-    for (text, words, _fault) in FAULTY.iter() {
-        let end = end_of_line(text, number_of(words)?);
+    for (text, words, _fault) in faulty() {
+        let end = end_of_line(text, number_of(&rt, words));
         for count in 0..=text.len() {
             let told = end.is_some_and(|end| end <= count);
             expect_failed_read(
@@ -208,88 +191,76 @@ fn a_faulty_line_is_told_before_a_failed_read(rt: HostRuntime) -> Result<(), Fai
                 text,
                 count,
                 if told { words } else { "read failed" },
-            )?;
+            );
         }
     }
-    Ok(())
 }
 
 /// Fails unless this line is told where a read fails behind so many bytes of a text, however it fails.
-fn expect_failed_read(
-    rt: &impl Abort,
-    alloc: Global,
-    text: &str,
-    count: usize,
-    words: &str,
-) -> Result<(), Fail> {
+fn expect_failed_read(rt: &impl Abort, alloc: Global, text: &str, count: usize, words: &str) {
     for kind in KINDS {
         let given = Given {
             text: text.as_bytes(),
             most: 3,
             fails: Some((count, kind)),
         };
-        expect_stop(rt, alloc, greatest()?, given, words)?;
+        expect_stop(rt, alloc, greatest(), given, words);
     }
-    Ok(())
 }
 
 /// Nothing goes out behind a failed write, also where the writer would take more.
 #[test]
-fn a_failed_write_is_told_at_every_byte(rt: HostRuntime) -> Result<(), Fail> {
-    for row in ROWS.iter() {
+fn a_failed_write_is_told_at_every_byte(rt: HostRuntime) {
+    for row in rows() {
         let report = row.report.as_bytes();
         for room in 0..report.len() {
-            expect_full(&rt, rt.alloc(), row.text, &report[..room])?;
+            expect_full(&rt, rt.alloc(), row.text, &report[..room]);
         }
     }
-    Ok(())
 }
 
 /// Fails unless a failed write behind these first bytes of a report is told, whatever the writer does then.
-fn expect_full(rt: &impl Abort, alloc: Global, text: &str, front: &[u8]) -> Result<(), Fail> {
+fn expect_full(rt: &impl Abort, alloc: Global, text: &str, front: &[u8]) {
     for full in FULL {
         let reader = Chopped::new(text.as_bytes(), usize::MAX);
         let writer = Narrow::new(alloc, usize::MAX, front.len(), full);
-        let done = closed(alloc, reader, writer)?;
+        let done = closed(rt, alloc, reader, writer);
         expect_outcome(rt, &done, 2, front, "write failed");
     }
-    Ok(())
 }
 
 /// What a run leaves with no memory to be had, over this reader and writer.
-fn closed(alloc: Global, reader: Chopped, writer: Narrow) -> Result<Outcome, Fail> {
-    let heap = heap_of(alloc, 0)?;
-    let job = Job::Closing(greatest()?);
-    Ok(outcome_on(&heap, alloc, &job, reader, writer))
+fn closed(rt: &impl Abort, alloc: Global, reader: Chopped, writer: Narrow) -> Outcome {
+    let heap = heap_of(rt, alloc, 0);
+    let job = Job::Closing(greatest());
+    outcome_on(&heap, alloc, &job, reader, writer)
 }
 
 #[test]
-fn a_writer_may_take_one_byte_a_call(rt: HostRuntime) -> Result<(), Fail> {
+fn a_writer_may_take_one_byte_a_call(rt: HostRuntime) {
     let alloc = rt.alloc();
-    for row in ROWS.iter() {
+    for row in rows() {
         let reader = Chopped::new(row.text.as_bytes(), 1);
         let writer = Narrow::new(alloc, 1, usize::MAX, Full::Fails);
-        let done = closed(alloc, reader, writer)?;
+        let done = closed(&rt, alloc, reader, writer);
         expect_outcome(&rt, &done, row.status(), row.report.as_bytes(), "");
     }
-    Ok(())
 }
 
 /// Where the second output fails, the status says it all.
 #[test]
-fn a_stop_that_cannot_be_told_has_its_status(rt: HostRuntime) -> Result<(), Fail> {
-    let line = b"line 1: bad-form\n";
+fn a_stop_that_cannot_be_told_has_its_status(rt: HostRuntime) {
+    let line: &[u8] = b"line 1: bad-form\n";
     for room in 0..line.len() {
         for full in FULL {
-            expect_untold(&rt, rt.alloc(), full, &line[..room])?;
+            expect_untold(&rt, rt.alloc(), full, &line[..room]);
         }
     }
-    Ok(())
 }
 
 /// Fails unless a bad form has its status where its line can't be written behind these first bytes.
-fn expect_untold(rt: &impl Abort, alloc: Global, full: Full, front: &[u8]) -> Result<(), Fail> {
-    let job = Job::Closing(greatest()?);
+fn expect_untold(rt: &impl Abort, alloc: Global, full: Full, front: &[u8]) {
+    let job = Job::Closing(greatest());
     let mut out = Vec::new(alloc);
     let mut told = Narrow::new(alloc, usize::MAX, front.len(), full);
     let status = run(
@@ -299,7 +270,6 @@ fn expect_untold(rt: &impl Abort, alloc: Global, full: Full, front: &[u8]) -> Re
         &mut Output::new(&mut out),
         &mut Output::new(&mut told),
     );
-    expect_true(rt, status == 2 && out.is_empty(), &(full, status));
-    expect_bytes(rt, told.taken.as_slice(), front, &full);
-    Ok(())
+    expect_of(rt, status == 2 && out.is_empty(), &(full, status));
+    expect_bytes_of(rt, told.taken.as_slice(), front, &full);
 }

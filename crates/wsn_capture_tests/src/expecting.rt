@@ -1,43 +1,24 @@
-//! What is expected of a command's run, of an answer and of the bytes that are written. Where one isn't as it is
-//! wanted, the message tells what it is of: the capture, and how it was read or written.
+//! What is expected of a capture's lines, and of what is printed. Where it isn't so, the message tells what it is of.
 
-use std::fmt::Debug;
+use crate::capture_answers::shown;
+use std::alloc::Global;
+use std::fmt::{Debug, Display};
 use std::process::Abort;
 use wsn_capture::{Capture, LineFault};
-use wsn_doubles::outcomes::Outcome;
-
-/// Fails unless this holds.
-pub fn expect_true(rt: &impl Abort, holds: bool, of: &impl Debug) {
-    assert!(rt; holds, "{of:?}");
-}
-
-/// Fails unless a text is as it is wanted.
-pub fn expect_text(rt: &impl Abort, text: &str, wanted: &str, of: &impl Debug) {
-    assert_eq!(rt; text, wanted, "{of:?}");
-}
-
-/// Fails unless bytes are as they are wanted.
-pub fn expect_bytes(rt: &impl Abort, bytes: &[u8], wanted: &[u8], of: &impl Debug) {
-    assert_eq!(rt; bytes, wanted, "{of:?}");
-}
+use wsn_doubles::expecting::{expect_equal_of, expect_line_of};
 
 /// Fails unless a capture answers this of a line.
-pub fn expect_line(
+pub fn expect_answer(
     rt: &impl Abort,
     capture: &mut Capture,
     line: &[u8],
     wanted: Result<(), LineFault>,
 ) {
-    let answer = capture.line(line);
-    assert_eq!(rt; answer, wanted, "{line:?}");
+    expect_equal_of(rt, &capture.line(line), &wanted, &line);
 }
 
-/// Fails unless a run ended by this status, with these bytes on standard output, and on standard error this line, or
-/// nothing where it is empty.
-pub fn expect_outcome(rt: &impl Abort, done: &Outcome, status: u8, out: &[u8], line: &str) {
-    let end: &[u8] = if line.is_empty() { b"" } else { b"\n" };
-    let told = done.said.as_slice().strip_suffix(end);
-    expect_bytes(rt, done.out.as_slice(), out, &line);
-    expect_true(rt, told == Some(line.as_bytes()), &(line, &done.said));
-    expect_true(rt, done.status == status, &(line, done.status));
+/// Fails unless these words are printed of a value.
+pub fn expect_shown<T: Debug + Display>(rt: &impl Abort, alloc: Global, value: &T, words: &str) {
+    let printed = shown(rt, alloc, value);
+    expect_line_of(rt, printed.as_str(), words, value);
 }

@@ -2,7 +2,7 @@
 
 use crate::{close, fragmentation, heads, lengths, limits, masking, text};
 use std::alloc::Global;
-use std::test::Fail;
+use std::process::Abort;
 use wsn_scan::{INPUT_MAX, Limits, MESSAGE_MAX};
 use wsn_wire::{Lengths, Role};
 
@@ -83,20 +83,23 @@ pub const CLIENT: Row = Row {
     ..SERVER
 };
 
+/// Limits of a message and an input of at most so many bytes.
+pub fn limits_of(rt: &impl Abort, message: u32, input: u64) -> Limits {
+    Limits::new(message, input).expect(rt, "limits in range")
+}
+
 /// The limits of a row.
-pub fn limits_under(under: &Under) -> Result<Limits, Fail> {
-    let limits = Limits::new(under.message, under.input)
-        .ok_or("out of range")?
-        .with_lengths(under.lengths);
+pub fn limits_under(rt: &impl Abort, under: &Under) -> Limits {
+    let limits = limits_of(rt, under.message, under.input).with_lengths(under.lengths);
     match under.frames {
-        Some(frames) => Ok(limits.with_frames(frames).ok_or("no frame")?),
-        None => Ok(limits),
+        Some(frames) => limits.with_frames(frames).expect(rt, "a frame at least"),
+        None => limits,
     }
 }
 
 /// The greatest limits.
-pub fn greatest() -> Result<Limits, Fail> {
-    limits_under(&GREATEST)
+pub fn greatest() -> Limits {
+    Limits::new(MESSAGE_MAX, INPUT_MAX).unwrap()
 }
 
 /// A row in memory.
@@ -113,28 +116,27 @@ pub struct Stream {
 }
 
 impl Stream {
-    /// A row in memory. Fails where memory does.
-    pub fn new(alloc: Global, row: &Row) -> Result<Self, Fail> {
+    /// A row in memory.
+    pub fn new(rt: &impl Abort, alloc: Global, row: &Row) -> Self {
         let Fill {
             byte,
             count,
             normal,
         } = row.fill;
-        let mut bytes = filled(alloc, row.bytes, byte, count)?;
-        bytes.extend_from_slice(row.last)?;
-        Ok(Stream {
+        let mut bytes = filled(rt, alloc, row.bytes, byte, count);
+        extend(rt, &mut bytes, row.last);
+        Stream {
             name: row.name,
             role: row.role,
-            limits: limits_under(&row.under)?,
+            limits: limits_under(rt, &row.under),
             bytes,
             frames: row.frames,
-            payload: match row.payload {
-                Some(first) => Some(filled(alloc, first, byte, normal)?),
-                None => None,
-            },
+            payload: row
+                .payload
+                .map(|first| filled(rt, alloc, first, byte, normal)),
             verdict: row.verdict,
-            normal: filled(alloc, row.normal, byte, normal)?,
-        })
+            normal: filled(rt, alloc, row.normal, byte, normal),
+        }
     }
 
     /// Whether it is longer than an input may be.
@@ -160,50 +162,53 @@ impl Stream {
 
     /// The offset of the byte that tells its answer, whatever follows: a refusal's place, or the first byte that an
     /// input may not have.
-    fn told_at(&self) -> Result<Option<u64>, Fail> {
+    fn told_at(&self) -> Option<u64> {
         if self.is_too_long() {
-            return Ok(Some(self.limits.input()));
+            return Some(self.limits.input());
         }
-        let mut words = self.verdict.split(' ');
-        if words.next() != Some("refused") {
-            return Ok(None);
-        }
-        let place = words.next().ok_or("no place")?;
-        Ok(Some(place.parse::<u64>()?))
+        let place = self.verdict.strip_prefix("refused ")?.split(' ').next()?;
+        place.parse::<u64>().ok()
     }
 
     /// Whether so many of its bytes tell its answer, whatever follows.
-    pub fn is_told_by(&self, count: usize) -> Result<bool, Fail> {
-        match self.told_at()? {
-            Some(place) => Ok(place < count as u64),
-            None => Ok(false),
-        }
+    pub fn is_told_by(&self, count: usize) -> bool {
+        self.told_at().is_some_and(|place| place < count as u64)
     }
 
     /// Its first bytes, so many as one may wish: of a long stream at most 200, or all but two at most.
-    pub fn fronts(&self, alloc: Global) -> Result<Vec<&[u8]>, Fail> {
+    pub fn fronts(&self, rt: &impl Abort, alloc: Global) -> Vec<&[u8]> {
         let len = self.bytes.len();
         let mut fronts = Vec::new(alloc);
         for count in 0..=len {
             if count <= 200 || count.saturating_add(3) > len {
-                fronts.push(&self.bytes[..count])?;
+                fronts.push(&self.bytes[..count]).expect(rt, "memory");
             }
         }
-        Ok(fronts)
+        fronts
     }
+}
+
+/// These bytes, in memory.
+pub fn copied(rt: &impl Abort, alloc: Global, bytes: &[u8]) -> Vec<u8> {
+    bytes.to_vec(alloc).expect(rt, "memory")
+}
+
+/// Adds more bytes.
+pub fn extend(rt: &impl Abort, bytes: &mut Vec<u8>, more: &[u8]) {
+    bytes.extend_from_slice(more).expect(rt, "memory");
 }
 
 /// The first bytes, and one byte so many times behind them.
-pub fn filled(alloc: Global, first: &[u8], byte: u8, count: usize) -> Result<Vec<u8>, Fail> {
-    let mut bytes = first.to_vec(alloc)?;
+pub fn filled(rt: &impl Abort, alloc: Global, first: &[u8], byte: u8, count: usize) -> Vec<u8> {
+    let mut bytes = copied(rt, alloc, first);
     for _ in 0..count {
-        bytes.push(byte)?;
+        bytes.push(byte).expect(rt, "memory");
     }
-    Ok(bytes)
+    bytes
 }
 
 /// All rows, in memory.
-pub fn streams(alloc: Global) -> Result<Vec<Stream>, Fail> {
+pub fn streams(rt: &impl Abort, alloc: Global) -> Vec<Stream> {
     let mut streams = Vec::new(alloc);
     for rows in [
         heads::ROWS.as_slice(),
@@ -215,27 +220,27 @@ pub fn streams(alloc: Global) -> Result<Vec<Stream>, Fail> {
         limits::ROWS.as_slice(),
     ] {
         for row in rows.iter() {
-            streams.push(Stream::new(alloc, row)?)?;
+            streams
+                .push(Stream::new(rt, alloc, row))
+                .expect(rt, "memory");
         }
     }
-    Ok(streams)
+    streams
 }
 
 /// A row in memory, by its name.
-pub fn stream_named(alloc: Global, name: &str) -> Result<Stream, Fail> {
-    for stream in streams(alloc)? {
-        if stream.name == name {
-            return Ok(stream);
-        }
-    }
-    Err("no such row")?
+pub fn stream_named(rt: &impl Abort, alloc: Global, name: &str) -> Stream {
+    streams(rt, alloc)
+        .into_iter()
+        .find(|stream| stream.name == name)
+        .expect(rt, "a row of this name")
 }
 
 /// The line of the answer where a read fails behind these first bytes.
-pub fn line_behind(stream: &Stream, front: &[u8]) -> Result<&'static str, Fail> {
-    if stream.is_told_by(front.len())? {
-        Ok(stream.verdict)
+pub fn line_behind(stream: &Stream, front: &[u8]) -> &'static str {
+    if stream.is_told_by(front.len()) {
+        stream.verdict
     } else {
-        Ok("read failed")
+        "read failed"
     }
 }

@@ -2,13 +2,14 @@
 //!
 //! Plans: `plan_text` is of their text, `plan_files` of files that are too long, `plans` of the plan of a stream's own
 //! frames. Recuts: `recuts` by plans that fit, `recut_faults` by plans that don't, `uniform_recuts` in frames of one
-//! size, and `long_plans` in a million. `plan_commands` is of both commands, and `size_commands` of `recut` in frames of
-//! one size. `peer` is of another implementation, the kit's `tungstenite`: what it reads of recuts and normal forms, and
-//! that what it writes is accepted.
+//! size, and `long_plans` in a million. `plan_commands` is of both commands, and `size_commands` of `recut` in frames
+//! of one size. `peer` is of another implementation, the kit's `tungstenite`: what it reads of recuts and normal forms,
+//! and that what it writes is accepted.
 //!
 //! Hostile use: `recut_stops` is of readers and writers that fail, `recut_memory` of memory that is refused.
 //!
-//! `expecting` asserts what is wanted of a command's run, and of the lines and the bytes that come of a row.
+//! `expecting` has the plans and the texts that must be there, and asserts what is wanted of the lines and the bytes
+//! that come of a row.
 #![tactic(auto)]
 
 #[cfg(test)]

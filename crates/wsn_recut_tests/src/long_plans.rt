@@ -1,34 +1,34 @@
 //! Plans of a million steps, and streams of a million frames. Work that grows with the square of these wouldn't end in
 //! the minute that a test has.
 
-use crate::expecting::{expect_line, expect_true};
+use crate::expecting::{expect_answer, plan_read, plan_written};
 use std::alloc::Global;
 use std::process::Abort;
-use std::test::Fail;
 use wsn_doubles::engines::{Sizes, planned, recut_by, recut_uniformly};
-use wsn_doubles::lines::recut_line;
+use wsn_doubles::expecting::{expect_count, expect_of};
 use wsn_doubles::readers::Chopped;
 use wsn_doubles::rows::{filled, greatest};
-use wsn_plan::{Plan, PlanAnswer, RecutAnswer, read_plan, write_plan};
+use wsn_plan::{Plan, PlanAnswer, RecutAnswer};
 use wsn_scan::Stop;
-use wsn_wire::{Output, Role};
+use wsn_wire::Role;
 
 const MANY: usize = 1_000_000;
 
 /// The same bytes so many times, between these.
 fn repeated(
+    rt: &impl Abort,
     alloc: Global,
     first: &[u8],
     again: &[u8],
     count: usize,
     last: &[u8],
-) -> Result<Vec<u8>, Fail> {
-    let mut all = first.to_vec(alloc)?;
+) -> Vec<u8> {
+    let mut all = first.to_vec(alloc).expect(rt, "memory");
     for _ in 0..count {
-        all.extend_from_slice(again)?;
+        all.extend_from_slice(again).expect(rt, "memory");
     }
-    all.extend_from_slice(last)?;
-    Ok(all)
+    all.extend_from_slice(last).expect(rt, "memory");
+    all
 }
 
 /// Fails unless a recut is done, and wrote these bytes.
@@ -38,110 +38,94 @@ fn expect_done(
     answer: &Result<RecutAnswer, Stop>,
     out: &[u8],
     wanted: &[u8],
-) -> Result<(), Fail> {
-    let line = recut_line(alloc, answer)?;
-    expect_line(rt, line.as_str(), "done", &wanted.len());
-    expect_true(rt, out == wanted, &wanted.len());
-    Ok(())
+) {
+    expect_answer(rt, alloc, answer, "done", &wanted.len());
+    expect_of(rt, out == wanted, &wanted.len());
 }
 
 /// Fails unless these bytes come of a server's stream by a plan.
-fn expect_cut(
-    rt: &impl Abort,
-    alloc: Global,
-    bytes: &[u8],
-    plan: &Plan,
-    wanted: &[u8],
-) -> Result<(), Fail> {
-    let limits = greatest()?;
+fn expect_cut(rt: &impl Abort, alloc: Global, bytes: &[u8], plan: &Plan, wanted: &[u8]) {
     let mut out = Vec::new(alloc);
     let reader = Chopped::new(bytes, usize::MAX);
-    let answer = recut_by(alloc, Role::Server, limits, plan, reader, &mut out);
-    expect_done(rt, alloc, &answer, out.as_slice(), wanted)
+    let answer = recut_by(alloc, Role::Server, greatest(), plan, reader, &mut out);
+    expect_done(rt, alloc, &answer, out.as_slice(), wanted);
 }
 
 /// Fails unless these bytes come of a server's stream in frames of a byte.
-fn expect_cut_in_bytes(
-    rt: &impl Abort,
-    alloc: Global,
-    bytes: &[u8],
-    wanted: &[u8],
-) -> Result<(), Fail> {
-    let limits = greatest()?;
+fn expect_cut_in_bytes(rt: &impl Abort, alloc: Global, bytes: &[u8], wanted: &[u8]) {
     let mut out = Vec::new(alloc);
     let sizes = Sizes {
         size: 1,
         weave: true,
     };
     let reader = Chopped::new(bytes, usize::MAX);
-    let answer = recut_uniformly(alloc, Role::Server, limits, sizes, reader, &mut out);
-    expect_done(rt, alloc, &answer, out.as_slice(), wanted)
+    let answer = recut_uniformly(alloc, Role::Server, greatest(), sizes, reader, &mut out);
+    expect_done(rt, alloc, &answer, out.as_slice(), wanted);
 }
 
 #[test]
-fn a_million_steps_are_read_and_written(rt: HostRuntime) -> Result<(), Fail> {
+fn a_million_steps_are_read_and_written(rt: HostRuntime) {
     let alloc = rt.alloc();
-    let text = repeated(alloc, b"", b"piece 1 01020304 two\n", MANY, b"")?;
-    let plan = read_plan(alloc, text.as_slice())?;
-    expect_true(&rt, plan.steps().len() == MANY, &plan.steps().len());
-    expect_written(&rt, alloc, &plan, text.as_slice())
-}
-
-/// Fails unless this text is written of a plan.
-fn expect_written(rt: &impl Abort, alloc: Global, plan: &Plan, text: &[u8]) -> Result<(), Fail> {
-    let mut out = Vec::new(alloc);
-    write_plan(&mut Output::new(&mut out), plan)?;
-    expect_true(rt, out.as_slice() == text, &out.len());
-    Ok(())
+    let text = repeated(&rt, alloc, b"", b"piece 1 01020304 two\n", MANY, b"");
+    let plan = plan_read(&rt, alloc, text.as_slice());
+    expect_count(&rt, plan.steps().len(), MANY);
+    let written = plan_written(&rt, alloc, &plan);
+    expect_of(&rt, written.as_slice() == text.as_slice(), &written.len());
 }
 
 /// Fails unless this is the plan of a server's stream.
-fn expect_planned(rt: &impl Abort, alloc: Global, bytes: &[u8], plan: &Plan) -> Result<(), Fail> {
+fn expect_planned(rt: &impl Abort, alloc: Global, bytes: &[u8], plan: &Plan) {
     let reader = Chopped::new(bytes, usize::MAX);
-    match planned(alloc, Role::Server, greatest()?, reader)? {
-        PlanAnswer::Plan(own) => {
-            expect_true(rt, own.steps() == plan.steps(), &own.steps().len());
-            Ok(())
+    match planned(alloc, Role::Server, greatest(), reader) {
+        Ok(PlanAnswer::Plan(own)) => {
+            expect_of(rt, own.steps() == plan.steps(), &own.steps().len());
         }
-        _ => Err(Fail::from("no plan")),
+        _ => expect_of(rt, false, &"no plan"),
     }
 }
 
 #[test]
-fn a_million_controls_are_planned_and_cut(rt: HostRuntime) -> Result<(), Fail> {
+fn a_million_controls_are_planned_and_cut(rt: HostRuntime) {
     let alloc = rt.alloc();
-    let pings = repeated(alloc, b"", b"\x89\x00", MANY, b"")?;
-    let text = repeated(alloc, b"", b"control -\n", MANY, b"")?;
-    let plan = read_plan(alloc, text.as_slice())?;
-    expect_cut(&rt, alloc, pings.as_slice(), &plan, pings.as_slice())?;
-    expect_planned(&rt, alloc, pings.as_slice(), &plan)
+    let pings = repeated(&rt, alloc, b"", b"\x89\x00", MANY, b"");
+    let text = repeated(&rt, alloc, b"", b"control -\n", MANY, b"");
+    let plan = plan_read(&rt, alloc, text.as_slice());
+    expect_cut(&rt, alloc, pings.as_slice(), &plan, pings.as_slice());
+    expect_planned(&rt, alloc, pings.as_slice(), &plan);
 }
 
 /// Pieces that stand in front of a million controls belong to the message behind these.
 #[test]
-fn a_million_controls_in_front_of_a_message_are_cut(rt: HostRuntime) -> Result<(), Fail> {
+fn a_million_controls_in_front_of_a_message_are_cut(rt: HostRuntime) {
     let alloc = rt.alloc();
-    let bytes = repeated(alloc, b"", b"\x8a\x00", MANY, b"\x82\x02AB")?;
-    let text = repeated(alloc, b"", b"piece 0 -\ncontrol -\n", MANY, b"last -\n")?;
+    let bytes = repeated(&rt, alloc, b"", b"\x8a\x00", MANY, b"\x82\x02AB");
+    let text = repeated(
+        &rt,
+        alloc,
+        b"",
+        b"piece 0 -\ncontrol -\n",
+        MANY,
+        b"last -\n",
+    );
     let (first, again, last) = (b"\x02\x00\x8a\x00", b"\x00\x00\x8a\x00", b"\x80\x02AB");
-    let wanted = repeated(alloc, first, again, MANY - 1, last)?;
-    let plan = read_plan(alloc, text.as_slice())?;
-    expect_cut(&rt, alloc, bytes.as_slice(), &plan, wanted.as_slice())
+    let wanted = repeated(&rt, alloc, first, again, MANY - 1, last);
+    let plan = plan_read(&rt, alloc, text.as_slice());
+    expect_cut(&rt, alloc, bytes.as_slice(), &plan, wanted.as_slice());
 }
 
 /// The plan of a message in a million frames of a byte.
-fn plan_of_bytes(alloc: Global) -> Result<Plan, Fail> {
-    let text = repeated(alloc, b"", b"piece 1 -\n", MANY - 1, b"last -\n")?;
-    Ok(read_plan(alloc, text.as_slice())?)
+fn plan_of_bytes(rt: &impl Abort, alloc: Global) -> Plan {
+    let text = repeated(rt, alloc, b"", b"piece 1 -\n", MANY - 1, b"last -\n");
+    plan_read(rt, alloc, text.as_slice())
 }
 
 #[test]
-fn a_message_is_cut_in_a_million_frames(rt: HostRuntime) -> Result<(), Fail> {
+fn a_message_is_cut_in_a_million_frames(rt: HostRuntime) {
     let alloc = rt.alloc();
-    let message = filled(alloc, b"\x82\x7f\0\0\0\0\0\x0f\x42\x40", 0x2a, MANY)?;
+    let message = filled(&rt, alloc, b"\x82\x7f\0\0\0\0\0\x0f\x42\x40", 0x2a, MANY);
     let (first, again, last) = (b"\x02\x01\x2a", b"\x00\x01\x2a", b"\x80\x01\x2a");
-    let wanted = repeated(alloc, first, again, MANY - 2, last)?;
-    let plan = plan_of_bytes(alloc)?;
-    expect_cut(&rt, alloc, message.as_slice(), &plan, wanted.as_slice())?;
-    expect_cut_in_bytes(&rt, alloc, message.as_slice(), wanted.as_slice())
+    let wanted = repeated(&rt, alloc, first, again, MANY - 2, last);
+    let plan = plan_of_bytes(&rt, alloc);
+    expect_cut(&rt, alloc, message.as_slice(), &plan, wanted.as_slice());
+    expect_cut_in_bytes(&rt, alloc, message.as_slice(), wanted.as_slice());
 }

@@ -1,12 +1,11 @@
 //! A real peer, the kit's `tungstenite`: its server reads what is written here, and what it writes is read here.
 
-use crate::expecting::{expect_line, expect_true};
+use crate::expecting::{expect_answer, expect_equal};
 use std::alloc::Global;
 use std::process::Abort;
-use std::test::Fail;
 use tungstenite::{CloseCode, CloseFrame, Duplex, Message, NoMask, Utf8Bytes, WebSocket};
 use wsn_doubles::engines::{Sizes, compared, recut_uniformly};
-use wsn_doubles::lines::{compared_line, recut_line};
+use wsn_doubles::expecting::{expect_line_of, expect_of};
 use wsn_doubles::readers::Chopped;
 use wsn_doubles::rows::{filled, greatest};
 use wsn_wire::Role;
@@ -31,24 +30,31 @@ const SESSION: [(&str, usize); 5] = [
     ("close", 3),
 ];
 
+/// The first bytes, so many stars behind them, and the last.
+fn stars_between(
+    rt: &impl Abort,
+    alloc: Global,
+    first: &[u8],
+    count: usize,
+    last: &[u8],
+) -> Vec<u8> {
+    let mut bytes = filled(rt, alloc, first, b'*', count);
+    bytes.extend_from_slice(last).expect(rt, "memory");
+    bytes
+}
+
 /// The normal form of a client's text "Hello", ping `01`, 300 bytes of binary, text of a euro sign, and close 1000
 /// "bye".
-fn session(alloc: Global) -> Result<Vec<u8>, Fail> {
-    let mut bytes = filled(
-        alloc,
-        b"\x81\x85\0\0\0\0Hello\x89\x81\0\0\0\0\x01\x82\xfe\x01\x2c\0\0\0\0",
-        0x2a,
-        300,
-    )?;
-    bytes.extend_from_slice(b"\x81\x83\0\0\0\0\xe2\x82\xac\x88\x85\0\0\0\0\x03\xe8bye")?;
-    Ok(bytes)
+fn session(rt: &impl Abort, alloc: Global) -> Vec<u8> {
+    let first = b"\x81\x85\0\0\0\0Hello\x89\x81\0\0\0\0\x01\x82\xfe\x01\x2c\0\0\0\0";
+    let last = b"\x81\x83\0\0\0\0\xe2\x82\xac\x88\x85\0\0\0\0\x03\xe8bye";
+    stars_between(rt, alloc, first, 300, last)
 }
 
 /// The normal form of the same three data messages from a server.
-fn messages(alloc: Global) -> Result<Vec<u8>, Fail> {
-    let mut bytes = filled(alloc, b"\x81\x05Hello\x82\x7e\x01\x2c", 0x2a, 300)?;
-    bytes.extend_from_slice(b"\x81\x03\xe2\x82\xac")?;
-    Ok(bytes)
+fn messages(rt: &impl Abort, alloc: Global) -> Vec<u8> {
+    let first = b"\x81\x05Hello\x82\x7e\x01\x2c";
+    stars_between(rt, alloc, first, 300, b"\x81\x03\xe2\x82\xac")
 }
 
 /// The kind of a message, and its bytes: of a close, those of its reason.
@@ -64,122 +70,116 @@ fn kind_and_len(message: &Message) -> (&'static str, usize) {
 }
 
 /// A server reads the session from these bytes, and another sends its data messages on.
-fn expect_session(rt: &impl Abort, alloc: Global, bytes: &[u8]) -> Result<(), Fail> {
-    let wanted = messages(alloc)?;
-    let sent = passed_on(rt, alloc, bytes)?;
-    expect_equal(rt, alloc, sent.as_slice(), wanted.as_slice())
+fn expect_session(rt: &impl Abort, alloc: Global, bytes: &[u8]) {
+    let wanted = messages(rt, alloc);
+    let sent = passed_on(rt, alloc, bytes);
+    expect_same(rt, alloc, sent.as_slice(), wanted.as_slice());
 }
 
 /// What a server writes that sends on the data messages of the session, which another reads from these bytes.
-fn passed_on(rt: &impl Abort, alloc: Global, bytes: &[u8]) -> Result<Vec<u8>, Fail> {
+fn passed_on(rt: &impl Abort, alloc: Global, bytes: &[u8]) -> Vec<u8> {
     let mut sending = server(alloc, b"");
-    pass_session_on(rt, server(alloc, bytes), &mut sending)?;
-    Ok(sending.into_inner().writer)
+    pass_session_on(rt, server(alloc, bytes), &mut sending);
+    sending.into_inner().writer
 }
 
 /// The messages of the session, one by one.
-fn pass_session_on(rt: &impl Abort, mut reading: Server, sending: &mut Server) -> Result<(), Fail> {
+fn pass_session_on(rt: &impl Abort, mut reading: Server, sending: &mut Server) {
     for (kind, len) in SESSION {
-        pass_on(rt, &mut reading, sending, kind, len)?;
+        pass_on(rt, &mut reading, sending, kind, len);
     }
-    Ok(())
 }
 
 /// Fails unless a message is of this kind and length.
 fn expect_message(rt: &impl Abort, message: &Message, kind: &str, len: usize) {
     let (kind_read, len_read) = kind_and_len(message);
-    expect_line(rt, kind_read, kind, &len);
-    expect_true(rt, len_read == len, &kind);
+    expect_line_of(rt, kind_read, kind, &len);
+    expect_of(rt, len_read == len, &kind);
 }
 
 /// A server reads a message of this kind and length, and another sends it on if it is of data.
-fn pass_on(
-    rt: &impl Abort,
-    reading: &mut Server,
-    sending: &mut Server,
-    kind: &str,
-    len: usize,
-) -> Result<(), Fail> {
-    let message = reading.read()?;
+fn pass_on(rt: &impl Abort, reading: &mut Server, sending: &mut Server, kind: &str, len: usize) {
+    let message = reading.read().expect(rt, "a message");
     expect_message(rt, &message, kind, len);
     if message.is_text() || message.is_binary() {
-        sending.send(message)?;
+        send(rt, sending, message);
     }
-    Ok(())
+}
+
+/// A server sends this message.
+fn send(rt: &impl Abort, socket: &mut Server, message: Message) {
+    socket.send(message).expect(rt, "a message is sent");
 }
 
 /// Fails unless two streams of a server mean the same.
-fn expect_equal(rt: &impl Abort, alloc: Global, first: &[u8], second: &[u8]) -> Result<(), Fail> {
+fn expect_same(rt: &impl Abort, alloc: Global, first: &[u8], second: &[u8]) {
     let answer = compared(
         alloc,
         Chopped::new(first, usize::MAX),
         Chopped::new(second, usize::MAX),
         Role::Server,
-        greatest()?,
+        greatest(),
     );
-    let line = compared_line(alloc, &answer)?;
-    expect_line(rt, line.as_str(), "equal", &first.len());
-    Ok(())
+    expect_equal(rt, alloc, &answer, &first.len());
 }
 
 #[test]
-fn a_server_reads_the_normal_form(rt: HostRuntime) -> Result<(), Fail> {
-    let alloc = rt.alloc();
-    expect_session(&rt, alloc, session(alloc)?.as_slice())
+fn a_server_reads_the_normal_form(rt: HostRuntime) {
+    let bytes = session(&rt, rt.alloc());
+    expect_session(&rt, rt.alloc(), bytes.as_slice());
 }
 
 #[test]
-fn a_server_reads_frames_of_each_size(rt: HostRuntime) -> Result<(), Fail> {
+fn a_server_reads_frames_of_each_size(rt: HostRuntime) {
     let alloc = rt.alloc();
-    let bytes = session(alloc)?;
+    let bytes = session(&rt, alloc);
     for size in [1, 2, 125, 65_536] {
         for weave in [false, true] {
-            expect_session_in(&rt, alloc, bytes.as_slice(), Sizes { size, weave })?;
+            expect_session_in(&rt, alloc, bytes.as_slice(), Sizes { size, weave });
         }
     }
-    Ok(())
 }
 
 /// A server reads the session in frames of one size.
-fn expect_session_in(
-    rt: &impl Abort,
-    alloc: Global,
-    bytes: &[u8],
-    sizes: Sizes,
-) -> Result<(), Fail> {
-    let limits = greatest()?;
+fn expect_session_in(rt: &impl Abort, alloc: Global, bytes: &[u8], sizes: Sizes) {
     let mut out = Vec::new(alloc);
     let reader = Chopped::new(bytes, usize::MAX);
-    let answer = recut_uniformly(alloc, Role::Client, limits, sizes, reader, &mut out);
-    let line = recut_line(alloc, &answer)?;
-    expect_line(rt, line.as_str(), "done", &sizes);
-    expect_session(rt, alloc, out.as_slice())
+    let answer = recut_uniformly(alloc, Role::Client, greatest(), sizes, reader, &mut out);
+    expect_answer(rt, alloc, &answer, "done", &sizes);
+    expect_session(rt, alloc, out.as_slice());
 }
 
 /// What a server writes of text "Hello", 126 bytes of binary, and close 1000.
-fn sent(alloc: Global) -> Result<Vec<u8>, Fail> {
+fn sent(rt: &impl Abort, alloc: Global) -> Vec<u8> {
     let mut socket = server(alloc, b"");
-    send_data(alloc, &mut socket)?;
-    socket.close(Some(CloseFrame {
-        code: CloseCode::Normal,
-        reason: Utf8Bytes::from_static(""),
-    }))?;
-    Ok(socket.into_inner().writer)
+    send_data(rt, alloc, &mut socket);
+    close_normally(rt, &mut socket);
+    socket.into_inner().writer
 }
 
 /// Sends text "Hello" and 126 bytes of binary.
-fn send_data(alloc: Global, socket: &mut Server) -> Result<(), Fail> {
-    socket.send(Message::text(alloc, "Hello")?)?;
-    let binary = filled(alloc, b"", 0x2a, 126)?;
-    socket.send(Message::binary(alloc, binary.as_slice())?)?;
-    Ok(())
+fn send_data(rt: &impl Abort, alloc: Global, socket: &mut Server) {
+    let text = Message::text(alloc, "Hello").expect(rt, "memory");
+    send(rt, socket, text);
+    let bytes = filled(rt, alloc, b"", b'*', 126);
+    let binary = Message::binary(alloc, bytes.as_slice()).expect(rt, "memory");
+    send(rt, socket, binary);
+}
+
+/// Sends close 1000.
+fn close_normally(rt: &impl Abort, socket: &mut Server) {
+    let frame = CloseFrame {
+        code: CloseCode::Normal,
+        reason: Utf8Bytes::from_static(""),
+    };
+    socket.close(Some(frame)).expect(rt, "a close is sent");
 }
 
 #[test]
-fn what_a_server_writes_is_accepted(rt: HostRuntime) -> Result<(), Fail> {
+fn what_a_server_writes_is_accepted(rt: HostRuntime) {
     let alloc = rt.alloc();
-    let sent = sent(alloc)?;
-    let mut wanted = filled(alloc, b"\x81\x05Hello\x82\x7e\x00\x7e", 0x2a, 126)?;
-    wanted.extend_from_slice(b"\x88\x02\x03\xe8")?;
-    expect_equal(&rt, alloc, sent.as_slice(), wanted.as_slice())
+    let sent = sent(&rt, alloc);
+    let first = b"\x81\x05Hello\x82\x7e\x00\x7e";
+    let wanted = stars_between(&rt, alloc, first, 126, b"\x88\x02\x03\xe8");
+    expect_same(&rt, alloc, sent.as_slice(), wanted.as_slice());
 }

@@ -1,14 +1,13 @@
 //! `wsn plan` and `wsn recut`: the plan or the recut on standard output, what keeps the command from it in one line on
 //! standard error, and the status.
 
-use crate::expecting::{expect_outcome, expect_true};
 use crate::plans::{self, PLANNED, Planned};
 use crate::recut_faults::{FAULTS, STOPS};
 use crate::recut_memory;
 use crate::recuts::{Cut, FITS};
 use std::alloc::{Allocator, Global};
 use std::process::Abort;
-use std::test::Fail;
+use wsn_doubles::expecting::{expect_of, expect_outcome};
 use wsn_doubles::heaps::heap_of;
 use wsn_doubles::outcomes::{Outcome, outcome_on};
 use wsn_doubles::readers::Chopped;
@@ -34,14 +33,15 @@ pub fn expect_end(rt: &impl Abort, done: &Outcome, out: &[u8], line: &str) {
 
 /// Runs the command that plans the stream of a row, over this reader and writer, with memory from this heap.
 fn planned_on<A: Allocator + Copy>(
+    rt: &impl Abort,
     heap: A,
     alloc: Global,
     row: &Planned,
     reader: Chopped,
     writer: Narrow,
-) -> Result<Outcome, Fail> {
-    let job = Job::Plan(row.role, limits_under(&row.under)?);
-    Ok(outcome_on(heap, alloc, &job, reader, writer))
+) -> Outcome {
+    let job = Job::Plan(row.role, limits_under(rt, &row.under));
+    outcome_on(heap, alloc, &job, reader, writer)
 }
 
 /// Fails unless the command that plans the stream of a row ends so, over this reader and writer.
@@ -51,21 +51,19 @@ fn expect_planned(
     row: &Planned,
     over: (Chopped, Narrow),
     wanted: (&[u8], &str),
-) -> Result<(), Fail> {
-    let done = planned_on(alloc, alloc, row, over.0, over.1)?;
+) {
+    let done = planned_on(rt, alloc, alloc, row, over.0, over.1);
     expect_end(rt, &done, wanted.0, wanted.1);
-    Ok(())
 }
 
 #[test]
-fn plans_are_printed(rt: HostRuntime) -> Result<(), Fail> {
+fn plans_are_printed(rt: HostRuntime) {
     let alloc = rt.alloc();
     for row in PLANNED.iter() {
         let over = (Chopped::new(row.bytes, 3), Narrow::wide(alloc));
         let wanted = (row.text.as_bytes(), told(row.line));
-        expect_planned(&rt, alloc, row, over, wanted)?;
+        expect_planned(&rt, alloc, row, over, wanted);
     }
-    Ok(())
 }
 
 /// The line of a stream with this line, read by a reader that fails behind so many bytes of so many: a refusal is told
@@ -79,44 +77,36 @@ pub fn line_of_front(line: &'static str, count: usize, whole: usize) -> &'static
 }
 
 #[test]
-fn a_failed_read_is_told_of_a_plan(rt: HostRuntime) -> Result<(), Fail> {
+fn a_failed_read_is_told_of_a_plan(rt: HostRuntime) {
     let alloc = rt.alloc();
     for row in PLANNED.iter() {
         for count in 0..=row.bytes.len() {
             let reader = Chopped::breaking(&row.bytes[..count], 3);
             let line = line_of_front(row.line, count, row.bytes.len());
-            expect_planned(&rt, alloc, row, (reader, Narrow::wide(alloc)), (b"", line))?;
+            expect_planned(&rt, alloc, row, (reader, Narrow::wide(alloc)), (b"", line));
         }
     }
-    Ok(())
 }
 
 #[test]
-fn a_failed_write_is_told_of_a_plan(rt: HostRuntime) -> Result<(), Fail> {
+fn a_failed_write_is_told_of_a_plan(rt: HostRuntime) {
     let alloc = rt.alloc();
     for row in PLANNED.iter() {
         for room in 0..row.text.len() {
-            expect_unprinted(&rt, alloc, row, &row.text.as_bytes()[..room])?;
+            expect_unprinted(&rt, alloc, row, &row.text.as_bytes()[..room]);
         }
     }
-    Ok(())
 }
 
 /// Fails unless a failed write behind these first bytes of a plan is told, whatever the writer does then.
-fn expect_unprinted(
-    rt: &impl Abort,
-    alloc: Global,
-    row: &Planned,
-    front: &[u8],
-) -> Result<(), Fail> {
+fn expect_unprinted(rt: &impl Abort, alloc: Global, row: &Planned, front: &[u8]) {
     for full in FULL {
         let over = (
             Chopped::new(row.bytes, 3),
             Narrow::new(alloc, 1, front.len(), full),
         );
-        expect_planned(rt, alloc, row, over, (front, "write failed"))?;
+        expect_planned(rt, alloc, row, over, (front, "write failed"));
     }
-    Ok(())
 }
 
 /// Whether a command had memory enough. Fails unless it ended so then, and otherwise told that memory was refused, with
@@ -131,48 +121,46 @@ pub fn is_served(rt: &impl Abort, done: &Outcome, out: &[u8], line: &str) -> boo
 }
 
 /// Whether the command that plans the stream of a row has memory enough in a heap of so many blocks.
-fn is_plan_served(
-    rt: &impl Abort,
-    alloc: Global,
-    row: &Planned,
-    blocks: usize,
-) -> Result<bool, Fail> {
-    let heap = heap_of(alloc, blocks)?;
+fn is_plan_served(rt: &impl Abort, alloc: Global, row: &Planned, blocks: usize) -> bool {
+    let heap = heap_of(rt, alloc, blocks);
     let reader = Chopped::new(row.bytes, 3);
-    let done = planned_on(&heap, alloc, row, reader, Narrow::wide(alloc))?;
-    Ok(is_served(rt, &done, row.text.as_bytes(), told(row.line)))
+    let done = planned_on(rt, &heap, alloc, row, reader, Narrow::wide(alloc));
+    is_served(rt, &done, row.text.as_bytes(), told(row.line))
 }
 
 /// Each growth refused in turn.
 #[test]
-fn refused_memory_is_told_of_a_plan(rt: HostRuntime) -> Result<(), Fail> {
+fn refused_memory_is_told_of_a_plan(rt: HostRuntime) {
     for row in PLANNED.iter() {
         let mut served = false;
         for blocks in 0..plans::BLOCKS {
-            served = is_plan_served(&rt, rt.alloc(), row, blocks)?;
-            expect_true(&rt, !served || blocks > 0 || row.text.is_empty(), row);
+            served = is_plan_served(&rt, rt.alloc(), row, blocks);
+            expect_of(&rt, !served || blocks > 0 || row.text.is_empty(), row);
         }
-        expect_true(&rt, served, row);
+        expect_of(&rt, served, row);
     }
-    Ok(())
 }
 
 /// Runs a recut by the plan of a row, over this reader and writer, with memory from this heap. None, where the heap
 /// has no room for the plan.
 fn recut_on<A: Allocator + Copy>(
+    rt: &impl Abort,
     heap: A,
     alloc: Global,
     cut: &Cut,
     reader: Chopped,
     writer: Narrow,
-) -> Result<Option<Outcome>, Fail> {
-    let plan = match read_plan(heap, cut.plan.as_bytes()) {
-        Ok(plan) => plan,
-        Err(PlanFault::Memory) => return Ok(None),
-        Err(fault) => return Err(Fail::from(fault)),
-    };
-    let job = Job::Recut(cut.role, limits_under(&cut.under)?, How::ByPlan(plan));
-    Ok(Some(outcome_on(heap, alloc, &job, reader, writer)))
+) -> Option<Outcome> {
+    match read_plan(heap, cut.plan.as_bytes()) {
+        Ok(plan) => {
+            let job = Job::Recut(cut.role, limits_under(rt, &cut.under), How::ByPlan(plan));
+            Some(outcome_on(heap, alloc, &job, reader, writer))
+        }
+        Err(fault) => {
+            expect_of(rt, fault == PlanFault::Memory, &fault);
+            None
+        }
+    }
 }
 
 /// Fails unless a recut by the plan of a row ends so, over this reader and writer, with all memory.
@@ -182,14 +170,9 @@ fn expect_recut(
     cut: &Cut,
     over: (Chopped, Narrow),
     wanted: (&[u8], &str),
-) -> Result<(), Fail> {
-    match recut_on(alloc, alloc, cut, over.0, over.1)? {
-        Some(done) => {
-            expect_end(rt, &done, wanted.0, wanted.1);
-            Ok(())
-        }
-        None => Err(Fail::from("no memory for a plan")),
-    }
+) {
+    let done = recut_on(rt, alloc, alloc, cut, over.0, over.1).expect(rt, "a plan");
+    expect_end(rt, &done, wanted.0, wanted.1);
 }
 
 /// The line that tells what came of a plan or a recut, if any.
@@ -201,23 +184,22 @@ pub fn told(line: &'static str) -> &'static str {
 }
 
 #[test]
-fn recuts_by_a_plan_are_written(rt: HostRuntime) -> Result<(), Fail> {
-    expect_written(&rt, rt.alloc(), FITS.as_slice())?;
-    expect_written(&rt, rt.alloc(), FAULTS.as_slice())?;
-    expect_written(&rt, rt.alloc(), STOPS.as_slice())
+fn recuts_by_a_plan_are_written(rt: HostRuntime) {
+    expect_written(&rt, rt.alloc(), FITS.as_slice());
+    expect_written(&rt, rt.alloc(), FAULTS.as_slice());
+    expect_written(&rt, rt.alloc(), STOPS.as_slice());
 }
 
 /// Fails unless the recuts of these rows are written, or what keeps them from it is told.
-fn expect_written(rt: &impl Abort, alloc: Global, cuts: &[Cut]) -> Result<(), Fail> {
+fn expect_written(rt: &impl Abort, alloc: Global, cuts: &[Cut]) {
     for cut in cuts.iter() {
         let over = (Chopped::new(cut.bytes, 3), Narrow::wide(alloc));
-        expect_recut(rt, alloc, cut, over, (cut.out, told(cut.line)))?;
+        expect_recut(rt, alloc, cut, over, (cut.out, told(cut.line)));
     }
-    Ok(())
 }
 
 #[test]
-fn a_failed_read_is_told_of_a_recut(rt: HostRuntime) -> Result<(), Fail> {
+fn a_failed_read_is_told_of_a_recut(rt: HostRuntime) {
     let alloc = rt.alloc();
     for cut in FITS.iter() {
         for count in 0..=cut.bytes.len() {
@@ -225,63 +207,54 @@ fn a_failed_read_is_told_of_a_recut(rt: HostRuntime) -> Result<(), Fail> {
                 Chopped::breaking(&cut.bytes[..count], 3),
                 Narrow::wide(alloc),
             );
-            expect_recut(&rt, alloc, cut, over, (b"", "read failed"))?;
+            expect_recut(&rt, alloc, cut, over, (b"", "read failed"));
         }
     }
-    Ok(())
 }
 
 #[test]
-fn a_failed_write_is_told_of_a_recut(rt: HostRuntime) -> Result<(), Fail> {
+fn a_failed_write_is_told_of_a_recut(rt: HostRuntime) {
     let alloc = rt.alloc();
     for cut in FITS.iter() {
         for room in 0..cut.out.len() {
-            expect_unwritten(&rt, alloc, cut, &cut.out[..room])?;
+            expect_unwritten(&rt, alloc, cut, &cut.out[..room]);
         }
     }
-    Ok(())
 }
 
 /// Fails unless a failed write behind these first bytes of a recut is told, whatever the writer does then.
-fn expect_unwritten(rt: &impl Abort, alloc: Global, cut: &Cut, front: &[u8]) -> Result<(), Fail> {
+fn expect_unwritten(rt: &impl Abort, alloc: Global, cut: &Cut, front: &[u8]) {
     for full in FULL {
         let over = (
             Chopped::new(cut.bytes, 3),
             Narrow::new(alloc, 1, front.len(), full),
         );
-        expect_recut(rt, alloc, cut, over, (front, "write failed"))?;
+        expect_recut(rt, alloc, cut, over, (front, "write failed"));
     }
-    Ok(())
 }
 
 /// Whether a recut by the plan of a row has memory enough in a heap of so many blocks. None, where the heap has no room
 /// for the plan.
-fn is_recut_served(
-    rt: &impl Abort,
-    alloc: Global,
-    cut: &Cut,
-    blocks: usize,
-) -> Result<Option<bool>, Fail> {
-    let heap = heap_of(alloc, blocks)?;
+fn is_recut_served(rt: &impl Abort, alloc: Global, cut: &Cut, blocks: usize) -> Option<bool> {
+    let heap = heap_of(rt, alloc, blocks);
     let reader = Chopped::new(cut.bytes, 3);
-    match recut_on(&heap, alloc, cut, reader, Narrow::wide(alloc))? {
-        Some(done) => Ok(Some(is_served(rt, &done, cut.out, told(cut.line)))),
-        None => Ok(None),
+    match recut_on(rt, &heap, alloc, cut, reader, Narrow::wide(alloc)) {
+        Some(done) => Some(is_served(rt, &done, cut.out, told(cut.line))),
+        None => None,
     }
 }
 
 /// Each growth refused in turn, of the events and behind that of the plan.
 #[test]
-fn refused_memory_is_told_of_a_recut(rt: HostRuntime) -> Result<(), Fail> {
+fn refused_memory_is_told_of_a_recut(rt: HostRuntime) {
     for cut in FITS.iter().chain(FAULTS.iter()) {
         let mut served = false;
         for blocks in 0..recut_memory::BLOCKS {
-            if let Some(is_served) = is_recut_served(&rt, rt.alloc(), cut, blocks)? {
+            if let Some(is_served) = is_recut_served(&rt, rt.alloc(), cut, blocks) {
                 served = is_served;
-                expect_true(&rt, !served || blocks > 0 || cut.bytes.is_empty(), cut);
+                expect_of(&rt, !served || blocks > 0 || cut.bytes.is_empty(), cut);
             }
         }
-        expect_true(&rt, served, cut);
+        expect_of(&rt, served, cut);
     }
-    Ok(())
 }

@@ -1,11 +1,12 @@
 //! Plan text: what is read of a text, what is written of a plan, and where memory or a write fails.
 
-use crate::expecting::{expect_bytes, expect_line, expect_true};
+use crate::expecting::{fault_line, plan_read, plan_written};
 use crate::recuts::NINE_PLAN;
 use std::alloc::{Allocator, Global};
-use std::io::Write;
 use std::process::Abort;
-use std::test::Fail;
+use wsn_doubles::expecting::{
+    expect, expect_bytes_of, expect_count, expect_equal_of, expect_line_of, expect_of,
+};
 use wsn_doubles::heaps::heap_of;
 use wsn_doubles::writers::{Full, Narrow};
 use wsn_plan::{LineWhy, Plan, PlanFault, Step, read_plan, write_plan};
@@ -72,33 +73,24 @@ static FAULTS: [(&str, u64, LineWhy, &str); 29] = [
     ("last -\nlast x\ncontrol", 2, LineWhy::BadKey, "bad-key"),
 ];
 
-fn written<A: Allocator, W: Write>(writer: &mut W, plan: &Plan<A>) -> Result<(), Stop> {
-    write_plan(&mut Output::new(writer), plan)
-}
-
 #[test]
-fn plans_are_read_and_written(rt: HostRuntime) -> Result<(), Fail> {
+fn plans_are_read_and_written(rt: HostRuntime) {
     for (text, wanted) in PLANS.iter() {
-        expect_rewritten(&rt, rt.alloc(), text, wanted)?;
+        expect_rewritten(&rt, rt.alloc(), text, wanted);
     }
-    Ok(())
 }
 
 /// Fails unless this is written of the plan of a text.
-fn expect_rewritten(rt: &impl Abort, alloc: Global, text: &str, wanted: &str) -> Result<(), Fail> {
-    let plan = read_plan(alloc, text.as_bytes())?;
-    let mut output = Vec::new(alloc);
-    written(&mut output, &plan)?;
-    expect_bytes(rt, output.as_slice(), wanted.as_bytes(), &text);
-    Ok(())
+fn expect_rewritten(rt: &impl Abort, alloc: Global, text: &str, wanted: &str) {
+    let plan = plan_read(rt, alloc, text.as_bytes());
+    let written = plan_written(rt, alloc, &plan);
+    expect_bytes_of(rt, written.as_slice(), wanted.as_bytes(), &text);
 }
 
 #[test]
-fn steps_are_those_of_the_lines(rt: HostRuntime) -> Result<(), Fail> {
-    let plan = read_plan(
-        rt.alloc(),
-        b"piece 3 -\ncontrol 00000001\nlast 37FA213D two",
-    )?;
+fn steps_are_those_of_the_lines(rt: HostRuntime) {
+    let text = b"piece 3 -\ncontrol 00000001\nlast 37FA213D two";
+    let plan = plan_read(&rt, rt.alloc(), text);
     let steps = [
         Step::Piece {
             len: 3,
@@ -113,76 +105,65 @@ fn steps_are_those_of_the_lines(rt: HostRuntime) -> Result<(), Fail> {
             form: Form::Two,
         },
     ];
-    assert_eq!(rt; plan.steps(), steps.as_slice());
-    Ok(())
+    expect_of(&rt, plan.steps() == steps.as_slice(), &plan.steps());
 }
 
 #[test]
-fn the_first_fault_is_told(rt: HostRuntime) -> Result<(), Fail> {
-    let alloc = rt.alloc();
+fn the_first_fault_is_told(rt: HostRuntime) {
     for (text, number, why, word) in FAULTS.iter() {
-        let told = fault_of(alloc, text)?;
-        expect_fault(&rt, text, told, *number, *why);
-        let line = format!(in alloc; "plan line {number}: {word}")?;
-        expect_printed(&rt, alloc, &told, line.as_str())?;
-    }
-    Ok(())
-}
-
-/// Fails unless the fault that is told of a text is this one, of this line.
-fn expect_fault(rt: &impl Abort, text: &str, told: PlanFault, number: u64, why: LineWhy) {
-    expect_true(rt, told == PlanFault::Line { number, why }, &text);
-}
-
-/// The fault that is told of a text.
-fn fault_of(alloc: Global, text: &str) -> Result<PlanFault, Fail> {
-    match read_plan(alloc, text.as_bytes()) {
-        Ok(_plan) => Err(Fail::from("a faulty text was read")),
-        Err(fault) => Ok(fault),
+        let fault = PlanFault::Line {
+            number: *number,
+            why: *why,
+        };
+        expect_fault(&rt, rt.alloc(), text, fault);
+        expect_printed(&rt, rt.alloc(), fault, *number, word);
     }
 }
 
-/// Fails unless this is printed of a fault.
-fn expect_printed(
-    rt: &impl Abort,
-    alloc: Global,
-    fault: &PlanFault,
-    wanted: &str,
-) -> Result<(), Fail> {
-    let printed = format!(in alloc; "{fault}")?;
-    expect_line(rt, printed.as_str(), wanted, fault);
-    Ok(())
+/// Fails unless this fault is told of a text, with memory from this heap.
+fn expect_fault<A: Allocator>(rt: &impl Abort, heap: A, text: &str, wanted: PlanFault) {
+    let told = read_plan(heap, text.as_bytes()).err();
+    expect_equal_of(rt, &told, &Some(wanted), &text);
+}
+
+/// Fails unless this line's number and this word are printed of a fault.
+fn expect_printed(rt: &impl Abort, alloc: Global, fault: PlanFault, number: u64, word: &str) {
+    let printed = fault_line(rt, alloc, fault);
+    let wanted = format!(in alloc; "plan line {number}: {word}").expect(rt, "memory");
+    expect_line_of(rt, printed.as_str(), wanted.as_str(), &fault);
 }
 
 #[test]
-fn a_failed_write_is_told(rt: HostRuntime) -> Result<(), Fail> {
+fn a_failed_write_is_told(rt: HostRuntime) {
     let alloc = rt.alloc();
     let text = "piece 3 - two\ncontrol 00000001\nlast -\n";
-    let plan = read_plan(alloc, text.as_bytes())?;
+    let plan = plan_read(&rt, alloc, text.as_bytes());
     for full in [Full::Fails, Full::TakesNothing] {
         for room in 0..text.len() {
             expect_unwritten(&rt, alloc, &plan, full, &text.as_bytes()[..room]);
         }
     }
-    Ok(())
 }
 
 /// Fails unless a failed write behind these first bytes of a plan's text is told.
 fn expect_unwritten(rt: &impl Abort, alloc: Global, plan: &Plan, full: Full, front: &[u8]) {
     let mut writer = Narrow::new(alloc, 1, front.len(), full);
-    let answer = written(&mut writer, plan);
-    expect_true(rt, answer == Err(Stop::Write), &full);
-    expect_bytes(rt, writer.taken.as_slice(), front, &full);
+    let answer = write_plan(&mut Output::new(&mut writer), plan);
+    expect_of(rt, answer == Err(Stop::Write), &full);
+    expect_bytes_of(rt, writer.taken.as_slice(), front, &full);
 }
 
-fn is_read<A: Allocator>(rt: &impl Abort, heap: A, text: &[u8], steps: usize) -> bool {
-    match read_plan(heap, text) {
+/// Whether so many steps are read of a text with memory from a heap of so many blocks. Fails unless memory was refused
+/// otherwise.
+fn is_read(rt: &impl Abort, alloc: Global, blocks: usize, text: &[u8], steps: usize) -> bool {
+    let heap = heap_of(rt, alloc, blocks);
+    match read_plan(&heap, text) {
         Ok(plan) => {
-            assert_eq!(rt; plan.steps().len(), steps);
+            expect_count(rt, plan.steps().len(), steps);
             true
         }
         Err(fault) => {
-            assert_eq!(rt; fault, PlanFault::Memory);
+            expect_of(rt, fault == PlanFault::Memory, &fault);
             false
         }
     }
@@ -190,36 +171,28 @@ fn is_read<A: Allocator>(rt: &impl Abort, heap: A, text: &[u8], steps: usize) ->
 
 /// Eighteen steps grow a plan four times.
 #[test]
-fn refused_memory_is_told(rt: HostRuntime) -> Result<(), Fail> {
+fn refused_memory_is_told(rt: HostRuntime) {
     let mut refused = 0u32;
     let mut read = 0u32;
     for blocks in 0..200usize {
-        if is_nine_read(&rt, rt.alloc(), blocks)? {
+        if is_read(&rt, rt.alloc(), blocks, NINE_PLAN.as_bytes(), 18) {
             read = read.saturating_add(1);
         } else {
             refused = refused.saturating_add(1);
         }
     }
-    assert!(rt; refused > 20);
-    assert!(rt; read > 20);
-    Ok(())
-}
-
-/// Whether the plan of nine messages is read with memory from a heap of so many blocks.
-fn is_nine_read(rt: &impl Abort, alloc: Global, blocks: usize) -> Result<bool, Fail> {
-    let heap = heap_of(alloc, blocks)?;
-    Ok(is_read(rt, &heap, NINE_PLAN.as_bytes(), 18))
+    expect_of(&rt, refused > 20, &refused);
+    expect_of(&rt, read > 20, &read);
 }
 
 /// A first line that spells no step needs no memory.
 #[test]
-fn a_fault_needs_no_memory(rt: HostRuntime) -> Result<(), Fail> {
-    let heap = heap_of(rt.alloc(), 0)?;
+fn a_fault_needs_no_memory(rt: HostRuntime) {
+    let heap = heap_of(&rt, rt.alloc(), 0);
     let fault = PlanFault::Line {
         number: 1,
         why: LineWhy::BadForm,
     };
-    assert!(rt; matches!(read_plan(&heap, b"next -\n"), Err(told) if told == fault));
-    assert!(rt; !is_read(&rt, &heap, b"last -\n", 1));
-    Ok(())
+    expect_fault(&rt, &heap, "next -\n", fault);
+    expect(&rt, !is_read(&rt, rt.alloc(), 0, b"last -\n", 1));
 }

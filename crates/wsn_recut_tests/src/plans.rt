@@ -1,21 +1,21 @@
 //! The plan of a stream's own frames, and that a recut of the stream's normal form by it is the stream again.
 
-use crate::expecting::{expect_bytes, expect_line, expect_recut, expect_true};
+use crate::expecting::{expect_recut, plan_written};
 use crate::recuts::{NINE_MESSAGES, NINE_PLAN};
 use std::alloc::{Allocator, Global};
 use std::fmt::Debug;
 use std::process::Abort;
-use std::test::Fail;
 use wsn_doubles::engines::{planned, recut_by};
+use wsn_doubles::expecting::{expect_bytes_of, expect_line_of, expect_of};
 use wsn_doubles::heaps::heap_of;
 use wsn_doubles::lines::planned_line;
 use wsn_doubles::readers::{Chopped, READS};
 use wsn_doubles::rows::{
     ANY_LENGTHS, GREATEST, Stream, Under, limits_under, line_behind, stream_named, streams,
 };
-use wsn_plan::{Plan, PlanAnswer, write_plan};
+use wsn_plan::{Plan, PlanAnswer};
 use wsn_scan::Stop;
-use wsn_wire::{Output, Role};
+use wsn_wire::Role;
 
 /// A stream, and what planning it answers.
 #[derive(Clone, Copy, Debug)]
@@ -108,136 +108,105 @@ pub static PLANNED: [Planned; 13] = [
 ];
 
 #[test]
-fn streams_are_planned(rt: HostRuntime) -> Result<(), Fail> {
+fn streams_are_planned(rt: HostRuntime) {
     for row in PLANNED.iter() {
         for most in READS {
-            expect_planned(&rt, rt.alloc(), row, most)?;
+            expect_planned(&rt, rt.alloc(), row, most);
         }
     }
-    Ok(())
 }
 
 /// Fails unless a row's line and its plan's text come of its stream, by reads of at most so many bytes.
-fn expect_planned(rt: &impl Abort, alloc: Global, row: &Planned, most: usize) -> Result<(), Fail> {
-    let limits = limits_under(&row.under)?;
+fn expect_planned(rt: &impl Abort, alloc: Global, row: &Planned, most: usize) {
+    let limits = limits_under(rt, &row.under);
     let answer = planned(alloc, row.role, limits, Chopped::new(row.bytes, most));
-    expect_text(rt, alloc, &answer, row.text, &(row, most))?;
-    expect_told(rt, alloc, &answer, row.line, &(row, most))
+    expect_text(rt, alloc, &answer, row.text, row, most);
+    expect_told(rt, alloc, &answer, row.line, row, most);
 }
 
-/// Fails unless this is the text of a plan, or nothing where there is none.
+/// Fails unless this is the text of a row's plan, or nothing where there is none, by reads of at most so many bytes.
 fn expect_text(
     rt: &impl Abort,
     alloc: Global,
     answer: &Result<PlanAnswer, Stop>,
     wanted: &str,
-    of: &impl Debug,
-) -> Result<(), Fail> {
-    let mut text = Vec::new(alloc);
-    if let Ok(PlanAnswer::Plan(plan)) = answer {
-        write_plan(&mut Output::new(&mut text), plan)?;
-    }
-    expect_bytes(rt, text.as_slice(), wanted.as_bytes(), of);
-    Ok(())
+    row: &impl Debug,
+    most: usize,
+) {
+    let text = match answer {
+        Ok(PlanAnswer::Plan(plan)) => plan_written(rt, alloc, plan),
+        _ => Vec::new(alloc),
+    };
+    expect_bytes_of(rt, text.as_slice(), wanted.as_bytes(), &(row, most));
 }
 
-/// Fails unless planning answered this line.
+/// Fails unless planning a row answered this line, by reads of at most so many bytes or from so many blocks.
 fn expect_told<A: Allocator>(
     rt: &impl Abort,
     alloc: Global,
     answer: &Result<PlanAnswer<A>, Stop>,
     wanted: &str,
-    of: &impl Debug,
-) -> Result<(), Fail> {
-    let line = planned_line(alloc, answer)?;
-    expect_line(rt, line.as_str(), wanted, of);
-    Ok(())
+    row: &impl Debug,
+    count: usize,
+) {
+    let line = planned_line(rt, alloc, answer);
+    expect_line_of(rt, line.as_str(), wanted, &(row, count));
 }
 
 /// How many bytes the frames of an accepted stream have.
-fn used(stream: &Stream) -> Result<usize, Fail> {
-    let word = stream.verdict.split(' ').nth(1).ok_or("no count")?;
-    Ok(word.parse::<usize>()?)
+fn used(rt: &impl Abort, stream: &Stream) -> usize {
+    let word = stream.verdict.split(' ').nth(1).expect(rt, "a count");
+    word.parse::<usize>().expect(rt, "a count")
 }
 
 /// Fails unless the recut of a stream's normal form by this plan is the stream, up to its Close.
-fn expect_restored(
-    rt: &impl Abort,
-    alloc: Global,
-    stream: &Stream,
-    plan: &Plan,
-) -> Result<(), Fail> {
-    let count = used(stream)?;
-    let front = stream.bytes.get(..count).ok_or("used more than there is")?;
+fn expect_restored(rt: &impl Abort, alloc: Global, stream: &Stream, plan: &Plan) {
+    let front = stream.bytes.get(..used(rt, stream)).expect(rt, "frames");
     let mut out = Vec::new(alloc);
     let reader = Chopped::new(stream.normal.as_slice(), 4_095);
     let answer = recut_by(alloc, stream.role, stream.limits, plan, reader, &mut out);
-    expect_recut(
-        rt,
-        alloc,
-        (&answer, out.as_slice()),
-        ("done", front),
-        &stream.name,
-    )
+    let found = (&answer, out.as_slice());
+    expect_recut(rt, alloc, found, ("done", front), &stream.name);
 }
 
 #[test]
-fn a_stream_comes_back_from_its_plan_and_its_normal_form(rt: HostRuntime) -> Result<(), Fail> {
-    for stream in streams(rt.alloc())?.iter() {
+fn a_stream_comes_back_from_its_plan_and_its_normal_form(rt: HostRuntime) {
+    for stream in streams(&rt, rt.alloc()).iter() {
         if stream.is_accepted() {
-            expect_back(&rt, rt.alloc(), stream)?;
+            expect_back(&rt, rt.alloc(), stream);
         }
     }
-    Ok(())
 }
 
 /// Fails unless a stream comes back by its plan, or is unfinished and has none.
-fn expect_back(rt: &impl Abort, alloc: Global, stream: &Stream) -> Result<(), Fail> {
+fn expect_back(rt: &impl Abort, alloc: Global, stream: &Stream) {
     let reader = Chopped::new(stream.bytes.as_slice(), 4_095);
-    match planned(alloc, stream.role, stream.limits, reader)? {
-        PlanAnswer::Plan(plan) => expect_restored(rt, alloc, stream, &plan),
-        PlanAnswer::Unfinished => {
-            expect_true(rt, !stream.verdict.ends_with(" -"), &stream.name);
-            Ok(())
-        }
-        PlanAnswer::NotAccepted(_verdict) => Err(Fail::from("not accepted")),
+    let answer = planned(alloc, stream.role, stream.limits, reader);
+    if let Ok(PlanAnswer::Plan(plan)) = &answer {
+        expect_restored(rt, alloc, stream, plan);
+    } else {
+        expect_told(rt, alloc, &answer, "unfinished", &stream.name, 4_095);
+        expect_of(rt, !stream.verdict.ends_with(" -"), &stream.name);
     }
 }
 
 #[test]
-fn a_failed_read_is_told_before_the_answer_shows(rt: HostRuntime) -> Result<(), Fail> {
+fn a_failed_read_is_told_before_the_answer_shows(rt: HostRuntime) {
     let alloc = rt.alloc();
-    for stream in streams(alloc)?.iter() {
-        for front in stream.fronts(alloc)?.iter() {
-            expect_unplanned_by(&rt, alloc, stream, front)?;
+    for stream in streams(&rt, alloc).iter() {
+        for front in stream.fronts(&rt, alloc).iter() {
+            expect_unplanned(&rt, alloc, stream, front, 1);
+            expect_unplanned(&rt, alloc, stream, front, 4_096);
         }
     }
-    Ok(())
-}
-
-/// Fails unless a failed read behind these first bytes of a stream is told, by reads of two sizes.
-fn expect_unplanned_by(
-    rt: &impl Abort,
-    alloc: Global,
-    stream: &Stream,
-    front: &[u8],
-) -> Result<(), Fail> {
-    expect_unplanned(rt, alloc, stream, front, 1)?;
-    expect_unplanned(rt, alloc, stream, front, 4_096)
 }
 
 /// Fails unless a failed read behind these first bytes of a stream is told, by reads of at most so many bytes.
-fn expect_unplanned(
-    rt: &impl Abort,
-    alloc: Global,
-    stream: &Stream,
-    front: &[u8],
-    most: usize,
-) -> Result<(), Fail> {
-    let wanted = line_behind(stream, front)?;
+fn expect_unplanned(rt: &impl Abort, alloc: Global, stream: &Stream, front: &[u8], most: usize) {
+    let wanted = line_behind(stream, front);
     let reader = Chopped::breaking(front, most);
     let answer = planned(alloc, stream.role, stream.limits, reader);
-    expect_told(rt, alloc, &answer, wanted, &(stream.name, most))
+    expect_told(rt, alloc, &answer, wanted, &stream.name, most);
 }
 
 /// Heaps of fewer blocks than this are tried, and the last has memory for all that is tried.
@@ -245,38 +214,37 @@ pub const BLOCKS: usize = 128;
 
 /// Each growth refused in turn: no plan and no verdict in its place.
 #[test]
-fn refused_memory_is_told(rt: HostRuntime) -> Result<(), Fail> {
+fn refused_memory_is_told(rt: HostRuntime) {
     for row in PLANNED.iter() {
         let mut served = false;
         for blocks in 0..BLOCKS {
-            served = is_served(&rt, rt.alloc(), row, blocks)?;
-            expect_true(&rt, !served || blocks > 0 || row.bytes.is_empty(), row);
+            served = is_served(&rt, rt.alloc(), row, blocks);
+            expect_of(&rt, !served || blocks > 0 || row.bytes.is_empty(), row);
         }
-        expect_true(&rt, served, row);
+        expect_of(&rt, served, row);
     }
-    Ok(())
 }
 
 /// Whether planning the stream of a row has memory enough in a heap of so many blocks. Fails unless it answers the
 /// row's line then, and otherwise that memory was refused.
-fn is_served(rt: &impl Abort, alloc: Global, row: &Planned, blocks: usize) -> Result<bool, Fail> {
-    let limits = limits_under(&row.under)?;
-    let heap = heap_of(alloc, blocks)?;
+fn is_served(rt: &impl Abort, alloc: Global, row: &Planned, blocks: usize) -> bool {
+    let limits = limits_under(rt, &row.under);
+    let heap = heap_of(rt, alloc, blocks);
     let answer = planned(&heap, row.role, limits, Chopped::new(row.bytes, 1));
     let is_served = answer.is_ok();
     let wanted = if is_served { row.line } else { "out of memory" };
-    expect_told(rt, alloc, &answer, wanted, &(row, blocks))?;
-    Ok(is_served)
+    expect_told(rt, alloc, &answer, wanted, row, blocks);
+    is_served
 }
 
 #[test]
-fn fragments_of_65_535_bytes_and_of_one_are_planned(rt: HostRuntime) -> Result<(), Fail> {
+fn fragments_of_65_535_bytes_and_of_one_are_planned(rt: HostRuntime) {
     let alloc = rt.alloc();
-    let stream = stream_named(alloc, "fragments of 65,535 bytes and of one")?;
+    let stream = stream_named(&rt, alloc, "fragments of 65,535 bytes and of one");
     for most in READS {
         let reader = Chopped::new(stream.bytes.as_slice(), most);
         let answer = planned(alloc, stream.role, stream.limits, reader);
-        expect_text(&rt, alloc, &answer, "piece 65535 -\nlast -\n", &most)?;
+        let text = "piece 65535 -\nlast -\n";
+        expect_text(&rt, alloc, &answer, text, &stream.name, most);
     }
-    Ok(())
 }

@@ -2,7 +2,6 @@
 //! recut, whatever the plan.
 
 use crate::recuts::{Cut, PING_HELLO, expect_cut};
-use std::test::Fail;
 use wsn_doubles::limits::{INPUT_OF_4, ONE_FRAME, TWO_FRAMES};
 use wsn_wire::Role;
 
@@ -132,17 +131,15 @@ pub static STOPS: [Cut; 6] = [
 ];
 
 #[test]
-fn a_plan_that_does_not_fit_is_told_at_its_first_wrong_step(rt: HostRuntime) -> Result<(), Fail> {
+fn a_plan_that_does_not_fit_is_told_at_its_first_wrong_step(rt: HostRuntime) {
     for cut in FAULTS.iter() {
-        expect_cut(&rt, rt.alloc(), cut)?;
+        expect_cut(&rt, rt.alloc(), cut);
     }
-    Ok(())
 }
 
 #[test]
-fn a_stream_that_is_not_accepted_is_told_whatever_the_plan(rt: HostRuntime) -> Result<(), Fail> {
+fn a_stream_that_is_not_accepted_is_told_whatever_the_plan(rt: HostRuntime) {
     for cut in STOPS.iter() {
-        expect_cut(&rt, rt.alloc(), cut)?;
+        expect_cut(&rt, rt.alloc(), cut);
     }
-    Ok(())
 }

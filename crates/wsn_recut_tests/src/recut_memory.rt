@@ -1,15 +1,16 @@
 //! Plans and recuts where memory is refused, one growth after another: `Memory` and nothing in its place, nothing
 //! written, and a plan that is as it was.
 
-use crate::expecting::expect_true;
+use crate::expecting::{fault_line, push_event};
 use crate::recut_faults::{FAULTS, STOPS};
 use crate::recuts::{Cut, FITS};
 use crate::uniform_recuts::{CUTS, SizedCut};
 use std::alloc::{Allocator, Global};
+use std::fmt::Debug;
 use std::process::Abort;
-use std::test::Fail;
 use wsn_canon::Event;
 use wsn_doubles::engines::{recut_by, recut_uniformly};
+use wsn_doubles::expecting::{expect_bytes_of, expect_count, expect_line_of, expect_of};
 use wsn_doubles::heaps::{fill, heap_of};
 use wsn_doubles::lines::recut_line;
 use wsn_doubles::readers::Chopped;
@@ -41,14 +42,20 @@ impl Tally {
         }
     }
 
-    /// Counts an answer, whose line and output are either that of refused memory and nothing, or these.
-    fn count(&mut self, rt: &impl Abort, found: (&str, &[u8]), wanted: (&str, &[u8])) {
+    /// Counts an answer to a row, whose line and output are either that of refused memory and nothing, or these.
+    fn count(
+        &mut self,
+        rt: &impl Abort,
+        found: (&str, &[u8]),
+        wanted: (&str, &[u8]),
+        row: &impl Debug,
+    ) {
         if found.0 == "out of memory" && found.1.is_empty() {
             self.refused = self.refused.saturating_add(1);
             self.served = false;
         } else {
-            assert_eq!(rt; found.0, wanted.0);
-            assert_eq!(rt; found.1, wanted.1);
+            expect_line_of(rt, found.0, wanted.0, row);
+            expect_bytes_of(rt, found.1, wanted.1, row);
             self.served = true;
         }
     }
@@ -57,84 +64,77 @@ impl Tally {
 /// Reads the plan of a row and cuts its stream, with memory from this heap alone: the line of the answer, and what was
 /// written.
 fn cut_on<A: Allocator + Copy>(
+    rt: &impl Abort,
     heap: A,
     alloc: Global,
     cut: &Cut,
-) -> Result<(String, Vec<u8>), Fail> {
+) -> (String, Vec<u8>) {
     match read_plan(heap, cut.plan.as_bytes()) {
-        Ok(plan) => cut_by(heap, alloc, cut, &plan),
-        Err(fault) => Ok((format!(in alloc; "{fault}")?, Vec::new(alloc))),
+        Ok(plan) => cut_by(rt, heap, alloc, cut, &plan),
+        Err(fault) => (fault_line(rt, alloc, fault), Vec::new(alloc)),
     }
 }
 
 /// Cuts the stream of a row by this plan, with memory from this heap alone: the line of the answer, and what was
 /// written.
 fn cut_by<A: Allocator + Copy>(
+    rt: &impl Abort,
     heap: A,
     alloc: Global,
     cut: &Cut,
     plan: &Plan<A>,
-) -> Result<(String, Vec<u8>), Fail> {
-    let limits = limits_under(&cut.under)?;
+) -> (String, Vec<u8>) {
+    let limits = limits_under(rt, &cut.under);
     let mut out = Vec::new(alloc);
     let reader = Chopped::new(cut.bytes, 1);
     let answer = recut_by(heap, cut.role, limits, plan, reader, &mut out);
-    Ok((recut_line(alloc, &answer)?, out))
+    (recut_line(rt, alloc, &answer), out)
 }
 
 /// Counts what comes of a row with memory from a heap of so many blocks.
-fn count_on(
-    rt: &impl Abort,
-    alloc: Global,
-    cut: &Cut,
-    blocks: usize,
-    tally: &mut Tally,
-) -> Result<(), Fail> {
-    let heap = heap_of(alloc, blocks)?;
-    let (line, out) = cut_on(&heap, alloc, cut)?;
-    tally.count(rt, (line.as_str(), out.as_slice()), (cut.line, cut.out));
-    Ok(())
+fn count_on(rt: &impl Abort, alloc: Global, cut: &Cut, blocks: usize, tally: &mut Tally) {
+    let heap = heap_of(rt, alloc, blocks);
+    let (line, out) = cut_on(rt, &heap, alloc, cut);
+    let found = (line.as_str(), out.as_slice());
+    tally.count(rt, found, (cut.line, cut.out), cut);
 }
 
 /// How often memory was refused, and that it was enough in the end.
-fn refusals_of(rt: &impl Abort, alloc: Global, cut: &Cut) -> Result<u32, Fail> {
+fn refusals_of(rt: &impl Abort, alloc: Global, cut: &Cut) -> u32 {
     let mut tally = Tally::new();
     for blocks in 0..BLOCKS {
-        count_on(rt, alloc, cut, blocks, &mut tally)?;
+        count_on(rt, alloc, cut, blocks, &mut tally);
     }
-    expect_true(rt, tally.served, cut);
-    Ok(tally.refused)
+    expect_of(rt, tally.served, cut);
+    tally.refused
 }
 
 /// All that an input means is held, so an input that means something asks for memory.
 #[test]
-fn a_recut_tells_refused_memory(rt: HostRuntime) -> Result<(), Fail> {
+fn a_recut_tells_refused_memory(rt: HostRuntime) {
     let alloc = rt.alloc();
     for cut in FITS.iter().chain(FAULTS.iter()) {
-        let refused = refusals_of(&rt, alloc, cut)?;
-        expect_true(&rt, (refused > 0) == !cut.bytes.is_empty(), cut);
+        let refused = refusals_of(&rt, alloc, cut);
+        expect_of(&rt, (refused > 0) == !cut.bytes.is_empty(), cut);
     }
-    Ok(())
 }
 
 #[test]
-fn a_stream_that_is_not_accepted_is_told_with_memory(rt: HostRuntime) -> Result<(), Fail> {
+fn a_stream_that_is_not_accepted_is_told_with_memory(rt: HostRuntime) {
     for cut in STOPS.iter() {
-        refusals_of(&rt, rt.alloc(), cut)?;
+        refusals_of(&rt, rt.alloc(), cut);
     }
-    Ok(())
 }
 
 #[test]
-fn a_recut_in_frames_of_one_size_tells_refused_memory(rt: HostRuntime) -> Result<(), Fail> {
+fn a_recut_in_frames_of_one_size_tells_refused_memory(rt: HostRuntime) {
     for cut in CUTS.iter() {
         let mut tally = Tally::new();
         for blocks in 0..BLOCKS {
-            count_sized_on(&rt, rt.alloc(), cut, blocks, &mut tally)?;
+            count_sized_on(&rt, rt.alloc(), cut, blocks, &mut tally);
         }
-        expect_true(&rt, tally.served && tally.refused > 0, cut);
+        expect_of(&rt, tally.served && tally.refused > 0, cut);
     }
-    Ok(())
 }
 
 /// Counts what comes of a row in frames of one size, with memory from a heap of so many blocks.
@@ -144,94 +144,85 @@ fn count_sized_on(
     cut: &SizedCut,
     blocks: usize,
     tally: &mut Tally,
-) -> Result<(), Fail> {
-    let limits = limits_under(&cut.under)?;
-    let heap = heap_of(alloc, blocks)?;
+) {
+    let limits = limits_under(rt, &cut.under);
+    let heap = heap_of(rt, alloc, blocks);
     let mut out = Vec::new(alloc);
     let reader = Chopped::new(cut.bytes, 1);
     let answer = recut_uniformly(&heap, cut.role, limits, cut.sizes, reader, &mut out);
-    let line = recut_line(alloc, &answer)?;
-    tally.count(rt, (line.as_str(), out.as_slice()), (cut.line, cut.out));
-    Ok(())
+    let line = recut_line(rt, alloc, &answer);
+    let found = (line.as_str(), out.as_slice());
+    tally.count(rt, found, (cut.line, cut.out), cut);
 }
 
 /// Seventeen pings and a message, which has its memory from this heap.
-fn pings_and_message<A: Allocator + Copy>(heap: A, alloc: Global) -> Result<Vec<Event<A>>, Fail> {
+fn pings_and_message<A: Allocator + Copy>(
+    rt: &impl Abort,
+    heap: A,
+    alloc: Global,
+) -> Vec<Event<A>> {
     let mut events: Vec<Event<A>> = Vec::new(alloc);
     for _ in 0..17 {
-        events.push(Event::Ping(Default::default()))?;
+        push_event(rt, &mut events, Event::Ping(Default::default()));
     }
-    events.push(Event::Message(Kind::Text, Vec::new(heap)))?;
-    Ok(events)
+    push_event(rt, &mut events, Event::Message(Kind::Text, Vec::new(heap)));
+    events
 }
 
-/// Whether seventeen pings and a message are planned in eighteen steps, with memory from this heap.
-fn is_planned<A: Allocator + Copy>(rt: &impl Abort, heap: A, alloc: Global) -> Result<bool, Fail> {
-    let events = pings_and_message(heap, alloc)?;
-    let plan = uniform(heap, events.as_slice(), Role::Server, 1, false, None);
-    Ok(has_eighteen_steps(rt, &plan))
+/// Whether seventeen pings and a message are planned in eighteen steps, with memory from a heap of so many blocks.
+fn is_planned(rt: &impl Abort, alloc: Global, blocks: usize) -> bool {
+    let heap = heap_of(rt, alloc, blocks);
+    let events = pings_and_message(rt, &heap, alloc);
+    let plan = uniform(&heap, events.as_slice(), Role::Server, 1, false, None);
+    has_eighteen_steps(rt, &plan)
 }
 
 /// Whether there is a plan, which must have eighteen steps then, or else memory was refused.
 fn has_eighteen_steps<A: Allocator>(rt: &impl Abort, plan: &Result<Plan<A>, Stop>) -> bool {
     match plan {
         Ok(plan) => {
-            let steps = plan.steps().len();
-            expect_true(rt, steps == 18, &steps);
+            expect_count(rt, plan.steps().len(), 18);
             true
         }
         Err(stop) => {
-            expect_true(rt, *stop == Stop::Memory, stop);
+            expect_of(rt, *stop == Stop::Memory, stop);
             false
         }
     }
 }
 
 #[test]
-fn planning_frames_of_one_size_tells_refused_memory(rt: HostRuntime) -> Result<(), Fail> {
+fn planning_frames_of_one_size_tells_refused_memory(rt: HostRuntime) {
     let mut is_served = false;
     for blocks in 0..BLOCKS {
-        let served = is_planned_by(&rt, rt.alloc(), blocks)?;
-        expect_true(&rt, served || !is_served, &blocks);
-        expect_true(&rt, !served || blocks > 0, &blocks);
+        let served = is_planned(&rt, rt.alloc(), blocks);
+        expect_of(&rt, served || !is_served, &blocks);
+        expect_of(&rt, !served || blocks > 0, &blocks);
         is_served = served;
     }
-    expect_true(&rt, is_served, &BLOCKS);
-    Ok(())
-}
-
-/// Whether they are planned with memory from a heap of so many blocks.
-fn is_planned_by(rt: &impl Abort, alloc: Global, blocks: usize) -> Result<bool, Fail> {
-    let heap = heap_of(alloc, blocks)?;
-    is_planned(rt, &heap, alloc)
+    expect_of(&rt, is_served, &BLOCKS);
 }
 
 /// A push where a heap is full, and one where it has memory again.
 #[test]
-fn a_plan_is_as_it_was_and_goes_on_with_memory(rt: HostRuntime) -> Result<(), Fail> {
+fn a_plan_is_as_it_was_and_goes_on_with_memory(rt: HostRuntime) {
     let mut refused = 0u32;
     for count in 0..64usize {
-        if is_refused_once(&rt, rt.alloc(), count)? {
+        if is_refused_once(&rt, rt.alloc(), count) {
             refused = refused.saturating_add(1);
         }
     }
-    expect_true(&rt, refused >= 4, &refused);
-    Ok(())
+    expect_of(&rt, refused >= 4, &refused);
 }
 
 /// Whether a plan of so many pieces is refused the memory for a step more, on a full heap. In the end it has that step.
-fn is_refused_once(rt: &impl Abort, alloc: Global, count: usize) -> Result<bool, Fail> {
-    let heap = heap_of(alloc, 1_024)?;
-    let mut plan = pieces(&heap, count)?;
-    let ballast = fill(alloc, &heap)?;
-    let is_refused = is_pushed_again(rt, &mut plan, count, ballast)?;
-    let first = plan.steps().strip_suffix(&[LAST]);
-    expect_true(
-        rt,
-        first.is_some_and(|steps| are_pieces(steps, count)),
-        &count,
-    );
-    Ok(is_refused)
+fn is_refused_once(rt: &impl Abort, alloc: Global, count: usize) -> bool {
+    let heap = heap_of(rt, alloc, 1_024);
+    let mut plan = pieces(rt, &heap, count);
+    let ballast = fill(rt, alloc, &heap);
+    let is_refused = is_pushed_again(rt, &mut plan, count, ballast);
+    expect_of(rt, are_pieces_and_last(plan.steps(), count), &count);
+    is_refused
 }
 
 /// A piece of so many bytes.
@@ -244,12 +235,17 @@ fn piece(len: u64) -> Step {
 }
 
 /// A plan of so many pieces, one of no byte and each other of a byte more, with memory from this heap.
-fn pieces<A: Allocator>(heap: A, count: usize) -> Result<Plan<A>, Fail> {
+fn pieces<A: Allocator>(rt: &impl Abort, heap: A, count: usize) -> Plan<A> {
     let mut plan = Plan::new(heap);
     for len in 0..count as u64 {
-        plan.push(piece(len))?;
+        push_step(rt, &mut plan, piece(len));
     }
-    Ok(plan)
+    plan
+}
+
+/// Appends a step.
+fn push_step<A: Allocator>(rt: &impl Abort, plan: &mut Plan<A>, step: Step) {
+    plan.push(step).expect(rt, "memory");
 }
 
 /// Whether these are the steps of that plan.
@@ -262,6 +258,14 @@ fn are_pieces(steps: &[Step], count: usize) -> bool {
     steps.len() == count
 }
 
+/// Whether these are the steps of that plan, and the step behind them.
+fn are_pieces_and_last(steps: &[Step], count: usize) -> bool {
+    match steps.strip_suffix(&[LAST]) {
+        Some(first) => are_pieces(first, count),
+        None => false,
+    }
+}
+
 /// Pushes a step behind so many pieces, and again without the ballast where memory was refused: whether it was. The
 /// plan is as it was then.
 fn is_pushed_again<A: Allocator, B: Drop>(
@@ -269,13 +273,13 @@ fn is_pushed_again<A: Allocator, B: Drop>(
     plan: &mut Plan<A>,
     count: usize,
     ballast: B,
-) -> Result<bool, Fail> {
+) -> bool {
     let Err(stop) = plan.push(LAST) else {
-        return Ok(false);
+        return false;
     };
-    expect_true(rt, stop == Stop::Memory, &count);
-    expect_true(rt, are_pieces(plan.steps(), count), &count);
+    expect_of(rt, stop == Stop::Memory, &count);
+    expect_of(rt, are_pieces(plan.steps(), count), &count);
     drop(ballast);
-    plan.push(LAST)?;
-    Ok(true)
+    push_step(rt, plan, LAST);
+    true
 }

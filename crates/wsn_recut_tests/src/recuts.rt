@@ -1,14 +1,13 @@
 //! Recuts by a plan that fits: what is written.
 
-use crate::expecting::{expect_line, expect_recut, expect_true};
+use crate::expecting::{expect_answer, expect_recut, expect_recut_at, plan_read};
 use std::alloc::Global;
 use std::process::Abort;
-use std::test::Fail;
 use wsn_doubles::engines::recut_by;
-use wsn_doubles::lines::recut_line;
+use wsn_doubles::expecting::expect_of;
 use wsn_doubles::readers::{Chopped, READS};
 use wsn_doubles::rows::{ANY_LENGTHS, GREATEST, Stream, Under, filled, limits_under, stream_named};
-use wsn_plan::{Plan, read_plan};
+use wsn_plan::Plan;
 use wsn_wire::Role;
 
 /// A stream, a plan for it, and what comes of the two.
@@ -130,52 +129,43 @@ pub static FITS: [Cut; 12] = [
 ];
 
 /// Fails unless a stream is cut so, by whatever reads it comes.
-pub fn expect_cut(rt: &impl Abort, alloc: Global, cut: &Cut) -> Result<(), Fail> {
-    let plan = read_plan(alloc, cut.plan.as_bytes())?;
+pub fn expect_cut(rt: &impl Abort, alloc: Global, cut: &Cut) {
+    let plan = plan_read(rt, alloc, cut.plan.as_bytes());
     for most in READS {
-        expect_cut_by(rt, alloc, cut, &plan, most)?;
+        expect_cut_by(rt, alloc, cut, &plan, most);
     }
-    Ok(())
 }
 
 /// Fails unless a stream is cut so by this plan, by reads of at most so many bytes.
-fn expect_cut_by(
-    rt: &impl Abort,
-    alloc: Global,
-    cut: &Cut,
-    plan: &Plan,
-    most: usize,
-) -> Result<(), Fail> {
-    let limits = limits_under(&cut.under)?;
+fn expect_cut_by(rt: &impl Abort, alloc: Global, cut: &Cut, plan: &Plan, most: usize) {
+    let limits = limits_under(rt, &cut.under);
     let mut out = Vec::new(alloc);
     let reader = Chopped::new(cut.bytes, most);
     let answer = recut_by(alloc, cut.role, limits, plan, reader, &mut out);
     let found = (&answer, out.as_slice());
-    expect_recut(rt, alloc, found, (cut.line, cut.out), &(cut, most))
+    expect_recut_at(rt, alloc, found, (cut.line, cut.out), cut, most);
 }
 
 #[test]
-fn a_plan_that_fits_is_kept_to(rt: HostRuntime) -> Result<(), Fail> {
+fn a_plan_that_fits_is_kept_to(rt: HostRuntime) {
     for cut in FITS.iter() {
-        expect_cut(&rt, rt.alloc(), cut)?;
+        expect_cut(&rt, rt.alloc(), cut);
     }
-    Ok(())
 }
 
 /// The head of a message of 126 bytes that are cut in one frame, and how they are.
 #[test]
-fn a_length_of_two_bytes_is_spelled_in_eight_alone(rt: HostRuntime) -> Result<(), Fail> {
+fn a_length_of_two_bytes_is_spelled_in_eight_alone(rt: HostRuntime) {
     let alloc = rt.alloc();
-    let bytes = filled(alloc, b"\x82\x7e\x00\x7e", 0x2a, 126)?;
-    let eight = filled(alloc, b"\x82\x7f\0\0\0\0\0\0\0\x7e", 0x2a, 126)?;
+    let bytes = filled(&rt, alloc, b"\x82\x7e\x00\x7e", 0x2a, 126);
+    let eight = filled(&rt, alloc, b"\x82\x7f\0\0\0\0\0\0\0\x7e", 0x2a, 126);
     for (text, line, wanted) in [
         ("last - two", "fault 0 wrong-form", &[] as &[u8]),
         ("last - eight", "done", eight.as_slice()),
         ("last -", "done", bytes.as_slice()),
     ] {
-        expect_cut_in_any_length(&rt, alloc, bytes.as_slice(), text, (line, wanted))?;
+        expect_cut_in_any_length(&rt, alloc, bytes.as_slice(), text, (line, wanted));
     }
-    Ok(())
 }
 
 /// Fails unless a server's stream, with lengths in any spelling, is cut so by the plan of this text.
@@ -185,39 +175,30 @@ fn expect_cut_in_any_length(
     bytes: &[u8],
     text: &str,
     wanted: (&str, &[u8]),
-) -> Result<(), Fail> {
-    let plan = read_plan(alloc, text.as_bytes())?;
-    let limits = limits_under(&ANY_LENGTHS)?;
+) {
+    let plan = plan_read(rt, alloc, text.as_bytes());
+    let limits = limits_under(rt, &ANY_LENGTHS);
     let mut out = Vec::new(alloc);
     let reader = Chopped::new(bytes, usize::MAX);
     let answer = recut_by(alloc, Role::Server, limits, &plan, reader, &mut out);
-    expect_recut(rt, alloc, (&answer, out.as_slice()), wanted, &text)
+    expect_recut(rt, alloc, (&answer, out.as_slice()), wanted, &text);
 }
 
 #[test]
-fn fragments_of_65_535_bytes_and_of_one_come_back(rt: HostRuntime) -> Result<(), Fail> {
+fn fragments_of_65_535_bytes_and_of_one_come_back(rt: HostRuntime) {
     let alloc = rt.alloc();
-    let stream = stream_named(alloc, "fragments of 65,535 bytes and of one")?;
-    let plan = read_plan(alloc, b"piece 65535 -\nlast -\n")?;
+    let stream = stream_named(&rt, alloc, "fragments of 65,535 bytes and of one");
+    let plan = plan_read(&rt, alloc, b"piece 65535 -\nlast -\n");
     for most in READS {
-        expect_back(&rt, alloc, &stream, &plan, most)?;
+        expect_back(&rt, alloc, &stream, &plan, most);
     }
-    Ok(())
 }
 
 /// Fails unless a stream comes back from its normal form by this plan, by reads of at most so many bytes.
-fn expect_back(
-    rt: &impl Abort,
-    alloc: Global,
-    stream: &Stream,
-    plan: &Plan,
-    most: usize,
-) -> Result<(), Fail> {
+fn expect_back(rt: &impl Abort, alloc: Global, stream: &Stream, plan: &Plan, most: usize) {
     let mut out = Vec::new(alloc);
     let reader = Chopped::new(stream.normal.as_slice(), most);
     let answer = recut_by(alloc, stream.role, stream.limits, plan, reader, &mut out);
-    expect_true(rt, out.as_slice() == stream.bytes.as_slice(), &most);
-    let line = recut_line(alloc, &answer)?;
-    expect_line(rt, line.as_str(), "done", &most);
-    Ok(())
+    expect_of(rt, out.as_slice() == stream.bytes.as_slice(), &most);
+    expect_answer(rt, alloc, &answer, "done", &most);
 }

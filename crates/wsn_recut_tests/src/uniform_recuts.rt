@@ -1,19 +1,18 @@
 //! Recuts in frames of one size: the plans of events that are written out, what is written by them, and that it means
 //! what the stream does.
 
-use crate::expecting::{expect_bytes, expect_line, expect_recut};
+use crate::expecting::{expect_answer, expect_equal, expect_recut_at, plan_written, push_event};
 use crate::recuts::NINE_MESSAGES;
 use std::alloc::Global;
 use std::process::Abort;
-use std::test::Fail;
 use wsn_canon::Event;
 use wsn_doubles::engines::{Sizes, compared, recut_uniformly};
+use wsn_doubles::expecting::expect_bytes_of;
 use wsn_doubles::limits::TWO_FRAMES;
-use wsn_doubles::lines::{compared_line, recut_line};
 use wsn_doubles::readers::{Chopped, READS};
 use wsn_doubles::rows::{GREATEST, Stream, Under, limits_under, streams};
-use wsn_plan::{uniform, write_plan};
-use wsn_wire::{Kind, Output, Role};
+use wsn_plan::uniform;
+use wsn_wire::{Kind, Role};
 
 /// A size, whether to weave, and the text of the plan of a server's ping and "Hello" by them.
 static PLANS: [(u32, bool, &str); 4] = [
@@ -24,37 +23,29 @@ static PLANS: [(u32, bool, &str); 4] = [
 ];
 
 #[test]
-fn a_ping_and_hello_are_planned(rt: HostRuntime) -> Result<(), Fail> {
+fn a_ping_and_hello_are_planned(rt: HostRuntime) {
     let alloc = rt.alloc();
-    let events = ping_and_hello(alloc)?;
+    let events = ping_and_hello(&rt, alloc);
     for (size, weave, text) in PLANS {
-        expect_plan(&rt, alloc, events.as_slice(), Sizes { size, weave }, text)?;
+        expect_plan(&rt, alloc, events.as_slice(), Sizes { size, weave }, text);
     }
-    Ok(())
 }
 
 /// A ping and "Hello".
-fn ping_and_hello(alloc: Global) -> Result<Vec<Event>, Fail> {
+fn ping_and_hello(rt: &impl Abort, alloc: Global) -> Vec<Event> {
+    let hello = b"Hello".to_vec(alloc).expect(rt, "memory");
     let mut events: Vec<Event> = Vec::new(alloc);
-    events.push(Event::Ping(Default::default()))?;
-    events.push(Event::Message(Kind::Text, b"Hello".to_vec(alloc)?))?;
-    Ok(events)
+    push_event(rt, &mut events, Event::Ping(Default::default()));
+    push_event(rt, &mut events, Event::Message(Kind::Text, hello));
+    events
 }
 
 /// Fails unless this is the text of the plan of a server's events.
-fn expect_plan(
-    rt: &impl Abort,
-    alloc: Global,
-    events: &[Event],
-    sizes: Sizes,
-    text: &str,
-) -> Result<(), Fail> {
+fn expect_plan(rt: &impl Abort, alloc: Global, events: &[Event], sizes: Sizes, text: &str) {
     let size = sizes.size.max(1);
-    let plan = uniform(alloc, events, Role::Server, size, sizes.weave, None)?;
-    let mut out = Vec::new(alloc);
-    write_plan(&mut Output::new(&mut out), &plan)?;
-    expect_bytes(rt, out.as_slice(), text.as_bytes(), &sizes);
-    Ok(())
+    let plan = uniform(alloc, events, Role::Server, size, sizes.weave, None).expect(rt, "memory");
+    let written = plan_written(rt, alloc, &plan);
+    expect_bytes_of(rt, written.as_slice(), text.as_bytes(), &sizes);
 }
 
 /// A stream that is cut in frames of one size, and what comes of it.
@@ -139,43 +130,31 @@ pub static CUTS: [SizedCut; 7] = [
 ];
 
 #[test]
-fn streams_are_cut_in_frames_of_one_size(rt: HostRuntime) -> Result<(), Fail> {
+fn streams_are_cut_in_frames_of_one_size(rt: HostRuntime) {
     for cut in CUTS.iter() {
         for most in READS {
-            expect_cut(&rt, rt.alloc(), cut, most)?;
+            expect_cut(&rt, rt.alloc(), cut, most);
         }
     }
-    Ok(())
 }
 
 /// Fails unless a stream is cut so, by reads of at most so many bytes.
-fn expect_cut(rt: &impl Abort, alloc: Global, cut: &SizedCut, most: usize) -> Result<(), Fail> {
-    let limits = limits_under(&cut.under)?;
+fn expect_cut(rt: &impl Abort, alloc: Global, cut: &SizedCut, most: usize) {
+    let limits = limits_under(rt, &cut.under);
     let mut out = Vec::new(alloc);
     let reader = Chopped::new(cut.bytes, most);
     let answer = recut_uniformly(alloc, cut.role, limits, cut.sizes, reader, &mut out);
     let found = (&answer, out.as_slice());
-    expect_recut(rt, alloc, found, (cut.line, cut.out), &(cut, most))
-}
-
-/// A stream in frames of one size.
-fn cut_again(
-    rt: &impl Abort,
-    alloc: Global,
-    stream: &Stream,
-    sizes: Sizes,
-) -> Result<Vec<u8>, Fail> {
-    let mut out = Vec::new(alloc);
-    let reader = Chopped::new(stream.bytes.as_slice(), usize::MAX);
-    let answer = recut_uniformly(alloc, stream.role, stream.limits, sizes, reader, &mut out);
-    let line = recut_line(alloc, &answer)?;
-    expect_line(rt, line.as_str(), "done", &(stream.name, sizes));
-    Ok(out)
+    expect_recut_at(rt, alloc, found, (cut.line, cut.out), cut, most);
 }
 
 /// Fails unless the stream means the same in frames of one size.
-fn expect_equal(rt: &impl Abort, alloc: Global, stream: &Stream, sizes: Sizes) -> Result<(), Fail> {
-    let out = cut_again(rt, alloc, stream, sizes)?;
+fn expect_same(rt: &impl Abort, alloc: Global, stream: &Stream, sizes: Sizes) {
+    let of = (stream.name, sizes);
+    let mut out = Vec::new(alloc);
+    let reader = Chopped::new(stream.bytes.as_slice(), usize::MAX);
+    let answer = recut_uniformly(alloc, stream.role, stream.limits, sizes, reader, &mut out);
+    expect_answer(rt, alloc, &answer, "done", &of);
     let answer = compared(
         alloc,
         Chopped::new(stream.bytes.as_slice(), usize::MAX),
@@ -183,27 +162,23 @@ fn expect_equal(rt: &impl Abort, alloc: Global, stream: &Stream, sizes: Sizes) -
         stream.role,
         stream.limits,
     );
-    let line = compared_line(alloc, &answer)?;
-    expect_line(rt, line.as_str(), "equal", &(stream.name, sizes));
-    Ok(())
+    expect_equal(rt, alloc, &answer, &of);
 }
 
 #[test]
-fn what_is_accepted_means_the_same_once_it_is_cut(rt: HostRuntime) -> Result<(), Fail> {
-    for stream in streams(rt.alloc())?.iter() {
+fn what_is_accepted_means_the_same_once_it_is_cut(rt: HostRuntime) {
+    for stream in streams(&rt, rt.alloc()).iter() {
         if stream.is_accepted() && stream.limits.frames().is_none() {
-            expect_equal_by_sizes(&rt, rt.alloc(), stream)?;
+            expect_same_by_sizes(&rt, rt.alloc(), stream);
         }
     }
-    Ok(())
 }
 
 /// Fails unless the stream means the same in frames of each size.
-fn expect_equal_by_sizes(rt: &impl Abort, alloc: Global, stream: &Stream) -> Result<(), Fail> {
+fn expect_same_by_sizes(rt: &impl Abort, alloc: Global, stream: &Stream) {
     for size in [1, 2, 125] {
         for weave in [false, true] {
-            expect_equal(rt, alloc, stream, Sizes { size, weave })?;
+            expect_same(rt, alloc, stream, Sizes { size, weave });
         }
     }
-    Ok(())
 }

@@ -1,6 +1,7 @@
 //! Which codes a Close may carry: every one.
 
 use std::process::Abort;
+use wsn_doubles::expecting::{expect, expect_of};
 use wsn_text::code_allowed;
 
 /// The first and the last code of each row, and whether a Close may carry them.
@@ -18,7 +19,7 @@ const CODES: [(u16, u16, bool); 8] = [
 /// Fails unless each code from the first to the last is allowed, or none is.
 fn expect_codes(rt: &impl Abort, first: u16, last: u16, allowed: bool) {
     for code in first..=last {
-        assert_eq!(rt; code_allowed(code), allowed, "{code}");
+        expect_of(rt, code_allowed(code) == allowed, &code);
     }
 }
 
@@ -26,9 +27,9 @@ fn expect_codes(rt: &impl Abort, first: u16, last: u16, allowed: bool) {
 fn every_code(rt: HostRuntime) {
     let mut next = 0;
     for (first, last, allowed) in CODES {
-        assert!(rt; u32::from(first) == next);
+        expect(&rt, u32::from(first) == next);
         expect_codes(&rt, first, last, allowed);
         next = u32::from(last) + 1;
     }
-    assert!(rt; next == 65_536);
+    expect(&rt, next == 65_536);
 }

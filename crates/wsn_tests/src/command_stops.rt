@@ -2,10 +2,9 @@
 //! one line tells the failure, and the status is 2.
 ghost use Rattle.wsn_job.specs.Jobs.{MayRun};
 
-use crate::expecting::expect_outcome;
 use std::alloc::Global;
 use std::process::Abort;
-use std::test::Fail;
+use wsn_doubles::expecting::{expect_count, expect_outcome, front_of};
 use wsn_doubles::lines::listing;
 use wsn_doubles::outcomes::{compared_on, outcome_on};
 use wsn_doubles::readers::{Chopped, READS};
@@ -14,8 +13,8 @@ use wsn_doubles::writers::{FULL, Full, Narrow};
 use wsn_job::Job;
 
 /// The stream: "Hello" in fragments of three bytes and of two, and a ping between them.
-fn fragments(alloc: Global) -> Result<Stream, Fail> {
-    stream_named(alloc, "Hello in two fragments, and a ping between them")
+fn fragments(rt: &impl Abort, alloc: Global) -> Stream {
+    stream_named(rt, alloc, "Hello in two fragments, and a ping between them")
 }
 
 /// What a command writes of a stream, and how many bytes of that are due where it has read none of the stream's bytes,
@@ -43,25 +42,19 @@ fn expect_failed_read(rt: &impl Abort, alloc: Global, job: &Job, front: &[u8], o
     for most in READS {
         let reader = Chopped::breaking(front, most);
         let done = outcome_on(alloc, alloc, job, reader, Narrow::wide(alloc));
-        expect_outcome(rt, &done, 2, out, b"read failed\n");
+        expect_outcome(rt, &done, 2, out, "read failed");
     }
 }
 
-fn expect_failed_reads(
-    rt: &impl Abort,
-    alloc: Global,
-    job: &Job,
-    wanted: &Wanted,
-) -> Result<(), Fail>
+fn expect_failed_reads(rt: &impl Abort, alloc: Global, job: &Job, wanted: &Wanted)
     requires { MayRun job.now }
 {
-    assert!(rt; wanted.due.len() == wanted.stream.bytes.len() + 1);
+    expect_count(rt, wanted.due.len(), wanted.stream.bytes.len() + 1);
     for (count, due) in wanted.due.iter().enumerate() {
-        let front = wanted.stream.bytes.get(..count).ok_or("no such front")?;
-        let out = wanted.out.get(..*due).ok_or("more than it writes")?;
+        let front = front_of(rt, wanted.stream.bytes.as_slice(), count);
+        let out = front_of(rt, wanted.out, *due);
         expect_failed_read(rt, alloc, job, front, out);
     }
-    Ok(())
 }
 
 /// Fails unless a command tells that its writer fails behind each byte, where it takes so many a call and is full in
@@ -80,7 +73,7 @@ fn expect_failed_write(
         let reader = Chopped::new(wanted.stream.bytes.as_slice(), 3);
         let writer = Narrow::new(alloc, most, room, full);
         let done = outcome_on(alloc, alloc, job, reader, writer);
-        expect_outcome(rt, &done, 2, &wanted.out[..room], b"write failed\n");
+        expect_outcome(rt, &done, 2, &wanted.out[..room], "write failed");
     }
 }
 
@@ -100,56 +93,55 @@ fn expect_written_by_one(rt: &impl Abort, alloc: Global, job: &Job, wanted: &Wan
     let reader = Chopped::new(wanted.stream.bytes.as_slice(), usize::MAX);
     let writer = Narrow::new(alloc, 1, usize::MAX, Full::Fails);
     let done = outcome_on(alloc, alloc, job, reader, writer);
-    expect_outcome(rt, &done, 0, wanted.out, &[]);
+    expect_outcome(rt, &done, 0, wanted.out, "");
 }
 
-fn expect_stops(rt: &impl Abort, alloc: Global, job: &Job, wanted: &Wanted) -> Result<(), Fail>
+fn expect_stops(rt: &impl Abort, alloc: Global, job: &Job, wanted: &Wanted)
     requires { MayRun job.now }
 {
-    expect_failed_reads(rt, alloc, job, wanted)?;
+    expect_failed_reads(rt, alloc, job, wanted);
     expect_failed_writes(rt, alloc, job, wanted);
     expect_written_by_one(rt, alloc, job, wanted);
-    Ok(())
 }
 
 #[test]
-fn judge_is_stopped(rt: HostRuntime) -> Result<(), Fail> {
+fn judge_is_stopped(rt: HostRuntime) {
     let alloc = rt.alloc();
-    let stream = fragments(alloc)?;
+    let stream = fragments(&rt, alloc);
     let wanted = Wanted {
         stream: &stream,
         out: b"accepted 11 tail 0 unfinished -\n",
         due: &JUDGED,
     };
     let job = Job::Judge(stream.role, stream.limits);
-    expect_stops(&rt, alloc, &job, &wanted)
+    expect_stops(&rt, alloc, &job, &wanted);
 }
 
 #[test]
-fn frames_is_stopped(rt: HostRuntime) -> Result<(), Fail> {
+fn frames_is_stopped(rt: HostRuntime) {
     let alloc = rt.alloc();
-    let stream = fragments(alloc)?;
-    let lines = listing(alloc, &stream)?;
+    let stream = fragments(&rt, alloc);
+    let lines = listing(&rt, alloc, &stream);
     let wanted = Wanted {
         stream: &stream,
         out: lines.as_bytes(),
         due: &LISTED,
     };
     let job = Job::Frames(stream.role, stream.limits);
-    expect_stops(&rt, alloc, &job, &wanted)
+    expect_stops(&rt, alloc, &job, &wanted);
 }
 
 #[test]
-fn normal_is_stopped(rt: HostRuntime) -> Result<(), Fail> {
+fn normal_is_stopped(rt: HostRuntime) {
     let alloc = rt.alloc();
-    let stream = fragments(alloc)?;
+    let stream = fragments(&rt, alloc);
     let wanted = Wanted {
         stream: &stream,
         out: stream.normal.as_slice(),
         due: &NORMALISED,
     };
     let job = Job::Normal(stream.role, stream.limits);
-    expect_stops(&rt, alloc, &job, &wanted)
+    expect_stops(&rt, alloc, &job, &wanted);
 }
 
 /// Fails unless `same` tells that a reader fails behind so many bytes, be it the first or the second.
@@ -159,8 +151,8 @@ fn expect_stopped_by_a_read(
     stream: &Stream,
     front: &[u8],
     most: usize,
-) -> Result<(), Fail> {
-    let limits = greatest()?;
+) {
+    let limits = greatest();
     for is_first in [true, false] {
         let failing = Chopped::breaking(front, most);
         let whole = Chopped::new(stream.normal.as_slice(), most);
@@ -170,23 +162,21 @@ fn expect_stopped_by_a_read(
             (whole, failing)
         };
         let done = compared_on(alloc, alloc, limits, first, second, Narrow::wide(alloc));
-        expect_outcome(rt, &done, 2, &[], b"read failed\n");
+        expect_outcome(rt, &done, 2, &[], "read failed");
     }
-    Ok(())
 }
 
 /// Of `same` either reader may fail.
 #[test]
-fn same_is_stopped_by_a_failed_read(rt: HostRuntime) -> Result<(), Fail> {
+fn same_is_stopped_by_a_failed_read(rt: HostRuntime) {
     let alloc = rt.alloc();
-    let stream = fragments(alloc)?;
+    let stream = fragments(&rt, alloc);
     for count in 0..=stream.bytes.len() {
         for most in READS {
             let front = &stream.bytes[..count];
-            expect_stopped_by_a_read(&rt, alloc, &stream, front, most)?;
+            expect_stopped_by_a_read(&rt, alloc, &stream, front, most);
         }
     }
-    Ok(())
 }
 
 /// Fails unless `same` tells that its writer fails behind so many bytes, if these aren't all of its line.
@@ -196,28 +186,26 @@ fn expect_stopped_by_a_write(
     stream: &Stream,
     room: usize,
     full: Full,
-) -> Result<(), Fail> {
+) {
     let line = b"equal\n";
-    let limits = greatest()?;
+    let limits = greatest();
     let first = Chopped::new(stream.bytes.as_slice(), usize::MAX);
     let second = Chopped::new(stream.normal.as_slice(), usize::MAX);
     let writer = Narrow::new(alloc, 1, room, full);
     let done = compared_on(alloc, alloc, limits, first, second, writer);
     if room < line.len() {
-        expect_outcome(rt, &done, 2, &line[..room], b"write failed\n");
+        expect_outcome(rt, &done, 2, &line[..room], "write failed");
     } else {
-        expect_outcome(rt, &done, 0, line, &[]);
+        expect_outcome(rt, &done, 0, line, "");
     }
-    Ok(())
 }
 
 #[test]
-fn same_is_stopped_by_a_failed_write(rt: HostRuntime) -> Result<(), Fail> {
-    let stream = fragments(rt.alloc())?;
+fn same_is_stopped_by_a_failed_write(rt: HostRuntime) {
+    let stream = fragments(&rt, rt.alloc());
     for full in FULL {
         for room in 0..=b"equal\n".len() {
-            expect_stopped_by_a_write(&rt, rt.alloc(), &stream, room, full)?;
+            expect_stopped_by_a_write(&rt, rt.alloc(), &stream, room, full);
         }
     }
-    Ok(())
 }

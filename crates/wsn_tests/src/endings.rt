@@ -1,72 +1,63 @@
 //! How a stream may end: cut short behind each byte, with more behind a refusal, and not at all.
 
 use crate::every_way::expect_stream;
-use crate::expecting::{Reading, expect_answer, expect_bytes};
+use crate::expecting::{Reading, expect_answer};
 use std::alloc::Global;
 use std::process::Abort;
-use std::test::Fail;
 use wsn_canon::normalise;
 use wsn_doubles::engines::judged;
-use wsn_doubles::lines::answer_line;
+use wsn_doubles::expecting::{expect, expect_bytes, expect_count, expect_of, front_of};
+use wsn_doubles::lines::{answer_line, frame_line};
 use wsn_doubles::readers::{Chopped, Endless, READS};
-use wsn_doubles::rows::{Stream, greatest, stream_named, streams};
-use wsn_scan::{Limits, MESSAGE_MAX, Stop, Verdict, judge, list};
-use wsn_wire::{Input, Output, Role};
+use wsn_doubles::rows::{Stream, copied, extend, greatest, limits_of, stream_named, streams};
+use wsn_scan::{HeadInfo, Limits, MESSAGE_MAX, Stop, Verdict, judge, list};
+use wsn_wire::{Form, Input, Op, Output, Role};
 
 /// Fails unless the line is that of the stream's verdict, or, where so few bytes don't tell that, of one that is open.
-fn expect_told(
-    rt: &impl Abort,
-    stream: &Stream,
-    line: &str,
-    reading: &Reading,
-) -> Result<(), Fail> {
-    if stream.is_told_by(reading.count)? {
+fn expect_told(rt: &impl Abort, stream: &Stream, line: &str, reading: &Reading) {
+    if stream.is_told_by(reading.count) {
         reading.expect_line(rt, line, stream.verdict);
     } else {
         let is_open = line.starts_with("accepted") || line.starts_with("cut");
         reading.expect(rt, is_open, "neither accepted nor cut");
     }
-    Ok(())
 }
 
 /// What `judge` tells of the first bytes of a stream, by reads of each size.
-fn expect_front(rt: &impl Abort, alloc: Global, stream: &Stream, front: &[u8]) -> Result<(), Fail> {
+fn expect_front(rt: &impl Abort, alloc: Global, stream: &Stream, front: &[u8]) {
     for most in READS {
         let answer = judged(stream, Chopped::new(front, most));
-        let line = answer_line(alloc, &answer)?;
+        let line = answer_line(rt, alloc, &answer);
         let reading = Reading {
             name: stream.name,
             how: "judged",
             count: front.len(),
             most,
         };
-        expect_told(rt, stream, line.as_str(), &reading)?;
+        expect_told(rt, stream, line.as_str(), &reading);
     }
-    Ok(())
 }
 
 #[test]
 fn the_first_200_fronts_and_the_last_are_accepted_or_cut_until_they_tell_the_answer(
     rt: HostRuntime,
-) -> Result<(), Fail> {
+) {
     let alloc = rt.alloc();
-    for stream in streams(alloc)?.iter() {
-        for front in stream.fronts(alloc)? {
-            expect_front(&rt, alloc, stream, front)?;
+    for stream in streams(&rt, alloc).iter() {
+        for front in stream.fronts(&rt, alloc) {
+            expect_front(&rt, alloc, stream, front);
         }
     }
-    Ok(())
 }
 
 #[test]
-fn every_front_of_a_long_message_is_cut(rt: HostRuntime) -> Result<(), Fail> {
-    let stream = stream_named(rt.alloc(), "a binary message of 65,536 bytes")?;
+fn every_front_of_a_long_message_is_cut(rt: HostRuntime) {
+    let stream = stream_named(&rt, rt.alloc(), "a binary message of 65,536 bytes");
     for count in 1..stream.bytes.len() {
         let answer = judged(&stream, Chopped::new(&stream.bytes[..count], usize::MAX));
         let is_cut = matches!(&answer, Ok(Verdict::Cut(front)) if front.used == count as u64);
-        assert!(rt; is_cut, "{count} bytes");
+        expect_of(&rt, is_cut, &count);
     }
-    Ok(())
 }
 
 /// A server's streams, and the line of the verdict on as many of their bytes as its place in the list says.
@@ -107,39 +98,36 @@ static FRONTS: [(&[u8], &[&str]); 3] = [
 ];
 
 /// Fails unless this is the line of the verdict on a server's stream.
-fn expect_verdict(rt: &impl Abort, alloc: Global, bytes: &[u8], line: &str) -> Result<(), Fail> {
+fn expect_verdict(rt: &impl Abort, alloc: Global, bytes: &[u8], line: &str) {
     let mut reader = Chopped::new(bytes, 1);
-    let answer = judge(&mut Input::new(&mut reader), Role::Server, greatest()?);
-    expect_answer(rt, alloc, &answer, line)
+    let answer = judge(&mut Input::new(&mut reader), Role::Server, greatest());
+    expect_answer(rt, alloc, &answer, line);
 }
 
 #[test]
-fn verdicts_behind_each_byte(rt: HostRuntime) -> Result<(), Fail> {
+fn verdicts_behind_each_byte(rt: HostRuntime) {
     for (bytes, lines) in FRONTS.iter() {
-        assert!(rt; lines.len() == bytes.len() + 1);
+        expect_count(&rt, lines.len(), bytes.len() + 1);
         for (count, line) in lines.iter().enumerate() {
-            let front = bytes.get(..count).ok_or("no such front")?;
-            expect_verdict(&rt, rt.alloc(), front, line)?;
+            let front = front_of(&rt, bytes, count);
+            expect_verdict(&rt, rt.alloc(), front, line);
         }
     }
-    Ok(())
 }
 
 /// A refused stream is read alike in every way with more bytes behind it.
-fn expect_more_behind(rt: &impl Abort, alloc: Global, stream: &mut Stream) -> Result<(), Fail> {
+fn expect_more_behind(rt: &impl Abort, alloc: Global, stream: &mut Stream) {
     if stream.verdict.starts_with("refused") {
-        stream.bytes.extend_from_slice(&[0x00, 0xff, 0x81])?;
-        expect_stream(rt, alloc, stream)?;
+        extend(rt, &mut stream.bytes, &[0x00, 0xff, 0x81]);
+        expect_stream(rt, alloc, stream);
     }
-    Ok(())
 }
 
 #[test]
-fn what_stands_behind_a_refusal_changes_nothing(rt: HostRuntime) -> Result<(), Fail> {
-    for stream in streams(rt.alloc())?.iter_mut() {
-        expect_more_behind(&rt, rt.alloc(), stream)?;
+fn what_stands_behind_a_refusal_changes_nothing(rt: HostRuntime) {
+    for stream in streams(&rt, rt.alloc()).iter_mut() {
+        expect_more_behind(&rt, rt.alloc(), stream);
     }
-    Ok(())
 }
 
 /// A server's stream that never ends: some bytes, and then others over and over. At its input limit the lines are these
@@ -149,7 +137,7 @@ struct Unending {
     first: &'static [u8],
     again: &'static [u8],
     limits: Limits,
-    lines: String,
+    lines: Vec<u8>,
     normal: Vec<u8>,
 }
 
@@ -160,8 +148,11 @@ impl Unending {
 
     /// An engine ends at the limit, and has taken one byte more at most.
     fn expect_limit(&self, rt: &impl Abort, answer: &Result<Verdict, Stop>, reader: &Endless) {
-        assert!(rt; matches!(answer, Err(Stop::InputLimit)));
-        assert!(rt; reader.given as u64 <= self.limits.input().saturating_add(1));
+        expect(rt, matches!(answer, Err(Stop::InputLimit)));
+        expect(
+            rt,
+            reader.given as u64 <= self.limits.input().saturating_add(1),
+        );
     }
 
     fn expect_judged(&self, rt: &impl Abort) {
@@ -180,7 +171,7 @@ impl Unending {
             self.limits,
         );
         self.expect_limit(rt, &answer, &reader);
-        expect_bytes(rt, text.as_slice(), self.lines.as_bytes());
+        expect_bytes(rt, text.as_slice(), self.lines.as_slice());
     }
 
     fn expect_normalised(&self, rt: &impl Abort, alloc: Global) {
@@ -205,21 +196,27 @@ impl Unending {
 }
 
 /// The lines of 500 pings.
-fn lines_of_pings(alloc: Global) -> Result<String, Fail> {
-    let mut lines = String::new(alloc);
-    for i in 0..500u64 {
-        let place = 2 * i;
-        let line = format!(in alloc; "{place} fin ping - 0\n")?;
-        lines.push_str(line.as_str())?;
+fn lines_of_pings(rt: &impl Abort, alloc: Global) -> Vec<u8> {
+    let mut lines = Vec::new(alloc);
+    for i in 0..500 {
+        let ping = HeadInfo {
+            place: 2 * i,
+            fin: true,
+            op: Op::Ping,
+            key: None,
+            len: 0,
+            form: Form::Shortest,
+        };
+        extend(rt, &mut lines, frame_line(rt, alloc, &ping).as_bytes());
     }
-    Ok(lines)
+    lines
 }
 
 #[test]
-fn endless_pings_end_at_the_input_limit(rt: HostRuntime) -> Result<(), Fail> {
-    let limits = Limits::new(MESSAGE_MAX, 1_001).ok_or("out of range")?;
-    let normal = [0x89, 0x00].repeat(rt.alloc(), 500)?;
-    let lines = lines_of_pings(rt.alloc())?;
+fn endless_pings_end_at_the_input_limit(rt: HostRuntime) {
+    let limits = limits_of(&rt, MESSAGE_MAX, 1_001);
+    let normal = [0x89, 0x00].repeat(rt.alloc(), 500).expect(&rt, "memory");
+    let lines = lines_of_pings(&rt, rt.alloc());
     let pings = Unending {
         first: &[],
         again: &[0x89, 0x00],
@@ -228,14 +225,13 @@ fn endless_pings_end_at_the_input_limit(rt: HostRuntime) -> Result<(), Fail> {
         normal,
     };
     pings.expect(&rt, rt.alloc());
-    Ok(())
 }
 
 #[test]
-fn an_endless_tail_ends_at_the_input_limit(rt: HostRuntime) -> Result<(), Fail> {
-    let limits = Limits::new(MESSAGE_MAX, 9).ok_or("out of range")?;
-    let normal = [0x88, 0x00].to_vec(rt.alloc())?;
-    let lines = String::from_str(rt.alloc(), "0 fin close - 0\n")?;
+fn an_endless_tail_ends_at_the_input_limit(rt: HostRuntime) {
+    let limits = limits_of(&rt, MESSAGE_MAX, 9);
+    let normal = copied(&rt, rt.alloc(), &[0x88, 0x00]);
+    let lines = copied(&rt, rt.alloc(), b"0 fin close - 0\n");
     let close = Unending {
         first: &[0x88, 0x00],
         again: &[0x00],
@@ -244,5 +240,4 @@ fn an_endless_tail_ends_at_the_input_limit(rt: HostRuntime) -> Result<(), Fail> 
         normal,
     };
     close.expect(&rt, rt.alloc());
-    Ok(())
 }

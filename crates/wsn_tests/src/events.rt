@@ -1,70 +1,67 @@
 //! `put_event` and `is_lawful`: the examples of RFC 6455 section 5.7, each spelling of a length, a close, and a write
 //! that fails.
 
-use crate::expecting::expect_bytes;
 use std::alloc::Global;
 use std::process::Abort;
-use std::test::Fail;
 use wsn_canon::{Event, Small, is_lawful, put_event};
+use wsn_doubles::expecting::{expect, expect_bytes, expect_of};
+use wsn_doubles::rows::{copied, extend};
 use wsn_doubles::writers::{Full, Narrow};
 use wsn_scan::Stop;
 use wsn_wire::{Kind, Output, Role};
 
-fn message(alloc: Global, kind: Kind, bytes: &[u8]) -> Result<Event, Fail> {
-    let mut text = Vec::new(alloc);
-    text.extend_from_slice(bytes)?;
-    Ok(Event::Message(kind, text))
+fn message(rt: &impl Abort, alloc: Global, kind: Kind, bytes: &[u8]) -> Event {
+    Event::Message(kind, copied(rt, alloc, bytes))
 }
 
-fn small(bytes: &[u8]) -> Result<Small, Fail> {
-    Ok(Small::try_from(bytes).ok().ok_or("too long")?)
+fn small(rt: &impl Abort, bytes: &[u8]) -> Small {
+    Small::try_from(bytes)
+        .ok()
+        .expect(rt, "no more than 125 bytes")
 }
 
 /// Fails unless an event is lawful, and written to these bytes.
 fn expect_put(rt: &impl Abort, alloc: Global, role: Role, event: &Event, wanted: &[u8]) {
-    assert!(rt; is_lawful(event));
+    expect(rt, is_lawful(event));
     let mut writer = Narrow::wide(alloc);
     let put = put_event(&mut Output::new(&mut writer), role, event);
-    assert!(rt; put == Ok(()));
+    expect(rt, put == Ok(()));
     expect_bytes(rt, writer.taken.as_slice(), wanted);
 }
 
 /// A payload of so many bytes, of which none is like those beside it.
-fn payload_of(alloc: Global, size: usize) -> Result<Vec<u8>, Fail> {
+fn payload_of(rt: &impl Abort, alloc: Global, size: usize) -> Vec<u8> {
     let mut payload = Vec::new(alloc);
     for i in 0..size {
-        payload.push((i % 251) as u8)?;
+        extend(rt, &mut payload, &[(i % 251) as u8]);
     }
-    Ok(payload)
+    payload
 }
 
 /// A server's binary message of so many bytes is this head and its payload.
-fn expect_binary(rt: &impl Abort, alloc: Global, size: usize, head: &[u8]) -> Result<(), Fail> {
-    let payload = payload_of(alloc, size)?;
-    let mut wanted = head.to_vec(alloc)?;
-    wanted.extend_from_slice(payload.as_slice())?;
+fn expect_binary(rt: &impl Abort, alloc: Global, size: usize, head: &[u8]) {
+    let payload = payload_of(rt, alloc, size);
+    let mut wanted = copied(rt, alloc, head);
+    extend(rt, &mut wanted, payload.as_slice());
     let event = Event::Message(Kind::Binary, payload);
     expect_put(rt, alloc, Role::Server, &event, wanted.as_slice());
-    Ok(())
 }
 
 #[test]
-fn a_text_of_the_rfc(rt: HostRuntime) -> Result<(), Fail> {
-    let hello = message(rt.alloc(), Kind::Text, b"Hello")?;
+fn a_text_of_the_rfc(rt: HostRuntime) {
+    let hello = message(&rt, rt.alloc(), Kind::Text, b"Hello");
     expect_put(&rt, rt.alloc(), Role::Server, &hello, b"\x81\x05Hello");
-    Ok(())
 }
 
 #[test]
-fn a_ping_of_the_rfc(rt: HostRuntime) -> Result<(), Fail> {
-    let ping = Event::Ping(small(b"Hello")?);
+fn a_ping_of_the_rfc(rt: HostRuntime) {
+    let ping = Event::Ping(small(&rt, b"Hello"));
     expect_put(&rt, rt.alloc(), Role::Server, &ping, b"\x89\x05Hello");
-    Ok(())
 }
 
 #[test]
-fn a_pong_of_the_rfc(rt: HostRuntime) -> Result<(), Fail> {
-    let pong = Event::Pong(small(b"Hello")?);
+fn a_pong_of_the_rfc(rt: HostRuntime) {
+    let pong = Event::Pong(small(&rt, b"Hello"));
     expect_put(
         &rt,
         rt.alloc(),
@@ -72,71 +69,66 @@ fn a_pong_of_the_rfc(rt: HostRuntime) -> Result<(), Fail> {
         &pong,
         b"\x8a\x85\0\0\0\0Hello",
     );
-    Ok(())
 }
 
 #[test]
-fn binary_messages_of_the_rfc(rt: HostRuntime) -> Result<(), Fail> {
+fn binary_messages_of_the_rfc(rt: HostRuntime) {
     let alloc = rt.alloc();
-    expect_binary(&rt, alloc, 256, &[0x82, 0x7e, 1, 0])?;
-    expect_binary(&rt, alloc, 65_536, &[0x82, 0x7f, 0, 0, 0, 0, 0, 1, 0, 0])
+    expect_binary(&rt, alloc, 256, &[0x82, 0x7e, 1, 0]);
+    expect_binary(&rt, alloc, 65_536, &[0x82, 0x7f, 0, 0, 0, 0, 0, 1, 0, 0]);
 }
 
 #[test]
-fn a_close_with_and_without_a_code(rt: HostRuntime) -> Result<(), Fail> {
+fn a_close_with_and_without_a_code(rt: HostRuntime) {
     let alloc = rt.alloc();
     expect_put(&rt, alloc, Role::Server, &Event::Close(None), &[0x88, 0]);
-    let close = Event::Close(Some((1002, small(b"bye")?)));
+    let close = Event::Close(Some((1002, small(&rt, b"bye"))));
     let wanted = b"\x88\x85\0\0\0\0\x03\xeabye";
     expect_put(&rt, alloc, Role::Client, &close, wanted);
-    Ok(())
 }
 
 /// Part of a character.
 const CUT: [u8; 2] = [0xe2, 0x82];
 
 #[test]
-fn a_text_is_lawful_only_if_it_is_utf8(rt: HostRuntime) -> Result<(), Fail> {
+fn a_text_is_lawful_only_if_it_is_utf8(rt: HostRuntime) {
     for (kind, lawful) in [(Kind::Text, false), (Kind::Binary, true)] {
-        let event = message(rt.alloc(), kind, &CUT)?;
-        assert!(rt; is_lawful(&event) == lawful);
+        let event = message(&rt, rt.alloc(), kind, &CUT);
+        expect(&rt, is_lawful(&event) == lawful);
     }
-    Ok(())
 }
 
 /// Fails unless a Close with this code and reason is lawful, or isn't.
-fn expect_close(rt: &impl Abort, code: u16, reason: &[u8], lawful: bool) -> Result<(), Fail> {
-    let close: Event = Event::Close(Some((code, small(reason)?)));
-    assert_eq!(rt; is_lawful(&close), lawful, "{code}");
-    Ok(())
+fn expect_close(rt: &impl Abort, code: u16, reason: &[u8], lawful: bool) {
+    let close: Event = Event::Close(Some((code, small(rt, reason))));
+    expect_of(rt, is_lawful(&close) == lawful, &code);
 }
 
 #[test]
-fn which_closes_are_lawful(rt: HostRuntime) -> Result<(), Fail> {
-    expect_close(&rt, 1000, b"", true)?;
-    expect_close(&rt, 1000, &CUT, false)?;
-    expect_close(&rt, 1000, &[0x61; 123], true)?;
-    expect_close(&rt, 1000, &[0x61; 124], false)?;
-    expect_close(&rt, 1005, b"", false)
+fn which_closes_are_lawful(rt: HostRuntime) {
+    expect_close(&rt, 1000, b"", true);
+    expect_close(&rt, 1000, &CUT, false);
+    expect_close(&rt, 1000, &[0x61; 123], true);
+    expect_close(&rt, 1000, &[0x61; 124], false);
+    expect_close(&rt, 1005, b"", false);
 }
 
 /// Fails unless an event isn't written by a client where the writer has room for all but some of its bytes.
 fn expect_failed(rt: &impl Abort, alloc: Global, event: &Event, front: &[u8]) {
-    assert!(rt; is_lawful(event));
+    expect(rt, is_lawful(event));
     let mut writer = Narrow::new(alloc, 1, front.len(), Full::TakesNothing);
     let put = put_event(&mut Output::new(&mut writer), Role::Client, event);
-    assert!(rt; put == Err(Stop::Write));
+    expect(rt, put == Err(Stop::Write));
     expect_bytes(rt, writer.taken.as_slice(), front);
 }
 
 #[test]
-fn a_write_that_fails(rt: HostRuntime) -> Result<(), Fail> {
+fn a_write_that_fails(rt: HostRuntime) {
     let alloc = rt.alloc();
-    let hello = message(alloc, Kind::Text, b"Hello")?;
+    let hello = message(&rt, alloc, Kind::Text, b"Hello");
     let whole = b"\x81\x85\0\0\0\0Hello";
     expect_put(&rt, alloc, Role::Client, &hello, whole);
     for room in 0..whole.len() {
         expect_failed(&rt, alloc, &hello, &whole[..room]);
     }
-    Ok(())
 }

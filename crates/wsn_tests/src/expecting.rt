@@ -1,12 +1,14 @@
 //! What is expected of lines and bytes that a stream is read to, and of a command's run.
 ghost use Rattle.wsn_job.specs.Jobs.{MayRun};
 
-use std::alloc::{AllocError, Allocator, Global};
+use std::alloc::{Allocator, Global};
 use std::process::Abort;
-use std::test::Fail;
 use wsn_canon::{Next, Source};
-use wsn_doubles::lines::{answer_line, verdict_line};
-use wsn_doubles::outcomes::{Outcome, outcome_on};
+use wsn_doubles::expecting::{
+    expect_count, expect_line, expect_line_of, expect_of, expect_outcome,
+};
+use wsn_doubles::lines::{answer_line, line_of, stop_line, verdict_line};
+use wsn_doubles::outcomes::outcome_on;
 use wsn_doubles::readers::Chopped;
 use wsn_doubles::rows::Stream;
 use wsn_doubles::writers::{FULL, Narrow};
@@ -14,42 +16,22 @@ use wsn_job::Job;
 use wsn_scan::{Stop, Verdict};
 use wsn_wire::Input;
 
-/// Fails unless this is the line that is wanted.
-pub fn expect_line(rt: &impl Abort, line: &str, wanted: &str) {
-    assert_eq!(rt; line, wanted);
-}
-
-/// Fails unless these are the bytes that are wanted.
-pub fn expect_bytes(rt: &impl Abort, bytes: &[u8], wanted: &[u8]) {
-    assert_eq!(rt; bytes, wanted);
-}
-
-/// Fails unless so many is how many are wanted.
-pub fn expect_count(rt: &impl Abort, count: usize, wanted: usize) {
-    assert_eq!(rt; count, wanted);
-}
-
 /// Fails unless this is the line of the answer.
-pub fn expect_answer(
-    rt: &impl Abort,
-    alloc: Global,
-    answer: &Result<Verdict, Stop>,
-    wanted: &str,
-) -> Result<(), Fail> {
-    let line = answer_line(alloc, answer)?;
+pub fn expect_answer(rt: &impl Abort, alloc: Global, answer: &Result<Verdict, Stop>, wanted: &str) {
+    let line = answer_line(rt, alloc, answer);
     expect_line(rt, line.as_str(), wanted);
-    Ok(())
 }
 
 /// The line of what `next` answered: of a verdict, or of a stop.
 pub fn last_line<A: Allocator>(
+    rt: &impl Abort,
     alloc: Global,
     answer: &Result<Next<A>, Stop>,
-) -> Result<String, AllocError> {
+) -> String {
     match answer {
-        Ok(Next::Event(_)) => format!(in alloc; "an event"),
-        Ok(Next::Done(verdict)) => verdict_line(alloc, verdict),
-        Err(stop) => format!(in alloc; "{stop}"),
+        Ok(Next::Event(_)) => line_of(rt, alloc, "an event"),
+        Ok(Next::Done(verdict)) => verdict_line(rt, alloc, verdict),
+        Err(stop) => stop_line(rt, alloc, *stop),
     }
 }
 
@@ -59,10 +41,9 @@ pub fn expect_last<A: Allocator>(
     alloc: Global,
     answer: &Result<Next<A>, Stop>,
     wanted: &str,
-) -> Result<(), Fail> {
-    let line = last_line(alloc, answer)?;
+) {
+    let line = last_line(rt, alloc, answer);
     expect_line(rt, line.as_str(), wanted);
-    Ok(())
 }
 
 /// Fails unless a source answers this without a read.
@@ -71,11 +52,11 @@ fn expect_at_its_end<A: Allocator + Copy>(
     alloc: Global,
     source: &mut Source<A>,
     line: &str,
-) -> Result<(), Fail> {
+) {
     let mut reader = Chopped::new(&[0x89, 0x00], 2);
     let again = source.next(&mut Input::new(&mut reader));
     expect_count(rt, reader.left(), 2);
-    expect_last(rt, alloc, &again, line)
+    expect_last(rt, alloc, &again, line);
 }
 
 /// Behind its end a source answers the same, and doesn't read.
@@ -84,14 +65,14 @@ pub fn expect_again<A: Allocator + Copy>(
     alloc: Global,
     source: &mut Source<A>,
     line: &str,
-) -> Result<(), Fail> {
-    expect_at_its_end(rt, alloc, source, line)?;
-    expect_at_its_end(rt, alloc, source, line)
+) {
+    expect_at_its_end(rt, alloc, source, line);
+    expect_at_its_end(rt, alloc, source, line);
 }
 
 /// How a stream is read: its name, what is made of it, how many of its bytes are given, and how many at most by each
 /// call.
-#[derive(Clone, Copy)]
+#[derive(Clone, Copy, Debug)]
 pub struct Reading<'a> {
     pub name: &'a str,
     pub how: &'static str,
@@ -112,13 +93,7 @@ impl<'a> Reading<'a> {
 
     /// Fails unless this is the line that is wanted.
     pub fn expect_line(&self, rt: &impl Abort, line: &str, wanted: &str) {
-        let Reading {
-            name,
-            how,
-            count,
-            most,
-        } = *self;
-        assert_eq!(rt; line, wanted, "{name}, {how}: {count} bytes by {most}");
+        expect_line_of(rt, line, wanted, self);
     }
 
     /// Fails unless this is the line of the answer.
@@ -128,21 +103,14 @@ impl<'a> Reading<'a> {
         alloc: Global,
         answer: &Result<Verdict, Stop>,
         wanted: &str,
-    ) -> Result<(), Fail> {
-        let line = answer_line(alloc, answer)?;
+    ) {
+        let line = answer_line(rt, alloc, answer);
         self.expect_line(rt, line.as_str(), wanted);
-        Ok(())
     }
 
     /// Fails unless this holds.
     pub fn expect(&self, rt: &impl Abort, holds: bool, told: &str) {
-        let Reading {
-            name,
-            how,
-            count,
-            most,
-        } = *self;
-        assert!(rt; holds, "{name}, {how}: {count} bytes by {most}: {told}");
+        expect_of(rt, holds, &(self, told));
     }
 
     /// Fails unless these are the bytes that are wanted.
@@ -156,13 +124,6 @@ impl<'a> Reading<'a> {
     }
 }
 
-/// Fails unless a run ended by this status, with these bytes on standard output and these on standard error.
-pub fn expect_outcome(rt: &impl Abort, done: &Outcome, status: u8, out: &[u8], said: &[u8]) {
-    expect_bytes(rt, done.out.as_slice(), out);
-    expect_bytes(rt, done.said.as_slice(), said);
-    expect_count(rt, usize::from(done.status), usize::from(status));
-}
-
 /// Fails unless a command tells in one line that its reader failed before the first byte.
 pub fn expect_failed_read<A: Allocator + Copy>(
     rt: &impl Abort,
@@ -174,7 +135,7 @@ pub fn expect_failed_read<A: Allocator + Copy>(
 {
     let reader = Chopped::breaking(&[], 1);
     let done = outcome_on(heap, alloc, job, reader, Narrow::wide(alloc));
-    expect_outcome(rt, &done, 2, &[], b"read failed\n");
+    expect_outcome(rt, &done, 2, &[], "read failed");
 }
 
 /// Fails unless a command of these bytes tells in one line that its writer failed behind what is written out, in each
@@ -193,6 +154,6 @@ pub fn expect_failed_writes<A: Allocator + Copy>(
         let reader = Chopped::new(bytes, usize::MAX);
         let writer = Narrow::new(alloc, 1, out.len(), full);
         let done = outcome_on(heap, alloc, job, reader, writer);
-        expect_outcome(rt, &done, 2, out, b"write failed\n");
+        expect_outcome(rt, &done, 2, out, "write failed");
     }
 }

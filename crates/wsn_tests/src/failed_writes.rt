@@ -2,11 +2,11 @@
 
 use std::alloc::Global;
 use std::process::Abort;
-use std::test::Fail;
 use wsn_doubles::engines::{listed, normalised};
+use wsn_doubles::expecting::expect_of;
 use wsn_doubles::lines::listing;
 use wsn_doubles::readers::Chopped;
-use wsn_doubles::rows::{Stream, filled, stream_named, streams};
+use wsn_doubles::rows::{Stream, extend, filled, stream_named, streams};
 use wsn_doubles::writers::{FULL, Full, Narrow};
 use wsn_scan::{Stop, Verdict};
 
@@ -21,7 +21,7 @@ fn expect_full(
 ) {
     let room = front.len();
     let is_told = matches!(answer, Err(Stop::Write)) && written == front;
-    assert!(rt; is_told, "{name}: {full:?} behind {room}");
+    expect_of(rt, is_told, &(name, full, room));
 }
 
 /// Fails unless `list` tells that its writer fails behind each byte of the lines, where it is full in that way.
@@ -42,20 +42,18 @@ fn expect_full_list(rt: &impl Abort, alloc: Global, stream: &Stream, lines: &[u8
 }
 
 /// The same, in each way of being full.
-fn expect_full_lists(rt: &impl Abort, alloc: Global, stream: &Stream) -> Result<(), Fail> {
-    let whole = listing(alloc, stream)?;
+fn expect_full_lists(rt: &impl Abort, alloc: Global, stream: &Stream) {
+    let whole = listing(rt, alloc, stream);
     for full in FULL {
         expect_full_list(rt, alloc, stream, whole.as_bytes(), full);
     }
-    Ok(())
 }
 
 #[test]
-fn list_tells_a_failed_write(rt: HostRuntime) -> Result<(), Fail> {
-    for stream in streams(rt.alloc())?.iter() {
-        expect_full_lists(&rt, rt.alloc(), stream)?;
+fn list_tells_a_failed_write(rt: HostRuntime) {
+    for stream in streams(&rt, rt.alloc()).iter() {
+        expect_full_lists(&rt, rt.alloc(), stream);
     }
-    Ok(())
 }
 
 /// Fails unless `normalise` tells that its writer fails behind each of the first 200 bytes, where it is full in that
@@ -78,31 +76,30 @@ fn expect_full_normal(rt: &impl Abort, alloc: Global, stream: &Stream, full: Ful
 }
 
 #[test]
-fn normalise_tells_a_failed_write(rt: HostRuntime) -> Result<(), Fail> {
+fn normalise_tells_a_failed_write(rt: HostRuntime) {
     let alloc = rt.alloc();
-    for stream in streams(alloc)?.iter() {
+    for stream in streams(&rt, alloc).iter() {
         for full in FULL {
             expect_full_normal(&rt, alloc, stream, full);
         }
     }
-    Ok(())
 }
 
 /// A ping, a message of 4,200 bytes, a pong and another message, which are their own normal form.
-fn of_several_blocks(alloc: Global) -> Result<Stream, Fail> {
-    let mut bytes = filled(alloc, b"\x89\x00\x82\x7e\x10\x68", 0x2a, 4_200)?;
-    let rest = filled(alloc, b"\x8a\x01A\x81\x7e\x10\x68", 0x2a, 4_200)?;
-    bytes.extend_from_slice(rest.as_slice())?;
-    let mut stream = stream_named(alloc, "an empty text")?;
+fn of_several_blocks(rt: &impl Abort, alloc: Global) -> Stream {
+    let mut bytes = filled(rt, alloc, b"\x89\x00\x82\x7e\x10\x68", 0x2a, 4_200);
+    let rest = filled(rt, alloc, b"\x8a\x01A\x81\x7e\x10\x68", 0x2a, 4_200);
+    extend(rt, &mut bytes, rest.as_slice());
+    let mut stream = stream_named(rt, alloc, "an empty text");
     stream.bytes = bytes;
-    Ok(stream)
+    stream
 }
 
 /// An output of several blocks, which ends behind each of its bytes.
 #[test]
-fn normalise_tells_a_failed_write_behind_each_byte(rt: HostRuntime) -> Result<(), Fail> {
+fn normalise_tells_a_failed_write_behind_each_byte(rt: HostRuntime) {
     let alloc = rt.alloc();
-    let stream = of_several_blocks(alloc)?;
+    let stream = of_several_blocks(&rt, alloc);
     let bytes = stream.bytes.as_slice();
     for room in 0..bytes.len() {
         let full = Full::FailsOnce;
@@ -118,5 +115,4 @@ fn normalise_tells_a_failed_write_behind_each_byte(rt: HostRuntime) -> Result<()
             &bytes[..room],
         );
     }
-    Ok(())
 }

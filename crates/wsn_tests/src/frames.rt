@@ -1,11 +1,11 @@
 //! `wsn frames`: the lines of the frames and of the verdict on standard output, and the status, with no memory to be
 //! had.
 
-use crate::expecting::{Reading, expect_failed_read, expect_failed_writes, expect_outcome};
+use crate::expecting::{Reading, expect_failed_read, expect_failed_writes};
 use std::alloc::{Allocator, Global};
 use std::process::Abort;
-use std::test::Fail;
 use wsn_doubles::engines::listed;
+use wsn_doubles::expecting::expect_outcome;
 use wsn_doubles::heaps::heap_of;
 use wsn_doubles::lines::listing;
 use wsn_doubles::outcomes::outcome_on;
@@ -15,71 +15,61 @@ use wsn_doubles::writers::{Full, Narrow};
 use wsn_job::Job;
 
 /// Fails unless the command prints the lines of a stream, and says if that is too long.
-fn expect_printed<A: Allocator + Copy>(
-    rt: &impl Abort,
-    heap: A,
-    alloc: Global,
-    stream: &Stream,
-) -> Result<(), Fail> {
+fn expect_printed<A: Allocator + Copy>(rt: &impl Abort, heap: A, alloc: Global, stream: &Stream) {
     let job = Job::Frames(stream.role, stream.limits);
     let reader = Chopped::new(stream.bytes.as_slice(), 4_096);
     let done = outcome_on(heap, alloc, &job, reader, Narrow::wide(alloc));
-    let said: &[u8] = if stream.is_too_long() {
-        b"input limit\n"
+    let said = if stream.is_too_long() {
+        stream.verdict
     } else {
-        &[]
+        ""
     };
-    let lines = listing(alloc, stream)?;
+    let lines = listing(rt, alloc, stream);
     expect_outcome(rt, &done, stream.status(), lines.as_bytes(), said);
-    Ok(())
 }
 
 #[test]
-fn frames_are_printed_before_the_verdict(rt: HostRuntime) -> Result<(), Fail> {
-    let heap = heap_of(rt.alloc(), 0)?;
-    for stream in streams(rt.alloc())?.iter() {
-        expect_printed(&rt, &heap, rt.alloc(), stream)?;
+fn frames_are_printed_before_the_verdict(rt: HostRuntime) {
+    let heap = heap_of(&rt, rt.alloc(), 0);
+    for stream in streams(&rt, rt.alloc()).iter() {
+        expect_printed(&rt, &heap, rt.alloc(), stream);
     }
-    Ok(())
 }
 
 #[test]
-fn a_failed_read_is_told_in_one_line(rt: HostRuntime) -> Result<(), Fail> {
+fn a_failed_read_is_told_in_one_line(rt: HostRuntime) {
     let alloc = rt.alloc();
-    let heap = heap_of(alloc, 0)?;
-    for stream in streams(alloc)?.iter() {
+    let heap = heap_of(&rt, alloc, 0);
+    for stream in streams(&rt, alloc).iter() {
         let job = Job::Frames(stream.role, stream.limits);
         expect_failed_read(&rt, &heap, alloc, &job);
     }
-    Ok(())
 }
 
 #[test]
-fn a_failed_write_is_told_in_one_line(rt: HostRuntime) -> Result<(), Fail> {
+fn a_failed_write_is_told_in_one_line(rt: HostRuntime) {
     let alloc = rt.alloc();
-    let heap = heap_of(alloc, 0)?;
-    for stream in streams(alloc)?.iter() {
+    let heap = heap_of(&rt, alloc, 0);
+    for stream in streams(&rt, alloc).iter() {
         let job = Job::Frames(stream.role, stream.limits);
         expect_failed_writes(&rt, &heap, alloc, &job, stream.bytes.as_slice(), &[]);
     }
-    Ok(())
 }
 
 /// Fails unless a writer that takes one byte a call is given the lines.
-fn expect_by_one(rt: &impl Abort, alloc: Global, stream: &Stream) -> Result<(), Fail> {
+fn expect_by_one(rt: &impl Abort, alloc: Global, stream: &Stream) {
     let mut writer = Narrow::new(alloc, 1, usize::MAX, Full::Fails);
     let reader = Chopped::new(stream.bytes.as_slice(), usize::MAX);
     let answer = listed(stream, reader, &mut writer);
     let reading = Reading::whole(stream, "listed", usize::MAX);
-    let lines = listing(alloc, stream)?;
+    let lines = listing(rt, alloc, stream);
     reading.expect_bytes(rt, writer.taken.as_slice(), lines.as_bytes());
-    reading.expect_answer(rt, alloc, &answer, stream.verdict)
+    reading.expect_answer(rt, alloc, &answer, stream.verdict);
 }
 
 #[test]
-fn a_writer_may_take_one_byte_a_call(rt: HostRuntime) -> Result<(), Fail> {
-    for stream in streams(rt.alloc())?.iter() {
-        expect_by_one(&rt, rt.alloc(), stream)?;
+fn a_writer_may_take_one_byte_a_call(rt: HostRuntime) {
+    for stream in streams(&rt, rt.alloc()).iter() {
+        expect_by_one(&rt, rt.alloc(), stream);
     }
-    Ok(())
 }

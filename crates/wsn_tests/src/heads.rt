@@ -1,7 +1,7 @@
 //! A head's bytes, read one after another and written.
 
-use crate::expecting::expect_bytes;
 use std::process::Abort;
+use wsn_doubles::expecting::{expect_bytes, expect_of};
 use wsn_wire::{
     FirstByte, Form, LenForm, Lengths, Op, Reason, Role, eight, first, head, head_as, second, two,
 };
@@ -12,7 +12,7 @@ fn expect_first(rt: &impl Abort, byte: u8, wanted: Result<(bool, Op), Reason>) {
         Ok(first) => Ok((first.fin, first.op)),
         Err(reason) => Err(reason),
     };
-    assert_eq!(rt; told, wanted, "{byte}");
+    expect_of(rt, told == wanted, &byte);
 }
 
 #[test]
@@ -33,7 +33,7 @@ fn expect_second(
     byte: u8,
     wanted: Result<LenForm, Reason>,
 ) {
-    assert_eq!(rt; second(first, role, byte), wanted, "{byte}");
+    expect_of(rt, second(first, role, byte) == wanted, &byte);
 }
 
 #[test]
@@ -65,8 +65,8 @@ fn lengths_in_two_bytes(rt: HostRuntime) {
         ([0x00, 0x7d], Err(Reason::LengthNotMinimal), Ok(125)),
         ([0x00, 0x7e], Ok(126), Ok(126)),
     ] {
-        assert_eq!(rt; two(bytes, Lengths::Shortest), shortest);
-        assert_eq!(rt; two(bytes, Lengths::Any), any);
+        expect_of(&rt, two(bytes, Lengths::Shortest) == shortest, &bytes);
+        expect_of(&rt, two(bytes, Lengths::Any) == any, &bytes);
     }
 }
 
@@ -82,8 +82,8 @@ fn lengths_in_eight_bytes(rt: HostRuntime) {
         ),
         ([0, 0, 0, 0, 0, 1, 0, 0], Ok(65536), Ok(65536)),
     ] {
-        assert_eq!(rt; eight(bytes, Lengths::Shortest), shortest);
-        assert_eq!(rt; eight(bytes, Lengths::Any), any);
+        expect_of(&rt, eight(bytes, Lengths::Shortest) == shortest, &bytes);
+        expect_of(&rt, eight(bytes, Lengths::Any) == any, &bytes);
     }
 }
 

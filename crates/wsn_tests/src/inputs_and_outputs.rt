@@ -1,9 +1,9 @@
 //! An input and an output over readers and writers that chop, fail and stall: each call of them, and none again.
 
-use crate::expecting::expect_bytes;
 use arrayvec::ArrayVec;
 use std::io::{self, Read, Write};
 use std::process::Abort;
+use wsn_doubles::expecting::{expect, expect_bytes, expect_of};
 use wsn_wire::{Input, Output};
 
 /// Gives one byte, then an error, then nothing.
@@ -34,8 +34,8 @@ fn expect_read(
     wanted: Option<usize>,
     failed: bool,
 ) {
-    assert_eq!(rt; input.read(into), wanted);
-    assert!(rt; input.failed() == failed);
+    expect_of(rt, input.read(into) == wanted, &wanted);
+    expect_of(rt, input.failed() == failed, &wanted);
 }
 
 #[test]
@@ -44,10 +44,10 @@ fn an_input_calls_its_reader_once(rt: HostRuntime) {
     let mut input = Input::new(&mut reader);
     let mut into = [0; 4];
     expect_read(&rt, &mut input, &mut into, Some(1), false);
-    assert!(rt; into == [7, 0, 0, 0]);
+    expect_bytes(&rt, &into, &[7, 0, 0, 0]);
     expect_read(&rt, &mut input, &mut into, None, true);
     expect_read(&rt, &mut input, &mut into, Some(0), true);
-    assert!(rt; reader.calls == 3);
+    expect(&rt, reader.calls == 3);
 }
 
 /// Takes at most three bytes a call, and fails at the call `bad`.
@@ -80,8 +80,8 @@ fn expect_put<W: Write>(
     is_put: bool,
     failed: bool,
 ) {
-    assert!(rt; output.put(bytes) == is_put, "{bytes:?}");
-    assert!(rt; output.failed() == failed, "{bytes:?}");
+    expect_of(rt, output.put(bytes) == is_put, &bytes);
+    expect_of(rt, output.failed() == failed, &bytes);
 }
 
 #[test]
@@ -96,7 +96,7 @@ fn an_output_goes_on_after_a_short_write(rt: HostRuntime) {
     expect_put(&rt, &mut output, b"abcdefg", true, false);
     expect_put(&rt, &mut output, b"hi", false, true);
     expect_put(&rt, &mut output, b"jk", true, true);
-    assert!(rt; writer.calls == 5);
+    expect(&rt, writer.calls == 5);
     expect_bytes(&rt, writer.got.as_slice(), b"abcdefgjk");
 }
 
@@ -143,6 +143,6 @@ fn an_output_tries_nothing_again(rt: HostRuntime) {
         };
         let mut output = Output::new(&mut writer);
         expect_put(&rt, &mut output, b"ab", false, true);
-        assert!(rt; writer.calls == 1 && writer.got.is_empty(), "{fails}");
+        expect_of(&rt, writer.calls == 1 && writer.got.is_empty(), &fails);
     }
 }

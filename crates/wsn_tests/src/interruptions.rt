@@ -1,14 +1,14 @@
 //! Readers that are interrupted or would block, and would go on at the next call: any error counts, and nothing is
 //! tried again.
 
-use crate::expecting::{expect_answer, expect_count};
+use crate::expecting::expect_answer;
 use std::alloc::Global;
 use std::io::ErrorKind;
 use std::process::Abort;
-use std::test::Fail;
 use wsn_doubles::engines::{
     Sizes, compared, judged, listed, normalised, planned, recut_by, recut_uniformly,
 };
+use wsn_doubles::expecting::{expect, expect_count, expect_line_of};
 use wsn_doubles::lines::{answer_line, compared_line, planned_line, recut_line};
 use wsn_doubles::readers::Chopped;
 use wsn_doubles::rows::{Stream, line_behind, stream_named, streams};
@@ -40,95 +40,58 @@ impl<'a> Stumble<'a> {
     }
 
     fn expect(&self, rt: &impl Abort, line: &str) {
-        let name = self.stream.name;
-        let count = self.count;
-        assert_eq!(rt; line, self.wanted, "{name}: behind {count}");
+        expect_line_of(rt, line, self.wanted, &(self.stream.name, self.count));
     }
 
-    fn expect_answer(
-        &self,
-        rt: &impl Abort,
-        alloc: Global,
-        answer: &Result<Verdict, Stop>,
-    ) -> Result<(), Fail> {
-        let line = answer_line(alloc, answer)?;
+    fn expect_answer(&self, rt: &impl Abort, alloc: Global, answer: &Result<Verdict, Stop>) {
+        let line = answer_line(rt, alloc, answer);
         self.expect(rt, line.as_str());
-        Ok(())
     }
 
-    fn expect_recut(
-        &self,
-        rt: &impl Abort,
-        alloc: Global,
-        answer: &Result<RecutAnswer, Stop>,
-    ) -> Result<(), Fail> {
-        let line = recut_line(alloc, answer)?;
+    fn expect_recut(&self, rt: &impl Abort, alloc: Global, answer: &Result<RecutAnswer, Stop>) {
+        let line = recut_line(rt, alloc, answer);
         self.expect(rt, line.as_str());
-        Ok(())
     }
 
     /// Fails unless this is told of how two readers compare.
-    fn expect_stopped(
-        &self,
-        rt: &impl Abort,
-        alloc: Global,
-        first: Chopped,
-        second: Chopped,
-    ) -> Result<(), Fail> {
+    fn expect_stopped(&self, rt: &impl Abort, alloc: Global, first: Chopped, second: Chopped) {
         let answer = compared(alloc, first, second, self.stream.role, self.stream.limits);
-        let line = compared_line(alloc, &answer)?;
+        let line = compared_line(rt, alloc, &answer);
         self.expect(rt, line.as_str());
-        Ok(())
     }
 }
 
 /// What `judge`, `list` and `normalise` tell, by reads of at most so many bytes.
-fn expect_told(rt: &impl Abort, alloc: Global, stumble: &Stumble, most: usize) -> Result<(), Fail> {
+fn expect_told(rt: &impl Abort, alloc: Global, stumble: &Stumble, most: usize) {
     let stream = stumble.stream;
     let mut out = Vec::new(alloc);
-    stumble.expect_answer(rt, alloc, &judged(stream, stumble.reader(most)))?;
+    stumble.expect_answer(rt, alloc, &judged(stream, stumble.reader(most)));
     let answer = listed(stream, stumble.reader(most), &mut out);
-    stumble.expect_answer(rt, alloc, &answer)?;
+    stumble.expect_answer(rt, alloc, &answer);
     let answer = normalised(alloc, stream, stumble.reader(most), &mut out);
-    stumble.expect_answer(rt, alloc, &answer)
+    stumble.expect_answer(rt, alloc, &answer);
 }
 
 /// What planning tells, by reads of at most so many bytes.
-fn expect_planned(
-    rt: &impl Abort,
-    alloc: Global,
-    stumble: &Stumble,
-    most: usize,
-) -> Result<(), Fail> {
+fn expect_planned(rt: &impl Abort, alloc: Global, stumble: &Stumble, most: usize) {
     let (role, limits) = (stumble.stream.role, stumble.stream.limits);
     let answer = planned(alloc, role, limits, stumble.reader(most));
-    let line = planned_line(alloc, &answer)?;
+    let line = planned_line(rt, alloc, &answer);
     stumble.expect(rt, line.as_str());
-    Ok(())
 }
 
 /// What a recut by a plan of no steps tells, by reads of at most so many bytes. It writes nothing.
-fn expect_recut_by_plan(
-    rt: &impl Abort,
-    alloc: Global,
-    stumble: &Stumble,
-    most: usize,
-) -> Result<(), Fail> {
+fn expect_recut_by_plan(rt: &impl Abort, alloc: Global, stumble: &Stumble, most: usize) {
     let (role, limits) = (stumble.stream.role, stumble.stream.limits);
     let plan = Plan::new(alloc);
     let mut out = Vec::new(alloc);
     let answer = recut_by(alloc, role, limits, &plan, stumble.reader(most), &mut out);
-    assert!(rt; out.is_empty());
-    stumble.expect_recut(rt, alloc, &answer)
+    expect(rt, out.is_empty());
+    stumble.expect_recut(rt, alloc, &answer);
 }
 
 /// What a recut by a size tells, by reads of at most so many bytes. It writes nothing.
-fn expect_recut_by_size(
-    rt: &impl Abort,
-    alloc: Global,
-    stumble: &Stumble,
-    most: usize,
-) -> Result<(), Fail> {
+fn expect_recut_by_size(rt: &impl Abort, alloc: Global, stumble: &Stumble, most: usize) {
     let (role, limits) = (stumble.stream.role, stumble.stream.limits);
     let sizes = Sizes {
         size: 2,
@@ -136,36 +99,35 @@ fn expect_recut_by_size(
     };
     let mut out = Vec::new(alloc);
     let answer = recut_uniformly(alloc, role, limits, sizes, stumble.reader(most), &mut out);
-    assert!(rt; out.is_empty());
-    stumble.expect_recut(rt, alloc, &answer)
+    expect(rt, out.is_empty());
+    stumble.expect_recut(rt, alloc, &answer);
 }
 
 /// What `same` tells of a failed read of either.
-fn expect_compared(rt: &impl Abort, alloc: Global, stumble: &Stumble) -> Result<(), Fail> {
+fn expect_compared(rt: &impl Abort, alloc: Global, stumble: &Stumble) {
     if stumble.wanted == "read failed" {
         let empty = Chopped::new(&[], 2);
-        stumble.expect_stopped(rt, alloc, stumble.reader(2), empty)?;
+        stumble.expect_stopped(rt, alloc, stumble.reader(2), empty);
         let empty = Chopped::new(&[], 2);
-        stumble.expect_stopped(rt, alloc, empty, stumble.reader(2))?;
+        stumble.expect_stopped(rt, alloc, empty, stumble.reader(2));
     }
-    Ok(())
 }
 
 /// Each engine where a stream's reader fails once.
-fn expect_each(rt: &impl Abort, alloc: Global, stumble: &Stumble) -> Result<(), Fail> {
+fn expect_each(rt: &impl Abort, alloc: Global, stumble: &Stumble) {
     for most in [2, 4_096] {
-        expect_told(rt, alloc, stumble, most)?;
-        expect_planned(rt, alloc, stumble, most)?;
-        expect_recut_by_plan(rt, alloc, stumble, most)?;
-        expect_recut_by_size(rt, alloc, stumble, most)?;
+        expect_told(rt, alloc, stumble, most);
+        expect_planned(rt, alloc, stumble, most);
+        expect_recut_by_plan(rt, alloc, stumble, most);
+        expect_recut_by_size(rt, alloc, stumble, most);
     }
-    expect_compared(rt, alloc, stumble)
+    expect_compared(rt, alloc, stumble);
 }
 
 /// Each engine at each place of a stream where its reader may fail.
-fn expect_ended(rt: &impl Abort, alloc: Global, stream: &Stream) -> Result<(), Fail> {
-    for front in stream.fronts(alloc)? {
-        let wanted = line_behind(stream, front)?;
+fn expect_ended(rt: &impl Abort, alloc: Global, stream: &Stream) {
+    for front in stream.fronts(rt, alloc) {
+        let wanted = line_behind(stream, front);
         for kind in KINDS {
             let stumble = Stumble {
                 stream,
@@ -173,45 +135,40 @@ fn expect_ended(rt: &impl Abort, alloc: Global, stream: &Stream) -> Result<(), F
                 kind,
                 wanted,
             };
-            expect_each(rt, alloc, &stumble)?;
+            expect_each(rt, alloc, &stumble);
         }
     }
-    Ok(())
 }
 
 #[test]
-fn any_error_of_a_reader_ends_the_work(rt: HostRuntime) -> Result<(), Fail> {
-    for stream in streams(rt.alloc())?.iter() {
-        expect_ended(&rt, rt.alloc(), stream)?;
+fn any_error_of_a_reader_ends_the_work(rt: HostRuntime) {
+    for stream in streams(&rt, rt.alloc()).iter() {
+        expect_ended(&rt, rt.alloc(), stream);
     }
-    Ok(())
 }
 
 /// Fails unless `judge` reads nothing behind the place where its reader fails.
-fn expect_left(
-    rt: &impl Abort,
-    alloc: Global,
-    stream: &Stream,
-    left: usize,
-    kind: ErrorKind,
-) -> Result<(), Fail> {
+fn expect_left(rt: &impl Abort, alloc: Global, stream: &Stream, left: usize, kind: ErrorKind) {
     let mut reader = Chopped::stumbling(stream.bytes.as_slice(), 3, left, kind);
     let mut input = Input::new(&mut reader);
     let answer = judge(&mut input, stream.role, stream.limits);
-    assert!(rt; input.failed());
+    expect(rt, input.failed());
     expect_count(rt, reader.left(), left);
-    expect_answer(rt, alloc, &answer, "read failed")
+    expect_answer(rt, alloc, &answer, "read failed");
 }
 
 /// The reader isn't called again.
 #[test]
-fn nothing_is_read_behind_an_error(rt: HostRuntime) -> Result<(), Fail> {
+fn nothing_is_read_behind_an_error(rt: HostRuntime) {
     let alloc = rt.alloc();
-    let stream = stream_named(alloc, "Hello in two fragments, and a ping between them")?;
+    let stream = stream_named(
+        &rt,
+        alloc,
+        "Hello in two fragments, and a ping between them",
+    );
     for left in 0..=stream.bytes.len() {
         for kind in KINDS {
-            expect_left(&rt, alloc, &stream, left, kind)?;
+            expect_left(&rt, alloc, &stream, left, kind);
         }
     }
-    Ok(())
 }

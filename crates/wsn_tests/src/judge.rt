@@ -1,10 +1,11 @@
 //! `wsn judge`: the verdict's line on standard output and its status, with no memory to be had.
 
-use crate::expecting::{expect_failed_read, expect_failed_writes, expect_outcome};
+use crate::expecting::{expect_failed_read, expect_failed_writes};
 use std::alloc::{Allocator, Global};
 use std::process::Abort;
-use std::test::Fail;
+use wsn_doubles::expecting::expect_outcome;
 use wsn_doubles::heaps::heap_of;
+use wsn_doubles::lines::printed;
 use wsn_doubles::outcomes::outcome_on;
 use wsn_doubles::readers::Chopped;
 use wsn_doubles::rows::{Stream, streams};
@@ -12,43 +13,35 @@ use wsn_doubles::writers::Narrow;
 use wsn_job::Job;
 
 /// Fails unless the command prints a stream's verdict, or says that the stream is too long.
-fn expect_verdict<A: Allocator + Copy>(
-    rt: &impl Abort,
-    heap: A,
-    alloc: Global,
-    stream: &Stream,
-) -> Result<(), Fail> {
+fn expect_verdict<A: Allocator + Copy>(rt: &impl Abort, heap: A, alloc: Global, stream: &Stream) {
     let job = Job::Judge(stream.role, stream.limits);
     let reader = Chopped::new(stream.bytes.as_slice(), 4_096);
     let done = outcome_on(heap, alloc, &job, reader, Narrow::wide(alloc));
-    let verdict = stream.verdict;
-    let line = format!(in alloc; "{verdict}\n")?;
-    if stream.is_too_long() {
-        expect_outcome(rt, &done, 2, &[], line.as_bytes());
+    let line = printed(rt, alloc, stream.verdict);
+    let (out, said) = if stream.is_too_long() {
+        (b"".as_slice(), stream.verdict)
     } else {
-        expect_outcome(rt, &done, stream.status(), line.as_bytes(), &[]);
-    }
-    Ok(())
+        (line.as_bytes(), "")
+    };
+    expect_outcome(rt, &done, stream.status(), out, said);
 }
 
 #[test]
-fn each_verdict_is_printed(rt: HostRuntime) -> Result<(), Fail> {
-    let heap = heap_of(rt.alloc(), 0)?;
-    for stream in streams(rt.alloc())?.iter() {
-        expect_verdict(&rt, &heap, rt.alloc(), stream)?;
+fn each_verdict_is_printed(rt: HostRuntime) {
+    let heap = heap_of(&rt, rt.alloc(), 0);
+    for stream in streams(&rt, rt.alloc()).iter() {
+        expect_verdict(&rt, &heap, rt.alloc(), stream);
     }
-    Ok(())
 }
 
 #[test]
-fn a_failed_read_is_told_in_one_line(rt: HostRuntime) -> Result<(), Fail> {
+fn a_failed_read_is_told_in_one_line(rt: HostRuntime) {
     let alloc = rt.alloc();
-    let heap = heap_of(alloc, 0)?;
-    for stream in streams(alloc)?.iter() {
+    let heap = heap_of(&rt, alloc, 0);
+    for stream in streams(&rt, alloc).iter() {
         let job = Job::Judge(stream.role, stream.limits);
         expect_failed_read(&rt, &heap, alloc, &job);
     }
-    Ok(())
 }
 
 /// Fails unless the command tells that its writer fails behind the first byte of the verdict, if the stream has one.
@@ -62,10 +55,9 @@ fn expect_failed<A: Allocator + Copy>(rt: &impl Abort, heap: A, alloc: Global, s
 }
 
 #[test]
-fn a_failed_write_is_told_in_one_line(rt: HostRuntime) -> Result<(), Fail> {
-    let heap = heap_of(rt.alloc(), 0)?;
-    for stream in streams(rt.alloc())?.iter() {
+fn a_failed_write_is_told_in_one_line(rt: HostRuntime) {
+    let heap = heap_of(&rt, rt.alloc(), 0);
+    for stream in streams(&rt, rt.alloc()).iter() {
         expect_failed(&rt, &heap, rt.alloc(), stream);
     }
-    Ok(())
 }

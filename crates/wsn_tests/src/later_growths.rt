@@ -1,15 +1,15 @@
 //! Memory that is refused at a later growth, of a message that comes in pieces and of a second message: what came
 //! before is kept, and nothing is answered in its place.
 
-use crate::expecting::{expect_again, expect_answer, expect_count, expect_last};
+use crate::expecting::{expect_again, expect_answer, expect_last};
 use std::alloc::{Allocator, Global};
 use std::process::Abort;
-use std::test::Fail;
 use wsn_canon::{Event, Next, Source};
 use wsn_doubles::engines::normalised;
+use wsn_doubles::expecting::{expect, expect_count, expect_of};
 use wsn_doubles::heaps::{BLOCK, heap_of};
 use wsn_doubles::readers::Chopped;
-use wsn_doubles::rows::{Stream, filled, greatest};
+use wsn_doubles::rows::{Stream, extend, filled, greatest};
 use wsn_scan::Stop;
 use wsn_wire::{Input, Role};
 
@@ -22,13 +22,13 @@ const FIRST: usize = 60;
 const SECOND: usize = 200;
 
 /// Frames, each of them a head and so many bytes behind it, which are all alike.
-pub fn frames_of(alloc: Global, frames: &[(&[u8], usize)]) -> Result<Vec<u8>, Fail> {
+pub fn frames_of(rt: &impl Abort, alloc: Global, frames: &[(&[u8], usize)]) -> Vec<u8> {
     let mut bytes = Vec::new(alloc);
     for (head, size) in frames.iter() {
-        let frame = filled(alloc, head, 0x2a, *size)?;
-        bytes.extend_from_slice(frame.as_slice())?;
+        let frame = filled(rt, alloc, head, 0x2a, *size);
+        extend(rt, &mut bytes, frame.as_slice());
     }
-    Ok(bytes)
+    bytes
 }
 
 /// The two messages, the first of them in two fragments.
@@ -47,11 +47,11 @@ const WHOLE: [(&[u8], usize); 3] = [
 ];
 
 /// A ping, a message of 60 bytes in two fragments, one of 200 bytes, and a Close.
-fn two_messages(alloc: Global) -> Result<Stream, Fail> {
-    let limits = greatest()?;
-    let bytes = frames_of(alloc, &CUT)?;
-    let normal = frames_of(alloc, &WHOLE)?;
-    Ok(Stream {
+fn two_messages(rt: &impl Abort, alloc: Global) -> Stream {
+    let limits = greatest();
+    let bytes = frames_of(rt, alloc, &CUT);
+    let normal = frames_of(rt, alloc, &WHOLE);
+    Stream {
         name: "two messages",
         role: Role::Server,
         limits,
@@ -60,7 +60,7 @@ fn two_messages(alloc: Global) -> Result<Stream, Fail> {
         payload: None,
         verdict: "accepted 272 tail 0 unfinished -",
         normal,
-    })
+    }
 }
 
 /// How many of the messages a heap of so many blocks has room for at most.
@@ -102,9 +102,9 @@ fn expect_answered<A: Allocator + Copy>(
     source: &mut Source<A>,
     answer: &Result<Next<A>, Stop>,
     line: &str,
-) -> Result<(), Fail> {
-    expect_last(rt, alloc, answer, line)?;
-    expect_again(rt, alloc, source, line)
+) {
+    expect_last(rt, alloc, answer, line);
+    expect_again(rt, alloc, source, line);
 }
 
 /// The next event of a source that has told so many messages: how many there are with it. `None` at its answer.
@@ -115,14 +115,14 @@ fn event_told<A: Allocator + Copy>(
     source: &mut Source<A>,
     input: &mut Input<&mut Chopped>,
     messages: usize,
-) -> Result<Option<usize>, Fail> {
-    assert!(rt; !input.failed());
+) -> Option<usize> {
+    expect(rt, !input.failed());
     let next = source.next(input);
     if let Ok(Next::Event(event)) = &next {
-        return Ok(Some(message_of(rt, event, messages)));
+        return Some(message_of(rt, event, messages));
     }
-    expect_answered(rt, alloc, source, &next, line_with(stream, messages))?;
-    Ok(None)
+    expect_answered(rt, alloc, source, &next, line_with(stream, messages));
+    None
 }
 
 /// The events of a source until its answer: how many messages there are.
@@ -132,25 +132,20 @@ fn messages_told<A: Allocator + Copy>(
     stream: &Stream,
     source: &mut Source<A>,
     input: &mut Input<&mut Chopped>,
-) -> Result<usize, Fail> {
+) -> usize {
     let mut messages = 0usize;
     for _ in 0..5 {
-        match event_told(rt, alloc, stream, source, input, messages)? {
+        match event_told(rt, alloc, stream, source, input, messages) {
             Some(more) => messages = more,
-            None => return Ok(messages),
+            None => return messages,
         }
     }
     panic!(rt; "no end")
 }
 
 /// How many messages a source tells that has a heap of so many blocks.
-fn messages_of(
-    rt: &impl Abort,
-    alloc: Global,
-    stream: &Stream,
-    blocks: usize,
-) -> Result<usize, Fail> {
-    let heap = heap_of(alloc, blocks)?;
+fn messages_of(rt: &impl Abort, alloc: Global, stream: &Stream, blocks: usize) -> usize {
+    let heap = heap_of(rt, alloc, blocks);
     let mut reader = Chopped::new(stream.bytes.as_slice(), 7);
     let mut input = Input::new(&mut reader);
     let mut source = Source::new(&heap, stream.role, stream.limits);
@@ -175,10 +170,7 @@ const NOT_YET: Seen = Seen {
 impl Seen {
     /// Notes how many messages came by a heap of so many blocks. Fails if it has no room for them.
     fn note(&mut self, rt: &impl Abort, blocks: usize, messages: usize) {
-        assert!(rt;
-            messages <= most_messages(blocks),
-            "{messages} in {blocks} blocks"
-        );
+        expect_of(rt, messages <= most_messages(blocks), &blocks);
         match messages {
             0 => self.none = true,
             1 => self.one = true,
@@ -188,57 +180,50 @@ impl Seen {
 
     /// Fails unless there were none, one and two.
     fn expect_all(&self, rt: &impl Abort) {
-        assert!(rt; self.none && self.one && self.two);
+        expect(rt, self.none && self.one && self.two);
     }
 }
 
 #[test]
-fn a_source_answers_that_a_later_growth_is_refused(rt: HostRuntime) -> Result<(), Fail> {
+fn a_source_answers_that_a_later_growth_is_refused(rt: HostRuntime) {
     let alloc = rt.alloc();
-    let stream = two_messages(alloc)?;
+    let stream = two_messages(&rt, alloc);
     let mut seen = NOT_YET;
     for blocks in 0..BLOCKS {
-        let messages = messages_of(&rt, alloc, &stream, blocks)?;
+        let messages = messages_of(&rt, alloc, &stream, blocks);
         seen.note(&rt, blocks, messages);
     }
     seen.expect_all(&rt);
-    Ok(())
 }
 
 /// How many of the messages the first bytes of the normal form have, which are those of whole events.
-fn messages_in(stream: &Stream, out: &[u8]) -> Result<usize, Fail> {
+fn messages_in(rt: &impl Abort, stream: &Stream, out: &[u8]) -> usize {
     let fronts = [2, 2 + 2 + FIRST, stream.normal.len()];
     let messages = fronts.iter().position(|front| *front == out.len());
-    Ok(messages.ok_or("part of an event")?)
+    messages.expect(rt, "whole events")
 }
 
 /// How many messages the normal form has that is written with memory from a heap of so many blocks. Fails unless the
 /// answer is that memory is refused, or the stream's verdict where all messages came.
-fn messages_written(
-    rt: &impl Abort,
-    alloc: Global,
-    stream: &Stream,
-    blocks: usize,
-) -> Result<usize, Fail> {
-    let heap = heap_of(alloc, blocks)?;
+fn messages_written(rt: &impl Abort, alloc: Global, stream: &Stream, blocks: usize) -> usize {
+    let heap = heap_of(rt, alloc, blocks);
     let mut out = Vec::new(alloc);
     let reader = Chopped::new(stream.bytes.as_slice(), 7);
     let answer = normalised(&heap, stream, reader, &mut out);
-    assert!(rt; stream.normal.starts_with(out.as_slice()));
-    let messages = messages_in(stream, out.as_slice())?;
-    expect_answer(rt, alloc, &answer, line_with(stream, messages))?;
-    Ok(messages)
+    expect(rt, stream.normal.starts_with(out.as_slice()));
+    let messages = messages_in(rt, stream, out.as_slice());
+    expect_answer(rt, alloc, &answer, line_with(stream, messages));
+    messages
 }
 
 #[test]
-fn normalise_answers_that_a_later_growth_is_refused(rt: HostRuntime) -> Result<(), Fail> {
+fn normalise_answers_that_a_later_growth_is_refused(rt: HostRuntime) {
     let alloc = rt.alloc();
-    let stream = two_messages(alloc)?;
+    let stream = two_messages(&rt, alloc);
     let mut seen = NOT_YET;
     for blocks in 0..BLOCKS {
-        let messages = messages_written(&rt, alloc, &stream, blocks)?;
+        let messages = messages_written(&rt, alloc, &stream, blocks);
         seen.note(&rt, blocks, messages);
     }
     seen.expect_all(&rt);
-    Ok(())
 }

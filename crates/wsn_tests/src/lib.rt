@@ -9,10 +9,11 @@
 //! `command_stops` of readers and writers that fail, `interruptions` of readers that would go on; `memory`,
 //! `memory_of_same` and `later_growths` of memory that is refused.
 //!
-//! What a stream is read and written by: `heads`, `masking` and `reasons` of a frame's parts, `utf8` and `close_codes` of
-//! payloads, `inputs_and_outputs` and `tied` of readers and writers.
+//! What a stream is read and written by: `heads`, `masking` and `reasons` of a frame's parts, `utf8` and `close_codes`
+//! of payloads, `inputs_and_outputs` and `tied` of readers and writers.
 //!
-//! `expecting` asserts what is wanted of lines, bytes, a source's last answer and a command's run.
+//! `expecting` asserts what is wanted of a source's last answer and of how a stream is read, and that a command tells a
+//! failed read or write. The rest that is asserted, and the readers, writers and heaps, are those of `wsn_doubles`.
 #![tactic(auto)]
 
 #[cfg(test)]

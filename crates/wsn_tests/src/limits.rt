@@ -1,11 +1,10 @@
 //! Limits: which are made, and how much of an input a scanner has room for.
 
-use crate::expecting::expect_line;
 use std::process::Abort;
-use std::test::Fail;
+use wsn_doubles::expecting::{expect, expect_count, expect_line, expect_of};
 use wsn_doubles::limits::INPUT_OF_4;
 use wsn_doubles::lines::verdict_line;
-use wsn_doubles::rows::limits_under;
+use wsn_doubles::rows::{limits_of, limits_under};
 use wsn_scan::{Limits, Scan};
 use wsn_wire::Role;
 
@@ -18,42 +17,40 @@ fn limits_are_made_within_their_ranges_alone(rt: HostRuntime) {
         (0, 1_099_511_627_777, false),
     ] {
         let limits = Limits::new(message, input);
-        assert_eq!(rt; limits.is_some(), is_made, "{message} and {input}");
+        expect_of(&rt, limits.is_some() == is_made, &(message, input));
     }
 }
 
 /// Fails unless the limits are of messages of 7 bytes and inputs of 9, and of so many frames.
 fn expect_limits(rt: &impl Abort, limits: &Limits, frames: Option<u32>) {
-    let told = (limits.message(), limits.input(), limits.frames());
-    assert_eq!(rt; told, (7, 9, frames));
+    expect(rt, limits.message() == 7 && limits.input() == 9);
+    expect(rt, limits.frames() == frames);
 }
 
 #[test]
-fn limits_tell_what_they_were_made_of(rt: HostRuntime) -> Result<(), Fail> {
-    let limits = Limits::new(7, 9).ok_or("out of range")?;
+fn limits_tell_what_they_were_made_of(rt: HostRuntime) {
+    let limits = limits_of(&rt, 7, 9);
     expect_limits(&rt, &limits, None);
-    assert!(rt; limits.with_frames(0).is_none());
-    let limits = limits.with_frames(1).ok_or("no frame")?;
+    expect(&rt, limits.with_frames(0).is_none());
+    let limits = limits.with_frames(1).expect(&rt, "limits of one frame");
     expect_limits(&rt, &limits, Some(1));
-    Ok(())
 }
 
 /// Fails unless a scanner has room for so many bytes, and takes two of these.
 fn expect_room(rt: &impl Abort, scan: &mut Scan, bytes: &mut [u8], room: u64) {
-    assert!(rt; scan.room() == room && bytes.len() as u64 <= room);
+    expect(rt, scan.room() == room && bytes.len() as u64 <= room);
     let (taken, _) = scan.next(bytes);
-    assert!(rt; taken == 2);
+    expect_count(rt, taken, 2);
 }
 
 /// A scanner has room for as much as an input may be. It tells the verdict on that, and takes no byte more.
 #[test]
-fn a_scanner_has_room_for_the_input_limit(rt: HostRuntime) -> Result<(), Fail> {
-    let mut scan = Scan::new(Role::Server, limits_under(&INPUT_OF_4)?);
+fn a_scanner_has_room_for_the_input_limit(rt: HostRuntime) {
+    let mut scan = Scan::new(Role::Server, limits_under(&rt, &INPUT_OF_4));
     let mut close = [0x88, 0x02, 0x03, 0xe8];
     expect_room(&rt, &mut scan, &mut close, 4);
     expect_room(&rt, &mut scan, &mut close[2..], 2);
-    assert!(rt; scan.room() == 0);
-    let line = verdict_line(rt.alloc(), &scan.finish())?;
+    expect(&rt, scan.room() == 0);
+    let line = verdict_line(&rt, rt.alloc(), &scan.finish());
     expect_line(&rt, line.as_str(), "accepted 4 tail 0 unfinished -");
-    Ok(())
 }

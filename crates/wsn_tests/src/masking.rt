@@ -1,15 +1,16 @@
 //! Masking, at any place in the key.
 
+use wsn_doubles::expecting::{expect_bytes, expect_bytes_of};
 use wsn_wire::mask;
 
 #[test]
 fn masking_at_an_offset(rt: HostRuntime) {
     let mut bytes = [0xfa, 0x21, 0x3d, 0x37];
     mask([0x37, 0xfa, 0x21, 0x3d], 1, &mut bytes);
-    assert_eq!(rt; bytes, [0; 4]);
+    expect_bytes(&rt, &bytes, &[0; 4]);
     let mut bytes = [0; 5];
     mask([1, 2, 3, 4], 18446744073709551610, &mut bytes);
-    assert_eq!(rt; bytes, [3, 4, 1, 2, 3]);
+    expect_bytes(&rt, &bytes, &[3, 4, 1, 2, 3]);
 }
 
 /// Around each whole number of vectors, from each place in the key.
@@ -28,7 +29,7 @@ fn masking_of_each_length(rt: HostRuntime) {
             for i in 0..len.min(131) {
                 wanted[i] ^= key[(start + i) % 4];
             }
-            assert_eq!(rt; masked, wanted, "{len} bytes from {start}");
+            expect_bytes_of(&rt, &masked, &wanted, &(len, start));
         }
     }
 }

@@ -1,11 +1,11 @@
 //! Memory that is refused, one growth after another: each call then answers that, and nothing in its place. Where
 //! there is enough it answers what it does elsewhere.
 
-use crate::expecting::{expect_again, expect_answer, expect_bytes, expect_last, expect_outcome};
+use crate::expecting::{expect_again, expect_answer, expect_last};
 use std::alloc::{Allocator, Global};
 use std::process::Abort;
-use std::test::Fail;
 use wsn_canon::{Next, Source, normalise};
+use wsn_doubles::expecting::{expect, expect_bytes, expect_of, expect_outcome};
 use wsn_doubles::heaps::{BLOCK, heap_of};
 use wsn_doubles::outcomes::outcome_on;
 use wsn_doubles::readers::Chopped;
@@ -72,7 +72,7 @@ fn last_of<A: Allocator + Copy>(
     input: &mut Input<&mut Chopped>,
 ) -> Result<Next<A>, Stop> {
     for _ in 0..3 {
-        assert!(rt; !input.failed());
+        expect(rt, !input.failed());
         let next = source.next(input);
         if !matches!(&next, Ok(Next::Event(_))) {
             return next;
@@ -88,35 +88,33 @@ fn expect_end<A: Allocator + Copy>(
     alloc: Global,
     growing: &Growing,
     line: &str,
-) -> Result<(), Fail> {
-    let limits = greatest()?;
+) {
+    let limits = greatest();
     let mut reader = Chopped::new(growing.bytes, 1);
     let mut input = Input::new(&mut reader);
     let mut source = Source::new(heap, growing.role, limits);
     let last = last_of(rt, &mut source, &mut input);
-    expect_last(rt, alloc, &last, line)?;
-    expect_again(rt, alloc, &mut source, line)
+    expect_last(rt, alloc, &last, line);
+    expect_again(rt, alloc, &mut source, line);
 }
 
 /// What a source answers where there is memory for so many short messages.
-fn expect_sources(rt: &impl Abort, alloc: Global, room: usize) -> Result<(), Fail> {
-    let heap = heap_of(alloc, room)?;
+fn expect_sources(rt: &impl Abort, alloc: Global, room: usize) {
+    let heap = heap_of(rt, alloc, room);
     for growing in GROWING.iter() {
         let line = match room {
             0 => "out of memory",
             _ => growing.verdict,
         };
-        expect_end(rt, &heap, alloc, growing, line)?;
+        expect_end(rt, &heap, alloc, growing, line);
     }
-    Ok(())
 }
 
 #[test]
-fn a_source_answers_that_memory_is_refused(rt: HostRuntime) -> Result<(), Fail> {
+fn a_source_answers_that_memory_is_refused(rt: HostRuntime) {
     for room in ROOMS {
-        expect_sources(&rt, rt.alloc(), room)?;
+        expect_sources(&rt, rt.alloc(), room);
     }
-    Ok(())
 }
 
 /// Fails unless `normalise` writes these bytes, and its answer has this line.
@@ -127,8 +125,8 @@ fn expect_normalised<A: Allocator + Copy>(
     growing: &Growing,
     line: &str,
     written: &[u8],
-) -> Result<(), Fail> {
-    let limits = greatest()?;
+) {
+    let limits = greatest();
     let mut out = Vec::new(alloc);
     let answer = normalise(
         heap,
@@ -138,28 +136,26 @@ fn expect_normalised<A: Allocator + Copy>(
         limits,
     );
     expect_bytes(rt, out.as_slice(), written);
-    expect_answer(rt, alloc, &answer, line)
+    expect_answer(rt, alloc, &answer, line);
 }
 
 /// What `normalise` answers where there is memory for so many short messages.
-fn expect_normal_forms(rt: &impl Abort, alloc: Global, room: usize) -> Result<(), Fail> {
-    let heap = heap_of(alloc, room)?;
+fn expect_normal_forms(rt: &impl Abort, alloc: Global, room: usize) {
+    let heap = heap_of(rt, alloc, room);
     for growing in GROWING.iter() {
         let (line, written) = match room {
             0 => ("out of memory", growing.before),
             _ => (growing.verdict, growing.normal),
         };
-        expect_normalised(rt, &heap, alloc, growing, line, written)?;
+        expect_normalised(rt, &heap, alloc, growing, line, written);
     }
-    Ok(())
 }
 
 #[test]
-fn normalise_answers_that_memory_is_refused(rt: HostRuntime) -> Result<(), Fail> {
+fn normalise_answers_that_memory_is_refused(rt: HostRuntime) {
     for room in ROOMS {
-        expect_normal_forms(&rt, rt.alloc(), room)?;
+        expect_normal_forms(&rt, rt.alloc(), room);
     }
-    Ok(())
 }
 
 /// Fails unless the command writes what it does where memory is refused, or where there is enough.
@@ -169,90 +165,77 @@ fn expect_normal<A: Allocator + Copy>(
     alloc: Global,
     growing: &Growing,
     is_served: bool,
-) -> Result<(), Fail> {
-    let job = Job::Normal(growing.role, greatest()?);
+) {
+    let job = Job::Normal(growing.role, greatest());
     let reader = Chopped::new(growing.bytes, 1);
     let done = outcome_on(heap, alloc, &job, reader, Narrow::wide(alloc));
-    if is_served {
-        expect_outcome(rt, &done, 0, growing.normal, &[]);
+    let (status, out, said) = if is_served {
+        (0, growing.normal, "")
     } else {
-        expect_outcome(rt, &done, 2, growing.before, b"out of memory\n");
-    }
-    Ok(())
+        (2, growing.before, "out of memory")
+    };
+    expect_outcome(rt, &done, status, out, said);
 }
 
 /// What `normal` says where there is memory for so many short messages.
-fn expect_each_normal(rt: &impl Abort, alloc: Global, room: usize) -> Result<(), Fail> {
-    let heap = heap_of(alloc, room)?;
+fn expect_each_normal(rt: &impl Abort, alloc: Global, room: usize) {
+    let heap = heap_of(rt, alloc, room);
     for growing in GROWING.iter() {
-        expect_normal(rt, &heap, alloc, growing, room > 0)?;
+        expect_normal(rt, &heap, alloc, growing, room > 0);
     }
-    Ok(())
 }
 
 #[test]
-fn normal_says_that_memory_is_refused(rt: HostRuntime) -> Result<(), Fail> {
+fn normal_says_that_memory_is_refused(rt: HostRuntime) {
     for room in ROOMS {
-        expect_each_normal(&rt, rt.alloc(), room)?;
+        expect_each_normal(&rt, rt.alloc(), room);
     }
-    Ok(())
 }
 
 /// Whether the command has memory enough in a heap for a ping and a message, which come by 7 bytes. Fails unless it
 /// writes both then, and else the ping alone.
-fn is_served<A: Allocator + Copy>(
-    rt: &impl Abort,
-    heap: A,
-    alloc: Global,
-    bytes: &[u8],
-) -> Result<bool, Fail> {
-    let job = Job::Normal(Role::Server, greatest()?);
+fn is_served<A: Allocator + Copy>(rt: &impl Abort, heap: A, alloc: Global, bytes: &[u8]) -> bool {
+    let job = Job::Normal(Role::Server, greatest());
     let reader = Chopped::new(bytes, 7);
     let done = outcome_on(heap, alloc, &job, reader, Narrow::wide(alloc));
     let is_served = done.status == 0;
-    if is_served {
-        expect_outcome(rt, &done, 0, bytes, &[]);
+    let (out, said) = if is_served {
+        (bytes, "")
     } else {
-        expect_outcome(rt, &done, 2, &[0x89, 0x00], b"out of memory\n");
-    }
-    Ok(is_served)
+        (&bytes[..bytes.len().min(2)], "out of memory")
+    };
+    expect_outcome(rt, &done, if is_served { 0 } else { 2 }, out, said);
+    is_served
 }
 
 /// A ping, and a message of 60 bytes that comes by 7, which grows more than once. No heap of fewer bytes has room.
 #[test]
-fn a_later_growth_is_refused_alike(rt: HostRuntime) -> Result<(), Fail> {
+fn a_later_growth_is_refused_alike(rt: HostRuntime) {
     let alloc = rt.alloc();
-    let bytes = filled(alloc, &[0x89, 0x00, 0x82, 0x3c], 0, 60)?;
+    let bytes = filled(&rt, alloc, &[0x89, 0x00, 0x82, 0x3c], 0, 60);
     let mut served = false;
     for blocks in 1..16usize {
-        let heap = heap_of(alloc, blocks)?;
-        served = is_served(&rt, &heap, alloc, bytes.as_slice())?;
-        assert!(rt; !served || blocks * BLOCK >= 60);
+        let heap = heap_of(&rt, alloc, blocks);
+        served = is_served(&rt, &heap, alloc, bytes.as_slice());
+        expect_of(&rt, !served || blocks * BLOCK >= 60, &blocks);
     }
-    assert!(rt; served);
-    Ok(())
+    expect(&rt, served);
 }
 
 /// Fails unless the command writes the normal form of the row of that name, with memory from this heap.
-fn expect_control<A: Allocator + Copy>(
-    rt: &impl Abort,
-    heap: A,
-    alloc: Global,
-    name: &str,
-) -> Result<(), Fail> {
-    let stream = stream_named(alloc, name)?;
+fn expect_control<A: Allocator + Copy>(rt: &impl Abort, heap: A, alloc: Global, name: &str) {
+    let stream = stream_named(rt, alloc, name);
     let job = Job::Normal(stream.role, stream.limits);
     let reader = Chopped::new(stream.bytes.as_slice(), 4_096);
     let done = outcome_on(heap, alloc, &job, reader, Narrow::wide(alloc));
-    expect_outcome(rt, &done, 0, stream.normal.as_slice(), &[]);
-    Ok(())
+    expect_outcome(rt, &done, 0, stream.normal.as_slice(), "");
 }
 
 /// Only a message's payload asks for memory.
 #[test]
-fn controls_ask_for_none(rt: HostRuntime) -> Result<(), Fail> {
+fn controls_ask_for_none(rt: HostRuntime) {
     let alloc = rt.alloc();
-    let heap = heap_of(alloc, 0)?;
-    expect_control(&rt, &heap, alloc, "a ping of 125 bytes")?;
-    expect_control(&rt, &heap, alloc, "a Close with a reason of 123 bytes")
+    let heap = heap_of(&rt, alloc, 0);
+    expect_control(&rt, &heap, alloc, "a ping of 125 bytes");
+    expect_control(&rt, &heap, alloc, "a Close with a reason of 123 bytes");
 }

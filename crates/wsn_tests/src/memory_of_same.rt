@@ -1,13 +1,12 @@
 //! Memory that is refused to `same`, and to the comparison under it.
 
-use crate::expecting::{expect_line, expect_outcome};
 use crate::later_growths::{BLOCKS, CUT, frames_of, most_messages};
 use crate::memory::ROOMS;
 use crate::same::{PAIRS, Pair, expect_printed};
 use std::alloc::{AllocError, Allocator, Global};
 use std::process::Abort;
-use std::test::Fail;
 use wsn_doubles::engines::compared;
+use wsn_doubles::expecting::{expect, expect_count, expect_line, expect_outcome};
 use wsn_doubles::heaps::heap_of;
 use wsn_doubles::lines::compared_line;
 use wsn_doubles::outcomes::{Outcome, compared_on};
@@ -24,70 +23,59 @@ fn expect_compared<A: Allocator + Copy>(
     alloc: Global,
     pair: &Pair,
     wanted: &str,
-) -> Result<(), Fail> {
-    let limits = greatest()?;
+) {
+    let limits = greatest();
     let (first, second) = (pair.first_reader(), pair.second_reader());
     let answer = compared(heap, first, second, Role::Server, limits);
-    let line = compared_line(alloc, &answer)?;
+    let line = compared_line(rt, alloc, &answer);
     expect_line(rt, line.as_str(), wanted);
-    Ok(())
 }
 
 /// What comparing answers where there is memory for so many short messages.
-fn expect_pairs(rt: &impl Abort, alloc: Global, room: usize) -> Result<(), Fail> {
-    let heap = heap_of(alloc, room)?;
+fn expect_pairs(rt: &impl Abort, alloc: Global, room: usize) {
+    let heap = heap_of(rt, alloc, room);
     for pair in PAIRS.iter() {
         let line = if room < pair.messages {
             "out of memory"
         } else {
             pair.line
         };
-        expect_compared(rt, &heap, alloc, pair, line)?;
+        expect_compared(rt, &heap, alloc, pair, line);
     }
-    Ok(())
 }
 
 #[test]
-fn comparing_answers_that_memory_is_refused(rt: HostRuntime) -> Result<(), Fail> {
+fn comparing_answers_that_memory_is_refused(rt: HostRuntime) {
     for room in ROOMS {
-        expect_pairs(&rt, rt.alloc(), room)?;
+        expect_pairs(&rt, rt.alloc(), room);
     }
-    Ok(())
 }
 
 /// Fails unless the command says that a heap has no memory for a pair.
-fn expect_refused<A: Allocator + Copy>(
-    rt: &impl Abort,
-    heap: A,
-    alloc: Global,
-    pair: &Pair,
-) -> Result<(), Fail> {
-    let limits = greatest()?;
+fn expect_refused<A: Allocator + Copy>(rt: &impl Abort, heap: A, alloc: Global, pair: &Pair) {
+    let limits = greatest();
     let (first, second) = (pair.first_reader(), pair.second_reader());
     let done = compared_on(heap, alloc, limits, first, second, Narrow::wide(alloc));
-    expect_outcome(rt, &done, 2, &[], b"out of memory\n");
-    Ok(())
+    expect_outcome(rt, &done, 2, &[], "out of memory");
 }
 
 /// What `same` says where there is memory for so many short messages.
-fn expect_said(rt: &impl Abort, alloc: Global, room: usize) -> Result<(), Fail> {
-    let heap = heap_of(alloc, room)?;
+fn expect_said(rt: &impl Abort, alloc: Global, room: usize) {
+    let heap = heap_of(rt, alloc, room);
     for pair in PAIRS.iter() {
         if room < pair.messages {
-            expect_refused(rt, &heap, alloc, pair)?;
+            expect_refused(rt, &heap, alloc, pair);
         } else {
-            expect_printed(rt, &heap, alloc, pair)?;
+            expect_printed(rt, &heap, alloc, pair);
         }
     }
-    Ok(())
 }
 
 #[test]
-fn same_says_that_memory_is_refused(rt: HostRuntime) -> Result<(), Fail> {
+fn same_says_that_memory_is_refused(rt: HostRuntime) {
     for room in ROOMS {
-        expect_said(&rt, rt.alloc(), room)?;
+        expect_said(&rt, rt.alloc(), room);
     }
-    Ok(())
 }
 
 /// The messages as they are cut, but for the first byte of the first.
@@ -116,10 +104,10 @@ impl Differing {
     }
 
     /// The line of how they compare, with memory from this heap.
-    fn line_on<A: Allocator + Copy>(&self, heap: A, alloc: Global) -> Result<String, AllocError> {
+    fn line_on<A: Allocator + Copy>(&self, rt: &impl Abort, heap: A, alloc: Global) -> String {
         let (first, second) = (self.first_reader(), self.second_reader());
         let answer = compared(heap, first, second, Role::Server, self.limits);
-        compared_line(alloc, &answer)
+        compared_line(rt, alloc, &answer)
     }
 
     /// What the command leaves, with memory from this heap.
@@ -130,45 +118,45 @@ impl Differing {
 
     /// Whether there is memory enough in a heap of so many blocks. Fails unless the difference is answered then, and
     /// else that memory is refused.
-    fn is_served(&self, rt: &impl Abort, alloc: Global, blocks: usize) -> Result<bool, Fail> {
-        let heap = heap_of(alloc, blocks)?;
-        let line = self.line_on(&heap, alloc)?;
+    fn is_served(&self, rt: &impl Abort, alloc: Global, blocks: usize) -> bool {
+        let heap = heap_of(rt, alloc, blocks);
+        let line = self.line_on(rt, &heap, alloc);
         let is_served = line.as_str() != "out of memory";
         let done = self.outcome_on(&heap, alloc);
         if is_served {
-            assert!(rt; line.as_str() == "different 1" && most_messages(blocks) == 2);
-            expect_outcome(rt, &done, 1, b"different 1\n", &[]);
+            expect_line(rt, line.as_str(), "different 1");
+            expect_count(rt, most_messages(blocks), 2);
+            expect_outcome(rt, &done, 1, b"different 1\n", "");
         } else {
-            expect_outcome(rt, &done, 2, &[], b"out of memory\n");
+            expect_outcome(rt, &done, 2, &[], "out of memory");
         }
-        Ok(is_served)
+        is_served
     }
 
     /// Of how many heaps there is memory enough in.
-    fn count_served(&self, rt: &impl Abort, alloc: Global) -> Result<usize, Fail> {
+    fn count_served(&self, rt: &impl Abort, alloc: Global) -> usize {
         let mut served = 0usize;
         for blocks in 0..BLOCKS {
-            if self.is_served(rt, alloc, blocks)? {
+            if self.is_served(rt, alloc, blocks) {
                 served = served.saturating_add(1);
             }
         }
-        Ok(served)
+        served
     }
 }
 
 /// That two streams differ is known before the second message asks for memory, and still no difference is answered
 /// where it is refused, nor a verdict.
 #[test]
-fn comparing_answers_that_a_later_growth_is_refused(rt: HostRuntime) -> Result<(), Fail> {
-    let limits = greatest()?;
-    let first = frames_of(rt.alloc(), &CUT)?;
-    let second = frames_of(rt.alloc(), &OTHER)?;
+fn comparing_answers_that_a_later_growth_is_refused(rt: HostRuntime) {
+    let limits = greatest();
+    let first = frames_of(&rt, rt.alloc(), &CUT);
+    let second = frames_of(&rt, rt.alloc(), &OTHER);
     let differing = Differing {
         limits,
         first,
         second,
     };
-    let served = differing.count_served(&rt, rt.alloc())?;
-    assert!(rt; served > 0 && served < BLOCKS);
-    Ok(())
+    let served = differing.count_served(&rt, rt.alloc());
+    expect(&rt, served > 0 && served < BLOCKS);
 }

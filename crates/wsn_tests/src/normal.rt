@@ -1,10 +1,10 @@
 //! `wsn normal`: the normal form on standard output, a verdict that isn't accepted on standard error, and the status.
 
-use crate::expecting::{Reading, expect_failed_read, expect_failed_writes, expect_outcome};
+use crate::expecting::{Reading, expect_failed_read, expect_failed_writes};
 use std::alloc::Global;
 use std::process::Abort;
-use std::test::Fail;
 use wsn_doubles::engines::normalised;
+use wsn_doubles::expecting::expect_outcome;
 use wsn_doubles::outcomes::outcome_on;
 use wsn_doubles::readers::Chopped;
 use wsn_doubles::rows::{Stream, streams};
@@ -12,65 +12,58 @@ use wsn_doubles::writers::{Full, Narrow};
 use wsn_job::Job;
 
 /// Fails unless the command writes a stream's normal form, and says its verdict if that isn't accepted.
-fn expect_normal(rt: &impl Abort, alloc: Global, stream: &Stream) -> Result<(), Fail> {
+fn expect_normal(rt: &impl Abort, alloc: Global, stream: &Stream) {
     let job = Job::Normal(stream.role, stream.limits);
     let reader = Chopped::new(stream.bytes.as_slice(), 4_096);
     let done = outcome_on(alloc, alloc, &job, reader, Narrow::wide(alloc));
-    let verdict = stream.verdict;
-    let line = format!(in alloc; "{verdict}\n")?;
-    let normal = stream.normal.as_slice();
-    if stream.is_accepted() {
-        expect_outcome(rt, &done, 0, normal, &[]);
+    let said = if stream.is_accepted() {
+        ""
     } else {
-        expect_outcome(rt, &done, stream.status(), normal, line.as_bytes());
-    }
-    Ok(())
+        stream.verdict
+    };
+    expect_outcome(rt, &done, stream.status(), stream.normal.as_slice(), said);
 }
 
 #[test]
-fn normal_forms_are_written_and_other_verdicts_told(rt: HostRuntime) -> Result<(), Fail> {
-    for stream in streams(rt.alloc())?.iter() {
-        expect_normal(&rt, rt.alloc(), stream)?;
+fn normal_forms_are_written_and_other_verdicts_told(rt: HostRuntime) {
+    for stream in streams(&rt, rt.alloc()).iter() {
+        expect_normal(&rt, rt.alloc(), stream);
     }
-    Ok(())
 }
 
 #[test]
-fn a_failed_read_is_told_in_one_line(rt: HostRuntime) -> Result<(), Fail> {
+fn a_failed_read_is_told_in_one_line(rt: HostRuntime) {
     let alloc = rt.alloc();
-    for stream in streams(alloc)?.iter() {
+    for stream in streams(&rt, alloc).iter() {
         let job = Job::Normal(stream.role, stream.limits);
         expect_failed_read(&rt, alloc, alloc, &job);
     }
-    Ok(())
 }
 
 #[test]
-fn a_failed_write_is_told_in_one_line(rt: HostRuntime) -> Result<(), Fail> {
+fn a_failed_write_is_told_in_one_line(rt: HostRuntime) {
     let alloc = rt.alloc();
-    for stream in streams(alloc)?.iter() {
+    for stream in streams(&rt, alloc).iter() {
         if let Some(front) = stream.normal.get(..1) {
             let job = Job::Normal(stream.role, stream.limits);
             expect_failed_writes(&rt, alloc, alloc, &job, stream.bytes.as_slice(), front);
         }
     }
-    Ok(())
 }
 
 /// Fails unless a writer that takes one byte a call is given the normal form.
-fn expect_by_one(rt: &impl Abort, alloc: Global, stream: &Stream) -> Result<(), Fail> {
+fn expect_by_one(rt: &impl Abort, alloc: Global, stream: &Stream) {
     let mut writer = Narrow::new(alloc, 1, usize::MAX, Full::Fails);
     let reader = Chopped::new(stream.bytes.as_slice(), usize::MAX);
     let answer = normalised(alloc, stream, reader, &mut writer);
     let reading = Reading::whole(stream, "normalised", usize::MAX);
     reading.expect_bytes(rt, writer.taken.as_slice(), stream.normal.as_slice());
-    reading.expect_answer(rt, alloc, &answer, stream.verdict)
+    reading.expect_answer(rt, alloc, &answer, stream.verdict);
 }
 
 #[test]
-fn a_writer_may_take_one_byte_a_call(rt: HostRuntime) -> Result<(), Fail> {
-    for stream in streams(rt.alloc())?.iter() {
-        expect_by_one(&rt, rt.alloc(), stream)?;
+fn a_writer_may_take_one_byte_a_call(rt: HostRuntime) {
+    for stream in streams(&rt, rt.alloc()).iter() {
+        expect_by_one(&rt, rt.alloc(), stream);
     }
-    Ok(())
 }

@@ -1,9 +1,10 @@
 //! The table of reasons.
 
+use wsn_doubles::expecting::{expect_line, expect_of};
 use wsn_wire::Reason;
 
 /// The whole table: number, word, close code.
-const REASONS: [(Reason, u8, &str, u16); 17] = [
+static REASONS: [(Reason, u8, &str, u16); 17] = [
     (Reason::ReservedBits, 1, "reserved-bits", 1002),
     (Reason::ReservedOpcode, 2, "reserved-opcode", 1002),
     (Reason::ControlNotFinal, 3, "control-not-final", 1002),
@@ -25,8 +26,9 @@ const REASONS: [(Reason, u8, &str, u16); 17] = [
 
 #[test]
 fn the_table_of_reasons(rt: HostRuntime) {
-    for (reason, number, word, code) in REASONS {
-        let told = (reason.number(), reason.word(), reason.code());
-        assert_eq!(rt; told, (number, word, code));
+    for (reason, number, word, code) in REASONS.iter() {
+        expect_line(&rt, reason.word(), word);
+        expect_of(&rt, reason.number() == *number, word);
+        expect_of(&rt, reason.code() == *code, word);
     }
 }

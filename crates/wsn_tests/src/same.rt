@@ -1,15 +1,15 @@
 //! `wsn same`: streams that mean the same, streams that don't, and streams that aren't accepted; the line on standard
 //! output, and the status.
 
-use crate::expecting::{Reading, expect_line, expect_outcome};
+use crate::expecting::Reading;
 use std::alloc::{Allocator, Global};
 use std::process::Abort;
-use std::test::Fail;
 use wsn_doubles::engines::compared;
-use wsn_doubles::lines::compared_line;
+use wsn_doubles::expecting::{expect_line, expect_outcome};
+use wsn_doubles::lines::{compared_line, printed};
 use wsn_doubles::outcomes::compared_on;
 use wsn_doubles::readers::{Chopped, READS};
-use wsn_doubles::rows::{Stream, greatest, streams};
+use wsn_doubles::rows::{Stream, greatest, limits_of, streams};
 use wsn_doubles::writers::{FULL, Full, Narrow};
 use wsn_scan::{Limits, MESSAGE_MAX};
 use wsn_wire::Role;
@@ -108,26 +108,24 @@ pub fn expect_compared(
     first: Chopped,
     second: Chopped,
     wanted: &str,
-) -> Result<(), Fail> {
-    let answer = compared(alloc, first, second, Role::Server, greatest()?);
-    let line = compared_line(alloc, &answer)?;
+) {
+    let answer = compared(alloc, first, second, Role::Server, greatest());
+    let line = compared_line(rt, alloc, &answer);
     expect_line(rt, line.as_str(), wanted);
-    Ok(())
 }
 
 #[test]
-fn streams_are_compared_by_what_they_mean(rt: HostRuntime) -> Result<(), Fail> {
+fn streams_are_compared_by_what_they_mean(rt: HostRuntime) {
     for pair in PAIRS.iter() {
         for most in READS {
             let (first, second) = (Chopped::new(pair.first, most), Chopped::new(pair.second, 1));
-            expect_compared(&rt, rt.alloc(), first, second, pair.line)?;
+            expect_compared(&rt, rt.alloc(), first, second, pair.line);
         }
     }
-    Ok(())
 }
 
 /// Fails unless a stream means the same as its normal form.
-fn expect_equal(rt: &impl Abort, alloc: Global, stream: &Stream) -> Result<(), Fail> {
+fn expect_equal(rt: &impl Abort, alloc: Global, stream: &Stream) {
     let answer = compared(
         alloc,
         Chopped::new(stream.bytes.as_slice(), 4_095),
@@ -135,74 +133,55 @@ fn expect_equal(rt: &impl Abort, alloc: Global, stream: &Stream) -> Result<(), F
         stream.role,
         stream.limits,
     );
-    let line = compared_line(alloc, &answer)?;
+    let line = compared_line(rt, alloc, &answer);
     Reading::whole(stream, "compared", 4_095).expect_line(rt, line.as_str(), "equal");
-    Ok(())
 }
 
 #[test]
-fn what_is_accepted_means_the_same_as_its_normal_form(rt: HostRuntime) -> Result<(), Fail> {
-    for stream in streams(rt.alloc())?.iter() {
+fn what_is_accepted_means_the_same_as_its_normal_form(rt: HostRuntime) {
+    for stream in streams(&rt, rt.alloc()).iter() {
         if stream.is_accepted() {
-            expect_equal(&rt, rt.alloc(), stream)?;
+            expect_equal(&rt, rt.alloc(), stream);
         }
     }
-    Ok(())
 }
 
 /// Fails unless the command prints how a pair compares, with memory from this heap.
-pub fn expect_printed<A: Allocator + Copy>(
-    rt: &impl Abort,
-    heap: A,
-    alloc: Global,
-    pair: &Pair,
-) -> Result<(), Fail> {
-    let line = pair.line;
-    let printed = format!(in alloc; "{line}\n")?;
-    let limits = greatest()?;
+pub fn expect_printed<A: Allocator + Copy>(rt: &impl Abort, heap: A, alloc: Global, pair: &Pair) {
+    let line = printed(rt, alloc, pair.line);
+    let limits = greatest();
     let (first, second) = (pair.first_reader(), pair.second_reader());
     let done = compared_on(heap, alloc, limits, first, second, Narrow::wide(alloc));
-    expect_outcome(rt, &done, pair.status(), printed.as_bytes(), &[]);
-    Ok(())
+    expect_outcome(rt, &done, pair.status(), line.as_bytes(), "");
 }
 
 #[test]
-fn the_answer_is_printed(rt: HostRuntime) -> Result<(), Fail> {
+fn the_answer_is_printed(rt: HostRuntime) {
     for pair in PAIRS.iter() {
-        expect_printed(&rt, rt.alloc(), rt.alloc(), pair)?;
+        expect_printed(&rt, rt.alloc(), rt.alloc(), pair);
     }
-    Ok(())
 }
 
 /// Fails unless the command tells that its writer fails behind each byte of the line, where it is full in that way.
-fn expect_failed_line(
-    rt: &impl Abort,
-    alloc: Global,
-    pair: &Pair,
-    printed: &[u8],
-    full: Full,
-) -> Result<(), Fail> {
-    let limits = greatest()?;
-    for room in 0..printed.len() {
+fn expect_failed_line(rt: &impl Abort, alloc: Global, pair: &Pair, line: &[u8], full: Full) {
+    let limits = greatest();
+    for room in 0..line.len() {
         let (first, second) = (pair.first_reader(), pair.second_reader());
         let writer = Narrow::new(alloc, 1, room, full);
         let done = compared_on(alloc, alloc, limits, first, second, writer);
-        expect_outcome(rt, &done, 2, &printed[..room], b"write failed\n");
+        expect_outcome(rt, &done, 2, &line[..room], "write failed");
     }
-    Ok(())
 }
 
 #[test]
-fn a_failed_write_is_told_in_one_line(rt: HostRuntime) -> Result<(), Fail> {
+fn a_failed_write_is_told_in_one_line(rt: HostRuntime) {
     let alloc = rt.alloc();
     for pair in PAIRS.iter() {
-        let line = pair.line;
-        let printed = format!(in alloc; "{line}\n")?;
+        let line = printed(&rt, alloc, pair.line);
         for full in FULL {
-            expect_failed_line(&rt, alloc, pair, printed.as_bytes(), full)?;
+            expect_failed_line(&rt, alloc, pair, line.as_bytes(), full);
         }
     }
-    Ok(())
 }
 
 /// A Close, which is as long as the input may be here.
@@ -212,31 +191,24 @@ const CLOSE: &[u8] = b"\x88\x02\x03\xe8";
 const LONG: &[u8] = b"\x88\x02\x03\xe8\x81";
 
 /// Fails unless the command, with an input limit of four bytes, says this of the streams that two readers give.
-fn expect_said(
-    rt: &impl Abort,
-    alloc: Global,
-    first: Chopped,
-    second: Chopped,
-    said: &[u8],
-) -> Result<(), Fail> {
-    let limits = Limits::new(MESSAGE_MAX, 4).ok_or("out of range")?;
+fn expect_said(rt: &impl Abort, alloc: Global, first: Chopped, second: Chopped, said: &str) {
+    let limits = limits_of(rt, MESSAGE_MAX, 4);
     let done = compared_on(alloc, alloc, limits, first, second, Narrow::wide(alloc));
     expect_outcome(rt, &done, 2, &[], said);
-    Ok(())
 }
 
 #[test]
-fn an_input_limit_of_either_is_told_in_one_line(rt: HostRuntime) -> Result<(), Fail> {
+fn an_input_limit_of_either_is_told_in_one_line(rt: HostRuntime) {
     let (close, long) = (Chopped::new(CLOSE, 2), Chopped::new(LONG, 2));
-    expect_said(&rt, rt.alloc(), long, close, b"input limit\n")?;
+    expect_said(&rt, rt.alloc(), long, close, "input limit");
     let (close, long) = (Chopped::new(CLOSE, 2), Chopped::new(LONG, 2));
-    expect_said(&rt, rt.alloc(), close, long, b"input limit\n")
+    expect_said(&rt, rt.alloc(), close, long, "input limit");
 }
 
 #[test]
-fn a_failed_read_of_either_is_told_in_one_line(rt: HostRuntime) -> Result<(), Fail> {
+fn a_failed_read_of_either_is_told_in_one_line(rt: HostRuntime) {
     let (close, broken) = (Chopped::new(CLOSE, 2), Chopped::breaking(CLOSE, 2));
-    expect_said(&rt, rt.alloc(), broken, close, b"read failed\n")?;
+    expect_said(&rt, rt.alloc(), broken, close, "read failed");
     let (close, broken) = (Chopped::new(CLOSE, 2), Chopped::breaking(CLOSE, 2));
-    expect_said(&rt, rt.alloc(), close, broken, b"read failed\n")
+    expect_said(&rt, rt.alloc(), close, broken, "read failed");
 }

@@ -2,94 +2,92 @@
 
 use std::alloc::Global;
 use std::process::Abort;
-use std::test::Fail;
+use wsn_doubles::expecting::{expect, expect_line_of, expect_of};
 use wsn_doubles::lines::{frame_line, verdict_line};
-use wsn_doubles::rows::{Stream, greatest};
+use wsn_doubles::rows::{Stream, copied, extend, greatest};
 use wsn_scan::{Notice, Scan};
 use wsn_wire::Role;
 
 /// What a scanner told of a stream: the lines of its frames, its payload, and the line of its verdict.
 #[derive(Drop)]
 pub struct Told {
-    pub frames: String,
+    pub frames: Vec<u8>,
     pub payload: Vec<u8>,
     pub verdict: String,
 }
 
 impl Told {
     /// Notes what a scanner told of the bytes that it took. Whether that is a refusal.
-    fn note(&mut self, alloc: Global, notice: &Notice, taken: &[u8]) -> Result<bool, Fail> {
+    fn note(&mut self, rt: &impl Abort, alloc: Global, notice: &Notice, taken: &[u8]) -> bool {
         match notice {
             Notice::Head(head) => {
-                let line = frame_line(alloc, head)?;
-                self.frames.push_str(line.as_str())?;
+                extend(rt, &mut self.frames, frame_line(rt, alloc, head).as_bytes());
             }
-            Notice::Payload => self.payload.extend_from_slice(taken)?,
-            Notice::Refused(_) => return Ok(true),
+            Notice::Payload => extend(rt, &mut self.payload, taken),
+            Notice::Refused(_) => return true,
             Notice::More | Notice::FrameEnd { .. } | Notice::Closed => {}
         }
-        Ok(false)
+        false
     }
 
     /// Hands a piece to the scanner until all of it is taken. Whether it was refused.
-    fn take(&mut self, alloc: Global, scan: &mut Scan, piece: &[u8]) -> Result<bool, Fail> {
-        let mut bytes = piece.to_vec(alloc)?;
-        self.take_all(alloc, scan, bytes.as_mut_slice())
+    fn take(&mut self, rt: &impl Abort, alloc: Global, scan: &mut Scan, piece: &[u8]) -> bool {
+        let mut bytes = copied(rt, alloc, piece);
+        self.take_all(rt, alloc, scan, bytes.as_mut_slice())
     }
 
     /// Hands bytes to the scanner until all of them are taken. Whether they were refused.
     fn take_all(
         &mut self,
+        rt: &impl Abort,
         alloc: Global,
         scan: &mut Scan,
         mut rest: &mut [u8],
-    ) -> Result<bool, Fail> {
+    ) -> bool {
         for _ in 0..u64::MAX {
             if rest.is_empty() {
                 break;
             }
             let given = rest;
-            if given.len() as u64 > scan.room() {
-                return Err("less room than before")?;
-            }
+            expect(rt, given.len() as u64 <= scan.room());
             let (taken, notice) = scan.next(given);
-            if self.note(alloc, &notice, &given[..taken])? {
-                return Ok(true);
+            if self.note(rt, alloc, &notice, &given[..taken]) {
+                return true;
             }
             rest = &mut given[taken..];
         }
-        Ok(false)
+        false
     }
 
     /// Hands a stream to the scanner, in pieces of so many bytes, until it is refused.
     fn take_pieces(
         &mut self,
+        rt: &impl Abort,
         alloc: Global,
         scan: &mut Scan,
         bytes: &[u8],
         size: usize,
-    ) -> Result<(), Fail> {
+    ) {
         for piece in bytes.chunks(size.max(1)) {
-            if self.take(alloc, scan, piece)? {
+            if self.take(rt, alloc, scan, piece) {
                 break;
             }
         }
-        Ok(())
     }
 }
 
 /// What a scanner tells of a stream, as far as an input may go, that comes in pieces of so many bytes.
-pub fn told_of(alloc: Global, stream: &Stream, size: usize) -> Result<Told, Fail> {
+pub fn told_of(rt: &impl Abort, alloc: Global, stream: &Stream, size: usize) -> Told {
     let mut told = Told {
-        frames: String::new(alloc),
+        frames: Vec::new(alloc),
         payload: Vec::new(alloc),
         verdict: String::new(alloc),
     };
     let mut scan = Scan::new(stream.role, stream.limits);
     let within = scan.room().min(stream.bytes.len() as u64) as usize;
-    told.take_pieces(alloc, &mut scan, &stream.bytes[..within], size)?;
-    told.verdict = verdict_line(alloc, &scan.finish())?;
-    Ok(told)
+    told.take_pieces(rt, alloc, &mut scan, &stream.bytes[..within], size);
+    told.verdict = verdict_line(rt, alloc, &scan.finish());
+    told
 }
 
 /// A server's stream that comes in one piece, and the calls until it is taken or refused and one call behind
@@ -199,33 +197,30 @@ fn expect_call(
     count: usize,
     word: &str,
     name: &str,
-) -> Result<usize, Fail> {
-    if rest.len() as u64 > scan.room() {
-        return Err("less room than before")?;
-    }
+) -> usize {
+    expect(rt, rest.len() as u64 <= scan.room());
     let (taken, notice) = scan.next(rest);
-    assert_eq!(rt; (taken, word_of(&notice)), (count, word), "{name}");
-    Ok(taken)
+    expect_line_of(rt, word_of(&notice), word, &name);
+    expect_of(rt, taken == count, &name);
+    taken
 }
 
 /// Fails unless a scanner's calls take and tell what is written out.
-fn expect_calls(rt: &impl Abort, alloc: Global, calls: &Calls) -> Result<(), Fail> {
-    let mut scan = Scan::new(Role::Server, greatest()?);
-    let mut piece = calls.bytes.to_vec(alloc)?;
+fn expect_calls(rt: &impl Abort, alloc: Global, calls: &Calls) {
+    let mut scan = Scan::new(Role::Server, greatest());
+    let mut piece = copied(rt, alloc, calls.bytes);
     let mut at = 0usize;
     for (count, word) in calls.calls.iter() {
         let from = at.min(piece.len());
         let rest = &mut piece[from..];
-        let taken = expect_call(rt, &mut scan, rest, *count, word, calls.name)?;
+        let taken = expect_call(rt, &mut scan, rest, *count, word, calls.name);
         at = at.saturating_add(taken);
     }
-    Ok(())
 }
 
 #[test]
-fn each_call_takes_what_it_can(rt: HostRuntime) -> Result<(), Fail> {
+fn each_call_takes_what_it_can(rt: HostRuntime) {
     for calls in CALLS.iter() {
-        expect_calls(&rt, rt.alloc(), calls)?;
+        expect_calls(&rt, rt.alloc(), calls);
     }
-    Ok(())
 }

@@ -1,13 +1,13 @@
 //! `Source`: the events of streams that are written out, whatever a read gives, how much of an open message it holds,
 //! and what it answers behind its end.
 
-use crate::expecting::{expect_again, expect_bytes, expect_count, expect_last, expect_line};
+use crate::expecting::{expect_again, expect_last};
 use std::alloc::{Allocator, Global};
 use std::process::Abort;
-use std::test::Fail;
 use wsn_canon::{Event, Next, Source};
+use wsn_doubles::expecting::{expect, expect_bytes, expect_count, expect_line, expect_of};
 use wsn_doubles::readers::{Chopped, READS};
-use wsn_doubles::rows::{Stream, filled, stream_named};
+use wsn_doubles::rows::{Stream, filled, limits_of, stream_named};
 use wsn_scan::{INPUT_MAX, Limits, MESSAGE_MAX};
 use wsn_wire::{Input, Kind, Role};
 
@@ -178,7 +178,7 @@ fn expect_next(
     told: &Told,
     held: usize,
 ) {
-    assert!(rt; !input.failed());
+    expect(rt, !input.failed());
     match source.next(input) {
         Ok(Next::Event(event)) => expect_event(rt, &event, told),
         _ => panic!(rt; "no event where a {} is wanted", told.0),
@@ -193,27 +193,22 @@ fn expect_end(
     source: &mut Source,
     input: &mut Input<&mut Chopped>,
     line: &str,
-) -> Result<(), Fail> {
-    assert!(rt; !input.failed());
+) {
+    expect(rt, !input.failed());
     let last = source.next(input);
-    expect_last(rt, alloc, &last, line)?;
-    expect_again(rt, alloc, source, line)
+    expect_last(rt, alloc, &last, line);
+    expect_again(rt, alloc, source, line);
 }
 
 /// Fails unless a source tells the stream's events, and then its answer.
-fn expect_meant(
-    rt: &impl Abort,
-    alloc: Global,
-    meant: &Meant,
-    mut reader: Chopped,
-) -> Result<(), Fail> {
-    let limits = Limits::new(MESSAGE_MAX, meant.input).ok_or("out of range")?;
+fn expect_meant(rt: &impl Abort, alloc: Global, meant: &Meant, mut reader: Chopped) {
+    let limits = limits_of(rt, MESSAGE_MAX, meant.input);
     let mut input = Input::new(&mut reader);
     let mut source = Source::new(alloc, meant.role, limits);
     for (told, held) in meant.events.iter() {
         expect_next(rt, &mut source, &mut input, told, *held);
     }
-    expect_end(rt, alloc, &mut source, &mut input, meant.answer)
+    expect_end(rt, alloc, &mut source, &mut input, meant.answer);
 }
 
 /// A reader of the stream, by at most so many bytes a call.
@@ -226,14 +221,13 @@ fn reader_of(meant: &Meant, most: usize) -> Chopped<'static> {
 }
 
 #[test]
-fn events_come_in_order_and_then_the_answer(rt: HostRuntime) -> Result<(), Fail> {
+fn events_come_in_order_and_then_the_answer(rt: HostRuntime) {
     let alloc = rt.alloc();
     for meant in MEANT.iter() {
         for most in READS {
-            expect_meant(&rt, alloc, meant, reader_of(meant, most))?;
+            expect_meant(&rt, alloc, meant, reader_of(meant, most));
         }
     }
-    Ok(())
 }
 
 /// Fails unless the next of a source is a binary message of these bytes.
@@ -244,38 +238,31 @@ fn expect_binary(
     wanted: &[u8],
     most: usize,
 ) {
-    assert!(rt; !input.failed());
+    expect(rt, !input.failed());
     let is_wanted = match source.next(input) {
         Ok(Next::Event(Event::Message(Kind::Binary, bytes))) => bytes.as_slice() == wanted,
         _ => panic!(rt; "no binary message"),
     };
-    assert!(rt; is_wanted, "by {most}");
+    expect_of(rt, is_wanted, &most);
     expect_count(rt, source.held(), 0);
 }
 
 /// Fails unless a source of the stream tells one binary message, of these bytes.
-fn expect_one_binary(
-    rt: &impl Abort,
-    alloc: Global,
-    stream: &Stream,
-    wanted: &[u8],
-    most: usize,
-) -> Result<(), Fail> {
+fn expect_one_binary(rt: &impl Abort, alloc: Global, stream: &Stream, wanted: &[u8], most: usize) {
     let mut reader = Chopped::new(stream.bytes.as_slice(), most);
     let mut input = Input::new(&mut reader);
     let mut source = Source::new(alloc, stream.role, stream.limits);
     expect_binary(rt, &mut source, &mut input, wanted, most);
     let line = "accepted 65542 tail 0 unfinished -";
-    expect_end(rt, alloc, &mut source, &mut input, line)
+    expect_end(rt, alloc, &mut source, &mut input, line);
 }
 
 #[test]
-fn a_message_of_65_536_bytes_in_two_fragments(rt: HostRuntime) -> Result<(), Fail> {
+fn a_message_of_65_536_bytes_in_two_fragments(rt: HostRuntime) {
     let alloc = rt.alloc();
-    let stream = stream_named(alloc, "fragments of 65,535 bytes and of one")?;
-    let wanted = filled(alloc, &[], 0x2a, 65_536)?;
+    let stream = stream_named(&rt, alloc, "fragments of 65,535 bytes and of one");
+    let wanted = filled(&rt, alloc, &[], 0x2a, 65_536);
     for most in READS {
-        expect_one_binary(&rt, alloc, &stream, wanted.as_slice(), most)?;
+        expect_one_binary(&rt, alloc, &stream, wanted.as_slice(), most);
     }
-    Ok(())
 }

@@ -1,28 +1,27 @@
 //! What ends an engine's work before its verdict: readers that fail, behind each byte; and a stop's words.
 
-use crate::expecting::{Reading, expect_line};
+use crate::expecting::Reading;
 use crate::same::{PAIRS, expect_compared};
 use std::alloc::Global;
 use std::process::Abort;
-use std::test::Fail;
 use wsn_doubles::engines::{judged, listed, normalised};
-use wsn_doubles::lines::listing;
+use wsn_doubles::expecting::{expect_line, front_of};
+use wsn_doubles::lines::{listing, stop_line};
 use wsn_doubles::readers::{Chopped, READS};
 use wsn_doubles::rows::{Stream, line_behind, stream_named, streams};
 use wsn_scan::Stop;
 
 #[test]
-fn words_of_a_stop(rt: HostRuntime) -> Result<(), Fail> {
+fn words_of_a_stop(rt: HostRuntime) {
     for (stop, words) in [
         (Stop::Read, "read failed"),
         (Stop::InputLimit, "input limit"),
         (Stop::Memory, "out of memory"),
         (Stop::Write, "write failed"),
     ] {
-        let printed = format!(in rt.alloc(); "{stop}")?;
-        expect_line(&rt, printed.as_str(), words);
+        let line = stop_line(&rt, rt.alloc(), stop);
+        expect_line(&rt, line.as_str(), words);
     }
-    Ok(())
 }
 
 /// A stream whose reader fails behind its first bytes, by so many a call, and the line that an engine tells of it.
@@ -64,102 +63,97 @@ impl<'a> Broken<'a> {
         }
     }
 
-    fn expect_judged(&self, rt: &impl Abort, alloc: Global) -> Result<(), Fail> {
+    fn expect_judged(&self, rt: &impl Abort, alloc: Global) {
         let answer = judged(self.stream, self.reader());
         self.reading("judged")
-            .expect_answer(rt, alloc, &answer, self.wanted)
+            .expect_answer(rt, alloc, &answer, self.wanted);
     }
 
-    fn expect_listed(&self, rt: &impl Abort, alloc: Global, whole: &[u8]) -> Result<(), Fail> {
+    fn expect_listed(&self, rt: &impl Abort, alloc: Global, whole: &[u8]) {
         let mut text = Vec::new(alloc);
         let answer = listed(self.stream, self.reader(), &mut text);
         let reading = self.reading("listed");
         let lines = self.stream.frames.as_bytes();
         self.expect_written(rt, &reading, text.as_slice(), whole, lines);
-        reading.expect_answer(rt, alloc, &answer, self.wanted)
+        reading.expect_answer(rt, alloc, &answer, self.wanted);
     }
 
-    fn expect_normalised(&self, rt: &impl Abort, alloc: Global) -> Result<(), Fail> {
+    fn expect_normalised(&self, rt: &impl Abort, alloc: Global) {
         let mut out = Vec::new(alloc);
         let answer = normalised(alloc, self.stream, self.reader(), &mut out);
         let normal = self.stream.normal.as_slice();
         let reading = self.reading("normalised");
         self.expect_written(rt, &reading, out.as_slice(), normal, normal);
-        reading.expect_answer(rt, alloc, &answer, self.wanted)
+        reading.expect_answer(rt, alloc, &answer, self.wanted);
     }
 }
 
 /// Adds the ways in which a stream's reader may fail behind these bytes: by reads of each size.
 fn push_breaks<'a>(
+    rt: &impl Abort,
     breaks: &mut Vec<Broken<'a>>,
     stream: &'a Stream,
     front: &'a [u8],
-) -> Result<(), Fail> {
-    let wanted = line_behind(stream, front)?;
+) {
+    let wanted = line_behind(stream, front);
     for most in READS {
-        breaks.push(Broken {
+        let broken = Broken {
             stream,
             front,
             most,
             wanted,
-        })?;
+        };
+        breaks.push(broken).expect(rt, "memory");
     }
-    Ok(())
 }
 
 /// Every way in which a stream's reader may fail: behind each of its fronts, by reads of each size.
-fn breaks<'a>(alloc: Global, stream: &'a Stream) -> Result<Vec<Broken<'a>>, Fail> {
+fn breaks<'a>(rt: &impl Abort, alloc: Global, stream: &'a Stream) -> Vec<Broken<'a>> {
     let mut breaks = Vec::new(alloc);
-    for front in stream.fronts(alloc)?.iter() {
-        push_breaks(&mut breaks, stream, front)?;
+    for front in stream.fronts(rt, alloc).iter() {
+        push_breaks(rt, &mut breaks, stream, front);
     }
-    Ok(breaks)
+    breaks
 }
 
-fn expect_judged_breaks(rt: &impl Abort, alloc: Global, stream: &Stream) -> Result<(), Fail> {
-    for broken in breaks(alloc, stream)?.iter() {
-        broken.expect_judged(rt, alloc)?;
+fn expect_judged_breaks(rt: &impl Abort, alloc: Global, stream: &Stream) {
+    for broken in breaks(rt, alloc, stream).iter() {
+        broken.expect_judged(rt, alloc);
     }
-    Ok(())
-}
-
-#[test]
-fn judge_tells_a_failed_read_before_the_answer_shows(rt: HostRuntime) -> Result<(), Fail> {
-    for stream in streams(rt.alloc())?.iter() {
-        expect_judged_breaks(&rt, rt.alloc(), stream)?;
-    }
-    Ok(())
-}
-
-fn expect_listed_breaks(rt: &impl Abort, alloc: Global, stream: &Stream) -> Result<(), Fail> {
-    let whole = listing(alloc, stream)?;
-    for broken in breaks(alloc, stream)?.iter() {
-        broken.expect_listed(rt, alloc, whole.as_bytes())?;
-    }
-    Ok(())
 }
 
 #[test]
-fn list_tells_a_failed_read_before_the_answer_shows(rt: HostRuntime) -> Result<(), Fail> {
-    for stream in streams(rt.alloc())?.iter() {
-        expect_listed_breaks(&rt, rt.alloc(), stream)?;
+fn judge_tells_a_failed_read_before_the_answer_shows(rt: HostRuntime) {
+    for stream in streams(&rt, rt.alloc()).iter() {
+        expect_judged_breaks(&rt, rt.alloc(), stream);
     }
-    Ok(())
 }
 
-fn expect_normalised_breaks(rt: &impl Abort, alloc: Global, stream: &Stream) -> Result<(), Fail> {
-    for broken in breaks(alloc, stream)?.iter() {
-        broken.expect_normalised(rt, alloc)?;
+fn expect_listed_breaks(rt: &impl Abort, alloc: Global, stream: &Stream) {
+    let whole = listing(rt, alloc, stream);
+    for broken in breaks(rt, alloc, stream).iter() {
+        broken.expect_listed(rt, alloc, whole.as_bytes());
     }
-    Ok(())
 }
 
 #[test]
-fn normalise_tells_a_failed_read_before_the_answer_shows(rt: HostRuntime) -> Result<(), Fail> {
-    for stream in streams(rt.alloc())?.iter() {
-        expect_normalised_breaks(&rt, rt.alloc(), stream)?;
+fn list_tells_a_failed_read_before_the_answer_shows(rt: HostRuntime) {
+    for stream in streams(&rt, rt.alloc()).iter() {
+        expect_listed_breaks(&rt, rt.alloc(), stream);
     }
-    Ok(())
+}
+
+fn expect_normalised_breaks(rt: &impl Abort, alloc: Global, stream: &Stream) {
+    for broken in breaks(rt, alloc, stream).iter() {
+        broken.expect_normalised(rt, alloc);
+    }
+}
+
+#[test]
+fn normalise_tells_a_failed_read_before_the_answer_shows(rt: HostRuntime) {
+    for stream in streams(&rt, rt.alloc()).iter() {
+        expect_normalised_breaks(&rt, rt.alloc(), stream);
+    }
 }
 
 /// Behind how many bytes of a stream each line of its frames is due, and behind how many so many bytes of its normal
@@ -186,108 +180,88 @@ static DUE: [Due; 2] = [
 
 impl Due {
     /// The lines that are due with so many bytes.
-    fn lines_of<'a>(&self, stream: &'a Stream, count: usize) -> Result<&'a [u8], Fail> {
+    fn lines_of<'a>(&self, rt: &impl Abort, stream: &'a Stream, count: usize) -> &'a [u8] {
         let due = self.lines.iter().filter(|end| **end <= count).count();
         let lines = stream.frames.split_inclusive('\n').take(due);
         let size = lines.fold(0usize, |size, line| size.saturating_add(line.len()));
-        Ok(stream.frames.as_bytes().get(..size).ok_or("too many")?)
+        front_of(rt, stream.frames.as_bytes(), size)
     }
 
     /// What of the normal form is due with so many bytes.
-    fn normal_of<'a>(&self, stream: &'a Stream, count: usize) -> Result<&'a [u8], Fail> {
+    fn normal_of<'a>(&self, rt: &impl Abort, stream: &'a Stream, count: usize) -> &'a [u8] {
         let ended = self.normal.iter().filter(|(end, _)| *end <= count);
         let size = ended.last().map_or(0, |(_, size)| *size);
-        Ok(stream.normal.get(..size).ok_or("too many")?)
+        front_of(rt, stream.normal.as_slice(), size)
     }
 }
 
 /// Fails unless `list` writes these lines before it tells that the reader fails behind these bytes.
-fn expect_lines(rt: &impl Abort, alloc: Global, broken: &Broken, lines: &[u8]) -> Result<(), Fail> {
+fn expect_lines(rt: &impl Abort, alloc: Global, broken: &Broken, lines: &[u8]) {
     let mut text = Vec::new(alloc);
     let answer = listed(broken.stream, broken.reader(), &mut text);
     let reading = broken.reading("listed");
     reading.expect_bytes(rt, text.as_slice(), lines);
-    reading.expect_answer(rt, alloc, &answer, "read failed")
+    reading.expect_answer(rt, alloc, &answer, "read failed");
 }
 
-fn expect_due_lines(
-    rt: &impl Abort,
-    alloc: Global,
-    due: &Due,
-    stream: &Stream,
-) -> Result<(), Fail> {
-    for broken in breaks(alloc, stream)?.iter() {
-        let lines = due.lines_of(stream, broken.front.len())?;
-        expect_lines(rt, alloc, broken, lines)?;
+fn expect_due_lines(rt: &impl Abort, alloc: Global, due: &Due, stream: &Stream) {
+    for broken in breaks(rt, alloc, stream).iter() {
+        let lines = due.lines_of(rt, stream, broken.front.len());
+        expect_lines(rt, alloc, broken, lines);
     }
-    Ok(())
 }
 
 #[test]
-fn list_writes_the_lines_that_came_before_a_failed_read(rt: HostRuntime) -> Result<(), Fail> {
+fn list_writes_the_lines_that_came_before_a_failed_read(rt: HostRuntime) {
     for due in DUE.iter() {
-        let stream = stream_named(rt.alloc(), due.name)?;
-        expect_due_lines(&rt, rt.alloc(), due, &stream)?;
+        let stream = stream_named(&rt, rt.alloc(), due.name);
+        expect_due_lines(&rt, rt.alloc(), due, &stream);
     }
-    Ok(())
 }
 
 /// Fails unless `normalise` writes these bytes before it tells that the reader fails behind these bytes.
-fn expect_events(
-    rt: &impl Abort,
-    alloc: Global,
-    broken: &Broken,
-    normal: &[u8],
-) -> Result<(), Fail> {
+fn expect_events(rt: &impl Abort, alloc: Global, broken: &Broken, normal: &[u8]) {
     let mut out = Vec::new(alloc);
     let answer = normalised(alloc, broken.stream, broken.reader(), &mut out);
     let reading = broken.reading("normalised");
     reading.expect_bytes(rt, out.as_slice(), normal);
-    reading.expect_answer(rt, alloc, &answer, "read failed")
+    reading.expect_answer(rt, alloc, &answer, "read failed");
 }
 
-fn expect_due_events(
-    rt: &impl Abort,
-    alloc: Global,
-    due: &Due,
-    stream: &Stream,
-) -> Result<(), Fail> {
-    for broken in breaks(alloc, stream)?.iter() {
-        let normal = due.normal_of(stream, broken.front.len())?;
-        expect_events(rt, alloc, broken, normal)?;
+fn expect_due_events(rt: &impl Abort, alloc: Global, due: &Due, stream: &Stream) {
+    for broken in breaks(rt, alloc, stream).iter() {
+        let normal = due.normal_of(rt, stream, broken.front.len());
+        expect_events(rt, alloc, broken, normal);
     }
-    Ok(())
 }
 
 #[test]
-fn normalise_writes_the_events_that_came_before_a_failed_read(rt: HostRuntime) -> Result<(), Fail> {
+fn normalise_writes_the_events_that_came_before_a_failed_read(rt: HostRuntime) {
     for due in DUE.iter() {
-        let stream = stream_named(rt.alloc(), due.name)?;
-        expect_due_events(&rt, rt.alloc(), due, &stream)?;
+        let stream = stream_named(&rt, rt.alloc(), due.name);
+        expect_due_events(&rt, rt.alloc(), due, &stream);
     }
-    Ok(())
 }
 
-/// All but the last byte.
-fn front_of(bytes: &[u8]) -> &[u8] {
+/// The bytes but for the last.
+fn all_but_the_last(bytes: &[u8]) -> &[u8] {
     &bytes[..bytes.len().saturating_sub(1)]
 }
 
 /// A stop goes before any verdict or difference.
 #[test]
-fn same_tells_a_failed_read_of_either(rt: HostRuntime) -> Result<(), Fail> {
+fn same_tells_a_failed_read_of_either(rt: HostRuntime) {
     let alloc = rt.alloc();
     for pair in PAIRS.iter() {
-        let first = Chopped::breaking(front_of(pair.first), 1);
-        expect_compared(&rt, alloc, first, Chopped::new(&[], 1), "read failed")?;
-        let second = Chopped::breaking(front_of(pair.second), 1);
+        let first = Chopped::breaking(all_but_the_last(pair.first), 1);
+        expect_compared(&rt, alloc, first, Chopped::new(&[], 1), "read failed");
+        let second = Chopped::breaking(all_but_the_last(pair.second), 1);
         expect_compared(
             &rt,
             alloc,
             Chopped::new(pair.first, 1),
             second,
             "read failed",
-        )?;
+        );
     }
-    Ok(())
 }

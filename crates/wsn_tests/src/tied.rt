@@ -1,9 +1,9 @@
 //! An output that is tied to an input: what waits goes out before the input is asked for more.
 
-use crate::expecting::{expect_bytes, expect_count};
 use std::cell::{Cell, RefCell};
 use std::io::{self, ErrorKind, Read, Write};
 use std::process::Abort;
+use wsn_doubles::expecting::{expect, expect_bytes, expect_count, expect_of};
 use wsn_stdio::{BlockReader, BlockWriter, TiedReader, TiedWriter};
 
 /// A reader of blocks of three bytes each, which notes how many bytes had gone out when it was last asked.
@@ -58,12 +58,12 @@ fn expect_read(rt: &impl Abort, reader: &mut impl Read, bytes: &[u8]) {
 
 /// Fails unless a writer takes these bytes.
 fn expect_taken(rt: &impl Abort, writer: &mut impl Write, bytes: &[u8]) {
-    assert!(rt; writer.write(bytes).is_ok(), "{bytes:?}");
+    expect_of(rt, writer.write(bytes).is_ok(), &bytes);
 }
 
 /// Fails unless a writer is flushed.
 fn expect_flushed(rt: &impl Abort, writer: &mut impl Write) {
-    assert!(rt; writer.flush().is_ok());
+    expect(rt, writer.flush().is_ok());
 }
 
 /// Fails unless so many bytes are noted.
@@ -119,8 +119,8 @@ fn a_failed_flush_is_seen_by_the_next_write(rt: HostRuntime) {
     expect_taken(&rt, &mut writer, b"line");
     expect_read(&rt, &mut reader, b"ab");
     fails.set(false);
-    assert!(rt; writer.write(b"more").is_err());
-    assert!(rt; writer.flush().is_err());
+    expect(&rt, writer.write(b"more").is_err());
+    expect(&rt, writer.flush().is_err());
     expect_noted(&rt, &written, 0);
 }
 

@@ -1,11 +1,12 @@
 //! UTF-8 in one piece, byte by byte and cut inside characters.
 
 use std::process::Abort;
-use std::test::Fail;
+use wsn_doubles::expecting::expect_of;
+use wsn_doubles::rows::filled;
 use wsn_text::Utf8;
 
 /// Bytes, the offset of the first bad one, and whether they are UTF-8.
-const EXAMPLES: [(&[u8], Option<usize>, bool); 22] = [
+static EXAMPLES: [(&[u8], Option<usize>, bool); 22] = [
     (&[0xC0, 0x80], Some(0), false),
     (&[0x80], Some(0), false),
     (&[0xE2, 0x28], Some(1), false),
@@ -51,12 +52,12 @@ fn expect_fed(
     wanted: Result<(), usize>,
     text: &[u8],
 ) {
-    assert_eq!(rt; utf8.feed(piece), wanted, "{piece:?} of {text:?}");
+    expect_of(rt, utf8.feed(piece) == wanted, &(piece, text));
 }
 
 /// Fails unless what was taken of a text is whole, or isn't.
 fn expect_whole(rt: &impl Abort, utf8: &Utf8, whole: bool, text: &[u8]) {
-    assert_eq!(rt; utf8.is_whole(), whole, "{text:?}");
+    expect_of(rt, utf8.is_whole() == whole, &text);
 }
 
 /// Behind a bad byte nothing is taken, neither nothing nor a letter.
@@ -66,19 +67,24 @@ fn expect_bad_from_then_on(rt: &impl Abort, utf8: &mut Utf8, text: &[u8]) {
     expect_whole(rt, utf8, false, text);
 }
 
+/// Fails unless a text in one piece has this first bad byte, if any, and is whole, or isn't.
+fn expect_example(rt: &impl Abort, text: &[u8], first_bad: Option<usize>, whole: bool) {
+    let mut utf8 = Utf8::new();
+    let wanted = match first_bad {
+        Some(at) => Err(at),
+        None => Ok(()),
+    };
+    expect_fed(rt, &mut utf8, text, wanted, text);
+    expect_whole(rt, &utf8, whole, text);
+    if first_bad.is_some() {
+        expect_bad_from_then_on(rt, &mut utf8, text);
+    }
+}
+
 #[test]
 fn examples_in_one_piece(rt: HostRuntime) {
-    for (bytes, first_bad, whole) in EXAMPLES {
-        let mut utf8 = Utf8::new();
-        let wanted = match first_bad {
-            Some(at) => Err(at),
-            None => Ok(()),
-        };
-        expect_fed(&rt, &mut utf8, bytes, wanted, bytes);
-        expect_whole(&rt, &utf8, whole, bytes);
-        if first_bad.is_some() {
-            expect_bad_from_then_on(&rt, &mut utf8, bytes);
-        }
+    for (bytes, first_bad, whole) in EXAMPLES.iter() {
+        expect_example(&rt, bytes, *first_bad, *whole);
     }
 }
 
@@ -87,44 +93,36 @@ fn expect_each_byte(rt: &impl Abort, utf8: &mut Utf8, text: &[u8], first_bad: Op
     for (i, byte) in text.iter().enumerate() {
         let bad = first_bad.is_some_and(|at| at <= i);
         let wanted = if bad { Err(0) } else { Ok(()) };
-        assert_eq!(rt; utf8.feed(&[*byte]), wanted, "byte {i} of {text:?}");
+        expect_fed(rt, utf8, &[*byte], wanted, text);
     }
 }
 
 #[test]
 fn examples_byte_by_byte(rt: HostRuntime) {
-    for (bytes, first_bad, whole) in EXAMPLES {
+    for (bytes, first_bad, whole) in EXAMPLES.iter() {
         let mut utf8 = Utf8::new();
-        expect_each_byte(&rt, &mut utf8, bytes, first_bad);
-        expect_whole(&rt, &utf8, whole, bytes);
+        expect_each_byte(&rt, &mut utf8, bytes, *first_bad);
+        expect_whole(&rt, &utf8, *whole, bytes);
     }
 }
 
 /// Fails unless a text that is fed in two pieces is taken so, the first piece of which is good.
-fn expect_cut(
-    rt: &impl Abort,
-    text: &[u8],
-    cut: usize,
-    wanted: Result<(), usize>,
-) -> Result<(), Fail> {
-    let (first, rest) = text.split_at_checked(cut).ok_or("no such cut")?;
+fn expect_cut(rt: &impl Abort, text: &[u8], cut: usize, wanted: Result<(), usize>) {
+    let (first, rest) = text.split_at_checked(cut).expect(rt, "as many bytes");
     let mut utf8 = Utf8::new();
-    assert!(rt; utf8.feed(first).is_ok(), "the first {cut}");
-    assert_eq!(rt; utf8.feed(rest), wanted, "the rest from {cut}");
-    assert!(rt; utf8.is_whole() == wanted.is_ok(), "cut at {cut}");
-    Ok(())
+    expect_of(rt, utf8.feed(first).is_ok(), &cut);
+    expect_of(rt, utf8.feed(rest) == wanted, &cut);
+    expect_of(rt, utf8.is_whole() == wanted.is_ok(), &cut);
 }
 
 /// Long enough for whole blocks; cut inside each of its characters. A bad byte stands behind it the second time.
 #[test]
-fn a_long_text_in_two_pieces(rt: HostRuntime) -> Result<(), Fail> {
-    let text = "aé€😀".repeat(rt.alloc(), 50)?;
-    let mut bad = text.as_bytes().to_vec(rt.alloc())?;
-    bad.push(0xFF)?;
+fn a_long_text_in_two_pieces(rt: HostRuntime) {
+    let text = "aé€😀".repeat(rt.alloc(), 50).expect(&rt, "memory");
+    let bad = filled(&rt, rt.alloc(), text.as_bytes(), 0xff, 1);
     let whole = text.len();
     for cut in 0..=whole {
-        expect_cut(&rt, text.as_bytes(), cut, Ok(()))?;
-        expect_cut(&rt, bad.as_slice(), cut, Err(whole - cut))?;
+        expect_cut(&rt, text.as_bytes(), cut, Ok(()));
+        expect_cut(&rt, bad.as_slice(), cut, Err(whole - cut));
     }
-    Ok(())
 }
