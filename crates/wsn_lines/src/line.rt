@@ -20,6 +20,7 @@ impl<const MOST: usize> Model for Line<MOST> {
 
 impl<const MOST: usize> Line<MOST> {
     /// The empty line.
+    #[tactic(none)]
     pub fn new() -> Self
         ensures { result ≡ [] }
     {
@@ -29,6 +30,7 @@ impl<const MOST: usize> Line<MOST> {
     }
 
     /// The bytes so far.
+    #[tactic(none)]
     pub fn bytes(&self) -> &[u8]
         ensures { result.now ≡ self.now }
     {
@@ -36,6 +38,7 @@ impl<const MOST: usize> Line<MOST> {
     }
 
     /// Appends a text.
+    #[tactic(none)]
     pub fn push(&mut self, text: &str)
         requires { length self.old + length text.now ≤ MOST }
         ensures text { self.new ≡ self.old ++ text.now }
@@ -45,6 +48,7 @@ impl<const MOST: usize> Line<MOST> {
     }
 
     /// Appends a number in decimal digits, of which it has 20 at most.
+    #[tactic(none)]
     pub fn push_number(&mut self, n: u64)
         requires { length self.old + 20 ≤ MOST }
         ensures text { self.new ≡ self.old ++ decimal n }
@@ -54,6 +58,7 @@ impl<const MOST: usize> Line<MOST> {
     }
 
     /// Appends a number, or a dash where there is none.
+    #[tactic(none)]
     pub fn push_number_or_dash(&mut self, n: Option<u64>)
         requires { length self.old + 20 ≤ MOST }
         ensures text { self.new ≡ self.old ++ size_text n }
@@ -66,6 +71,7 @@ impl<const MOST: usize> Line<MOST> {
     }
 
     /// Appends a key's four bytes in eight hexadecimal digits in lower case, or a dash where there is none.
+    #[tactic(none)]
     pub fn push_key(&mut self, key: Option<[u8; 4]>)
         requires { length self.old + 8 ≤ MOST }
         ensures text { self.new ≡ self.old ++ key_text key }
@@ -82,6 +88,7 @@ impl<const MOST: usize> Line<MOST> {
 
     /// Appends how a length is spelled, ` two` or ` eight`, and nothing where that is the shortest way (RFC 6455
     /// section 5.2).
+    #[tactic(none)]
     pub fn push_form(&mut self, form: Form)
         requires { length self.old + 6 ≤ MOST }
         ensures text { self.new ≡ self.old ++ form_text form }

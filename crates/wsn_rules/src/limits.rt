@@ -42,6 +42,7 @@ impl Limits {
 
     /// Limits in bytes: a message of 0 to 16,777,216, an input of 0 to 2^40. `None` exactly outside of these.
     /// Any number of frames, and the shortest lengths alone.
+    #[tactic(none)]
     pub fn new(message: u32, input: u64) -> Option<Limits>
         ensures in_range { IsSome result ↔ ((message ≤ 16777216) × (input ≤ 2 ^ 40)) }
         ensures value { IfSome result (λ limits. limits
@@ -59,6 +60,7 @@ impl Limits {
     }
 
     /// The same with at most `frames` frames in a message. `None` exactly for 0.
+    #[tactic(none)]
     pub fn with_frames(self, frames: u32) -> Option<Limits>
         ensures in_range { IsSome result ↔ (0 < frames) }
         ensures value { IfSome result (λ limits. limits ≡ record self { frames = Some frames }) }
@@ -73,6 +75,7 @@ impl Limits {
     }
 
     /// The same with these spellings of a length.
+    #[tactic(none)]
     pub fn with_lengths(self, lengths: Lengths) -> Limits
         ensures { result ≡ record self { lengths = lengths } }
     {
@@ -80,6 +83,7 @@ impl Limits {
     }
 
     /// The most bytes of a message.
+    #[tactic(none)]
     pub fn message(&self) -> u32
         ensures value { result ≡ self.now.message }
         ensures in_range { InRange self.now }
@@ -88,6 +92,7 @@ impl Limits {
     }
 
     /// The most bytes of an input.
+    #[tactic(none)]
     pub fn input(&self) -> u64
         ensures value { result ≡ self.now.input }
         ensures in_range { InRange self.now }
@@ -96,6 +101,7 @@ impl Limits {
     }
 
     /// The most frames of a message, if there is such a limit.
+    #[tactic(none)]
     pub fn frames(&self) -> Option<u32>
         ensures { result ≡ self.now.frames }
     {
@@ -103,6 +109,7 @@ impl Limits {
     }
 
     /// Which spellings of a length are taken.
+    #[tactic(none)]
     pub fn lengths(&self) -> Lengths
         ensures { result ≡ self.now.lengths }
     {

@@ -26,6 +26,7 @@ pub enum Why {
 
 impl Why {
     /// The word that is printed of it.
+    #[tactic(none)]
     pub fn word(&self) -> &'static str
         ensures word { result.now ≡ why_word self.now }
         ensures short { length result.now ≤ 15 }

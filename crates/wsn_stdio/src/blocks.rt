@@ -27,6 +27,7 @@ pub struct BlockReader<R: Read> {
 
 impl<R: Read> BlockReader<R> {
     /// A reader of all that the one behind it has left, which hasn't been asked yet.
+    #[tactic(none)]
     pub fn new(reader: R) -> Self
         ensures reader { result.reader ≡ reader }
         ensures nothing_held { result.start ≡ result.end }
@@ -40,6 +41,7 @@ impl<R: Read> BlockReader<R> {
     }
 
     /// Asks for the next block, if all of the last has been handed on.
+    #[tactic(none)]
     fn fill(&mut self) -> io::Result<()>
         ensures bytes { Keeps
             (prepend_known (slice_range self.old.block self.old.start self.old.end) (R.remaining self.old.reader))
@@ -58,6 +60,7 @@ impl<R: Read> BlockReader<R> {
 impl<R: Read> Read for BlockReader<R> {
     ghost remaining = { λ b. prepend_known (slice_range b.block b.start b.end) (R.remaining b.reader) };
 
+    #[tactic(none)]
     fn read(&mut self, into: &mut [u8]) -> io::Result<usize> {
         self.fill()?;
         let held = &self.block[self.start..self.end];
@@ -86,6 +89,7 @@ impl<W: Write> Model for BlockWriter<W> {
 
 impl<W: Write> BlockWriter<W> {
     /// One that holds nothing, and has not failed.
+    #[tactic(none)]
     pub fn new(writer: W) -> Self
         ensures written { result.written ≡ W.contents writer }
         ensures pending { result.pending ≡ [] }
@@ -99,6 +103,7 @@ impl<W: Write> BlockWriter<W> {
 
     /// Takes the bytes, to be written by the time of the next `flush`. False if a write has failed, now or before.
     #[inline(always)]
+    #[tactic(none)]
     pub fn put(&mut self, bytes: &[u8]) -> bool
         ensures all { result ≡ true → Appends (all_of self.old) (all_of self.new) bytes.now }
         ensures failed { self.new.failed ≡ not result }
@@ -118,6 +123,7 @@ impl<W: Write> BlockWriter<W> {
     /// Takes the bytes where nothing is pending. More than can wait are written at once.
     #[cold]
     #[inline(never)]
+    #[tactic(none)]
     fn put_first(&mut self, bytes: &[u8]) -> bool
         requires empty { self.old.pending ≡ [] }
         requires writable { self.old.failed ≡ false }
@@ -133,6 +139,7 @@ impl<W: Write> BlockWriter<W> {
 
     /// Writes all that is pending. False if a write has failed, now or before.
     #[inline(never)]
+    #[tactic(none)]
     pub fn flush(&mut self) -> bool
         ensures all { result ≡ true → Appends self.old.written self.new.written self.old.pending }
         ensures none_left { result ≡ true → self.new.pending ≡ [] }

@@ -24,6 +24,7 @@ impl<'a, R: Read, W: Write> TiedReader<'a, R, W> {
 impl<R: Read, W: Write> Read for TiedReader<'_, R, W> {
     ghost remaining = { λ t. R.remaining t.reader };
 
+    #[tactic(none)]
     fn read(&mut self, into: &mut [u8]) -> io::Result<usize> {
         if let Ok(mut output) = self.output.try_borrow_mut() {
             output.flush();

@@ -3,6 +3,7 @@ ghost use Rattle.wsn_text.specs.CloseBody.{IsAcceptedCode};
 
 /// Whether a Close may carry this code (RFC 6455 section 7.4 and the IANA registry): 1000 to 1003, 1007 to
 /// 1014 and 3000 to 4999.
+#[tactic(none)]
 pub fn code_allowed(code: u16) -> bool
     ensures { IsTrue result ↔ IsAcceptedCode code }
 {

@@ -46,6 +46,7 @@ impl Expected {
     }
 
     /// What may come after the first byte of a character.
+    #[tactic(none)]
     fn after_first(byte: u8) -> Expected
         ensures { (more : List ℕ) → IsText (byte ∷ more) ↔ Follows (awaited result) more }
     {
@@ -65,6 +66,7 @@ impl Expected {
     }
 
     /// This, if `byte` is one of `low` to `high`.
+    #[tactic(none)]
     fn if_within(self, byte: u8, low: u8, high: u8) -> Expected
         ensures { (more : List ℕ) → (low ≤ byte) × (byte ≤ high) × Follows (awaited self) more
             ↔ Follows (awaited result) more }
@@ -120,6 +122,7 @@ impl Model for Utf8 {
 
 impl Utf8 {
     /// No byte is taken yet.
+    #[tactic(none)]
     pub fn new() -> Self
         ensures { HasValidated result [] }
     {
@@ -134,6 +137,7 @@ impl Utf8 {
     ///
     /// The offset in this piece of the first bad byte of all bytes taken. Once a bad byte has come, 0.
     #[inline(always)]
+    #[tactic(none)]
     pub fn feed(&mut self, piece: &[u8]) -> Result<(), usize>
         ensures within { IfErr result (λ i. (i ≡ 0) ⊎ (i < length piece.now)) }
 
@@ -156,6 +160,7 @@ impl Utf8 {
     }
 
     /// Whether the bytes taken are UTF-8. Never again true after a bad byte.
+    #[tactic(none)]
     pub fn is_whole(&self) -> bool
         ensures { (taken : List ℕ) → HasValidated self.now taken → (IsTrue result ↔ IsText taken) }
     {
@@ -199,6 +204,7 @@ impl Utf8 {
     }
 
     /// Validates the bytes behind a character: those that are text at once, and what is left one by one.
+    #[tactic(none)]
     fn take_rest(&mut self, bytes: &[u8]) -> Result<(), usize>
         requires { (more : List ℕ) × Follows self.old more }
         ensures within { IfErr result (λ i. i < length bytes.now) }
@@ -217,6 +223,7 @@ impl Utf8 {
 const SHORT: usize = 128;
 
 /// The length of a front that is text: all but a last character that may be unfinished, if no byte is bad.
+#[tactic(none)]
 fn text_front(bytes: &[u8]) -> usize
     ensures text { (result ≤ length bytes.now) × IsText (take result bytes.now) }
     ensures most { result + 6 < length bytes.now → ¬ (BeginsText bytes.now) }

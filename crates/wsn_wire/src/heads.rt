@@ -23,6 +23,7 @@ pub struct FirstByte {
 
 /// Reads a frame's first byte (RFC 6455 sections 5.2 and 5.5). `ReservedBits`, `ReservedOpcode` or
 /// `ControlNotFinal`, the first of these that the byte shows.
+#[tactic(none)]
 pub fn first(b: u8) -> Result<FirstByte, Reason>
     ensures read { IfOk result (λ f. b ≡ first_byte f.fin f.op) }
     ensures nothing_shown { IfOk result (λ _. (reason : Reason) → ¬ (ShownByFirst reason b)) }
@@ -43,6 +44,7 @@ pub fn first(b: u8) -> Result<FirstByte, Reason>
 
 /// Reads a frame's second byte, which stands behind the first byte `f` (RFC 6455 sections 5.1, 5.2 and 5.5).
 /// `MaskMissing`, `MaskPresent`, `ControlTooLong` or `CloseOneByte`, the first of these that the byte shows.
+#[tactic(none)]
 pub fn second(f: FirstByte, role: Role, b: u8) -> Result<LenForm, Reason>
     ensures read { IfOk result (λ form. (key : Option (List ℕ)) → (IsSome key ↔ (role ≡ Role.Client)) →
         b ≡ second_byte key form) }
@@ -80,6 +82,7 @@ fn len_form_at(b: u8) -> LenForm
 
 /// Reads a length in two bytes (RFC 6455 section 5.2). `LengthNotMinimal` for one below 126, if only the
 /// shortest spelling is taken.
+#[tactic(none)]
 pub fn two(b: [u8; 2], lengths: Lengths) -> Result<u64, Reason>
     ensures read { IfOk result (λ len. b ≡ length_bytes LenForm.Two len) }
     ensures told { IfOk result (λ len. len ≡ length_told LenForm.Two b) }
@@ -95,6 +98,7 @@ pub fn two(b: [u8; 2], lengths: Lengths) -> Result<u64, Reason>
 
 /// Reads a length in eight bytes (RFC 6455 section 5.2). `LengthTopBit` for one of 2^63 or more; else
 /// `LengthNotMinimal` for one below 65,536, if only the shortest spelling is taken.
+#[tactic(none)]
 pub fn eight(b: [u8; 8], lengths: Lengths) -> Result<u64, Reason>
     ensures read { IfOk result (λ len. b ≡ length_bytes LenForm.Eight len) }
     ensures told { IfOk result (λ len. len ≡ length_told LenForm.Eight b) }
@@ -121,6 +125,7 @@ pub fn head(fin: bool, op: Op, key: Option<[u8; 4]>, len: u64) -> ArrayVec<u8, 1
 }
 
 /// The head of a frame, its length spelled as `form` says (RFC 6455 section 5.2).
+#[tactic(none)]
 pub fn head_as(fin: bool, op: Op, key: Option<[u8; 4]>, len: u64, form: Form) -> ArrayVec<u8, 14>
     requires size { len < 2 ^ 63 }
     requires control { is_control op ≡ true → (fin ≡ true) × (len ≤ 125) × (form ≡ Form.Shortest) }

@@ -8,6 +8,7 @@ const BLOCK: usize = 32;
 
 /// Masks a piece of a payload, or unmasks it: byte i XOR key byte `(start + i) % 4` (RFC 6455 section 5.3).
 /// `start` is the piece's offset in the payload.
+#[tactic(none)]
 pub fn mask(key: [u8; 4], start: u64, bytes: &mut [u8])
     requires { start + length bytes.old < 2 ^ 64 }
     ensures { bytes.new ≡ masked key start bytes.old }
@@ -41,6 +42,7 @@ fn key_lanes(key: [u8; 4], start: u64) -> u8x32
 }
 
 // The same as `mask`, byte by byte.
+#[tactic(none)]
 pub(crate) fn mask_each(key: [u8; 4], start: u64, bytes: &mut [u8])
     requires { start + length bytes.old < 2 ^ 64 }
     ensures { bytes.new ≡ masked key start bytes.old }

@@ -22,6 +22,7 @@ impl<R: Read> Model for Input<R> {
 
 impl<R: Read> Input<R> {
     /// An input that has not failed, over all that the reader has left.
+    #[tactic(none)]
     pub fn new(reader: R) -> Self
         ensures remaining { result.remaining ≡ R.remaining reader }
         ensures failed { result.failed ≡ false }
@@ -33,6 +34,7 @@ impl<R: Read> Input<R> {
     }
 
     /// Whether a read has failed. It never stops being true.
+    #[tactic(none)]
     pub fn failed(&self) -> bool
         ensures { result ≡ self.now.failed }
     {
@@ -42,6 +44,7 @@ impl<R: Read> Input<R> {
     /// Calls the reader once, and answers how many bytes it put at the front of `into`: 0 only at the end.
     /// Bytes of `into` past the count are left to the reader. `None` where the reader answered an error, of
     /// whatever kind: what it had left is left still.
+    #[tactic(none)]
     pub fn read(&mut self, into: &mut [u8]) -> Option<usize>
         requires { 0 < length into.old }
         ensures within { IfSome result (λ n. n ≤ length into.new) }

@@ -67,6 +67,7 @@ impl Reason {
     }
 
     /// The status code to close with (RFC 6455 section 7.4.1): 1002, 1007, 1008 or 1009.
+    #[tactic(none)]
     pub fn code(&self) -> u16
         ensures { result ≡ code_of self.now }
     {

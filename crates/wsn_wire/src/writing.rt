@@ -22,6 +22,7 @@ impl<W: Write> Model for Output<W> {
 
 impl<W: Write> Output<W> {
     /// An output that has not failed.
+    #[tactic(none)]
     pub fn new(writer: W) -> Self
         ensures written { result.written ≡ W.contents writer }
         ensures failed { result.failed ≡ false }
@@ -33,6 +34,7 @@ impl<W: Write> Output<W> {
     }
 
     /// Whether a write has failed. It never stops being true.
+    #[tactic(none)]
     pub fn failed(&self) -> bool
         ensures { result ≡ self.now.failed }
     {
@@ -41,6 +43,7 @@ impl<W: Write> Output<W> {
 
     /// Calls the writer until it has taken all the bytes, and for none not at all. False at its first error,
     /// of whatever kind, or where it takes no byte: some of the bytes at the front went out, and not all.
+    #[tactic(none)]
     pub fn put(&mut self, bytes: &[u8]) -> bool
         ensures all { result ≡ true → Appends self.old.written self.new.written bytes.now }
         ensures same { result ≡ true → self.new.failed ≡ self.old.failed }

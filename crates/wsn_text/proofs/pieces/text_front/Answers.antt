@@ -1,4 +1,4 @@
-use Rattle.std.proofs.Common.{ℕ, ◌≤◌, length, take, sym, subst, arith}
+use Rattle.std.proofs.Common.{ℕ, ◌≤◌, length, take, sym, subst, arith, rules}
 use Rattle.wsn_text.specs.Utf8.{IsText}
 use Rattle.wsn_text.proofs.Boundaries.{text_of_all, text_of_valid, ends_behind_valid}
 use Rattle.wsn_text.proofs.pieces.text_front.Goals as goal
@@ -17,3 +17,9 @@ returns-in-Err-clause-most c far =
     let is = c.valid_up_to.ensures in
     let cut = c.last_character.ensures in
     ends_behind_valid c.args.bytes.now c.last_character.result c.in-Err.bad.valid_up_to cut.0 (omega arith) c.in-Err.ensures.cases.1
+
+pub slice_bounds-from_utf8-end : goal.slice_bounds-from_utf8-end
+slice_bounds-from_utf8-end c = search rules
+
+pub returns-in-Ok-clause-most : goal.returns-in-Ok-clause-most
+returns-in-Ok-clause-most c = search rules

@@ -7,3 +7,12 @@ returns-clause-read c = sym (be_bytes_8 c.args.b c.from_be_bytes-len.result (sea
 
 pub returns-then-len-lt65536-clause-refused : goal.returns-then-len-lt65536-clause-refused
 returns-then-len-lt65536-clause-refused c = search rules
+
+pub returns-then-len-clause-refused : goal.returns-then-len-clause-refused
+returns-then-len-clause-refused c = search rules
+
+pub returns-clause-told : goal.returns-clause-told
+returns-clause-told c = search rules
+
+pub returns-clause-nothing_shown : goal.returns-clause-nothing_shown
+returns-clause-nothing_shown c = search rules

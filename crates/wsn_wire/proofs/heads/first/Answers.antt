@@ -1,4 +1,5 @@
-use Rattle.std.proofs.Common.{ℕ, ◌≤◌, not, nat_eq, bit_and, arith, sym, ◌∙◌, ap, subst, inl, inr}
+use Rattle.std.proofs.lemmas.Grind.{common_steps}
+use Rattle.std.proofs.Common.{rules, ℕ, ◌≤◌, not, nat_eq, bit_and, arith, sym, ◌∙◌, ap, subst, inl, inr}
 use Rattle.std.proofs.lemmas.Bool.{ne_eqb, false≢true}
 use Rattle.wsn_wire.specs.declared.refusal.Reason.{Reason}
 use Rattle.wsn_wire.specs.declared.refusal.Reason.TheVariants.{ReservedBits, ReservedOpcode, ControlNotFinal}
@@ -49,3 +50,12 @@ returns-clause-nothing_shown c =
       | inl final ↦ ap not (ne_eqb (bit_and c.args.b 128) 0 final.1)
       | inr data_frame ↦ absurd (false≢true (sym data_frame ∙ (c.is_control.ensures ∙ control)))
     ])
+
+pub from_opcode-requires : goal.from_opcode-requires
+from_opcode-requires c = search rules
+
+pub returns-then-not-fin-clause-refused : goal.returns-then-not-fin-clause-refused
+returns-then-not-fin-clause-refused c = grind (arith, common_steps)
+
+pub invariant_of-result : goal.invariant_of-result
+invariant_of-result c = search rules

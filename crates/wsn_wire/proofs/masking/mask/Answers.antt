@@ -1,4 +1,4 @@
-use Rattle.std.proofs.Common.{◌∙◌, ap, arith, take, drop, bit_xor}
+use Rattle.std.proofs.Common.{◌∙◌, ap, arith, take, drop, bit_xor, rules}
 use Rattle.std.specs.Simd.Lanes.{zip2, put_chunk}
 use Rattle.std.proofs.lemmas.Simd.{length-put_chunk}
 use Rattle.wsn_wire.proofs.MaskLemmas.{masked_front, masked_front-put_chunk, masked_front-rest}
@@ -23,3 +23,42 @@ pub returns : goal.returns
 returns c =
     masked_front-rest c.args.key c.args.start c.args.bytes.now c.loop-bytes.bytes c.mask_each-2.new.bytes c.loop-bytes.at (omega arith)
     c.loop-bytes.invariant.front c.mask_each-2.ensures
+
+pub mask_each-requires : goal.mask_each-requires
+mask_each-requires c = search rules
+
+pub returns-then-bytes-lt-BLOCK : goal.returns-then-bytes-lt-BLOCK
+returns-then-bytes-lt-BLOCK c = search rules
+
+pub loop-bytes-init : goal.loop-bytes-init
+loop-bytes-init c = search rules
+
+pub overflow_sub-bytes : goal.overflow_sub-bytes
+overflow_sub-bytes c = search rules
+
+pub load-bytes : goal.load-bytes
+load-bytes c = search rules
+
+pub store-bytes : goal.store-bytes
+store-bytes c = search rules
+
+pub overflow_add-at : goal.overflow_add-at
+overflow_add-at c = search rules
+
+pub loop-bytes-smaller : goal.loop-bytes-smaller
+loop-bytes-smaller c = search rules
+
+pub overflow_add-start : goal.overflow_add-start
+overflow_add-start c = search rules
+
+pub slice_bounds-mask_each-count : goal.slice_bounds-mask_each-count
+slice_bounds-mask_each-count c = search rules
+
+pub slice_bounds-mask_each-start : goal.slice_bounds-mask_each-start
+slice_bounds-mask_each-start c = search rules
+
+pub slice_bounds-mask_each-end : goal.slice_bounds-mask_each-end
+slice_bounds-mask_each-end c = search rules
+
+pub mask_each-requires-2 : goal.mask_each-requires-2
+mask_each-requires-2 c = search rules

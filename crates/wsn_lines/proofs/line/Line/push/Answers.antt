@@ -6,3 +6,6 @@ returns-clause-text g c = search rules
 
 pub returns-clause-len : goal.returns-clause-len
 returns-clause-len g c = search rules
+
+pub try_extend_from_slice-fits-requires : goal.try_extend_from_slice-fits-requires
+try_extend_from_slice-fits-requires c = search rules

@@ -3,3 +3,6 @@ use Rattle.wsn_rules.proofs.limits.Limits.message.Goals as goal
 
 pub returns-clause-value : goal.returns-clause-value
 returns-clause-value c = search rules
+
+pub returns-clause-in_range : goal.returns-clause-in_range
+returns-clause-in_range c = search rules

@@ -6,3 +6,10 @@ invariant_of-result c = search rules
 
 pub returns-clause-in_range : goal.returns-clause-in_range
 returns-clause-in_range c = search rules
+
+pub returns-then-message-gt-MESSAGE_MAX-clause-in_range :
+    goal.returns-then-message-gt-MESSAGE_MAX-clause-in_range
+returns-then-message-gt-MESSAGE_MAX-clause-in_range c = search rules
+
+pub returns-clause-value : goal.returns-clause-value
+returns-clause-value c = search rules

@@ -3,3 +3,6 @@ use Rattle.wsn_rules.proofs.limits.Limits.with_lengths.Goals as goal
 
 pub returns : goal.returns
 returns c = search rules
+
+pub invariant_of-result : goal.invariant_of-result
+invariant_of-result c = search rules

@@ -36,3 +36,39 @@ returns-clause-bytes g c =
     let empty : filled.start ≡ filled.end = omega (arith, none.0, none.1, total, c.min-count.ensures, length_held) in
     (ap (λ n. take n (drop (filled.start + count) filled.block)) {y = 0} (omega arith), c.in_ok-fill.ensures.end empty)) in
     (subst (λ (bs : List ℕ). Consumes before (prepend_known rest after) bs) (sym front) read.0, λ zero some. read.1 (zero, some))
+
+pub returns-in_err-fill-clause-bound : goal.returns-in_err-fill-clause-bound
+returns-in_err-fill-clause-bound c = search rules
+
+pub returns-in_err-fill-clause-bytes : goal.returns-in_err-fill-clause-bytes
+returns-in_err-fill-clause-bytes c = search rules
+
+pub slice_bounds-held-count : goal.slice_bounds-held-count
+slice_bounds-held-count c = search rules
+
+pub slice_bounds-held-start : goal.slice_bounds-held-start
+slice_bounds-held-start c = search rules
+
+pub slice_bounds-held-end : goal.slice_bounds-held-end
+slice_bounds-held-end c = search rules
+
+pub slice_bounds-copy_from_slice-end : goal.slice_bounds-copy_from_slice-end
+slice_bounds-copy_from_slice-end c = search rules
+
+pub slice_bounds-copy_from_slice-end-2 : goal.slice_bounds-copy_from_slice-end-2
+slice_bounds-copy_from_slice-end-2 c = search rules
+
+pub slice_bounds-copy_from_slice-end-3 : goal.slice_bounds-copy_from_slice-end-3
+slice_bounds-copy_from_slice-end-3 c = search rules
+
+pub copy_from_slice-requires : goal.copy_from_slice-requires
+copy_from_slice-requires c = search rules
+
+pub overflow_add-self : goal.overflow_add-self
+overflow_add-self c = search rules
+
+pub invariant_of-self : goal.invariant_of-self
+invariant_of-self c = search rules
+
+pub returns-clause-bound : goal.returns-clause-bound
+returns-clause-bound c = search rules

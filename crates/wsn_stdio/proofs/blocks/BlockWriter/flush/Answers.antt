@@ -9,3 +9,33 @@ returns-clause-for_good g c = search rules
 
 pub returns-clause-none_left : goal.returns-clause-none_left
 returns-clause-none_left g c = search rules
+
+pub same-self : goal.same-self
+same-self c = search rules
+
+pub as_slice-requires : goal.as_slice-requires
+as_slice-requires c = search rules
+
+pub returns-then-failed-clause-all : goal.returns-then-failed-clause-all
+returns-then-failed-clause-all c = search rules
+
+pub returns-then-failed-clause-none_left : goal.returns-then-failed-clause-none_left
+returns-then-failed-clause-none_left c = search rules
+
+pub returns-then-failed-clause-failed : goal.returns-then-failed-clause-failed
+returns-then-failed-clause-failed c = search rules
+
+pub returns-then-failed-clause-for_good : goal.returns-then-failed-clause-for_good
+returns-then-failed-clause-for_good c = search rules
+
+pub returns-then-failed-clause-front : goal.returns-then-failed-clause-front
+returns-then-failed-clause-front c = search rules
+
+pub clear-requires : goal.clear-requires
+clear-requires c = search rules
+
+pub returns-clause-all : goal.returns-clause-all
+returns-clause-all c = search rules
+
+pub returns-clause-front : goal.returns-clause-front
+returns-clause-front c = search rules

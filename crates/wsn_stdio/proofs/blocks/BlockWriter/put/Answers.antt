@@ -1,4 +1,5 @@
-use Rattle.std.proofs.Common.{◌≡◌, ℕ, Option, List, ◌++◌, take, subst, rules}
+use Rattle.std.proofs.lemmas.Grind.{common_steps}
+use Rattle.std.proofs.Common.{◌≡◌, ℕ, Option, List, ◌++◌, take, subst, rules, arith}
 use Rattle.std.specs.Io.KnownBytes.{Appends}
 use Rattle.wsn_stdio.proofs.Fronts.{front_of_first, front_of_second}
 use Rattle.wsn_stdio.proofs.blocks.BlockWriter.put.Goals as goal
@@ -28,3 +29,51 @@ returns-in-Ok-clause-failed g c = search rules
 
 pub returns-in-Ok-clause-for_good : goal.returns-in-Ok-clause-for_good
 returns-in-Ok-clause-for_good g c = search rules
+
+pub same-self : goal.same-self
+same-self c = search rules
+
+pub returns-then-failed-clause-all : goal.returns-then-failed-clause-all
+returns-then-failed-clause-all c = search rules
+
+pub returns-then-failed-clause-failed : goal.returns-then-failed-clause-failed
+returns-then-failed-clause-failed c = search rules
+
+pub returns-then-failed-clause-for_good : goal.returns-then-failed-clause-for_good
+returns-then-failed-clause-for_good c = search rules
+
+pub returns-then-failed-clause-front : goal.returns-then-failed-clause-front
+returns-then-failed-clause-front c = search rules
+
+pub try_extend_from_slice-requires : goal.try_extend_from_slice-requires
+try_extend_from_slice-requires c = search rules
+
+pub put_first-requires-clause-empty : goal.put_first-requires-clause-empty
+put_first-requires-clause-empty c = search rules
+
+pub put_first-requires-clause-writable : goal.put_first-requires-clause-writable
+put_first-requires-clause-writable c = search rules
+
+pub returns-in-Ok-clause-all : goal.returns-in-Ok-clause-all
+returns-in-Ok-clause-all c = grind (arith, common_steps)
+
+pub returns-in-Ok-clause-front : goal.returns-in-Ok-clause-front
+returns-in-Ok-clause-front c = search rules
+
+pub returns-then-flush-clause-all : goal.returns-then-flush-clause-all
+returns-then-flush-clause-all c = search rules
+
+pub returns-then-flush-clause-failed : goal.returns-then-flush-clause-failed
+returns-then-flush-clause-failed c = search rules
+
+pub returns-then-flush-clause-for_good : goal.returns-then-flush-clause-for_good
+returns-then-flush-clause-for_good c = search rules
+
+pub returns-else-flush-clause-all : goal.returns-else-flush-clause-all
+returns-else-flush-clause-all c = search rules
+
+pub returns-else-flush-clause-failed : goal.returns-else-flush-clause-failed
+returns-else-flush-clause-failed c = search rules
+
+pub returns-else-flush-clause-for_good : goal.returns-else-flush-clause-for_good
+returns-else-flush-clause-for_good c = search rules

@@ -3,3 +3,6 @@ use Rattle.wsn_stdio.proofs.tied.TiedReaderRead.read.Goals as goal
 
 pub returns-clause-bytes : goal.returns-clause-bytes
 returns-clause-bytes g c = search rules
+
+pub returns-clause-bound : goal.returns-clause-bound
+returns-clause-bound c = search rules

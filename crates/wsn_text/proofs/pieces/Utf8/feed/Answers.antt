@@ -47,3 +47,49 @@ returns-then-is_bad-clause-ok c = grind (arith, common_steps)
 
 pub returns-then-is_bad-clause-after_bad : goal.returns-then-is_bad-clause-after_bad
 returns-then-is_bad-clause-after_bad c = search rules
+
+pub same-self : goal.same-self
+same-self c = search rules
+
+pub returns-then-goes_on_in_ascii-clause-taken : goal.returns-then-goes_on_in_ascii-clause-taken
+returns-then-goes_on_in_ascii-clause-taken c = search rules
+
+pub returns-then-goes_on_in_ascii-clause-ok : goal.returns-then-goes_on_in_ascii-clause-ok
+returns-then-goes_on_in_ascii-clause-ok c = search rules
+
+pub returns-then-goes_on_in_ascii-clause-after_bad :
+    goal.returns-then-goes_on_in_ascii-clause-after_bad
+returns-then-goes_on_in_ascii-clause-after_bad c = search rules
+
+pub same-self-then-is_bad : goal.same-self-then-is_bad
+same-self-then-is_bad c = search rules
+
+pub returns-then-is_bad-clause-within : goal.returns-then-is_bad-clause-within
+returns-then-is_bad-clause-within c = search rules
+
+pub returns-then-is_bad-clause-taken : goal.returns-then-is_bad-clause-taken
+returns-then-is_bad-clause-taken c = grind (arith, common_steps)
+
+pub returns-then-is_bad-clause-first_bad : goal.returns-then-is_bad-clause-first_bad
+returns-then-is_bad-clause-first_bad c = search rules
+
+pub split_at-requires : goal.split_at-requires
+split_at-requires c = search rules
+
+pub same-self-2 : goal.same-self-2
+same-self-2 c = search rules
+
+pub take_each-requires : goal.take_each-requires
+take_each-requires c = search rules
+
+pub returns-in_err-take_each-clause-within : goal.returns-in_err-take_each-clause-within
+returns-in_err-take_each-clause-within c = search rules
+
+pub take_rest-requires : goal.take_rest-requires
+take_rest-requires c = search rules
+
+pub map_err-requires : goal.map_err-requires
+map_err-requires c = search rules
+
+pub returns-clause-within : goal.returns-clause-within
+returns-clause-within c = search rules
