@@ -1,11 +1,11 @@
 //! What is answered of a capture's text, as text: the report's lines, or why there is none.
 
+use crate::expecting::expect_line_of;
 use std::alloc::Global;
 use std::fmt::{Debug, Display};
 use std::io::Read;
 use std::process::Abort;
 use wsn_capture::{Capture, LineFault, Report, judge_capture, put_report};
-use wsn_doubles::expecting::expect_line_of;
 use wsn_doubles::readers::Chopped;
 use wsn_doubles::rows::{GREATEST, Under, greatest, limits_under};
 use wsn_scan::Limits;
@@ -13,7 +13,7 @@ use wsn_wire::{Input, Output};
 
 /// The greatest message, and so many bytes of each side.
 pub fn limits_of(rt: &impl Abort, input: u64) -> Limits {
-    limits_under(rt, &Under { input, ..GREATEST })
+    limits_under(&Under { input, ..GREATEST }).expect(rt, "limits in range")
 }
 
 /// The lines that are printed of a report.

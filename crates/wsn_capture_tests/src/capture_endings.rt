@@ -1,11 +1,12 @@
 //! Captures whose reader fails, and reports whose writer does.
 
 use crate::capture_answers::{expect_judged, put, report_text};
-use crate::expecting::expect_shown;
+use crate::expecting::{
+    expect, expect_bytes, expect_bytes_of, expect_equal_of, expect_of, expect_shown,
+};
 use std::alloc::Global;
 use std::process::Abort;
 use wsn_capture::{CaptureStop, LineFault, Report, judge_capture, put_report};
-use wsn_doubles::expecting::{expect, expect_bytes, expect_bytes_of, expect_equal_of, expect_of};
 use wsn_doubles::readers::{Chopped, READS};
 use wsn_doubles::rows::{filled, greatest};
 use wsn_doubles::writers::{FULL, Full, Narrow};
@@ -77,13 +78,13 @@ fn a_line_too_many_is_told_before_a_failed_read(rt: HostRuntime) {
     let alloc = rt.alloc();
     let fault = LineFault::TooManyLines;
     let number = 1_000_001;
-    let mut text = filled(&rt, alloc, b"", b'\n', 1_000_000);
+    let mut text = filled(alloc, b"", b'\n', 1_000_000).expect(&rt, "memory");
     for (count, wanted) in [
         (1, CaptureStop::Read),
         (8_194, CaptureStop::Read),
         (1, CaptureStop::Line { number, fault }),
     ] {
-        text = filled(&rt, alloc, text.as_slice(), b'X', count);
+        text = filled(alloc, text.as_slice(), b'X', count).expect(&rt, "memory");
         expect_stop(&rt, text.as_slice(), usize::MAX, wanted);
     }
     text.truncate(1_000_001);

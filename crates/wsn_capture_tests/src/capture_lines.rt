@@ -3,11 +3,12 @@
 use crate::capture_answers::{
     expect_judged, expect_judged_by, handed, judged_text, limits_of, put,
 };
-use crate::expecting::{expect_answer, expect_shown};
+use crate::expecting::{
+    expect, expect_answer, expect_equal_of, expect_line_of, expect_of, expect_shown,
+};
 use std::alloc::Global;
 use std::process::Abort;
 use wsn_capture::{Capture, LineFault, Side};
-use wsn_doubles::expecting::{expect, expect_equal_of, expect_line_of, expect_of};
 use wsn_doubles::readers::{Chopped, Endless, READS};
 use wsn_doubles::rows::{filled, greatest};
 
@@ -140,7 +141,7 @@ fn expect_long(
     end: &str,
     wanted: &str,
 ) {
-    let mut text = filled(rt, alloc, first.as_bytes(), byte, count);
+    let mut text = filled(alloc, first.as_bytes(), byte, count).expect(rt, "memory");
     put(rt, &mut text, end.as_bytes());
     let of = (first, count, end);
     expect_judged_by(
@@ -177,7 +178,7 @@ fn long_lines_with_ends_of_their_own(rt: HostRuntime) {
 #[test]
 fn the_most_lines(rt: HostRuntime) {
     let alloc = rt.alloc();
-    let mut text = filled(&rt, alloc, b"", b'\n', 1_000_000);
+    let mut text = filled(alloc, b"", b'\n', 1_000_000).expect(&rt, "memory");
     for (more, most, wanted) in [
         ("", usize::MAX, OPEN),
         ("X", usize::MAX, "line 1000001: too-many-lines"),

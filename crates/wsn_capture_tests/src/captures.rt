@@ -3,11 +3,10 @@
 use crate::capture_answers::{
     cut_small, expect_judged, expect_judged_by, handed, limits_of, report_text,
 };
-use crate::expecting::expect_answer;
+use crate::expecting::{expect_answer, expect_equal_of, expect_line_of, expect_of};
 use std::alloc::Global;
 use std::process::Abort;
 use wsn_capture::{Capture, LineFault, Outcome, Report, Side};
-use wsn_doubles::expecting::{expect_equal_of, expect_line_of, expect_of};
 use wsn_doubles::readers::{Chopped, READS};
 use wsn_doubles::rows::greatest;
 use wsn_scan::INPUT_MAX;

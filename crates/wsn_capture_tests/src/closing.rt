@@ -4,10 +4,10 @@
 use crate::capture_answers::limits_of;
 use crate::capture_lines::faulty;
 use crate::captures::rows;
+use crate::expecting::{expect_bytes_of, expect_of, expect_outcome};
 use std::alloc::{Allocator, Global};
 use std::io::ErrorKind;
 use std::process::Abort;
-use wsn_doubles::expecting::{expect_bytes_of, expect_of, expect_outcome};
 use wsn_doubles::heaps::heap_of;
 use wsn_doubles::outcomes::{Outcome, outcome_on};
 use wsn_doubles::readers::{Chopped, READS};
@@ -62,7 +62,7 @@ impl<'a> Given<'a> {
 
 /// Fails unless the command leaves this, with no memory to be had and with memory.
 fn expect_run(rt: &impl Abort, alloc: Global, limits: Limits, given: Given, wanted: Wanted) {
-    let heap = heap_of(rt, alloc, 0);
+    let heap = heap_of(alloc, 0).expect(rt, "memory");
     expect_on(rt, &heap, alloc, limits, given, wanted);
     expect_on(rt, alloc, alloc, limits, given, wanted);
 }
@@ -128,7 +128,7 @@ fn a_line_past_the_input_limit_is_told(rt: HostRuntime) {
 #[test]
 fn a_line_that_is_too_long_is_told(rt: HostRuntime) {
     let alloc = rt.alloc();
-    let long = filled(&rt, alloc, b"#\n#", b'#', 8_194);
+    let long = filled(alloc, b"#\n#", b'#', 8_194).expect(&rt, "memory");
     let given = Given::whole(long.as_slice(), 4_096);
     expect_stop(&rt, alloc, greatest(), given, "line 2: too-long");
 }
@@ -136,7 +136,7 @@ fn a_line_that_is_too_long_is_told(rt: HostRuntime) {
 #[test]
 fn a_line_too_many_is_told(rt: HostRuntime) {
     let alloc = rt.alloc();
-    let many = filled(&rt, alloc, b"", b'\n', 1_000_001);
+    let many = filled(alloc, b"", b'\n', 1_000_001).expect(&rt, "memory");
     let given = Given::whole(many.as_slice(), usize::MAX);
     expect_stop(
         &rt,
@@ -231,7 +231,7 @@ fn expect_full(rt: &impl Abort, alloc: Global, text: &str, front: &[u8]) {
 
 /// What a run leaves with no memory to be had, over this reader and writer.
 fn closed(rt: &impl Abort, alloc: Global, reader: Chopped, writer: Narrow) -> Outcome {
-    let heap = heap_of(rt, alloc, 0);
+    let heap = heap_of(alloc, 0).expect(rt, "memory");
     let job = Job::Closing(greatest());
     outcome_on(&heap, alloc, &job, reader, writer)
 }

@@ -3,8 +3,8 @@
 //! `captures` is of what is reported of a capture, `capture_lines` of its lines, `capture_endings` of where its reader
 //! or a report's writer fails, and `capture_answers` says how both are run. `closing` is of the command.
 //!
-//! `expecting` asserts what a capture answers of a line, and what is printed. The rest that is asserted, and the
-//! readers, writers and limits, are those of `wsn_doubles`.
+//! `expecting` asserts what is wanted of a value, what a capture answers of a line, and what is printed. The readers,
+//! writers and limits are those of `wsn_doubles`.
 #![tactic(auto)]
 
 #[cfg(test)]

@@ -1,87 +1,85 @@
 //! The lines that answers and frames are printed as, written for the tests alone.
 
 use crate::rows::Stream;
-use std::alloc::{Allocator, Global};
-use std::process::Abort;
+use std::alloc::{AllocError, Allocator, Global};
 use wsn_canon::Compared;
 use wsn_plan::{PlanAnswer, RecutAnswer, Why};
 use wsn_scan::{HeadInfo, Refusal, Stop, Summary, Verdict};
 use wsn_wire::{Form, Op};
 
 /// A line of these words.
-pub fn line_of(rt: &impl Abort, alloc: Global, words: &str) -> String {
-    format!(in alloc; "{words}").expect(rt, "memory")
+pub fn line_of(alloc: Global, words: &str) -> Result<String, AllocError> {
+    format!(in alloc; "{words}")
 }
 
 /// A line with its end.
-pub fn printed(rt: &impl Abort, alloc: Global, line: &str) -> String {
-    format!(in alloc; "{line}\n").expect(rt, "memory")
+pub fn printed(alloc: Global, line: &str) -> Result<String, AllocError> {
+    format!(in alloc; "{line}\n")
 }
 
 /// The words of a stop.
-pub fn stop_line(rt: &impl Abort, alloc: Global, stop: Stop) -> String {
-    format!(in alloc; "{stop}").expect(rt, "memory")
+pub fn stop_line(alloc: Global, stop: Stop) -> Result<String, AllocError> {
+    format!(in alloc; "{stop}")
 }
 
 /// The line of a verdict, without its end.
-pub fn verdict_line(rt: &impl Abort, alloc: Global, verdict: &Verdict) -> String {
+pub fn verdict_line(alloc: Global, verdict: &Verdict) -> Result<String, AllocError> {
     match verdict {
-        Verdict::Accepted(summary) => accepted_line(rt, alloc, summary),
-        Verdict::Cut(summary) => cut_line(rt, alloc, summary.used),
-        Verdict::Refused(refusal) => refused_line(rt, alloc, refusal),
+        Verdict::Accepted(summary) => accepted_line(alloc, summary),
+        Verdict::Cut(summary) => cut_line(alloc, summary.used),
+        Verdict::Refused(refusal) => refused_line(alloc, refusal),
     }
 }
 
 /// The line of an answer: of its verdict, or of what ended the work before it.
-pub fn answer_line(rt: &impl Abort, alloc: Global, answer: &Result<Verdict, Stop>) -> String {
+pub fn answer_line(alloc: Global, answer: &Result<Verdict, Stop>) -> Result<String, AllocError> {
     match answer {
-        Ok(verdict) => verdict_line(rt, alloc, verdict),
-        Err(stop) => stop_line(rt, alloc, *stop),
+        Ok(verdict) => verdict_line(alloc, verdict),
+        Err(stop) => stop_line(alloc, *stop),
     }
 }
 
 /// The line of what `same` answered, or of what ended its work.
-pub fn compared_line(rt: &impl Abort, alloc: Global, answer: &Result<Compared, Stop>) -> String {
+pub fn compared_line(alloc: Global, answer: &Result<Compared, Stop>) -> Result<String, AllocError> {
     match answer {
-        Ok(Compared::Equal) => line_of(rt, alloc, "equal"),
-        Ok(Compared::Different(index)) => different_line(rt, alloc, *index),
+        Ok(Compared::Equal) => line_of(alloc, "equal"),
+        Ok(Compared::Different(index)) => different_line(alloc, *index),
         Ok(Compared::NotAccepted { second, verdict }) => {
             let which = if *second { "second" } else { "first" };
-            let line = verdict_line(rt, alloc, verdict);
-            format!(in alloc; "{which} {line}").expect(rt, "memory")
+            let line = verdict_line(alloc, verdict)?;
+            format!(in alloc; "{which} {line}")
         }
-        Err(stop) => stop_line(rt, alloc, *stop),
+        Err(stop) => stop_line(alloc, *stop),
     }
 }
 
-fn different_line(rt: &impl Abort, alloc: Global, index: u64) -> String {
-    format!(in alloc; "different {index}").expect(rt, "memory")
+fn different_line(alloc: Global, index: u64) -> Result<String, AllocError> {
+    format!(in alloc; "different {index}")
 }
 
 /// The line of what planning answered, or of what ended its work.
 pub fn planned_line<A: Allocator>(
-    rt: &impl Abort,
     alloc: Global,
     answer: &Result<PlanAnswer<A>, Stop>,
-) -> String {
+) -> Result<String, AllocError> {
     match answer {
-        Ok(PlanAnswer::Plan(_)) => line_of(rt, alloc, "plan"),
-        Ok(PlanAnswer::Unfinished) => line_of(rt, alloc, "unfinished"),
-        Ok(PlanAnswer::NotAccepted(verdict)) => verdict_line(rt, alloc, verdict),
-        Err(stop) => stop_line(rt, alloc, *stop),
+        Ok(PlanAnswer::Plan(_)) => line_of(alloc, "plan"),
+        Ok(PlanAnswer::Unfinished) => line_of(alloc, "unfinished"),
+        Ok(PlanAnswer::NotAccepted(verdict)) => verdict_line(alloc, verdict),
+        Err(stop) => stop_line(alloc, *stop),
     }
 }
 
 /// The line of what a recut answered, or of what ended its work.
-pub fn recut_line(rt: &impl Abort, alloc: Global, answer: &Result<RecutAnswer, Stop>) -> String {
+pub fn recut_line(alloc: Global, answer: &Result<RecutAnswer, Stop>) -> Result<String, AllocError> {
     match answer {
-        Ok(RecutAnswer::Done) => line_of(rt, alloc, "done"),
-        Ok(RecutAnswer::NotAccepted(verdict)) => verdict_line(rt, alloc, verdict),
+        Ok(RecutAnswer::Done) => line_of(alloc, "done"),
+        Ok(RecutAnswer::NotAccepted(verdict)) => verdict_line(alloc, verdict),
         Ok(RecutAnswer::Fault { step, why }) => {
             let word = word_of_fault(*why);
-            format!(in alloc; "fault {step} {word}").expect(rt, "memory")
+            format!(in alloc; "fault {step} {word}")
         }
-        Err(stop) => stop_line(rt, alloc, *stop),
+        Err(stop) => stop_line(alloc, *stop),
     }
 }
 
@@ -100,45 +98,44 @@ fn word_of_fault(why: Why) -> &'static str {
 }
 
 /// What `list` writes of a stream: the lines of its frames, and its verdict's if it has one.
-pub fn listing(rt: &impl Abort, alloc: Global, stream: &Stream) -> String {
+pub fn listing(alloc: Global, stream: &Stream) -> Result<String, AllocError> {
     let frames = stream.frames;
     if stream.is_too_long() {
-        return line_of(rt, alloc, frames);
+        return line_of(alloc, frames);
     }
     let verdict = stream.verdict;
-    format!(in alloc; "{frames}{verdict}\n").expect(rt, "memory")
+    format!(in alloc; "{frames}{verdict}\n")
 }
 
-fn cut_line(rt: &impl Abort, alloc: Global, used: u64) -> String {
-    format!(in alloc; "cut {used}").expect(rt, "memory")
+fn cut_line(alloc: Global, used: u64) -> Result<String, AllocError> {
+    format!(in alloc; "cut {used}")
 }
 
-fn accepted_line(rt: &impl Abort, alloc: Global, summary: &Summary) -> String {
+fn accepted_line(alloc: Global, summary: &Summary) -> Result<String, AllocError> {
     let used = summary.used;
     let tail = summary.tail;
-    let line = match summary.unfinished {
+    match summary.unfinished {
         Some(size) => format!(in alloc; "accepted {used} tail {tail} unfinished {size}"),
         None => format!(in alloc; "accepted {used} tail {tail} unfinished -"),
-    };
-    line.expect(rt, "memory")
+    }
 }
 
-fn refused_line(rt: &impl Abort, alloc: Global, refusal: &Refusal) -> String {
+fn refused_line(alloc: Global, refusal: &Refusal) -> Result<String, AllocError> {
     let place = refusal.place;
     let word = refusal.reason.word();
     let code = refusal.reason.code();
-    format!(in alloc; "refused {place} {word} {code}").expect(rt, "memory")
+    format!(in alloc; "refused {place} {word} {code}")
 }
 
 /// The line of a frame, with its end.
-pub fn frame_line(rt: &impl Abort, alloc: Global, head: &HeadInfo) -> String {
+pub fn frame_line(alloc: Global, head: &HeadInfo) -> Result<String, AllocError> {
     let place = head.place;
     let fin = if head.fin { "fin" } else { "more" };
     let word = word_of(head.op);
-    let key = key_word(rt, alloc, head.key);
+    let key = key_word(alloc, head.key)?;
     let len = head.len;
     let form = form_word(head.form);
-    format!(in alloc; "{place} {fin} {word} {key} {len}{form}\n").expect(rt, "memory")
+    format!(in alloc; "{place} {fin} {word} {key} {len}{form}\n")
 }
 
 fn word_of(op: Op) -> &'static str {
@@ -152,13 +149,13 @@ fn word_of(op: Op) -> &'static str {
     }
 }
 
-fn key_word(rt: &impl Abort, alloc: Global, key: Option<[u8; 4]>) -> String {
+fn key_word(alloc: Global, key: Option<[u8; 4]>) -> Result<String, AllocError> {
     match key {
         Some(key) => {
             let digits = u32::from_be_bytes(key);
-            format!(in alloc; "{digits:08x}").expect(rt, "memory")
+            format!(in alloc; "{digits:08x}")
         }
-        None => line_of(rt, alloc, "-"),
+        None => line_of(alloc, "-"),
     }
 }
 

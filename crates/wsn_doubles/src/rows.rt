@@ -1,8 +1,7 @@
 //! Rows: streams that are written out, and what every engine must make of them. Each rule's file has its own.
 
 use crate::{close, fragmentation, heads, lengths, limits, masking, text};
-use std::alloc::Global;
-use std::process::Abort;
+use std::alloc::{AllocError, Global};
 use wsn_scan::{INPUT_MAX, Limits, MESSAGE_MAX};
 use wsn_wire::{Lengths, Role};
 
@@ -83,17 +82,12 @@ pub const CLIENT: Row = Row {
     ..SERVER
 };
 
-/// Limits of a message and an input of at most so many bytes.
-pub fn limits_of(rt: &impl Abort, message: u32, input: u64) -> Limits {
-    Limits::new(message, input).expect(rt, "limits in range")
-}
-
-/// The limits of a row.
-pub fn limits_under(rt: &impl Abort, under: &Under) -> Limits {
-    let limits = limits_of(rt, under.message, under.input).with_lengths(under.lengths);
+/// The limits of a row, if they are in range.
+pub fn limits_under(under: &Under) -> Option<Limits> {
+    let limits = Limits::new(under.message, under.input)?.with_lengths(under.lengths);
     match under.frames {
-        Some(frames) => limits.with_frames(frames).expect(rt, "a frame at least"),
-        None => limits,
+        Some(frames) => limits.with_frames(frames),
+        None => Some(limits),
     }
 }
 
@@ -116,27 +110,28 @@ pub struct Stream {
 }
 
 impl Stream {
-    /// A row in memory.
-    pub fn new(rt: &impl Abort, alloc: Global, row: &Row) -> Self {
+    /// A row in memory, if there is room and its limits are in range.
+    pub fn new(alloc: Global, row: &Row) -> Option<Self> {
         let Fill {
             byte,
             count,
             normal,
         } = row.fill;
-        let mut bytes = filled(rt, alloc, row.bytes, byte, count);
-        extend(rt, &mut bytes, row.last);
-        Stream {
+        let mut bytes = filled(alloc, row.bytes, byte, count).ok()?;
+        bytes.extend_from_slice(row.last).ok()?;
+        Some(Stream {
             name: row.name,
             role: row.role,
-            limits: limits_under(rt, &row.under),
+            limits: limits_under(&row.under)?,
             bytes,
             frames: row.frames,
-            payload: row
-                .payload
-                .map(|first| filled(rt, alloc, first, byte, normal)),
+            payload: match row.payload {
+                Some(first) => Some(filled(alloc, first, byte, normal).ok()?),
+                None => None,
+            },
             verdict: row.verdict,
-            normal: filled(rt, alloc, row.normal, byte, normal),
-        }
+            normal: filled(alloc, row.normal, byte, normal).ok()?,
+        })
     }
 
     /// Whether it is longer than an input may be.
@@ -176,39 +171,29 @@ impl Stream {
     }
 
     /// Its first bytes, so many as one may wish: of a long stream at most 200, or all but two at most.
-    pub fn fronts(&self, rt: &impl Abort, alloc: Global) -> Vec<&[u8]> {
+    pub fn fronts(&self, alloc: Global) -> Result<Vec<&[u8]>, AllocError> {
         let len = self.bytes.len();
         let mut fronts = Vec::new(alloc);
         for count in 0..=len {
             if count <= 200 || count.saturating_add(3) > len {
-                fronts.push(&self.bytes[..count]).expect(rt, "memory");
+                fronts.push(&self.bytes[..count])?;
             }
         }
-        fronts
+        Ok(fronts)
     }
-}
-
-/// These bytes, in memory.
-pub fn copied(rt: &impl Abort, alloc: Global, bytes: &[u8]) -> Vec<u8> {
-    bytes.to_vec(alloc).expect(rt, "memory")
-}
-
-/// Adds more bytes.
-pub fn extend(rt: &impl Abort, bytes: &mut Vec<u8>, more: &[u8]) {
-    bytes.extend_from_slice(more).expect(rt, "memory");
 }
 
 /// The first bytes, and one byte so many times behind them.
-pub fn filled(rt: &impl Abort, alloc: Global, first: &[u8], byte: u8, count: usize) -> Vec<u8> {
-    let mut bytes = copied(rt, alloc, first);
+pub fn filled(alloc: Global, first: &[u8], byte: u8, count: usize) -> Result<Vec<u8>, AllocError> {
+    let mut bytes = first.to_vec(alloc)?;
     for _ in 0..count {
-        bytes.push(byte).expect(rt, "memory");
+        bytes.push(byte)?;
     }
-    bytes
+    Ok(bytes)
 }
 
-/// All rows, in memory.
-pub fn streams(rt: &impl Abort, alloc: Global) -> Vec<Stream> {
+/// All rows in memory, if there is room.
+pub fn streams(alloc: Global) -> Option<Vec<Stream>> {
     let mut streams = Vec::new(alloc);
     for rows in [
         heads::ROWS.as_slice(),
@@ -220,20 +205,17 @@ pub fn streams(rt: &impl Abort, alloc: Global) -> Vec<Stream> {
         limits::ROWS.as_slice(),
     ] {
         for row in rows.iter() {
-            streams
-                .push(Stream::new(rt, alloc, row))
-                .expect(rt, "memory");
+            streams.push(Stream::new(alloc, row)?).ok()?;
         }
     }
-    streams
+    Some(streams)
 }
 
-/// A row in memory, by its name.
-pub fn stream_named(rt: &impl Abort, alloc: Global, name: &str) -> Stream {
-    streams(rt, alloc)
+/// The row of this name in memory, if there is one and room for all.
+pub fn stream_named(alloc: Global, name: &str) -> Option<Stream> {
+    streams(alloc)?
         .into_iter()
         .find(|stream| stream.name == name)
-        .expect(rt, "a row of this name")
 }
 
 /// The line of the answer where a read fails behind these first bytes.

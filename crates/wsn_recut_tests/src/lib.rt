@@ -8,8 +8,8 @@
 //!
 //! Hostile use: `recut_stops` is of readers and writers that fail, `recut_memory` of memory that is refused.
 //!
-//! `expecting` has the plans and the texts that must be there, and asserts what is wanted of the lines and the bytes
-//! that come of a row.
+//! `expecting` has the plans and the texts that must be there, and asserts what is wanted of a value, and of the lines
+//! and the bytes that come of a row.
 #![tactic(auto)]
 
 #[cfg(test)]

@@ -1,11 +1,10 @@
 //! Plans of a million steps, and streams of a million frames. Work that grows with the square of these wouldn't end in
 //! the minute that a test has.
 
-use crate::expecting::{expect_answer, plan_read, plan_written};
+use crate::expecting::{expect_answer, expect_count, expect_of, plan_read, plan_written};
 use std::alloc::Global;
 use std::process::Abort;
 use wsn_doubles::engines::{Sizes, planned, recut_by, recut_uniformly};
-use wsn_doubles::expecting::{expect_count, expect_of};
 use wsn_doubles::readers::Chopped;
 use wsn_doubles::rows::{filled, greatest};
 use wsn_plan::{Plan, PlanAnswer, RecutAnswer};
@@ -122,7 +121,9 @@ fn plan_of_bytes(rt: &impl Abort, alloc: Global) -> Plan {
 #[test]
 fn a_message_is_cut_in_a_million_frames(rt: HostRuntime) {
     let alloc = rt.alloc();
-    let message = filled(&rt, alloc, b"\x82\x7f\0\0\0\0\0\x0f\x42\x40", 0x2a, MANY);
+    let message = filled(alloc, b"\x82\x7f\0\0\0\0\0\x0f\x42\x40", 0x2a, MANY).expect(
+        &rt, "memory",
+    );
     let (first, again, last) = (b"\x02\x01\x2a", b"\x00\x01\x2a", b"\x80\x01\x2a");
     let wanted = repeated(&rt, alloc, first, again, MANY - 2, last);
     let plan = plan_of_bytes(&rt, alloc);

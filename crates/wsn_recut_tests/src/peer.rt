@@ -1,11 +1,10 @@
 //! A real peer, the kit's `tungstenite`: its server reads what is written here, and what it writes is read here.
 
-use crate::expecting::{expect_answer, expect_equal};
+use crate::expecting::{expect_answer, expect_equal, expect_line_of, expect_of};
 use std::alloc::Global;
 use std::process::Abort;
 use tungstenite::{CloseCode, CloseFrame, Duplex, Message, NoMask, Utf8Bytes, WebSocket};
 use wsn_doubles::engines::{Sizes, compared, recut_uniformly};
-use wsn_doubles::expecting::{expect_line_of, expect_of};
 use wsn_doubles::readers::Chopped;
 use wsn_doubles::rows::{filled, greatest};
 use wsn_wire::Role;
@@ -38,7 +37,7 @@ fn stars_between(
     count: usize,
     last: &[u8],
 ) -> Vec<u8> {
-    let mut bytes = filled(rt, alloc, first, b'*', count);
+    let mut bytes = filled(alloc, first, b'*', count).expect(rt, "memory");
     bytes.extend_from_slice(last).expect(rt, "memory");
     bytes
 }
@@ -161,7 +160,7 @@ fn sent(rt: &impl Abort, alloc: Global) -> Vec<u8> {
 fn send_data(rt: &impl Abort, alloc: Global, socket: &mut Server) {
     let text = Message::text(alloc, "Hello").expect(rt, "memory");
     send(rt, socket, text);
-    let bytes = filled(rt, alloc, b"", b'*', 126);
+    let bytes = filled(alloc, b"", b'*', 126).expect(rt, "memory");
     let binary = Message::binary(alloc, bytes.as_slice()).expect(rt, "memory");
     send(rt, socket, binary);
 }

@@ -1,13 +1,13 @@
 //! `wsn plan` and `wsn recut`: the plan or the recut on standard output, what keeps the command from it in one line on
 //! standard error, and the status.
 
+use crate::expecting::{expect_of, expect_outcome};
 use crate::plans::{self, PLANNED, Planned};
 use crate::recut_faults::{FAULTS, STOPS};
 use crate::recut_memory;
 use crate::recuts::{Cut, FITS};
 use std::alloc::{Allocator, Global};
 use std::process::Abort;
-use wsn_doubles::expecting::{expect_of, expect_outcome};
 use wsn_doubles::heaps::heap_of;
 use wsn_doubles::outcomes::{Outcome, outcome_on};
 use wsn_doubles::readers::Chopped;
@@ -40,7 +40,10 @@ fn planned_on<A: Allocator + Copy>(
     reader: Chopped,
     writer: Narrow,
 ) -> Outcome {
-    let job = Job::Plan(row.role, limits_under(rt, &row.under));
+    let job = Job::Plan(
+        row.role,
+        limits_under(&row.under).expect(rt, "limits in range"),
+    );
     outcome_on(heap, alloc, &job, reader, writer)
 }
 
@@ -122,7 +125,7 @@ pub fn is_served(rt: &impl Abort, done: &Outcome, out: &[u8], line: &str) -> boo
 
 /// Whether the command that plans the stream of a row has memory enough in a heap of so many blocks.
 fn is_plan_served(rt: &impl Abort, alloc: Global, row: &Planned, blocks: usize) -> bool {
-    let heap = heap_of(rt, alloc, blocks);
+    let heap = heap_of(alloc, blocks).expect(rt, "memory");
     let reader = Chopped::new(row.bytes, 3);
     let done = planned_on(rt, &heap, alloc, row, reader, Narrow::wide(alloc));
     is_served(rt, &done, row.text.as_bytes(), told(row.line))
@@ -153,7 +156,11 @@ fn recut_on<A: Allocator + Copy>(
 ) -> Option<Outcome> {
     match read_plan(heap, cut.plan.as_bytes()) {
         Ok(plan) => {
-            let job = Job::Recut(cut.role, limits_under(rt, &cut.under), How::ByPlan(plan));
+            let job = Job::Recut(
+                cut.role,
+                limits_under(&cut.under).expect(rt, "limits in range"),
+                How::ByPlan(plan),
+            );
             Some(outcome_on(heap, alloc, &job, reader, writer))
         }
         Err(fault) => {
@@ -236,7 +243,7 @@ fn expect_unwritten(rt: &impl Abort, alloc: Global, cut: &Cut, front: &[u8]) {
 /// Whether a recut by the plan of a row has memory enough in a heap of so many blocks. None, where the heap has no room
 /// for the plan.
 fn is_recut_served(rt: &impl Abort, alloc: Global, cut: &Cut, blocks: usize) -> Option<bool> {
-    let heap = heap_of(rt, alloc, blocks);
+    let heap = heap_of(alloc, blocks).expect(rt, "memory");
     let reader = Chopped::new(cut.bytes, 3);
     match recut_on(rt, &heap, alloc, cut, reader, Narrow::wide(alloc)) {
         Some(done) => Some(is_served(rt, &done, cut.out, told(cut.line))),

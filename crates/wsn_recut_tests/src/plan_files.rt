@@ -1,8 +1,8 @@
 //! Plan files: read in pieces, by readers that fail, without memory, and how much of one that is too long is read.
 
+use crate::expecting::{expect, expect_count, expect_of};
 use std::alloc::Global;
 use std::process::Abort;
-use wsn_doubles::expecting::{expect, expect_count, expect_of};
 use wsn_doubles::heaps::heap_of;
 use wsn_doubles::readers::{Chopped, Endless, READS};
 use wsn_plan::{PlanFault, PlanFileFault, Step, read_plan_file};
@@ -47,7 +47,7 @@ fn expect_unread(rt: &impl Abort, alloc: Global, most: usize) {
 
 #[test]
 fn a_plan_file_wants_memory(rt: HostRuntime) {
-    let heap = heap_of(&rt, rt.alloc(), 0);
+    let heap = heap_of(rt.alloc(), 0).expect(&rt, "memory");
     let answer = read_plan_file(&heap, &mut Input::new(Chopped::new(TEXT, 1)));
     let is_refused = matches!(&answer, Err(PlanFileFault::Faulty(PlanFault::Memory)));
     expect(&rt, is_refused);

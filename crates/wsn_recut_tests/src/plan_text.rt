@@ -1,12 +1,12 @@
 //! Plan text: what is read of a text, what is written of a plan, and where memory or a write fails.
 
-use crate::expecting::{fault_line, plan_read, plan_written};
+use crate::expecting::{
+    expect, expect_bytes_of, expect_count, expect_equal_of, expect_line_of, expect_of, fault_line,
+    plan_read, plan_written,
+};
 use crate::recuts::NINE_PLAN;
 use std::alloc::{Allocator, Global};
 use std::process::Abort;
-use wsn_doubles::expecting::{
-    expect, expect_bytes_of, expect_count, expect_equal_of, expect_line_of, expect_of,
-};
 use wsn_doubles::heaps::heap_of;
 use wsn_doubles::writers::{Full, Narrow};
 use wsn_plan::{LineWhy, Plan, PlanFault, Step, read_plan, write_plan};
@@ -156,7 +156,7 @@ fn expect_unwritten(rt: &impl Abort, alloc: Global, plan: &Plan, full: Full, fro
 /// Whether so many steps are read of a text with memory from a heap of so many blocks. Fails unless memory was refused
 /// otherwise.
 fn is_read(rt: &impl Abort, alloc: Global, blocks: usize, text: &[u8], steps: usize) -> bool {
-    let heap = heap_of(rt, alloc, blocks);
+    let heap = heap_of(alloc, blocks).expect(rt, "memory");
     match read_plan(&heap, text) {
         Ok(plan) => {
             expect_count(rt, plan.steps().len(), steps);
@@ -188,7 +188,7 @@ fn refused_memory_is_told(rt: HostRuntime) {
 /// A first line that spells no step needs no memory.
 #[test]
 fn a_fault_needs_no_memory(rt: HostRuntime) {
-    let heap = heap_of(&rt, rt.alloc(), 0);
+    let heap = heap_of(rt.alloc(), 0).expect(&rt, "memory");
     let fault = PlanFault::Line {
         number: 1,
         why: LineWhy::BadForm,

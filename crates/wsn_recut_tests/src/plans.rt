@@ -1,12 +1,11 @@
 //! The plan of a stream's own frames, and that a recut of the stream's normal form by it is the stream again.
 
-use crate::expecting::{expect_recut, plan_written};
+use crate::expecting::{expect_bytes_of, expect_line_of, expect_of, expect_recut, plan_written};
 use crate::recuts::{NINE_MESSAGES, NINE_PLAN};
 use std::alloc::{Allocator, Global};
 use std::fmt::Debug;
 use std::process::Abort;
 use wsn_doubles::engines::{planned, recut_by};
-use wsn_doubles::expecting::{expect_bytes_of, expect_line_of, expect_of};
 use wsn_doubles::heaps::heap_of;
 use wsn_doubles::lines::planned_line;
 use wsn_doubles::readers::{Chopped, READS};
@@ -118,7 +117,7 @@ fn streams_are_planned(rt: HostRuntime) {
 
 /// Fails unless a row's line and its plan's text come of its stream, by reads of at most so many bytes.
 fn expect_planned(rt: &impl Abort, alloc: Global, row: &Planned, most: usize) {
-    let limits = limits_under(rt, &row.under);
+    let limits = limits_under(&row.under).expect(rt, "limits in range");
     let answer = planned(alloc, row.role, limits, Chopped::new(row.bytes, most));
     expect_text(rt, alloc, &answer, row.text, row, most);
     expect_told(rt, alloc, &answer, row.line, row, most);
@@ -149,7 +148,7 @@ fn expect_told<A: Allocator>(
     row: &impl Debug,
     count: usize,
 ) {
-    let line = planned_line(rt, alloc, answer);
+    let line = planned_line(alloc, answer).expect(rt, "memory");
     expect_line_of(rt, line.as_str(), wanted, &(row, count));
 }
 
@@ -171,7 +170,7 @@ fn expect_restored(rt: &impl Abort, alloc: Global, stream: &Stream, plan: &Plan)
 
 #[test]
 fn a_stream_comes_back_from_its_plan_and_its_normal_form(rt: HostRuntime) {
-    for stream in streams(&rt, rt.alloc()).iter() {
+    for stream in streams(rt.alloc()).expect(&rt, "every row").iter() {
         if stream.is_accepted() {
             expect_back(&rt, rt.alloc(), stream);
         }
@@ -193,8 +192,8 @@ fn expect_back(rt: &impl Abort, alloc: Global, stream: &Stream) {
 #[test]
 fn a_failed_read_is_told_before_the_answer_shows(rt: HostRuntime) {
     let alloc = rt.alloc();
-    for stream in streams(&rt, alloc).iter() {
-        for front in stream.fronts(&rt, alloc).iter() {
+    for stream in streams(alloc).expect(&rt, "every row").iter() {
+        for front in stream.fronts(alloc).expect(&rt, "memory").iter() {
             expect_unplanned(&rt, alloc, stream, front, 1);
             expect_unplanned(&rt, alloc, stream, front, 4_096);
         }
@@ -228,8 +227,8 @@ fn refused_memory_is_told(rt: HostRuntime) {
 /// Whether planning the stream of a row has memory enough in a heap of so many blocks. Fails unless it answers the
 /// row's line then, and otherwise that memory was refused.
 fn is_served(rt: &impl Abort, alloc: Global, row: &Planned, blocks: usize) -> bool {
-    let limits = limits_under(rt, &row.under);
-    let heap = heap_of(rt, alloc, blocks);
+    let limits = limits_under(&row.under).expect(rt, "limits in range");
+    let heap = heap_of(alloc, blocks).expect(rt, "memory");
     let answer = planned(&heap, row.role, limits, Chopped::new(row.bytes, 1));
     let is_served = answer.is_ok();
     let wanted = if is_served { row.line } else { "out of memory" };
@@ -240,7 +239,10 @@ fn is_served(rt: &impl Abort, alloc: Global, row: &Planned, blocks: usize) -> bo
 #[test]
 fn fragments_of_65_535_bytes_and_of_one_are_planned(rt: HostRuntime) {
     let alloc = rt.alloc();
-    let stream = stream_named(&rt, alloc, "fragments of 65,535 bytes and of one");
+    let stream = stream_named(alloc, "fragments of 65,535 bytes and of one").expect(
+        &rt,
+        "a row of this name",
+    );
     for most in READS {
         let reader = Chopped::new(stream.bytes.as_slice(), most);
         let answer = planned(alloc, stream.role, stream.limits, reader);

@@ -1,7 +1,9 @@
 //! Plans and recuts where memory is refused, one growth after another: `Memory` and nothing in its place, nothing
 //! written, and a plan that is as it was.
 
-use crate::expecting::{fault_line, push_event};
+use crate::expecting::{
+    expect_bytes_of, expect_count, expect_line_of, expect_of, fault_line, push_event,
+};
 use crate::recut_faults::{FAULTS, STOPS};
 use crate::recuts::{Cut, FITS};
 use crate::uniform_recuts::{CUTS, SizedCut};
@@ -10,7 +12,6 @@ use std::fmt::Debug;
 use std::process::Abort;
 use wsn_canon::Event;
 use wsn_doubles::engines::{recut_by, recut_uniformly};
-use wsn_doubles::expecting::{expect_bytes_of, expect_count, expect_line_of, expect_of};
 use wsn_doubles::heaps::{fill, heap_of};
 use wsn_doubles::lines::recut_line;
 use wsn_doubles::readers::Chopped;
@@ -84,16 +85,16 @@ fn cut_by<A: Allocator + Copy>(
     cut: &Cut,
     plan: &Plan<A>,
 ) -> (String, Vec<u8>) {
-    let limits = limits_under(rt, &cut.under);
+    let limits = limits_under(&cut.under).expect(rt, "limits in range");
     let mut out = Vec::new(alloc);
     let reader = Chopped::new(cut.bytes, 1);
     let answer = recut_by(heap, cut.role, limits, plan, reader, &mut out);
-    (recut_line(rt, alloc, &answer), out)
+    (recut_line(alloc, &answer).expect(rt, "memory"), out)
 }
 
 /// Counts what comes of a row with memory from a heap of so many blocks.
 fn count_on(rt: &impl Abort, alloc: Global, cut: &Cut, blocks: usize, tally: &mut Tally) {
-    let heap = heap_of(rt, alloc, blocks);
+    let heap = heap_of(alloc, blocks).expect(rt, "memory");
     let (line, out) = cut_on(rt, &heap, alloc, cut);
     let found = (line.as_str(), out.as_slice());
     tally.count(rt, found, (cut.line, cut.out), cut);
@@ -145,12 +146,12 @@ fn count_sized_on(
     blocks: usize,
     tally: &mut Tally,
 ) {
-    let limits = limits_under(rt, &cut.under);
-    let heap = heap_of(rt, alloc, blocks);
+    let limits = limits_under(&cut.under).expect(rt, "limits in range");
+    let heap = heap_of(alloc, blocks).expect(rt, "memory");
     let mut out = Vec::new(alloc);
     let reader = Chopped::new(cut.bytes, 1);
     let answer = recut_uniformly(&heap, cut.role, limits, cut.sizes, reader, &mut out);
-    let line = recut_line(rt, alloc, &answer);
+    let line = recut_line(alloc, &answer).expect(rt, "memory");
     let found = (line.as_str(), out.as_slice());
     tally.count(rt, found, (cut.line, cut.out), cut);
 }
@@ -171,7 +172,7 @@ fn pings_and_message<A: Allocator + Copy>(
 
 /// Whether seventeen pings and a message are planned in eighteen steps, with memory from a heap of so many blocks.
 fn is_planned(rt: &impl Abort, alloc: Global, blocks: usize) -> bool {
-    let heap = heap_of(rt, alloc, blocks);
+    let heap = heap_of(alloc, blocks).expect(rt, "memory");
     let events = pings_and_message(rt, &heap, alloc);
     let plan = uniform(&heap, events.as_slice(), Role::Server, 1, false, None);
     has_eighteen_steps(rt, &plan)
@@ -217,9 +218,9 @@ fn a_plan_is_as_it_was_and_goes_on_with_memory(rt: HostRuntime) {
 
 /// Whether a plan of so many pieces is refused the memory for a step more, on a full heap. In the end it has that step.
 fn is_refused_once(rt: &impl Abort, alloc: Global, count: usize) -> bool {
-    let heap = heap_of(rt, alloc, 1_024);
+    let heap = heap_of(alloc, 1_024).expect(rt, "memory");
     let mut plan = pieces(rt, &heap, count);
-    let ballast = fill(rt, alloc, &heap);
+    let ballast = fill(alloc, &heap).expect(rt, "memory");
     let is_refused = is_pushed_again(rt, &mut plan, count, ballast);
     expect_of(rt, are_pieces_and_last(plan.steps(), count), &count);
     is_refused

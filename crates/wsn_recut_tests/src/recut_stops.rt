@@ -34,7 +34,7 @@ fn expect_unwritten(
 #[test]
 fn a_failed_read_is_told_before_the_answer_shows(rt: HostRuntime) {
     let alloc = rt.alloc();
-    for stream in streams(&rt, alloc).iter() {
+    for stream in streams(alloc).expect(&rt, "every row").iter() {
         expect_broken(&rt, alloc, stream);
     }
 }
@@ -42,7 +42,7 @@ fn a_failed_read_is_told_before_the_answer_shows(rt: HostRuntime) {
 /// Fails unless a failed read behind any of a stream's first bytes is told, or what these bytes tell. They come one by
 /// one or at once.
 fn expect_broken(rt: &impl Abort, alloc: Global, stream: &Stream) {
-    for front in stream.fronts(rt, alloc) {
+    for front in stream.fronts(alloc).expect(rt, "memory") {
         let wanted = line_behind(stream, front);
         expect_unwritten(rt, alloc, stream, Chopped::breaking(front, 1), wanted);
         expect_unwritten(rt, alloc, stream, Chopped::breaking(front, 4_096), wanted);
@@ -69,7 +69,7 @@ fn expect_unread(rt: &impl Abort, alloc: Global, cut: &Cut, plan: &Plan) {
 
 /// Fails unless a failed read behind these first bytes of a row is told, whatever this plan.
 fn expect_unread_behind(rt: &impl Abort, alloc: Global, cut: &Cut, plan: &Plan, front: &[u8]) {
-    let limits = limits_under(rt, &cut.under);
+    let limits = limits_under(&cut.under).expect(rt, "limits in range");
     let mut out = Vec::new(alloc);
     let reader = Chopped::breaking(front, 1);
     let answer = recut_by(alloc, cut.role, limits, plan, reader, &mut out);
@@ -92,7 +92,7 @@ fn a_failed_write_is_told(rt: HostRuntime) {
 
 /// Fails unless a failed write behind these first bytes of a row's recut is told.
 fn expect_full(rt: &impl Abort, alloc: Global, cut: &Cut, plan: &Plan, full: Full, front: &[u8]) {
-    let limits = limits_under(rt, &cut.under);
+    let limits = limits_under(&cut.under).expect(rt, "limits in range");
     let mut writer = Narrow::new(alloc, 1, front.len(), full);
     let reader = Chopped::new(cut.bytes, usize::MAX);
     let answer = recut_by(alloc, cut.role, limits, plan, reader, &mut writer);
@@ -127,7 +127,7 @@ fn a_failed_write_is_told_of_frames_of_one_size(rt: HostRuntime) {
 
 /// Fails unless a failed write behind these first bytes of a row's recut in frames of one size is told.
 fn expect_sized_full(rt: &impl Abort, alloc: Global, cut: &SizedCut, full: Full, front: &[u8]) {
-    let limits = limits_under(rt, &cut.under);
+    let limits = limits_under(&cut.under).expect(rt, "limits in range");
     let mut writer = Narrow::new(alloc, 1, front.len(), full);
     let reader = Chopped::new(cut.bytes, usize::MAX);
     let answer = recut_uniformly(alloc, cut.role, limits, cut.sizes, reader, &mut writer);
@@ -145,7 +145,7 @@ fn a_writer_may_take_one_byte_a_call(rt: HostRuntime) {
 
 /// Fails unless a writer with room for a row's recut alone takes it, a byte a call.
 fn expect_room_enough(rt: &impl Abort, alloc: Global, cut: &Cut) {
-    let limits = limits_under(rt, &cut.under);
+    let limits = limits_under(&cut.under).expect(rt, "limits in range");
     let plan = plan_read(rt, alloc, cut.plan.as_bytes());
     let mut writer = Narrow::new(alloc, 1, cut.out.len(), Full::Fails);
     let reader = Chopped::new(cut.bytes, 3);

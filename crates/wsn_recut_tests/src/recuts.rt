@@ -1,10 +1,9 @@
 //! Recuts by a plan that fits: what is written.
 
-use crate::expecting::{expect_answer, expect_recut, expect_recut_at, plan_read};
+use crate::expecting::{expect_answer, expect_of, expect_recut, expect_recut_at, plan_read};
 use std::alloc::Global;
 use std::process::Abort;
 use wsn_doubles::engines::recut_by;
-use wsn_doubles::expecting::expect_of;
 use wsn_doubles::readers::{Chopped, READS};
 use wsn_doubles::rows::{ANY_LENGTHS, GREATEST, Stream, Under, filled, limits_under, stream_named};
 use wsn_plan::Plan;
@@ -138,7 +137,7 @@ pub fn expect_cut(rt: &impl Abort, alloc: Global, cut: &Cut) {
 
 /// Fails unless a stream is cut so by this plan, by reads of at most so many bytes.
 fn expect_cut_by(rt: &impl Abort, alloc: Global, cut: &Cut, plan: &Plan, most: usize) {
-    let limits = limits_under(rt, &cut.under);
+    let limits = limits_under(&cut.under).expect(rt, "limits in range");
     let mut out = Vec::new(alloc);
     let reader = Chopped::new(cut.bytes, most);
     let answer = recut_by(alloc, cut.role, limits, plan, reader, &mut out);
@@ -157,8 +156,8 @@ fn a_plan_that_fits_is_kept_to(rt: HostRuntime) {
 #[test]
 fn a_length_of_two_bytes_is_spelled_in_eight_alone(rt: HostRuntime) {
     let alloc = rt.alloc();
-    let bytes = filled(&rt, alloc, b"\x82\x7e\x00\x7e", 0x2a, 126);
-    let eight = filled(&rt, alloc, b"\x82\x7f\0\0\0\0\0\0\0\x7e", 0x2a, 126);
+    let bytes = filled(alloc, b"\x82\x7e\x00\x7e", 0x2a, 126).expect(&rt, "memory");
+    let eight = filled(alloc, b"\x82\x7f\0\0\0\0\0\0\0\x7e", 0x2a, 126).expect(&rt, "memory");
     for (text, line, wanted) in [
         ("last - two", "fault 0 wrong-form", &[] as &[u8]),
         ("last - eight", "done", eight.as_slice()),
@@ -177,7 +176,7 @@ fn expect_cut_in_any_length(
     wanted: (&str, &[u8]),
 ) {
     let plan = plan_read(rt, alloc, text.as_bytes());
-    let limits = limits_under(rt, &ANY_LENGTHS);
+    let limits = limits_under(&ANY_LENGTHS).expect(rt, "limits in range");
     let mut out = Vec::new(alloc);
     let reader = Chopped::new(bytes, usize::MAX);
     let answer = recut_by(alloc, Role::Server, limits, &plan, reader, &mut out);
@@ -187,7 +186,10 @@ fn expect_cut_in_any_length(
 #[test]
 fn fragments_of_65_535_bytes_and_of_one_come_back(rt: HostRuntime) {
     let alloc = rt.alloc();
-    let stream = stream_named(&rt, alloc, "fragments of 65,535 bytes and of one");
+    let stream = stream_named(alloc, "fragments of 65,535 bytes and of one").expect(
+        &rt,
+        "a row of this name",
+    );
     let plan = plan_read(&rt, alloc, b"piece 65535 -\nlast -\n");
     for most in READS {
         expect_back(&rt, alloc, &stream, &plan, most);

@@ -1,13 +1,13 @@
 //! `wsn recut` in frames of one size: the recut on standard output, what keeps the command from it in one line on
 //! standard error, and the status.
 
+use crate::expecting::expect_of;
 use crate::plan_commands::{expect_end, is_served, line_of_front, told};
 use crate::recut_memory;
 use crate::uniform_recuts::{CUTS, SizedCut};
 use std::alloc::{Allocator, Global};
 use std::process::Abort;
 use wsn_doubles::engines::KEY;
-use wsn_doubles::expecting::expect_of;
 use wsn_doubles::heaps::heap_of;
 use wsn_doubles::outcomes::{Outcome, outcome_on};
 use wsn_doubles::readers::Chopped;
@@ -25,7 +25,7 @@ fn sized_on<A: Allocator + Copy>(
     reader: Chopped,
     writer: Narrow,
 ) -> Outcome {
-    let limits = limits_under(rt, &cut.under);
+    let limits = limits_under(&cut.under).expect(rt, "limits in range");
     let size = cut.sizes.size.max(1);
     let weave = cut.sizes.weave;
     match cut.role {
@@ -98,7 +98,7 @@ fn expect_sized_unwritten(rt: &impl Abort, alloc: Global, cut: &SizedCut, front:
 
 /// Whether a recut in frames of one size has memory enough in a heap of so many blocks.
 fn is_sized_served(rt: &impl Abort, alloc: Global, cut: &SizedCut, blocks: usize) -> bool {
-    let heap = heap_of(rt, alloc, blocks);
+    let heap = heap_of(alloc, blocks).expect(rt, "memory");
     let reader = Chopped::new(cut.bytes, 3);
     let done = sized_on(rt, &heap, alloc, cut, reader, Narrow::wide(alloc));
     is_served(rt, &done, cut.out, told(cut.line))

@@ -1,13 +1,14 @@
 //! Recuts in frames of one size: the plans of events that are written out, what is written by them, and that it means
 //! what the stream does.
 
-use crate::expecting::{expect_answer, expect_equal, expect_recut_at, plan_written, push_event};
+use crate::expecting::{
+    expect_answer, expect_bytes_of, expect_equal, expect_recut_at, plan_written, push_event,
+};
 use crate::recuts::NINE_MESSAGES;
 use std::alloc::Global;
 use std::process::Abort;
 use wsn_canon::Event;
 use wsn_doubles::engines::{Sizes, compared, recut_uniformly};
-use wsn_doubles::expecting::expect_bytes_of;
 use wsn_doubles::limits::TWO_FRAMES;
 use wsn_doubles::readers::{Chopped, READS};
 use wsn_doubles::rows::{GREATEST, Stream, Under, limits_under, streams};
@@ -140,7 +141,7 @@ fn streams_are_cut_in_frames_of_one_size(rt: HostRuntime) {
 
 /// Fails unless a stream is cut so, by reads of at most so many bytes.
 fn expect_cut(rt: &impl Abort, alloc: Global, cut: &SizedCut, most: usize) {
-    let limits = limits_under(rt, &cut.under);
+    let limits = limits_under(&cut.under).expect(rt, "limits in range");
     let mut out = Vec::new(alloc);
     let reader = Chopped::new(cut.bytes, most);
     let answer = recut_uniformly(alloc, cut.role, limits, cut.sizes, reader, &mut out);
@@ -167,7 +168,7 @@ fn expect_same(rt: &impl Abort, alloc: Global, stream: &Stream, sizes: Sizes) {
 
 #[test]
 fn what_is_accepted_means_the_same_once_it_is_cut(rt: HostRuntime) {
-    for stream in streams(&rt, rt.alloc()).iter() {
+    for stream in streams(rt.alloc()).expect(&rt, "every row").iter() {
         if stream.is_accepted() && stream.limits.frames().is_none() {
             expect_same_by_sizes(&rt, rt.alloc(), stream);
         }

@@ -1,7 +1,7 @@
 //! Which codes a Close may carry: every one.
 
+use crate::expecting::{expect, expect_of};
 use std::process::Abort;
-use wsn_doubles::expecting::{expect, expect_of};
 use wsn_text::code_allowed;
 
 /// The first and the last code of each row, and whether a Close may carry them.

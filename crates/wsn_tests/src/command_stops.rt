@@ -2,9 +2,9 @@
 //! one line tells the failure, and the status is 2.
 ghost use Rattle.wsn_job.specs.Jobs.{MayRun};
 
+use crate::expecting::{expect_count, expect_outcome, front_of};
 use std::alloc::Global;
 use std::process::Abort;
-use wsn_doubles::expecting::{expect_count, expect_outcome, front_of};
 use wsn_doubles::lines::listing;
 use wsn_doubles::outcomes::{compared_on, outcome_on};
 use wsn_doubles::readers::{Chopped, READS};
@@ -14,7 +14,10 @@ use wsn_job::Job;
 
 /// The stream: "Hello" in fragments of three bytes and of two, and a ping between them.
 fn fragments(rt: &impl Abort, alloc: Global) -> Stream {
-    stream_named(rt, alloc, "Hello in two fragments, and a ping between them")
+    stream_named(alloc, "Hello in two fragments, and a ping between them").expect(
+        rt,
+        "a row of this name",
+    )
 }
 
 /// What a command writes of a stream, and how many bytes of that are due where it has read none of the stream's bytes,
@@ -121,7 +124,7 @@ fn judge_is_stopped(rt: HostRuntime) {
 fn frames_is_stopped(rt: HostRuntime) {
     let alloc = rt.alloc();
     let stream = fragments(&rt, alloc);
-    let lines = listing(&rt, alloc, &stream);
+    let lines = listing(alloc, &stream).expect(&rt, "memory");
     let wanted = Wanted {
         stream: &stream,
         out: lines.as_bytes(),

@@ -1,15 +1,16 @@
 //! How a stream may end: cut short behind each byte, with more behind a refusal, and not at all.
 
 use crate::every_way::expect_stream;
-use crate::expecting::{Reading, expect_answer};
+use crate::expecting::{
+    Reading, expect, expect_answer, expect_bytes, expect_count, expect_of, front_of,
+};
 use std::alloc::Global;
 use std::process::Abort;
 use wsn_canon::normalise;
 use wsn_doubles::engines::judged;
-use wsn_doubles::expecting::{expect, expect_bytes, expect_count, expect_of, front_of};
 use wsn_doubles::lines::{answer_line, frame_line};
 use wsn_doubles::readers::{Chopped, Endless, READS};
-use wsn_doubles::rows::{Stream, copied, extend, greatest, limits_of, stream_named, streams};
+use wsn_doubles::rows::{Stream, greatest, stream_named, streams};
 use wsn_scan::{HeadInfo, Limits, MESSAGE_MAX, Stop, Verdict, judge, list};
 use wsn_wire::{Form, Input, Op, Output, Role};
 
@@ -27,7 +28,7 @@ fn expect_told(rt: &impl Abort, stream: &Stream, line: &str, reading: &Reading) 
 fn expect_front(rt: &impl Abort, alloc: Global, stream: &Stream, front: &[u8]) {
     for most in READS {
         let answer = judged(stream, Chopped::new(front, most));
-        let line = answer_line(rt, alloc, &answer);
+        let line = answer_line(alloc, &answer).expect(rt, "memory");
         let reading = Reading {
             name: stream.name,
             how: "judged",
@@ -43,8 +44,8 @@ fn the_first_200_fronts_and_the_last_are_accepted_or_cut_until_they_tell_the_ans
     rt: HostRuntime,
 ) {
     let alloc = rt.alloc();
-    for stream in streams(&rt, alloc).iter() {
-        for front in stream.fronts(&rt, alloc) {
+    for stream in streams(alloc).expect(&rt, "every row").iter() {
+        for front in stream.fronts(alloc).expect(&rt, "memory") {
             expect_front(&rt, alloc, stream, front);
         }
     }
@@ -52,7 +53,10 @@ fn the_first_200_fronts_and_the_last_are_accepted_or_cut_until_they_tell_the_ans
 
 #[test]
 fn every_front_of_a_long_message_is_cut(rt: HostRuntime) {
-    let stream = stream_named(&rt, rt.alloc(), "a binary message of 65,536 bytes");
+    let stream = stream_named(rt.alloc(), "a binary message of 65,536 bytes").expect(
+        &rt,
+        "a row of this name",
+    );
     for count in 1..stream.bytes.len() {
         let answer = judged(&stream, Chopped::new(&stream.bytes[..count], usize::MAX));
         let is_cut = matches!(&answer, Ok(Verdict::Cut(front)) if front.used == count as u64);
@@ -118,14 +122,17 @@ fn verdicts_behind_each_byte(rt: HostRuntime) {
 /// A refused stream is read alike in every way with more bytes behind it.
 fn expect_more_behind(rt: &impl Abort, alloc: Global, stream: &mut Stream) {
     if stream.verdict.starts_with("refused") {
-        extend(rt, &mut stream.bytes, &[0x00, 0xff, 0x81]);
+        stream
+            .bytes
+            .extend_from_slice(&[0x00, 0xff, 0x81])
+            .expect(rt, "memory");
         expect_stream(rt, alloc, stream);
     }
 }
 
 #[test]
 fn what_stands_behind_a_refusal_changes_nothing(rt: HostRuntime) {
-    for stream in streams(&rt, rt.alloc()).iter_mut() {
+    for stream in streams(rt.alloc()).expect(&rt, "every row").iter_mut() {
         expect_more_behind(&rt, rt.alloc(), stream);
     }
 }
@@ -207,14 +214,16 @@ fn lines_of_pings(rt: &impl Abort, alloc: Global) -> Vec<u8> {
             len: 0,
             form: Form::Shortest,
         };
-        extend(rt, &mut lines, frame_line(rt, alloc, &ping).as_bytes());
+        lines
+            .extend_from_slice(frame_line(alloc, &ping).expect(rt, "memory").as_bytes())
+            .expect(rt, "memory");
     }
     lines
 }
 
 #[test]
 fn endless_pings_end_at_the_input_limit(rt: HostRuntime) {
-    let limits = limits_of(&rt, MESSAGE_MAX, 1_001);
+    let limits = Limits::new(MESSAGE_MAX, 1_001).expect(&rt, "limits in range");
     let normal = [0x89, 0x00].repeat(rt.alloc(), 500).expect(&rt, "memory");
     let lines = lines_of_pings(&rt, rt.alloc());
     let pings = Unending {
@@ -229,9 +238,11 @@ fn endless_pings_end_at_the_input_limit(rt: HostRuntime) {
 
 #[test]
 fn an_endless_tail_ends_at_the_input_limit(rt: HostRuntime) {
-    let limits = limits_of(&rt, MESSAGE_MAX, 9);
-    let normal = copied(&rt, rt.alloc(), &[0x88, 0x00]);
-    let lines = copied(&rt, rt.alloc(), b"0 fin close - 0\n");
+    let limits = Limits::new(MESSAGE_MAX, 9).expect(&rt, "limits in range");
+    let normal = [0x88, 0x00].to_vec(rt.alloc()).expect(&rt, "memory");
+    let lines = b"0 fin close - 0\n"
+        .to_vec(rt.alloc())
+        .expect(&rt, "memory");
     let close = Unending {
         first: &[0x88, 0x00],
         again: &[0x00],

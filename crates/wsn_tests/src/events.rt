@@ -1,17 +1,16 @@
 //! `put_event` and `is_lawful`: the examples of RFC 6455 section 5.7, each spelling of a length, a close, and a write
 //! that fails.
 
+use crate::expecting::{expect, expect_bytes, expect_of};
 use std::alloc::Global;
 use std::process::Abort;
 use wsn_canon::{Event, Small, is_lawful, put_event};
-use wsn_doubles::expecting::{expect, expect_bytes, expect_of};
-use wsn_doubles::rows::{copied, extend};
 use wsn_doubles::writers::{Full, Narrow};
 use wsn_scan::Stop;
 use wsn_wire::{Kind, Output, Role};
 
 fn message(rt: &impl Abort, alloc: Global, kind: Kind, bytes: &[u8]) -> Event {
-    Event::Message(kind, copied(rt, alloc, bytes))
+    Event::Message(kind, bytes.to_vec(alloc).expect(rt, "memory"))
 }
 
 fn small(rt: &impl Abort, bytes: &[u8]) -> Small {
@@ -33,7 +32,9 @@ fn expect_put(rt: &impl Abort, alloc: Global, role: Role, event: &Event, wanted:
 fn payload_of(rt: &impl Abort, alloc: Global, size: usize) -> Vec<u8> {
     let mut payload = Vec::new(alloc);
     for i in 0..size {
-        extend(rt, &mut payload, &[(i % 251) as u8]);
+        payload
+            .extend_from_slice(&[(i % 251) as u8])
+            .expect(rt, "memory");
     }
     payload
 }
@@ -41,8 +42,10 @@ fn payload_of(rt: &impl Abort, alloc: Global, size: usize) -> Vec<u8> {
 /// A server's binary message of so many bytes is this head and its payload.
 fn expect_binary(rt: &impl Abort, alloc: Global, size: usize, head: &[u8]) {
     let payload = payload_of(rt, alloc, size);
-    let mut wanted = copied(rt, alloc, head);
-    extend(rt, &mut wanted, payload.as_slice());
+    let mut wanted = head.to_vec(alloc).expect(rt, "memory");
+    wanted
+        .extend_from_slice(payload.as_slice())
+        .expect(rt, "memory");
     let event = Event::Message(Kind::Binary, payload);
     expect_put(rt, alloc, Role::Server, &event, wanted.as_slice());
 }

@@ -56,7 +56,7 @@ fn expect_listed(rt: &impl Abort, alloc: Global, stream: &Stream, most: usize) {
     let answer = listed(stream, reader, &mut text);
     let reading = Reading::whole(stream, "listed", most);
     reading.expect_answer(rt, alloc, &answer, stream.verdict);
-    let lines = listing(rt, alloc, stream);
+    let lines = listing(alloc, stream).expect(rt, "memory");
     reading.expect_bytes(rt, text.as_slice(), lines.as_bytes());
 }
 
@@ -82,7 +82,7 @@ fn expect_its_own_normal_form(rt: &impl Abort, alloc: Global, stream: &Stream, m
 #[test]
 fn streams_are_read_alike_in_every_way(rt: HostRuntime) {
     let alloc = rt.alloc();
-    for stream in streams(&rt, alloc).iter() {
+    for stream in streams(alloc).expect(&rt, "every row").iter() {
         expect_stream(&rt, alloc, stream);
     }
 }

@@ -1,14 +1,13 @@
 //! What is expected of lines and bytes that a stream is read to, and of a command's run.
+ghost use Rattle.std.specs.Prelude.{◌≡◌, true};
 ghost use Rattle.wsn_job.specs.Jobs.{MayRun};
 
 use std::alloc::{Allocator, Global};
+use std::fmt::Debug;
 use std::process::Abort;
 use wsn_canon::{Next, Source};
-use wsn_doubles::expecting::{
-    expect_count, expect_line, expect_line_of, expect_of, expect_outcome,
-};
 use wsn_doubles::lines::{answer_line, line_of, stop_line, verdict_line};
-use wsn_doubles::outcomes::outcome_on;
+use wsn_doubles::outcomes::{Outcome, outcome_on};
 use wsn_doubles::readers::Chopped;
 use wsn_doubles::rows::Stream;
 use wsn_doubles::writers::{FULL, Narrow};
@@ -16,9 +15,61 @@ use wsn_job::Job;
 use wsn_scan::{Stop, Verdict};
 use wsn_wire::Input;
 
+/// Fails unless this holds.
+pub fn expect(rt: &impl Abort, holds: bool)
+    ensures { holds ≡ true }
+{
+    assert!(rt; holds);
+}
+
+/// Fails unless this holds of what is told.
+pub fn expect_of(rt: &impl Abort, holds: bool, of: &impl Debug) {
+    assert!(rt; holds, "{of:?}");
+}
+
+/// Fails unless this is the line, or the text, that is wanted.
+pub fn expect_line(rt: &impl Abort, line: &str, wanted: &str) {
+    assert_eq!(rt; line, wanted);
+}
+
+/// Fails unless this is the line, or the text, that is wanted of what is told.
+pub fn expect_line_of(rt: &impl Abort, line: &str, wanted: &str, of: &impl Debug) {
+    assert_eq!(rt; line, wanted, "{of:?}");
+}
+
+/// Fails unless these are the bytes that are wanted.
+pub fn expect_bytes(rt: &impl Abort, bytes: &[u8], wanted: &[u8]) {
+    assert_eq!(rt; bytes, wanted);
+}
+
+/// Fails unless these are the bytes that are wanted of what is told.
+pub fn expect_bytes_of(rt: &impl Abort, bytes: &[u8], wanted: &[u8], of: &impl Debug) {
+    assert_eq!(rt; bytes, wanted, "{of:?}");
+}
+
+/// The first bytes, so many. Fails where there are fewer.
+pub fn front_of<'a>(rt: &impl Abort, bytes: &'a [u8], count: usize) -> &'a [u8] {
+    bytes.get(..count).expect(rt, "as many bytes")
+}
+
+/// Fails unless so many is how many are wanted.
+pub fn expect_count(rt: &impl Abort, count: usize, wanted: usize) {
+    assert_eq!(rt; count, wanted);
+}
+
+/// Fails unless a command ended by this status, with these bytes on standard output, and on standard error this line,
+/// or nothing where it is empty.
+pub fn expect_outcome(rt: &impl Abort, done: &Outcome, status: u8, out: &[u8], line: &str) {
+    let end: &[u8] = if line.is_empty() { b"" } else { b"\n" };
+    let told = done.said.as_slice().strip_suffix(end);
+    expect_bytes_of(rt, done.out.as_slice(), out, &line);
+    expect_of(rt, told == Some(line.as_bytes()), &(line, &done.said));
+    expect_of(rt, done.status == status, &(line, done.status));
+}
+
 /// Fails unless this is the line of the answer.
 pub fn expect_answer(rt: &impl Abort, alloc: Global, answer: &Result<Verdict, Stop>, wanted: &str) {
-    let line = answer_line(rt, alloc, answer);
+    let line = answer_line(alloc, answer).expect(rt, "memory");
     expect_line(rt, line.as_str(), wanted);
 }
 
@@ -29,9 +80,9 @@ pub fn last_line<A: Allocator>(
     answer: &Result<Next<A>, Stop>,
 ) -> String {
     match answer {
-        Ok(Next::Event(_)) => line_of(rt, alloc, "an event"),
-        Ok(Next::Done(verdict)) => verdict_line(rt, alloc, verdict),
-        Err(stop) => stop_line(rt, alloc, *stop),
+        Ok(Next::Event(_)) => line_of(alloc, "an event").expect(rt, "memory"),
+        Ok(Next::Done(verdict)) => verdict_line(alloc, verdict).expect(rt, "memory"),
+        Err(stop) => stop_line(alloc, *stop).expect(rt, "memory"),
     }
 }
 
@@ -104,7 +155,7 @@ impl<'a> Reading<'a> {
         answer: &Result<Verdict, Stop>,
         wanted: &str,
     ) {
-        let line = answer_line(rt, alloc, answer);
+        let line = answer_line(alloc, answer).expect(rt, "memory");
         self.expect_line(rt, line.as_str(), wanted);
     }
 

@@ -1,12 +1,12 @@
 //! Writers that fail, behind each byte that an engine writes.
 
+use crate::expecting::expect_of;
 use std::alloc::Global;
 use std::process::Abort;
 use wsn_doubles::engines::{listed, normalised};
-use wsn_doubles::expecting::expect_of;
 use wsn_doubles::lines::listing;
 use wsn_doubles::readers::Chopped;
-use wsn_doubles::rows::{Stream, extend, filled, stream_named, streams};
+use wsn_doubles::rows::{Stream, filled, stream_named, streams};
 use wsn_doubles::writers::{FULL, Full, Narrow};
 use wsn_scan::{Stop, Verdict};
 
@@ -43,7 +43,7 @@ fn expect_full_list(rt: &impl Abort, alloc: Global, stream: &Stream, lines: &[u8
 
 /// The same, in each way of being full.
 fn expect_full_lists(rt: &impl Abort, alloc: Global, stream: &Stream) {
-    let whole = listing(rt, alloc, stream);
+    let whole = listing(alloc, stream).expect(rt, "memory");
     for full in FULL {
         expect_full_list(rt, alloc, stream, whole.as_bytes(), full);
     }
@@ -51,7 +51,7 @@ fn expect_full_lists(rt: &impl Abort, alloc: Global, stream: &Stream) {
 
 #[test]
 fn list_tells_a_failed_write(rt: HostRuntime) {
-    for stream in streams(&rt, rt.alloc()).iter() {
+    for stream in streams(rt.alloc()).expect(&rt, "every row").iter() {
         expect_full_lists(&rt, rt.alloc(), stream);
     }
 }
@@ -78,7 +78,7 @@ fn expect_full_normal(rt: &impl Abort, alloc: Global, stream: &Stream, full: Ful
 #[test]
 fn normalise_tells_a_failed_write(rt: HostRuntime) {
     let alloc = rt.alloc();
-    for stream in streams(&rt, alloc).iter() {
+    for stream in streams(alloc).expect(&rt, "every row").iter() {
         for full in FULL {
             expect_full_normal(&rt, alloc, stream, full);
         }
@@ -87,10 +87,12 @@ fn normalise_tells_a_failed_write(rt: HostRuntime) {
 
 /// A ping, a message of 4,200 bytes, a pong and another message, which are their own normal form.
 fn of_several_blocks(rt: &impl Abort, alloc: Global) -> Stream {
-    let mut bytes = filled(rt, alloc, b"\x89\x00\x82\x7e\x10\x68", 0x2a, 4_200);
-    let rest = filled(rt, alloc, b"\x8a\x01A\x81\x7e\x10\x68", 0x2a, 4_200);
-    extend(rt, &mut bytes, rest.as_slice());
-    let mut stream = stream_named(rt, alloc, "an empty text");
+    let mut bytes = filled(alloc, b"\x89\x00\x82\x7e\x10\x68", 0x2a, 4_200).expect(rt, "memory");
+    let rest = filled(alloc, b"\x8a\x01A\x81\x7e\x10\x68", 0x2a, 4_200).expect(rt, "memory");
+    bytes
+        .extend_from_slice(rest.as_slice())
+        .expect(rt, "memory");
+    let mut stream = stream_named(alloc, "an empty text").expect(rt, "a row of this name");
     stream.bytes = bytes;
     stream
 }

@@ -1,11 +1,10 @@
 //! `wsn frames`: the lines of the frames and of the verdict on standard output, and the status, with no memory to be
 //! had.
 
-use crate::expecting::{Reading, expect_failed_read, expect_failed_writes};
+use crate::expecting::{Reading, expect_failed_read, expect_failed_writes, expect_outcome};
 use std::alloc::{Allocator, Global};
 use std::process::Abort;
 use wsn_doubles::engines::listed;
-use wsn_doubles::expecting::expect_outcome;
 use wsn_doubles::heaps::heap_of;
 use wsn_doubles::lines::listing;
 use wsn_doubles::outcomes::outcome_on;
@@ -24,14 +23,14 @@ fn expect_printed<A: Allocator + Copy>(rt: &impl Abort, heap: A, alloc: Global, 
     } else {
         ""
     };
-    let lines = listing(rt, alloc, stream);
+    let lines = listing(alloc, stream).expect(rt, "memory");
     expect_outcome(rt, &done, stream.status(), lines.as_bytes(), said);
 }
 
 #[test]
 fn frames_are_printed_before_the_verdict(rt: HostRuntime) {
-    let heap = heap_of(&rt, rt.alloc(), 0);
-    for stream in streams(&rt, rt.alloc()).iter() {
+    let heap = heap_of(rt.alloc(), 0).expect(&rt, "memory");
+    for stream in streams(rt.alloc()).expect(&rt, "every row").iter() {
         expect_printed(&rt, &heap, rt.alloc(), stream);
     }
 }
@@ -39,8 +38,8 @@ fn frames_are_printed_before_the_verdict(rt: HostRuntime) {
 #[test]
 fn a_failed_read_is_told_in_one_line(rt: HostRuntime) {
     let alloc = rt.alloc();
-    let heap = heap_of(&rt, alloc, 0);
-    for stream in streams(&rt, alloc).iter() {
+    let heap = heap_of(alloc, 0).expect(&rt, "memory");
+    for stream in streams(alloc).expect(&rt, "every row").iter() {
         let job = Job::Frames(stream.role, stream.limits);
         expect_failed_read(&rt, &heap, alloc, &job);
     }
@@ -49,8 +48,8 @@ fn a_failed_read_is_told_in_one_line(rt: HostRuntime) {
 #[test]
 fn a_failed_write_is_told_in_one_line(rt: HostRuntime) {
     let alloc = rt.alloc();
-    let heap = heap_of(&rt, alloc, 0);
-    for stream in streams(&rt, alloc).iter() {
+    let heap = heap_of(alloc, 0).expect(&rt, "memory");
+    for stream in streams(alloc).expect(&rt, "every row").iter() {
         let job = Job::Frames(stream.role, stream.limits);
         expect_failed_writes(&rt, &heap, alloc, &job, stream.bytes.as_slice(), &[]);
     }
@@ -62,14 +61,14 @@ fn expect_by_one(rt: &impl Abort, alloc: Global, stream: &Stream) {
     let reader = Chopped::new(stream.bytes.as_slice(), usize::MAX);
     let answer = listed(stream, reader, &mut writer);
     let reading = Reading::whole(stream, "listed", usize::MAX);
-    let lines = listing(rt, alloc, stream);
+    let lines = listing(alloc, stream).expect(rt, "memory");
     reading.expect_bytes(rt, writer.taken.as_slice(), lines.as_bytes());
     reading.expect_answer(rt, alloc, &answer, stream.verdict);
 }
 
 #[test]
 fn a_writer_may_take_one_byte_a_call(rt: HostRuntime) {
-    for stream in streams(&rt, rt.alloc()).iter() {
+    for stream in streams(rt.alloc()).expect(&rt, "every row").iter() {
         expect_by_one(&rt, rt.alloc(), stream);
     }
 }

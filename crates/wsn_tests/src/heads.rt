@@ -1,7 +1,7 @@
 //! A head's bytes, read one after another and written.
 
+use crate::expecting::{expect_bytes, expect_of};
 use std::process::Abort;
-use wsn_doubles::expecting::{expect_bytes, expect_of};
 use wsn_wire::{
     FirstByte, Form, LenForm, Lengths, Op, Reason, Role, eight, first, head, head_as, second, two,
 };

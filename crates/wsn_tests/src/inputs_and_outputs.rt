@@ -1,9 +1,9 @@
 //! An input and an output over readers and writers that chop, fail and stall: each call of them, and none again.
 
+use crate::expecting::{expect, expect_bytes, expect_of};
 use arrayvec::ArrayVec;
 use std::io::{self, Read, Write};
 use std::process::Abort;
-use wsn_doubles::expecting::{expect, expect_bytes, expect_of};
 use wsn_wire::{Input, Output};
 
 /// Gives one byte, then an error, then nothing.

@@ -1,14 +1,13 @@
 //! Readers that are interrupted or would block, and would go on at the next call: any error counts, and nothing is
 //! tried again.
 
-use crate::expecting::expect_answer;
+use crate::expecting::{expect, expect_answer, expect_count, expect_line_of};
 use std::alloc::Global;
 use std::io::ErrorKind;
 use std::process::Abort;
 use wsn_doubles::engines::{
     Sizes, compared, judged, listed, normalised, planned, recut_by, recut_uniformly,
 };
-use wsn_doubles::expecting::{expect, expect_count, expect_line_of};
 use wsn_doubles::lines::{answer_line, compared_line, planned_line, recut_line};
 use wsn_doubles::readers::Chopped;
 use wsn_doubles::rows::{Stream, line_behind, stream_named, streams};
@@ -44,19 +43,19 @@ impl<'a> Stumble<'a> {
     }
 
     fn expect_answer(&self, rt: &impl Abort, alloc: Global, answer: &Result<Verdict, Stop>) {
-        let line = answer_line(rt, alloc, answer);
+        let line = answer_line(alloc, answer).expect(rt, "memory");
         self.expect(rt, line.as_str());
     }
 
     fn expect_recut(&self, rt: &impl Abort, alloc: Global, answer: &Result<RecutAnswer, Stop>) {
-        let line = recut_line(rt, alloc, answer);
+        let line = recut_line(alloc, answer).expect(rt, "memory");
         self.expect(rt, line.as_str());
     }
 
     /// Fails unless this is told of how two readers compare.
     fn expect_stopped(&self, rt: &impl Abort, alloc: Global, first: Chopped, second: Chopped) {
         let answer = compared(alloc, first, second, self.stream.role, self.stream.limits);
-        let line = compared_line(rt, alloc, &answer);
+        let line = compared_line(alloc, &answer).expect(rt, "memory");
         self.expect(rt, line.as_str());
     }
 }
@@ -76,7 +75,7 @@ fn expect_told(rt: &impl Abort, alloc: Global, stumble: &Stumble, most: usize) {
 fn expect_planned(rt: &impl Abort, alloc: Global, stumble: &Stumble, most: usize) {
     let (role, limits) = (stumble.stream.role, stumble.stream.limits);
     let answer = planned(alloc, role, limits, stumble.reader(most));
-    let line = planned_line(rt, alloc, &answer);
+    let line = planned_line(alloc, &answer).expect(rt, "memory");
     stumble.expect(rt, line.as_str());
 }
 
@@ -126,7 +125,7 @@ fn expect_each(rt: &impl Abort, alloc: Global, stumble: &Stumble) {
 
 /// Each engine at each place of a stream where its reader may fail.
 fn expect_ended(rt: &impl Abort, alloc: Global, stream: &Stream) {
-    for front in stream.fronts(rt, alloc) {
+    for front in stream.fronts(alloc).expect(rt, "memory") {
         let wanted = line_behind(stream, front);
         for kind in KINDS {
             let stumble = Stumble {
@@ -142,7 +141,7 @@ fn expect_ended(rt: &impl Abort, alloc: Global, stream: &Stream) {
 
 #[test]
 fn any_error_of_a_reader_ends_the_work(rt: HostRuntime) {
-    for stream in streams(&rt, rt.alloc()).iter() {
+    for stream in streams(rt.alloc()).expect(&rt, "every row").iter() {
         expect_ended(&rt, rt.alloc(), stream);
     }
 }
@@ -161,10 +160,9 @@ fn expect_left(rt: &impl Abort, alloc: Global, stream: &Stream, left: usize, kin
 #[test]
 fn nothing_is_read_behind_an_error(rt: HostRuntime) {
     let alloc = rt.alloc();
-    let stream = stream_named(
+    let stream = stream_named(alloc, "Hello in two fragments, and a ping between them").expect(
         &rt,
-        alloc,
-        "Hello in two fragments, and a ping between them",
+        "a row of this name",
     );
     for left in 0..=stream.bytes.len() {
         for kind in KINDS {

@@ -1,9 +1,8 @@
 //! `wsn judge`: the verdict's line on standard output and its status, with no memory to be had.
 
-use crate::expecting::{expect_failed_read, expect_failed_writes};
+use crate::expecting::{expect_failed_read, expect_failed_writes, expect_outcome};
 use std::alloc::{Allocator, Global};
 use std::process::Abort;
-use wsn_doubles::expecting::expect_outcome;
 use wsn_doubles::heaps::heap_of;
 use wsn_doubles::lines::printed;
 use wsn_doubles::outcomes::outcome_on;
@@ -17,7 +16,7 @@ fn expect_verdict<A: Allocator + Copy>(rt: &impl Abort, heap: A, alloc: Global, 
     let job = Job::Judge(stream.role, stream.limits);
     let reader = Chopped::new(stream.bytes.as_slice(), 4_096);
     let done = outcome_on(heap, alloc, &job, reader, Narrow::wide(alloc));
-    let line = printed(rt, alloc, stream.verdict);
+    let line = printed(alloc, stream.verdict).expect(rt, "memory");
     let (out, said) = if stream.is_too_long() {
         (b"".as_slice(), stream.verdict)
     } else {
@@ -28,8 +27,8 @@ fn expect_verdict<A: Allocator + Copy>(rt: &impl Abort, heap: A, alloc: Global, 
 
 #[test]
 fn each_verdict_is_printed(rt: HostRuntime) {
-    let heap = heap_of(&rt, rt.alloc(), 0);
-    for stream in streams(&rt, rt.alloc()).iter() {
+    let heap = heap_of(rt.alloc(), 0).expect(&rt, "memory");
+    for stream in streams(rt.alloc()).expect(&rt, "every row").iter() {
         expect_verdict(&rt, &heap, rt.alloc(), stream);
     }
 }
@@ -37,8 +36,8 @@ fn each_verdict_is_printed(rt: HostRuntime) {
 #[test]
 fn a_failed_read_is_told_in_one_line(rt: HostRuntime) {
     let alloc = rt.alloc();
-    let heap = heap_of(&rt, alloc, 0);
-    for stream in streams(&rt, alloc).iter() {
+    let heap = heap_of(alloc, 0).expect(&rt, "memory");
+    for stream in streams(alloc).expect(&rt, "every row").iter() {
         let job = Job::Judge(stream.role, stream.limits);
         expect_failed_read(&rt, &heap, alloc, &job);
     }
@@ -56,8 +55,8 @@ fn expect_failed<A: Allocator + Copy>(rt: &impl Abort, heap: A, alloc: Global, s
 
 #[test]
 fn a_failed_write_is_told_in_one_line(rt: HostRuntime) {
-    let heap = heap_of(&rt, rt.alloc(), 0);
-    for stream in streams(&rt, rt.alloc()).iter() {
+    let heap = heap_of(rt.alloc(), 0).expect(&rt, "memory");
+    for stream in streams(rt.alloc()).expect(&rt, "every row").iter() {
         expect_failed(&rt, &heap, rt.alloc(), stream);
     }
 }

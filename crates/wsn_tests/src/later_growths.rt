@@ -1,15 +1,14 @@
 //! Memory that is refused at a later growth, of a message that comes in pieces and of a second message: what came
 //! before is kept, and nothing is answered in its place.
 
-use crate::expecting::{expect_again, expect_answer, expect_last};
+use crate::expecting::{expect, expect_again, expect_answer, expect_count, expect_last, expect_of};
 use std::alloc::{Allocator, Global};
 use std::process::Abort;
 use wsn_canon::{Event, Next, Source};
 use wsn_doubles::engines::normalised;
-use wsn_doubles::expecting::{expect, expect_count, expect_of};
 use wsn_doubles::heaps::{BLOCK, heap_of};
 use wsn_doubles::readers::Chopped;
-use wsn_doubles::rows::{Stream, extend, filled, greatest};
+use wsn_doubles::rows::{Stream, filled, greatest};
 use wsn_scan::Stop;
 use wsn_wire::{Input, Role};
 
@@ -25,8 +24,10 @@ const SECOND: usize = 200;
 pub fn frames_of(rt: &impl Abort, alloc: Global, frames: &[(&[u8], usize)]) -> Vec<u8> {
     let mut bytes = Vec::new(alloc);
     for (head, size) in frames.iter() {
-        let frame = filled(rt, alloc, head, 0x2a, *size);
-        extend(rt, &mut bytes, frame.as_slice());
+        let frame = filled(alloc, head, 0x2a, *size).expect(rt, "memory");
+        bytes
+            .extend_from_slice(frame.as_slice())
+            .expect(rt, "memory");
     }
     bytes
 }
@@ -145,7 +146,7 @@ fn messages_told<A: Allocator + Copy>(
 
 /// How many messages a source tells that has a heap of so many blocks.
 fn messages_of(rt: &impl Abort, alloc: Global, stream: &Stream, blocks: usize) -> usize {
-    let heap = heap_of(rt, alloc, blocks);
+    let heap = heap_of(alloc, blocks).expect(rt, "memory");
     let mut reader = Chopped::new(stream.bytes.as_slice(), 7);
     let mut input = Input::new(&mut reader);
     let mut source = Source::new(&heap, stream.role, stream.limits);
@@ -206,7 +207,7 @@ fn messages_in(rt: &impl Abort, stream: &Stream, out: &[u8]) -> usize {
 /// How many messages the normal form has that is written with memory from a heap of so many blocks. Fails unless the
 /// answer is that memory is refused, or the stream's verdict where all messages came.
 fn messages_written(rt: &impl Abort, alloc: Global, stream: &Stream, blocks: usize) -> usize {
-    let heap = heap_of(rt, alloc, blocks);
+    let heap = heap_of(alloc, blocks).expect(rt, "memory");
     let mut out = Vec::new(alloc);
     let reader = Chopped::new(stream.bytes.as_slice(), 7);
     let answer = normalised(&heap, stream, reader, &mut out);

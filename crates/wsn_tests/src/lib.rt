@@ -12,8 +12,8 @@
 //! What a stream is read and written by: `heads`, `masking` and `reasons` of a frame's parts, `utf8` and `close_codes`
 //! of payloads, `inputs_and_outputs` and `tied` of readers and writers.
 //!
-//! `expecting` asserts what is wanted of a source's last answer and of how a stream is read, and that a command tells a
-//! failed read or write. The rest that is asserted, and the readers, writers and heaps, are those of `wsn_doubles`.
+//! `expecting` asserts what is wanted of a value, of a source's last answer and of how a stream is read, and that a
+//! command tells a failed read or write. The readers, writers and heaps are those of `wsn_doubles`.
 #![tactic(auto)]
 
 #[cfg(test)]

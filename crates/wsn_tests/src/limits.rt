@@ -1,10 +1,10 @@
 //! Limits: which are made, and how much of an input a scanner has room for.
 
+use crate::expecting::{expect, expect_count, expect_line, expect_of};
 use std::process::Abort;
-use wsn_doubles::expecting::{expect, expect_count, expect_line, expect_of};
 use wsn_doubles::limits::INPUT_OF_4;
 use wsn_doubles::lines::verdict_line;
-use wsn_doubles::rows::{limits_of, limits_under};
+use wsn_doubles::rows::limits_under;
 use wsn_scan::{Limits, Scan};
 use wsn_wire::Role;
 
@@ -29,7 +29,7 @@ fn expect_limits(rt: &impl Abort, limits: &Limits, frames: Option<u32>) {
 
 #[test]
 fn limits_tell_what_they_were_made_of(rt: HostRuntime) {
-    let limits = limits_of(&rt, 7, 9);
+    let limits = Limits::new(7, 9).expect(&rt, "limits in range");
     expect_limits(&rt, &limits, None);
     expect(&rt, limits.with_frames(0).is_none());
     let limits = limits.with_frames(1).expect(&rt, "limits of one frame");
@@ -46,11 +46,14 @@ fn expect_room(rt: &impl Abort, scan: &mut Scan, bytes: &mut [u8], room: u64) {
 /// A scanner has room for as much as an input may be. It tells the verdict on that, and takes no byte more.
 #[test]
 fn a_scanner_has_room_for_the_input_limit(rt: HostRuntime) {
-    let mut scan = Scan::new(Role::Server, limits_under(&rt, &INPUT_OF_4));
+    let mut scan = Scan::new(
+        Role::Server,
+        limits_under(&INPUT_OF_4).expect(&rt, "limits in range"),
+    );
     let mut close = [0x88, 0x02, 0x03, 0xe8];
     expect_room(&rt, &mut scan, &mut close, 4);
     expect_room(&rt, &mut scan, &mut close[2..], 2);
     expect(&rt, scan.room() == 0);
-    let line = verdict_line(&rt, rt.alloc(), &scan.finish());
+    let line = verdict_line(rt.alloc(), &scan.finish()).expect(&rt, "memory");
     expect_line(&rt, line.as_str(), "accepted 4 tail 0 unfinished -");
 }

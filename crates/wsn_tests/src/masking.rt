@@ -1,6 +1,6 @@
 //! Masking, at any place in the key.
 
-use wsn_doubles::expecting::{expect_bytes, expect_bytes_of};
+use crate::expecting::{expect_bytes, expect_bytes_of};
 use wsn_wire::mask;
 
 #[test]

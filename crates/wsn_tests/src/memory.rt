@@ -1,11 +1,12 @@
 //! Memory that is refused, one growth after another: each call then answers that, and nothing in its place. Where
 //! there is enough it answers what it does elsewhere.
 
-use crate::expecting::{expect_again, expect_answer, expect_last};
+use crate::expecting::{
+    expect, expect_again, expect_answer, expect_bytes, expect_last, expect_of, expect_outcome,
+};
 use std::alloc::{Allocator, Global};
 use std::process::Abort;
 use wsn_canon::{Next, Source, normalise};
-use wsn_doubles::expecting::{expect, expect_bytes, expect_of, expect_outcome};
 use wsn_doubles::heaps::{BLOCK, heap_of};
 use wsn_doubles::outcomes::outcome_on;
 use wsn_doubles::readers::Chopped;
@@ -100,7 +101,7 @@ fn expect_end<A: Allocator + Copy>(
 
 /// What a source answers where there is memory for so many short messages.
 fn expect_sources(rt: &impl Abort, alloc: Global, room: usize) {
-    let heap = heap_of(rt, alloc, room);
+    let heap = heap_of(alloc, room).expect(rt, "memory");
     for growing in GROWING.iter() {
         let line = match room {
             0 => "out of memory",
@@ -141,7 +142,7 @@ fn expect_normalised<A: Allocator + Copy>(
 
 /// What `normalise` answers where there is memory for so many short messages.
 fn expect_normal_forms(rt: &impl Abort, alloc: Global, room: usize) {
-    let heap = heap_of(rt, alloc, room);
+    let heap = heap_of(alloc, room).expect(rt, "memory");
     for growing in GROWING.iter() {
         let (line, written) = match room {
             0 => ("out of memory", growing.before),
@@ -179,7 +180,7 @@ fn expect_normal<A: Allocator + Copy>(
 
 /// What `normal` says where there is memory for so many short messages.
 fn expect_each_normal(rt: &impl Abort, alloc: Global, room: usize) {
-    let heap = heap_of(rt, alloc, room);
+    let heap = heap_of(alloc, room).expect(rt, "memory");
     for growing in GROWING.iter() {
         expect_normal(rt, &heap, alloc, growing, room > 0);
     }
@@ -212,10 +213,10 @@ fn is_served<A: Allocator + Copy>(rt: &impl Abort, heap: A, alloc: Global, bytes
 #[test]
 fn a_later_growth_is_refused_alike(rt: HostRuntime) {
     let alloc = rt.alloc();
-    let bytes = filled(&rt, alloc, &[0x89, 0x00, 0x82, 0x3c], 0, 60);
+    let bytes = filled(alloc, &[0x89, 0x00, 0x82, 0x3c], 0, 60).expect(&rt, "memory");
     let mut served = false;
     for blocks in 1..16usize {
-        let heap = heap_of(&rt, alloc, blocks);
+        let heap = heap_of(alloc, blocks).expect(&rt, "memory");
         served = is_served(&rt, &heap, alloc, bytes.as_slice());
         expect_of(&rt, !served || blocks * BLOCK >= 60, &blocks);
     }
@@ -224,7 +225,7 @@ fn a_later_growth_is_refused_alike(rt: HostRuntime) {
 
 /// Fails unless the command writes the normal form of the row of that name, with memory from this heap.
 fn expect_control<A: Allocator + Copy>(rt: &impl Abort, heap: A, alloc: Global, name: &str) {
-    let stream = stream_named(rt, alloc, name);
+    let stream = stream_named(alloc, name).expect(rt, "a row of this name");
     let job = Job::Normal(stream.role, stream.limits);
     let reader = Chopped::new(stream.bytes.as_slice(), 4_096);
     let done = outcome_on(heap, alloc, &job, reader, Narrow::wide(alloc));
@@ -235,7 +236,7 @@ fn expect_control<A: Allocator + Copy>(rt: &impl Abort, heap: A, alloc: Global, 
 #[test]
 fn controls_ask_for_none(rt: HostRuntime) {
     let alloc = rt.alloc();
-    let heap = heap_of(&rt, alloc, 0);
+    let heap = heap_of(alloc, 0).expect(&rt, "memory");
     expect_control(&rt, &heap, alloc, "a ping of 125 bytes");
     expect_control(&rt, &heap, alloc, "a Close with a reason of 123 bytes");
 }

@@ -1,12 +1,12 @@
 //! Memory that is refused to `same`, and to the comparison under it.
 
+use crate::expecting::{expect, expect_count, expect_line, expect_outcome};
 use crate::later_growths::{BLOCKS, CUT, frames_of, most_messages};
 use crate::memory::ROOMS;
 use crate::same::{PAIRS, Pair, expect_printed};
-use std::alloc::{AllocError, Allocator, Global};
+use std::alloc::{Allocator, Global};
 use std::process::Abort;
 use wsn_doubles::engines::compared;
-use wsn_doubles::expecting::{expect, expect_count, expect_line, expect_outcome};
 use wsn_doubles::heaps::heap_of;
 use wsn_doubles::lines::compared_line;
 use wsn_doubles::outcomes::{Outcome, compared_on};
@@ -27,13 +27,13 @@ fn expect_compared<A: Allocator + Copy>(
     let limits = greatest();
     let (first, second) = (pair.first_reader(), pair.second_reader());
     let answer = compared(heap, first, second, Role::Server, limits);
-    let line = compared_line(rt, alloc, &answer);
+    let line = compared_line(alloc, &answer).expect(rt, "memory");
     expect_line(rt, line.as_str(), wanted);
 }
 
 /// What comparing answers where there is memory for so many short messages.
 fn expect_pairs(rt: &impl Abort, alloc: Global, room: usize) {
-    let heap = heap_of(rt, alloc, room);
+    let heap = heap_of(alloc, room).expect(rt, "memory");
     for pair in PAIRS.iter() {
         let line = if room < pair.messages {
             "out of memory"
@@ -61,7 +61,7 @@ fn expect_refused<A: Allocator + Copy>(rt: &impl Abort, heap: A, alloc: Global, 
 
 /// What `same` says where there is memory for so many short messages.
 fn expect_said(rt: &impl Abort, alloc: Global, room: usize) {
-    let heap = heap_of(rt, alloc, room);
+    let heap = heap_of(alloc, room).expect(rt, "memory");
     for pair in PAIRS.iter() {
         if room < pair.messages {
             expect_refused(rt, &heap, alloc, pair);
@@ -107,7 +107,7 @@ impl Differing {
     fn line_on<A: Allocator + Copy>(&self, rt: &impl Abort, heap: A, alloc: Global) -> String {
         let (first, second) = (self.first_reader(), self.second_reader());
         let answer = compared(heap, first, second, Role::Server, self.limits);
-        compared_line(rt, alloc, &answer)
+        compared_line(alloc, &answer).expect(rt, "memory")
     }
 
     /// What the command leaves, with memory from this heap.
@@ -119,7 +119,7 @@ impl Differing {
     /// Whether there is memory enough in a heap of so many blocks. Fails unless the difference is answered then, and
     /// else that memory is refused.
     fn is_served(&self, rt: &impl Abort, alloc: Global, blocks: usize) -> bool {
-        let heap = heap_of(rt, alloc, blocks);
+        let heap = heap_of(alloc, blocks).expect(rt, "memory");
         let line = self.line_on(rt, &heap, alloc);
         let is_served = line.as_str() != "out of memory";
         let done = self.outcome_on(&heap, alloc);

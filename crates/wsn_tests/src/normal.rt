@@ -1,10 +1,9 @@
 //! `wsn normal`: the normal form on standard output, a verdict that isn't accepted on standard error, and the status.
 
-use crate::expecting::{Reading, expect_failed_read, expect_failed_writes};
+use crate::expecting::{Reading, expect_failed_read, expect_failed_writes, expect_outcome};
 use std::alloc::Global;
 use std::process::Abort;
 use wsn_doubles::engines::normalised;
-use wsn_doubles::expecting::expect_outcome;
 use wsn_doubles::outcomes::outcome_on;
 use wsn_doubles::readers::Chopped;
 use wsn_doubles::rows::{Stream, streams};
@@ -26,7 +25,7 @@ fn expect_normal(rt: &impl Abort, alloc: Global, stream: &Stream) {
 
 #[test]
 fn normal_forms_are_written_and_other_verdicts_told(rt: HostRuntime) {
-    for stream in streams(&rt, rt.alloc()).iter() {
+    for stream in streams(rt.alloc()).expect(&rt, "every row").iter() {
         expect_normal(&rt, rt.alloc(), stream);
     }
 }
@@ -34,7 +33,7 @@ fn normal_forms_are_written_and_other_verdicts_told(rt: HostRuntime) {
 #[test]
 fn a_failed_read_is_told_in_one_line(rt: HostRuntime) {
     let alloc = rt.alloc();
-    for stream in streams(&rt, alloc).iter() {
+    for stream in streams(alloc).expect(&rt, "every row").iter() {
         let job = Job::Normal(stream.role, stream.limits);
         expect_failed_read(&rt, alloc, alloc, &job);
     }
@@ -43,7 +42,7 @@ fn a_failed_read_is_told_in_one_line(rt: HostRuntime) {
 #[test]
 fn a_failed_write_is_told_in_one_line(rt: HostRuntime) {
     let alloc = rt.alloc();
-    for stream in streams(&rt, alloc).iter() {
+    for stream in streams(alloc).expect(&rt, "every row").iter() {
         if let Some(front) = stream.normal.get(..1) {
             let job = Job::Normal(stream.role, stream.limits);
             expect_failed_writes(&rt, alloc, alloc, &job, stream.bytes.as_slice(), front);
@@ -63,7 +62,7 @@ fn expect_by_one(rt: &impl Abort, alloc: Global, stream: &Stream) {
 
 #[test]
 fn a_writer_may_take_one_byte_a_call(rt: HostRuntime) {
-    for stream in streams(&rt, rt.alloc()).iter() {
+    for stream in streams(rt.alloc()).expect(&rt, "every row").iter() {
         expect_by_one(&rt, rt.alloc(), stream);
     }
 }

@@ -1,6 +1,6 @@
 //! The table of reasons.
 
-use wsn_doubles::expecting::{expect_line, expect_of};
+use crate::expecting::{expect_line, expect_of};
 use wsn_wire::Reason;
 
 /// The whole table: number, word, close code.

@@ -1,15 +1,14 @@
 //! `wsn same`: streams that mean the same, streams that don't, and streams that aren't accepted; the line on standard
 //! output, and the status.
 
-use crate::expecting::Reading;
+use crate::expecting::{Reading, expect_line, expect_outcome};
 use std::alloc::{Allocator, Global};
 use std::process::Abort;
 use wsn_doubles::engines::compared;
-use wsn_doubles::expecting::{expect_line, expect_outcome};
 use wsn_doubles::lines::{compared_line, printed};
 use wsn_doubles::outcomes::compared_on;
 use wsn_doubles::readers::{Chopped, READS};
-use wsn_doubles::rows::{Stream, greatest, limits_of, streams};
+use wsn_doubles::rows::{Stream, greatest, streams};
 use wsn_doubles::writers::{FULL, Full, Narrow};
 use wsn_scan::{Limits, MESSAGE_MAX};
 use wsn_wire::Role;
@@ -110,7 +109,7 @@ pub fn expect_compared(
     wanted: &str,
 ) {
     let answer = compared(alloc, first, second, Role::Server, greatest());
-    let line = compared_line(rt, alloc, &answer);
+    let line = compared_line(alloc, &answer).expect(rt, "memory");
     expect_line(rt, line.as_str(), wanted);
 }
 
@@ -133,13 +132,13 @@ fn expect_equal(rt: &impl Abort, alloc: Global, stream: &Stream) {
         stream.role,
         stream.limits,
     );
-    let line = compared_line(rt, alloc, &answer);
+    let line = compared_line(alloc, &answer).expect(rt, "memory");
     Reading::whole(stream, "compared", 4_095).expect_line(rt, line.as_str(), "equal");
 }
 
 #[test]
 fn what_is_accepted_means_the_same_as_its_normal_form(rt: HostRuntime) {
-    for stream in streams(&rt, rt.alloc()).iter() {
+    for stream in streams(rt.alloc()).expect(&rt, "every row").iter() {
         if stream.is_accepted() {
             expect_equal(&rt, rt.alloc(), stream);
         }
@@ -148,7 +147,7 @@ fn what_is_accepted_means_the_same_as_its_normal_form(rt: HostRuntime) {
 
 /// Fails unless the command prints how a pair compares, with memory from this heap.
 pub fn expect_printed<A: Allocator + Copy>(rt: &impl Abort, heap: A, alloc: Global, pair: &Pair) {
-    let line = printed(rt, alloc, pair.line);
+    let line = printed(alloc, pair.line).expect(rt, "memory");
     let limits = greatest();
     let (first, second) = (pair.first_reader(), pair.second_reader());
     let done = compared_on(heap, alloc, limits, first, second, Narrow::wide(alloc));
@@ -177,7 +176,7 @@ fn expect_failed_line(rt: &impl Abort, alloc: Global, pair: &Pair, line: &[u8], 
 fn a_failed_write_is_told_in_one_line(rt: HostRuntime) {
     let alloc = rt.alloc();
     for pair in PAIRS.iter() {
-        let line = printed(&rt, alloc, pair.line);
+        let line = printed(alloc, pair.line).expect(&rt, "memory");
         for full in FULL {
             expect_failed_line(&rt, alloc, pair, line.as_bytes(), full);
         }
@@ -192,7 +191,7 @@ const LONG: &[u8] = b"\x88\x02\x03\xe8\x81";
 
 /// Fails unless the command, with an input limit of four bytes, says this of the streams that two readers give.
 fn expect_said(rt: &impl Abort, alloc: Global, first: Chopped, second: Chopped, said: &str) {
-    let limits = limits_of(rt, MESSAGE_MAX, 4);
+    let limits = Limits::new(MESSAGE_MAX, 4).expect(rt, "limits in range");
     let done = compared_on(alloc, alloc, limits, first, second, Narrow::wide(alloc));
     expect_outcome(rt, &done, 2, &[], said);
 }

@@ -1,10 +1,10 @@
 //! The scanner: what each call takes of a stream and tells of it, and all that it tells of a stream in pieces.
 
+use crate::expecting::{expect, expect_line_of, expect_of};
 use std::alloc::Global;
 use std::process::Abort;
-use wsn_doubles::expecting::{expect, expect_line_of, expect_of};
 use wsn_doubles::lines::{frame_line, verdict_line};
-use wsn_doubles::rows::{Stream, copied, extend, greatest};
+use wsn_doubles::rows::{Stream, greatest};
 use wsn_scan::{Notice, Scan};
 use wsn_wire::Role;
 
@@ -21,9 +21,11 @@ impl Told {
     fn note(&mut self, rt: &impl Abort, alloc: Global, notice: &Notice, taken: &[u8]) -> bool {
         match notice {
             Notice::Head(head) => {
-                extend(rt, &mut self.frames, frame_line(rt, alloc, head).as_bytes());
+                self.frames
+                    .extend_from_slice(frame_line(alloc, head).expect(rt, "memory").as_bytes())
+                    .expect(rt, "memory");
             }
-            Notice::Payload => extend(rt, &mut self.payload, taken),
+            Notice::Payload => self.payload.extend_from_slice(taken).expect(rt, "memory"),
             Notice::Refused(_) => return true,
             Notice::More | Notice::FrameEnd { .. } | Notice::Closed => {}
         }
@@ -32,7 +34,7 @@ impl Told {
 
     /// Hands a piece to the scanner until all of it is taken. Whether it was refused.
     fn take(&mut self, rt: &impl Abort, alloc: Global, scan: &mut Scan, piece: &[u8]) -> bool {
-        let mut bytes = copied(rt, alloc, piece);
+        let mut bytes = piece.to_vec(alloc).expect(rt, "memory");
         self.take_all(rt, alloc, scan, bytes.as_mut_slice())
     }
 
@@ -86,7 +88,7 @@ pub fn told_of(rt: &impl Abort, alloc: Global, stream: &Stream, size: usize) -> 
     let mut scan = Scan::new(stream.role, stream.limits);
     let within = scan.room().min(stream.bytes.len() as u64) as usize;
     told.take_pieces(rt, alloc, &mut scan, &stream.bytes[..within], size);
-    told.verdict = verdict_line(rt, alloc, &scan.finish());
+    told.verdict = verdict_line(alloc, &scan.finish()).expect(rt, "memory");
     told
 }
 
@@ -208,7 +210,7 @@ fn expect_call(
 /// Fails unless a scanner's calls take and tell what is written out.
 fn expect_calls(rt: &impl Abort, alloc: Global, calls: &Calls) {
     let mut scan = Scan::new(Role::Server, greatest());
-    let mut piece = copied(rt, alloc, calls.bytes);
+    let mut piece = calls.bytes.to_vec(alloc).expect(rt, "memory");
     let mut at = 0usize;
     for (count, word) in calls.calls.iter() {
         let from = at.min(piece.len());

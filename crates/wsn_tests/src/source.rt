@@ -1,13 +1,14 @@
 //! `Source`: the events of streams that are written out, whatever a read gives, how much of an open message it holds,
 //! and what it answers behind its end.
 
-use crate::expecting::{expect_again, expect_last};
+use crate::expecting::{
+    expect, expect_again, expect_bytes, expect_count, expect_last, expect_line, expect_of,
+};
 use std::alloc::{Allocator, Global};
 use std::process::Abort;
 use wsn_canon::{Event, Next, Source};
-use wsn_doubles::expecting::{expect, expect_bytes, expect_count, expect_line, expect_of};
 use wsn_doubles::readers::{Chopped, READS};
-use wsn_doubles::rows::{Stream, filled, limits_of, stream_named};
+use wsn_doubles::rows::{Stream, filled, stream_named};
 use wsn_scan::{INPUT_MAX, Limits, MESSAGE_MAX};
 use wsn_wire::{Input, Kind, Role};
 
@@ -202,7 +203,7 @@ fn expect_end(
 
 /// Fails unless a source tells the stream's events, and then its answer.
 fn expect_meant(rt: &impl Abort, alloc: Global, meant: &Meant, mut reader: Chopped) {
-    let limits = limits_of(rt, MESSAGE_MAX, meant.input);
+    let limits = Limits::new(MESSAGE_MAX, meant.input).expect(rt, "limits in range");
     let mut input = Input::new(&mut reader);
     let mut source = Source::new(alloc, meant.role, limits);
     for (told, held) in meant.events.iter() {
@@ -260,8 +261,11 @@ fn expect_one_binary(rt: &impl Abort, alloc: Global, stream: &Stream, wanted: &[
 #[test]
 fn a_message_of_65_536_bytes_in_two_fragments(rt: HostRuntime) {
     let alloc = rt.alloc();
-    let stream = stream_named(&rt, alloc, "fragments of 65,535 bytes and of one");
-    let wanted = filled(&rt, alloc, &[], 0x2a, 65_536);
+    let stream = stream_named(alloc, "fragments of 65,535 bytes and of one").expect(
+        &rt,
+        "a row of this name",
+    );
+    let wanted = filled(alloc, &[], 0x2a, 65_536).expect(&rt, "memory");
     for most in READS {
         expect_one_binary(&rt, alloc, &stream, wanted.as_slice(), most);
     }

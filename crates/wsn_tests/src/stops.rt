@@ -1,11 +1,10 @@
 //! What ends an engine's work before its verdict: readers that fail, behind each byte; and a stop's words.
 
-use crate::expecting::Reading;
+use crate::expecting::{Reading, expect_line, front_of};
 use crate::same::{PAIRS, expect_compared};
 use std::alloc::Global;
 use std::process::Abort;
 use wsn_doubles::engines::{judged, listed, normalised};
-use wsn_doubles::expecting::{expect_line, front_of};
 use wsn_doubles::lines::{listing, stop_line};
 use wsn_doubles::readers::{Chopped, READS};
 use wsn_doubles::rows::{Stream, line_behind, stream_named, streams};
@@ -19,7 +18,7 @@ fn words_of_a_stop(rt: HostRuntime) {
         (Stop::Memory, "out of memory"),
         (Stop::Write, "write failed"),
     ] {
-        let line = stop_line(&rt, rt.alloc(), stop);
+        let line = stop_line(rt.alloc(), stop).expect(&rt, "memory");
         expect_line(&rt, line.as_str(), words);
     }
 }
@@ -110,7 +109,7 @@ fn push_breaks<'a>(
 /// Every way in which a stream's reader may fail: behind each of its fronts, by reads of each size.
 fn breaks<'a>(rt: &impl Abort, alloc: Global, stream: &'a Stream) -> Vec<Broken<'a>> {
     let mut breaks = Vec::new(alloc);
-    for front in stream.fronts(rt, alloc).iter() {
+    for front in stream.fronts(alloc).expect(rt, "memory").iter() {
         push_breaks(rt, &mut breaks, stream, front);
     }
     breaks
@@ -124,13 +123,13 @@ fn expect_judged_breaks(rt: &impl Abort, alloc: Global, stream: &Stream) {
 
 #[test]
 fn judge_tells_a_failed_read_before_the_answer_shows(rt: HostRuntime) {
-    for stream in streams(&rt, rt.alloc()).iter() {
+    for stream in streams(rt.alloc()).expect(&rt, "every row").iter() {
         expect_judged_breaks(&rt, rt.alloc(), stream);
     }
 }
 
 fn expect_listed_breaks(rt: &impl Abort, alloc: Global, stream: &Stream) {
-    let whole = listing(rt, alloc, stream);
+    let whole = listing(alloc, stream).expect(rt, "memory");
     for broken in breaks(rt, alloc, stream).iter() {
         broken.expect_listed(rt, alloc, whole.as_bytes());
     }
@@ -138,7 +137,7 @@ fn expect_listed_breaks(rt: &impl Abort, alloc: Global, stream: &Stream) {
 
 #[test]
 fn list_tells_a_failed_read_before_the_answer_shows(rt: HostRuntime) {
-    for stream in streams(&rt, rt.alloc()).iter() {
+    for stream in streams(rt.alloc()).expect(&rt, "every row").iter() {
         expect_listed_breaks(&rt, rt.alloc(), stream);
     }
 }
@@ -151,7 +150,7 @@ fn expect_normalised_breaks(rt: &impl Abort, alloc: Global, stream: &Stream) {
 
 #[test]
 fn normalise_tells_a_failed_read_before_the_answer_shows(rt: HostRuntime) {
-    for stream in streams(&rt, rt.alloc()).iter() {
+    for stream in streams(rt.alloc()).expect(&rt, "every row").iter() {
         expect_normalised_breaks(&rt, rt.alloc(), stream);
     }
 }
@@ -214,7 +213,7 @@ fn expect_due_lines(rt: &impl Abort, alloc: Global, due: &Due, stream: &Stream) 
 #[test]
 fn list_writes_the_lines_that_came_before_a_failed_read(rt: HostRuntime) {
     for due in DUE.iter() {
-        let stream = stream_named(&rt, rt.alloc(), due.name);
+        let stream = stream_named(rt.alloc(), due.name).expect(&rt, "a row of this name");
         expect_due_lines(&rt, rt.alloc(), due, &stream);
     }
 }
@@ -238,7 +237,7 @@ fn expect_due_events(rt: &impl Abort, alloc: Global, due: &Due, stream: &Stream)
 #[test]
 fn normalise_writes_the_events_that_came_before_a_failed_read(rt: HostRuntime) {
     for due in DUE.iter() {
-        let stream = stream_named(&rt, rt.alloc(), due.name);
+        let stream = stream_named(rt.alloc(), due.name).expect(&rt, "a row of this name");
         expect_due_events(&rt, rt.alloc(), due, &stream);
     }
 }

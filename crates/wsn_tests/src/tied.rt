@@ -1,9 +1,9 @@
 //! An output that is tied to an input: what waits goes out before the input is asked for more.
 
+use crate::expecting::{expect, expect_bytes, expect_count, expect_of};
 use std::cell::{Cell, RefCell};
 use std::io::{self, ErrorKind, Read, Write};
 use std::process::Abort;
-use wsn_doubles::expecting::{expect, expect_bytes, expect_count, expect_of};
 use wsn_stdio::{BlockReader, BlockWriter, TiedReader, TiedWriter};
 
 /// A reader of blocks of three bytes each, which notes how many bytes had gone out when it was last asked.

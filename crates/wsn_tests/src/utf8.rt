@@ -1,7 +1,7 @@
 //! UTF-8 in one piece, byte by byte and cut inside characters.
 
+use crate::expecting::expect_of;
 use std::process::Abort;
-use wsn_doubles::expecting::expect_of;
 use wsn_doubles::rows::filled;
 use wsn_text::Utf8;
 
@@ -119,7 +119,7 @@ fn expect_cut(rt: &impl Abort, text: &[u8], cut: usize, wanted: Result<(), usize
 #[test]
 fn a_long_text_in_two_pieces(rt: HostRuntime) {
     let text = "aé€😀".repeat(rt.alloc(), 50).expect(&rt, "memory");
-    let bad = filled(&rt, rt.alloc(), text.as_bytes(), 0xff, 1);
+    let bad = filled(rt.alloc(), text.as_bytes(), 0xff, 1).expect(&rt, "memory");
     let whole = text.len();
     for cut in 0..=whole {
         expect_cut(&rt, text.as_bytes(), cut, Ok(()));

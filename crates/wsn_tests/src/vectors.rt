@@ -2,7 +2,7 @@
 //! vector tries, as Autobahn's groups count: 1 framing, 2 pings and pongs, 3 reserved bits, 4 opcodes,
 //! 5 fragmentation, 6 UTF-8, 7 closing. The streams stand in `wsn_doubles`, a file for each rule.
 
-use wsn_doubles::expecting::expect_line_of;
+use crate::expecting::expect_line_of;
 use wsn_doubles::rows::stream_named;
 
 /// The name of a vector, that of its stream, and the line of its verdict.
@@ -168,7 +168,7 @@ static VECTORS: [(&str, &str, &str); 40] = [
 #[test]
 fn vectors_have_their_verdicts(rt: HostRuntime) {
     for (vector, name, verdict) in VECTORS.iter() {
-        let stream = stream_named(&rt, rt.alloc(), name);
+        let stream = stream_named(rt.alloc(), name).expect(&rt, "a row of this name");
         expect_line_of(&rt, stream.verdict, verdict, vector);
     }
 }
