@@ -151,19 +151,21 @@ fn command<'a>(alloc: Global, described: &'a Described) -> Result<Command<'a>, A
         .about(described.about)
         .after_help(described.details);
     let command = match described.reads {
-        Reads::Stream => with_role(alloc, command)?,
-        Reads::StreamToCut => with_cuts(alloc, command)?,
-        Reads::Files => with_files(alloc, command)?,
-        Reads::Capture => command,
+        Reads::Stream => with_role(alloc, command),
+        Reads::StreamToCut => with_cuts(alloc, command),
+        Reads::Files => with_files(alloc, command),
+        Reads::Capture => Ok(command),
     };
-    with_limits(alloc, command)
+    with_limits(alloc, command?)
 }
 
 /// `--role` and the names of two files.
 fn with_files<'a>(alloc: Global, command: Command<'a>) -> Result<Command<'a>, AllocError> {
+    let command = with_role(alloc, command)?;
     let first = file(alloc, "first", "FIRST", "The file with the first stream");
+    let command = command.arg(first)?;
     let second = file(alloc, "second", "SECOND", "The file with the second stream");
-    with_role(alloc, command)?.arg(first)?.arg(second)
+    command.arg(second)
 }
 
 /// The name of a file, which has to be given.

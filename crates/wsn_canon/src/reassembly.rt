@@ -4,7 +4,7 @@ use std::mem;
 use wsn_wire::{Kind, Op};
 
 /// What came of the message that is open, and of the frame whose head came last.
-#[derive(Debug, Drop)]
+#[derive(Drop)]
 pub struct Reassembly<A: Allocator> {
     op: Op,
     kind: Kind,

@@ -4,7 +4,7 @@ use wsn_scan::Scan;
 use wsn_wire::Role;
 
 /// The scan of a stream up to the input limit. What comes behind a refusal is counted, and not read.
-#[derive(Debug, Drop)]
+#[derive(Drop)]
 pub struct LimitedScan {
     scan: Scan,
     room: u64,

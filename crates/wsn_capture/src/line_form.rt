@@ -8,7 +8,7 @@ use crate::line_fault::LineFault;
 use wsn_wire::Role;
 
 /// The form of a line, before its digits are read.
-#[derive(Clone, Copy, Debug)]
+#[derive(Clone, Copy)]
 pub enum LineForm {
     /// Empty, or a comment.
     Nothing,

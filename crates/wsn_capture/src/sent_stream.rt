@@ -5,7 +5,7 @@ use wsn_rules::{Limits, Verdict};
 use wsn_wire::Role;
 
 /// The stream that one endpoint sent.
-#[derive(Debug, Drop)]
+#[derive(Drop)]
 pub struct SentStream {
     scan: LimitedScan,
     /// How many lines came before the one in which the last byte of a Close stands.

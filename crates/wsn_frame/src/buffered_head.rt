@@ -12,7 +12,7 @@ use wsn_wire::{FirstByte, LenForm, Role};
 const HEAD_MAX: usize = 14;
 
 /// A payload's length, as the front of a frame spells it.
-#[derive(Clone, Copy, Debug)]
+#[derive(Clone, Copy)]
 struct Length {
     spelled: LenForm,
     len: u64,

@@ -1,7 +1,7 @@
 use wsn_wire::Op;
 
 /// How many whole frames came, and how many of them ended a message or were a ping or a pong.
-#[derive(Clone, Copy, Debug)]
+#[derive(Clone, Copy)]
 pub struct Counts {
     pub frames: u64,
     pub messages: u64,

@@ -5,7 +5,7 @@ use wsn_rules::Limits;
 use wsn_wire::{Op, Reason, Role};
 
 /// What a frame is read under: the endpoint that sent it, the limits, and the message that is open before it.
-#[derive(Clone, Copy, Debug)]
+#[derive(Clone, Copy)]
 pub struct FrameContext {
     pub role: Role,
     pub limits: Limits,

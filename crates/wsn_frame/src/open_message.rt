@@ -6,7 +6,7 @@ use wsn_text::Utf8;
 use wsn_wire::Op;
 
 /// The message that is open, in whole frames.
-#[derive(Clone, Copy, Debug)]
+#[derive(Clone, Copy)]
 pub struct OpenMessage {
     /// How its text stands; `None` for a binary message.
     pub text: Option<Utf8>,

@@ -10,7 +10,7 @@ use wsn_rules::HeadInfo;
 use wsn_wire::{FirstByte, Form, LenForm, Reason, Role};
 
 /// A frame's head that has come in part (RFC 6455 section 5.2).
-#[derive(Debug, Drop)]
+#[derive(Drop)]
 pub enum PartialHead {
     /// No byte yet.
     Empty,
@@ -25,7 +25,7 @@ pub enum PartialHead {
 }
 
 /// A whole head.
-#[derive(Clone, Copy, Debug)]
+#[derive(Clone, Copy)]
 pub struct Head {
     pub first: FirstByte,
     pub spelled: LenForm,
@@ -34,7 +34,7 @@ pub struct Head {
 }
 
 /// What one byte more makes of a head.
-#[derive(Debug, Drop)]
+#[derive(Drop)]
 pub enum HeadStep {
     More(PartialHead),
     Whole(Head),

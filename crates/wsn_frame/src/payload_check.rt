@@ -16,7 +16,7 @@ use wsn_text::{Utf8, code_allowed};
 use wsn_wire::{FirstByte, Op, Reason};
 
 /// What a payload's bytes are checked for, and how far (RFC 6455 sections 5.5.1, 5.6 and 8.1).
-#[derive(Clone, Copy, Debug)]
+#[derive(Clone, Copy)]
 pub enum PayloadCheck {
     /// A binary message, a ping or a pong: any bytes.
     Free,
@@ -27,7 +27,7 @@ pub enum PayloadCheck {
 }
 
 /// A Close's body as far as it came.
-#[derive(Clone, Copy, Debug)]
+#[derive(Clone, Copy)]
 pub enum CloseBody {
     Empty,
     /// The first byte of the code.
@@ -37,7 +37,7 @@ pub enum CloseBody {
 }
 
 /// The first byte of a piece that shows a reason, counted from 0, and the reason.
-#[derive(Clone, Copy, Debug)]
+#[derive(Clone, Copy)]
 pub struct BadByte {
     pub at: usize,
     pub reason: Reason,

@@ -13,7 +13,7 @@ use wsn_rules::{HeadInfo, Limits, Verdict};
 use wsn_wire::{Input, Role};
 
 /// What a reader of notices gives next.
-#[derive(Clone, Copy, Debug)]
+#[derive(Clone, Copy)]
 pub enum NextNotice {
     /// A head is whole.
     Head(HeadInfo),
@@ -27,7 +27,7 @@ pub enum NextNotice {
 
 /// Reads an input and tells of its frames as they come: each head, the bytes of the payload, the frame's end, and
 /// then the verdict (RFC 6455 section 5.2). It holds one piece of the input, at most [`PIECE`] bytes.
-#[derive(Debug, Drop)]
+#[derive(Drop)]
 pub struct NoticeReader {
     scan: Scan,
     buffer: [u8; PIECE],

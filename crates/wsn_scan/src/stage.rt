@@ -6,7 +6,7 @@ use wsn_frame::{Head, PartialHead, PayloadCheck};
 use wsn_rules::Refusal;
 
 /// A frame whose payload comes.
-#[derive(Clone, Copy, Debug)]
+#[derive(Clone, Copy)]
 pub struct Inside {
     pub head: Head,
     pub check: PayloadCheck,
@@ -15,7 +15,7 @@ pub struct Inside {
 }
 
 /// Where a scan is in the stream.
-#[derive(Debug, Drop)]
+#[derive(Drop)]
 pub enum Stage {
     /// Between frames.
     Between,

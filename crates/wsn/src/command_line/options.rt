@@ -34,10 +34,11 @@ fn one_of<'a>(option: Arg<'a>, words: &'a [&'a str]) -> Arg<'a> {
 
 /// `--limit`, `--frames` and `--lengths`, which each command takes.
 pub fn with_limits<'a>(alloc: Global, command: Command<'a>) -> Result<Command<'a>, AllocError> {
+    let command = with_message_limits(alloc, command)?;
     let help = "Which spellings of a length are taken\n[default: shortest]";
     let lengths = option(alloc, "lengths", "shortest|any", help);
     let lengths = one_of(lengths, &SPELLINGS).default_value("shortest");
-    with_message_limits(alloc, command)?.arg(lengths.hide_default_value(true))
+    command.arg(lengths.hide_default_value(true))
 }
 
 /// `--limit` and `--frames`.

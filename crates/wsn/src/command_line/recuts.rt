@@ -18,10 +18,10 @@ pub fn with_cuts<'a>(alloc: Global, command: Command<'a>) -> Result<Command<'a>,
 /// `--plan` and `--size`, of which one is given.
 fn with_sizes<'a>(alloc: Global, command: Command<'a>) -> Result<Command<'a>, AllocError> {
     let plan = option(alloc, "plan", "FILE", "Cut by the plan in this file");
+    let command = command.arg(plan)?;
     let help = "Cut messages into frames of so many bytes,\n1 to 4294967295";
     let size = option(alloc, "size", "BYTES", help);
-    let size = size.value_parser(value_parser!(u32).range(1..));
-    command.arg(plan)?.arg(size)
+    command.arg(size.value_parser(value_parser!(u32).range(1..)))
 }
 
 /// `--weave` and `--key`, which go with `--size`.
