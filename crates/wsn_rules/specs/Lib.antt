@@ -32,3 +32,5 @@ pub mod UniformFrames
 -- how examples speak of it
 pub mod Examples
 pub mod PlanExamples
+-- what the clauses in src/ import
+pub mod Words

@@ -2,19 +2,10 @@
 //! function does nothing: its contract is the fact.
 
 ghost use Rattle.std.specs.Prelude.{◌≡◌, ◌≢◌, ℕ, ◌+◌, ◌≤◌, Some, None, ◌⊎◌, Option, List, [], ◌∷◌, ◌++◌, length, drop};
-ghost use Rattle.std.specs.Option.{ForSome};
-ghost use Rattle.wsn_wire.specs.declared.endpoint.Role.{Role};
-ghost use Rattle.wsn_wire.specs.declared.spelling.Form.{Form};
-ghost use Rattle.wsn_rules.specs.declared.step.Step.{Step};
+ghost use Rattle.wsn_rules.specs.Words.{ForSome, Role, Form, Step, Why, Limits, InRange, MeantEvent, next_text, Fits};
+ghost use Rattle.wsn_rules.specs.Words.{Holds, IsFirstWhy, IsFault, HasWalked};
 ghost use Rattle.wsn_rules.specs.declared.step.Step.TheVariants.{Piece, Last, Control};
-ghost use Rattle.wsn_rules.specs.declared.why.Why.{Why};
 ghost use Rattle.wsn_rules.specs.declared.why.Why.TheVariants.{EventsLeft};
-ghost use Rattle.wsn_rules.specs.Limits.{Limits, InRange};
-ghost use Rattle.wsn_rules.specs.Meaning.{MeantEvent};
-ghost use Rattle.wsn_rules.specs.Plan.{next_text};
-ghost use Rattle.wsn_rules.specs.Fitting.{Fits};
-ghost use Rattle.wsn_rules.specs.Fault.{Holds, IsFirstWhy, IsFault};
-ghost use Rattle.wsn_rules.specs.WalkedPlan.{HasWalked};
 
 /// A plan fits, or has exactly one fault: at one step, for one reason.
 pub fn law_one_fault()

@@ -1,25 +1,11 @@
 //! What follows from the definitions in `specs/`. Each function does nothing: its contract is the fact.
 
 ghost use Rattle.std.specs.Prelude.{◌≡◌, ◌≢◌, ℕ, ◌+◌, ◌↔◌, List, [], ◌∷◌, ◌++◌, take, map};
-ghost use Rattle.wsn_wire.specs.declared.endpoint.Role.{Role};
-ghost use Rattle.wsn_wire.specs.declared.refusal.Reason.{Reason};
-ghost use Rattle.wsn_wire.specs.Frame.{Frame, IsBytes, frame_bytes, stream};
-ghost use Rattle.wsn_wire.specs.Layout.{HasLayout};
-ghost use Rattle.wsn_rules.specs.Limits.{Limits, InRange};
-ghost use Rattle.wsn_rules.specs.Group.{unfinished};
-ghost use Rattle.wsn_rules.specs.Lawful.{LawAt, IsLawful};
-ghost use Rattle.wsn_rules.specs.Accepted.{IsAccepted};
-ghost use Rattle.wsn_rules.specs.Meaning.{events_behind, meaning, MeantEvent};
-ghost use Rattle.wsn_rules.specs.Verdict.{Shown, IsRefused, IsVerdict};
-ghost use Rattle.wsn_rules.specs.declared.verdict.Verdict.{Verdict};
+ghost use Rattle.wsn_rules.specs.Words.{Role, Reason, Frame, IsBytes, frame_bytes, stream, HasLayout, Limits, InRange};
+ghost use Rattle.wsn_rules.specs.Words.{unfinished, LawAt, IsLawful, IsAccepted, events_behind, meaning, MeantEvent};
+ghost use Rattle.wsn_rules.specs.Words.{Shown, IsRefused, IsVerdict, Verdict, AreLawful, normal_frame, normal_form};
+ghost use Rattle.wsn_rules.specs.Words.{Step, IsPlan, Fits, Spell, AreRecut, recut, recut_bytes, plan_of, normal_plan};
 ghost use Rattle.wsn_rules.specs.declared.verdict.Verdict.TheVariants.{Refused};
-ghost use Rattle.wsn_rules.specs.LawfulEvents.{AreLawful};
-ghost use Rattle.wsn_rules.specs.NormalForm.{normal_frame, normal_form};
-ghost use Rattle.wsn_rules.specs.declared.step.Step.{Step};
-ghost use Rattle.wsn_rules.specs.Plan.{IsPlan};
-ghost use Rattle.wsn_rules.specs.Fitting.{Fits};
-ghost use Rattle.wsn_rules.specs.Spellings.{Spell, AreRecut};
-ghost use Rattle.wsn_rules.specs.Recut.{recut, recut_bytes, plan_of, normal_plan};
 
 /// Every list of bytes has exactly one verdict, accepted, cut or refused, with one list of frames; so a refused
 /// one has one place and one reason, and an accepted one has one meaning.

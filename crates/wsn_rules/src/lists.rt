@@ -2,17 +2,10 @@
 //! contract is the fact.
 
 ghost use Rattle.std.specs.Prelude.{◌≡◌, ◌≢◌, ℕ, ◌+◌, ◌≤◌, ◌⊎◌, ◌↔◌, true, false, List, [], ◌∷◌, ◌++◌, length, if◌then◌else◌};
-ghost use Rattle.std.specs.Option.{ForSome};
-ghost use Rattle.wsn_wire.specs.declared.endpoint.Role.{Role};
+ghost use Rattle.wsn_rules.specs.Words.{ForSome, Role, Frame, stream, BeginsText, Limits, is_data, unfinished};
+ghost use Rattle.wsn_rules.specs.Words.{first_op, text_of, LawAt, IsLawful, AreLawfulBehind, HasNoClose, EndsWithClose};
+ghost use Rattle.wsn_rules.specs.Words.{event_at, events_behind, meaning};
 ghost use Rattle.wsn_wire.specs.declared.opcode.Op.TheVariants.{Text, Binary, Close};
-ghost use Rattle.wsn_wire.specs.Frame.{Frame, stream};
-ghost use Rattle.wsn_text.specs.Utf8.{BeginsText};
-ghost use Rattle.wsn_rules.specs.Limits.{Limits};
-ghost use Rattle.wsn_rules.specs.Group.{is_data, unfinished, first_op, text_of};
-ghost use Rattle.wsn_rules.specs.Lawful.{LawAt, IsLawful};
-ghost use Rattle.wsn_rules.specs.LawfulBehind.{AreLawfulBehind};
-ghost use Rattle.wsn_rules.specs.Accepted.{HasNoClose, EndsWithClose};
-ghost use Rattle.wsn_rules.specs.Meaning.{event_at, events_behind, meaning};
 
 /// The front of a lawful list is lawful.
 #[tactic(auto, using(crate::proofs::LawfulLists::lawful_front))]

@@ -5,10 +5,8 @@ ghost use Rattle.wsn_wire.specs.declared.endpoint.Role.TheVariants.{Server};
 ghost use Rattle.wsn_wire.specs.declared.opcode.Op.TheVariants.{Continue, Text, Binary, Close, Ping, Pong};
 ghost use Rattle.wsn_wire.specs.declared.spelling.Form.TheVariants.{Shortest, Two, Eight};
 ghost use Rattle.wsn_wire.specs.declared.refusal.Reason.TheVariants.{TextBad, LengthTopBit};
-ghost use Rattle.wsn_rules.specs.declared.verdict.Summary.{Summary};
+ghost use Rattle.wsn_rules.specs.Words.{Summary, Lists, greatest, verdict_line, head_line};
 ghost use Rattle.wsn_rules.specs.declared.verdict.Verdict.TheVariants.{Accepted, Cut, Refused};
-ghost use Rattle.wsn_rules.specs.Examples.{Lists, greatest};
-ghost use Rattle.wsn_rules.specs.Lines.{verdict_line, head_line};
 
 /// The lines of verdicts, whatever else was counted.
 pub fn of_verdicts()

@@ -3,21 +3,13 @@
 //! the fact.
 
 ghost use Rattle.std.specs.Prelude.{◌≡◌, ℕ, ◌+◌, ◌-◌, ◌≤◌, true, false, Option, List, [], ◌∷◌, ◌++◌, length, take, drop};
-ghost use Rattle.wsn_wire.specs.declared.endpoint.Role.{Role};
-ghost use Rattle.wsn_wire.specs.declared.opcode.Op.{Op};
+ghost use Rattle.wsn_rules.specs.Words.{Role, Op, Kind, Form, Frame, frame_bytes, head_bytes, wire_payload, Step};
+ghost use Rattle.wsn_rules.specs.Words.{Limits, MeantEvent, op_of, HasWalked, next_message, op_behind, step_frame};
+ghost use Rattle.wsn_rules.specs.Words.{recut, recut_bytes, step_of, plan_of};
 ghost use Rattle.wsn_wire.specs.declared.opcode.Op.TheVariants.{Continue};
-ghost use Rattle.wsn_wire.specs.declared.opcode.Kind.{Kind};
-ghost use Rattle.wsn_wire.specs.declared.spelling.Form.{Form};
 ghost use Rattle.wsn_wire.specs.declared.spelling.Form.TheVariants.{Shortest};
-ghost use Rattle.wsn_wire.specs.Frame.{Frame, frame_bytes, head_bytes, wire_payload};
-ghost use Rattle.wsn_rules.specs.declared.step.Step.{Step};
 ghost use Rattle.wsn_rules.specs.declared.step.Step.TheVariants.{Piece, Last, Control};
-ghost use Rattle.wsn_rules.specs.Limits.{Limits};
-ghost use Rattle.wsn_rules.specs.Meaning.{MeantEvent};
 ghost use Rattle.wsn_rules.specs.Meaning as meant;
-ghost use Rattle.wsn_rules.specs.NormalForm.{op_of};
-ghost use Rattle.wsn_rules.specs.WalkedPlan.{HasWalked};
-ghost use Rattle.wsn_rules.specs.Recut.{next_message, op_behind, step_frame, recut, recut_bytes, step_of, plan_of};
 
 /// A recut goes on by one frame for each step: that of the step behind the Pieces that are pending, of the events
 /// that are left.

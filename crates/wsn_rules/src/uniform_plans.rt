@@ -2,21 +2,10 @@
 //! is the fact.
 
 ghost use Rattle.std.specs.Prelude.{◌≡◌, ℕ, ◌≤◌, ◌⊎◌, ◌↔◌, Bool, false, Option, None, IsSome, IfSome, List, []};
-ghost use Rattle.wsn_wire.specs.declared.endpoint.Role.{Role};
+ghost use Rattle.wsn_rules.specs.Words.{Role, Frame, IsKey, Why, Limits, InRange, unfinished, IsLawful, MeantEvent};
+ghost use Rattle.wsn_rules.specs.Words.{meaning, IsPlan, Fits, IsFault, plan_of, uniform_plan, AreUniform};
 ghost use Rattle.wsn_wire.specs.declared.endpoint.Role.TheVariants.{Client};
-ghost use Rattle.wsn_wire.specs.Frame.{Frame, IsKey};
-ghost use Rattle.wsn_rules.specs.declared.why.Why.{Why};
 ghost use Rattle.wsn_rules.specs.declared.why.Why.TheVariants.{TooManyPieces};
-ghost use Rattle.wsn_rules.specs.Limits.{Limits, InRange};
-ghost use Rattle.wsn_rules.specs.Group.{unfinished};
-ghost use Rattle.wsn_rules.specs.Lawful.{IsLawful};
-ghost use Rattle.wsn_rules.specs.Meaning.{MeantEvent, meaning};
-ghost use Rattle.wsn_rules.specs.Plan.{IsPlan};
-ghost use Rattle.wsn_rules.specs.Fitting.{Fits};
-ghost use Rattle.wsn_rules.specs.Fault.{IsFault};
-ghost use Rattle.wsn_rules.specs.Recut.{plan_of};
-ghost use Rattle.wsn_rules.specs.UniformPlan.{uniform_plan};
-ghost use Rattle.wsn_rules.specs.UniformFrames.{AreUniform};
 
 /// A uniform plan with a key exactly for a client fits any events where messages may have any number of frames.
 /// Where the limits bound that number, it fits, or its only fault is that a message has too many Pieces.

@@ -38,8 +38,8 @@ TellsEnd role limits reader came done at event =
 abbrev pub AllTold : Role → Limits → List ℕ → List Frame → Position → Type 0
 AllTold role limits bytes done at = AreHeads role limits bytes done (heads_of done ++ begun_at at)
 
--- The verdict of the bytes that came: it is reached as a judge reaches it, and each whole frame was told to its end, and
--- each head.
+-- The verdict of the bytes that came: it is reached as a judge reaches it, and each whole frame was told to its end,
+-- and each head.
 abbrev pub IsDone : Role → Limits → Incoming → List ℕ → List Frame → Position → Verdict → Type 0
 IsDone role limits new came done at verdict =
     IsReached role limits new came verdict × IsVerdict role limits came done verdict × AllTold role limits came done at
