@@ -21,7 +21,7 @@ use Rattle.wsn_capture.specs.declared.report.Side.TheVariants.{Closed, Refused a
 use Rattle.wsn_capture.specs.declared.report.Outcome.{Outcome}
 use Rattle.wsn_capture.specs.declared.report.Outcome.TheVariants.{Failed, Clean, Complete, Abnormal, Half, Live}
 use Rattle.wsn_capture.specs.declared.report.Report.{Report}
-use Rattle.wsn_capture.specs.Entries.{Entry, IsGiven, AreEntries}
+use Rattle.wsn_capture.specs.Entries.{Entry, GivesEntry, AreEntries}
 use Rattle.wsn_capture.specs.Entries.Entry.{Nothing, Bytes, Mark}
 use Rattle.wsn_capture.specs.Sides.{bytes_in, sent, has_ended, side_of, IsSide}
 use Rattle.wsn_capture.specs.Reports.{IsRefused, IsClosed, IsEndedEarly, Fits, outcome_order, echo_of, seen_of, IsOutcome, IsReport}
@@ -69,7 +69,7 @@ spelled_bytes digits bytes is = by_parity (length digits % 2 == 1) is
     by_parity true whole = absurd (cc whole)
     by_parity false whole = decoded_bytes 0 digits bytes whole
 
-entry_bytes : (role : Role) (text : List ℕ) (entry : Entry) → IsGiven text entry → IsBytes (bytes_in role entry)
+entry_bytes : (role : Role) (text : List ℕ) (entry : Entry) → GivesEntry text entry → IsBytes (bytes_in role entry)
 entry_bytes Client text Nothing is = tt
 entry_bytes Server text Nothing is = tt
 entry_bytes Client text (Bytes Client bytes) is = spelled_bytes is.0 bytes is.2.1

@@ -67,15 +67,16 @@ module _ (limits : Limits) (old mid new : Incoming) (splitter : LineSplitter) (r
   told piece (Line number fault) size unfailed within =
       let whole : read.came ++ piece ≡ (read.came ++ within.told) ++ within.last ∷ within.ahead = ap (λ (bs : List ℕ). read.came ++ bs) within.whole ∙ sym (append_assoc read.came within.told (within.last ∷ within.ahead)) in
       let sizes = ap (λ (bs : List ℕ). length bs) within.whole ∙ length-append within.told (within.last ∷ within.ahead) in (
-        inl (
-          (λ later.
-              let same : ((read.came ++ within.told) ++ within.last ∷ []) ++ (within.ahead ++ later) ≡ (read.came ++ piece) ++ later =
-              append_assoc (read.came ++ within.told) (within.last ∷ []) (within.ahead ++ later)
-              ∙ sym (append_assoc (read.came ++ within.told) (within.last ∷ within.ahead) later)
-              ∙ ap (λ (bs : List ℕ). bs ++ later) (sym whole) in
-              subst (λ (bs : List ℕ). IsFaulty limits bs number fault) same (within.stops (within.ahead ++ later))),
-          record { told = read.came ++ within.told; last = within.last; ahead = within.ahead; whole = whole; unfaulted = within.unfaulted; shown = within.shown; few = omega (arith, sizes, size) },
-        ),
+        inl (record {
+          told = read.came ++ within.told;
+          last = within.last;
+          ahead = within.ahead;
+          whole = whole;
+          unfaulted = within.unfaulted;
+          shown = within.shown;
+          shows = λ later. subst (λ (bs : List ℕ). IsFaulty limits bs number fault) (append_assoc (read.came ++ within.told) (within.last ∷ []) later) (within.stops later);
+          few = omega (arith, sizes, size);
+        }),
         unfailed,
       )
 
@@ -113,7 +114,10 @@ whole_answer limits old new result all known unfailed judged =
     by_answer (Ok report) rest left is answer = subst (λ (bs : List ℕ). IsAnswerOf limits bs (Ok report)) (ended_there rest left is answer.1) answer.0
     by_answer (Err (Line number fault)) rest left is answer =
         elim answer.0 [
-          | inl whatever ↦ subst (λ (bs : List ℕ). IsFaulty limits bs number fault) (sym is) (whatever.0 rest)
+          | inl prompt ↦
+              let same : prompt.told ++ prompt.last ∷ (prompt.ahead ++ rest) ≡ all =
+              sym (append_assoc prompt.told (prompt.last ∷ prompt.ahead) rest) ∙ ap (λ (bs : List ℕ). bs ++ rest) (sym prompt.whole) ∙ sym is in
+              subst (λ (bs : List ℕ). IsFaulty limits bs number fault) same (prompt.shows (prompt.ahead ++ rest))
           | inr there ↦ subst (λ (bs : List ℕ). IsFaulty limits bs number fault) (ended_there rest left is there.2) there.0
         ]
     by_answer (Err Read) rest left is answer = let both : true ≡ false = sym answer.0 ∙ unfailed in cc

@@ -3,7 +3,7 @@ use Rattle.std.proofs.Common.{◌≡◌, ℕ, Ok, List, [], ◌∷◌, ◌++◌,
 use Rattle.hex.specs.Hex.{decode_of}
 use Rattle.wsn_wire.specs.declared.endpoint.Role.{Role}
 use Rattle.wsn_wire.specs.declared.endpoint.Role.TheVariants.{Client, Server}
-use Rattle.wsn_capture.specs.Entries.{without_cr, Entry, IsGiven, IsEntry, AreEntries, bytes_front, end_mark}
+use Rattle.wsn_capture.specs.Entries.{without_cr, Entry, GivesEntry, IsEntry, AreEntries, bytes_front, end_mark}
 use Rattle.wsn_capture.specs.Entries.Entry.{Nothing, Bytes, Mark}
 use Rattle.wsn_rules.proofs.Prefixes.{head_same, tail_same}
 
@@ -31,7 +31,7 @@ no_comment Client rest comment is = let first = head_same _ _ _ _ is in omega (a
 no_comment Server rest comment is = let first = head_same _ _ _ _ is in omega (arith, first)
 
 -- a side's line isn't one that gives nothing
-pub not_nothing : (role : Role) (rest text : List ℕ) → text ≡ letter_of role ∷ rest → IsGiven text Nothing → ⊥
+pub not_nothing : (role : Role) (rest text : List ℕ) → text ≡ letter_of role ∷ rest → GivesEntry text Nothing → ⊥
 not_nothing role rest text is (inl empty) = let both : [] ≡ letter_of role ∷ rest = sym empty ∙ is in cc
 not_nothing role rest text is (inr comment) = no_comment role rest comment.0 (sym is ∙ comment.1)
 
@@ -51,7 +51,7 @@ not_mark role other digits is =
 pub same_mark : (role other : Role) → end_mark role ≡ end_mark other → role ≡ other
 same_mark role other is = same_letter role other (head_same _ _ _ _ (sym (mark_is role) ∙ is ∙ mark_is other))
 
-pub one_given : (text : List ℕ) (entry other : Entry) → IsGiven text entry → IsGiven text other → entry ≡ other
+pub one_given : (text : List ℕ) (entry other : Entry) → GivesEntry text entry → GivesEntry text other → entry ≡ other
 one_given text Nothing Nothing is also = refl
 one_given text Nothing (Bytes role bytes) is also = absurd (not_nothing role (32 ∷ also.0) text (also.1 ∙ front_is role also.0) is)
 one_given text Nothing (Mark role) is also = absurd (not_nothing role (46 ∷ []) text (also ∙ mark_is role) is)

@@ -9,10 +9,10 @@ use Rattle.wsn_rules.specs.Limits.{Limits}
 use Rattle.wsn_rules.proofs.Prefixes.{head_same, tail_same}
 use Rattle.wsn_capture.specs.declared.line_fault.LineFault.{LineFault}
 use Rattle.wsn_capture.specs.declared.line_fault.LineFault.TheVariants.{TooManyLines, TooLong, BadForm, BadHex, AfterEnd, InputLimit}
-use Rattle.wsn_capture.specs.Entries.{without_cr, Entry, IsHex, IsGiven, bytes_front, end_mark}
+use Rattle.wsn_capture.specs.Entries.{without_cr, Entry, IsHex, GivesEntry, bytes_front, end_mark}
 use Rattle.wsn_capture.specs.Entries.Entry.{Nothing, Bytes, Mark}
 use Rattle.wsn_capture.specs.Sides.{sent, has_ended}
-use Rattle.wsn_capture.specs.LineFaults.{fault_order, IsOf, HasNoForm, HasFault, IsFirstFault, IsTaken, most_lines, most_bytes}
+use Rattle.wsn_capture.specs.LineFaults.{fault_order, IsOfEndpoint, HasNoForm, HasFault, IsFirstFault, IsTaken, lines_most, line_most}
 use Rattle.wsn_capture.proofs.OneEntry.{letter_of, front_is, mark_is, not_nothing, same_bytes_line, not_mark, same_mark, one_given}
 
 -- ---- the order of the faults
@@ -77,16 +77,16 @@ module _ (limits : Limits) (given : List Entry) (text : List ℕ) (from : ℕ) w
 
 -- What a line without its CR is.
 pub data Form (text : List ℕ) : Type 0 where
-  GivesNothing : IsGiven text Nothing → Form text
+  GivesNothing : GivesEntry text Nothing → Form text
   OfBytes : (role : Role) (digits : List ℕ) → text ≡ bytes_front role ++ digits → Form text
   IsMark : (role : Role) → text ≡ end_mark role → Form text
   NoForm : HasNoForm text → Form text
 
 -- a line that begins otherwise has no form
-no_side : (b : ℕ) (rest : List ℕ) → b ≢ 67 → b ≢ 83 → (role : Role) → IsOf role (b ∷ rest) → ⊥
+no_side : (b : ℕ) (rest : List ℕ) → b ≢ 67 → b ≢ 83 → (role : Role) → IsOfEndpoint role (b ∷ rest) → ⊥
 no_side b rest no_client no_server role is = by_letter role (first role is)
   where
-    first : (role : Role) → IsOf role (b ∷ rest) → b ≡ letter_of role
+    first : (role : Role) → IsOfEndpoint role (b ∷ rest) → b ≡ letter_of role
     first role (inl of) = head_same _ _ _ _ (of.1 ∙ front_is role of.0)
     first role (inr mark) = head_same _ _ _ _ (mark ∙ mark_is role)
 
@@ -98,7 +98,7 @@ no_side b rest no_client no_server role is = by_letter role (first role is)
 second_byte : (role : Role) (rest : List ℕ) → ((digits : List ℕ) → rest ≡ 32 ∷ digits → ⊥) → (rest ≡ 46 ∷ [] → ⊥) → HasNoForm (letter_of role ∷ rest)
 second_byte role rest no_bytes no_mark = (not_nothing role rest (letter_of role ∷ rest) refl, of_none)
   where
-    of_none : (other : Role) → IsOf other (letter_of role ∷ rest) → ⊥
+    of_none : (other : Role) → IsOfEndpoint other (letter_of role ∷ rest) → ⊥
     of_none other (inl of) = no_bytes of.0 (tail_same _ _ _ _ (of.1 ∙ front_is other of.0))
     of_none other (inr mark) = no_mark (tail_same _ _ _ _ (mark ∙ mark_is other))
 
@@ -133,7 +133,7 @@ form_of (b ∷ rest) =
       ]
     ]
   where
-    something : b ≢ 35 → IsGiven (b ∷ rest) Nothing → ⊥
+    something : b ≢ 35 → GivesEntry (b ∷ rest) Nothing → ⊥
     something other (inl empty) = cc empty
     something other (inr comment) = other (head_same _ _ _ _ comment.1)
 
@@ -152,17 +152,17 @@ true_or_false true = inl refl
 true_or_false false = inr refl
 
 -- which side a line is of
-pub same_side : (role other : Role) (text digits : List ℕ) → text ≡ bytes_front role ++ digits → IsOf other text → role ≡ other
+pub same_side : (role other : Role) (text digits : List ℕ) → text ≡ bytes_front role ++ digits → IsOfEndpoint other text → role ≡ other
 same_side role other text digits is (inl of) = (same_bytes_line role other digits of.0 (sym is ∙ of.1)).0
 same_side role other text digits is (inr mark) = absurd (not_mark role other digits (sym is ∙ mark))
 
-pub same_side_marked : (role other : Role) (text : List ℕ) → text ≡ end_mark role → IsOf other text → role ≡ other
+pub same_side_marked : (role other : Role) (text : List ℕ) → text ≡ end_mark role → IsOfEndpoint other text → role ≡ other
 same_side_marked role other text is (inl of) = absurd (not_mark other role of.0 (sym of.1 ∙ is))
 same_side_marked role other text is (inr mark) = same_mark role other (sym is ∙ mark)
 
 module _ (limits : Limits) (given : List Entry) (text : List ℕ) (from : ℕ) where
   -- a text that gives nothing has no fault of what it gives
-  pub nothing_bad : IsGiven text Nothing → NoneBefore limits given text from 2 → NoneBefore limits given text from 6
+  pub nothing_bad : GivesEntry text Nothing → NoneBefore limits given text from 2 → NoneBefore limits given text from 6
   nothing_bad is before =
       none_further limits given text from 5 (none_further limits given text from 4 (none_further limits given text from 3 (none_further limits given text from 2 before
       (λ bad. bad.0 is))
@@ -170,7 +170,7 @@ module _ (limits : Limits) (given : List Entry) (text : List ℕ) (from : ℕ) w
       (λ bad. of_none bad.0 bad.1))
       (λ bad. let same : Nothing ≡ Bytes bad.0 bad.1 = one_given text Nothing (Bytes bad.0 bad.1) is bad.2 in cc)
     where
-      of_none : (role : Role) → IsOf role text → ⊥
+      of_none : (role : Role) → IsOfEndpoint role text → ⊥
       of_none role (inl of) = not_nothing role (32 ∷ of.0) text (of.1 ∙ front_is role of.0) is
       of_none role (inr mark) = not_nothing role (46 ∷ []) text (mark ∙ mark_is role) is
 
@@ -212,7 +212,7 @@ module _ (limits : Limits) (given : List Entry) (text : List ℕ) (from : ℕ) w
 module _ (limits : Limits) (given : List Entry) (text : List ℕ) where
   -- the text is taken, or its first fault is known
   abbrev pub IsDecided : Type 0
-  IsDecided = ((entry : Entry) × IsGiven text entry × ((fault : LineFault) → HasFault limits given text fault → fault_order fault < 0))
+  IsDecided = ((entry : Entry) × GivesEntry text entry × ((fault : LineFault) → HasFault limits given text fault → fault_order fault < 0))
       ⊎ ((fault : LineFault) × HasFault limits given text fault × NoneBefore limits given text 0 (fault_order fault))
 
   by_form : NoneBefore limits given text 0 2 → Form text → IsDecided
@@ -245,11 +245,11 @@ module _ (limits : Limits) (given : List Entry) (text : List ℕ) where
 
   pub decided : IsDecided
   decided =
-      elim (cases_lt (length given) most_lines) [
+      elim (cases_lt (length given) lines_most) [
         | inr many ↦ inr (TooManyLines, (omega (arith, many)), none_at_first limits given text 0)
         | inl few ↦
             let first = none_further limits given text 0 0 (none_at_first limits given text 0) (λ many. omega (arith, few, many)) in
-            elim (cases_lt most_bytes (length text)) [
+            elim (cases_lt line_most (length text)) [
               | inl long ↦ inr (TooLong, long, first)
               | inr short ↦ by_form (none_further limits given text 0 1 first (λ long. omega (arith, short, long))) (form_of text)
             ]

@@ -9,7 +9,7 @@ use Rattle.wsn_capture.specs.declared.line_fault.LineFault.{LineFault}
 use Rattle.wsn_capture.specs.declared.line_fault.LineFault.TheVariants.{TooManyLines, TooLong, BadForm, BadHex, AfterEnd, InputLimit}
 use Rattle.wsn_capture.specs.declared.sent_stream.SentStream.{SentStream}
 use Rattle.wsn_capture.specs.declared.capture.Capture.{Capture}
-use Rattle.wsn_capture.specs.Entries.{without_cr, Entry, IsHex, IsGiven, AreEntries, bytes_front, end_mark}
+use Rattle.wsn_capture.specs.Entries.{without_cr, Entry, IsHex, GivesEntry, AreEntries, bytes_front, end_mark}
 use Rattle.wsn_capture.specs.Entries.Entry.{Nothing, Bytes, Mark}
 use Rattle.wsn_capture.specs.Sides.{has_ended}
 use Rattle.wsn_capture.specs.LineFaults.{fault_order, HasNoForm, HasFault, IsTaken, AreTakenBehind, IsFaultBehind}
@@ -89,7 +89,7 @@ module _ (limits : Limits) (given : List Entry) where
 
   -- ---- one more entry
 
-  pub takes_nothing : (capture : Capture) (text : List ℕ) → IsGiven text Nothing → AreSent limits capture given → TakesText limits capture given text
+  pub takes_nothing : (capture : Capture) (text : List ℕ) → GivesEntry text Nothing → AreSent limits capture given → TakesText limits capture given text
   takes_nothing capture text is has = record {
     entry = Nothing;
     gives = record { gives = is; none = none_at_all limits given text 2 (nothing_bad limits given text 2 is (none_at_first limits given text 2)) };

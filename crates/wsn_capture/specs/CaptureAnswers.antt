@@ -40,9 +40,9 @@ IsAnswerOf limits text (Err Read) = ⊥
 
 -- ---- of an input
 
--- As many bytes of a line as make it too long whatever follows, a CR at its end among it.
-abbrev pub line_most : ℕ
-line_most = 8196
+-- As many bytes of a line as make it too long whatever follows, a CR at its end included.
+abbrev pub begun_most : ℕ
+begun_most = 8196
 
 -- Each line that came whole is taken, and fewer bytes came of the next than make it too long.
 pub record IsUnfaulted (limits : Limits) (came : List ℕ) : Type 0 where
@@ -51,25 +51,26 @@ pub record IsUnfaulted (limits : Limits) (came : List ℕ) : Type 0 where
   pub whole : came ≡ ended lines ++ begun
   pub each : AllByRecursion IsLine lines
   pub in_line : IsLine begun
-  pub short : length begun < line_most
+  pub short : length begun < begun_most
   pub given : List Entry
   pub taken : AreTaken limits lines given
 
--- The bytes up to this one are unfaulted, and with it the line is complete or too long whatever follows. At most 4,095
--- bytes came behind it.
-pub record IsPrompt (limits : Limits) (came : List ℕ) : Type 0 where
+-- The fault is told as soon as it is shown: by this byte, whatever follows, and by none before it. With it the line is
+-- complete, or too long whatever follows. At most 4,095 bytes came behind it.
+pub record IsPrompt (limits : Limits) (came : List ℕ) (number : ℕ) (fault : LineFault) : Type 0 where
   pub told : List ℕ
   pub last : ℕ
   pub ahead : List ℕ
   pub whole : came ≡ told ++ last ∷ ahead
   pub unfaulted : IsUnfaulted limits told
-  pub shown : (last ≡ 10) ⊎ (suc (length unfaulted.begun) ≡ line_most)
+  pub shown : (last ≡ 10) ⊎ (suc (length unfaulted.begun) ≡ begun_most)
+  pub shows : (later : List ℕ) → IsFaulty limits (told ++ last ∷ later) number fault
   pub few : length ahead ≤ 4095
 
 -- The fault is told by what came, whatever follows; or by the end of the input.
 abbrev pub IsTold : Limits → Incoming → List ℕ → ℕ → LineFault → Type 0
 IsTold limits new came number fault =
-    (((later : List ℕ) → IsFaulty limits (came ++ later) number fault) × IsPrompt limits came)
+    IsPrompt limits came number fault
     ⊎ (IsFaulty limits came number fault × IsUnfaulted limits came × IsAtEnd new.remaining)
 
 -- What the answer says of the bytes that came. There is a report only at the end of an input that has not failed.
@@ -81,5 +82,5 @@ IsAnswer limits new came (Err Read) = (new.failed ≡ true) × IsUnfaulted limit
 -- These bytes came from the input, and the answer is theirs.
 pub record IsCaptureJudged (limits : Limits) (old new : Incoming) (result : Result Report CaptureStop) : Type 0 where
   pub came : List ℕ
-  pub received : IsReceived (1000001 * line_most + 4095) old new came
+  pub received : IsReceived (1000001 * begun_most + 4095) old new came
   pub answer : IsAnswer limits new came result

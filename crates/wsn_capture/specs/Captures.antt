@@ -9,7 +9,7 @@ use Rattle.wsn_capture.specs.declared.line_fault.LineFault.{LineFault}
 use Rattle.wsn_capture.specs.declared.line_fault.LineFault.TheVariants.{AfterEnd, InputLimit}
 use Rattle.wsn_capture.specs.declared.sent_stream.SentStream.{SentStream}
 use Rattle.wsn_capture.specs.declared.capture.Capture.{Capture}
-use Rattle.wsn_capture.specs.Entries.{Entry, IsGiven}
+use Rattle.wsn_capture.specs.Entries.{Entry, GivesEntry}
 use Rattle.wsn_capture.specs.Sides.{sent, has_ended}
 use Rattle.wsn_capture.specs.LineFaults.{HasFault, AreTaken, fault_order}
 use Rattle.wsn_capture.specs.Reports.{ClosesIn}
@@ -59,7 +59,7 @@ pub record AreSent (limits : Limits) (capture : Capture) (given : List Entry) : 
 
 -- A text has no fault of its own, whatever the count and the length of lines, and gives this.
 pub record IsWellGiven (limits : Limits) (given : List Entry) (text : List ℕ) (entry : Entry) : Type 0 where
-  pub gives : IsGiven text entry
+  pub gives : GivesEntry text entry
   pub none : (other : LineFault) → HasFault limits given text other → fault_order other < 2
 
 -- Of a text's own faults, the first.

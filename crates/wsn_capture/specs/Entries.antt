@@ -31,13 +31,13 @@ abbrev pub IsHex : List ℕ → List ℕ → Type 0
 IsHex digits bytes = (digits ≢ []) × (decode_of digits ≡ Ok bytes)
 
 -- What a line without its CR gives. An empty one and a comment, which begins with #, give nothing.
-abbrev pub IsGiven : List ℕ → Entry → Type 0
-IsGiven text Nothing = (text ≡ []) ⊎ ((comment : List ℕ) × (text ≡ codes "#" ++ comment))
-IsGiven text (Bytes role bytes) = (digits : List ℕ) × (text ≡ bytes_front role ++ digits) × IsHex digits bytes
-IsGiven text (Mark role) = text ≡ end_mark role
+abbrev pub GivesEntry : List ℕ → Entry → Type 0
+GivesEntry text Nothing = (text ≡ []) ⊎ ((comment : List ℕ) × (text ≡ codes "#" ++ comment))
+GivesEntry text (Bytes role bytes) = (digits : List ℕ) × (text ≡ bytes_front role ++ digits) × IsHex digits bytes
+GivesEntry text (Mark role) = text ≡ end_mark role
 
 abbrev pub IsEntry : List ℕ → Entry → Type 0
-IsEntry line entry = IsGiven (without_cr line) entry
+IsEntry line entry = GivesEntry (without_cr line) entry
 
 -- What lines give, each an entry.
 abbrev pub AreEntries : List (List ℕ) → List Entry → Type 0

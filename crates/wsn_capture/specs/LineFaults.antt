@@ -4,7 +4,7 @@ use Rattle.wsn_wire.specs.declared.endpoint.Role.{Role}
 use Rattle.wsn_rules.specs.Limits.{Limits}
 use Rattle.wsn_capture.specs.declared.line_fault.LineFault.{LineFault}
 use Rattle.wsn_capture.specs.declared.line_fault.LineFault.TheVariants.{TooManyLines, TooLong, BadForm, BadHex, AfterEnd, InputLimit}
-use Rattle.wsn_capture.specs.Entries.{without_cr, Entry, IsHex, IsGiven, bytes_front, end_mark}
+use Rattle.wsn_capture.specs.Entries.{without_cr, Entry, IsHex, GivesEntry, bytes_front, end_mark}
 use Rattle.wsn_capture.specs.Entries.Entry.{Nothing, Bytes}
 use Rattle.wsn_capture.specs.Sides.{sent, has_ended}
 
@@ -27,31 +27,32 @@ fault_word AfterEnd = codes "after-end"
 fault_word InputLimit = codes "input-limit"
 
 -- A line of bytes or an end mark of an endpoint, whatever stands for the bytes.
-abbrev pub IsOf : Role → List ℕ → Type 0
-IsOf role text = ((digits : List ℕ) × (text ≡ bytes_front role ++ digits)) ⊎ (text ≡ end_mark role)
+abbrev pub IsOfEndpoint : Role → List ℕ → Type 0
+IsOfEndpoint role text = ((digits : List ℕ) × (text ≡ bytes_front role ++ digits)) ⊎ (text ≡ end_mark role)
 
 -- None of the forms of a line: it isn't empty, no comment, and of no endpoint.
 abbrev pub HasNoForm : List ℕ → Type 0
-HasNoForm text = (IsGiven text Nothing → ⊥) × ((role : Role) → IsOf role text → ⊥)
+HasNoForm text = (GivesEntry text Nothing → ⊥) × ((role : Role) → IsOfEndpoint role text → ⊥)
 
--- Two hexadecimal digits a byte, 8,192 at most, stand behind two bytes.
-abbrev pub most_bytes : ℕ
-most_bytes = 8194
+-- The most bytes of a line without its CR: two, and 8,192 digits.
+abbrev pub line_most : ℕ
+line_most = 8194
 
-abbrev pub most_lines : ℕ
-most_lines = 1000000
+-- the most lines of a capture
+abbrev pub lines_most : ℕ
+lines_most = 1000000
 
 -- The fault of a line without its CR, behind lines that gave these entries.
 abbrev pub HasFault : Limits → List Entry → List ℕ → LineFault → Type 0
-HasFault limits given text TooManyLines = most_lines ≤ length given
-HasFault limits given text TooLong = most_bytes < length text
+HasFault limits given text TooManyLines = lines_most ≤ length given
+HasFault limits given text TooLong = line_most < length text
 HasFault limits given text BadForm = HasNoForm text
 HasFault limits given text BadHex =
     (role : Role) × (digits : List ℕ) × (text ≡ bytes_front role ++ digits)
     × ((bytes : List ℕ) → IsHex digits bytes → ⊥)
-HasFault limits given text AfterEnd = (role : Role) × IsOf role text × (has_ended role given ≡ true)
+HasFault limits given text AfterEnd = (role : Role) × IsOfEndpoint role text × (has_ended role given ≡ true)
 HasFault limits given text InputLimit =
-    (role : Role) × (bytes : List ℕ) × IsGiven text (Bytes role bytes)
+    (role : Role) × (bytes : List ℕ) × GivesEntry text (Bytes role bytes)
     × (limits.input < length (sent role given) + length bytes)
 
 -- Of a line's faults, the first.
@@ -62,7 +63,7 @@ pub record IsFirstFault (limits : Limits) (given : List Entry) (line : List ℕ)
 
 -- The line has no fault, and gives this entry.
 pub record IsTaken (limits : Limits) (given : List Entry) (line : List ℕ) (entry : Entry) : Type 0 where
-  pub gives : IsGiven (without_cr line) entry
+  pub gives : GivesEntry (without_cr line) entry
   pub none : (fault : LineFault) → HasFault limits given (without_cr line) fault → ⊥
 
 -- Behind these entries the lines are taken one by one, and give those.

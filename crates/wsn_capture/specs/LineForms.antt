@@ -2,12 +2,12 @@
 use Rattle.std.specs.Prelude.{◌≡◌, ℕ, Option, None, Some, List, ◌++◌}
 use Rattle.wsn_capture.specs.declared.line_form.LineForm.{LineForm}
 use Rattle.wsn_capture.specs.declared.line_form.LineForm.TheVariants as forms
-use Rattle.wsn_capture.specs.Entries.{IsHex, IsGiven, bytes_front, end_mark}
+use Rattle.wsn_capture.specs.Entries.{IsHex, GivesEntry, bytes_front, end_mark}
 use Rattle.wsn_capture.specs.Entries as entries
 use Rattle.wsn_capture.specs.LineFaults.{HasNoForm}
 
 abbrev pub IsForm : List ℕ → Option LineForm → Type 0
-IsForm text (Some forms.Nothing) = IsGiven text entries.Nothing
+IsForm text (Some forms.Nothing) = GivesEntry text entries.Nothing
 IsForm text (Some (forms.Bytes role)) = (digits : List ℕ) × (text ≡ bytes_front role ++ digits)
 IsForm text (Some (forms.Mark role)) = text ≡ end_mark role
 IsForm text None = HasNoForm text

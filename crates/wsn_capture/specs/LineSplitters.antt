@@ -9,7 +9,7 @@ use Rattle.wsn_capture.specs.declared.line_splitter.LineSplitter.{LineSplitter}
 use Rattle.wsn_lines.specs.TextLines.{IsLine, ended}
 use Rattle.wsn_capture.specs.LineFaults.{IsFaultBehind}
 use Rattle.wsn_capture.specs.Captures.{HasTaken, count_of}
-use Rattle.wsn_capture.specs.CaptureAnswers.{IsFaulty, IsUnfaulted, line_most}
+use Rattle.wsn_capture.specs.CaptureAnswers.{IsFaulty, IsUnfaulted, begun_most}
 
 -- These bytes came: whole lines, which the capture has taken, and less of the next than makes it too long.
 pub record HasHandedOn (limits : Limits) (capture : Capture) (begun came : List ℕ) : Type 0 where
@@ -17,9 +17,9 @@ pub record HasHandedOn (limits : Limits) (capture : Capture) (begun came : List 
   pub whole : came ≡ ended lines ++ begun
   pub each : AllByRecursion IsLine lines
   pub in_line : IsLine begun
-  pub short : length begun < line_most
+  pub short : length begun < begun_most
   pub taken : HasTaken limits capture lines
-  pub few : length came ≤ length lines * line_most + length begun
+  pub few : length came ≤ length lines * begun_most + length begun
 
 abbrev pub HasSplit : Limits → LineSplitter → List ℕ → Type 0
 HasSplit limits splitter came = HasHandedOn limits splitter.capture splitter.begun.items came
@@ -36,7 +36,7 @@ IsStopBy limits came Read = ⊥
 
 -- how many bytes may come yet
 abbrev pub left_of : LineSplitter → ℕ
-left_of splitter = (1000001 - count_of splitter.capture) * line_most - length splitter.begun.items
+left_of splitter = (1000001 - count_of splitter.capture) * begun_most - length splitter.begun.items
 
 -- A stop by a byte of the piece that came behind these bytes. It ends its line, or makes it too long.
 pub record IsStopWithin (limits : Limits) (came piece : List ℕ) (stop : CaptureStop) : Type 0 where
@@ -45,5 +45,5 @@ pub record IsStopWithin (limits : Limits) (came piece : List ℕ) (stop : Captur
   pub ahead : List ℕ
   pub whole : piece ≡ told ++ last ∷ ahead
   pub unfaulted : IsUnfaulted limits (came ++ told)
-  pub shown : (last ≡ 10) ⊎ (suc (length unfaulted.begun) ≡ line_most)
+  pub shown : (last ≡ 10) ⊎ (suc (length unfaulted.begun) ≡ begun_most)
   pub stops : IsStopBy limits ((came ++ told) ++ last ∷ []) stop

@@ -50,7 +50,8 @@ echo_of client server = None
 -- ---- what an endpoint sees
 
 -- [7.1.5, 7.4.1] The status code that an endpoint sees, by what became of the other's stream: 1005 where the Close has
--- no code, 1006 where there is no Close, and none where more may come.
+-- no code, 1006 where there is no Close, and none where more may come. 1006 for a refused stream is a rule of this
+-- project.
 abbrev pub seen_of : Side → Option ℕ
 seen_of (Closed (Some code)) = Some code
 seen_of (Closed None) = Some 1005

@@ -48,7 +48,8 @@ pub struct Report {
     /// Where both endpoints sent a Close, whether both have the same code or none.
     pub echo: Option<bool>,
     /// The status code by which the client sees the connection closed (RFC 6455 section 7.1.5): the server's Close
-    /// has it, 1005 stands for a Close without one, 1006 for none. `None` while the server may send more.
+    /// has it, 1005 stands for a Close without one, 1006 for none, or for a stream that is refused before it. `None`
+    /// while the server may send more.
     pub client_sees: Option<u16>,
     /// The same of the server, by what the client sent.
     pub server_sees: Option<u16>,
@@ -57,7 +58,7 @@ pub struct Report {
 
 impl Side {
     /// The status code that the other endpoint sees (RFC 6455 section 7.1.5): 1005 for a Close without a code, 1006
-    /// without a Close; `None` while more may come.
+    /// without a Close or where the stream is refused; `None` while more may come.
     #[tactic(none)]
     pub(crate) fn seen(&self) -> Option<u16>
         ensures { result ≡ seen_of self.now }

@@ -1,4 +1,5 @@
-use Rattle.std.proofs.Common.{◌≡◌, ◌≤◌, ℕ, Result, Err, length, take, sym, ◌∙◌, subst, rules, arith, length-take-le}
+use Rattle.std.proofs.Common.{◌≡◌, ◌≤◌, ℕ, Result, Err, length, take, sym, ◌∙◌, subst, rules, arith, length-take-le, ap}
+use Rattle.std.proofs.lemmas.Result.{err_from_is_err_and}
 use Rattle.std.specs.Io.KnownBytes.{Consumes}
 use Rattle.wsn_capture.specs.declared.report.Report.{Report}
 use Rattle.wsn_capture.specs.declared.capture_stop.CaptureStop.{CaptureStop}
@@ -39,7 +40,8 @@ loop-count-preserved g c =
 pub returns-in_err-take-clause-judged : goal.returns-in_err-take-clause-judged
 returns-in_err-take-clause-judged g c =
     let read = c.loop-count.invariant.read in
-    let is : c.from_residual.result ≡ Err c.in_err-take.field-0.0 = search rules in
+    let out = err_from_is_err_and c.from_residual.result c.from_residual.ensures.1 in
+    let is : c.from_residual.result ≡ Err c.in_err-take.field-0.0 = out.1 ∙ ap Err out.2 in
     let size : length (take c.in-Some.count c.read.new.into) ≤ 4096 = omega (arith, length-take-le c.in-Some.count c.read.new.into c.in-Some.ensures.within, c.in-Some.ensures.within, c.read.auto.into) in
     subst (λ (r : Result Report CaptureStop). IsCaptureJudged c.args.limits c.args.input.now c.read.new.self r) (sym is)
     (faulty c.args.limits c.args.input.now c.loop-count.input c.read.new.self c.loop-count.lines read c.loop-count.invariant.few (take c.in-Some.count c.read.new.into) c.in_err-take.field-0.0

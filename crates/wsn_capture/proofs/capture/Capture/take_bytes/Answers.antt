@@ -1,4 +1,5 @@
-use Rattle.std.proofs.Common.{◌≡◌, ◌++◌, List, Result, Err, length, sym, subst, rules}
+use Rattle.std.proofs.Common.{◌≡◌, ◌++◌, List, Result, Err, length, sym, subst, rules, ap, ◌∙◌}
+use Rattle.std.proofs.lemmas.Result.{err_from_is_err_and}
 use Rattle.std.specs.Prelude.{OnOk, IfErr}
 use Rattle.wsn_wire.specs.declared.endpoint.Role.{Role}
 use Rattle.wsn_wire.specs.declared.endpoint.Role.TheVariants.{Client, Server}
@@ -11,7 +12,8 @@ use Rattle.wsn_capture.proofs.capture.Capture.take_bytes.Goals as goal
 
 pub returns-in_err-count-clause-fault : goal.returns-in_err-count-clause-fault
 returns-in_err-count-clause-fault c =
-    let is : c.from_residual.result ≡ Err c.in_err-count.field-0.0 = search rules in
+    let out = err_from_is_err_and c.from_residual.result c.from_residual.ensures.1 in
+    let is : c.from_residual.result ≡ Err c.in_err-count.field-0.0 = out.1 ∙ ap Err out.2 in
     let text = bytes_front c.args.role ++ c.args.digits.now in
     subst (λ (r : Result Unit LineFault). IfErr r (λ fault. (limits : Limits) (given : List Entry) → AreSent limits c.args.self.now given → IsFirstOwnFault limits given text fault)) (sym is)
     (λ limits given has. subst (IsFirstOwnFault limits given text) (sym c.in_err-count.ensures.0) (no_hex limits given c.args.role c.args.digits.now c.in_err-count.ensures.1))

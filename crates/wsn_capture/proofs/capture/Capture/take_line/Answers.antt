@@ -1,4 +1,5 @@
-use Rattle.std.proofs.Common.{ℕ, ◌≡◌, List, Result, Err, length, sym, ap, subst, rules, arith}
+use Rattle.std.proofs.Common.{ℕ, ◌≡◌, List, Result, Err, length, sym, ap, subst, rules, arith, ◌∙◌}
+use Rattle.std.proofs.lemmas.Result.{err_from_is_err_and}
 use Rattle.std.specs.Prelude.{IfErr}
 use Rattle.wsn_rules.specs.Limits.{Limits}
 use Rattle.wsn_capture.specs.declared.line_fault.LineFault.{LineFault}
@@ -17,7 +18,8 @@ returns-then-text-gt-LINE_MAX-clause-fault c limits lines has =
 
 pub returns-in_err-take-clause-fault : goal.returns-in_err-take-clause-fault
 returns-in_err-take-clause-fault c =
-    let is : c.from_residual.result ≡ Err c.in_err-take.field-0.0 = search rules in
+    let out = err_from_is_err_and c.from_residual.result c.from_residual.ensures.1 in
+    let is : c.from_residual.result ≡ Err c.in_err-take.field-0.0 = out.1 ∙ ap Err out.2 in
     let size = ap (λ (bs : List ℕ). length bs) c.strip_cr-text.ensures in
     subst (λ (r : Result Unit LineFault). IfErr r (λ fault. (limits : Limits) (lines : List (List ℕ)) → HasTaken limits c.args.self.now lines → IsFaultBehind limits lines c.args.text.now fault)) (sym is)
     (λ limits lines has. own_fault limits c.args.self.now lines c.args.text.now has c.in_err-take.field-0.0 c.if-self-ge-LINES_MAX.false (omega (arith, size, c.if-text-gt-LINE_MAX.false))

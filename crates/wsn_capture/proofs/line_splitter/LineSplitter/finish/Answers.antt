@@ -1,4 +1,5 @@
-use Rattle.std.proofs.Common.{◌≡◌, Result, Err, sym, ◌∙◌, subst, rules}
+use Rattle.std.proofs.Common.{◌≡◌, Result, Err, sym, ◌∙◌, subst, rules, ap}
+use Rattle.std.proofs.lemmas.Result.{err_from_is_err_and}
 use Rattle.wsn_capture.specs.declared.report.Report.{Report}
 use Rattle.wsn_capture.specs.declared.capture_stop.CaptureStop.{CaptureStop}
 use Rattle.wsn_capture.specs.CaptureAnswers.{IsAnswerOf}
@@ -11,7 +12,8 @@ returns-then-is_empty c limits came split =
 
 pub returns-in_err-end_begun : goal.returns-in_err-end_begun
 returns-in_err-end_begun c limits came split =
-    let is : c.from_residual.result ≡ Err c.in_err-end_begun.field-0.0 = search rules in
+    let out = err_from_is_err_and c.from_residual.result c.from_residual.ensures.1 in
+    let is : c.from_residual.result ≡ Err c.in_err-end_begun.field-0.0 = out.1 ∙ ap Err out.2 in
     subst (λ (r : Result Report CaptureStop). IsAnswerOf limits came r) (sym is)
     (stop_last limits c.args.self.now.capture c.args.self.now.begun.items came split c.in_err-end_begun.field-0.0 (not_empty c.args.self.now.begun.items (sym c.is_empty.ensures ∙ c.if-is_empty.false)) (c.in_err-end_begun.ensures.stop limits split.lines split.taken))
 

@@ -1,4 +1,5 @@
-use Rattle.std.proofs.Common.{◌≡◌, ◌-◌, ◌++◌, ℕ, List, Result, Err, length, take, drop, sym, ap, ◌∙◌, subst, rules, arith, length-drop}
+use Rattle.std.proofs.Common.{◌≡◌, ◌-◌, ◌++◌, ℕ, List, Result, Err, length, take, drop, sym, ap, ◌∙◌, subst, arith, length-drop}
+use Rattle.std.proofs.lemmas.Result.{err_from_is_err_and}
 use Rattle.std.specs.Prelude.{IfErr}
 use Rattle.wsn_rules.specs.Limits.{Limits}
 use Rattle.wsn_capture.specs.declared.capture_stop.CaptureStop.{CaptureStop}
@@ -8,7 +9,8 @@ use Rattle.wsn_capture.proofs.line_splitter.LineSplitter.take.Goals as goal
 
 pub returns-in_err-taken-clause-stop : goal.returns-in_err-taken-clause-stop
 returns-in_err-taken-clause-stop c =
-    let is : c.from_residual.result ≡ Err c.in_err-taken.field-0.0 = search rules in
+    let out = err_from_is_err_and c.from_residual.result c.from_residual.ensures.1 in
+    let is : c.from_residual.result ≡ Err c.in_err-taken.field-0.0 = out.1 ∙ ap Err out.2 in
     subst (λ (r : Result Unit CaptureStop). IfErr r (λ stop. (limits : Limits) (came : List ℕ) → HasSplit limits c.args.self.now came → IsStopWithin limits came c.args.piece.now stop)) (sym is)
     (λ limits came split. stop_in_rest limits came c.args.piece.now c.loop-taken.taken c.in_err-taken.field-0.0
     (c.in_err-taken.ensures.stop limits (came ++ take c.loop-taken.taken c.args.piece.now) (c.loop-taken.invariant.split limits came split)))

@@ -1,4 +1,5 @@
-use Rattle.std.proofs.Common.{◌≡◌, ◌++◌, ℕ, List, Result, Err, take, sym, subst, rules, arith}
+use Rattle.std.proofs.Common.{◌≡◌, ◌++◌, ℕ, List, Result, Err, take, sym, subst, rules, arith, ap, ◌∙◌}
+use Rattle.std.proofs.lemmas.Result.{err_from_is_err_and}
 use Rattle.std.specs.Prelude.{IfErr}
 use Rattle.std.proofs.lemmas.List.{length-take-le}
 use Rattle.wsn_rules.specs.Limits.{Limits}
@@ -9,7 +10,8 @@ use Rattle.wsn_capture.proofs.line_splitter.LineSplitter.take_front.Goals as goa
 
 pub returns-in_err-end_line-in-Some-clause-stop : goal.returns-in_err-end_line-in-Some-clause-stop
 returns-in_err-end_line-in-Some-clause-stop c =
-    let is : c.from_residual.result ≡ Err c.in_err-end_line-in-Some.field-0.0 = search rules in
+    let out = err_from_is_err_and c.from_residual.result c.from_residual.ensures.1 in
+    let is : c.from_residual.result ≡ Err c.in_err-end_line-in-Some.field-0.0 = out.1 ∙ ap Err out.2 in
     subst (λ (r : Result ℕ CaptureStop). IfErr r (λ stop. (limits : Limits) (came : List ℕ) → HasSplit limits c.args.self.now came → IsStopWithin limits came c.args.piece.now stop)) (sym is)
     (λ limits came split. line_stops limits c.args.self.now.capture c.args.self.now.begun.items came split c.args.piece.now c.min.result c.in-Some.end c.in-Some.ensures.0.high
     (λ k within. c.in-Some.ensures.0.before k (omega arith) within) c.in-Some.ensures.1 (omega (arith, c.in-Some.ensures.0.high, length-take-le c.min.result c.args.piece.now (omega arith))) c.in_err-end_line-in-Some.field-0.0 (c.in_err-end_line-in-Some.ensures.stop limits split.lines split.taken))
@@ -22,7 +24,8 @@ returns-in_ok-end_line-in-Some-clause-split c limits came split =
 
 pub returns-in_err-go_on-in-None-clause-stop : goal.returns-in_err-go_on-in-None-clause-stop
 returns-in_err-go_on-in-None-clause-stop c =
-    let is : c.from_residual-in_err-go_on-in-None.result ≡ Err c.in_err-go_on-in-None.field-0.0 = search rules in
+    let out = err_from_is_err_and c.from_residual-in_err-go_on-in-None.result c.from_residual-in_err-go_on-in-None.ensures.1 in
+    let is : c.from_residual-in_err-go_on-in-None.result ≡ Err c.in_err-go_on-in-None.field-0.0 = out.1 ∙ ap Err out.2 in
     subst (λ (r : Result ℕ CaptureStop). IfErr r (λ stop. (limits : Limits) (came : List ℕ) → HasSplit limits c.args.self.now came → IsStopWithin limits came c.args.piece.now stop)) (sym is)
     (λ limits came split. full_stops limits c.args.self.now.capture c.args.self.now.begun.items came split c.args.piece.now c.min.result c.in_err-go_on-in-None.field-0.0
     (no_lf_in (take c.min.result c.args.piece.now) (λ k within. c.in-None.ensures k (omega arith) within)) c.in_err-go_on-in-None.ensures.stop.0 (c.in_err-go_on-in-None.ensures.stop.1 limits split.lines split.taken))
