@@ -51,7 +51,7 @@ pub struct Pair {
 pub enum Usage {
     /// They break a rule of the command line: the text says which.
     Clap(String),
-    /// They break a rule that the text of help doesn't tell.
+    /// They break a rule that clap doesn't know: the line `usage` tells it.
     Own,
     /// Memory was refused.
     Memory,

@@ -49,6 +49,11 @@ impl Narrow {
         Narrow::new(alloc, usize::MAX, usize::MAX, Full::Fails)
     }
 
+    /// One that takes all, a byte a call.
+    pub fn byte_by_byte(alloc: Global) -> Self {
+        Narrow::new(alloc, 1, usize::MAX, Full::Fails)
+    }
+
     /// What it does where it is full: an error, or nothing.
     fn refuse(&mut self) -> io::Result<()> {
         match self.full {

@@ -11,7 +11,7 @@ use Rattle.wsn_capture.specs.LineFaults.{fault_word}
 use Rattle.wsn_capture.specs.ReportLines.{report_lines}
 use Rattle.wsn_job.specs.declared.closings.ClosingStop.{ClosingStop}
 use Rattle.wsn_job.specs.declared.closings.ClosingStop.TheVariants.{Capture, Write}
-use Rattle.wsn_job.specs.Telling.{IsToldOn}
+use Rattle.wsn_verdicts.specs.Telling.{IsToldOn}
 
 -- The report's lines were printed, and before a stop nothing; where a write failed, there is a report, and a prefix of
 -- its lines was.

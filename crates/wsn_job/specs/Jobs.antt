@@ -3,7 +3,7 @@ use Rattle.std.specs.Prelude.{ℕ}
 use Rattle.wsn_wire.specs.Transfer.{Incoming, Outgoing}
 use Rattle.wsn_job.specs.declared.job.Job.{Job}
 use Rattle.wsn_job.specs.declared.job.Job.TheVariants.{Judge, Frames, Normal, Plan, Recut, Closing}
-use Rattle.wsn_job.specs.Verdicts.{IsJudgeRun, IsFramesRun, IsNormalRun}
+use Rattle.wsn_verdicts.specs.Verdicts.{IsJudgeRun, IsFramesRun, IsNormalRun}
 use Rattle.wsn_job.specs.Plans.{IsPlanRun}
 use Rattle.wsn_job.specs.Recuts.{IsRecutRun, MayCut}
 use Rattle.wsn_job.specs.Closings.{IsClosingRun}

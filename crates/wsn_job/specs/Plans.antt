@@ -11,7 +11,7 @@ use Rattle.wsn_plan.specs.declared.planning.PlanAnswer.{PlanAnswer}
 use Rattle.wsn_plan.specs.declared.planning.PlanAnswer.TheVariants.{Plan, NotAccepted, Unfinished}
 use Rattle.wsn_plan.specs.Planning.{IsPlanned}
 use Rattle.wsn_plan_text.specs.PlanText.{plan_text}
-use Rattle.wsn_job.specs.Telling.{IsToldOn, stop_line}
+use Rattle.wsn_verdicts.specs.Telling.{IsToldOn, stop_line}
 
 -- A plan's text was printed, and with any other answer or stop nothing; where a write failed, there is a plan, and a
 -- prefix of its text was.

@@ -14,7 +14,7 @@ use Rattle.wsn_plan.specs.declared.recutting.RecutAnswer.TheVariants.{Done, NotA
 use Rattle.wsn_plan.specs.Recutting.{Planned, IsRecut}
 use Rattle.wsn_job.specs.declared.job.How.{How}
 use Rattle.wsn_job.specs.declared.job.How.TheVariants.{ByPlan, BySize}
-use Rattle.wsn_job.specs.Telling.{IsToldOn, stop_line}
+use Rattle.wsn_verdicts.specs.Telling.{IsToldOn, stop_line}
 
 -- the plan of each stream, by its events
 abbrev pub planned_by : {A : Type 0} → How A → Planned

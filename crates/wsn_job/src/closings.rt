@@ -1,12 +1,12 @@
 ghost use Rattle.std.specs.Prelude.{◌≡◌, false, true};
 ghost use Rattle.wsn_job.specs.Closings.{IsClosingRun, IsReportPrinted, IsClosingTold, closing_status, closing_stop_line, outcome_status};
-ghost use Rattle.wsn_job.specs.Telling.{IsToldOn};
+ghost use Rattle.wsn_verdicts.specs.Telling.{IsToldOn};
 
-use crate::telling::tell;
 use std::io::{Read, Write};
 use wsn_capture::{CaptureStop, Outcome, Report, judge_capture, put_report};
 use wsn_lines::Line;
 use wsn_scan::Limits;
+use wsn_verdicts::tell;
 use wsn_wire::{Input, Output};
 
 /// The bytes of the longest line of a stop: a faulty line's, with a number of twenty digits.

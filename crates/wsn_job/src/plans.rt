@@ -1,11 +1,11 @@
 ghost use Rattle.std.specs.Prelude.{◌≡◌, false, true};
 ghost use Rattle.wsn_job.specs.Plans.{IsPlanRun, IsPlanPrinted, IsPlanTold, plan_status};
 
-use crate::telling::{tell, tell_stop, tell_verdict};
 use std::alloc::Allocator;
 use std::io::{Read, Write};
 use wsn_plan::{PlanAnswer, plan_of, write_plan};
 use wsn_scan::{Limits, Stop};
+use wsn_verdicts::{tell, tell_stop, tell_verdict};
 use wsn_wire::{Input, Output, Role};
 
 /// Prints the plan of the input's own frames, and tells what keeps it from that.

@@ -1,13 +1,14 @@
 ghost use Rattle.std.specs.Prelude.{◌≡◌, false, true};
-ghost use Rattle.wsn_job.specs.Words.{IsRecut, IsRecutRun, IsRecutTold, MayCut, planned_by, recut_status, fault_line, IsToldOn};
+ghost use Rattle.wsn_job.specs.Words.{IsRecut, IsRecutRun, IsRecutTold, MayCut, planned_by, recut_status, fault_line};
+ghost use Rattle.wsn_verdicts.specs.Telling.{IsToldOn};
 
 use crate::job::How;
-use crate::telling::{tell, tell_stop, tell_verdict};
 use std::alloc::Allocator;
 use std::io::{Read, Write};
 use wsn_lines::Line;
 use wsn_plan::{RecutAnswer, Why, recut, recut_uniform};
 use wsn_scan::{Limits, Stop};
+use wsn_verdicts::{tell, tell_stop, tell_verdict};
 use wsn_wire::{Input, Output, Role};
 
 /// The bytes of the longest line of a fault, with a number of twenty digits.

@@ -5,9 +5,9 @@ use crate::closings::run_closing;
 use crate::job::Job;
 use crate::plans::run_plan;
 use crate::recuts::run_recut;
-use crate::verdicts::{run_frames, run_judge, run_normal};
 use std::alloc::Allocator;
 use std::io::{Read, Write};
+use wsn_verdicts::{run_frames, run_judge, run_normal};
 use wsn_wire::{Input, Output};
 
 /// Does a command's work and answers the program's exit status: 0 for what it was asked for of an accepted stream, or a

@@ -67,7 +67,8 @@ pub fn recut<A: Allocator + Copy, R: Read, W: Write>(
 }
 
 /// Cuts a stream again by the uniform plan of what it means, as [`recut`] does by the plan that [`uniform`] answers.
-/// Its only fault is `TooManyPieces`. The plan is held beside the events.
+/// Its only fault is `TooManyPieces`. The plan is held beside the events: 24 bytes for each frame, in a vector that may
+/// have room for twice as many.
 pub fn recut_uniform<A: Allocator + Copy, R: Read, W: Write>(
     alloc: A,
     input: &mut Input<R>,

@@ -1,10 +1,10 @@
 //! Tests of plans and recuts, and of the commands `plan` and `recut`. Nothing here is a library.
 //!
-//! Plans: `plan_text` is of their text, `plan_files` of files that are too long, `plans` of the plan of a stream's own
-//! frames. Recuts: `recuts` by plans that fit, `recut_faults` by plans that don't, `uniform_recuts` in frames of one
-//! size, and `long_plans` in a million. `plan_commands` is of both commands, and `size_commands` of `recut` in frames
-//! of one size. `peer` is of another implementation, the kit's `tungstenite`: what it reads of recuts and normal forms,
-//! and that what it writes is accepted.
+//! Plans: `plan_text` is of their text, `plan_files` of files, `plans` of the plan of a stream's own frames. Recuts:
+//! `recuts` by plans that fit, `recut_faults` by plans that don't, `uniform_recuts` in frames of one size, and
+//! `long_plans` in a million. `plan_commands` is of both commands, and `size_commands` of `recut` in frames of one
+//! size. `peer` is of another implementation, the kit's `tungstenite`: what it reads of recuts and normal forms, and
+//! that what it writes is accepted.
 //!
 //! Hostile use: `recut_stops` is of readers and writers that fail, `recut_memory` of memory that is refused.
 //!

@@ -63,9 +63,11 @@ fn expect_planned(
 fn plans_are_printed(rt: HostRuntime) {
     let alloc = rt.alloc();
     for row in PLANNED.iter() {
-        let over = (Chopped::new(row.bytes, 3), Narrow::wide(alloc));
         let wanted = (row.text.as_bytes(), told(row.line));
+        let over = (Chopped::new(row.bytes, 3), Narrow::wide(alloc));
         expect_planned(&rt, alloc, row, over, wanted);
+        let slow = (Chopped::new(row.bytes, 3), Narrow::byte_by_byte(alloc));
+        expect_planned(&rt, alloc, row, slow, wanted);
     }
 }
 
@@ -200,8 +202,11 @@ fn recuts_by_a_plan_are_written(rt: HostRuntime) {
 /// Fails unless the recuts of these rows are written, or what keeps them from it is told.
 fn expect_written(rt: &impl Abort, alloc: Global, cuts: &[Cut]) {
     for cut in cuts.iter() {
+        let wanted = (cut.out, told(cut.line));
         let over = (Chopped::new(cut.bytes, 3), Narrow::wide(alloc));
-        expect_recut(rt, alloc, cut, over, (cut.out, told(cut.line)));
+        expect_recut(rt, alloc, cut, over, wanted);
+        let slow = (Chopped::new(cut.bytes, 3), Narrow::byte_by_byte(alloc));
+        expect_recut(rt, alloc, cut, slow, wanted);
     }
 }
 

@@ -8,7 +8,7 @@ use crate::recuts::NINE_PLAN;
 use std::alloc::{Allocator, Global};
 use std::process::Abort;
 use wsn_doubles::heaps::heap_of;
-use wsn_doubles::writers::{Full, Narrow};
+use wsn_doubles::writers::{FULL, Full, Narrow};
 use wsn_plan::{LineWhy, Plan, PlanFault, Step, read_plan, write_plan};
 use wsn_scan::Stop;
 use wsn_wire::{Form, Output};
@@ -80,11 +80,15 @@ fn plans_are_read_and_written(rt: HostRuntime) {
     }
 }
 
-/// Fails unless this is written of the plan of a text.
+/// Fails unless this is written of the plan of a text, also to a writer of one byte a call.
 fn expect_rewritten(rt: &impl Abort, alloc: Global, text: &str, wanted: &str) {
     let plan = plan_read(rt, alloc, text.as_bytes());
     let written = plan_written(rt, alloc, &plan);
     expect_bytes_of(rt, written.as_slice(), wanted.as_bytes(), &text);
+    let mut slow = Narrow::byte_by_byte(alloc);
+    let answer = write_plan(&mut Output::new(&mut slow), &plan);
+    expect_of(rt, answer == Ok(()), &text);
+    expect_bytes_of(rt, slow.taken.as_slice(), wanted.as_bytes(), &text);
 }
 
 #[test]
@@ -138,7 +142,7 @@ fn a_failed_write_is_told(rt: HostRuntime) {
     let alloc = rt.alloc();
     let text = "piece 3 - two\ncontrol 00000001\nlast -\n";
     let plan = plan_read(&rt, alloc, text.as_bytes());
-    for full in [Full::Fails, Full::TakesNothing] {
+    for full in FULL {
         for room in 0..text.len() {
             expect_unwritten(&rt, alloc, &plan, full, &text.as_bytes()[..room]);
         }

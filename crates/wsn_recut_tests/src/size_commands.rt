@@ -58,8 +58,11 @@ fn expect_sized(
 fn recuts_by_size_are_written(rt: HostRuntime) {
     let alloc = rt.alloc();
     for cut in CUTS.iter() {
+        let wanted = (cut.out, told(cut.line));
         let over = (Chopped::new(cut.bytes, 3), Narrow::wide(alloc));
-        expect_sized(&rt, alloc, cut, over, (cut.out, told(cut.line)));
+        expect_sized(&rt, alloc, cut, over, wanted);
+        let slow = (Chopped::new(cut.bytes, 3), Narrow::byte_by_byte(alloc));
+        expect_sized(&rt, alloc, cut, slow, wanted);
     }
 }
 

@@ -1,11 +1,12 @@
-//! What is expected of lines and bytes that a stream is read to, and of a command's run.
+//! What is expected of lines and bytes that a stream is read to, of a capture's lines, and of a command's run.
 ghost use Rattle.std.specs.Prelude.{◌≡◌, true};
 ghost use Rattle.wsn_job.specs.Jobs.{MayRun};
 
 use std::alloc::{Allocator, Global};
-use std::fmt::Debug;
+use std::fmt::{Debug, Display};
 use std::process::Abort;
 use wsn_canon::{Next, Source};
+use wsn_capture::{Capture, LineFault};
 use wsn_doubles::lines::{answer_line, line_of, stop_line, verdict_line};
 use wsn_doubles::outcomes::{Outcome, outcome_on};
 use wsn_doubles::readers::Chopped;
@@ -47,6 +48,27 @@ pub fn expect_bytes_of(rt: &impl Abort, bytes: &[u8], wanted: &[u8], of: &impl D
     assert_eq!(rt; bytes, wanted, "{of:?}");
 }
 
+/// Fails unless a value is as it is wanted of what is told.
+pub fn expect_equal_of<T: PartialEq + Debug>(
+    rt: &impl Abort,
+    found: &T,
+    wanted: &T,
+    of: &impl Debug,
+) {
+    assert_eq!(rt; found, wanted, "{of:?}");
+}
+
+/// What is printed of a value: of a stop, or of a fault.
+pub fn shown(rt: &impl Abort, alloc: Global, value: &impl Display) -> String {
+    format!(in alloc; "{value}").expect(rt, "memory")
+}
+
+/// Fails unless these words are printed of a value.
+pub fn expect_shown<T: Debug + Display>(rt: &impl Abort, alloc: Global, value: &T, words: &str) {
+    let printed = shown(rt, alloc, value);
+    expect_line_of(rt, printed.as_str(), words, value);
+}
+
 /// The first bytes, so many. Fails where there are fewer.
 pub fn front_of<'a>(rt: &impl Abort, bytes: &'a [u8], count: usize) -> &'a [u8] {
     bytes.get(..count).expect(rt, "as many bytes")
@@ -65,6 +87,16 @@ pub fn expect_outcome(rt: &impl Abort, done: &Outcome, status: u8, out: &[u8], l
     expect_bytes_of(rt, done.out.as_slice(), out, &line);
     expect_of(rt, told == Some(line.as_bytes()), &(line, &done.said));
     expect_of(rt, done.status == status, &(line, done.status));
+}
+
+/// Fails unless a capture answers this of a line.
+pub fn expect_line_answer(
+    rt: &impl Abort,
+    capture: &mut Capture,
+    line: &[u8],
+    wanted: Result<(), LineFault>,
+) {
+    expect_equal_of(rt, &capture.line(line), &wanted, &line);
 }
 
 /// Fails unless this is the line of the answer.
@@ -189,21 +221,22 @@ pub fn expect_failed_read<A: Allocator + Copy>(
     expect_outcome(rt, &done, 2, &[], "read failed");
 }
 
-/// Fails unless a command of these bytes tells in one line that its writer failed behind what is written out, in each
-/// way.
+/// Fails unless a command of these bytes tells in one line that its writer, which takes at most so many a call, failed
+/// behind what is written out, in each way.
 pub fn expect_failed_writes<A: Allocator + Copy>(
     rt: &impl Abort,
     heap: A,
     alloc: Global,
     job: &Job<A>,
     bytes: &[u8],
+    most: usize,
     out: &[u8],
 )
     requires { MayRun job.now }
 {
     for full in FULL {
         let reader = Chopped::new(bytes, usize::MAX);
-        let writer = Narrow::new(alloc, 1, out.len(), full);
+        let writer = Narrow::new(alloc, most, out.len(), full);
         let done = outcome_on(heap, alloc, job, reader, writer);
         expect_outcome(rt, &done, 2, out, "write failed");
     }

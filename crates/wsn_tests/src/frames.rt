@@ -51,7 +51,7 @@ fn a_failed_write_is_told_in_one_line(rt: HostRuntime) {
     let heap = heap_of(alloc, 0).expect(&rt, "memory");
     for stream in streams(alloc).expect(&rt, "every row").iter() {
         let job = Job::Frames(stream.role, stream.limits);
-        expect_failed_writes(&rt, &heap, alloc, &job, stream.bytes.as_slice(), &[]);
+        expect_failed_writes(&rt, &heap, alloc, &job, stream.bytes.as_slice(), 1, &[]);
     }
 }
 

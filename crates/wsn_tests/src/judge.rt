@@ -49,7 +49,7 @@ fn expect_failed<A: Allocator + Copy>(rt: &impl Abort, heap: A, alloc: Global, s
     if !stream.is_too_long() {
         let job = Job::Judge(stream.role, stream.limits);
         let front = &verdict[..1.min(verdict.len())];
-        expect_failed_writes(rt, heap, alloc, &job, stream.bytes.as_slice(), front);
+        expect_failed_writes(rt, heap, alloc, &job, stream.bytes.as_slice(), 1, front);
     }
 }
 

@@ -1,5 +1,5 @@
-//! Tests of streams: what the scanner, the source and the commands `judge`, `frames`, `normal` and `same` make of them.
-//! Nothing here is a library.
+//! Tests of streams and captures: what the scanner, the source and the commands `judge`, `frames`, `normal` and `same`
+//! make of streams, and `closing` of captures. Nothing here is a library.
 //!
 //! `every_way` reads each stream that is written out in `wsn_doubles`, in every way, and `vectors` names short ones of
 //! every rule. Each command has a file: `judge`, `frames`, `normal`, `same`. `scanner`, `source`, `events` and `limits`
@@ -12,12 +12,26 @@
 //! What a stream is read and written by: `heads`, `masking` and `reasons` of a frame's parts, `utf8` and `close_codes`
 //! of payloads, `inputs_and_outputs` and `tied` of readers and writers.
 //!
-//! `expecting` asserts what is wanted of a value, of a source's last answer and of how a stream is read, and that a
-//! command tells a failed read or write. The readers, writers and heaps are those of `wsn_doubles`.
+//! Captures: `captures` is of what is reported of one, `capture_lines` of its lines, `capture_endings` of where its
+//! reader or a report's writer fails, and `capture_answers` says how both are run. `closing` is of the command.
+//!
+//! `expecting` asserts what is wanted of a value and of what is printed, of a source's last answer, of how a stream is
+//! read and of what a capture answers of a line, and that a command tells a failed read or write. The readers, writers
+//! and heaps are those of `wsn_doubles`.
 #![tactic(auto)]
 
 #[cfg(test)]
+mod capture_answers;
+#[cfg(test)]
+mod capture_endings;
+#[cfg(test)]
+mod capture_lines;
+#[cfg(test)]
+mod captures;
+#[cfg(test)]
 mod close_codes;
+#[cfg(test)]
+mod closing;
 #[cfg(test)]
 mod command_stops;
 #[cfg(test)]

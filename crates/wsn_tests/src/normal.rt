@@ -45,7 +45,7 @@ fn a_failed_write_is_told_in_one_line(rt: HostRuntime) {
     for stream in streams(alloc).expect(&rt, "every row").iter() {
         if let Some(front) = stream.normal.get(..1) {
             let job = Job::Normal(stream.role, stream.limits);
-            expect_failed_writes(&rt, alloc, alloc, &job, stream.bytes.as_slice(), front);
+            expect_failed_writes(&rt, alloc, alloc, &job, stream.bytes.as_slice(), 1, front);
         }
     }
 }

@@ -1,7 +1,7 @@
 //! The texts of help, of at most 80 columns.
 
 /// What `--version` prints behind the program's name: the version, and what it was proved with.
-pub const VERSION: &str = "0.1.0\nproved with rattle-kit-13b logic dac8208d650f15bf";
+pub const VERSION: &str = "0.1.0\nproved with rattle-kit-13f logic dac8208d650f15bf";
 
 pub const PROGRAM: &str = "\
 Read what one endpoint of a WebSocket connection sent (RFC 6455)";

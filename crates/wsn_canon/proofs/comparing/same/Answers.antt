@@ -1,4 +1,5 @@
-use Rattle.std.proofs.Common.{◌≡◌, ◌+◌, ◌<◌, [], Err, refl, ◌∙◌, arith, rules}
+use Rattle.std.proofs.Common.{◌≡◌, ◌+◌, ◌<◌, [], Err, refl, ◌∙◌, arith, rules, ap}
+use Rattle.std.proofs.lemmas.Result.{err_from_is_err_and}
 use Rattle.wsn_canon.proofs.ComparedSources.{begins, gives_next, stops}
 use Rattle.wsn_canon.proofs.ComparedRounds.{IsDifferenceSoFar, few_rounds, pending, on_alike, on_unlike}
 use Rattle.wsn_canon.proofs.Comparisons.{compares, first_stops, second_stops}
@@ -20,7 +21,8 @@ loop-others-init g c = record {
 
 pub returns-in_err-next-clause-compared : goal.returns-in_err-next-clause-compared
 returns-in_err-next-clause-compared g c =
-    let is : c.from_residual.result ≡ Err c.in_err-next.field-0.0 = search rules in
+    let out = err_from_is_err_and c.from_residual.result c.from_residual.ensures.1 in
+    let is : c.from_residual.result ≡ Err c.in_err-next.field-0.0 = out.1 ∙ ap Err out.2 in
     let at = c.loop-others.invariant in
     let next = c.next.ensures.next c.args.role c.args.limits at.came at.given in
     let stopped = stops c.args.role c.args.limits c.args.first.now c.loop-others.first c.next.new.input c.loop-others.events c.next.new.self at.came at.given c.next.result
@@ -30,7 +32,8 @@ returns-in_err-next-clause-compared g c =
 
 pub returns-in_err-next-2-clause-compared : goal.returns-in_err-next-2-clause-compared
 returns-in_err-next-2-clause-compared g c =
-    let is : c.from_residual-in_err-next-2.result ≡ Err c.in_err-next-2.field-0.0 = search rules in
+    let out = err_from_is_err_and c.from_residual-in_err-next-2.result c.from_residual-in_err-next-2.ensures.1 in
+    let is : c.from_residual-in_err-next-2.result ≡ Err c.in_err-next-2.field-0.0 = out.1 ∙ ap Err out.2 in
     let at = c.loop-others.invariant in
     let next = c.next.ensures.next c.args.role c.args.limits at.came at.given in
     let one = gives_next c.args.role c.args.limits c.args.first.now c.loop-others.first c.next.new.input c.loop-others.events c.next.new.self at.came at.given c.next.result

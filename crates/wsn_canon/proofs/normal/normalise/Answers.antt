@@ -1,4 +1,5 @@
-use Rattle.std.proofs.Common.{◌≡◌, Ok, Err, refl, rules}
+use Rattle.std.proofs.Common.{◌≡◌, Ok, Err, refl, rules, ap, ◌∙◌}
+use Rattle.std.proofs.lemmas.Result.{err_from_is_err_and}
 use Rattle.wsn_scan.specs.declared.stop.Stop.TheVariants as stop
 use Rattle.wsn_canon.proofs.Normalising.{begins, is_done, is_stopped, is_lawful_event, goes_on, write_failed}
 use Rattle.wsn_canon.proofs.WholeNormalForms.{whole_normal_form}
@@ -10,7 +11,8 @@ loop-source-init g c = begins c.args.role c.args.limits c.args.input.now c.args.
 pub returns-in_err-event : goal.returns-in_err-event
 returns-in_err-event g c =
     let written = c.loop-source.invariant in
-    let is : c.from_residual.result ≡ Err c.in_err-event.field-0.0 = search rules in
+    let out = err_from_is_err_and c.from_residual.result c.from_residual.ensures.1 in
+    let is : c.from_residual.result ≡ Err c.in_err-event.field-0.0 = out.1 ∙ ap Err out.2 in
     let stops = is_stopped c.args.role c.args.limits c.args.input.now c.args.output.now c.loop-source.input c.next.new.input c.loop-source.output c.loop-source.source c.next.new.self written
     c.in_err-event.field-0.0 (c.in_err-event.ensures.next c.args.role c.args.limits written.came written.given written.has) in
     rw is (record {
@@ -28,7 +30,8 @@ pub returns-in_err-put_event-in-Event : goal.returns-in_err-put_event-in-Event
 returns-in_err-put_event-in-Event g c =
     let written = c.loop-source.invariant in
     let failed = c.in_err-put_event-in-Event.ensures in
-    let reported : c.from_residual-in_err-put_event-in-Event.result ≡ Err c.in_err-put_event-in-Event.field-0.0 = search rules in
+    let out = err_from_is_err_and c.from_residual-in_err-put_event-in-Event.result c.from_residual-in_err-put_event-in-Event.ensures.1 in
+    let reported : c.from_residual-in_err-put_event-in-Event.result ≡ Err c.in_err-put_event-in-Event.field-0.0 = out.1 ∙ ap Err out.2 in
     let is : c.from_residual-in_err-put_event-in-Event.result ≡ Err stop.Write = rw reported (rw failed.0 refl) in
     let fails = write_failed c.args.role c.args.limits c.args.input.now c.args.output.now c.loop-source.input c.next.new.input c.loop-source.output c.loop-source.source c.next.new.self written
     c.in_ok-event.field-0 c.in-Event.event c.in-Event.is (c.in_ok-event.ensures.next c.args.role c.args.limits written.came written.given written.has)

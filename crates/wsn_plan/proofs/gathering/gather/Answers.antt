@@ -1,4 +1,5 @@
-use Rattle.std.proofs.Common.{◌≡◌, ◌∷◌, ◌++◌, [], Err, refl, rules}
+use Rattle.std.proofs.Common.{◌≡◌, ◌∷◌, ◌++◌, [], Err, refl, rules, ap, ◌∙◌}
+use Rattle.std.proofs.lemmas.Result.{err_from_is_err_and}
 use Rattle.wsn_scan.specs.declared.stop.Stop.TheVariants as stop
 use Rattle.wsn_plan.proofs.GatheredEvents.{begins, is_done, is_stopped, goes_on, no_memory}
 use Rattle.wsn_plan.proofs.gathering.gather.Goals as goal
@@ -10,7 +11,8 @@ loop-events-init g c =
 pub returns-in_err-event : goal.returns-in_err-event
 returns-in_err-event g c =
     let gathered = c.loop-events.invariant in
-    let is : c.from_residual.result ≡ Err c.in_err-event.field-0.0 = search rules in
+    let out = err_from_is_err_and c.from_residual.result c.from_residual.ensures.1 in
+    let is : c.from_residual.result ≡ Err c.in_err-event.field-0.0 = out.1 ∙ ap Err out.2 in
     rw is (is_stopped c.args.role c.args.limits c.args.input.now c.loop-events.input c.next.new.input c.loop-events.source c.next.new.self c.loop-events.events.items gathered
     c.in_err-event.field-0.0 (c.in_err-event.ensures.next c.args.role c.args.limits gathered.came _ gathered.has))
 

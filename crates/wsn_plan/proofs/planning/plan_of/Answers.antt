@@ -1,4 +1,5 @@
-use Rattle.std.proofs.Common.{◌≡◌, Ok, Err, rules}
+use Rattle.std.proofs.Common.{◌≡◌, Ok, Err, rules, ap, ◌∙◌}
+use Rattle.std.proofs.lemmas.Result.{err_from_is_err_and}
 use Rattle.wsn_scan.specs.declared.stop.Stop.TheVariants as stop
 use Rattle.wsn_plan.proofs.PlannedFrames.{begins, head, payload, has_begun, goes_on, no_memory, is_done, is_stopped, whole_plan}
 use Rattle.wsn_plan.proofs.planning.plan_of.Goals as goal
@@ -9,14 +10,16 @@ loop-plan-init g c = rw c.new-plan.ensures (begins c.args.role c.args.limits c.a
 pub returns-in_err-head-clause-planned : goal.returns-in_err-head-clause-planned
 returns-in_err-head-clause-planned g c =
     let planned = c.loop-plan.invariant in
-    let is : c.from_residual.result ≡ Err c.in_err-head.field-0.0 = search rules in
+    let out = err_from_is_err_and c.from_residual.result c.from_residual.ensures.1 in
+    let is : c.from_residual.result ≡ Err c.in_err-head.field-0.0 = out.1 ∙ ap Err out.2 in
     rw is (is_stopped c.args.role c.args.limits c.args.input.now c.loop-plan.input c.next.new.input c.loop-plan.reader c.next.new.self c.loop-plan.plan c.loop-plan.begun planned
     c.in_err-head.field-0.0 (c.in_err-head.ensures.next c.args.role c.args.limits planned.came planned.done planned.at planned.told))
 
 pub returns-in_err-head-clause-whole : goal.returns-in_err-head-clause-whole
 returns-in_err-head-clause-whole g c =
     let planned = c.loop-plan.invariant in
-    let is : c.from_residual.result ≡ Err c.in_err-head.field-0.0 = search rules in
+    let out = err_from_is_err_and c.from_residual.result c.from_residual.ensures.1 in
+    let is : c.from_residual.result ≡ Err c.in_err-head.field-0.0 = out.1 ∙ ap Err out.2 in
     rw is (λ all known. whole_plan {A = g.row.A.Denot} c.args.role c.args.limits c.args.input.now c.next.new.input (Err c.in_err-head.field-0.0) all
     (is_stopped c.args.role c.args.limits c.args.input.now c.loop-plan.input c.next.new.input c.loop-plan.reader c.next.new.self c.loop-plan.plan c.loop-plan.begun planned
     c.in_err-head.field-0.0 (c.in_err-head.ensures.next c.args.role c.args.limits planned.came planned.done planned.at planned.told)) known)
@@ -50,7 +53,8 @@ loop-plan-preserved g c =
 pub returns-in_err-push-in-FrameEnd-clause-planned : goal.returns-in_err-push-in-FrameEnd-clause-planned
 returns-in_err-push-in-FrameEnd-clause-planned g c =
     let planned = c.loop-plan.invariant in
-    let is : c.from_residual-in_err-push-in-FrameEnd.result ≡ Err stop.Memory = search rules in
+    let out = err_from_is_err_and c.from_residual-in_err-push-in-FrameEnd.result c.from_residual-in_err-push-in-FrameEnd.ensures.1 in
+    let is : c.from_residual-in_err-push-in-FrameEnd.result ≡ Err stop.Memory = out.1 ∙ ap Err (out.2 ∙ c.in_err-push-in-FrameEnd.ensures.refused.0) in
     rw is (no_memory c.args.role c.args.limits c.args.input.now c.loop-plan.input c.next.new.input c.loop-plan.reader c.next.new.self c.loop-plan.plan c.loop-plan.begun planned
     c.in_ok-head.field-0 c.in-FrameEnd.event c.in-FrameEnd.is (c.in_ok-head.ensures.next c.args.role c.args.limits planned.came planned.done planned.at planned.told))
 

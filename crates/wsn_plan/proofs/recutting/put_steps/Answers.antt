@@ -1,4 +1,5 @@
-use Rattle.std.proofs.Common.{◌≡◌, List, subst, None, Err, map, drop, get_or, refl, arith, rules}
+use Rattle.std.proofs.Common.{◌≡◌, List, subst, None, Err, map, drop, get_or, refl, arith, rules, ap, ◌∙◌}
+use Rattle.std.proofs.lemmas.Result.{err_from_is_err_and}
 use Rattle.std.proofs.KnownBytes.{Appends-nil}
 use Rattle.wsn_wire.specs.declared.spelling.Form.TheVariants.{Shortest}
 use Rattle.wsn_rules.specs.declared.step.Step.TheVariants.{Piece}
@@ -39,7 +40,8 @@ put_step-requires-clause-lawful g c = rw c.loop-step.invariant.same (c.requires.
 
 pub returns-in_err-put_step : goal.returns-in_err-put_step
 returns-in_err-put_step g c =
-    let is : c.from_residual.result ≡ Err c.in_err-put_step.field-0.0 = search rules in
+    let out = err_from_is_err_and c.from_residual.result c.from_residual.ensures.1 in
+    let is : c.from_residual.result ≡ Err c.in_err-put_step.field-0.0 = out.1 ∙ ap Err out.2 in
     let partly = subst (λ (es : List MeantEvent). IsPartlyWritten c.loop-step.output c.put_step.new.output (frame_bytes (frame_here c.loop-step.walk (drop c.loop-step.walk.event es) (get_or c.args.steps.now c.loop-step.step-index (Piece 0 None Shortest))))) c.loop-step.invariant.same c.in_err-put_step.ensures.put.1 in
     rw is (c.in_err-put_step.ensures.put.0, partly_on (map meant c.args.events.now) c.args.steps.now c.loop-step.step-index c.loop-step.walk c.loop-step.invariant.way (Piece 0 None Shortest) c.loop-step-test.true c.args.output.now c.loop-step.output c.put_step.new.output c.loop-step.invariant.written partly)
 

@@ -1,4 +1,5 @@
-use Rattle.std.proofs.Common.{◌≡◌, Err, List, map, subst, rules}
+use Rattle.std.proofs.Common.{◌≡◌, Err, List, map, subst, ap, ◌∙◌}
+use Rattle.std.proofs.lemmas.Result.{err_from_is_err_and}
 use Rattle.wsn_rules.specs.declared.step.Step.{Step}
 use Rattle.wsn_canon.specs.declared.event.Event.{Event}
 use Rattle.wsn_canon.specs.EventsMeant.{meant}
@@ -8,7 +9,8 @@ use Rattle.wsn_plan.proofs.recutting.recut.Goals as goal
 
 pub returns-in_err-verdict-clause-whole : goal.returns-in_err-verdict-clause-whole
 returns-in_err-verdict-clause-whole g c =
-    let is : c.from_residual.result ≡ Err c.in_err-verdict.field-0.0 = search rules in
+    let out = err_from_is_err_and c.from_residual.result c.from_residual.ensures.1 in
+    let is : c.from_residual.result ≡ Err c.in_err-verdict.field-0.0 = out.1 ∙ ap Err out.2 in
     rw is (λ all known. whole_recut c.args.role c.args.limits (λ _. c.args.plan.now) c.args.input.now c.gather.new.input c.args.output.now c.args.output.now (Err c.in_err-verdict.field-0.0) all
     (stopped_before c.args.role c.args.limits (λ _. c.args.plan.now) c.args.input.now c.gather.new.input c.args.output.now c.in_err-verdict.field-0.0 c.in_err-verdict.ensures) known)
 

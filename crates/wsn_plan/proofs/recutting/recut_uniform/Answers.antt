@@ -1,4 +1,5 @@
-use Rattle.std.proofs.Common.{◌≡◌, ◌<◌, Result, Err, List, length, ap, map, ◌∙◌, subst, rules}
+use Rattle.std.proofs.Common.{◌≡◌, ◌<◌, Result, Err, List, length, ap, map, ◌∙◌, subst}
+use Rattle.std.proofs.lemmas.Result.{err_from_is_err_and}
 use Rattle.wsn_rules.specs.declared.step.Step.{Step}
 use Rattle.wsn_rules.proofs.PlanTheory.UniformFaults.{uniform_fault}
 use Rattle.wsn_scan.specs.declared.stop.Stop.{Stop}
@@ -12,7 +13,8 @@ use Rattle.wsn_plan.proofs.recutting.recut_uniform.Goals as goal
 
 pub returns-in_err-verdict-clause-whole : goal.returns-in_err-verdict-clause-whole
 returns-in_err-verdict-clause-whole g c =
-    let is : c.from_residual.result ≡ Err c.in_err-verdict.field-0.0 = search rules in
+    let out = err_from_is_err_and c.from_residual.result c.from_residual.ensures.1 in
+    let is : c.from_residual.result ≡ Err c.in_err-verdict.field-0.0 = out.1 ∙ ap Err out.2 in
     rw is (λ all known. whole_recut c.args.role c.args.limits (uniform_plan c.args.size c.args.weave c.args.key) c.args.input.now c.gather.new.input c.args.output.now c.args.output.now (Err c.in_err-verdict.field-0.0) all
     (stopped_before c.args.role c.args.limits (uniform_plan c.args.size c.args.weave c.args.key) c.args.input.now c.gather.new.input c.args.output.now c.in_err-verdict.field-0.0 c.in_err-verdict.ensures) known)
 
@@ -30,7 +32,8 @@ cut_again-requires-clause-lawful g c = rw c.deref_mut.ensures.value (are_lawful 
 
 pub returns-in_err-plan-clause-recut : goal.returns-in_err-plan-clause-recut
 returns-in_err-plan-clause-recut g c =
-    let is : c.from_residual-in_err-plan.result ≡ Err c.in_err-plan.field-0.0 = search rules in
+    let out = err_from_is_err_and c.from_residual-in_err-plan.result c.from_residual-in_err-plan.ensures.1 in
+    let is : c.from_residual-in_err-plan.result ≡ Err c.in_err-plan.field-0.0 = out.1 ∙ ap Err out.2 in
     let some : 0 < length c.in_ok-verdict.field-0.events.items = subst (λ (es : List (Event _)). 0 < length es) c.deref.ensures.value c.in_err-plan.ensures.stop.1 in
     rw (is, c.in_err-plan.ensures.stop.0) (no_memory c.args.role c.args.limits (uniform_plan c.args.size c.args.weave c.args.key) c.args.input.now c.gather.new.input c.args.output.now c.in_ok-verdict.field-0 c.in_ok-verdict.ensures c.in-Accepted.field-0 c.in-Accepted.is some)
 

@@ -1,4 +1,5 @@
-use Rattle.std.proofs.Common.{◌≡◌, Err, length, take, arith, length-take-le, rules}
+use Rattle.std.proofs.Common.{◌≡◌, Err, length, take, arith, length-take-le, rules, ap, ◌∙◌}
+use Rattle.std.proofs.lemmas.Result.{err_from_is_err_and}
 use Rattle.std.proofs.lemmas.Grind.{common_steps}
 use Rattle.wsn_plan_text.specs.declared.plan_fault.PlanFault.TheVariants.{Memory}
 use Rattle.wsn_plan_text.specs.declared.plan_files.PlanFileFault.TheVariants.{Faulty}
@@ -7,7 +8,8 @@ use Rattle.wsn_plan_text.proofs.plan_files.read_text.Goals as goal
 
 pub returns-in_err-extend_from_slice-clause-fault : goal.returns-in_err-extend_from_slice-clause-fault
 returns-in_err-extend_from_slice-clause-fault g c =
-    let is : c.from_residual.result ≡ Err (Faulty Memory) = search rules in
+    let out = err_from_is_err_and c.from_residual.result c.from_residual.ensures.1 in
+    let is : c.from_residual.result ≡ Err (Faulty Memory) = out.1 ∙ ap Err out.2 in
     let size : length (take c.min-wanted.result c.loop-piece.piece) ≡ c.min-wanted.result =
     length-take-le c.min-wanted.result c.loop-piece.piece (omega arith) in
     rw is (no_memory c.args.file.now c.loop-piece.file c.read.new.self c.loop-piece.text.items c.read.new.into

@@ -1,12 +1,14 @@
 -- A body goes on with its reason, or with its code.
-use Rattle.std.proofs.Common.{◌≡◌, Err, rules, arith}
+use Rattle.std.proofs.lemmas.Result.{err_from_is_err_and}
+use Rattle.std.proofs.Common.{◌≡◌, Err, rules, arith, ap, ◌∙◌}
 use Rattle.std.proofs.lemmas.Grind.{common_steps}
 use Rattle.wsn_frame.proofs.PayloadRows.{reason_checked, reason_refused, half_code_goes_on, empty_goes_on}
 use Rattle.wsn_frame.proofs.payload_check.CloseBody.feed.Goals as goal
 
 pub returns-in_err-reason-in-Code-clause-checked : goal.returns-in_err-reason-in-Code-clause-checked
 returns-in_err-reason-in-Code-clause-checked c =
-    let is : c.from_residual.result ≡ Err c.in_err-reason-in-Code.field-0.0 = search rules in
+    let out = err_from_is_err_and c.from_residual.result c.from_residual.ensures.1 in
+    let is : c.from_residual.result ≡ Err c.in_err-reason-in-Code.field-0.0 = out.1 ∙ ap Err out.2 in
     rw is (rw c.in-Code.is (reason_refused c.in-Code.reason c.in_err-reason-in-Code.field-0.0 c.in-Code.code c.args.piece.now c.args.last c.in_err-reason-in-Code.ensures.taken))
 
 pub returns-in_ok-reason-in-Code-clause-checked : goal.returns-in_ok-reason-in-Code-clause-checked

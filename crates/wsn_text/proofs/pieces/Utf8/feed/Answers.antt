@@ -1,4 +1,5 @@
-use Rattle.std.proofs.Common.{◌≡◌, Err, length, rules, arith}
+use Rattle.std.proofs.Common.{◌≡◌, Err, length, rules, arith, ap, ◌∙◌}
+use Rattle.std.proofs.lemmas.Result.{err_from_is_err_and}
 use Rattle.std.specs.Result.{MatchResult}
 use Rattle.wsn_text.specs.Piece.{Validates, Breaks}
 use Rattle.wsn_text.proofs.Taking.{Shifted, answers_behind, answers_before, taken_of, ok_of, first_bad_of, after_bad_of}
@@ -8,7 +9,8 @@ use Rattle.wsn_text.proofs.pieces.Utf8.feed.Goals as goal
 -- the character that was begun breaks
 broken : (c : goal.After-from_residual) → MatchResult c.from_residual.result (λ _. Validates c.args.self.now c.take_each.new.self c.args.piece.now) (Breaks c.args.self.now c.take_each.new.self c.args.piece.now)
 broken c =
-    let is : c.from_residual.result ≡ Err c.in_err-take_each.field-0.0 = search rules in
+    let out = err_from_is_err_and c.from_residual.result c.from_residual.ensures.1 in
+    let is : c.from_residual.result ≡ Err c.in_err-take_each.field-0.0 = out.1 ∙ ap Err out.2 in
     answers_before c.args.self.now c.take_each.new.self c.split_at.result.0.now c.split_at.result.1.now c.args.piece.now c.from_residual.result c.in_err-take_each.field-0.0 c.split_at.ensures.by_index.0 is c.in_err-take_each.ensures.steps
 
 pub returns-in_err-take_each-clause-taken : goal.returns-in_err-take_each-clause-taken

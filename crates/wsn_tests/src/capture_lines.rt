@@ -1,0 +1,229 @@
+//! The lines of a capture: which aren't taken, which of their faults is told, and the greatest that are.
+
+use crate::capture_answers::{
+    expect_judged, expect_judged_by, handed, judged_text, limits_of, put,
+};
+use crate::expecting::{
+    expect, expect_equal_of, expect_line_answer, expect_line_of, expect_of, expect_shown,
+};
+use std::alloc::Global;
+use std::process::Abort;
+use wsn_capture::{Capture, LineFault, Side};
+use wsn_doubles::readers::{Chopped, Endless, READS};
+use wsn_doubles::rows::{filled, greatest};
+
+/// A text, what is printed of it, and the fault of its first line that isn't taken.
+static FAULTY: [(&str, &str, LineFault); 25] = [
+    ("C 8", "line 1: bad-hex", LineFault::BadHex),
+    ("C ", "line 1: bad-hex", LineFault::BadHex),
+    ("S \n", "line 1: bad-hex", LineFault::BadHex),
+    ("S \r\n", "line 1: bad-hex", LineFault::BadHex),
+    ("C 8g", "line 1: bad-hex", LineFault::BadHex),
+    ("C g8", "line 1: bad-hex", LineFault::BadHex),
+    ("C 881", "line 1: bad-hex", LineFault::BadHex),
+    ("C  81", "line 1: bad-hex", LineFault::BadHex),
+    ("C 81 ", "line 1: bad-hex", LineFault::BadHex),
+    ("C 81\r\r\n", "line 1: bad-hex", LineFault::BadHex),
+    ("C 81\rC 81", "line 1: bad-hex", LineFault::BadHex),
+    ("C /0:0@0G0`0g0", "line 1: bad-hex", LineFault::BadHex),
+    ("X", "line 1: bad-form", LineFault::BadForm),
+    ("C", "line 1: bad-form", LineFault::BadForm),
+    ("S\n", "line 1: bad-form", LineFault::BadForm),
+    ("C. ", "line 1: bad-form", LineFault::BadForm),
+    ("S.S.", "line 1: bad-form", LineFault::BadForm),
+    (" C.", "line 1: bad-form", LineFault::BadForm),
+    ("c 81", "line 1: bad-form", LineFault::BadForm),
+    ("C81", "line 1: bad-form", LineFault::BadForm),
+    ("\rC.", "line 1: bad-form", LineFault::BadForm),
+    ("\r\r\n", "line 1: bad-form", LineFault::BadForm),
+    ("C.\nC 81", "line 2: after-end", LineFault::AfterEnd),
+    ("C.\n#\nC.\n", "line 3: after-end", LineFault::AfterEnd),
+    ("C.\nC zz", "line 2: bad-hex", LineFault::BadHex),
+];
+
+/// All of these. Tests ask for them here, since each function that names the table itself takes longer to prove.
+pub fn faulty() -> &'static [(&'static str, &'static str, LineFault)] {
+    FAULTY.as_slice()
+}
+
+#[test]
+fn faulty_lines_are_told_by_reads_of_every_size(rt: HostRuntime) {
+    let alloc = rt.alloc();
+    for (text, words, fault) in faulty() {
+        let bytes = text.as_bytes();
+        expect_judged_by(&rt, alloc, READS.as_slice(), bytes, words, text);
+        expect_fault(&rt, text, *fault);
+    }
+}
+
+/// Fails unless this is the first fault of lines that are handed one by one.
+fn expect_fault(rt: &impl Abort, text: &str, wanted: LineFault) {
+    let (_capture, fault) = handed(text, greatest());
+    expect_equal_of(rt, &fault, &Some(wanted), &text);
+}
+
+/// A line past the input limit is told as one, unless its side has ended.
+#[test]
+fn lines_past_the_limit(rt: HostRuntime) {
+    let alloc = rt.alloc();
+    for (text, words) in [
+        ("S 8100", "line 1: input-limit"),
+        ("C 81\nS 81\nS 00\n", "line 3: input-limit"),
+        ("S.\nS 8100", "line 2: after-end"),
+    ] {
+        let reader = Chopped::new(text.as_bytes(), usize::MAX);
+        expect_judged(&rt, alloc, reader, limits_of(&rt, 1), words, &text);
+    }
+}
+
+#[test]
+fn words_of_a_fault(rt: HostRuntime) {
+    for (fault, word) in [
+        (LineFault::TooManyLines, "too-many-lines"),
+        (LineFault::TooLong, "too-long"),
+        (LineFault::BadForm, "bad-form"),
+        (LineFault::BadHex, "bad-hex"),
+        (LineFault::AfterEnd, "after-end"),
+        (LineFault::InputLimit, "input-limit"),
+    ] {
+        expect_shown(&rt, rt.alloc(), &fault, word);
+    }
+}
+
+/// An LF that is handed with a line is a byte of it.
+#[test]
+fn an_lf_in_a_line_is_a_byte_like_any_other(rt: HostRuntime) {
+    let mut capture = Capture::new(greatest());
+    expect_line_answer(&rt, &mut capture, b"C.\n", Err(LineFault::BadForm));
+    expect_line_answer(&rt, &mut capture, b"\n", Err(LineFault::BadForm));
+    expect_line_answer(&rt, &mut capture, b"C 81\n", Err(LineFault::BadHex));
+    expect_line_answer(&rt, &mut capture, b"C 81\n00", Err(LineFault::BadHex));
+    expect_line_answer(&rt, &mut capture, b"# a\nb", Ok(()));
+    expect_line_answer(&rt, &mut capture, b"\r", Ok(()));
+    expect(&rt, capture.report().client == Side::Running);
+}
+
+/// The report where neither side sent anything.
+const OPEN: &str = "client running\nserver running\nfirst -\necho -\n\
+    client-sees -\nserver-sees -\noutcome open\n";
+
+/// The report where the server's first byte is refused.
+const REFUSED: &str = "client running\nserver refused 0 nothing-to-continue 1002\nfirst -\necho -\n\
+    client-sees 1006\nserver-sees -\noutcome failed\n";
+
+/// A line's first bytes, another byte and how often it stands behind them, and what is told, whatever the line's end.
+static LONGEST: [(&str, u8, usize, &str); 5] = [
+    ("#", b'#', 8_193, OPEN),
+    ("S ", b'0', 8_192, REFUSED),
+    ("#", b'#', 8_194, "line 1: too-long"),
+    ("S ", b'0', 8_193, "line 1: too-long"),
+    ("S ", b'0', 8_194, "line 1: too-long"),
+];
+
+/// The same of lines with an end of their own, which stands last.
+static ENDED: [(&str, u8, usize, &str, &str); 4] = [
+    ("#", b'#', 8_193, "line 1: too-long", "\r\r\n"),
+    ("#\n#", b'#', 8_194, "line 2: too-long", "\n"),
+    ("", b'x', 8_195, "line 1: too-long", "\n"),
+    ("", b'x', 8_194, "line 1: bad-form", "\n"),
+];
+
+/// How long lines are read: by at most so many bytes a call.
+const LONG_READS: [usize; 5] = [1, 4_095, 4_096, 8_195, usize::MAX];
+
+/// Fails unless a text is told so, read by each size: its first bytes, another so many times, and its end.
+fn expect_long(
+    rt: &impl Abort,
+    alloc: Global,
+    first: &str,
+    byte: u8,
+    count: usize,
+    end: &str,
+    wanted: &str,
+) {
+    let mut text = filled(alloc, first.as_bytes(), byte, count).expect(rt, "memory");
+    put(rt, &mut text, end.as_bytes());
+    let of = (first, count, end);
+    expect_judged_by(
+        rt,
+        alloc,
+        LONG_READS.as_slice(),
+        text.as_slice(),
+        wanted,
+        &of,
+    );
+}
+
+/// A comment, and digits, of the greatest length and of a byte more.
+#[test]
+fn the_longest_lines(rt: HostRuntime) {
+    let alloc = rt.alloc();
+    for (first, byte, count, wanted) in LONGEST.iter() {
+        for end in ["", "\n", "\r", "\r\n"] {
+            expect_long(&rt, alloc, first, *byte, *count, end, wanted);
+        }
+    }
+}
+
+/// A CR inside a line is counted, and each line by itself. A line that is too long has no other fault.
+#[test]
+fn long_lines_with_ends_of_their_own(rt: HostRuntime) {
+    let alloc = rt.alloc();
+    for (first, byte, count, wanted, end) in ENDED.iter() {
+        expect_long(&rt, alloc, first, *byte, *count, end, wanted);
+    }
+}
+
+/// A million lines are taken, and whatever the next one is, it is one too many.
+#[test]
+fn the_most_lines(rt: HostRuntime) {
+    let alloc = rt.alloc();
+    let mut text = filled(alloc, b"", b'\n', 1_000_000).expect(&rt, "memory");
+    for (more, most, wanted) in [
+        ("", usize::MAX, OPEN),
+        ("X", usize::MAX, "line 1000001: too-many-lines"),
+        ("\n\n", 4_095, "line 1000001: too-many-lines"),
+    ] {
+        put(&rt, &mut text, more.as_bytes());
+        let reader = Chopped::new(text.as_slice(), most);
+        expect_judged(&rt, alloc, reader, greatest(), wanted, &more);
+    }
+}
+
+/// Lines that aren't taken aren't counted.
+#[test]
+fn faulty_lines_are_no_lines(rt: HostRuntime) {
+    let mut capture = Capture::new(greatest());
+    for _ in 0..1_000_000 {
+        expect_line_answer(&rt, &mut capture, b"X", Err(LineFault::BadForm));
+    }
+    for _ in 0..1_000_000 {
+        expect_line_answer(&rt, &mut capture, b"", Ok(()));
+    }
+    expect_line_answer(&rt, &mut capture, b"", Err(LineFault::TooManyLines));
+    expect_line_answer(&rt, &mut capture, b"X", Err(LineFault::TooManyLines));
+}
+
+/// The fault of a line without an end is told once enough of it came.
+#[test]
+fn endless_lines(rt: HostRuntime) {
+    for (first, again, wanted, most) in [
+        (b"".as_slice(), b"#", "line 1: too-long", 8_196 + 4_095),
+        (b"C ", b"0", "line 1: too-long", 8_196 + 4_095),
+        (
+            b"",
+            b"\n",
+            "line 1000001: too-many-lines",
+            1_000_001 + 4_095,
+        ),
+    ] {
+        expect_endless(&rt, rt.alloc(), Endless::new(first, again), wanted, most);
+    }
+}
+
+/// Fails unless this is told of what a reader without an end gives, once it gave so many bytes at most.
+fn expect_endless(rt: &impl Abort, alloc: Global, mut reader: Endless, wanted: &str, most: usize) {
+    let told = judged_text(rt, alloc, &mut reader, greatest());
+    expect_line_of(rt, told.as_str(), wanted, &most);
+    expect_of(rt, reader.given <= most, &reader.given);
+}
