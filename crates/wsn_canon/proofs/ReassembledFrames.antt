@@ -27,7 +27,7 @@ module _ {A : Type 0} (role : Role) (limits : Limits) (g : Reassembly A) (done :
     where
       by : (control : Bool) → is_control f.op ≡ control → is_control f.op ≡ false
       by false is = is
-      by true is = let final = (law.frame.control is).final in let both : true ≡ false = sym final ∙ more in absurd cc
+      by true is = let final = (law.frame.spelled.control is).final in let both : true ≡ false = sym final ∙ more in absurd cc
 
   -- a frame that begins a message has its kind
   first_kind : (op : Op) → f.op ≡ op → is_control f.op ≡ false → (f.op ≡ Continue → ⊥) → g.kind ≡ kind_at f.op
@@ -69,7 +69,7 @@ module _ {A : Type 0} (role : Role) (limits : Limits) (g : Reassembly A) (done :
 
   pub control_event : is_control f.op ≡ true → Control g.op g.body.items ≡ event_at done f
   control_event is =
-      let short = (law.frame.control is).short in
+      let short = (law.frame.spelled.control is).short in
       ap (λ (op : Op). Control op g.body.items) within.op ∙ ap (λ (bs : List ℕ). Control f.op bs) (within.body is short) ∙ sym (event_of_control done f is)
 
   pub message_event : is_control f.op ≡ false → Message g.kind g.message.items ≡ event_at done f
@@ -82,10 +82,10 @@ module _ {A : Type 0} (role : Role) (limits : Limits) (g : Reassembly A) (done :
   pub lawful_body : is_control g.op ≡ true → IsLawfulControl g.op g.body.items
   lawful_body is =
       let control = sym (ap is_control within.op) ∙ is in
-      let short = law.frame.control control in
+      let short = law.frame.spelled.control control in
       subst (λ (op : Op). IsLawfulControl op g.body.items) (sym within.op)
       (subst (λ (bs : List ℕ). IsLawfulControl f.op bs) (sym (within.body control short.short))
-      (record { control = control; in_bytes = law.frame.spellable.payload; size = short.short; close = law.frame.close }))
+      (record { control = control; in_bytes = law.frame.spelled.spellable.payload; size = short.short; close = law.frame.close }))
 
 -- a message that ended leaves nothing open
 pub message_ended : {A : Type 0} (g : Reassembly A) (done : List Frame) (f : Frame) → is_control f.op ≡ false → f.fin ≡ true → g.message.items ≡ [] → IsBetweenFrames g (done ++ f ∷ [])

@@ -47,7 +47,7 @@ group_has_bytes fs each = all_after_last (λ f. IsBytes f.payload) is_final (fil
 
 lawful_have_bytes : (role : Role) (limits : Limits) (before fs : List Frame) → AreLawfulBehind role limits before fs → HaveBytes fs
 lawful_have_bytes role limits before [] behind = tt
-lawful_have_bytes role limits before (f ∷ fs) behind = (behind.0.frame.spellable.payload, lawful_have_bytes role limits (before ++ f ∷ []) fs behind.2)
+lawful_have_bytes role limits before (f ∷ fs) behind = (behind.0.frame.spelled.spellable.payload, lawful_have_bytes role limits (before ++ f ∷ []) fs behind.2)
 
 text_in_bytes : (fs : List Frame) → HaveBytes fs → IsBytes (text_of fs)
 text_in_bytes [] each = tt
@@ -71,8 +71,8 @@ below_2^63 size most within range = omega arith
 lawful_control : (role : Role) (limits : Limits) (f : Frame) → FrameLaw role limits.lengths f → is_control f.op ≡ true → IsLawfulControl f.op f.payload
 lawful_control role limits f law control = record {
   control = control;
-  in_bytes = law.spellable.payload;
-  size = (law.control control).short;
+  in_bytes = law.spelled.spellable.payload;
+  size = (law.spelled.control control).short;
   close = law.close;
 }
 
@@ -100,7 +100,7 @@ lawful_event role limits before f range lawful final =
     elim (cases_Bool (is_control f.op)) [
       | inl control ↦ subst IsLawfulEvent (sym (event_of_control before f control)) (lawful_control role limits f law.frame control)
       | inr other ↦ subst IsLawfulEvent (sym (event_of_data before f other))
-          (lawful_message limits (unfinished before) f range (group_has_bytes before bytes) law.frame.spellable.payload final (law.group (ap not other)))
+          (lawful_message limits (unfinished before) f range (group_has_bytes before bytes) law.frame.spelled.spellable.payload final (law.group (ap not other)))
     ]
 
 -- ---- all of them

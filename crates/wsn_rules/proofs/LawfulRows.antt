@@ -1,5 +1,5 @@
 -- A frame that is lawful behind others shows no row of the table.
-use Rattle.std.proofs.Common.{◌≡◌, ℕ, suc, ◌+◌, ◌<◌, ◌≤◌, Bool, true, false, not, Option, Some, None, is_some, List, [], ◌∷◌, ◌++◌, ◌⊎◌, length, take, drop, refl, sym, ap, ◌∙◌, subst, inl, inr, arith, true≢false, if◌then◌else◌}
+use Rattle.std.proofs.Common.{◌≡◌, ℕ, ◌+◌, ◌<◌, ◌≤◌, Bool, true, false, not, Option, Some, None, is_some, List, [], ◌∷◌, ◌++◌, ◌⊎◌, length, take, drop, refl, sym, ap, ◌∙◌, subst, inl, inr, arith, true≢false, if◌then◌else◌}
 use Rattle.std.proofs.lemmas.List.{length-append, length-take-le, take_all}
 use Rattle.wsn_wire.specs.declared.endpoint.Role.{Role}
 use Rattle.wsn_wire.specs.declared.spelling.Lengths.{Lengths}
@@ -16,27 +16,11 @@ use Rattle.wsn_text.specs.Utf8.{IsText, BeginsText}
 use Rattle.wsn_text.specs.CloseBody.{IsCloseBody}
 use Rattle.wsn_rules.specs.Limits.{Limits}
 use Rattle.wsn_rules.specs.Group.{unfinished, text_of}
-use Rattle.wsn_rules.specs.FrameLaw.{FrameLaw}
 use Rattle.wsn_rules.specs.Lawful.{LawAt}
 use Rattle.wsn_rules.specs.Evidence.{EvidentByFirst, EvidentByLength, EvidentByPayload, IsOfText}
 use Rattle.wsn_rules.proofs.RowsOfLayout.{RowAt, payload_of, told_by, length-unmasked}
 use Rattle.wsn_rules.proofs.RowsOfLayout.RowAt.{FirstShows, SecondShows, LengthShows, PayloadShows}
 use Rattle.wsn_rules.proofs.MessageText.{continue_from_opcode, data_from_opcode, begins_from_opcode, text_of_push, group_from_of_text, begins_not_bad, code_is_accepted, reason_is_text, reason_not_bad}
-
--- ---- what the sender owes, of a lawful frame
-
-pub owed_by_law : (role : Role) (lengths : Lengths) (f : Frame) → FrameLaw role lengths f → IsSpelledFor role lengths f
-owed_by_law role lengths f law = record {
-  spellable = law.spellable;
-  masked = law.masked;
-  shortest = law.shortest;
-  control = λ control. ((law.control control).final, (law.control control).short, (law.control control).shortest);
-  close = λ close one. one_byte f.payload (law.close close) one;
-}
-  where
-    one_byte : (body : List ℕ) → IsCloseBody body → length body ≡ 1 → ⊥
-    one_byte body (inl none) one = let empty : length body ≡ 0 = ap (λ (bs : List ℕ). length bs) none in omega arith
-    one_byte body (inr p) one = let two : length body ≡ suc (suc (length p.1)) = ap (λ (bs : List ℕ). length bs) p.4 in omega arith
 
 -- the layout of a frame's bytes spells the frame
 pub spelled_by_itself : (role : Role) (lengths : Lengths) (f : Frame) (owed : IsSpelledFor role lengths f) → IsSpelledBy role lengths (layout_of_frame f owed.spellable) f
@@ -151,8 +135,8 @@ module _ (role : Role) (limits : Limits) (before : List Frame) (f : Frame) (law 
   no_row reason (PayloadShows n fits row) = no_payload reason n fits row
 
 -- the bytes of a frame that is lawful behind others show no row
-pub lawful_shows_no_row : (role : Role) (limits : Limits) (before : List Frame) (f : Frame) (law : LawAt role limits before f) (reason : Reason) → RowAt role limits (unfinished before) reason (layout_of_frame f law.frame.spellable) → ⊥
-unfolding layout_of_frame owed_by_law
+pub lawful_shows_no_row : (role : Role) (limits : Limits) (before : List Frame) (f : Frame) (law : LawAt role limits before f) (reason : Reason) → RowAt role limits (unfinished before) reason (layout_of_frame f law.frame.spelled.spellable) → ⊥
+unfolding layout_of_frame
 lawful_shows_no_row role limits before f law reason row =
-    let owed = owed_by_law role limits.lengths f law.frame in
-    no_row role limits before f law (layout_of_frame f law.frame.spellable) (spelled_by_itself role limits.lengths f owed) (frame_shows_nothing role limits.lengths f owed) reason row
+    let owed = law.frame.spelled in
+    no_row role limits before f law (layout_of_frame f law.frame.spelled.spellable) (spelled_by_itself role limits.lengths f owed) (frame_shows_nothing role limits.lengths f owed) reason row

@@ -16,6 +16,12 @@ use Rattle.wsn_text.proofs.Fronts.{begins-nil, begins_front, begins_take, bad_en
 use Rattle.wsn_rules.specs.Evidence.{IsDataOpcode, IsOfText, EndsBad, EndsInside}
 use Rattle.wsn_rules.specs.Group.{is_data, first_op, text_of}
 
+-- ---- a Close's body
+
+pub not_one_byte : (body : List ℕ) → IsCloseBody body → length body ≢ 1
+not_one_byte body (inl none) one = let empty : length body ≡ 0 = ap (λ (bs : List ℕ). length bs) none in omega arith
+not_one_byte body (inr p) one = let two : length body ≡ suc (suc (length p.1)) = ap (λ (bs : List ℕ). length bs) p.4 in omega arith
+
 -- ---- opcodes
 
 pub continue_from_opcode : (op : Op) → opcode op ≡ 0 → op ≡ Continue

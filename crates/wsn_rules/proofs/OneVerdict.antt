@@ -38,8 +38,8 @@ module _ (role : Role) (limits : Limits) where
   pub lawful_frame_shows_nothing : (fs : List Frame) (f : Frame) (gs : List Frame) → IsLawful role limits (fs ++ f ∷ gs) → (seen later behind : List ℕ) (reason : Reason) → seen ++ later ≡ frame_bytes f ++ behind → Evidence role limits (unfinished fs) reason seen → ⊥
   lawful_frame_shows_nothing fs f gs lawful seen later behind reason e evidence =
       let law = law_at_split role limits fs f gs lawful in
-      let l = layout_of_frame f law.frame.spellable in
-      let row = evidence_is_row role limits (unfinished fs) reason (frame_bytes f) behind seen later (layout_of_frame f law.frame.spellable) (e ∙ layout_then (frame_bytes f) behind (layout_of_frame f law.frame.spellable)) evidence in
+      let l = layout_of_frame f law.frame.spelled.spellable in
+      let row = evidence_is_row role limits (unfinished fs) reason (frame_bytes f) behind seen later (layout_of_frame f law.frame.spelled.spellable) (e ∙ layout_then (frame_bytes f) behind (layout_of_frame f law.frame.spelled.spellable)) evidence in
       lawful_shows_no_row role limits fs f law reason row.row
 
   -- Lawful frames under the bytes, where no other goes on.
@@ -72,7 +72,7 @@ module _ (role : Role) (limits : Limits) where
     rest = c.rest;
     whole = c.whole;
     last = λ f gs behind lawful e.
-        let spellable = (law_at_split role limits fs f gs lawful).frame.spellable in
+        let spellable = (law_at_split role limits fs f gs lawful).frame.spelled.spellable in
         let missing = c.within.0 in
         let same : frame_bytes f ++ (behind ++ c.within.0) ≡ (c.rest ++ c.within.0) ++ [] =
         sym (append_assoc (frame_bytes f) behind c.within.0) ∙ ap (λ (bs : List ℕ). bs ++ c.within.0) (sym e) ∙ sym (append-nil (c.rest ++ c.within.0)) in

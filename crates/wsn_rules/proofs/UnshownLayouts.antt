@@ -83,10 +83,7 @@ module _ (role : Role) (limits : Limits) (range : InRange limits) (before : List
 
     pub frame_law : FrameLaw role limits.lengths f
     frame_law = record {
-      spellable = spelled.owed.spellable;
-      masked = spelled.owed.masked;
-      shortest = spelled.owed.shortest;
-      control = λ control. record { final = (spelled.owed.control control).0; short = (spelled.owed.control control).1; shortest = (spelled.owed.control control).2 };
+      spelled = spelled.owed;
       close = body_is_lawful;
     }
 

@@ -13,7 +13,7 @@ abbrev pub AreSpellable : List Frame → Type 0
 AreSpellable fs = (before after : List Frame) (f : Frame) → fs ≡ before ++ f ∷ after → IsSpellable f
 
 pub spellable_of_lawful : (role : Role) (limits : Limits) (fs : List Frame) → IsLawful role limits fs → AreSpellable fs
-spellable_of_lawful role limits fs lawful before after f e = (lawful.each before after f e).frame.spellable
+spellable_of_lawful role limits fs lawful before after f e = (lawful.each before after f e).frame.spelled.spellable
 
 spellable_tail : (f : Frame) (fs : List Frame) → AreSpellable (f ∷ fs) → AreSpellable fs
 spellable_tail f fs each before after g e = each (f ∷ before) after g (ap (λ (hs : List Frame). f ∷ hs) e)

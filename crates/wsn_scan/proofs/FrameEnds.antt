@@ -1,8 +1,7 @@
 -- The last byte of a frame: what came is a lawful frame, and the scan stands behind it.
-use Rattle.std.proofs.Common.{◌≡◌, ◌≢◌, ℕ, ◌+◌, ◌<◌, ◌≤◌, ◌^◌, Bool, true, false, cond, not, Option, None, Some, is_some, List, [], ◌∷◌, ◌++◌, length, inl, inr, refl, sym, ap, ◌∙◌, subst, arith, append_assoc, append-nil, length-append}
+use Rattle.std.proofs.Common.{◌≡◌, ◌≢◌, ℕ, ◌+◌, ◌<◌, ◌≤◌, ◌^◌, Bool, true, false, cond, not, Option, None, Some, is_some, List, [], ◌∷◌, ◌++◌, length, refl, sym, ap, ◌∙◌, subst, arith, append_assoc, append-nil, length-append}
 use Rattle.std.specs.Prelude.{filter}
 use Rattle.std.specs.List.{list_any}
-use Rattle.std.specs.Int.{to_be_bytes, w16}
 use Rattle.std.proofs.lemmas.List.Sums.{length-filter, count_by-le-length}
 use Rattle.wsn_wire.specs.declared.endpoint.Role.{Role}
 use Rattle.wsn_wire.specs.declared.opcode.Op.{Op}
@@ -13,7 +12,6 @@ use Rattle.wsn_wire.specs.Frame.{Frame, IsBytes, is_control, first_byte, key_byt
 use Rattle.wsn_wire.specs.Layout.{HasLayout, mask_bit, opcode_field, length_count, length_told}
 use Rattle.wsn_wire.proofs.FrameLemmas.{first_byte_fields, op_at, op_at-opcode, key_at, key_at-key_bytes, form_at, key_bytes_count, IsBytes-right, frame_at, frame_bytes_determine}
 use Rattle.wsn_wire.proofs.HeadLemmas.{frame_of_layout, close_from_opcode}
-use Rattle.wsn_text.specs.CloseBody.{IsCloseBody}
 use Rattle.wsn_frame.specs.declared.partial_head.Head.{Head}
 use Rattle.wsn_frame.specs.declared.payload_check.PayloadCheck.{PayloadCheck}
 use Rattle.wsn_scan.specs.declared.scan.Scan.{Scan}
@@ -52,13 +50,7 @@ close_of-push (g ∷ fs) f none is =
 
 -- a lawful Close's body isn't one byte
 pub close_not_one : (role : Role) (limits : Limits) (fs : List Frame) (f : Frame) → IsLawful role limits (fs ++ f ∷ []) → f.op ≡ Close → length f.payload ≢ 1
-close_not_one role limits fs f lawful is one = of ((law_at_split role limits fs f [] lawful).frame.close is)
-  where
-    of : IsCloseBody f.payload → ⊥
-    of (inl none) = let empty : length f.payload ≡ 0 = ap (λ (bs : List ℕ). length bs) none in absurd (omega arith)
-    of (inr body) =
-        let size : length f.payload ≡ 2 + length body.1 = ap (λ (bs : List ℕ). length bs) body.4 ∙ length-append (to_be_bytes w16 body.0) body.1 in
-        absurd (omega arith)
+close_not_one role limits fs f lawful is = (law_at_split role limits fs f [] lawful).frame.spelled.close is
 
 -- a frame whose first byte has opcode 8 is a Close
 pub is_a_close : (f : Frame) → opcode_field (first_byte f.fin f.op) ≡ 8 → f.op ≡ Close
@@ -68,7 +60,7 @@ pub ends_with_close : (fs : List Frame) (f : Frame) → f.op ≡ Close → EndsW
 ends_with_close fs f is = (fs, f, is, refl)
 
 pub close_is_final : (role : Role) (limits : Limits) (fs : List Frame) (f : Frame) → IsLawful role limits (fs ++ f ∷ []) → f.op ≡ Close → f.fin ≡ true
-close_is_final role limits fs f lawful is = ((law_at_split role limits fs f [] lawful).frame.control (ap is_control is)).final
+close_is_final role limits fs f lawful is = ((law_at_split role limits fs f [] lawful).frame.spelled.control (ap is_control is)).final
 
 -- what is unfinished behind one frame more
 pub unfinished_after : (fs : List Frame) (f : Frame) → unfinished (fs ++ f ∷ []) ≡ group_after (unfinished fs) f
@@ -136,7 +128,7 @@ module _ (role : Role) (limits : Limits) (scan : Scan) (bytes rest wire : List �
       let spelled = frame_of_layout role limits.lengths rest layout shows in
       let there = frame_at first h.second (key_bytes head.key) wire in
       let same : lawful.frame ≡ there =
-      (frame_bytes_determine lawful.frame there [] [] lawful.law.frame.spellable spelled.owed.spellable
+      (frame_bytes_determine lawful.frame there [] [] lawful.law.frame.spelled.spellable spelled.owed.spellable
       (append-nil (frame_bytes lawful.frame) ∙ lawful.bytes_are ∙ sym spelled.bytes_are ∙ sym (append-nil (frame_bytes there)))).0 in
       let fields = first_byte_fields head.first.fin head.first.op in
       record {
@@ -193,7 +185,7 @@ text_small role limits fs f range lawful law = by_op (is_control f.op) refl
     by_op false is = let fits = (law.group (ap not is)).size in let most = range.message in omega arith
     by_op true is =
         let group = (group_of_lawful role limits fs lawful).size in
-        let short = (law.frame.control is).short in
+        let short = (law.frame.spelled.control is).short in
         let most = range.message in
         let joined : length (text_of (unfinished fs ++ f ∷ [])) ≡ length (text_of (unfinished fs)) + length f.payload =
         ap (λ (bs : List ℕ). length bs) (text_of_push (unfinished fs) f) ∙ length-append (text_of (unfinished fs)) f.payload in

@@ -59,7 +59,7 @@ module _ (role : Role) (limits : Limits) where
       let wire = wire_payload f.key f.payload in
       let all : IsLawful role limits (done ++ f ∷ []) = subst (IsLawful role limits) whole.all lawful in
       let on = came_on role limits done f all in
-      let spellable = on.2.frame.spellable in
+      let spellable = on.2.frame.spelled.spellable in
       let begins : BeginsWithHead role limits done (frame_bytes f) (info_of (length (stream done)) f) = record {
         head = head;
         behind = wire;

@@ -243,7 +243,7 @@ frame_of_layout role lengths bytes l shows =
         shortest = λ only. form_at_minimal field count (λ not. shows.by_length LengthNotMinimal (only, subst (λ n. IsNotMinimal field n) l.payload_count not));
         control = λ control.
             let fits = form_at_short field count spells (short control) in
-            (final_control (fin_bit l.first) (λ more. shows.by_first ControlNotFinal (as_control control, more)), rw size fits.1, fits.0);
+            record { final = final_control (fin_bit l.first) (λ more. shows.by_first ControlNotFinal (as_control control, more)); short = rw size fits.1; shortest = fits.0 };
         close = λ close one.
             let is_control : is_control (op_at (opcode_field l.first)) ≡ true = ap is_control close in
             shows.by_second CloseOneByte (sym op ∙ ap opcode close, one_byte field count spells (short is_control) (sym size ∙ one));
@@ -325,13 +325,13 @@ second_shows_nothing role lengths f owed first second op mask field MaskPresent 
     cc
 second_shows_nothing role lengths f owed first second op mask field ControlTooLong shown =
     let law = owed.control (control_from_opcode f.op (subst IsControlOpcode op shown.0)) in
-    let spelled : len_form_at second ≡ len_form_of form.Shortest (length f.payload) = field ∙ ap (λ g. len_form_of g (length f.payload)) law.2 in
-    (short_is (length f.payload) law.1).0 (subst IsLong spelled shown.1)
+    let spelled : len_form_at second ≡ len_form_of form.Shortest (length f.payload) = field ∙ ap (λ g. len_form_of g (length f.payload)) law.shortest in
+    (short_is (length f.payload) law.short).0 (subst IsLong spelled shown.1)
 second_shows_nothing role lengths f owed first second op mask field CloseOneByte shown =
     let is_close = close_from_opcode f.op (sym op ∙ shown.0) in
     let law = owed.control (ap is_control is_close) in
-    let spelled : len_form_at second ≡ len_form_of form.Shortest (length f.payload) = field ∙ ap (λ g. len_form_of g (length f.payload)) law.2 in
-    owed.close is_close ((short_is (length f.payload) law.1).1 1 (sym spelled ∙ shown.1))
+    let spelled : len_form_at second ≡ len_form_of form.Shortest (length f.payload) = field ∙ ap (λ g. len_form_of g (length f.payload)) law.shortest in
+    owed.close is_close ((short_is (length f.payload) law.short).1 1 (sym spelled ∙ shown.1))
 second_shows_nothing role lengths f owed first second op mask field _ shown = shown
 
 pub length_shows_nothing : (role : Role) (lengths : Lengths) (f : Frame) → IsSpelledFor role lengths f → (g : LenForm) (bytes : List ℕ) →
@@ -357,7 +357,7 @@ frame_shows_nothing role lengths f owed =
     let of_second = second_byte_fields f.key (len_form_of f.form (length f.payload)) (length f.payload) spells in
     let of_length = length_bytes_fields (len_form_of f.form (length f.payload)) (length f.payload) spells in
     record {
-      by_first = first_shows_nothing f.fin f.op first of_first (λ control. (owed.control control).0);
+      by_first = first_shows_nothing f.fin f.op first of_first (λ control. (owed.control control).final);
       by_second = second_shows_nothing role lengths f owed first second of_first.opcode_is of_second.mask_is of_second.field_is;
       by_length = length_shows_nothing role lengths f owed (len_form_at second) bytes of_second.field_is (ap (λ g. length_told g bytes) of_second.field_is ∙ of_length.told);
     }

@@ -11,13 +11,22 @@ use Rattle.wsn_wire.specs.Frame.{Frame, is_control, IsSpellable}
 use Rattle.wsn_wire.specs.Layout.{len_form_at}
 use Rattle.wsn_wire.specs.Rows.{ShownByFirst, ShownBySecond, ShownByLength}
 
--- The frame is spelled as its sender must: masked by a client alone, in a form that is allowed, and short
--- and final if it is a control frame. A Close has no single byte.
+-- [5.5] A control frame is final, has at most 125 bytes, and spells that in the shortest way.
+pub record ControlLaw (f : Frame) : Type 0 where
+  pub final : f.fin ≡ true
+  pub short : length f.payload ≤ 125
+  pub shortest : f.form ≡ form.Shortest
+
+-- The frame is spelled as its sender must.
 pub record IsSpelledFor (role : Role) (lengths : Lengths) (f : Frame) : Type 0 where
+  -- it is made of bytes: a key of four, a payload shorter than 2^63, in a form that holds its length
   pub spellable : IsSpellable f
+  -- [5.1] a client masks, a server doesn't
   pub masked : IsSome f.key ↔ (role ≡ Client)
+  -- longer spellings are lawful only where any is
   pub shortest : lengths ≡ spellings.Shortest → f.form ≡ form.Shortest
-  pub control : is_control f.op ≡ true → (f.fin ≡ true) × (length f.payload ≤ 125) × (f.form ≡ form.Shortest)
+  pub control : is_control f.op ≡ true → ControlLaw f
+  -- [5.5.1] a Close has no single byte
   pub close : f.op ≡ Close → length f.payload ≢ 1
 
 -- A head shows no refusal: not by its first byte, not by its second, not by its length bytes.

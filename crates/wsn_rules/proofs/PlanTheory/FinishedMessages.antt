@@ -68,7 +68,7 @@ finished_in role limits before (f ∷ fs) lawful finished open_group =
       | inl control ↦
           let same = unfinished_control before f (ap not control) in
           let goes_on = rest (λ none. open_group (sym same ∙ none)) in
-          subst (IsFinishedIn limits (unfinished before)) (sym (events_of_control before f fs control (law.frame.control control).final))
+          subst (IsFinishedIn limits (unfinished before)) (sym (events_of_control before f fs control (law.frame.spelled.control control).final))
           (behind_control limits (unfinished before) f.op f.payload later (subst (λ (group : List Frame). IsFinishedIn limits group later) same goes_on))
       | inr data_frame ↦ elim (cases_Bool f.fin) [
         | inl final ↦ subst (IsFinishedIn limits (unfinished before)) (sym (events_of_last before f fs data_frame final)) (record {

@@ -215,7 +215,7 @@ module _ (size : ℕ) (key : Option (List ℕ)) (some : 1 ≤ size) where
     one_more before f fs lawful filled goes =
         let law = law_at_split role limits before f fs lawful in
         elim (cases_Bool (is_control f.op)) [
-          | inl control ↦ on_control before f fs control (law.frame.control control).final (law.frame.control control).shortest goes
+          | inl control ↦ on_control before f fs control (law.frame.spelled.control control).final (law.frame.spelled.control control).shortest goes
           | inr other ↦ elim (cases_Bool f.fin) [
             | inl final ↦ on_last before f fs other final filled goes
             | inr more ↦ on_piece before f fs other more filled goes

@@ -81,12 +81,18 @@ begins_text n bytes text = record { more = drop n bytes; text = subst IsText (sy
 pub data_frame_law : (role : Role) (limits : Limits) (f : Frame) → is_control f.op ≡ false → IfSome f.key IsKey → IsSome f.key ↔ (role ≡ Client) → IsBytes f.payload → length f.payload < 2 ^ 63
     → IsAllowedForm limits.lengths f.form (length f.payload) → FrameLaw role limits.lengths f
 data_frame_law role limits f data_frame key masked payload size form = record {
-  spellable = record { key = key; payload = payload; size = size; form = form.1 };
-  masked = masked;
-  shortest = form.0;
-  control = λ is. absurd (let both : true ≡ false = sym is ∙ data_frame in cc);
-  close = λ is. absurd (let both : true ≡ false = sym (ap is_control is) ∙ data_frame in cc);
+  spelled = record {
+    spellable = record { key = key; payload = payload; size = size; form = form.1 };
+    masked = masked;
+    shortest = form.0;
+    control = λ is. absurd (let both : true ≡ false = sym is ∙ data_frame in cc);
+    close = λ is. no_close is;
+  };
+  close = λ is. no_close is;
 }
+  where
+    no_close : {A : Type 0} → f.op ≡ op.Close → A
+    no_close is = absurd (let both : true ≡ false = sym (ap is_control is) ∙ data_frame in cc)
 
 -- ---- the law of its group
 

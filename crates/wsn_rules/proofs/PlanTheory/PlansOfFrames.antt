@@ -62,7 +62,7 @@ key_of_step f =
 plan_is_plan : (role : Role) (limits : Limits) (before fs : List Frame) → AreLawfulBehind role limits before fs → IsPlan (plan_of fs)
 plan_is_plan role limits before [] lawful = tt
 plan_is_plan role limits before (f ∷ fs) lawful =
-    (subst (λ (key : _). IfSome key IsKey) (sym (key_of_step f)) lawful.0.frame.spellable.key, plan_is_plan role limits (before ++ f ∷ []) fs lawful.2)
+    (subst (λ (key : _). IfSome key IsKey) (sym (key_of_step f)) lawful.0.frame.spelled.spellable.key, plan_is_plan role limits (before ++ f ∷ []) fs lawful.2)
 
 -- ---- the frame of a step of a message
 
@@ -139,15 +139,15 @@ module _ (role : Role) (limits : Limits) (before : List Frame) (f : Frame) (fs :
 
   control_restored : is_control f.op ≡ true → Restores role limits pieces (events_behind (before ++ f ∷ []) fs) (plan_of fs) fs → Goes (step_of f) (events_behind before (f ∷ fs))
   control_restored control rest =
-      let final = (law.frame.control control).final in
+      let final = (law.frame.spelled.control control).final in
       let later = events_behind (before ++ f ∷ []) fs in
       subst (λ (step : Step). Goes step (events_behind before (f ∷ fs))) (sym (step_of_control f control))
       (subst (Goes (Control f.key)) (sym (events_of_control before f fs control final))
-      (restores_one_more role limits pieces (meant.Control f.op f.payload ∷ later) (Control f.key) (plan_of fs) f fs (law.frame.masked, (f.op, f.payload, later, refl))
-      (frames_equal (frame_from pieces (meant.Control f.op f.payload ∷ later) (Control f.key)) f (sym final) refl refl (sym (law.frame.control control).shortest) refl) rest))
+      (restores_one_more role limits pieces (meant.Control f.op f.payload ∷ later) (Control f.key) (plan_of fs) f fs (law.frame.spelled.masked, (f.op, f.payload, later, refl))
+      (frames_equal (frame_from pieces (meant.Control f.op f.payload ∷ later) (Control f.key)) f (sym final) refl refl (sym (law.frame.spelled.control control).shortest) refl) rest))
 
   allowed : IsAllowedForm limits.lengths f.form (length f.payload)
-  allowed = (law.frame.shortest, law.frame.spellable.form)
+  allowed = (law.frame.spelled.shortest, law.frame.spelled.spellable.form)
 
   module _ (data_frame : is_control f.op ≡ false) (hold : HoldAsMuch pieces (unfinished before)) where
     group_law : GroupLaw limits (unfinished before) f
@@ -171,7 +171,7 @@ module _ (role : Role) (limits : Limits) (before : List Frame) (f : Frame) (fs :
         subst (λ (step : Step). Goes step (events_behind before (f ∷ fs))) (sym (step_of_last f data_frame final))
         (subst (Goes (Last f.key f.form)) (sym (events_of_last before f fs data_frame final))
         (restores_one_more role limits pieces left (Last f.key f.form) (plan_of fs) f fs
-        (law.frame.masked, (kind_of group, text_of group, later, refl, fit, subst (IsAllowedForm limits.lengths f.form) rest_size allowed))
+        (law.frame.spelled.masked, (kind_of group, text_of group, later, refl, fit, subst (IsAllowedForm limits.lengths f.form) rest_size allowed))
         (frames_equal (frame_from pieces left (Last f.key f.form)) f (sym final) (op_is pieces (unfinished before) f [] hold limits (ap not data_frame) group_law) refl refl
         (rest_is pieces (unfinished before) f [] hold ∙ append-nil f.payload)) rest))
 
@@ -191,7 +191,7 @@ module _ (role : Role) (limits : Limits) (before : List Frame) (f : Frame) (fs :
         subst (λ (s : Step). Goes s (events_behind before (f ∷ fs))) (sym (step_of_piece f data_frame not_final))
         (subst (Goes step) (sym (events_of_piece before f fs not_final))
         (restores_one_more role limits pieces left step (plan_of fs) f fs
-        (law.frame.masked, ((text_of group, text_is, fit), allowed))
+        (law.frame.spelled.masked, ((text_of group, text_is, fit), allowed))
         (frame_is ∙ frames_equal (piece_frame pieces (length f.payload) f.key f.form (kind_of group, text_of group)) f (sym not_final) (op_is pieces (unfinished before) f more hold limits (ap not data_frame) group_law) refl refl front) rest))
 
 -- ---- all of them

@@ -24,7 +24,7 @@ use Rattle.wsn_rules.specs.Plan.{key_of, total, next_text}
 use Rattle.wsn_rules.specs.Fitting.{HasKeyOf, PiecesFit, IsAllowedForm}
 use Rattle.wsn_rules.specs.Recut.{next_message}
 use Rattle.wsn_rules.proofs.Groups.{unfinished_control, unfinished_final, unfinished_more}
-use Rattle.wsn_rules.proofs.MessageText.{text_of_push}
+use Rattle.wsn_rules.proofs.MessageText.{text_of_push, not_one_byte}
 use Rattle.wsn_rules.proofs.LawfulMeaning.{event_of_control, event_of_data}
 use Rattle.wsn_rules.proofs.PlanTheory.FromTheFront.{pieces_after, left_after, StepLaw, frame_from}
 use Rattle.wsn_rules.proofs.PlanTheory.PiecesInARow.{total_push}
@@ -154,10 +154,13 @@ module _ (role : Role) (limits : Limits) (before : List Frame) where
 
   control_law : (key : _) (o : Op) (body : List ℕ) → IfSome key IsKey → HasKeyOf role (Control key) → IsLawfulControl o body → FrameLaw role limits.lengths (control_frame key (o, body))
   control_law key o body is_key masked lawful = record {
-    spellable = record { key = is_key; payload = lawful.in_bytes; size = let short : length body ≤ 125 = lawful.size in omega arith; form = tt };
-    masked = masked;
-    shortest = λ _. refl;
-    control = λ _. record { final = refl; short = lawful.size; shortest = refl };
+    spelled = record {
+      spellable = record { key = is_key; payload = lawful.in_bytes; size = let short : length body ≤ 125 = lawful.size in omega arith; form = tt };
+      masked = masked;
+      shortest = λ _. refl;
+      control = λ _. record { final = refl; short = lawful.size; shortest = refl };
+      close = λ is. not_one_byte body (lawful.close is);
+    };
     close = lawful.close;
   }
 

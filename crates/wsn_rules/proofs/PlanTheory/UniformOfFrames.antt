@@ -144,7 +144,7 @@ module _ (size : ℕ) (key : Option (List ℕ)) where
             let none = here.between (ap not control) in
             let still = unfinished_control before f (ap not control) ∙ none in
             let law = law_at_split role limits before f fs lawful in
-            control_behind before f fs control (law.frame.control control).final
+            control_behind before f fs control (law.frame.spelled.control control).final
             ∙ ap (λ (step : Step). step ∷ uniform (events_behind (before ++ f ∷ []) fs)) (sym (step_of_control f control ∙ ap Control here.same_key))
             ∙ ap (λ (steps : List Step). step_of f ∷ steps) (next (empty_is_full (unfinished (before ++ f ∷ [])) still) ∙ ap (λ (group : List Frame). pieces_of group ++ plan_of fs) still)
             ∙ ap (λ (group : List Frame). pieces_of group ++ step_of f ∷ plan_of fs) (sym none)
