@@ -11,13 +11,13 @@ use Rattle.wsn_rules.specs.UniformPlan.{uniform_plan}
 use Rattle.wsn_scan.specs.declared.stop.Stop.{Stop}
 use Rattle.wsn_plan.specs.declared.recutting.RecutAnswer.{RecutAnswer}
 use Rattle.wsn_plan.specs.declared.recutting.RecutAnswer.TheVariants.{Done, NotAccepted, Fault}
-use Rattle.wsn_plan.specs.Recutting.{Planned, IsRecut}
+use Rattle.wsn_plan.specs.Recutting.{Planner, IsRecut}
 use Rattle.wsn_job.specs.declared.job.How.{How}
 use Rattle.wsn_job.specs.declared.job.How.TheVariants.{ByPlan, BySize}
 use Rattle.wsn_verdicts.specs.Telling.{IsToldOn, stop_line}
 
 -- the plan of each stream, by its events
-abbrev pub planned_by : {A : Type 0} → How A → Planned
+abbrev pub planned_by : {A : Type 0} → How A → Planner
 planned_by (ByPlan plan) = λ events. plan
 planned_by (BySize size weave key) = uniform_plan size weave key
 

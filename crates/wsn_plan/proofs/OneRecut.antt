@@ -26,7 +26,7 @@ use Rattle.wsn_plan.specs.declared.recutting.RecutAnswer.{RecutAnswer}
 use Rattle.wsn_plan.specs.declared.recutting.RecutAnswer.TheVariants.{Done, NotAccepted, Fault}
 use Rattle.wsn_scan.specs.Stops.{AnswersAll}
 use Rattle.wsn_plan.specs.Planning.{IsPlanFor, IsPlannedWhole}
-use Rattle.wsn_plan.specs.Recutting.{IsAnswerTo, GoesOut, IsRecutWhole, Planned}
+use Rattle.wsn_plan.specs.Recutting.{IsAnswerTo, GoesOut, IsRecutWhole, Planner}
 
 -- nothing was written
 unwritten : (before after : Outgoing) → before.failed ≡ false → after ≡ before → IsWritten before after []
@@ -73,7 +73,7 @@ module _ (role : Role) (limits : Limits) where
   abbrev AreAlike : Outgoing → Outgoing → Outgoing → Outgoing → Type 0
   AreAlike before after other_before other_after = (bytes : List ℕ) × IsWritten before after bytes × IsWritten other_before other_after bytes
 
-  module _ (planned : Planned) (all : List ℕ) (before after other_before other_after : Outgoing) (sound : before.failed ≡ false) (also_sound : other_before.failed ≡ false) where
+  module _ (planned : Planner) (all : List ℕ) (before after other_before other_after : Outgoing) (sound : before.failed ≡ false) (also_sound : other_before.failed ≡ false) where
     both_answer : (answer other : RecutAnswer) → IsRecutWhole role limits planned all before after (Ok answer) → IsRecutWhole role limits planned all other_before other_after (Ok other)
         → (answer ≡ other) × AreAlike before after other_before other_after
     both_answer answer other (v, fs, v_is, within, told, out) (w, gs, w_is, also_within, also_told, also_out) = (same, (out_with plan events answer, goes_out plan events before after answer sound out, also_written))

@@ -26,7 +26,7 @@ use Rattle.wsn_plan.specs.declared.recutting.RecutAnswer.{RecutAnswer}
 use Rattle.wsn_plan.specs.declared.recutting.RecutAnswer.TheVariants.{Done, NotAccepted, Fault}
 use Rattle.wsn_plan.specs.Gathering.{HasWholeFrame, IsStoppedBehind, IsGathered}
 use Rattle.wsn_canon.specs.Comparing.{IsAnAccepted}
-use Rattle.wsn_plan.specs.Recutting.{IsAnswerTo, GoesOut, IsCutAgain, Planned, IsRecutOf, IsRecut, IsRecutWhole}
+use Rattle.wsn_plan.specs.Recutting.{IsAnswerTo, GoesOut, IsCutAgain, Planner, IsRecutOf, IsRecut, IsRecutWhole}
 
 not_accepted : (verdict : Verdict) → ((s : Summary) → verdict ≡ Accepted s → ⊥) → IsAnAccepted verdict → ⊥
 not_accepted (Accepted s) none is = none s refl
@@ -40,7 +40,7 @@ frames_front : (role : Role) (limits : Limits) (bytes : List ℕ) (fs : List Fra
 frames_front role limits bytes fs is =
     elim is.ends [ inl e ↦ ([], e.2 ∙ sym (append-nil (stream fs))) | inr e ↦ (e.1.0, e.1.1) ]
 
-module _ {A : Type 0} (role : Role) (limits : Limits) (planned : Planned) (old new : Incoming) (before : Outgoing) where
+module _ {A : Type 0} (role : Role) (limits : Limits) (planned : Planner) (old new : Incoming) (before : Outgoing) where
   pub stopped_before : (stopped : Stop) → IsGathered {A = A} role limits old new (Err stopped) → IsRecut role limits planned old new before before (Err stopped)
   stopped_before stopped gathered = record { came = gathered.came; received = gathered.received; of_bytes = of stopped gathered.of_bytes }
     where
@@ -115,7 +115,7 @@ past_limit role limits came rest all is more unrefused =
     let front : take limits.input all ≡ take limits.input came = ap (λ (bs : List ℕ). take limits.input bs) is ∙ take-append-le limits.input came rest (omega (arith, more)) in
     (omega (arith, size, more), subst (λ (bs : List ℕ). IsUnrefused role limits bs) (sym front) unrefused)
 
-module _ (role : Role) (limits : Limits) (planned : Planned) where
+module _ (role : Role) (limits : Limits) (planned : Planner) where
   pub whole_recut : (old new : Incoming) (before after : Outgoing) (result : Result RecutAnswer Stop) (all : List ℕ) → IsRecut role limits planned old new before after result → old.remaining ≡ Some all
       → IsRecutWhole role limits planned all before after result
   whole_recut old new before after result all did known =

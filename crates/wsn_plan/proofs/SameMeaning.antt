@@ -17,9 +17,9 @@ use Rattle.wsn_rules.proofs.LawfulMeaning.{lawful_meaning}
 use Rattle.wsn_rules.proofs.PlanTheory.RecutFrames.{recut_is_finished, recut_means, recut_is_accepted}
 use Rattle.wsn_plan.specs.declared.recutting.RecutAnswer.TheVariants.{Done}
 use Rattle.wsn_canon.specs.Comparing.{IsAnAccepted}
-use Rattle.wsn_plan.specs.Recutting.{IsRecutWhole, Planned}
+use Rattle.wsn_plan.specs.Recutting.{IsRecutWhole, Planner}
 
-module _ (role : Role) (limits : Limits) (planned : Planned) (all : List ℕ) (before after : Outgoing) (range : InRange limits) (are_plans : (events : List MeantEvent) → IsPlan (planned events)) where
+module _ (role : Role) (limits : Limits) (planned : Planner) (all : List ℕ) (before after : Outgoing) (range : InRange limits) (are_plans : (events : List MeantEvent) → IsPlan (planned events)) where
   -- it went out, and with the input it is accepted and means the same
   abbrev MeansTheSame : Type 0
   MeansTheSame = (fs gs : List Frame) × IsAccepted role limits all fs × IsWritten before after (stream gs)

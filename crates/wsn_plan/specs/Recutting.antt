@@ -35,13 +35,13 @@ abbrev pub GoesOut : List Step → List MeantEvent → Outgoing → Outgoing →
 GoesOut plan events before after Done = IsWritten before after (recut_bytes plan events)
 GoesOut plan events before after answer = after ≡ before
 
--- A plan for each stream, by its events.
-abbrev pub Planned : Type 0
-Planned = List MeantEvent → List Step
+-- Which plan a stream of such events is cut by.
+abbrev pub Planner : Type 0
+Planner = List MeantEvent → List Step
 
 -- What a result says of the bytes that came. Where a write failed, a prefix of the recut's bytes went out; with the
 -- other stops nothing did.
-abbrev pub IsRecutOf : Role → Limits → Planned → Incoming → List ℕ → Outgoing → Outgoing → Result RecutAnswer Stop →
+abbrev pub IsRecutOf : Role → Limits → Planner → Incoming → List ℕ → Outgoing → Outgoing → Result RecutAnswer Stop →
     Type 0
 IsRecutOf role limits planned new came before after (Ok answer) =
     (verdict : Verdict) × (events : List MeantEvent) × IsLast role limits new came events (Ok verdict)
@@ -55,7 +55,7 @@ IsRecutOf role limits planned new came before after (Err stopped) =
     IsStoppedBehind role limits new came stopped × (after ≡ before)
 
 -- The bytes that came from the input, one more than its limit at most, what the result says of them, and what went out.
-pub record IsRecut (role : Role) (limits : Limits) (planned : Planned) (old new : Incoming) (before after : Outgoing)
+pub record IsRecut (role : Role) (limits : Limits) (planned : Planner) (old new : Incoming) (before after : Outgoing)
     (result : Result RecutAnswer Stop) : Type 0 where
   pub came : List ℕ
   pub received : IsReceived (limits.input + 1) old new came
@@ -64,7 +64,7 @@ pub record IsRecut (role : Role) (limits : Limits) (planned : Planned) (old new 
 -- ---- of an input whose bytes are known
 
 -- What a result says of all the bytes of an input. Where a read, a write or memory failed this says nothing.
-abbrev pub IsRecutWhole : Role → Limits → Planned → List ℕ → Outgoing → Outgoing → Result RecutAnswer Stop → Type 0
+abbrev pub IsRecutWhole : Role → Limits → Planner → List ℕ → Outgoing → Outgoing → Result RecutAnswer Stop → Type 0
 IsRecutWhole role limits planned all before after (Ok answer) =
     (verdict : Verdict) × (fs : List Frame) × IsVerdict role limits all fs verdict × IsWithinLimit limits all verdict
     × IsAnswerTo role limits (planned (meaning fs)) verdict (meaning fs) answer

@@ -25,7 +25,7 @@ pub use Rattle.wsn_canon.specs.EventsMeant.{meant, close_body}
 pub use Rattle.wsn_canon.specs.Normalised.{IsNormalisedWhole}
 pub use Rattle.wsn_plan.specs.Framing.{control_frame, piece_frame, last_frame, frame_here, SpellsItsLength}
 pub use Rattle.wsn_plan.specs.Planning.{IsPlannedWhole, IsRestored}
-pub use Rattle.wsn_plan.specs.Recutting.{IsRecutWhole, Planned}
+pub use Rattle.wsn_plan.specs.Recutting.{IsRecutWhole, Planner}
 pub use Rattle.wsn_plan.specs.Uniform.{message_steps}
 pub use Rattle.wsn_plan.specs.Walking.{IsPlaced, MayTake}
 pub use Rattle.wsn_plan.specs.declared.planning.PlanAnswer.{PlanAnswer}

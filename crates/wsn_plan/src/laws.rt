@@ -1,7 +1,7 @@
 //! Facts of this crate's answers. Each function does nothing: its contract is the fact.
 
 ghost use Rattle.std.specs.Prelude.{◌≡◌, ℕ, List, [], Result, Ok, false};
-ghost use Rattle.wsn_plan.specs.Words.{Role, Frame, stream, Outgoing, IsWritten, IsAccepted, unfinished, MeantEvent, meaning, IsPlan, Step, Verdict, Limits, InRange, Stop, IsNormalisedWhole, PlanAnswer, Plan, RecutAnswer, Done, AnswersAll, IsPlannedWhole, IsRestored, IsRecutWhole, Planned};
+ghost use Rattle.wsn_plan.specs.Words.{Role, Frame, stream, Outgoing, IsWritten, IsAccepted, unfinished, MeantEvent, meaning, IsPlan, Step, Verdict, Limits, InRange, Stop, IsNormalisedWhole, PlanAnswer, Plan, RecutAnswer, Done, AnswersAll, IsPlannedWhole, IsRestored, IsRecutWhole, Planner};
 
 use std::alloc::Allocator;
 pub use wsn_plan_text::laws::{law_one_line_fault, law_one_plan};
@@ -9,7 +9,7 @@ pub use wsn_plan_text::laws::{law_one_line_fault, law_one_plan};
 /// Of an input whose bytes are known [`recut`](crate::recut) has one answer and writes one list of bytes, in whatever
 /// pieces it comes, unless a read, a write or memory fails. So has [`recut_uniform`](crate::recut_uniform).
 pub fn law_one_recut()
-    ensures { (role : Role) (limits : Limits) (planned : Planned) (all : List ℕ)
+    ensures { (role : Role) (limits : Limits) (planned : Planner) (all : List ℕ)
         (before after other_before other_after : Outgoing) (result other : Result RecutAnswer Stop) →
         before.failed ≡ false → other_before.failed ≡ false → AnswersAll result → AnswersAll other →
         IsRecutWhole role limits planned all before after result →
@@ -46,7 +46,7 @@ pub fn law_restored<A: Allocator>()
 /// [`Plan`](crate::Plan) is a plan, as its `steps` say, and so is each that
 /// [`recut_uniform`](crate::recut_uniform) cuts by.
 pub fn law_same_meaning()
-    ensures { (role : Role) (limits : Limits) (planned : Planned) (all : List ℕ) (before after : Outgoing) →
+    ensures { (role : Role) (limits : Limits) (planned : Planner) (all : List ℕ) (before after : Outgoing) →
         InRange limits → ((events : List MeantEvent) → IsPlan (planned events)) →
         IsRecutWhole role limits planned all before after (Ok Done) →
         (fs gs : List Frame) × IsAccepted role limits all fs × IsWritten before after (stream gs)

@@ -6,7 +6,8 @@
 //! [`recut_uniform`] cuts a stream again by the plan of one size.
 //!
 //! Which plans fit, their faults and their recuts are defined in `wsn_rules`. `specs/Recutting.antt` says what a recut
-//! answers and writes, `specs/Gathering.antt` what is known where it stops, and `specs/Planning.antt` what `plan_of` answers.
+//! answers and writes, `specs/Gathering.antt` what is known where it stops, and `specs/Planning.antt` what `plan_of`
+//! answers.
 #![tactic(auto)]
 
 mod checking;
