@@ -18,6 +18,8 @@ pub mod UniformFits
 pub mod UniformFaults
 pub mod UniformOfFrames
 pub mod FramesOfUniform
+pub mod ControlsFromTheFront
+pub mod UniformWoven
 pub mod ComputedFaults
 pub mod RecutGoesOn
 pub mod ComputedRecuts

@@ -28,6 +28,7 @@ pub mod WalkedPlan
 pub mod Recut
 pub mod Spellings
 pub mod UniformPlan
+pub mod WovenPlan
 pub mod UniformFrames
 -- how examples speak of it
 pub mod Examples

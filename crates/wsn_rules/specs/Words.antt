@@ -20,7 +20,7 @@ pub use Rattle.wsn_rules.specs.Limits.{Limits, InRange}
 pub use Rattle.wsn_rules.specs.Lines.{verdict_line, head_line}
 pub use Rattle.wsn_rules.specs.Meaning.{events_behind, meaning, MeantEvent, event_at, Message, Control}
 pub use Rattle.wsn_rules.specs.NormalForm.{normal_frame, normal_form, op_of}
-pub use Rattle.wsn_rules.specs.Plan.{IsPlan, next_text}
+pub use Rattle.wsn_rules.specs.Plan.{IsPlan, pending, next_text}
 pub use Rattle.wsn_rules.specs.PlanExamples.{bare_piece, bare_last, bare_control, zeros, ping_and_hello, two_letters, frames_of, any_length, HasPlan, RecutsTo, one_key, four_keys, whole_ping_and_hello}
 pub use Rattle.wsn_rules.specs.Recut.{recut, recut_bytes, plan_of, normal_plan, next_message, op_behind, step_frame, step_of}
 pub use Rattle.wsn_rules.specs.Spellings.{Spell, AreRecut}
@@ -28,6 +28,7 @@ pub use Rattle.wsn_rules.specs.UniformFrames.{AreUniform}
 pub use Rattle.wsn_rules.specs.UniformPlan.{uniform_plan}
 pub use Rattle.wsn_rules.specs.Verdict.{Shown, IsRefused, IsVerdict}
 pub use Rattle.wsn_rules.specs.WalkedPlan.{HasWalked}
+pub use Rattle.wsn_rules.specs.WovenPlan.{IsWoven}
 pub use Rattle.wsn_rules.specs.declared.step.Step.{Step}
 pub use Rattle.wsn_rules.specs.declared.verdict.Summary.{Summary}
 pub use Rattle.wsn_rules.specs.declared.verdict.Verdict.{Verdict}

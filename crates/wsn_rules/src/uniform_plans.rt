@@ -1,10 +1,13 @@
-//! Uniform plans: where they fit, and which frames they are the plan of. Each function does nothing: its contract
-//! is the fact.
+//! Uniform plans: where they fit, where weave puts the controls, and which frames they are the plan of. Each function
+//! does nothing: its contract is the fact.
 
-ghost use Rattle.std.specs.Prelude.{◌≡◌, ℕ, ◌≤◌, ◌⊎◌, ◌↔◌, Bool, false, Option, None, IsSome, IfSome, List, []};
+ghost use Rattle.std.specs.Prelude.{◌≡◌, ℕ, ◌≤◌, ◌⊎◌, ◌↔◌, Bool, true, false, Option, None, IsSome, IfSome, List};
+ghost use Rattle.std.specs.Prelude.{[], ◌∷◌, ◌++◌};
 ghost use Rattle.wsn_rules.specs.Words.{Role, Frame, IsKey, Why, Limits, InRange, unfinished, IsLawful, MeantEvent};
-ghost use Rattle.wsn_rules.specs.Words.{meaning, IsPlan, Fits, IsFault, plan_of, uniform_plan, AreUniform};
+ghost use Rattle.wsn_rules.specs.Words.{meaning, Step, IsPlan, pending, Fits, IsFault, plan_of, uniform_plan};
+ghost use Rattle.wsn_rules.specs.Words.{IsWoven, AreUniform};
 ghost use Rattle.wsn_wire.specs.declared.endpoint.Role.TheVariants.{Client};
+ghost use Rattle.wsn_rules.specs.declared.step.Step.TheVariants.{Control};
 ghost use Rattle.wsn_rules.specs.declared.why.Why.TheVariants.{TooManyPieces};
 
 /// A uniform plan with a key exactly for a client fits any events where messages may have any number of frames.
@@ -25,6 +28,18 @@ pub fn law_uniform_plan_fits()
         (events : List MeantEvent) →
         IsSome key ↔ (role ≡ Client) → (step : ℕ) (why : Why) →
         IsFault role limits (uniform_plan size weave key events) events step why → why ≡ TooManyPieces }
+{}
+
+/// Without weave each control of a uniform plan stands between messages. With weave it is that plan, woven: its ends
+/// keep their order, and so do the steps of messages, and of the Pieces of the message around a control just the first
+/// stands in front of it. Of each plan there is at most one that is it, woven.
+pub fn law_weave()
+    ensures plain { (size : ℕ) (key : Option (List ℕ)) (events : List MeantEvent) (front behind : List Step)
+        (own : Option (List ℕ)) → uniform_plan size false key events ≡ front ++ Control own ∷ behind →
+        pending front ≡ [] }
+    ensures woven { (size : ℕ) (key : Option (List ℕ)) (events : List MeantEvent) →
+        IsWoven (uniform_plan size false key events) (uniform_plan size true key events) }
+    ensures only_this { (plan one other : List Step) → IsWoven plan one → IsWoven plan other → one ≡ other }
 {}
 
 /// The plan of frames is the uniform plan of what they mean exactly if the frames are uniform.
