@@ -143,10 +143,9 @@ impl LineSplitter {
 
     /// The answer at the end of the text: what has begun is its last line, unless it is empty.
     #[tactic(none)]
-    pub fn finish(&mut self) -> Result<Report, CaptureStop>
-        requires few { count_of self.old.capture ≤ 1000000 }
-        ensures { (limits : Limits) (came : List ℕ) →
-            HasSplit limits self.old came → IsAnswerOf limits came result }
+    pub fn finish(mut self) -> Result<Report, CaptureStop>
+        requires few { count_of self.capture ≤ 1000000 }
+        ensures { (limits : Limits) (came : List ℕ) → HasSplit limits self came → IsAnswerOf limits came result }
     {
         if self.begun.is_empty() {
             return Ok(self.capture.report());

@@ -8,19 +8,19 @@ use Rattle.wsn_capture.proofs.line_splitter.LineSplitter.finish.Goals as goal
 
 pub returns-then-is_empty : goal.returns-then-is_empty
 returns-then-is_empty c limits came split =
-    reported_whole limits c.args.self.now.capture c.args.self.now.begun.items came split c.report.result (empty_is c.args.self.now.begun.items (sym c.is_empty.ensures ∙ c.if-is_empty.true)) (c.report.ensures limits split.lines split.taken)
+    reported_whole limits c.args.self.capture c.args.self.begun.items came split c.report.result (empty_is c.args.self.begun.items (sym c.is_empty.ensures ∙ c.if-is_empty.true)) (c.report.ensures limits split.lines split.taken)
 
 pub returns-in_err-end_begun : goal.returns-in_err-end_begun
 returns-in_err-end_begun c limits came split =
     let out = err_from_is_err_and c.from_residual.result c.from_residual.ensures.1 in
     let is : c.from_residual.result ≡ Err c.in_err-end_begun.field-0.0 = out.1 ∙ ap Err out.2 in
     subst (λ (r : Result Report CaptureStop). IsAnswerOf limits came r) (sym is)
-    (stop_last limits c.args.self.now.capture c.args.self.now.begun.items came split c.in_err-end_begun.field-0.0 (not_empty c.args.self.now.begun.items (sym c.is_empty.ensures ∙ c.if-is_empty.false)) (c.in_err-end_begun.ensures.stop limits split.lines split.taken))
+    (stop_last limits c.args.self.capture c.args.self.begun.items came split c.in_err-end_begun.field-0.0 (not_empty c.args.self.begun.items (sym c.is_empty.ensures ∙ c.if-is_empty.false)) (c.in_err-end_begun.ensures.stop limits split.lines split.taken))
 
 pub returns : goal.returns
 returns c limits came split =
     let has = c.in_ok-end_begun.ensures.taken limits split.lines split.taken in
-    reported_last limits c.args.self.now.capture c.args.self.now.begun.items came split c.end_begun.new.self.capture c.report-2.result (not_empty c.args.self.now.begun.items (sym c.is_empty.ensures ∙ c.if-is_empty.false)) has (c.report-2.ensures limits _ has)
+    reported_last limits c.args.self.capture c.args.self.begun.items came split c.end_begun.new.self.capture c.report-2.result (not_empty c.args.self.begun.items (sym c.is_empty.ensures ∙ c.if-is_empty.false)) has (c.report-2.ensures limits _ has)
 
 pub is_empty-requires : goal.is_empty-requires
 is_empty-requires c = search rules
