@@ -70,6 +70,7 @@ line:
                  message, ping, pong or close), counted from 0
   first VERDICT  the first isn't accepted
   second VERDICT the second isn't accepted, and the first is
+A file named - is one of that name; standard input is /dev/stdin.
 
 Example: one frame, and the same message in two
   $ printf '\\201\\002Hi' > one; printf '\\001\\001H\\200\\001i' > two
@@ -87,10 +88,11 @@ Reads a stream from standard input, and prints its plan, a line for each frame:
     KEY     the masking key in hexadecimal, or - for a server; behind it stands
             'two' or 'eight' where a message's frame spells its length in so
             many bytes and needs fewer
-The normal form and the plan are all of a stream, up to the end of its Close:
-recut makes the stream of them. Where the stream isn't accepted, the verdict's
-line goes to standard error, and where a Close leaves a message unfinished, so
-that there is no plan, the line unfinished; the status is 1 then.
+Each line ends in a line feed alone. The normal form and the plan are all of a
+stream, up to the end of its Close: recut makes the stream of them. Where the
+stream isn't accepted, the verdict's line goes to standard error, and where a
+Close leaves a message unfinished, so that there is no plan, the line
+unfinished; the status is 1 then.
 
 Example: a server's message in two fragments, and a ping between them
   $ printf '\\001\\003Hel\\211\\000\\200\\002lo' | wsn plan --role server
@@ -119,7 +121,9 @@ what the stream means, the line there is
             events-left
 A plan file that isn't one gives status 2, before the stream is read: cannot
 read FILE, plan file too long (more than 64 MiB), or plan line N: WORD, with N
-from 1 and WORD bad-form, bad-number, bad-key or bad-length.
+from 1 and WORD bad-form, bad-number, bad-key or bad-length. A plan's lines end
+in a line feed alone, which the last may lack: a carriage return before it is
+told as bad-key, or as bad-length behind 'two' or 'eight'.
 
 Example: \"Hello\" in frames of two bytes; a stream out of normal form and plan
   $ printf '\\201\\005Hello' | wsn recut --role server --size 2 | od -An -tx1
@@ -184,7 +188,8 @@ The verdict's line:
     CODE    the close code that an endpoint would answer
 
 Exit status:
-  0  accepted; for same, equal; for recut, done; for closing, clean or complete
+  0  accepted; for same, equal; for plan, there is one; for recut, done; for
+     closing, clean or complete
   1  any other verdict, answer or outcome
   2  no answer, and why in a line on standard error: read failed, write failed,
      input limit (more than 2^40 bytes came), out of memory, cannot read FILE,
