@@ -122,6 +122,8 @@ def sides(lines):
     data, ended = {"C": b"", "S": b""}, set()
     for line in lines.decode().splitlines():
         want(len(line) <= 8194, "a capture line is too long")
+        if line.startswith("#"):
+            continue
         if line[1:] == ".":
             ended.add(line[0])
         else:

@@ -3,9 +3,11 @@
 import os
 import re
 import shutil
+import subprocess
 
 import pcaps
-from harness import SAMPLES, SESSIONS, TOP, Skipped, needs, record_session, run, same, samples, short, sides, test, want
+from harness import (SAMPLES, SESSIONS, TOP, WSN, Skipped, needs, record_session, run, same, samples, short, sides,
+                     test, want)  # fmt: skip
 
 AWKS = ["mawk", "gawk", "gawk --posix", "original-awk", "busybox awk"]
 
@@ -24,9 +26,9 @@ def pcap_gives_what_the_proxy_saw(folder):
         out, said = pcap2wsn(SAMPLES / f"{name}.pcap", *words)
         same(sides(out), sides((SAMPLES / f"{name}.capture").read_bytes()), name)
         same("permessage-deflate" in said, name == "deflate", f"{name}: the warning")
-        lines = [len(line) for line in out.splitlines()]
-        joined = [one[:1] != two[:1] or len(one) == 8194 for one, two in zip(out.splitlines(), out.splitlines()[1:])]
-        want(all(joined[:-2]), f"{name}: neighbours aren't joined, {lines}")
+        lines = [line for line in out.splitlines() if not line.startswith(b"#")]
+        joined = [one[:1] != two[:1] or len(one) == 8194 for one, two in zip(lines, lines[1:])]
+        want(all(joined[:-2]), f"{name}: neighbours aren't joined, {[len(line) for line in lines]}")
 
 
 @test
@@ -128,6 +130,110 @@ def pcap_cut_short_says_so(folder):
     want(wanted[0].startswith(got[0]) and wanted[1].startswith(got[1]), "no fronts of what was sent")
     same(got[2], set(), "end marks")
     want("client: whole up to" in said and "server: whole up to" in said and "cut short" in said, said)
+
+
+@test
+def pcap_puts_what_it_says_into_the_capture(folder):
+    """At the front, in lines that `wsn closing` reads over; nothing where nothing is said."""
+    needs("tshark")
+    packets, link = pcaps.read(SAMPLES / "basic.pcap")
+    pcaps.write(folder / "lost.pcap", pcaps.without(packets, [pcaps.data_of(packets, 1)[2]]), link)
+    pcaps.write(folder / "short.pcap", pcaps.snapped(packets, 400), link)
+    (folder / "cut.pcap").write_bytes((SAMPLES / "basic.pcap").read_bytes()[:15000])
+    upgrade = b"HTTP/1.1 101 Switching Protocols\r\nUpgrade: websocket\r\nSec-WebSocket-Extensions: "
+    talk = [("C", b"GET / HTTP/1.1\r\nUpgrade: websocket\r\n\r\n"), ("S", upgrade + b"x" * 9000 + b"\r\n\r\n")]
+    pcaps.write(folder / "long.pcap", pcaps.session(talk, 40000, 80))
+    for words, status, count in (
+        ([SAMPLES / "basic.pcap", "0"], 0, 0),
+        ([SAMPLES / "deflate.pcap", "0"], 0, 2),
+        (["-m", SAMPLES / "basic.pcap", "0"], 0, 1),
+        ([folder / "lost.pcap", "0"], 1, 1),
+        ([folder / "short.pcap", "0"], 1, 2),
+        ([folder / "cut.pcap", "0"], 1, 2),
+        ([folder / "long.pcap", "0"], 0, 2),
+    ):
+        out, said = pcap2wsn(*words, status=status)
+        lines = out.decode().splitlines()
+        wanted = [line.replace("pcap2wsn: ", "# ", 1)[:8194] for line in said.splitlines()]
+        same((lines[:count], len(wanted)), (wanted, count), f"{words}: what is said")
+        want(not any(line.startswith("#") for line in lines[count:]), f"{words}: what is said behind the front")
+        sides(out)
+        same(run(WSN, "closing", status=None, input=out)[1], b"", f"{words}: what wsn says of the capture")
+
+
+@test
+def pcap_to_a_full_device(folder):
+    """Status 2 where the capture can't be written."""
+    needs("tshark")
+    with open("/dev/full", "wb") as full:
+        words = [str(TOP / "recipes/pcap2wsn"), str(SAMPLES / "basic.pcap"), "0"]
+        done = subprocess.run(words, stdout=full, stderr=subprocess.PIPE, check=False)
+    same(done.returncode, 2, "the status")
+    want(b"pcap2wsn: can't write the capture" in done.stderr, short(done.stderr))
+
+
+@test
+def pcap_with_a_key_log_that_fits_nothing(folder):
+    """It is told from one that is missing; where no session begins, and where one has keys and no handshake too."""
+    needs("tshark")
+    keys = SAMPLES / "tls.keys"
+    random = re.search(r"^\w+ (\w{64}) ", keys.read_text(), re.MULTILINE)[1]
+    (folder / "other.keys").write_text(keys.read_text().replace(random, random[::-1]))
+    (folder / "great.keys").write_text(keys.read_text().replace(random, random.upper()))
+    packets, link = pcaps.read(SAMPLES / "tls.pcap")
+    plain = pcaps.read(SAMPLES / "basic.pcap")[0]
+    client = pcaps.data_of(packets, 0)
+    pcaps.write(folder / "both.pcap", plain + packets, link)
+    pcaps.write(folder / "late.pcap", packets[client[0] + 1 :], link)
+    pcaps.write(folder / "begun.pcap", packets[: client[2]], link)
+    pcaps.write(folder / "none.pcap", [])
+    misfit = "no key in other.keys fits a TLS session in"
+    for words, wanted in (
+        ([SAMPLES / "tls.pcap", "other.keys"], misfit),
+        ([SAMPLES / "tls.pcap", "0", "other.keys"], misfit),
+        ([SAMPLES / "tls.pcap", "0", "/dev/null/.."], "can't read"),
+        ([SAMPLES / "tls.pcap", "0"], "give the key log file too"),
+        (["late.pcap", keys], "no TLS session begins in it"),
+        (["none.pcap", keys], "no TLS session begins in it"),
+        (["begun.pcap", keys], "nor have its TLS sessions"),
+        (["both.pcap", "1", "other.keys"], misfit),
+    ):
+        out, said = pcap2wsn(*words, status=2, cwd=folder)
+        want(out == b"" and wanted in said, f"{words}: {short(said)}")
+    for words, count, warned in (
+        (["both.pcap", keys], 2, False),
+        (["both.pcap", "great.keys"], 2, False),
+        (["both.pcap"], 1, False),
+        (["both.pcap", "other.keys"], 1, True),
+        ([SAMPLES / "basic.pcap", "other.keys"], 1, False),
+    ):
+        out, said = pcap2wsn(*words, cwd=folder)
+        same(out.count(b"\n"), count, f"{words}: connections")
+        same(said.splitlines() != [], warned, f"{words}: {said}")
+        same(f"warning: {misfit}" in said, warned, f"{words}: {said}")
+    out, said = pcap2wsn("both.pcap", "0", "other.keys", cwd=folder)
+    same(out, pcap2wsn(SAMPLES / "basic.pcap", "0")[0], "a capture beside a key log that fits nothing")
+    want(f"warning: {misfit}" in said, said)
+
+
+@test
+def pcap_knows_its_options(folder):
+    """Another option, or one behind the files: a line with the right words, status 2, nothing written."""
+    pcap = SAMPLES / "basic.pcap"
+    for words, wanted in (
+        (["-x"], "there is no option -x: pcap2wsn [-m] PCAP [N] [KEYLOG]"),
+        (["--keylog", pcap], "there is no option --keylog: pcap2wsn [-m] PCAP [N] [KEYLOG]"),
+        (["-m", "-x", pcap], "there is no option -x: "),
+        ([pcap, "-1"], "there is no option -1: "),
+        ([pcap, "0", "-k"], "there is no option -k: "),
+        ([pcap, "-m"], "-m stands in front of PCAP"),
+    ):
+        out, said = pcap2wsn(*words, status=2)
+        same((out, said.count("\n")), (b"", 1), f"{words}: what is written, and lines")
+        want(said.startswith(f"pcap2wsn: {wanted}"), f"{words}: {short(said)}")
+    for words in ["-h"], ["--help"], [pcap, "-h"]:
+        out, said = pcap2wsn(*words)
+        want(b"list the connections" in out and said == "", f"{words}: {short(said)}")
 
 
 @test

@@ -1,6 +1,7 @@
 """recipes/record: what it writes and passes on, with peers that are plain sockets, whose bytes are known."""
 
 import contextlib
+import os
 import signal
 import socket
 import struct
@@ -209,6 +210,35 @@ def flood(connection):
     with contextlib.suppress(OSError):
         while True:
             connection.sendall(b"\x07" * 65536)
+
+
+@test
+def record_begins_with_what_can_be(folder):
+    """A port, a server or a folder that can't be: a line in plain words, status 2, and nothing is made or listens."""
+    (folder / "file").write_text("")
+    port, made, server = free_port(), folder / "made", "ws://localhost"
+    servers = ["http://localhost", "localhost:9000", "ws:localhost", "ws://", "ws://:80", "ws://[::1", "ws://a..b"]
+    servers += [f"{server}:{number}" for number in ("0", "65536", "x", "-1")]
+    ports = ["x", "", "-1", "1.5", "65536", "9" * 5000, "localhost:", "a..b:9000", "0"]
+    with socket.create_server(("127.0.0.1", 0)) as other:
+        taken = other.getsockname()[1]
+        for words, said in (
+            *(([port, each, made], f"{each} isn't of the form ws://HOST[:PORT]") for each in servers),
+            ([port, server, folder / "file"], f"{folder}/file is there, and isn't a folder"),
+            ([port, server, folder / "file/a"], f"can't make the folder {folder}/file/a: Not a directory"),
+            ([port, server, "/proc"], "can't make files in the folder /proc: "),
+            ([taken, server, folder], f"can't listen on 127.0.0.1 port {taken}: Address already in use"),
+            ([f"a.invalid:{port}", server, folder], f"can't listen on a.invalid port {port}: the name isn't known"),
+            *(([each, server, made], f"{each} isn't of the form [ADDRESS:]PORT") for each in ports),
+        ):
+            out, error = run(TOP / "recipes/record", *words, status=2)
+            lines = error.decode().splitlines()
+            plain = out == b"" and len(lines) == 1 and "Errno" not in lines[0]
+            want(plain and lines[0].startswith(f"record: {said}"), f"{said}: {lines}")
+    environment = {**os.environ, "SSLKEYLOGFILE": "/dev/null/keys"}
+    _, error = run(TOP / "recipes/record", port, "wss://localhost", made, status=2, env=environment)
+    same(error, b"record: can't write the key log /dev/null/keys: Not a directory\n", "a key log")
+    same([path.name for path in folder.iterdir()], ["file"], "files")
 
 
 @test
