@@ -1,4 +1,4 @@
-"""docs/RECIPES.md: each command of the page, with what the page says that it prints.
+"""docs/RECIPES.md: each command of the page, with what the page says that it prints; and README.md's.
 
 A block ```console has commands behind `$ ` (further lines behind `> `), and what they print, on either stream. `..`
 stands for anything, within a line or, alone, for lines. A command that ends with ` &` runs to the end of the page.
@@ -15,7 +15,8 @@ import subprocess
 import tempfile
 import time
 
-from harness import HERE, SECONDS, TOP, WSN, Failed, Skipped, python_with_websockets, run, started, test, wait_for
+from harness import (HERE, SAMPLES, SECONDS, TOP, WSN, Failed, Skipped, needs, python_with_websockets, run, same, sides,
+                     started, test, wait_for, want)  # fmt: skip
 
 # Words of a command, and the program that it needs for them.
 NEEDS = {"pcap2wsn": "tshark", "tshark": "tshark", "text2pcap": "text2pcap", "socat": "socat", "jq": "jq",
@@ -166,3 +167,40 @@ def page_says_what_its_commands_print(folder):
     print(f"        {page.done} commands of the page ran", flush=True)
     for why, commands in page.skipped.items():
         print(f"        {len(commands)} skipped, {why}: {'; '.join(each[:50] for each in commands)}", flush=True)
+
+
+def indented(pattern):
+    """A line of README.md's that is indented, and the lines of the next such block."""
+    readme = (TOP / "README.md").read_text(encoding="utf-8")
+    found = re.findall(rf"^    ({pattern}.*)\n((?:\n(?:    .*\n)+)?)", readme, re.MULTILINE)
+    return [(line, re.sub("^    ", "", below.lstrip("\n"), flags=re.MULTILINE)) for line, below in found]
+
+
+@test
+def readme_says_what_its_lines_print(folder):
+    """The lines of README.md that read a recording, and those that make a stream, over samples."""
+    needs("bash", "xxd")
+    (folder / "wsn").symlink_to(WSN)
+    (folder / "recordings").mkdir()
+    shutil.copy(SAMPLES / "latin.capture", folder / "recordings/0001.capture")
+    ((line, printed),) = indented("sed ")
+    same(run("bash", "-c", line, status=None, cwd=folder), (printed.encode(), b""), line)
+    ((line, _),) = indented("printf ")
+    same(run("bash", "-c", line, cwd=folder), (b"81850000000048656c6c6f\n", b""), line)
+    want("prints `81850000000048656c6c6f`" in (TOP / "README.md").read_text(encoding="utf-8"), "what it prints")
+
+
+@test
+def readme_gets_streams_by_hand(folder):
+    """README.md's two lines over a pcap are the page's, and give both streams of a sample without a word."""
+    page = [words for kind, words, _ in parts_of((TOP / "docs/RECIPES.md").read_text(encoding="utf-8"))]
+    lines = [line for line, _ in indented("tshark ")]
+    same(len(lines), 2, "lines")
+    for line in lines:
+        want(line.replace("session.pcap", "tests/samples/basic.pcap") in page, f"{line!r} isn't on the page")
+    needs("tshark", "xxd")
+    shutil.copy(SAMPLES / "basic.pcap", folder / "session.pcap")
+    for line in lines:
+        same(run("sh", "-c", line, cwd=folder), (b"", b""), line)
+    streams = tuple((folder / name).read_bytes() for name in ("client.bin", "server.bin"))
+    same(streams, sides((SAMPLES / "basic.capture").read_bytes())[:2], "the streams")
