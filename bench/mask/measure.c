@@ -1,5 +1,5 @@
-// Masks a slice and copies the same slice by memcpy, in turn, and prints the best speed of each. First it
-// checks the masking against a plain loop.
+// Masks a slice and copies the same slice with memcpy, in turn, and prints the best speed of each. Before that
+// it checks the masking against a plain loop.
 #include <stddef.h>
 #include <stdint.h>
 #include <stdio.h>

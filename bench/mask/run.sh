@@ -1,6 +1,6 @@
 #!/bin/sh
 # Builds wsn_wire's mask as a static library, in a repository of its own in a temporary folder, links it to
-# measure.c, and prints the speeds. It needs rt and a C compiler.
+# measure.c, and prints the speeds. It requires rt and a C compiler.
 set -eu
 here=$(cd "$(dirname "$0")" && pwd)
 crate=$here/../../crates/wsn_wire

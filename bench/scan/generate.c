@@ -1,5 +1,5 @@
 // Writes a client's stream to standard output: generate WHAT BYTES. Keys and texts come from a fixed seed, so
-// that each run writes the same bytes. On standard error it says `MESSAGES PAYLOAD BYTES`.
+// that each run writes the same bytes. It prints `MESSAGES PAYLOAD BYTES` on standard error.
 #include <stdint.h>
 #include <stdio.h>
 #include <stdlib.h>
@@ -23,7 +23,7 @@ static void put(const void *bytes, size_t len) {
     written += len;
 }
 
-// One frame under a random key, its length in the shortest form.
+// One frame with a random key and the shortest encoding of its length.
 static void put_frame(uint8_t first, const uint8_t *bytes, uint64_t len) {
     uint8_t head[14] = {first};
     size_t at = 2;
@@ -45,7 +45,7 @@ static void put_frame(uint8_t first, const uint8_t *bytes, uint64_t len) {
     }
 }
 
-// A random character of so many bytes in UTF-8.
+// A random character with the given number of bytes in UTF-8.
 static void put_character(uint8_t *to, int width) {
     static const uint32_t low[] = {0x20, 0x80, 0x800, 0x10000}, high[] = {0x7e, 0x7ff, 0xffff, 0x10ffff};
     static const uint8_t lead[] = {0, 0xc0, 0xe0, 0xf0};
@@ -58,7 +58,7 @@ static void put_character(uint8_t *to, int width) {
     to[0] = lead[width - 1] | c;
 }
 
-// Random characters of 1 to `widest` bytes, whole ones.
+// Random whole characters of 1 to `widest` bytes.
 static void put_text(uint8_t *to, size_t len, int widest) {
     for (size_t at = 0; at < len;) {
         size_t width = 1 + random64() % widest;

@@ -1,5 +1,5 @@
-// Reads a client's stream from standard input as a server of libwslay does, and prints how many messages and
-// payload bytes it took.
+// Reads a client's stream from standard input as a server of libwslay does, and prints the numbers of messages
+// and payload bytes that it received.
 #include <stdint.h>
 #include <stdio.h>
 #include <string.h>

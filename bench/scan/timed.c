@@ -1,6 +1,6 @@
 // Runs a command over its own standard input: timed OUTPUT COMMAND WORD.. . The command's standard output goes to
-// the file OUTPUT. Prints the seconds from before its start to its end, the most memory that it held at once in
-// KB, and its exit status.
+// the file OUTPUT. Prints the seconds from before its start to its end, its peak memory in KB, and its exit
+// status.
 #include <fcntl.h>
 #include <stdio.h>
 #include <sys/resource.h>

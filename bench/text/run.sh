@@ -1,6 +1,6 @@
 #!/bin/sh
 # Builds program.txt over wsn_text, in a repository of its own in a temporary folder, and prints the speeds. It
-# needs rt.
+# requires rt.
 set -eu
 here=$(cd "$(dirname "$0")" && pwd)
 crate=$here/../../crates/wsn_text

@@ -132,6 +132,24 @@ def sides(lines):
     return data["C"], data["S"], ended
 
 
+def times(lines):
+    """The times in a capture, in microseconds, each with the line after it; the front's comments are left out."""
+    found, last = [], None
+    for line in lines.decode().splitlines():
+        if re.fullmatch(r"# (0|[1-9][0-9]*)\.[0-9]{6}", line):
+            last = int(line[2:].replace(".", ""))
+        elif last is not None:
+            found.append((last, line))
+            last = None
+    return found
+
+
+def said_in(lines):
+    """The comments of a capture, but its times."""
+    comments = [line for line in lines.decode().splitlines() if line.startswith("#")]
+    return [line for line in comments if not re.fullmatch(r"# [0-9.]+", line)]
+
+
 def wait_for(held, what):
     """Waits until something holds."""
     limit = time.monotonic() + SECONDS
@@ -180,7 +198,7 @@ def captured(pcap, port):
 
 
 def record_session(name, folder):
-    """Records a session through recipes/record, and its packets behind the proxy: files NAME.capture, NAME.pcap."""
+    """Records a session through recipes/record, and its packets after the proxy: files NAME.capture, NAME.pcap."""
     server, client, address, tls = SESSIONS[name]
     python, port, listening = python_with_websockets(), free_port(address), free_port()
     served, environment = [], {}
@@ -205,7 +223,7 @@ def record_session(name, folder):
 
 
 def samples():
-    """The recorded sessions: their name, and the words for pcap2wsn behind the pcap's name."""
+    """The recorded sessions: their name, and the words for pcap2wsn after the pcap's name."""
     for name in SESSIONS:
         keys = SAMPLES / f"{name}.keys"
         yield name, ["0", keys] if keys.exists() else ["0"]

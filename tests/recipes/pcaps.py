@@ -103,7 +103,7 @@ def shuffled(packets):
 
 
 def repeated(packets):
-    """Each segment with data a second time, and a third time behind the next but one."""
+    """Each segment with data a second time, and a third time after the next but one."""
     out = []
     for at, packet in enumerate(packets):
         out.append(packet)

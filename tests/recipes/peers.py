@@ -4,7 +4,8 @@
     peers.py talk KIND URL [CERTIFICATE]                   talks once
 
 Kinds of servers: `echo` sends each message back, `closes` answers one in fragments and closes, `latin` greets in
-Latin-1. Kinds of clients: `basic`, `abort`, `deflate`, `once`, `listen`.
+Latin-1, `deflate` is an echo that compresses (`deflate,server_max_window_bits=9,..` by these parameters). Kinds of
+clients: `basic`, `abort`, `deflate`, `compressed`, `once`, `listen`.
 """
 
 import asyncio
@@ -14,6 +15,11 @@ import struct
 import sys
 
 import websockets
+from websockets.extensions.permessage_deflate import ServerPerMessageDeflateFactory
+
+# What the client `compressed` sends; a list is a message in fragments.
+MESSAGES = ["Hello", "Hello", ["Fragments ", "of \u20ac", "", " a message" * 100], "", bytes(range(256)) * 300,
+            "".join(chr(32 + at * at % 90) for at in range(70_000)), "Hello"]  # fmt: skip
 
 
 async def echo(peer, _path=None):
@@ -72,22 +78,39 @@ async def deflate(peer):
     await peer.close()
 
 
+async def compressed(peer):
+    for message in MESSAGES:
+        await peer.send(message)
+        await peer.recv()
+    await peer.close(1000, "bye")
+
+
+def parameters(words):
+    """The extension's parameters of a kind."""
+    pairs = [word.partition("=") for word in words]
+    return {name: int(value) if value else True for name, _, value in pairs}
+
+
 async def serve(kind, address, port, *certificate):
     tls = None
     if certificate:
         tls = ssl.SSLContext(ssl.PROTOCOL_TLS_SERVER)
         tls.load_cert_chain(*certificate)
+    kind, *words = kind.split(",")
     handler = {"echo": echo, "deflate": echo, "closes": closes, "latin": latin}[kind]
-    compression = "deflate" if kind == "deflate" else None
-    async with websockets.serve(handler, address, int(port), ssl=tls, compression=compression):
+    how = {"compression": "deflate" if kind == "deflate" else None}
+    if words:
+        how = {"compression": None, "extensions": [ServerPerMessageDeflateFactory(**parameters(words))]}
+    async with websockets.serve(handler, address, int(port), ssl=tls, max_size=None, **how):
         print("ready", flush=True)
         await asyncio.Future()
 
 
 async def talk(kind, url, *certificate):
     tls = ssl.create_default_context(cafile=certificate[0]) if certificate else None
-    client = {"basic": basic, "once": once, "listen": listen, "abort": abort, "deflate": deflate}[kind]
-    compression = "deflate" if kind == "deflate" else None
+    client = {"basic": basic, "once": once, "listen": listen, "abort": abort, "deflate": deflate,
+              "compressed": compressed}[kind]  # fmt: skip
+    compression = "deflate" if kind in ("deflate", "compressed") else None
     async with websockets.connect(url, ssl=tls, compression=compression) as peer:
         try:
             await client(peer)

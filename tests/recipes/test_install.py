@@ -4,13 +4,12 @@ import os
 import pty
 import re
 import select
-import shutil
-import subprocess
 import time
 
 from harness import SECONDS, TOP, WSN, Failed, needs, run, same, test, want
 
 FILES = ["bin/wsn", "share/bash-completion/completions/wsn", "share/man/man1/wsn.1", "share/zsh/site-functions/_wsn"]
+COMMANDS = {"wsn-check": "check", "wsn-inflate": "inflate", "wsn-pcap": "pcap2wsn", "wsn-record": "record"}
 
 
 def environment():
@@ -19,29 +18,52 @@ def environment():
 
 
 def program():
-    """The built program, behind the launcher."""
+    """The built program, which the launcher runs."""
     if WSN != str(TOP / "wsn"):
         return WSN
     run(WSN, "--help")
     return TOP / "crates/wsn/out/wsn"
 
 
+def files_in(folder):
+    """The names of all files and folders below a folder."""
+    return sorted(str(path.relative_to(folder)) for path in folder.rglob("*"))
+
+
 @test
 def install_copies_and_removes(folder):
     """Into a folder with a blank in its name, by a relative name too; again; and away, beside other files."""
     prefix = folder / "a prefix"
+    modules = sorted(path.name for path in (TOP / "recipes").glob("*.py"))
+    wanted = [*FILES, *(f"bin/{name}" for name in COMMANDS), "lib/wsn/made",
+              *(f"lib/wsn/{name}" for name in [*modules, *COMMANDS.values()])]  # fmt: skip
     for words in [prefix], ["a prefix/"]:
         run(TOP / "install", *words, cwd=folder, env=environment())
-        found = sorted(str(path.relative_to(prefix)) for path in prefix.rglob("*") if path.is_file())
-        same(found, FILES, "the files")
+        found = [name for name in files_in(prefix) if (prefix / name).is_file()]
+        same(found, sorted(wanted), "the files")
     same(run(prefix / "bin/wsn", "judge", "--role", "server", input=b"")[0][:8], b"accepted", "the program")
+    for name, file in COMMANDS.items():
+        same(run(prefix / "bin" / name, "-h"), run(TOP / "recipes" / file, "-h"), name)
+    kept = TOP / "tests/samples/basic.capture"
+    out, _ = run("env", "-u", "WSN", prefix / "bin/wsn-check", kept, kept)
+    same(out.splitlines()[0], b"basic.capture: equal", "the installed program, out of PATH")
     (prefix / "bin/other").write_text("")
     run(TOP / "install", "--remove", "a prefix", cwd=folder)
-    same([path.name for path in prefix.rglob("*") if path.is_file()], ["other"], "what is left")
+    same(files_in(prefix), ["bin", "bin/other"], "what is left")
     for words in [], ["--remove"], ["--remove", folder / "nowhere"], ["-x"], [folder, folder], [""]:
         run(TOP / "install", *words, status=2, env=environment())
     (folder / "file").write_text("")
     run(TOP / "install", folder / "file", status=2, env=environment())
+
+
+@test
+def install_removes_only_what_it_made(folder):
+    """A folder that was there stays, also an empty one; those that were made go, and the prefix with them."""
+    (folder / "old/share/man").mkdir(parents=True)
+    for name in "old", "new/prefix":
+        run(TOP / "install", folder / name, env=environment())
+        run(TOP / "install", "--remove", folder / name)
+    same(files_in(folder), ["old", "old/share", "old/share/man"], "what is left")
 
 
 @test
@@ -56,7 +78,7 @@ def man_page_is_clean(folder):
 
 
 def helped(*words):
-    """The commands and options that help tells."""
+    """The commands and options that help lists."""
     text = run(program(), *words, "--help")[0].decode()
     commands = re.search(r"^Commands:\n((?: .*\n|\n)*)", text, re.MULTILINE)
     found = re.findall(r"^  (\w+)", commands[1], re.MULTILINE) if commands else []
@@ -64,8 +86,8 @@ def helped(*words):
 
 
 @test
-def pages_have_all_that_help_tells(folder):
-    """Each command and option stands in the man page and in both completions."""
+def pages_have_all_that_help_lists(folder):
+    """Each command and option is in the man page and in both completions."""
     text = {name: (TOP / name).read_text(encoding="utf-8").replace("Fl \\-", "--") for name in FILES[1:]}
     commands, options = helped()
     for command in commands:
@@ -100,8 +122,11 @@ def typed(shell, setup, keys, wanted):
         os.waitpid(process, 0)
 
 
-SAYS = "wsn() { printf 'GOT'; printf ' <%s>' \"$@\"; echo; }\n"
+LISTS = "[ \"$*\" != explain ] || { printf 'Verdicts\\n  cut  text-bad  text-cut\\n'; return; }"
+SAYS = f"wsn() {{ {LISTS}; printf 'GOT'; printf ' <%s>' \"$@\"; echo; }}\n"
 TYPED = [
+    ("wsn exp\t--h\t\n", "GOT <explain> <--help>"),
+    ("wsn explain text-b\t\n", "GOT <explain> <text-bad>"),
     ("wsn ju\t--ro\tser\t--lengths a\t\n", "GOT <judge> <--role> <server> <--lengths> <any>"),
     ("wsn same --role cl\tthe\\ o\tthe\\ o\t\n", "GOT <same> <--role> <client> <the one> <the one>"),
 ]
@@ -133,7 +158,5 @@ def completion_in_zsh(folder):
 def scripts_are_clean(folder):
     """shellcheck has nothing to say."""
     needs("shellcheck")
-    run("shellcheck", TOP / "recipes/pcap2wsn", TOP / "install")
+    run("shellcheck", TOP / "install", TOP / "wsn")
     run("shellcheck", "-s", "bash", TOP / "share/bash-completion/completions/wsn")
-    if shutil.which("busybox"):
-        subprocess.run(["busybox", "sh", "-n", str(TOP / "recipes/pcap2wsn")], check=True)

@@ -1,8 +1,8 @@
 """docs/RECIPES.md: each command of the page, with what the page says that it prints; and README.md's.
 
-A block ```console has commands behind `$ ` (further lines behind `> `), and what they print, on either stream. `..`
-stands for anything, within a line or, alone, for lines. A command that ends with ` &` runs to the end of the page.
-Comments of the page say what stands around a block: `serve KIND PORT` and `talk KIND URL` (see peers.py).
+A block ```console has commands after `$ ` (further lines after `> `), and what they print, on either stream. `..`
+is anything, within a line or, alone, for lines. A command that ends with ` &` runs to the end of the page.
+Comments of the page say what runs around a block: `serve KIND PORT` and `talk KIND URL` (see peers.py).
 """
 
 import contextlib
@@ -19,7 +19,7 @@ from harness import (HERE, SAMPLES, SECONDS, TOP, WSN, Failed, Skipped, needs, p
                      started, test, wait_for, want)  # fmt: skip
 
 # Words of a command, and the program that it needs for them.
-NEEDS = {"pcap2wsn": "tshark", "tshark": "tshark", "text2pcap": "text2pcap", "socat": "socat", "jq": "jq",
+NEEDS = {"tls.pcap": "tshark", "tshark": "tshark", "text2pcap": "text2pcap", "socat": "socat", "jq": "jq",
          "mitmdump": "mitmdump", "xxd": "xxd"}  # fmt: skip
 
 # The names of what a command writes.
@@ -59,7 +59,7 @@ class Page:
         (folder / "wsn").symlink_to(WSN)
 
     def section(self, _title):
-        """Sections stand for themselves, but for the files that they read."""
+        """Sections are run by themselves, but for the files that they read."""
         self.missing = ""
 
     def skip(self, words, why):

@@ -1,15 +1,19 @@
 """recipes/pcap2wsn: the sessions under tests/samples, sessions recorded now, and pcaps of them mangled."""
 
+import gzip
 import os
 import re
 import shutil
+import struct
 import subprocess
 
 import pcaps
-from harness import (SAMPLES, SESSIONS, TOP, WSN, Skipped, needs, record_session, run, same, samples, short, sides,
-                     test, want)  # fmt: skip
+from harness import (SAMPLES, SESSIONS, TOP, WSN, needs, record_session, run, said_in, same, samples, short, sides,
+                     test, times, want)  # fmt: skip
 
-AWKS = ["mawk", "gawk", "gawk --posix", "original-awk", "busybox awk"]
+UPGRADE = b"GET /chat?key=x HTTP/1.1\r\nUpgrade: websocket\r\n\r\n"
+ANSWER = b"HTTP/1.1 101 Switching Protocols\r\nUpgrade: websocket\r\n\r\n"
+HANDSHAKE = [("C", UPGRADE), ("S", ANSWER)]
 
 
 def pcap2wsn(*words, status=0, **options):
@@ -26,8 +30,8 @@ def pcap_gives_what_the_proxy_saw(folder):
         out, said = pcap2wsn(SAMPLES / f"{name}.pcap", *words)
         same(sides(out), sides((SAMPLES / f"{name}.capture").read_bytes()), name)
         same("permessage-deflate" in said, name == "deflate", f"{name}: the warning")
-        lines = [line for line in out.splitlines() if not line.startswith(b"#")]
-        joined = [one[:1] != two[:1] or len(one) == 8194 for one, two in zip(lines, lines[1:])]
+        lines = out.splitlines()
+        joined = [one[:1] != two[:1] or len(one) == 8194 for one, two in zip(lines, lines[1:]) if one[:1] in b"CS"]
         want(all(joined[:-2]), f"{name}: neighbours aren't joined, {[len(line) for line in lines]}")
 
 
@@ -60,7 +64,7 @@ def pcap_mangled_gives_the_same(folder):
 
 @test
 def pcap_that_lacks_a_segment_says_so(folder):
-    """Each segment behind the handshake lost in turn: the bytes before it, a note, no end mark, status 1."""
+    """Each segment after the handshake lost in turn: the bytes before it, a note, no end mark, status 1."""
     needs("tshark")
     for name in "basic", "server-closes", "abort":
         packets, link = pcaps.read(SAMPLES / f"{name}.pcap")
@@ -116,6 +120,8 @@ def pcap_with_a_short_snaplen_says_so(folder):
     out, said = pcap2wsn(folder / "short.pcap", "0", status=2)
     same(out, b"", "what is written without a handshake")
     want("captured short" in said, said)
+    pcaps.write(folder / "short.pcap", pcaps.snapped(packets, 68), link)
+    want("packet 4 was captured short" in pcap2wsn(folder / "short.pcap", status=2)[1], "heads alone")
 
 
 @test
@@ -135,30 +141,31 @@ def pcap_cut_short_says_so(folder):
 @test
 def pcap_puts_what_it_says_into_the_capture(folder):
     """At the front, in lines that `wsn closing` reads over; nothing where nothing is said."""
-    needs("tshark")
     packets, link = pcaps.read(SAMPLES / "basic.pcap")
     pcaps.write(folder / "lost.pcap", pcaps.without(packets, [pcaps.data_of(packets, 1)[2]]), link)
     pcaps.write(folder / "short.pcap", pcaps.snapped(packets, 400), link)
     (folder / "cut.pcap").write_bytes((SAMPLES / "basic.pcap").read_bytes()[:15000])
-    upgrade = b"HTTP/1.1 101 Switching Protocols\r\nUpgrade: websocket\r\nSec-WebSocket-Extensions: "
-    talk = [("C", b"GET / HTTP/1.1\r\nUpgrade: websocket\r\n\r\n"), ("S", upgrade + b"x" * 9000 + b"\r\n\r\n")]
-    pcaps.write(folder / "long.pcap", pcaps.session(talk, 40000, 80))
-    for words, status, count in (
-        ([SAMPLES / "basic.pcap", "0"], 0, 0),
-        ([SAMPLES / "deflate.pcap", "0"], 0, 2),
-        (["-m", SAMPLES / "basic.pcap", "0"], 0, 1),
-        ([folder / "lost.pcap", "0"], 1, 1),
-        ([folder / "short.pcap", "0"], 1, 2),
-        ([folder / "cut.pcap", "0"], 1, 2),
-        ([folder / "long.pcap", "0"], 0, 2),
+    long = ANSWER[:-2] + b"Sec-WebSocket-Extensions: " + b"x" * 9000 + b"\r\n\r\n"
+    pcaps.write(folder / "long.pcap", pcaps.session([("C", UPGRADE), ("S", long)], 40000, 80))
+    for words, status, count, more in (
+        ([SAMPLES / "basic.pcap", "0"], 0, 0, ["path"]),
+        ([SAMPLES / "deflate.pcap", "0"], 0, 2, ["path", "extensions"]),
+        (["-m", SAMPLES / "basic.pcap", "0"], 0, 3, []),
+        ([folder / "lost.pcap", "0"], 1, 1, ["path"]),
+        ([folder / "short.pcap", "0"], 1, 2, ["path"]),
+        ([folder / "cut.pcap", "0"], 1, 2, ["path"]),
+        ([folder / "long.pcap", "0"], 0, 2, ["path", "extensions"]),
     ):
         out, said = pcap2wsn(*words, status=status)
-        lines = out.decode().splitlines()
+        first, *comments = said_in(out)
+        want(re.fullmatch(r"# (open|recorded) since \d{4}-\d\d-\d\dT\d\d:\d\d:\d\d\.\d{6}Z", first), f"{words}: {first}")
+        same([line.split(":")[0][2:] for line in comments[: len(more)]], more, f"{words}: the front")
         wanted = [line.replace("pcap2wsn: ", "# ", 1)[:8194] for line in said.splitlines()]
-        same((lines[:count], len(wanted)), (wanted, count), f"{words}: what is said")
-        want(not any(line.startswith("#") for line in lines[count:]), f"{words}: what is said behind the front")
+        same((comments[len(more) :], len(wanted)), (wanted, count), f"{words}: what is said")
+        same(out.decode().splitlines()[: 1 + len(comments)], [first, *comments], f"{words}: the front comes first")
         sides(out)
         same(run(WSN, "closing", status=None, input=out)[1], b"", f"{words}: what wsn says of the capture")
+    same(said_in(pcap2wsn(folder / "long.pcap", "0")[0])[1], "# path: /chat", "the path, without its query")
 
 
 @test
@@ -174,7 +181,7 @@ def pcap_to_a_full_device(folder):
 
 @test
 def pcap_with_a_key_log_that_fits_nothing(folder):
-    """It is told from one that is missing; where no session begins, and where one has keys and no handshake too."""
+    """Another message than for one that is missing; where no session begins, and where one has keys and no handshake too."""
     needs("tshark")
     keys = SAMPLES / "tls.keys"
     random = re.search(r"^\w+ (\w{64}) ", keys.read_text(), re.MULTILINE)[1]
@@ -194,7 +201,7 @@ def pcap_with_a_key_log_that_fits_nothing(folder):
         ([SAMPLES / "tls.pcap", "0", "/dev/null/.."], "can't read"),
         ([SAMPLES / "tls.pcap", "0"], "give the key log file too"),
         (["late.pcap", keys], "no TLS session begins in it"),
-        (["none.pcap", keys], "no TLS session begins in it"),
+        (["none.pcap", keys], "has no TCP packets"),
         (["begun.pcap", keys], "nor have its TLS sessions"),
         (["both.pcap", "1", "other.keys"], misfit),
     ):
@@ -218,15 +225,20 @@ def pcap_with_a_key_log_that_fits_nothing(folder):
 
 @test
 def pcap_knows_its_options(folder):
-    """Another option, or one behind the files: a line with the right words, status 2, nothing written."""
+    """Another option, or one after the files: a line with the right words, status 2, nothing written."""
     pcap = SAMPLES / "basic.pcap"
     for words, wanted in (
-        (["-x"], "there is no option -x: pcap2wsn [-m] PCAP [N] [KEYLOG]"),
-        (["--keylog", pcap], "there is no option --keylog: pcap2wsn [-m] PCAP [N] [KEYLOG]"),
+        (["-x"], "there is no option -x: pcap2wsn [-m] PCAP [N] [KEYLOG], or "),
+        (["--keylog", pcap], "there is no option --keylog: pcap2wsn [-m] PCAP [N] [KEYLOG], or "),
         (["-m", "-x", pcap], "there is no option -x: "),
         ([pcap, "-1"], "there is no option -1: "),
         ([pcap, "0", "-k"], "there is no option -k: "),
-        ([pcap, "-m"], "-m stands in front of PCAP"),
+        ([pcap, "-m"], "-m comes before PCAP"),
+        ([pcap, "--all"], "--all comes before PCAP"),
+        (["--all", pcap], "--all requires a pcap and a folder: pcap2wsn [-m] "),
+        ([pcap, "x"], "can't read x, the key log, and it is no number"),
+        ([pcap, "x", pcap], "x is no connection's number: pcap2wsn "),
+        ([pcap, "0", pcap, pcap], "pcap2wsn [-m] PCAP [N] [KEYLOG]"),
     ):
         out, said = pcap2wsn(*words, status=2)
         same((out, said.count("\n")), (b"", 1), f"{words}: what is written, and lines")
@@ -255,12 +267,15 @@ def pcap_that_begins_late(folder):
 def pcap_that_has_nothing(folder):
     """What can't be read, and what has no handshake: status 2, and what to do."""
     needs("tshark")
+    packets, link = pcaps.read(SAMPLES / "basic.pcap")
+    pcaps.write(folder / "other.pcap", packets[:3], link)
     (folder / "empty.pcap").write_bytes(b"")
     (folder / "text.pcap").write_text("no pcap\n")
     pcaps.write(folder / "none.pcap", [])
     for words, wanted in (
-        ([folder / "empty.pcap"], "no WebSocket handshake"),
-        ([folder / "none.pcap"], "no WebSocket handshake"),
+        ([folder / "empty.pcap"], "empty.pcap is empty"),
+        ([folder / "none.pcap"], "has no TCP packets"),
+        ([folder / "other.pcap"], "no WebSocket handshake"),
         ([folder / "text.pcap"], "can't read"),
         ([folder / "nowhere.pcap"], "can't read"),
         ([SAMPLES / "basic.pcap", "7"], "no connection 7"),
@@ -272,14 +287,16 @@ def pcap_that_has_nothing(folder):
         want(out == b"" and wanted in said, f"{words}: {short(said)}")
     tools = folder / "tools"
     tools.mkdir()
-    for tool in "awk", "cat", "sh":
+    for tool in "python3", "env":
         (tools / tool).symlink_to(shutil.which(tool))
-    _, said = pcap2wsn(SAMPLES / "basic.pcap", status=2, env={"PATH": str(tools)})
+    environment = {**os.environ, "PATH": str(tools)}
+    _, said = pcap2wsn(SAMPLES / "tls.pcap", SAMPLES / "tls.keys", status=2, env=environment)
     want("tshark isn't here" in said, said)
+    pcap2wsn(SAMPLES / "basic.pcap", env=environment)
 
 
 @test
-def pcap_behind_an_earlier_request(folder):
+def pcap_after_an_earlier_request(folder):
     """A request that was answered 401, with a body, and one in chunks, before the handshake; two connections."""
     needs("tshark")
     ask = b"GET /a HTTP/1.1\r\nHost: x\r\n\r\n"
@@ -334,28 +351,6 @@ def pcap_with_what_tcp_repeats(folder):
 
 
 @test
-def pcap_by_each_awk(folder):
-    """The same output under mawk, gawk, original-awk and busybox awk."""
-    needs("tshark")
-    packets, link = pcaps.read(SAMPLES / "basic.pcap")
-    pcaps.write(folder / "lost.pcap", pcaps.without(pcaps.split(packets, 60), [40]), link)
-    missing, answers = [], {}
-    for awk in AWKS:
-        if not shutil.which(awk.split()[0]):
-            missing.append(awk)
-            continue
-        environment = {**os.environ, "AWK": awk}
-        answers[awk] = [pcap2wsn(folder / "lost.pcap", "0", status=1, env=environment)]
-        for name, words in samples():
-            answers[awk].append(pcap2wsn(SAMPLES / f"{name}.pcap", *words, env=environment))
-            answers[awk].append(pcap2wsn(SAMPLES / f"{name}.pcap", *words[1:], env=environment))
-    for awk, answer in answers.items():
-        same(answer, answers[next(iter(answers))], awk)
-    if missing:
-        raise Skipped(f"without {', '.join(missing)}; {', '.join(answers)} agree")
-
-
-@test
 def pcap_with_odd_names(folder):
     """Files with blanks, quotes and a hyphen in front."""
     needs("tshark")
@@ -363,3 +358,209 @@ def pcap_with_odd_names(folder):
     shutil.copy(SAMPLES / "tls.keys", folder / "the $keys.log")
     out, _ = pcap2wsn("--", "-a \"b' c.pcap", "0", "the $keys.log", cwd=folder)
     same(sides(out), sides((SAMPLES / "tls.capture").read_bytes()), "odd names")
+
+
+def ends(out):
+    """A capture's end marks and what is said of a reset, in order."""
+    return [line for line in out.decode().splitlines() if re.fullmatch(r"[CS]\.|# reset by .*", line)]
+
+
+@test
+def pcap_has_the_ends_in_their_order(folder):
+    """Each end mark is where its FIN was; a reset's are last, its sender's first, after a comment."""
+    talk = [*HANDSHAKE, ("C", b"\x88\x80abcd")]
+    begin = pcaps.session([*talk, ("S", b"\x88\x00")], 40000, 80)
+    client, server = begin[-3], begin[-2]
+    one, two = pcaps.Segment(client), pcaps.Segment(server)
+    resets = [pcaps.packet((each.source, each.target), each.seq, each.ack, 20) for each in (one, two)]
+    late = pcaps.packet((one.source, one.target), one.seq, one.ack, 24, b"\x89\x80abcd")
+    fin_first = pcaps.packet((two.source, two.target), two.seq, one.seq, 17)
+    for what, packets, wanted in (
+        ("the client first", [client, server], ["C.", "S."]),
+        ("the server first", [fin_first, client], ["S.", "C."]),
+        ("a reset by the client", [resets[0]], ["# reset by the client", "C.", "S."]),
+        ("a reset by the server", [resets[1]], ["# reset by the server", "S.", "C."]),
+        ("bytes on their way", [resets[1], late], ["# reset by the server", "S.", "C."]),
+        ("a reset after an end", [fin_first, resets[0]], ["S.", "# reset by the client", "C."]),
+        ("a reset after both", [client, server, resets[1]], ["C.", "S."]),
+        ("none", [], []),
+    ):
+        pcaps.write(folder / "ends.pcap", [*begin[:-3], *packets])
+        out, said = pcap2wsn(folder / "ends.pcap", "0")
+        same((ends(out), said), (wanted, ""), what)
+        same(len(sides(out)[0]), 12 if packets[-1:] == [late] else 6, f"{what}: the client's bytes")
+    for name, words in samples():
+        packets = pcaps.read(SAMPLES / f"{name}.pcap")[0]
+        found = [each.source for each in map(pcaps.Segment, packets) if each.packet.data[each.tcp + 13] & 1]
+        wanted = ["C." if port == pcaps.Segment(packets[0]).source else "S." for port in dict.fromkeys(found)]
+        if len(wanted) == 2:
+            same(ends(pcap2wsn(SAMPLES / f"{name}.pcap", *words)[0]), wanted, name)
+
+
+@test
+def pcap_has_the_times(folder):
+    """Seconds since the 101, before each line where a millisecond has passed; bytes within it are joined."""
+    talk = [*HANDSHAKE, ("S", b"\x81\x01a"), ("S", b"\x81\x01b"), ("S", b"\x81\x01c"), ("C", b"\x81\x80abcd")]
+    at = [0, 10, 20, 30_000, 30_400, 30_900, 31_400, 31_500, 3_000_000_000, 3_000_000_500]
+    packets = pcaps.session(talk, 40000, 80)
+    moved = []
+    for each, micros in zip(packets, at):
+        micros += 999_999
+        moved.append(each._replace(seconds=1_700_000_000 + micros // 10**6, micros=micros % 10**6))
+    pcaps.write(folder / "timed.pcap", moved)
+    out, _ = pcap2wsn(folder / "timed.pcap", "0")
+    wanted = ["# open since 2023-11-14T22:13:21.029999Z", "# path: /chat", "# 0.000400", "S 810161810162",
+              "# 0.001400", "S 810163", "C 818061626364", "# 2999.970000", "C.", "S."]  # fmt: skip
+    same(out.decode().splitlines(), wanted, "the capture")
+    for name, words in samples():
+        found = [micros for micros, _ in times(pcap2wsn(SAMPLES / f"{name}.pcap", *words)[0])]
+        want(found and all(two - one >= 1000 for one, two in zip(found, found[1:])), f"{name}: {found}")
+
+
+@test
+def pcap_without_the_ends(folder):
+    """Only the packets that end the directions are missing: said, and no loss."""
+    packets, link = pcaps.read(SAMPLES / "basic.pcap")
+    fins = [at for at, each in enumerate(packets) if each.data[pcaps.Segment(each).tcp + 13] & 1]
+    pcaps.write(folder / "noend.pcap", pcaps.without(packets, fins), link)
+    out, said = pcap2wsn(folder / "noend.pcap", "0")
+    wanted = sides((SAMPLES / "basic.capture").read_bytes())
+    same(sides(out), (wanted[0], wanted[1], set()), "the capture")
+    want(all(f"{name}: the end of its direction isn't in the pcap" in said for name in ("client", "server")), said)
+
+
+@test
+def pcap_that_begins_in_a_frame(folder):
+    """With -m, a first byte that can't begin a frame is reported."""
+    packets, link = pcaps.read(SAMPLES / "basic.pcap")
+    pieces = pcaps.split(packets, 60)
+    place = [at for at in pcaps.data_of(pieces, 1) if len(pcaps.Segment(pieces[at]).payload) == 60][10]
+    pcaps.write(folder / "inside.pcap", pieces[place:], link)
+    out, said = pcap2wsn("-m", folder / "inside.pcap", "0")
+    want("first bytes can't begin a frame" in said, said)
+    same(said_in(out)[1:], [line.replace("pcap2wsn: ", "# ") for line in said.splitlines()], "the front")
+
+
+@test
+def pcap_list_that_is_incomplete(folder):
+    """A pcap that is cut short, or lacks a part of a handshake: the list, a line, status 1."""
+    one, two = (pcaps.session([*HANDSHAKE, ("S", b"\x88\x00")], port, 80) for port in (40000, 40001))
+    pcaps.write(folder / "cut.pcap", [*one, *two])
+    blob = (folder / "cut.pcap").read_bytes()
+    (folder / "cut.pcap").write_bytes(blob[:-300])
+    pcaps.write(folder / "lacks.pcap", [*one, *pcaps.without(two, [3])])
+    for name, wanted in ("cut.pcap", "the pcap is cut short"), ("lacks.pcap", "connection 1 has no whole handshake: "):
+        out, said = pcap2wsn(folder / name, status=1)
+        same(out.splitlines()[0].split(b"\t")[0], b"0", f"{name}: the list")
+        want(wanted in said, f"{name}: {said}")
+
+
+@test
+def pcap_writes_all(folder):
+    """Each connection as a file of its own, as it is written alone, and a list of them."""
+    talk = [("S", b"\x81\x02Hi"), ("C", b"\x88\x80abcd"), ("S", b"\x88\x00")]
+    both = [pcaps.session([*HANDSHAKE, *talk], 40000, 80), pcaps.session([*HANDSHAKE, *talk[:1]], 40001, 80)]
+    mixed = [each for pair in zip(*both) for each in pair] + both[0][len(both[1]) :]
+    other = pcaps.session([("C", b"hello"), ("S", b"there")], 40002, 81)
+    pcaps.write(folder / "two.pcap", other + mixed)
+    out, said = pcap2wsn("--all", folder / "two.pcap", folder / "all")
+    want(said == "", said)
+    same(sorted(path.name for path in (folder / "all").iterdir()), ["1.capture", "2.capture"], "the files")
+    for number in "1", "2":
+        alone = pcap2wsn(folder / "two.pcap", number)[0]
+        same((folder / "all" / f"{number}.capture").read_bytes(), alone, f"connection {number}")
+    rows = [line.split("\t") for line in out.decode().splitlines()]
+    nodes = [["127.0.0.1:40000", "127.0.0.1:80"], ["127.0.0.1:40001", "127.0.0.1:80"]]
+    wanted = [["1", *nodes[0], "/chat", "6", "6", "clean"], ["2", *nodes[1], "/chat", "0", "4", "abnormal"]]
+    same([[row[0], *row[3:]] for row in rows], wanted, "the list")
+    same({tuple(row[1:3]) for row in rows}, {("1970-01-01T00:00:00.000000Z", "0.000000")}, "its times")
+    out, said = pcap2wsn("--all", folder / "two.pcap", folder / "all", status=2)
+    want(out == b"" and "has captures already" in said, said)
+    out, said = pcap2wsn("--all", SAMPLES / "deflate.pcap", folder / "other")
+    want(f"{folder}/other/0.capture: warning: the server agreed on permessage-deflate" in said, said)
+    out, said = pcap2wsn("--all", SAMPLES / "tls.pcap", folder / "tls", SAMPLES / "tls.keys")
+    same(sides((folder / "tls/0.capture").read_bytes()), sides((SAMPLES / "tls.capture").read_bytes()), "TLS")
+
+
+def pcapng(packets, units=6, order="<"):
+    """A pcapng of Ethernet."""
+    def block(kind, body):
+        body += bytes(-len(body) % 4)
+        size = struct.pack(order + "I", len(body) + 12)
+        return struct.pack(order + "I", kind) + size + body + size
+
+    option = struct.pack(order + "HHB3xHH", 9, 1, units, 0, 0)
+    blocks = [block(0x0A0D0D0A, struct.pack(order + "IHHq", 0x1A2B3C4D, 1, 0, -1)),
+              block(1, struct.pack(order + "HHI", 1, 0, 0) + option)]  # fmt: skip
+    for each in packets:
+        time = (each.seconds * 10**6 + each.micros) * 10 ** (units - 6)
+        head = struct.pack(order + "IIIII", 0, time >> 32, time & 0xFFFFFFFF, len(each.data), each.length)
+        blocks.append(block(6, head + each.data))
+    return b"".join(blocks)
+
+
+@test
+def pcap_of_each_form(folder):
+    """Formats and links that are read here or by tshark give the same capture."""
+    needs("tshark")
+    packets, _ = pcaps.read(SAMPLES / "basic.pcap")
+    wanted = pcap2wsn(SAMPLES / "basic.pcap", "0")[0]
+    blob = (SAMPLES / "basic.pcap").read_bytes()
+
+    def changed(link, change):
+        pcaps.write(folder / "form.pcap", [each._replace(data=change(each.data)) for each in packets], link)
+        return (folder / "form.pcap").read_bytes()
+
+    def tunnel(data):
+        size = len(data) + 16
+        ip = struct.pack("!BBHHHBBH4s4s", 0x45, 0, size + 20, 0, 0, 64, 17, 0, b"\x7f\0\0\x01", b"\x7f\0\0\x02")
+        udp = struct.pack("!HHHH", 40000, 4789, size, 0) + b"\x08\0\0\0\0\0\1\0"
+        return bytes(12) + b"\x08\0" + ip + udp + data
+
+    def fragments():
+        pieces = []
+        for number, each in enumerate(packets):
+            head, rest = bytearray(each.data[14:34]), each.data[34:]
+            for at in range(0, len(rest), 200):
+                more = 0x2000 if at + 200 < len(rest) else 0
+                part = rest[at : at + 200]
+                struct.pack_into("!HHH", head, 2, 20 + len(part), number, more | at // 8)
+                data = each.data[:14] + bytes(head) + part
+                pieces.append(each._replace(data=data, length=len(data)))
+        pcaps.write(folder / "form.pcap", pieces)
+        return (folder / "form.pcap").read_bytes()
+
+    forms = {
+        "gzip": gzip.compress(blob),
+        "pcapng": pcapng(packets),
+        "pcapng of nanoseconds": pcapng(packets, 9),
+        "pcapng of the other order": pcapng(packets, 6, ">"),
+        "IP alone": changed(101, lambda data: data[14:]),
+        "loopback": changed(0, lambda data: b"\2\0\0\0" + data[14:]),
+        "a VLAN": changed(1, lambda data: data[:12] + b"\x81\0\0\x05" + data[12:]),
+        "Linux cooked": changed(113, lambda data: bytes(14) + data[12:]),
+        "Linux cooked 2": changed(276, lambda data: data[12:14] + bytes(18) + data[14:]),
+        "PPP": changed(9, lambda data: b"\xff\x03\0\x21" + data[14:]),
+        "VXLAN": changed(1, tunnel),
+        "IP fragments": fragments(),
+    }
+    for what, data in forms.items():
+        (folder / "form").write_bytes(data)
+        same(pcap2wsn(folder / "form", "0")[0], wanted, what)
+        same(pcap2wsn(folder / "form")[0], pcap2wsn(SAMPLES / "basic.pcap")[0], f"{what}: the list")
+
+
+@test
+def pcap_numbers_connections_as_tshark(folder):
+    """Ports that are used again, connections without a SYN, and a SYN that is repeated."""
+    needs("tshark")
+    talk = [*HANDSHAKE, ("S", b"\x88\x00")]
+    first, second, third = (pcaps.session(talk, 40000, 80, seq) for seq in (1000, 5000, 9000))
+    fourth = pcaps.session(talk, 40001, 80)[2:]
+    packets = [*first[:2], *first, *fourth, second[0], *second, *third]
+    pcaps.write(folder / "again.pcap", packets)
+    listed = [line.split()[0] for line in pcap2wsn(folder / "again.pcap")[0].decode().splitlines()]
+    words = ["-Y", "http.response.code == 101", "-d", "tcp.port==80,http", "-T", "fields", "-e", "tcp.stream"]
+    known = run("tshark", "-r", folder / "again.pcap", *words)[0].decode().split()
+    same(listed, list(dict.fromkeys(known)), "the numbers")
+    same(len(listed), 4, "connections")

@@ -1,13 +1,17 @@
 """recipes/record: what it writes and passes on, with peers that are plain sockets, whose bytes are known."""
 
 import contextlib
+import datetime
 import os
 import signal
 import socket
 import struct
+import subprocess
 import threading
+import time
 
-from harness import SECONDS, TOP, Failed, free_port, run, same, sides, started, test, wait_for, want
+from harness import (SECONDS, TOP, Failed, free_port, run, said_in, same, sides, started, test, times, wait_for,
+                     want)  # fmt: skip
 
 ASK = b"GET /chat?x=1 HTTP/1.1\r\nHost: localhost:1\r\nUpgrade: websocket\r\nConnection: Upgrade\r\n\r\n"
 OFFER = ASK[:-2] + b"sec-websocket-extensions: permessage-deflate\r\nX: y\r\n\r\n"
@@ -37,7 +41,7 @@ class Sessions:
         return client, self.stack.enter_context(server)
 
     def open(self, ask=ASK, answer=ANSWER):
-        """The same behind a handshake."""
+        """The same after a handshake."""
         client, server = self.connect()
         client.sendall(ask)
         asked = until(server, b"\r\n\r\n")
@@ -59,13 +63,18 @@ def sessions(folder, *words, **options):
         yield Sessions(stack, folder, *words, **options)
 
 
+def plain(lines):
+    """A capture's lines but the comments."""
+    return b"".join(line for line in lines.splitlines(True) if not line.startswith(b"#"))
+
+
 def until(connection, mark):
     """What comes up to a mark."""
     data = b""
     while not data.endswith(mark):
         piece = connection.recv(1)
         if not piece:
-            raise Failed(f"the connection ended behind {data!r}")
+            raise Failed(f"the connection ended after {data!r}")
         data += piece
     return data
 
@@ -76,32 +85,32 @@ def exactly(connection, count):
     while len(data) < count:
         piece = connection.recv(min(65536, count - len(data)))
         if not piece:
-            raise Failed(f"the connection ended behind {len(data)} of {count} bytes")
+            raise Failed(f"the connection ended after {len(data)} of {count} bytes")
         data += piece
     return bytes(data)
 
 
 @test
 def record_writes_lines_as_bytes_pass(folder):
-    """Each line stands before the connection ends; then an end of either side alone."""
+    """Each line is written before the connection ends; then an end of either side alone."""
     with sessions(folder) as all_sessions:
         client, server, asked = all_sessions.open()
         same(asked, ASK.replace(b"localhost:1", f"127.0.0.1:{all_sessions.server_port}".encode()), "the request")
         path = all_sessions.folder / "0001.capture"
         client.sendall(b"\x81\x80abcd")
         same(exactly(server, 6), b"\x81\x80abcd", "what the server got")
-        wait_for(lambda: path.read_bytes() == b"C 818061626364\n", "the client's line")
+        wait_for(lambda: plain(path.read_bytes()) == b"C 818061626364\n", "the client's line")
         server.sendall(b"\x88\x00")
         server.shutdown(socket.SHUT_WR)
         same(exactly(client, 2), b"\x88\x00", "what the client got")
         same(client.recv(1), b"", "the end")
-        wait_for(lambda: path.read_bytes() == b"C 818061626364\nS 8800\nS.\n", "the server's end")
+        wait_for(lambda: plain(path.read_bytes()) == b"C 818061626364\nS 8800\nS.\n", "the server's end")
         client.sendall(b"\x88\x80abcd")
-        same(exactly(server, 6), b"\x88\x80abcd", "what the server got behind its end")
+        same(exactly(server, 6), b"\x88\x80abcd", "what the server got after its end")
         client.close()
         same(server.recv(1), b"", "the client's end")
         wanted = b"C 818061626364\nS 8800\nS.\nC 888061626364\nC.\n"
-        same(all_sessions.recorded(), wanted, "the capture")
+        same(plain(all_sessions.recorded()), wanted, "the capture")
 
 
 @test
@@ -146,13 +155,37 @@ def record_passes_resets_on(folder):
             except ConnectionResetError:
                 pass
             lines = all_sessions.recorded(number)
-            same(lines.splitlines()[0], f"{who} 8100".encode(), "the first line")
-            same(sorted(lines.splitlines()[1:]), [b"C.", b"S."], "the end marks")
+            name, marks = ("client", b"C.\nS.\n") if who == "C" else ("server", b"S.\nC.\n")
+            same(plain(lines), f"{who} 8100\n".encode() + marks, "the capture")
+            want(lines.endswith(f"# reset by the {name}\n".encode() + marks), f"who reset it: {lines}")
+
+
+@test
+def record_puts_times_into_the_capture(folder):
+    """When it was open, what was agreed on; seconds before each line where a millisecond has passed."""
+    answer = ANSWER[:-2] + b"Sec-WebSocket-Protocol: chat\r\nSec-WebSocket-Extensions: x; y=1\r\n\r\n"
+    with sessions(folder) as all_sessions:
+        before = datetime.datetime.utcnow()
+        client, server, _ = all_sessions.open(answer=answer)
+        for _ in range(3):
+            time.sleep(0.02)
+            client.sendall(b"\x81\x80abcd")
+            exactly(server, 6)
+        client.close()
+        server.close()
+        lines = all_sessions.recorded()
+    opened, *comments = said_in(lines)
+    at = datetime.datetime.strptime(opened, "# open since %Y-%m-%dT%H:%M:%S.%fZ")
+    want(abs((at - before).total_seconds()) < SECONDS, f"{opened}, and not {before}")
+    same(comments, ["# path: /chat", "# subprotocol: chat", "# extensions: x; y=1"], "the front")
+    found = [micros for micros, _ in times(lines)]
+    want(found[0] >= 10_000 and len(found) >= 3, f"the times: {found}")
+    want(all(two - one >= 1000 for one, two in zip(found, found[1:])), f"the times: {found}")
 
 
 @test
 def record_takes_out_the_offer(folder):
-    """--plain takes the offer of extensions out; without it the offer stays and what is agreed on is told."""
+    """--plain takes the offer of extensions out; without it the offer stays and what is agreed on is reported."""
     with sessions(folder, "--plain") as all_sessions:
         asked = all_sessions.open(OFFER)[2]
         want(b"deflate" not in asked and asked.endswith(b"\r\nX: y\r\n\r\n"), f"the request: {asked!r}")
@@ -183,6 +216,23 @@ def record_passes_other_answers_on(folder):
         client.close()
         server.close()
         same(sides(all_sessions.recorded()), (b"", b"\x88\x00", {"C", "S"}), "the capture")
+
+
+@test
+def record_in_the_background_stops(folder):
+    """A shell's background job ignores SIGINT at first; the proxy takes it nevertheless."""
+    port = free_port()
+    script = f"'{TOP}/recipes/record' {port} ws://127.0.0.1:{free_port()} '{folder}/made' & echo $!; wait $!; echo $?"
+    with subprocess.Popen(["sh", "-c", script], stdout=subprocess.PIPE, stderr=subprocess.PIPE) as shell:
+        number = int(shell.stdout.readline())
+        want(b"listening" in shell.stderr.readline(), "it listens")
+        os.kill(number, signal.SIGINT)
+        try:
+            shell.wait(SECONDS / 6)
+            same(shell.stdout.read(), b"0\n", "the status")
+        except subprocess.TimeoutExpired:
+            os.kill(number, signal.SIGTERM)
+            raise
 
 
 @test
@@ -242,15 +292,18 @@ def record_begins_with_what_can_be(folder):
 
 
 @test
-def record_tells_what_it_wants(folder):
+def record_says_what_it_requires(folder):
     """Words that it doesn't take: status 2. A server that isn't there: 502."""
     for words, said in (
         ([], b"Listens on PORT"),
+        (["--plian", "9001", "ws://localhost", folder], b"record: there is no option --plian: record [--plain] "),
+        (["9001", "ws://localhost"], b"record: it takes a port, a URL and a folder: record [--plain] "),
         (["x", "ws://localhost", folder], b"[ADDRESS:]PORT"),
         ([str(free_port()), "http://localhost", folder], b"ws://HOST"),
         ([str(free_port()), "ws://localhost", "/dev/null/x"], b"/dev/null"),
     ):
-        want(said in run(TOP / "recipes/record", *words, status=2)[1], f"{words}")
+        error = run(TOP / "recipes/record", *words, status=2)[1]
+        want(said in error and (not words or error.count(b"\n") == 1), f"{words}: {error}")
     port = free_port()
     words = [TOP / "recipes/record", port, f"ws://127.0.0.1:{free_port()}", folder]
     with started(*words, line="listening", stream="stderr"):

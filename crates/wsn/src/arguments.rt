@@ -1,16 +1,16 @@
 ghost use Rattle.std.specs.Prelude.{◌≤◌, IfOk, IfSome, vec_len};
 
-use crate::command_line::Usage;
 use std::alloc::Global;
 use std::env::FillError;
 use std::rt::Env;
 use std::str;
+use wsn_cli::Usage;
 
-/// How many bytes of a word are asked for at first.
+/// The number of bytes that a word is first given room for.
 const WORD: usize = 4_096;
 
-/// The words of the command line, `wsn` in the place of the name that the program was called by. A word must be
-/// UTF-8.
+/// The words of the command line, with `wsn` instead of the name by which the program was called. The error is `Own`
+/// for a word that isn't UTF-8.
 pub fn words<E: Env>(alloc: Global, env: &E) -> Result<Vec<String>, Usage> {
     let mut words = Vec::new(alloc);
     words.push(String::from_str(alloc, "wsn")?)?;
@@ -27,7 +27,8 @@ pub fn words<E: Env>(alloc: Global, env: &E) -> Result<Vec<String>, Usage> {
     Ok(words)
 }
 
-/// Puts a word at the front of `bytes`, which grow until it fits, and answers its length; `None` behind the last.
+/// Reads the word with this index into the first bytes of `bytes`, which grow until the word fits, and returns its
+/// length; `None` after the last word.
 fn read_word<E: Env>(env: &E, place: usize, bytes: &mut Vec<u8>) -> Result<Option<usize>, Usage>
     ensures { IfOk result (λ found. IfSome found (λ len. len ≤ vec_len bytes.new)) }
 {

@@ -1,45 +1,23 @@
-//! Facts of this crate's answers, and of the definitions that they speak of. Each function does nothing: its
-//! contract is the fact.
+//! The main laws. Each is a function that does nothing: its contract is the law.
+//!
+//! The laws from `wsn_rules` are about the definitions. Each input has one verdict and one meaning ([`law_unique`]). A
+//! refused input stays refused ([`law_stays_refused`]). Normal forms are equal exactly if the meanings are
+//! ([`law_canon`]). Normalising twice is the same as normalising once ([`law_once`]). Every refragmentation within the
+//! limits means the same ([`law_recut`]). The accepted streams of a meaning that leave no message unfinished and have
+//! no tail are exactly its recuts ([`law_restore`]). A plan that doesn't fit has exactly one fault ([`law_one_fault`]).
+//!
+//! The laws from the other crates are about what the calls return and write.
 
-ghost use Rattle.std.specs.Prelude.{◌≡◌, ◌≢◌, ℕ, List, ◌≤◌, Result, Ok, length};
-ghost use Rattle.wsn_canon.specs.Words.{Role, Limits, InRange, MeantEvent, Compared, DifferAt, IsAnswerOf, Outgoing, IsWritten, Summary, Verdict, Accepted, Stop, IsNormalisedWhole, AnswersAll};
-
-pub use wsn_rules::laws::{
-    law_canon, law_meaning_is_lawful, law_once, law_stays_refused, law_unique,
+pub use wsn_events::laws::{
+    law_normalising_twice, law_one_comparison, law_one_difference, law_one_normal_form,
 };
-
-/// Two lists of events differ first at one index at most, and then they aren't equal.
-pub fn law_one_difference()
-    ensures one { (k j : ℕ) (events others : List MeantEvent) → DifferAt k events others → DifferAt j events others → k
-        ≡ j }
-    ensures unequal { (k : ℕ) (events others : List MeantEvent) → DifferAt k events others → events ≢ others }
-{}
-
-/// Two lists of bytes have one answer at most: equal, different at one index, or one of them not accepted.
-pub fn law_one_comparison()
-    ensures { (role : Role) (limits : Limits) (bytes others : List ℕ) (answer other : Compared) →
-        IsAnswerOf role limits bytes others answer → IsAnswerOf role limits bytes others other → answer ≡ other }
-{}
-
-/// Of an input whose bytes are known [`normalise`](crate::normalise) has one answer and writes one list of bytes, in
-/// whatever pieces it comes, unless a read, a write or memory fails.
-pub fn law_one_normal_form()
-    ensures { (role : Role) (limits : Limits) (all : List ℕ) (before after other_before other_after : Outgoing)
-        (result other : Result Verdict Stop) →
-        AnswersAll result → AnswersAll other → IsNormalisedWhole role limits all before after result →
-        IsNormalisedWhole role limits all other_before other_after other →
-        (result ≡ other) × ((bytes : List ℕ) × IsWritten before after bytes
-        × IsWritten other_before other_after bytes) }
-{}
-
-/// Normalising twice is once: what [`normalise`](crate::normalise) writes of an accepted input it accepts and writes
-/// again, where that is within the input limit and no read, no write and no memory fails.
-pub fn law_normalising_twice()
-    ensures { (role : Role) (limits : Limits) (all : List ℕ) (before after : Outgoing) (summary : Summary) →
-        InRange limits → IsNormalisedWhole role limits all before after (Ok (Accepted summary)) →
-        (out : List ℕ) × IsWritten before after out
-        × ((again_before again_after : Outgoing) (result : Result Verdict Stop) →
-        length out ≤ limits.input → AnswersAll result →
-        IsNormalisedWhole role limits out again_before again_after result →
-        ((again : Summary) × (result ≡ Ok (Accepted again))) × IsWritten again_before again_after out) }
-{}
+pub use wsn_plan::laws::{
+    law_one_line_fault, law_one_plan, law_one_plan_of, law_one_recut, law_restored,
+    law_same_meaning,
+};
+pub use wsn_rules::faults::law_one_fault;
+pub use wsn_rules::laws::{
+    law_canon, law_meaning_is_lawful, law_normal_form_is_a_recut, law_once, law_recut, law_restore,
+    law_stays_refused, law_unique,
+};
+pub use wsn_scan::laws::{law_one_answer, law_one_listing};

@@ -1,27 +1,22 @@
-//! What a stream means, and its normal form (RFC 6455 sections 5.4 to 5.6).
+//! What a stream means, its normal form, its plan and its recuts: the one crate that a user of the library depends on
+//! (RFC 6455 sections 5.4 to 5.6).
 //!
-//! An [`Event`] is a message, a ping, a pong or the close. A [`Source`] gives the events of a stream, each at the
-//! frame that ends it, and then its verdict. [`is_lawful`] tells whether a stream can mean an event, [`control_of`]
-//! gives a control's opcode and body, and [`put_event`] writes an event's normal form, one frame. [`normalise`] writes
-//! that of all of a stream's events, and [`same`] tells whether two streams mean the same.
+//! [`Source`] reads the [`Event`]s of a stream, [`put_event`] writes one event, [`normalise`] writes a stream's normal
+//! form, and [`same`] compares two streams. [`plan_of`] returns the [`Plan`] of a stream's own frames, [`recut`] writes
+//! a stream's events in the frames of a plan, and [`uniform`] plans frames of one size. [`read_plan`] and
+//! [`write_plan`] read and write plans as text. [`laws`] has the main laws.
 //!
-//! `specs/EventsMeant.antt` says what an [`Event`] stands for, `specs/Sources.antt` which events a source gives,
-//! `specs/Normalised.antt` what a normaliser writes, and `specs/Comparing.antt` what a comparison answers; lawful
-//! events and the normal form itself are defined in `wsn_rules` (`specs/LawfulEvents.antt`, `specs/NormalForm.antt`).
-//! [`laws`] has what holds of these.
+//! Everything here is re-exported from `wsn_events`, `wsn_plan`, `wsn_rules`, `wsn_scan` and `wsn_wire`.
 #![tactic(auto)]
 
-mod comparing;
-mod event;
 pub mod laws;
-mod normal;
-mod putting;
-mod reading;
-mod reassembly;
-mod source;
 
-pub use comparing::{Compared, same};
-pub use event::{Event, Small, is_lawful};
-pub use normal::normalise;
-pub use putting::{control_of, put_event};
-pub use source::{Next, Source};
+pub use wsn_events::{
+    Compared, Event, Next, Small, Source, control_of, is_lawful, normalise, put_event, same,
+};
+pub use wsn_plan::{
+    LineWhy, Plan, PlanAnswer, PlanFault, PlanFileFault, RecutAnswer, Step, Why, plan_of,
+    read_plan, read_plan_file, recut, recut_uniform, uniform, write_plan,
+};
+pub use wsn_scan::{HeadInfo, INPUT_MAX, Limits, MESSAGE_MAX, Refusal, Stop, Summary, Verdict};
+pub use wsn_wire::{Input, Kind, Output, Role};

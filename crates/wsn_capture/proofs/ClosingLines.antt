@@ -1,4 +1,4 @@
--- Where a Close ends, as lines come on.
+-- The line in which a Close ends, as lines are added.
 use Rattle.std.proofs.Common.{◌≡◌, ℕ, suc, ◌-◌, ◌<◌, ◌≤◌, ◌⊎◌, Option, None, Some, List, [], ◌∷◌, ◌++◌, length, is_some, inl, inr, refl, sym, ap, ◌∙◌, subst, append_assoc, append-nil, arith, length-append}
 use Rattle.std.proofs.lemmas.Bool.{cases_lt}
 use Rattle.std.proofs.lemmas.List.{take_all, take-append-le, take_at}
@@ -19,15 +19,15 @@ use Rattle.wsn_rules.proofs.LawfulLists.{no_close_before, close_is_last}
 use Rattle.wsn_rules.proofs.Prefixes.{two_fronts}
 use Rattle.wsn_scan.proofs.FrameEnds.{close_of-push}
 use Rattle.wsn_scan.proofs.ScanVerdicts.{close_of_none}
-use Rattle.wsn_capture.specs.Entries.{Entry}
-use Rattle.wsn_capture.specs.Sides.{bytes_in, sent}
-use Rattle.wsn_capture.specs.Reports.{ClosesIn}
+use Rattle.wsn_rules.specs.Entries.{Entry}
+use Rattle.wsn_rules.specs.Sides.{bytes_in, sent}
+use Rattle.wsn_rules.specs.Reports.{ClosesIn}
 use Rattle.wsn_capture.specs.Captures.{IsUnclosed, IsClosedBy, IsCloseLine, IsNoted}
 
 module _ (role : Role) (limits : Limits) where
   -- ---- whether a stream has a Close
 
-  -- frames that end with a Close have its code
+  -- frames that end with a Close have a close code
   pub close_counted : (fs : List Frame) → IsLawful role limits fs → EndsWithClose fs → (code : Option ℕ) × (close_of fs ≡ Some code)
   close_counted fs lawful ends =
       let none = no_close_before role limits ends.0 ends.1 [] (subst (IsLawful role limits) ends.3 lawful) in
@@ -58,9 +58,9 @@ module _ (role : Role) (limits : Limits) where
   cut_unclosed bytes fs verdict is (inl cut) = not_accepted bytes fs verdict is (λ summary accepted. let both : Cut cut.0 ≡ Accepted summary = sym cut.1 ∙ accepted in cc)
   cut_unclosed bytes fs verdict is (inr refused) = not_accepted bytes fs verdict is (λ summary accepted. let both : Refused refused.0 ≡ Accepted summary = sym refused.1 ∙ accepted in cc)
 
-  -- ---- a stream that goes on
+  -- ---- a stream with further bytes
 
-  -- what comes behind a Close is its tail
+  -- what comes after a Close is its tail
   pub accepted_longer : (bytes more : List ℕ) (fs : List Frame) → IsAccepted role limits bytes fs → EndsWithClose fs → IsAccepted role limits (bytes ++ more) fs
   accepted_longer bytes more fs is closes = record {
     lawful = is.lawful;
@@ -77,9 +77,9 @@ module _ (role : Role) (limits : Limits) where
         | inr tail ↦ tail.1
       ]
 
-  -- the Close of a stream that had none ends behind what had come
-  pub ends_behind : (bytes more : List ℕ) (fs : List Frame) → IsUnclosed role limits bytes → IsAccepted role limits (bytes ++ more) fs → EndsWithClose fs → length bytes < length (stream fs)
-  ends_behind bytes more fs unclosed is closes =
+  -- the Close of a stream that had none ends after the bytes that came before
+  pub ends_after : (bytes more : List ℕ) (fs : List Frame) → IsUnclosed role limits bytes → IsAccepted role limits (bytes ++ more) fs → EndsWithClose fs → length bytes < length (stream fs)
+  ends_after bytes more fs unclosed is closes =
       let tail = used (bytes ++ more) fs is closes in
       elim (two_fronts bytes (stream fs) more tail.0 tail.1) [
         | inl further ↦ some_more further.0 further.1
@@ -90,7 +90,7 @@ module _ (role : Role) (limits : Limits) where
       some_more [] same = absurd (unclosed fs (record { lawful = is.lawful; ends = inr (closes, ([], sym (append-nil bytes) ∙ sym same ∙ sym (append-nil (stream fs)))) }) closes)
       some_more (b ∷ m) longer = let size = ap (λ (bs : List ℕ). length bs) longer ∙ length-append bytes (b ∷ m) in omega (arith, size)
 
-  -- ---- lines that go on
+  -- ---- further lines
 
   pub sent-push : (given : List Entry) (entry : Entry) → sent role (given ++ entry ∷ []) ≡ sent role given ++ bytes_in role entry
   sent-push given entry = flat_map-append (bytes_in role) given (entry ∷ []) ∙ ap (λ (bs : List ℕ). sent role given ++ bs) (append-nil (bytes_in role entry))
@@ -103,20 +103,20 @@ module _ (role : Role) (limits : Limits) where
         | inr past ↦
             let all = ap (λ (es : List Entry). length (sent role es)) (take_all line given past) in
             let more = ap (λ (es : List Entry). length (sent role es)) (take_all (suc line) given (omega (arith, past))) in
-            absurd (omega (arith, all, more, is.before, is.behind))
+            absurd (omega (arith, all, more, is.before, is.following))
       ]
 
   pub closes_longer : (given : List Entry) (entry : Entry) (line : ℕ) → ClosesIn role limits given line → ClosesIn role limits (given ++ entry ∷ []) line
   closes_longer given entry line is =
       let within = closes_within given line is in
       let before = ap (λ (es : List Entry). length (sent role es)) (take-append-le line given (entry ∷ []) (omega (arith, within))) in
-      let behind = ap (λ (es : List Entry). length (sent role es)) (take-append-le (suc line) given (entry ∷ []) (omega (arith, within))) in
+      let following = ap (λ (es : List Entry). length (sent role es)) (take-append-le (suc line) given (entry ∷ []) (omega (arith, within))) in
       record {
         frames = is.frames;
         accepted = subst (λ (bs : List ℕ). IsAccepted role limits bs is.frames) (sym (sent-push given entry)) (accepted_longer (sent role given) (bytes_in role entry) is.frames is.accepted is.closes);
         closes = is.closes;
         before = omega (arith, before, is.before);
-        behind = omega (arith, behind, is.behind);
+        following = omega (arith, following, is.following);
       }
 
   pub closes_last : (given : List Entry) (entry : Entry) (fs : List Frame) → IsUnclosed role limits (sent role given) → IsAccepted role limits (sent role given ++ bytes_in role entry) fs → EndsWithClose fs → ClosesIn role limits (given ++ entry ∷ []) (length given)
@@ -127,23 +127,23 @@ module _ (role : Role) (limits : Limits) where
       let tail = used (sent role given ++ bytes_in role entry) fs is closes in
       let sizes = ap (λ (bs : List ℕ). length bs) tail.1 ∙ length-append (stream fs) tail.0 in
       let pushed = ap (λ (bs : List ℕ). length bs) (sent-push given entry) in
-      let late = ends_behind (sent role given) (bytes_in role entry) fs unclosed is closes in
+      let late = ends_after (sent role given) (bytes_in role entry) fs unclosed is closes in
       record {
         frames = fs;
         accepted = subst (λ (bs : List ℕ). IsAccepted role limits bs fs) (sym (sent-push given entry)) is;
         closes = closes;
         before = omega (arith, front, late);
-        behind = omega (arith, all, pushed, sizes);
+        following = omega (arith, all, pushed, sizes);
       }
 
-  -- the line that is kept, where an entry came that adds these bytes
+  -- the line that is noted after an entry that adds these bytes
   pub line_noted : (given : List Entry) (entry : Entry) (lines : ℕ) (known noted : Option ℕ) → lines ≡ length given → IsCloseLine role limits given known → IsNoted role limits (sent role given ++ bytes_in role entry) known lines noted
       → IsCloseLine role limits (given ++ entry ∷ []) noted
   line_noted given entry lines (Some line) noted count is stays = subst (IsCloseLine role limits (given ++ entry ∷ [])) (sym stays) (closes_longer given entry line is)
   line_noted given entry lines None (Some line) count is closes = subst (ClosesIn role limits (given ++ entry ∷ [])) (sym count ∙ sym closes.0) (closes_last given entry closes.1.0 is closes.1.1 closes.1.2)
   line_noted given entry lines None None count is unclosed = subst (IsUnclosed role limits) (sym (sent-push given entry)) unclosed
 
-  -- the same where it adds none
+  -- the line that is noted after an entry that adds none
   pub line_kept : (given : List Entry) (entry : Entry) (known : Option ℕ) → bytes_in role entry ≡ [] → IsCloseLine role limits given known → IsCloseLine role limits (given ++ entry ∷ []) known
   line_kept given entry (Some line) none is = closes_longer given entry line is
   line_kept given entry None none is =

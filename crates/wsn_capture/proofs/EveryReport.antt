@@ -16,15 +16,15 @@ use Rattle.wsn_rules.specs.Limits.{Limits, InRange}
 use Rattle.wsn_rules.specs.Verdict.{IsVerdict}
 use Rattle.wsn_rules.proofs.EveryInput.{has_verdict}
 use Rattle.wsn_rules.proofs.Prefixes.{nil-push, nil-parts}
-use Rattle.wsn_capture.specs.declared.report.Side.{Side}
-use Rattle.wsn_capture.specs.declared.report.Side.TheVariants.{Closed, Refused as RefusedSide, Ended, Cut as CutSide, Running}
-use Rattle.wsn_capture.specs.declared.report.Outcome.{Outcome}
-use Rattle.wsn_capture.specs.declared.report.Outcome.TheVariants.{Failed, Clean, Complete, Abnormal, Half, Live}
-use Rattle.wsn_capture.specs.declared.report.Report.{Report}
-use Rattle.wsn_capture.specs.Entries.{Entry, GivesEntry, AreEntries}
-use Rattle.wsn_capture.specs.Entries.Entry.{Nothing, Bytes, Mark}
-use Rattle.wsn_capture.specs.Sides.{bytes_in, sent, has_ended, side_of, IsSide}
-use Rattle.wsn_capture.specs.Reports.{IsRefused, IsClosed, IsEndedEarly, Fits, outcome_order, echo_of, seen_of, IsOutcome, IsReport}
+use Rattle.wsn_rules.specs.declared.report.Side.{Side}
+use Rattle.wsn_rules.specs.declared.report.Side.TheVariants.{Closed, Refused as RefusedSide, Ended, Cut as CutSide, Running}
+use Rattle.wsn_rules.specs.declared.report.Outcome.{Outcome}
+use Rattle.wsn_rules.specs.declared.report.Outcome.TheVariants.{Failed, Clean, Complete, Abnormal, Half, Live}
+use Rattle.wsn_rules.specs.declared.report.Report.{Report}
+use Rattle.wsn_rules.specs.Entries.{Entry, GivesEntry, AreEntries}
+use Rattle.wsn_rules.specs.Entries.Entry.{Nothing, Bytes, Mark}
+use Rattle.wsn_rules.specs.Sides.{bytes_in, sent, has_ended, side_of, IsSide}
+use Rattle.wsn_rules.specs.Reports.{IsRefusedSide, IsClosedSide, IsEndedEarly, OutcomeFits, outcome_order, echo_of, seen_of, IsOutcome, IsReport}
 use Rattle.wsn_capture.specs.CloseLines.{earlier_of}
 use Rattle.wsn_capture.specs.Captures.{IsUnclosed, IsClosedBy, IsCloseLine}
 use Rattle.wsn_capture.proofs.PairedDigits.{pair_of}
@@ -32,7 +32,7 @@ use Rattle.wsn_capture.proofs.ClosingLines.{accepted_closed, cut_unclosed, sent-
 use Rattle.wsn_capture.proofs.ReportedLines.{first_by_lines}
 use Rattle.wsn_capture.proofs.OneReport.{outcome_at, at_its_place}
 
--- ---- what digits spell is bytes
+-- ---- digits encode bytes
 
 digit_small : (c v : ℕ) → hex_digit_value c ≡ Some v → v < 16
 digit_small c v is = grind (arith)
@@ -53,17 +53,17 @@ decoded_bytes i (digit ∷ []) bytes is = absurd (cc is)
 decoded_bytes i (high ∷ low ∷ rest) bytes is = by_pair (decoded_bytes (i + 2) rest) (pair_value high low i) refl
   where
     by_rest : (v : ℕ) (r : Result (List ℕ) FromHexError) → ((more : List ℕ) → r ≡ Ok more → IsBytes more) → v < 256 → cons_byte v r ≡ Ok bytes → IsBytes bytes
-    by_rest v (Ok more) behind small whole = let same : v ∷ more ≡ bytes = cc in subst IsBytes same (small, behind more refl)
-    by_rest v (Err e) behind small whole = absurd (cc whole)
+    by_rest v (Ok more) following small whole = let same : v ∷ more ≡ bytes = cc in subst IsBytes same (small, following more refl)
+    by_rest v (Err e) following small whole = absurd (cc whole)
 
     by_pair : ((more : List ℕ) → decode_pairs (i + 2) rest ≡ Ok more → IsBytes more) → (r : Result ℕ FromHexError) → pair_value high low i ≡ r → IsBytes bytes
-    by_pair behind (Ok v) pair =
-        by_rest v (decode_pairs (i + 2) rest) behind (pair_small high low i (hex_digit_value high) (hex_digit_value low) v (digit_small high) (digit_small low) pair)
+    by_pair following (Ok v) pair =
+        by_rest v (decode_pairs (i + 2) rest) following (pair_small high low i (hex_digit_value high) (hex_digit_value low) v (digit_small high) (digit_small low) pair)
         (sym (decode_pairs-ok_pair i high low v rest pair) ∙ is)
-    by_pair behind (Err e) pair = let both : Err e ≡ Ok bytes = sym (decode_pairs-err_pair i high low e rest pair) ∙ is in absurd (cc both)
+    by_pair following (Err e) pair = let both : Err e ≡ Ok bytes = sym (decode_pairs-err_pair i high low e rest pair) ∙ is in absurd (cc both)
 
-spelled_bytes : (digits bytes : List ℕ) → decode_of digits ≡ Ok bytes → IsBytes bytes
-spelled_bytes digits bytes is = by_parity (length digits % 2 == 1) is
+encoded_bytes : (digits bytes : List ℕ) → decode_of digits ≡ Ok bytes → IsBytes bytes
+encoded_bytes digits bytes is = by_parity (length digits % 2 == 1) is
   where
     by_parity : (odd : Bool) → cond odd (Err OddLength) (decode_pairs 0 digits) ≡ Ok bytes → IsBytes bytes
     by_parity true whole = absurd (cc whole)
@@ -72,10 +72,10 @@ spelled_bytes digits bytes is = by_parity (length digits % 2 == 1) is
 entry_bytes : (role : Role) (text : List ℕ) (entry : Entry) → GivesEntry text entry → IsBytes (bytes_in role entry)
 entry_bytes Client text Nothing is = tt
 entry_bytes Server text Nothing is = tt
-entry_bytes Client text (Bytes Client bytes) is = spelled_bytes is.0 bytes is.2.1
+entry_bytes Client text (Bytes Client bytes) is = encoded_bytes is.0 bytes is.2.1
 entry_bytes Client text (Bytes Server bytes) is = tt
 entry_bytes Server text (Bytes Client bytes) is = tt
-entry_bytes Server text (Bytes Server bytes) is = spelled_bytes is.0 bytes is.2.1
+entry_bytes Server text (Bytes Server bytes) is = encoded_bytes is.0 bytes is.2.1
 entry_bytes Client text (Mark role) is = tt
 entry_bytes Server text (Mark role) is = tt
 
@@ -137,18 +137,18 @@ module _ (role : Role) (limits : Limits) (range : InRange limits) where
 
 -- ---- the outcome
 
--- a fact that is decided
+-- A fact that holds, or doesn't.
 abbrev Decided : Type 0 → Type 0
 Decided A = A ⊎ (A → ⊥)
 
-refused_or_not : (side : Side) → Decided (IsRefused side)
+refused_or_not : (side : Side) → Decided (IsRefusedSide side)
 refused_or_not (Closed code) = inr (λ is. is)
 refused_or_not (RefusedSide refusal) = inl tt
 refused_or_not Ended = inr (λ is. is)
 refused_or_not CutSide = inr (λ is. is)
 refused_or_not Running = inr (λ is. is)
 
-closed_or_open : (side : Side) → Decided (IsClosed side)
+closed_or_open : (side : Side) → Decided (IsClosedSide side)
 closed_or_open (Closed code) = inl tt
 closed_or_open (RefusedSide refusal) = inr (λ is. is)
 closed_or_open Ended = inr (λ is. is)
@@ -185,7 +185,7 @@ order_at (suc (suc (suc (suc zero)))) le = refl
 order_at (suc (suc (suc (suc (suc n))))) le = omega (arith, le)
 
 module _ (client server : Side) (client_ended server_ended : Bool) where
-  fits_or_not : (outcome : Outcome) → Decided (Fits client server client_ended server_ended outcome)
+  fits_or_not : (outcome : Outcome) → Decided (OutcomeFits client server client_ended server_ended outcome)
   fits_or_not Failed = one_of (refused_or_not client) (refused_or_not server)
   fits_or_not Clean =
       elim (both (both (closed_or_open client) (closed_or_open server)) (both (true_or_not client_ended) (true_or_not server_ended))) [
@@ -197,24 +197,24 @@ module _ (client server : Side) (client_ended server_ended : Bool) where
   fits_or_not Half = one_of (closed_or_open client) (closed_or_open server)
   fits_or_not Live = inl tt
 
-  -- none before this place fits
+  -- No outcome before this number fits.
   abbrev NoneBefore : ℕ → Type 0
-  NoneBefore n = (other : Outcome) → Fits client server client_ended server_ended other → n ≤ outcome_order other
+  NoneBefore n = (other : Outcome) → OutcomeFits client server client_ended server_ended other → n ≤ outcome_order other
 
-  none_there : (n : ℕ) → NoneBefore n → (Fits client server client_ended server_ended (outcome_at n) → ⊥) → NoneBefore (suc n)
+  none_there : (n : ℕ) → NoneBefore n → (OutcomeFits client server client_ended server_ended (outcome_at n) → ⊥) → NoneBefore (suc n)
   none_there n before none other held =
-      let behind = before other held in
+      let following = before other held in
       elim (cases_eq (outcome_order other) n) [
-        | inl here ↦ absurd (none (subst (Fits client server client_ended server_ended) (sym (at_its_place other) ∙ ap outcome_at here) held))
-        | inr there ↦ omega (arith, behind, there)
+        | inl here ↦ absurd (none (subst (OutcomeFits client server client_ended server_ended) (sym (at_its_place other) ∙ ap outcome_at here) held))
+        | inr there ↦ omega (arith, following, there)
       ]
 
   from : (left n : ℕ) → n + left ≡ 5 → NoneBefore n → (outcome : Outcome) × IsOutcome client server client_ended server_ended outcome
-  from zero n place before = (Live, record { fits = tt; first = λ other held. let behind = before other held in omega (arith, place, behind) })
+  from zero n place before = (Live, record { fits = tt; first = λ other held. let following = before other held in omega (arith, place, following) })
   from (suc left) n place before =
       let at = order_at n (omega (arith, place)) in
       elim (fits_or_not (outcome_at n)) [
-        | inl fits ↦ (outcome_at n, record { fits = fits; first = λ other held. let behind = before other held in omega (arith, at, behind) })
+        | inl fits ↦ (outcome_at n, record { fits = fits; first = λ other held. let following = before other held in omega (arith, at, following) })
         | inr none ↦ from left (suc n) (omega (arith, place)) (none_there n before none)
       ]
 

@@ -1,6 +1,6 @@
 -- A line's last byte, which may be a CR.
 use Rattle.std.proofs.Common.{◌≡◌, ◌≢◌, ℕ, suc, ◌-◌, ◌≤◌, ◌==◌, Bool, false, cond, List, [], ◌∷◌, length, take, get_or, refl, sym, ap, ◌∙◌, arith}
-use Rattle.wsn_capture.specs.Entries.{without_cr}
+use Rattle.wsn_rules.specs.Entries.{without_cr}
 
 no_cr : (b : ℕ) → b ≢ 13 → (b == 13) ≡ false
 no_cr b other = grind (arith)
@@ -10,7 +10,7 @@ pub drops_cr : (b : ℕ) (line : List ℕ) → get_or (b ∷ line) (length line)
 drops_cr b [] is = ap (λ (t : Bool). cond t [] (b ∷ [])) (ap (λ (n : ℕ). n == 13) is)
 drops_cr b (c ∷ line) is = ap (λ (bs : List ℕ). b ∷ bs) (drops_cr c line is)
 
--- one that doesn't
+-- a line that doesn't
 pub keeps_all : (b : ℕ) (line : List ℕ) → get_or (b ∷ line) (length line) 0 ≢ 13 → without_cr (b ∷ line) ≡ b ∷ line
 keeps_all b [] other = ap (λ (t : Bool). cond t [] (b ∷ [])) (no_cr b other)
 keeps_all b (c ∷ line) other = ap (λ (bs : List ℕ). b ∷ bs) (keeps_all c line other)

@@ -1,40 +1,40 @@
--- A capture's text has exactly one right answer.
+-- A capture's text has exactly one correct answer.
 use Rattle.std.proofs.Common.{◌≡◌, ℕ, ◌+◌, ◌⊎◌, Result, Ok, Err, List, [], ◌∷◌, ◌++◌, length, inl, inr, refl, sym, ap, ◌∙◌, subst, append_assoc, append-nil}
 use Rattle.wsn_rules.specs.Limits.{Limits, InRange}
 use Rattle.wsn_rules.proofs.Prefixes.{two_fronts, head_same}
-use Rattle.wsn_lines.specs.TextLines.{AreLines}
-use Rattle.wsn_lines.proofs.TextLines.{has_lines, same_lines}
+use Rattle.wsn_rules.specs.TextLines.{AreLines}
+use Rattle.wsn_rules.proofs.TextLines.{has_lines, same_lines}
 use Rattle.wsn_capture.specs.declared.line_fault.LineFault.{LineFault}
 use Rattle.wsn_capture.specs.declared.capture_stop.CaptureStop.{CaptureStop}
 use Rattle.wsn_capture.specs.declared.capture_stop.CaptureStop.TheVariants.{Read, Line}
-use Rattle.wsn_capture.specs.declared.report.Report.{Report}
-use Rattle.wsn_capture.specs.Entries.{Entry}
-use Rattle.wsn_capture.specs.LineFaults.{IsFirstFault, IsTaken, AreTakenBehind, AreTaken, IsFaultBehind}
-use Rattle.wsn_capture.specs.Reports.{IsReport}
-use Rattle.wsn_capture.specs.CaptureAnswers.{IsReported, IsFaulty, IsAnswerOf}
+use Rattle.wsn_rules.specs.declared.report.Report.{Report}
+use Rattle.wsn_rules.specs.Entries.{Entry}
+use Rattle.wsn_capture.specs.LineFaults.{IsFirstLineFault, IsAcceptedLine, AreAcceptedAfter, AreAcceptedLines, IsFaultAfter}
+use Rattle.wsn_rules.specs.Reports.{IsReport}
+use Rattle.wsn_capture.specs.CaptureAnswers.{IsReported, IsFaulty, IsCaptureAnswerOf}
 use Rattle.wsn_capture.proofs.OneEntry.{same_entries}
 use Rattle.wsn_capture.proofs.OneFault.{taken_or_faulty, one_first_fault}
 use Rattle.wsn_capture.proofs.OneReport.{one_report}
 use Rattle.wsn_capture.proofs.EveryReport.{has_report}
-use Rattle.wsn_capture.proofs.TakenTexts.{taken_given}
+use Rattle.wsn_capture.proofs.AcceptedTexts.{taken_given}
 
 -- ---- some answer
 
--- Lines are all taken, or one is the first that isn't.
-abbrev AllTaken : Limits → List Entry → List (List ℕ) → Type 0
-AllTaken limits given lines = (entries : List Entry) × AreTakenBehind limits given lines entries
+-- All lines are accepted.
+abbrev pub AllTaken : Limits → List Entry → List (List ℕ) → Type 0
+AllTaken limits given lines = (entries : List Entry) × AreAcceptedAfter limits given lines entries
 
-record HasFaulty (limits : Limits) (given : List Entry) (lines : List (List ℕ)) : Type 0 where
-  before : List (List ℕ)
-  line : List ℕ
-  after : List (List ℕ)
-  entries : List Entry
-  fault : LineFault
-  whole : lines ≡ before ++ line ∷ after
-  taken : AreTakenBehind limits given before entries
-  is : IsFirstFault limits (given ++ entries) line fault
+pub record HasFaulty (limits : Limits) (given : List Entry) (lines : List (List ℕ)) : Type 0 where
+  pub before : List (List ℕ)
+  pub line : List ℕ
+  pub after : List (List ℕ)
+  pub entries : List Entry
+  pub fault : LineFault
+  pub whole : lines ≡ before ++ line ∷ after
+  pub taken : AreAcceptedAfter limits given before entries
+  pub is : IsFirstLineFault limits (given ++ entries) line fault
 
-all_or_faulty : (limits : Limits) (given : List Entry) (lines : List (List ℕ)) → AllTaken limits given lines ⊎ HasFaulty limits given lines
+pub all_or_faulty : (limits : Limits) (given : List Entry) (lines : List (List ℕ)) → AllTaken limits given lines ⊎ HasFaulty limits given lines
 all_or_faulty limits given [] = inl ([], tt)
 all_or_faulty limits given (line ∷ lines) =
     elim (taken_or_faulty limits given line) [
@@ -48,7 +48,7 @@ all_or_faulty limits given (line ∷ lines) =
           fault = later.fault;
           whole = ap (λ (ls : List (List ℕ)). line ∷ ls) later.whole;
           taken = (taken.1, later.taken);
-          is = subst (λ (es : List Entry). IsFirstFault limits es later.line later.fault) (append_assoc given (taken.0 ∷ []) later.entries) later.is;
+          is = subst (λ (es : List Entry). IsFirstLineFault limits es later.line later.fault) (append_assoc given (taken.0 ∷ []) later.entries) later.is;
         })
       ]
       | inr faulty ↦ inr (record {
@@ -59,11 +59,11 @@ all_or_faulty limits given (line ∷ lines) =
         fault = faulty.0;
         whole = refl;
         taken = tt;
-        is = subst (λ (es : List Entry). IsFirstFault limits es line faulty.0) (sym (append-nil given)) faulty.1;
+        is = subst (λ (es : List Entry). IsFirstLineFault limits es line faulty.0) (sym (append-nil given)) faulty.1;
       })
     ]
 
-pub has_answer : (limits : Limits) (text : List ℕ) → InRange limits → (answer : Result Report CaptureStop) × IsAnswerOf limits text answer
+pub has_answer : (limits : Limits) (text : List ℕ) → InRange limits → (answer : Result Report CaptureStop) × IsCaptureAnswerOf limits text answer
 has_answer limits text range =
     let found = has_lines text in
     elim (all_or_faulty limits [] found.0) [
@@ -83,56 +83,56 @@ has_answer limits text range =
       )
     ]
 
--- ---- no other
+-- ---- no other answer
 
--- the lines in front of one of lines that are taken, and what this one gives
-taken_there : (limits : Limits) (given : List Entry) (before : List (List ℕ)) (line : List ℕ) (after : List (List ℕ)) (entries : List Entry) → AreTakenBehind limits given (before ++ line ∷ after) entries
-    → (front : List Entry) × (entry : Entry) × AreTakenBehind limits given before front × IsTaken limits (given ++ front) line entry
+-- the lines before an accepted line are accepted, and this line gives one entry
+taken_there : (limits : Limits) (given : List Entry) (before : List (List ℕ)) (line : List ℕ) (after : List (List ℕ)) (entries : List Entry) → AreAcceptedAfter limits given (before ++ line ∷ after) entries
+    → (front : List Entry) × (entry : Entry) × AreAcceptedAfter limits given before front × IsAcceptedLine limits (given ++ front) line entry
 taken_there limits given [] line after [] are = absurd are
-taken_there limits given [] line after (entry ∷ entries) are = ([], entry, tt, subst (λ (es : List Entry). IsTaken limits es line entry) (sym (append-nil given)) are.0)
+taken_there limits given [] line after (entry ∷ entries) are = ([], entry, tt, subst (λ (es : List Entry). IsAcceptedLine limits es line entry) (sym (append-nil given)) are.0)
 taken_there limits given (first ∷ before) line after [] are = absurd are
 taken_there limits given (first ∷ before) line after (entry ∷ entries) are =
     let rest = taken_there limits (given ++ entry ∷ []) before line after entries are.1 in
-    (entry ∷ rest.0, rest.1, (are.0, rest.2), subst (λ (es : List Entry). IsTaken limits es line rest.1) (append_assoc given (entry ∷ []) rest.0) rest.3)
+    (entry ∷ rest.0, rest.1, (are.0, rest.2), subst (λ (es : List Entry). IsAcceptedLine limits es line rest.1) (append_assoc given (entry ∷ []) rest.0) rest.3)
 
-same_taken : (limits : Limits) (lines : List (List ℕ)) (entries others : List Entry) → AreTaken limits lines entries → AreTaken limits lines others → entries ≡ others
+same_taken : (limits : Limits) (lines : List (List ℕ)) (entries others : List Entry) → AreAcceptedLines limits lines entries → AreAcceptedLines limits lines others → entries ≡ others
 same_taken limits lines entries others are also = same_entries lines entries others (taken_given limits [] lines entries are) (taken_given limits [] lines others also)
 
--- a line that is taken has no fault
-none_faulty : (limits : Limits) (before : List (List ℕ)) (line : List ℕ) (after : List (List ℕ)) (entries : List Entry) (fault : LineFault) → AreTaken limits (before ++ line ∷ after) entries → IsFaultBehind limits before line fault → ⊥
+-- an accepted line has no fault
+none_faulty : (limits : Limits) (before : List (List ℕ)) (line : List ℕ) (after : List (List ℕ)) (entries : List Entry) (fault : LineFault) → AreAcceptedLines limits (before ++ line ∷ after) entries → IsFaultAfter limits before line fault → ⊥
 none_faulty limits before line after entries fault are is =
     let there = taken_there limits [] before line after entries are in
     let same = same_taken limits before there.0 is.given there.2 is.taken in
-    (subst (λ (es : List Entry). IsTaken limits es line there.1) same there.3).none fault is.is.held
+    (subst (λ (es : List Entry). IsAcceptedLine limits es line there.1) same there.3).none fault is.is.held
 
--- two faulty lines of one list
-one_faulty : (limits : Limits) (before others : List (List ℕ)) (line other : List ℕ) (after behind : List (List ℕ)) (fault another : LineFault) → before ++ line ∷ after ≡ others ++ other ∷ behind
-    → IsFaultBehind limits before line fault → IsFaultBehind limits others other another → (length before ≡ length others) × (fault ≡ another)
-one_faulty limits before others line other after behind fault another same is also =
-    elim (two_fronts before others (line ∷ after) (other ∷ behind) same) [
-      | inl on ↦ goes_on before others line other after behind fault another is also on.0 on.1 on.2
-      | inr on ↦ let back = goes_on others before other line behind after another fault also is on.0 on.1 on.2 in (sym back.0, sym back.1)
+-- two first faulty lines of one list are the same line
+one_faulty : (limits : Limits) (before others : List (List ℕ)) (line other : List ℕ) (after following : List (List ℕ)) (fault another : LineFault) → before ++ line ∷ after ≡ others ++ other ∷ following
+    → IsFaultAfter limits before line fault → IsFaultAfter limits others other another → (length before ≡ length others) × (fault ≡ another)
+one_faulty limits before others line other after following fault another same is also =
+    elim (two_fronts before others (line ∷ after) (other ∷ following) same) [
+      | inl on ↦ goes_on before others line other after following fault another is also on.0 on.1 on.2
+      | inr on ↦ let back = goes_on others before other line following after another fault also is on.0 on.1 on.2 in (sym back.0, sym back.1)
     ]
   where
-    goes_on : (before others : List (List ℕ)) (line other : List ℕ) (after behind : List (List ℕ)) (fault another : LineFault)
-        → IsFaultBehind limits before line fault → IsFaultBehind limits others other another
-        → (more : List (List ℕ)) → others ≡ before ++ more → line ∷ after ≡ more ++ other ∷ behind → (length before ≡ length others) × (fault ≡ another)
-    goes_on before others line other after behind fault another is also [] longer rest =
+    goes_on : (before others : List (List ℕ)) (line other : List ℕ) (after following : List (List ℕ)) (fault another : LineFault)
+        → IsFaultAfter limits before line fault → IsFaultAfter limits others other another
+        → (more : List (List ℕ)) → others ≡ before ++ more → line ∷ after ≡ more ++ other ∷ following → (length before ≡ length others) × (fault ≡ another)
+    goes_on before others line other after following fault another is also [] longer rest =
         let fronts : others ≡ before = longer ∙ append-nil before in
         let lines : line ≡ other = head_same _ _ _ _ rest in
-        let there : IsFaultBehind limits before line another = subst (λ (ls : List (List ℕ)). IsFaultBehind limits ls line another) fronts (subst (λ (l : List ℕ). IsFaultBehind limits others l another) (sym lines) also) in
+        let there : IsFaultAfter limits before line another = subst (λ (ls : List (List ℕ)). IsFaultAfter limits ls line another) fronts (subst (λ (l : List ℕ). IsFaultAfter limits others l another) (sym lines) also) in
         let given = same_taken limits before there.given is.given there.taken is.taken in
-        (ap length (sym fronts), one_first_fault limits is.given line fault another is.is (subst (λ (es : List Entry). IsFirstFault limits es line another) given there.is))
-    goes_on before others line other after behind fault another is also (next ∷ more) longer rest =
+        (ap length (sym fronts), one_first_fault limits is.given line fault another is.is (subst (λ (es : List Entry). IsFirstLineFault limits es line another) given there.is))
+    goes_on before others line other after following fault another is also (next ∷ more) longer rest =
         let lines : line ≡ next = head_same _ _ _ _ rest in
-        absurd (none_faulty limits before line more also.given fault (subst (λ (l : List ℕ). AreTaken limits (before ++ l ∷ more) also.given) (sym lines) (subst (λ (ls : List (List ℕ)). AreTaken limits ls also.given) longer also.taken)) is)
+        absurd (none_faulty limits before line more also.given fault (subst (λ (l : List ℕ). AreAcceptedLines limits (before ++ l ∷ more) also.given) (sym lines) (subst (λ (ls : List (List ℕ)). AreAcceptedLines limits ls also.given) longer also.taken)) is)
 
 reported_or_faulty : (limits : Limits) (text : List ℕ) (report : Report) (number : ℕ) (fault : LineFault) → IsReported limits text report → IsFaulty limits text number fault → ⊥
 reported_or_faulty limits text report number fault is also =
     let same = same_lines text is.lines (also.before ++ also.line ∷ also.after) is.are also.are in
-    none_faulty limits also.before also.line also.after is.given fault (subst (λ (ls : List (List ℕ)). AreTaken limits ls is.given) same is.taken) also.is
+    none_faulty limits also.before also.line also.after is.given fault (subst (λ (ls : List (List ℕ)). AreAcceptedLines limits ls is.given) same is.taken) also.is
 
-pub one_answer : (limits : Limits) (text : List ℕ) (answer other : Result Report CaptureStop) → IsAnswerOf limits text answer → IsAnswerOf limits text other → answer ≡ other
+pub one_answer : (limits : Limits) (text : List ℕ) (answer other : Result Report CaptureStop) → IsCaptureAnswerOf limits text answer → IsCaptureAnswerOf limits text other → answer ≡ other
 one_answer limits text (Ok report) (Ok other) is also =
     let same = same_lines text also.lines is.lines also.are is.are in
     ap Ok (one_report limits is.lines report other is.is (subst (λ (ls : List (List ℕ)). IsReport limits ls other) same also.is))

@@ -1,18 +1,18 @@
--- A line has one of the forms of a line at most, and gives one entry at most.
+-- A line has at most one of the forms of a line, and gives at most one entry.
 use Rattle.std.proofs.Common.{◌≡◌, ℕ, Ok, List, [], ◌∷◌, ◌++◌, inl, inr, refl, sym, ap, ◌∙◌, arith}
 use Rattle.hex.specs.Hex.{decode_of}
 use Rattle.wsn_wire.specs.declared.endpoint.Role.{Role}
 use Rattle.wsn_wire.specs.declared.endpoint.Role.TheVariants.{Client, Server}
-use Rattle.wsn_capture.specs.Entries.{without_cr, Entry, GivesEntry, IsEntry, AreEntries, bytes_front, end_mark}
-use Rattle.wsn_capture.specs.Entries.Entry.{Nothing, Bytes, Mark}
+use Rattle.wsn_rules.specs.Entries.{without_cr, Entry, GivesEntry, IsEntry, AreEntries, bytes_prefix, end_mark}
+use Rattle.wsn_rules.specs.Entries.Entry.{Nothing, Bytes, Mark}
 use Rattle.wsn_rules.proofs.Prefixes.{head_same, tail_same}
 
--- the letter of a side
+-- the letter of an endpoint
 abbrev pub letter_of : Role → ℕ
 letter_of Client = 67
 letter_of Server = 83
 
-pub front_is : (role : Role) (digits : List ℕ) → bytes_front role ++ digits ≡ letter_of role ∷ 32 ∷ digits
+pub front_is : (role : Role) (digits : List ℕ) → bytes_prefix role ++ digits ≡ letter_of role ∷ 32 ∷ digits
 front_is Client digits = refl
 front_is Server digits = refl
 
@@ -30,19 +30,19 @@ no_comment : (role : Role) (rest comment : List ℕ) → letter_of role ∷ rest
 no_comment Client rest comment is = let first = head_same _ _ _ _ is in omega (arith, first)
 no_comment Server rest comment is = let first = head_same _ _ _ _ is in omega (arith, first)
 
--- a side's line isn't one that gives nothing
+-- an endpoint's line isn't one that gives nothing
 pub not_nothing : (role : Role) (rest text : List ℕ) → text ≡ letter_of role ∷ rest → GivesEntry text Nothing → ⊥
 not_nothing role rest text is (inl empty) = let both : [] ≡ letter_of role ∷ rest = sym empty ∙ is in cc
 not_nothing role rest text is (inr comment) = no_comment role rest comment.0 (sym is ∙ comment.1)
 
--- two lines of bytes
-pub same_bytes_line : (role other : Role) (digits others : List ℕ) → bytes_front role ++ digits ≡ bytes_front other ++ others → (role ≡ other) × (digits ≡ others)
+-- equal lines of bytes have one endpoint and the same digits
+pub same_bytes_line : (role other : Role) (digits others : List ℕ) → bytes_prefix role ++ digits ≡ bytes_prefix other ++ others → (role ≡ other) × (digits ≡ others)
 same_bytes_line role other digits others is =
     let both : letter_of role ∷ 32 ∷ digits ≡ letter_of other ∷ 32 ∷ others = sym (front_is role digits) ∙ is ∙ front_is other others in
     (same_letter role other (head_same _ _ _ _ both), tail_same _ _ _ _ (tail_same _ _ _ _ both))
 
 -- no end mark begins as a line of bytes does
-pub not_mark : (role other : Role) (digits : List ℕ) → bytes_front role ++ digits ≡ end_mark other → ⊥
+pub not_mark : (role other : Role) (digits : List ℕ) → bytes_prefix role ++ digits ≡ end_mark other → ⊥
 not_mark role other digits is =
     let both : letter_of role ∷ 32 ∷ digits ≡ letter_of other ∷ 46 ∷ [] = sym (front_is role digits) ∙ is ∙ mark_is other in
     let second : 32 ≡ 46 = head_same _ _ _ _ (tail_same _ _ _ _ both) in
@@ -58,8 +58,8 @@ one_given text Nothing (Mark role) is also = absurd (not_nothing role (46 ∷ []
 one_given text (Bytes role bytes) Nothing is also = absurd (not_nothing role (32 ∷ is.0) text (is.1 ∙ front_is role is.0) also)
 one_given text (Bytes role bytes) (Bytes other others) is also =
     let same = same_bytes_line role other is.0 also.0 (sym is.1 ∙ also.1) in
-    let spelled : Ok bytes ≡ Ok others = sym is.2.1 ∙ ap decode_of same.1 ∙ also.2.1 in
-    cc (same.0, spelled)
+    let encoded : Ok bytes ≡ Ok others = sym is.2.1 ∙ ap decode_of same.1 ∙ also.2.1 in
+    cc (same.0, encoded)
 one_given text (Bytes role bytes) (Mark other) is also = absurd (not_mark role other is.0 (sym is.1 ∙ also))
 one_given text (Mark role) Nothing is also = absurd (not_nothing role (46 ∷ []) text (is ∙ mark_is role) also)
 one_given text (Mark role) (Bytes other others) is also = absurd (not_mark other role also.0 (sym also.1 ∙ is))

@@ -1,4 +1,4 @@
--- A line is taken, or has one first fault.
+-- A line is accepted, or has one first fault.
 use Rattle.std.proofs.Common.{◌≡◌, ◌≢◌, ℕ, zero, suc, ◌+◌, ◌<◌, ◌≤◌, ◌⊎◌, Bool, true, false, Result, Ok, Err, List, [], ◌∷◌, ◌++◌, length, inl, inr, refl, sym, ap, ◌∙◌, subst, arith}
 use Rattle.std.proofs.lemmas.Bool.{cases_eq, cases_lt}
 use Rattle.hex.specs.Hex.{decode_of}
@@ -9,10 +9,10 @@ use Rattle.wsn_rules.specs.Limits.{Limits}
 use Rattle.wsn_rules.proofs.Prefixes.{head_same, tail_same}
 use Rattle.wsn_capture.specs.declared.line_fault.LineFault.{LineFault}
 use Rattle.wsn_capture.specs.declared.line_fault.LineFault.TheVariants.{TooManyLines, TooLong, BadForm, BadHex, AfterEnd, InputLimit}
-use Rattle.wsn_capture.specs.Entries.{without_cr, Entry, IsHex, GivesEntry, bytes_front, end_mark}
-use Rattle.wsn_capture.specs.Entries.Entry.{Nothing, Bytes, Mark}
-use Rattle.wsn_capture.specs.Sides.{sent, has_ended}
-use Rattle.wsn_capture.specs.LineFaults.{fault_order, IsOfEndpoint, HasNoForm, HasFault, IsFirstFault, IsTaken, lines_most, line_most}
+use Rattle.wsn_rules.specs.Entries.{without_cr, Entry, IsHex, GivesEntry, bytes_prefix, end_mark}
+use Rattle.wsn_rules.specs.Entries.Entry.{Nothing, Bytes, Mark}
+use Rattle.wsn_rules.specs.Sides.{sent, has_ended}
+use Rattle.wsn_capture.specs.LineFaults.{fault_order, IsOfEndpoint, HasNoForm, HasFault, IsFirstLineFault, IsAcceptedLine, lines_most, line_most}
 use Rattle.wsn_capture.proofs.OneEntry.{letter_of, front_is, mark_is, not_nothing, same_bytes_line, not_mark, same_mark, one_given}
 
 -- ---- the order of the faults
@@ -41,16 +41,18 @@ placed BadHex = omega arith
 placed AfterEnd = omega arith
 placed InputLimit = omega arith
 
-pub one_first_fault : (limits : Limits) (given : List Entry) (line : List ℕ) (fault other : LineFault) → IsFirstFault limits given line fault → IsFirstFault limits given line other → fault ≡ other
+pub same_fault : (fault other : LineFault) → fault_order fault ≡ fault_order other → fault ≡ other
+same_fault fault other same = sym (at_its_place fault) ∙ ap fault_at same ∙ at_its_place other
+
+pub one_first_fault : (limits : Limits) (given : List Entry) (line : List ℕ) (fault other : LineFault) → IsFirstLineFault limits given line fault → IsFirstLineFault limits given line other → fault ≡ other
 one_first_fault limits given line fault other is also =
     let up = is.first other also.held in
     let down = also.first fault is.held in
-    let same : fault_order fault ≡ fault_order other = omega (arith, up, down) in
-    sym (at_its_place fault) ∙ ap fault_at same ∙ at_its_place other
+    same_fault fault other (omega (arith, up, down))
 
--- In these, the faults from one on: from the first, or from the first that a text has by itself.
+-- The faults from the number `from` on.
 module _ (limits : Limits) (given : List Entry) (text : List ℕ) (from : ℕ) where
-  -- none of them comes before this place
+  -- No fault comes before this number.
   abbrev pub NoneBefore : ℕ → Type 0
   NoneBefore n = (other : LineFault) → HasFault limits given text other → from ≤ fault_order other → n ≤ fault_order other
 
@@ -59,31 +61,31 @@ module _ (limits : Limits) (given : List Entry) (text : List ℕ) (from : ℕ) w
 
   pub none_further : (n : ℕ) → NoneBefore n → (HasFault limits given text (fault_at n) → ⊥) → NoneBefore (suc n)
   none_further n before none other held le =
-      let behind = before other held le in
+      let following = before other held le in
       elim (cases_eq (fault_order other) n) [
         | inl here ↦ absurd (none (subst (HasFault limits given text) (sym (at_its_place other) ∙ ap fault_at here) held))
-        | inr there ↦ omega (arith, behind, there)
+        | inr there ↦ omega (arith, following, there)
       ]
 
-  -- none of them is there
+  -- the text has none of these faults
   pub none_at_all : NoneBefore 6 → (other : LineFault) → HasFault limits given text other → fault_order other < from
   none_at_all before other held =
       elim (cases_lt (fault_order other) from) [
         | inl less ↦ less
-        | inr le ↦ let behind = before other held le in let few = placed other in absurd (omega (arith, behind, few))
+        | inr le ↦ let following = before other held le in let few = placed other in absurd (omega (arith, following, few))
       ]
 
 -- ---- the form of a line
 
--- What a line without its CR is.
+-- The forms of a line without its CR.
 pub data Form (text : List ℕ) : Type 0 where
   GivesNothing : GivesEntry text Nothing → Form text
-  OfBytes : (role : Role) (digits : List ℕ) → text ≡ bytes_front role ++ digits → Form text
+  OfBytes : (role : Role) (digits : List ℕ) → text ≡ bytes_prefix role ++ digits → Form text
   IsMark : (role : Role) → text ≡ end_mark role → Form text
   NoForm : HasNoForm text → Form text
 
--- a line that begins otherwise has no form
-no_side : (b : ℕ) (rest : List ℕ) → b ≢ 67 → b ≢ 83 → (role : Role) → IsOfEndpoint role (b ∷ rest) → ⊥
+-- a line that begins with no endpoint's letter is of no endpoint
+pub no_side : (b : ℕ) (rest : List ℕ) → b ≢ 67 → b ≢ 83 → (role : Role) → IsOfEndpoint role (b ∷ rest) → ⊥
 no_side b rest no_client no_server role is = by_letter role (first role is)
   where
     first : (role : Role) → IsOfEndpoint role (b ∷ rest) → b ≡ letter_of role
@@ -94,8 +96,8 @@ no_side b rest no_client no_server role is = by_letter role (first role is)
     by_letter Client same = no_client same
     by_letter Server same = no_server same
 
--- behind a side's letter stands a space, or a dot alone
-second_byte : (role : Role) (rest : List ℕ) → ((digits : List ℕ) → rest ≡ 32 ∷ digits → ⊥) → (rest ≡ 46 ∷ [] → ⊥) → HasNoForm (letter_of role ∷ rest)
+-- a line has a form only if its endpoint's letter is followed by a space, or by a dot alone
+pub second_byte : (role : Role) (rest : List ℕ) → ((digits : List ℕ) → rest ≡ 32 ∷ digits → ⊥) → (rest ≡ 46 ∷ [] → ⊥) → HasNoForm (letter_of role ∷ rest)
 second_byte role rest no_bytes no_mark = (not_nothing role rest (letter_of role ∷ rest) refl, of_none)
   where
     of_none : (other : Role) → IsOfEndpoint other (letter_of role ∷ rest) → ⊥
@@ -108,14 +110,14 @@ of_letter role (c ∷ rest) =
     elim (cases_eq c 32) [
       | inl space ↦ OfBytes role rest (ap (λ (n : ℕ). letter_of role ∷ n ∷ rest) space ∙ sym (front_is role rest))
       | inr no_space ↦ elim (cases_eq c 46) [
-        | inl dot ↦ behind_dot rest dot
+        | inl dot ↦ after_dot rest dot
         | inr no_dot ↦ NoForm (second_byte role (c ∷ rest) (λ digits is. no_space (head_same _ _ _ _ is)) (λ is. no_dot (head_same _ _ _ _ is)))
       ]
     ]
   where
-    behind_dot : (rest : List ℕ) → c ≡ 46 → Form (letter_of role ∷ c ∷ rest)
-    behind_dot [] dot = IsMark role (ap (λ (n : ℕ). letter_of role ∷ n ∷ []) dot ∙ sym (mark_is role))
-    behind_dot (d ∷ rest) dot =
+    after_dot : (rest : List ℕ) → c ≡ 46 → Form (letter_of role ∷ c ∷ rest)
+    after_dot [] dot = IsMark role (ap (λ (n : ℕ). letter_of role ∷ n ∷ []) dot ∙ sym (mark_is role))
+    after_dot (d ∷ rest) dot =
         NoForm (second_byte role (c ∷ d ∷ rest) (λ digits is. let space : 46 ≡ 32 = sym dot ∙ head_same _ _ _ _ is in omega (arith, space))
         (λ is. let none : d ∷ rest ≡ [] = tail_same _ _ _ _ is in cc))
 
@@ -137,9 +139,9 @@ form_of (b ∷ rest) =
     something other (inl empty) = cc empty
     something other (inr comment) = other (head_same _ _ _ _ comment.1)
 
--- ---- each line is one or the other
+-- ---- every line is accepted or has a fault
 
-hex_or_not : (digits : List ℕ) → ((bytes : List ℕ) × IsHex digits bytes) ⊎ ((bytes : List ℕ) → IsHex digits bytes → ⊥)
+pub hex_or_not : (digits : List ℕ) → ((bytes : List ℕ) × IsHex digits bytes) ⊎ ((bytes : List ℕ) → IsHex digits bytes → ⊥)
 hex_or_not [] = inr (λ bytes is. is.0 refl)
 hex_or_not (d ∷ digits) = by_result (decode_of (d ∷ digits)) refl
   where
@@ -147,12 +149,12 @@ hex_or_not (d ∷ digits) = by_result (decode_of (d ∷ digits)) refl
     by_result (Ok bytes) is = inl (bytes, ((λ none. cc none), is))
     by_result (Err e) is = inr (λ bytes hex. let both : Ok bytes ≡ Err e = sym hex.1 ∙ is in cc)
 
-true_or_false : (b : Bool) → (b ≡ true) ⊎ (b ≡ false)
+pub true_or_false : (b : Bool) → (b ≡ true) ⊎ (b ≡ false)
 true_or_false true = inl refl
 true_or_false false = inr refl
 
--- which side a line is of
-pub same_side : (role other : Role) (text digits : List ℕ) → text ≡ bytes_front role ++ digits → IsOfEndpoint other text → role ≡ other
+-- a line is of one endpoint
+pub same_side : (role other : Role) (text digits : List ℕ) → text ≡ bytes_prefix role ++ digits → IsOfEndpoint other text → role ≡ other
 same_side role other text digits is (inl of) = (same_bytes_line role other digits of.0 (sym is ∙ of.1)).0
 same_side role other text digits is (inr mark) = absurd (not_mark role other digits (sym is ∙ mark))
 
@@ -161,7 +163,7 @@ same_side_marked role other text is (inl of) = absurd (not_mark other role of.0 
 same_side_marked role other text is (inr mark) = same_mark role other (sym is ∙ mark)
 
 module _ (limits : Limits) (given : List Entry) (text : List ℕ) (from : ℕ) where
-  -- a text that gives nothing has no fault of what it gives
+  -- a text that gives nothing has none of the faults from BadForm on
   pub nothing_bad : GivesEntry text Nothing → NoneBefore limits given text from 2 → NoneBefore limits given text from 6
   nothing_bad is before =
       none_further limits given text from 5 (none_further limits given text from 4 (none_further limits given text from 3 (none_further limits given text from 2 before
@@ -174,15 +176,15 @@ module _ (limits : Limits) (given : List Entry) (text : List ℕ) (from : ℕ) w
       of_none role (inl of) = not_nothing role (32 ∷ of.0) text (of.1 ∙ front_is role of.0) is
       of_none role (inr mark) = not_nothing role (46 ∷ []) text (mark ∙ mark_is role) is
 
-  -- bytes whose digits spell them have a form
-  pub bytes_formed : (role : Role) (digits bytes : List ℕ) → text ≡ bytes_front role ++ digits → IsHex digits bytes → NoneBefore limits given text from 2 → NoneBefore limits given text from 4
+  -- bytes that digits encode have a form
+  pub bytes_formed : (role : Role) (digits bytes : List ℕ) → text ≡ bytes_prefix role ++ digits → IsHex digits bytes → NoneBefore limits given text from 2 → NoneBefore limits given text from 4
   bytes_formed role digits bytes is hex before =
       none_further limits given text from 3 (none_further limits given text from 2 before
       (λ bad. bad.1 role (inl (digits, is))))
       (λ bad. bad.3 bytes (subst (λ (ds : List ℕ). IsHex ds bytes) (same_bytes_line role bad.0 digits bad.1 (sym is ∙ bad.2)).1 hex))
 
-  -- they have no fault where their side goes on and has room
-  pub bytes_taken : (role : Role) (digits bytes : List ℕ) → text ≡ bytes_front role ++ digits → IsHex digits bytes → NoneBefore limits given text from 4 → has_ended role given ≡ false
+  -- they have no fault if their endpoint hasn't ended and has room
+  pub bytes_taken : (role : Role) (digits bytes : List ℕ) → text ≡ bytes_prefix role ++ digits → IsHex digits bytes → NoneBefore limits given text from 4 → has_ended role given ≡ false
       → length (sent role given) + length bytes ≤ limits.input → NoneBefore limits given text from 6
   bytes_taken role digits bytes is hex before going room =
       none_further limits given text from 5 (none_further limits given text from 4 before
@@ -196,7 +198,7 @@ module _ (limits : Limits) (given : List Entry) (text : List ℕ) (from : ℕ) w
           subst (λ (r : Role). limits.input < length (sent r given) + length others → ⊥) sides
           (subst (λ (bs : List ℕ). limits.input < length (sent role given) + length bs → ⊥) all (λ more. omega (arith, room, more)))
 
-  -- an end mark has no fault where its side goes on
+  -- an end mark has no fault if its endpoint hasn't ended
   pub mark_formed : (role : Role) → text ≡ end_mark role → NoneBefore limits given text from 2 → NoneBefore limits given text from 4
   mark_formed role is before =
       none_further limits given text from 3 (none_further limits given text from 2 before
@@ -210,7 +212,7 @@ module _ (limits : Limits) (given : List Entry) (text : List ℕ) (from : ℕ) w
       (λ bad. let same : Mark role ≡ Bytes bad.0 bad.1 = one_given text (Mark role) (Bytes bad.0 bad.1) is bad.2 in cc)
 
 module _ (limits : Limits) (given : List Entry) (text : List ℕ) where
-  -- the text is taken, or its first fault is known
+  -- the text is accepted, or its first fault is known
   abbrev pub IsDecided : Type 0
   IsDecided = ((entry : Entry) × GivesEntry text entry × ((fault : LineFault) → HasFault limits given text fault → fault_order fault < 0))
       ⊎ ((fault : LineFault) × HasFault limits given text fault × NoneBefore limits given text 0 (fault_order fault))
@@ -255,7 +257,7 @@ module _ (limits : Limits) (given : List Entry) (text : List ℕ) where
             ]
       ]
 
-pub taken_or_faulty : (limits : Limits) (given : List Entry) (line : List ℕ) → ((entry : Entry) × IsTaken limits given line entry) ⊎ ((fault : LineFault) × IsFirstFault limits given line fault)
+pub taken_or_faulty : (limits : Limits) (given : List Entry) (line : List ℕ) → ((entry : Entry) × IsAcceptedLine limits given line entry) ⊎ ((fault : LineFault) × IsFirstLineFault limits given line fault)
 taken_or_faulty limits given line =
     elim (decided limits given (without_cr line)) [
       | inl taken ↦ inl (taken.0, record { gives = taken.1; none = λ fault held. let less = taken.2 fault held in omega (arith, less) })

@@ -1,4 +1,4 @@
--- Lines have one report at most.
+-- Lines have at most one report.
 use Rattle.std.proofs.Common.{◌≡◌, ℕ, zero, suc, ◌+◌, ◌-◌, ◌<◌, ◌≤◌, ◌⊎◌, Bool, Option, None, Some, List, [], ◌∷◌, ◌++◌, length, take, drop, inl, inr, refl, sym, ap, ◌∙◌, subst, arith, length-append, take-append-drop}
 use Rattle.std.proofs.lemmas.Bool.{cases_lt}
 use Rattle.std.proofs.lemmas.List.{take-take}
@@ -12,14 +12,14 @@ use Rattle.wsn_rules.specs.Limits.{Limits}
 use Rattle.wsn_rules.specs.Accepted.{IsAccepted}
 use Rattle.wsn_rules.specs.Summary.{counted}
 use Rattle.wsn_rules.proofs.OneVerdict.{one_verdict}
-use Rattle.wsn_capture.specs.declared.report.Side.{Side}
-use Rattle.wsn_capture.specs.declared.report.Outcome.{Outcome}
-use Rattle.wsn_capture.specs.declared.report.Outcome.TheVariants.{Failed, Clean, Complete, Abnormal, Half, Live}
-use Rattle.wsn_capture.specs.declared.report.Report.{Report}
-use Rattle.wsn_capture.specs.Entries.{Entry}
-use Rattle.wsn_capture.specs.Entries.Entry.{Nothing, Bytes, Mark}
-use Rattle.wsn_capture.specs.Sides.{bytes_in, sent, side_of, has_ended, IsSide}
-use Rattle.wsn_capture.specs.Reports.{ClosesIn, IsFirst, other_side, echo_of, seen_of, outcome_order, IsOutcome, IsReportOf, IsReport, SendAlike}
+use Rattle.wsn_rules.specs.declared.report.Side.{Side}
+use Rattle.wsn_rules.specs.declared.report.Outcome.{Outcome}
+use Rattle.wsn_rules.specs.declared.report.Outcome.TheVariants.{Failed, Clean, Complete, Abnormal, Half, Live}
+use Rattle.wsn_rules.specs.declared.report.Report.{Report}
+use Rattle.wsn_rules.specs.Entries.{Entry}
+use Rattle.wsn_rules.specs.Entries.Entry.{Nothing, Bytes, Mark}
+use Rattle.wsn_rules.specs.Sides.{bytes_in, sent, side_of, has_ended, IsSide}
+use Rattle.wsn_rules.specs.Reports.{ClosesIn, IsFirst, other_endpoint, echo_of, seen_of, outcome_order, IsOutcome, IsReportOf, IsReport, SendAlike}
 use Rattle.wsn_capture.proofs.OneEntry.{same_entries}
 
 -- ---- a side
@@ -35,7 +35,7 @@ same_accepted role limits bytes fs gs is also =
 
 -- ---- which line a Close ends in
 
--- further lines have no fewer bytes
+-- more lines have no fewer bytes
 pub sent_grows : (role : Role) (entries : List Entry) (j k : ℕ) → j ≤ k → length (sent role (take j entries)) ≤ length (sent role (take k entries))
 sent_grows role entries j k le =
     let parts : sent role (take j (take k entries) ++ drop j (take k entries)) ≡ sent role (take j (take k entries)) ++ sent role (drop j (take k entries)) = flat_map-append (bytes_in role) (take j (take k entries)) (drop j (take k entries)) in
@@ -48,7 +48,7 @@ not_later : (role : Role) (limits : Limits) (entries : List Entry) (j k : ℕ) �
 not_later role limits entries j k is also less =
     let same = ap (λ (fs : List Frame). length (stream fs)) (same_accepted role limits (sent role entries) is.frames also.frames is.accepted also.accepted) in
     let grows = sent_grows role entries (suc j) k (omega (arith, less)) in
-    omega (arith, same, grows, is.behind, also.before)
+    omega (arith, same, grows, is.following, also.before)
 
 pub one_line : (role : Role) (limits : Limits) (entries : List Entry) (j k : ℕ) → ClosesIn role limits entries j → ClosesIn role limits entries k → j ≡ k
 one_line role limits entries j k is also =
@@ -60,7 +60,7 @@ one_line role limits entries j k is also =
       ]
     ]
 
--- a line has bytes of one side at most
+-- This line adds no bytes of the endpoint.
 abbrev AddsNothing : Role → List Entry → ℕ → Type 0
 AddsNothing role entries k = length (sent role (take (suc k) entries)) ≡ length (sent role (take k entries))
 
@@ -74,8 +74,8 @@ one_of_both (Mark role) = inl (no_bytes role)
     no_bytes Client = refl
     no_bytes Server = refl
 
-adds_behind : (role : Role) (entry : Entry) (entries : List Entry) (k : ℕ) → AddsNothing role entries k → AddsNothing role (entry ∷ entries) (suc k)
-adds_behind role entry entries k is =
+adds_after : (role : Role) (entry : Entry) (entries : List Entry) (k : ℕ) → AddsNothing role entries k → AddsNothing role (entry ∷ entries) (suc k)
+adds_after role entry entries k is =
     length-append (bytes_in role entry) (sent role (take (suc k) entries)) ∙ ap (λ (n : ℕ). length (bytes_in role entry) + n) is ∙ sym (length-append (bytes_in role entry) (sent role (take k entries)))
 
 adds_first : (role : Role) (entry : Entry) (entries : List Entry) → bytes_in role entry ≡ [] → AddsNothing role (entry ∷ entries) 0
@@ -91,14 +91,14 @@ adds_to_one (entry ∷ entries) zero =
     ]
 adds_to_one (entry ∷ entries) (suc k) =
     elim (adds_to_one entries k) [
-      | inl none ↦ inl (adds_behind Client entry entries k none)
-      | inr none ↦ inr (adds_behind Server entry entries k none)
+      | inl none ↦ inl (adds_after Client entry entries k none)
+      | inr none ↦ inr (adds_after Server entry entries k none)
     ]
 
 adds_some : (role : Role) (limits : Limits) (entries : List Entry) (k : ℕ) → ClosesIn role limits entries k → AddsNothing role entries k → ⊥
-adds_some role limits entries k is none = omega (arith, none, is.before, is.behind)
+adds_some role limits entries k is none = omega (arith, none, is.before, is.following)
 
--- so both Closes don't end in one line
+-- the Closes of both endpoints don't end in one line
 pub two_lines : (limits : Limits) (entries : List Entry) (j k : ℕ) → ClosesIn Client limits entries j → ClosesIn Server limits entries k → j ≡ k → ⊥
 two_lines limits entries j k client server same =
     elim (adds_to_one entries k) [
@@ -108,7 +108,7 @@ two_lines limits entries j k client server same =
 
 -- ---- which came first
 
-not_both : (role : Role) (limits : Limits) (entries : List Entry) → IsFirst limits entries (Some role) → IsFirst limits entries (Some (other_side role)) → (line : ℕ) × ClosesIn (other_side role) limits entries line → ⊥
+not_both : (role : Role) (limits : Limits) (entries : List Entry) → IsFirst limits entries (Some role) → IsFirst limits entries (Some (other_endpoint role)) → (line : ℕ) × ClosesIn (other_endpoint role) limits entries line → ⊥
 not_both Client limits entries is also closes =
     let less = is.2 also.0 also.1 in let more = also.2 is.0 is.1 in omega (arith, less, more)
 not_both Server limits entries is also closes =
@@ -150,7 +150,7 @@ one_outcome client server client_ended server_ended outcome other is also =
 
 -- ---- the report
 
--- reports that say the same of what both sides sent
+-- reports of the same streams and end marks are equal but for `first`
 pub alike : (limits : Limits) (entries others : List Entry) (report other : Report) → ((role : Role) → sent role entries ≡ sent role others) → ((role : Role) → has_ended role entries ≡ has_ended role others)
     → IsReportOf limits entries report → IsReportOf limits others other → other ≡ record report { first = other.first }
 alike limits entries others report other bytes marks is also =

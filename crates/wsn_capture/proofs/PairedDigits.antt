@@ -1,4 +1,4 @@
--- Pairs of digits that are decoded one after another, with no way out at a bad one.
+-- Pairs of digits that are decoded one after another, without an early exit.
 use Rattle.std.proofs.Common.{◌≡◌, ℕ, ◌+◌, ◌*◌, ◌<◌, ◌≤◌, ◌&&◌, Bool, true, false, List, length, take, drop, slice_index, slice_set, Option, Some, None, is_some, unwrap_or, Result, Ok, Err, refl, sym, ◌∙◌, subst, arith}
 use Rattle.std.specs.Prelude.{MatchBool}
 use Rattle.hex.specs.Hex.{decode_of, decode_pairs, digit_or_error, hex_digit_value, is_hex_digit, pair_value, ◌>>=◌}
@@ -6,7 +6,7 @@ use Rattle.hex.specs.declared.error.FromHexError.{FromHexError}
 use Rattle.hex.proofs.Pairs.{prepend, decode_step, decode_err, decode_done}
 use Rattle.wsn_capture.specs.LineForms.{HasNoHex}
 
--- The pairs up to one were digits, and their bytes are put; or one was none.
+-- The first `i` pairs are digits and their bytes are decoded, or one of the digits isn't valid.
 abbrev pub AreDecoded : Bool → List ℕ → List ℕ → ℕ → Type 0
 AreDecoded true digits bytes i =
     decode_pairs 0 digits ≡ prepend (take i bytes) (decode_pairs (2 * i) (drop (2 * i) digits))
@@ -24,7 +24,7 @@ by_values (Some v) (Some w) digits bytes i fits room is so_far = decode_step dig
 by_values (Some v) None digits bytes i fits room is so_far = (_, decode_err digits bytes i _ fits is so_far)
 by_values None l digits bytes i fits room is so_far = (_, decode_err digits bytes i _ fits is so_far)
 
--- one pair more
+-- one more pair
 pub decoded_more : (valid : Bool) (digits bytes : List ℕ) (i : ℕ) → 2 * i + 1 < length digits → i < length bytes
     → AreDecoded valid digits bytes i
     → AreDecoded (valid && is_hex_digit (slice_index digits (2 * i)) && is_hex_digit (slice_index digits (2 * i + 1))) digits
@@ -33,7 +33,7 @@ decoded_more true digits bytes i fits room so_far =
     by_values (hex_digit_value (slice_index digits (2 * i))) (hex_digit_value (slice_index digits (2 * i + 1))) digits bytes i fits room refl so_far
 decoded_more false digits bytes i fits room so_far = so_far
 
--- the same, by what was found of the two digits
+-- one more pair, by what the code found of its digits
 pub decoded_step : (valid : Bool) (digits bytes : List ℕ) (i : ℕ) (a b : Bool) (v w : ℕ) → 2 * i + 1 < length digits → i < length bytes
     → a ≡ is_hex_digit (slice_index digits (2 * i)) → b ≡ is_hex_digit (slice_index digits (2 * i + 1))
     → v ≡ unwrap_or (hex_digit_value (slice_index digits (2 * i))) 0 → w ≡ unwrap_or (hex_digit_value (slice_index digits (2 * i + 1))) 0

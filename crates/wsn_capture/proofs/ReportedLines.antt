@@ -1,12 +1,12 @@
--- The report of what both streams have.
+-- The report of the state of both streams.
 use Rattle.std.proofs.Common.{◌≡◌, ℕ, ◌<◌, ◌≤◌, nat_lt, Bool, true, false, cond, Option, None, Some, List, inl, inr, sym, ap, subst, arith}
 use Rattle.std.proofs.lemmas.Bool.{cases_lt, cases_eq}
 use Rattle.wsn_wire.specs.declared.endpoint.Role.{Role}
 use Rattle.wsn_wire.specs.declared.endpoint.Role.TheVariants.{Client, Server}
 use Rattle.wsn_rules.specs.Limits.{Limits}
-use Rattle.wsn_capture.specs.Entries.{Entry}
-use Rattle.wsn_capture.specs.Sides.{sent}
-use Rattle.wsn_capture.specs.Reports.{ClosesIn, IsFirst}
+use Rattle.wsn_rules.specs.Entries.{Entry}
+use Rattle.wsn_rules.specs.Sides.{sent}
+use Rattle.wsn_rules.specs.Reports.{ClosesIn, IsFirst}
 use Rattle.wsn_capture.specs.CloseLines.{earlier_of}
 use Rattle.wsn_capture.specs.Captures.{IsCloseLine, IsUnclosed}
 use Rattle.wsn_capture.proofs.OneReport.{one_line, two_lines}
@@ -21,7 +21,7 @@ module _ (limits : Limits) (given : List Entry) where
   not_less : (a b : ℕ) → b ≤ a → nat_lt a b ≡ false
   not_less a b le = grind (arith)
 
-  -- whichever Close ends in an earlier line came first
+  -- the Close that ends in an earlier line came first
   pub first_by_lines : (client server : Option ℕ) → IsCloseLine Client limits given client → IsCloseLine Server limits given server → IsFirst limits given (earlier_of client server)
   first_by_lines None None no_client no_server = neither
     where

@@ -1,4 +1,4 @@
--- What both streams have, as lines come on.
+-- The state of both streams, as lines are added.
 use Rattle.std.proofs.Common.{◌≡◌, ℕ, Bool, true, false, ◌||◌, Option, List, [], ◌∷◌, ◌++◌, length, refl, sym, ap, ◌∙◌, subst, append-nil}
 use Rattle.std.proofs.lemmas.List.Folds.{list_any-append}
 use Rattle.wsn_wire.specs.declared.endpoint.Role.{Role}
@@ -8,11 +8,11 @@ use Rattle.wsn_rules.specs.declared.verdict.Verdict.{Verdict}
 use Rattle.wsn_rules.specs.Limits.{Limits}
 use Rattle.wsn_rules.specs.Verdict.{IsVerdict}
 use Rattle.wsn_capture.specs.declared.sent_stream.SentStream.{SentStream}
-use Rattle.wsn_capture.specs.declared.report.Side.{Side}
+use Rattle.wsn_rules.specs.declared.report.Side.{Side}
 use Rattle.wsn_capture.specs.LimitedScans.{Scanned, HasStreamed}
-use Rattle.wsn_capture.specs.Entries.{Entry}
-use Rattle.wsn_capture.specs.Entries.Entry.{Bytes, Mark}
-use Rattle.wsn_capture.specs.Sides.{bytes_in, is_mark, sent, has_ended, side_of, IsSide}
+use Rattle.wsn_rules.specs.Entries.{Entry}
+use Rattle.wsn_rules.specs.Entries.Entry.{Bytes, Mark}
+use Rattle.wsn_rules.specs.Sides.{bytes_in, is_mark, sent, has_ended, side_of, IsSide}
 use Rattle.wsn_capture.specs.Captures.{HasSent, IsNoted}
 use Rattle.wsn_capture.proofs.ClosingLines.{sent-push, line_noted, line_kept}
 
@@ -49,9 +49,9 @@ module _ (role : Role) (limits : Limits) where
       → ((came : List ℕ) → HasStreamed role limits sent_stream.scan came → HasStreamed role limits scan (came ++ bytes))
       → ((came : List ℕ) → HasStreamed role limits scan came → IsNoted role limits came sent_stream.close_line lines noted)
       → HasSent role limits (record { scan = scan; close_line = noted; ended = sent_stream.ended }) (given ++ Bytes role bytes ∷ [])
-  sends_bytes sent_stream scan given bytes lines noted count has takes notes =
+  sends_bytes sent_stream scan given bytes lines noted count has consumes notes =
       let own = own_bytes role bytes in
-      let came = takes (sent role given) has.streamed in
+      let came = consumes (sent role given) has.streamed in
       record {
         streamed = subst (HasStreamed role limits scan) (sym (sent-push role limits given (Bytes role bytes) ∙ ap (λ (bs : List ℕ). sent role given ++ bs) own)) came;
         ended = has.ended ∙ sym (ended-push role given (Bytes role bytes) ∙ ap (λ (b : Bool). has_ended role given || b) (no_mark role role bytes) ∙ false-or (has_ended role given));
@@ -68,7 +68,7 @@ module _ (role : Role) (limits : Limits) where
     close_line = line_kept role limits given (Mark role) sent_stream.close_line (no_bytes role role) has.close_line;
   }
 
-  -- what is of the other endpoint, or of none
+  -- an entry of the other endpoint, or of none
   pub sends_nothing : (sent_stream : SentStream) (given : List Entry) (entry : Entry) → bytes_in role entry ≡ [] → is_mark role entry ≡ false → HasSent role limits sent_stream given → HasSent role limits sent_stream (given ++ entry ∷ [])
   sends_nothing sent_stream given entry no_bytes_there no_mark_there has = record {
     streamed = subst (HasStreamed role limits sent_stream.scan) (sym (sent-push role limits given entry ∙ ap (λ (bs : List ℕ). sent role given ++ bs) no_bytes_there ∙ append-nil (sent role given))) has.streamed;
@@ -76,7 +76,7 @@ module _ (role : Role) (limits : Limits) where
     close_line = line_kept role limits given entry sent_stream.close_line no_bytes_there has.close_line;
   }
 
-  -- what became of the side, by the verdict on its stream
+  -- what became of the stream, by the verdict on it
   pub side_by : (sent_stream : SentStream) (given : List Entry) (verdict : Verdict) (side : Side) → HasSent role limits sent_stream given → ((came : List ℕ) → HasStreamed role limits sent_stream.scan came → (fs : List Frame) × IsVerdict role limits came fs verdict)
       → side ≡ side_of verdict sent_stream.ended → IsSide role limits (sent role given) (has_ended role given) side
   side_by sent_stream given verdict side has judged is =

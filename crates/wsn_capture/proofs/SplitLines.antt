@@ -1,4 +1,4 @@
--- Lines that are handed on as they come.
+-- Lines that are passed on as they come.
 use Rattle.std.proofs.Common.{◌≡◌, ◌≢◌, ℕ, ◌+◌, ◌<◌, ◌≤◌, List, [], ◌∷◌, ◌++◌, length, inl, inr, refl, sym, ap, ◌∙◌, subst, append_assoc, append-nil, length-append, arith, ◌==◌, true, false, Err}
 use Rattle.std.proofs.lemmas.Bool.{eqb-true}
 use Rattle.wsn_rules.specs.Limits.{Limits}
@@ -7,15 +7,15 @@ use Rattle.wsn_capture.specs.declared.line_fault.LineFault.TheVariants.{TooManyL
 use Rattle.wsn_capture.specs.declared.capture_stop.CaptureStop.{CaptureStop}
 use Rattle.wsn_capture.specs.declared.capture_stop.CaptureStop.TheVariants.{Read, Line}
 use Rattle.wsn_capture.specs.declared.capture.Capture.{Capture}
-use Rattle.wsn_capture.specs.declared.report.Report.{Report}
-use Rattle.wsn_lines.specs.TextLines.{IsLine, ended, AreLines}
-use Rattle.wsn_capture.specs.Entries.{without_cr, Entry}
-use Rattle.wsn_capture.specs.LineFaults.{fault_order, HasFault, IsFirstFault, IsTaken, AreTakenBehind, IsFaultBehind}
-use Rattle.wsn_capture.specs.Reports.{IsReport}
-use Rattle.wsn_capture.specs.Captures.{HasTaken}
-use Rattle.wsn_capture.specs.CaptureAnswers.{IsReported, IsFaulty, IsUnfaulted, IsAnswerOf}
-use Rattle.wsn_capture.specs.LineSplitters.{HasHandedOn, IsStopAt, IsStopBy, IsStopWithin}
-use Rattle.wsn_lines.proofs.TextLines.{has_lines, ended-push, each_join, lines_in_front, lines_at_end, first_line}
+use Rattle.wsn_rules.specs.declared.report.Report.{Report}
+use Rattle.wsn_rules.specs.TextLines.{IsLine, ended, AreLines}
+use Rattle.wsn_rules.specs.Entries.{without_cr, Entry}
+use Rattle.wsn_capture.specs.LineFaults.{fault_order, HasFault, IsFirstLineFault, IsAcceptedLine, AreAcceptedAfter, IsFaultAfter}
+use Rattle.wsn_rules.specs.Reports.{IsReport}
+use Rattle.wsn_capture.specs.Captures.{HasAcceptedLines}
+use Rattle.wsn_capture.specs.CaptureAnswers.{IsReported, IsFaulty, IsUnfaulted, IsCaptureAnswerOf}
+use Rattle.wsn_capture.specs.LineSplitters.{HasPassedOn, IsStopAt, IsStopBy, IsStopWithin}
+use Rattle.wsn_rules.proofs.TextLines.{has_lines, ended-push, each_join, lines_in_front, lines_at_end, first_line}
 
 -- ---- a line that is too long whatever follows
 
@@ -24,46 +24,46 @@ without_cr_long [] = omega arith
 without_cr_long (b ∷ []) = omega arith
 without_cr_long (b ∷ c ∷ line) = let rest = without_cr_long (c ∷ line) in omega (arith, rest)
 
-too_long : (line more : List ℕ) → 8196 ≤ length line → 8194 < length (without_cr (line ++ more))
+pub too_long : (line more : List ℕ) → 8196 ≤ length line → 8194 < length (without_cr (line ++ more))
 too_long line more long = let kept = without_cr_long (line ++ more) in omega (arith, kept, length-append line more, long)
 
-behind_first : (limits : Limits) (given : List Entry) (text : List ℕ) → (HasFault limits given text TooManyLines → ⊥) → (other : LineFault) → HasFault limits given text other → 1 ≤ fault_order other
-behind_first limits given text few TooManyLines held = absurd (few held)
-behind_first limits given text few TooLong held = omega arith
-behind_first limits given text few BadForm held = omega arith
-behind_first limits given text few BadHex held = omega arith
-behind_first limits given text few AfterEnd held = omega arith
-behind_first limits given text few InputLimit held = omega arith
+after_first : (limits : Limits) (given : List Entry) (text : List ℕ) → (HasFault limits given text TooManyLines → ⊥) → (other : LineFault) → HasFault limits given text other → 1 ≤ fault_order other
+after_first limits given text few TooManyLines held = absurd (few held)
+after_first limits given text few TooLong held = omega arith
+after_first limits given text few BadForm held = omega arith
+after_first limits given text few BadHex held = omega arith
+after_first limits given text few AfterEnd held = omega arith
+after_first limits given text few InputLimit held = omega arith
 
-still_first : (limits : Limits) (given : List Entry) (line more : List ℕ) (fault : LineFault) → 8196 ≤ length line → fault_order fault ≤ 1 → IsFirstFault limits given line fault → IsFirstFault limits given (line ++ more) fault
+still_first : (limits : Limits) (given : List Entry) (line more : List ℕ) (fault : LineFault) → 8196 ≤ length line → fault_order fault ≤ 1 → IsFirstLineFault limits given line fault → IsFirstLineFault limits given (line ++ more) fault
 still_first limits given line more TooManyLines long low is = record { held = is.held; first = λ other held. omega arith }
 still_first limits given line more TooLong long low is = record {
   held = too_long line more long;
-  first = behind_first limits given (without_cr (line ++ more)) (λ many. let up = is.first TooManyLines many in omega (arith, up));
+  first = after_first limits given (without_cr (line ++ more)) (λ many. let up = is.first TooManyLines many in omega (arith, up));
 }
 still_first limits given line more BadForm long low is = absurd (omega (arith, low))
 still_first limits given line more BadHex long low is = absurd (omega (arith, low))
 still_first limits given line more AfterEnd long low is = absurd (omega (arith, low))
 still_first limits given line more InputLimit long low is = absurd (omega (arith, low))
 
-still_faulty : (limits : Limits) (lines : List (List ℕ)) (line more : List ℕ) (fault : LineFault) → 8196 ≤ length line → IsFaultBehind limits lines line fault → IsFaultBehind limits lines (line ++ more) fault
+still_faulty : (limits : Limits) (lines : List (List ℕ)) (line more : List ℕ) (fault : LineFault) → 8196 ≤ length line → IsFaultAfter limits lines line fault → IsFaultAfter limits lines (line ++ more) fault
 still_faulty limits lines line more fault long is =
     let here : 8194 < length (without_cr line) = subst (λ (bs : List ℕ). 8194 < length (without_cr bs)) (append-nil line) (too_long line [] long) in
     record { given = is.given; taken = is.taken; is = still_first limits is.given line more fault long (is.is.first TooLong here) is.is }
 
--- the last of lines that are taken has no fault
-last_taken : (limits : Limits) (before : List Entry) (lines : List (List ℕ)) (line : List ℕ) (entries : List Entry) → AreTakenBehind limits before (lines ++ line ∷ []) entries → (given : List Entry) × (entry : Entry) × IsTaken limits given line entry
+-- the last of accepted lines is accepted
+last_taken : (limits : Limits) (before : List Entry) (lines : List (List ℕ)) (line : List ℕ) (entries : List Entry) → AreAcceptedAfter limits before (lines ++ line ∷ []) entries → (given : List Entry) × (entry : Entry) × IsAcceptedLine limits given line entry
 last_taken limits before [] line [] are = absurd are
 last_taken limits before [] line (entry ∷ entries) are = (before, entry, are.0)
 last_taken limits before (l ∷ lines) line [] are = absurd are
 last_taken limits before (l ∷ lines) line (entry ∷ entries) are = last_taken limits (before ++ entry ∷ []) lines line entries are.1
 
-not_taken : (limits : Limits) (capture : Capture) (lines : List (List ℕ)) (line : List ℕ) → 8196 ≤ length line → HasTaken limits capture (lines ++ line ∷ []) → ⊥
+not_taken : (limits : Limits) (capture : Capture) (lines : List (List ℕ)) (line : List ℕ) → 8196 ≤ length line → HasAcceptedLines limits capture (lines ++ line ∷ []) → ⊥
 not_taken limits capture lines line long has =
     let last = last_taken limits [] lines line has.entries has.taken in
     last.2.none TooLong (subst (λ (bs : List ℕ). 8194 < length (without_cr bs)) (append-nil line) (too_long line [] long))
 
--- ---- bytes more
+-- ---- further bytes
 
 pub line_join : (line more : List ℕ) → IsLine line → IsLine more → IsLine (line ++ more)
 line_join [] more is also = also
@@ -77,9 +77,9 @@ line_right : (line more : List ℕ) → IsLine (line ++ more) → IsLine more
 line_right [] more is = is
 line_right (b ∷ line) more is = line_right line more is.1
 
-module _ (limits : Limits) (old : Capture) (begun came : List ℕ) (split : HasHandedOn limits old begun came) where
-  -- the line goes on
-  pub split_more : (bytes : List ℕ) → IsLine bytes → length begun + length bytes < 8196 → HasHandedOn limits old (begun ++ bytes) (came ++ bytes)
+module _ (limits : Limits) (old : Capture) (begun came : List ℕ) (split : HasPassedOn limits old begun came) where
+  -- the line isn't finished
+  pub split_more : (bytes : List ℕ) → IsLine bytes → length begun + length bytes < 8196 → HasPassedOn limits old (begun ++ bytes) (came ++ bytes)
   split_more bytes line size = record {
     lines = split.lines;
     whole = ap (λ (bs : List ℕ). bs ++ bytes) split.whole ∙ append_assoc (ended split.lines) begun bytes;
@@ -94,14 +94,14 @@ module _ (limits : Limits) (old : Capture) (begun came : List ℕ) (split : HasH
   with_lf = ap (λ (bs : List ℕ). bs ++ 10 ∷ []) split.whole ∙ append_assoc (ended split.lines) begun (10 ∷ []) ∙ sym (ended-push split.lines begun)
 
   -- an LF ends it
-  split_lf : (new : Capture) → HasTaken limits new (split.lines ++ begun ∷ []) → HasHandedOn limits new [] (came ++ 10 ∷ [])
-  split_lf new takes = record {
+  split_lf : (new : Capture) → HasAcceptedLines limits new (split.lines ++ begun ∷ []) → HasPassedOn limits new [] (came ++ 10 ∷ [])
+  split_lf new consumes = record {
     lines = split.lines ++ begun ∷ [];
     whole = with_lf ∙ sym (append-nil (ended (split.lines ++ begun ∷ [])));
     each = each_join split.lines (begun ∷ []) split.each (split.in_line, tt);
     in_line = tt;
     short = omega arith;
-    taken = takes;
+    taken = consumes;
     few = omega (arith, split.few, split.short, length-append came (10 ∷ []), length-append split.lines (begun ∷ []));
   }
 
@@ -120,7 +120,7 @@ module _ (limits : Limits) (old : Capture) (begun came : List ℕ) (split : HasH
         is = is.1;
       }
 
-  -- a byte more makes it too long
+  -- one more byte makes it too long
   stop_long : (byte : ℕ) (stop : CaptureStop) → IsLine (begun ++ byte ∷ []) → length (begun ++ byte ∷ []) ≡ 8196 → IsStopAt limits split.lines (begun ++ byte ∷ []) stop → IsStopBy limits (came ++ byte ∷ []) stop
   stop_long byte Read in_line size stops = stops
   stop_long byte (Line number fault) in_line size stops = λ later.
@@ -138,7 +138,7 @@ module _ (limits : Limits) (old : Capture) (begun came : List ℕ) (split : HasH
         is = still_faulty limits split.lines after first.0 fault (omega (arith, size)) stops.1;
       }
 
-  pub no_long : (capture : Capture) (after : List ℕ) → length after ≡ 8196 → HasTaken limits capture (split.lines ++ after ∷ []) → ⊥
+  pub no_long : (capture : Capture) (after : List ℕ) → length after ≡ 8196 → HasAcceptedLines limits capture (split.lines ++ after ∷ []) → ⊥
   no_long capture after size has = not_taken limits capture split.lines after (omega (arith, size)) has
 
   abbrev pub unfaulted : IsUnfaulted limits came
@@ -167,58 +167,58 @@ module _ (limits : Limits) (old : Capture) (begun came : List ℕ) (split : HasH
   at_end : begun ≢ [] → AreLines came (split.lines ++ begun ∷ [])
   at_end some = subst (λ (bs : List ℕ). AreLines bs (split.lines ++ begun ∷ [])) (sym split.whole) (lines_at_end split.lines begun split.each split.in_line some)
 
-  pub reported_last : (capture : Capture) (report : Report) → begun ≢ [] → (has : HasTaken limits capture (split.lines ++ begun ∷ [])) → IsReport limits (split.lines ++ begun ∷ []) report → IsReported limits came report
+  pub reported_last : (capture : Capture) (report : Report) → begun ≢ [] → (has : HasAcceptedLines limits capture (split.lines ++ begun ∷ [])) → IsReport limits (split.lines ++ begun ∷ []) report → IsReported limits came report
   reported_last capture report some has is = record { lines = split.lines ++ begun ∷ []; are = at_end some; given = has.entries; taken = has.taken; is = is }
 
   pub faulty_last : (number : ℕ) (fault : LineFault) → begun ≢ [] → IsStopAt limits split.lines begun (Line number fault) → IsFaulty limits came number fault
   faulty_last number fault some is = record { before = split.lines; line = begun; after = []; are = at_end some; at = is.0; is = is.1 }
 
-  pub stop_last : (stop : CaptureStop) → begun ≢ [] → IsStopAt limits split.lines begun stop → IsAnswerOf limits came (Err stop)
+  pub stop_last : (stop : CaptureStop) → begun ≢ [] → IsStopAt limits split.lines begun stop → IsCaptureAnswerOf limits came (Err stop)
   stop_last Read some is = is
   stop_last (Line number fault) some is = faulty_last number fault some is
 
--- ---- the front of a piece
+-- ---- the prefix of a piece
 
-module _ (limits : Limits) (old : Capture) (begun came : List ℕ) (split : HasHandedOn limits old begun came) where
+module _ (limits : Limits) (old : Capture) (begun came : List ℕ) (split : HasPassedOn limits old begun came) where
   -- the rest of a line, and its LF
-  pub split_line : (bytes : List ℕ) (new : Capture) → IsLine bytes → length begun + length bytes < 8196 → HasTaken limits new (split.lines ++ (begun ++ bytes) ∷ []) → HasHandedOn limits new [] (came ++ (bytes ++ 10 ∷ []))
+  pub split_line : (bytes : List ℕ) (new : Capture) → IsLine bytes → length begun + length bytes < 8196 → HasAcceptedLines limits new (split.lines ++ (begun ++ bytes) ∷ []) → HasPassedOn limits new [] (came ++ (bytes ++ 10 ∷ []))
   unfolding split_more
-  split_line bytes new line size takes =
-      subst (HasHandedOn limits new []) (append_assoc came bytes (10 ∷ []))
-      (split_lf limits old (begun ++ bytes) (came ++ bytes) (split_more limits old begun came split bytes line size) new takes)
+  split_line bytes new line size consumes =
+      subst (HasPassedOn limits new []) (append_assoc came bytes (10 ∷ []))
+      (split_lf limits old (begun ++ bytes) (came ++ bytes) (split_more limits old begun came split bytes line size) new consumes)
 
   pub stop_line : (bytes ahead : List ℕ) (stop : CaptureStop) → IsLine bytes → length begun + length bytes < 8196 → IsStopAt limits split.lines (begun ++ bytes) stop → IsStopWithin limits came (bytes ++ 10 ∷ ahead) stop
   unfolding split_more
   stop_line bytes ahead stop line size stops =
       let more = split_more limits old begun came split bytes line size in
       record {
-        told = bytes;
+        earlier = bytes;
         last = 10;
         ahead = ahead;
         whole = refl;
         unfaulted = unfaulted limits old (begun ++ bytes) (came ++ bytes) more;
-        shown = inl refl;
+        is_evident = inl refl;
         stops = stop_lf limits old (begun ++ bytes) (came ++ bytes) more stop stops;
       }
 
-  -- as many bytes of a line as make it too long
-  pub stop_at_most : (told : List ℕ) (last : ℕ) (ahead : List ℕ) (stop : CaptureStop) → IsLine (told ++ last ∷ []) → length begun + length (told ++ last ∷ []) ≡ 8196 → IsStopAt limits split.lines (begun ++ (told ++ last ∷ [])) stop → IsStopWithin limits came ((told ++ last ∷ []) ++ ahead) stop
+  -- the bytes that make a line too long
+  pub stop_at_most : (earlier : List ℕ) (last : ℕ) (ahead : List ℕ) (stop : CaptureStop) → IsLine (earlier ++ last ∷ []) → length begun + length (earlier ++ last ∷ []) ≡ 8196 → IsStopAt limits split.lines (begun ++ (earlier ++ last ∷ [])) stop → IsStopWithin limits came ((earlier ++ last ∷ []) ++ ahead) stop
   unfolding split_more
-  stop_at_most told last ahead stop line size stops =
-      let sizes = length-append told (last ∷ []) in
-      let short : length begun + length told < 8196 = omega (arith, size, sizes) in
-      let more = split_more limits old begun came split told (line_left told (last ∷ []) line) short in
-      let same = append_assoc begun told (last ∷ []) in
+  stop_at_most earlier last ahead stop line size stops =
+      let sizes = length-append earlier (last ∷ []) in
+      let short : length begun + length earlier < 8196 = omega (arith, size, sizes) in
+      let more = split_more limits old begun came split earlier (line_left earlier (last ∷ []) line) short in
+      let same = append_assoc begun earlier (last ∷ []) in
       record {
-        told = told;
+        earlier = earlier;
         last = last;
         ahead = ahead;
-        whole = append_assoc told (last ∷ []) ahead;
-        unfaulted = unfaulted limits old (begun ++ told) (came ++ told) more;
-        shown = inr (omega (arith, size, sizes, length-append begun told));
-        stops = stop_long limits old (begun ++ told) (came ++ told) more last stop
-            (line_join (begun ++ told) (last ∷ []) more.in_line (line_right told (last ∷ []) line))
-            (ap (λ (bs : List ℕ). length bs) same ∙ length-append begun (told ++ last ∷ []) ∙ size)
+        whole = append_assoc earlier (last ∷ []) ahead;
+        unfaulted = unfaulted limits old (begun ++ earlier) (came ++ earlier) more;
+        is_evident = inr (omega (arith, size, sizes, length-append begun earlier));
+        stops = stop_long limits old (begun ++ earlier) (came ++ earlier) more last stop
+            (line_join (begun ++ earlier) (last ∷ []) more.in_line (line_right earlier (last ∷ []) line))
+            (ap (λ (bs : List ℕ). length bs) same ∙ length-append begun (earlier ++ last ∷ []) ∙ size)
             (subst (λ (bs : List ℕ). IsStopAt limits split.lines bs stop) (sym same) stops);
       }
 

@@ -1,4 +1,4 @@
--- How a capture stands to the lines that it has taken.
+-- How a capture's state is related to the lines that it has accepted.
 use Rattle.std.specs.Prelude.{◌≡◌, ℕ, ◌<◌, ◌≤◌, Bool, true, false, Option, None, Some, List, [], ◌∷◌, ◌++◌, length}
 use Rattle.wsn_wire.specs.declared.endpoint.Role.{Role}
 use Rattle.wsn_wire.specs.declared.endpoint.Role.TheVariants.{Client, Server}
@@ -9,10 +9,10 @@ use Rattle.wsn_capture.specs.declared.line_fault.LineFault.{LineFault}
 use Rattle.wsn_capture.specs.declared.line_fault.LineFault.TheVariants.{AfterEnd, InputLimit}
 use Rattle.wsn_capture.specs.declared.sent_stream.SentStream.{SentStream}
 use Rattle.wsn_capture.specs.declared.capture.Capture.{Capture}
-use Rattle.wsn_capture.specs.Entries.{Entry, GivesEntry}
-use Rattle.wsn_capture.specs.Sides.{sent, has_ended}
-use Rattle.wsn_capture.specs.LineFaults.{HasFault, AreTaken, fault_order}
-use Rattle.wsn_capture.specs.Reports.{ClosesIn}
+use Rattle.wsn_rules.specs.Entries.{Entry, GivesEntry}
+use Rattle.wsn_rules.specs.Sides.{sent, has_ended}
+use Rattle.wsn_capture.specs.LineFaults.{HasFault, AreAcceptedLines, fault_order}
+use Rattle.wsn_rules.specs.Reports.{ClosesIn}
 use Rattle.wsn_capture.specs.LimitedScans.{HasStreamed}
 
 -- ---- one stream
@@ -31,57 +31,56 @@ abbrev pub IsCloseLine : Role → Limits → List Entry → Option ℕ → Type 
 IsCloseLine role limits given (Some line) = ClosesIn role limits given line
 IsCloseLine role limits given None = IsUnclosed role limits (sent role given)
 
--- The same of a stream that has gone on: the line that was known stays, and a Close that ends only now ends in this
--- one.
+-- The line that is noted after further bytes: a known line stays, and a Close that is new ends in the current line.
 abbrev pub IsNoted : Role → Limits → List ℕ → Option ℕ → ℕ → Option ℕ → Type 0
 IsNoted role limits stream (Some line) now noted = noted ≡ Some line
 IsNoted role limits stream None now (Some line) = (line ≡ now) × IsClosedBy role limits stream true
 IsNoted role limits stream None now None = IsUnclosed role limits stream
 
--- What is known of the stream that lines gave.
+-- The stream has the state that these entries give it.
 pub record HasSent (role : Role) (limits : Limits) (sent_stream : SentStream) (given : List Entry) : Type 0 where
   pub streamed : HasStreamed role limits sent_stream.scan (sent role given)
   pub ended : sent_stream.ended ≡ has_ended role given
   pub close_line : IsCloseLine role limits given sent_stream.close_line
 
--- Why a stream doesn't take so many bytes more.
+-- Why a stream doesn't accept the given number of further bytes.
 abbrev pub IsLimited : SentStream → ℕ → LineFault → Type 0
 IsLimited sent_stream count AfterEnd = sent_stream.ended ≡ true
 IsLimited sent_stream count InputLimit = (sent_stream.ended ≡ false) × (sent_stream.scan.room < count)
 IsLimited sent_stream count fault = ⊥
 
--- ---- both
+-- ---- both streams
 
--- What is known of both streams that lines gave.
+-- Both streams have the state that these entries give them.
 pub record AreSent (limits : Limits) (capture : Capture) (given : List Entry) : Type 0 where
   pub client : HasSent Client limits capture.client given
   pub server : HasSent Server limits capture.server given
 
--- A text has no fault of its own, whatever the count and the length of lines, and gives this.
+-- The text gives this entry and has no fault, apart from the number and the length of lines.
 pub record IsWellGiven (limits : Limits) (given : List Entry) (text : List ℕ) (entry : Entry) : Type 0 where
   pub gives : GivesEntry text entry
   pub none : (other : LineFault) → HasFault limits given text other → fault_order other < 2
 
--- Of a text's own faults, the first.
+-- The first of the text's faults, apart from the number and the length of lines.
 pub record IsFirstOwnFault (limits : Limits) (given : List Entry) (text : List ℕ) (fault : LineFault) : Type 0 where
   pub held : HasFault limits given text fault
   pub first :
       (other : LineFault) → HasFault limits given text other → 2 ≤ fault_order other
       → fault_order fault ≤ fault_order other
 
--- One text more was taken.
-pub record TakesText (limits : Limits) (new : Capture) (given : List Entry) (text : List ℕ) : Type 0 where
+-- The capture has accepted one more text.
+pub record AcceptsText (limits : Limits) (new : Capture) (given : List Entry) (text : List ℕ) : Type 0 where
   pub entry : Entry
   pub gives : IsWellGiven limits given text entry
   pub sent : AreSent limits new (given ++ entry ∷ [])
 
--- how many lines a capture has taken
+-- the number of lines that a capture has accepted
 abbrev pub count_of : Capture → ℕ
 count_of capture = capture.lines
 
--- The capture has taken these lines, in this order.
-pub record HasTaken (limits : Limits) (capture : Capture) (lines : List (List ℕ)) : Type 0 where
+-- The capture has accepted these lines, in this order.
+pub record HasAcceptedLines (limits : Limits) (capture : Capture) (lines : List (List ℕ)) : Type 0 where
   pub entries : List Entry
-  pub taken : AreTaken limits lines entries
+  pub taken : AreAcceptedLines limits lines entries
   pub count : count_of capture ≡ length lines
   pub sides : AreSent limits capture entries

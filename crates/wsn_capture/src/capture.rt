@@ -3,19 +3,19 @@ ghost use Rattle.wsn_capture.specs.CloseLines.{earlier_of};
 
 use crate::line_fault::LineFault;
 use crate::line_form::{LineForm, decode, form_of, strip_cr};
-use crate::report::{Outcome, Report};
 use crate::sent_stream::SentStream;
 use std::fmt::{self, Debug, Formatter};
-use wsn_rules::Limits;
+use wsn_rules::{Limits, Outcome, Report};
 use wsn_wire::Role;
 
-/// The most lines of a capture.
-const LINES_MAX: u32 = 1_000_000;
+/// The maximum number of lines of a capture.
+pub(crate) const LINES_MAX: u32 = 1_000_000;
 
-/// The most bytes of a line, the CR at its end not counted: an endpoint's letter, a space and 8,192 digits.
-const LINE_MAX: usize = 8194;
+/// The maximum length of a line in bytes, without the CR at its end: an endpoint's letter, a space and 8,192 digits.
+pub(crate) const LINE_MAX: usize = 8194;
 
-/// Takes the lines of a capture and keeps none of them: it tells the report of all that it took.
+/// Accepts the lines of a capture one by one and reports how the connection closed (RFC 6455 section 7.1). It keeps
+/// none of the lines.
 #[derive(Drop)]
 pub struct Capture {
     client: SentStream,
@@ -25,11 +25,11 @@ pub struct Capture {
 
 impl Capture {
     ghost use Rattle.std.specs.Prelude.{◌≡◌, ◌+◌, ◌≤◌, ℕ, List, [], ◌∷◌, ◌++◌, length, OnOk, IfErr};
-    ghost use Rattle.wsn_capture.specs.Words.{Limits, Entry, bytes_front, end_mark, IsFaultBehind, IsReport, AreSent, TakesText, IsFirstOwnFault, HasTaken, count_of};
+    ghost use Rattle.wsn_capture.specs.Words.{Limits, Entry, bytes_prefix, end_mark, IsFaultAfter, IsReport, AreSent, AcceptsText, IsFirstOwnFault, HasAcceptedLines, count_of};
 
-    /// A capture that has taken no line. The limits hold for each endpoint's stream by itself.
+    /// A capture that has accepted no line. The limits apply to each endpoint's stream separately.
     pub fn new(limits: Limits) -> Capture
-        ensures { HasTaken limits result [] }
+        ensures { HasAcceptedLines limits result [] }
     {
         Capture {
             client: SentStream::new(Role::Client, limits),
@@ -38,25 +38,26 @@ impl Capture {
         }
     }
 
-    /// Takes a line, without the LF that ends it; a CR at its end is dropped. It answers the first of the line's
-    /// faults, if it has one, and then nothing changes.
+    /// Accepts a line, given without its LF; a CR at its end is dropped.
+    ///
+    /// The error is the line's first fault, in the order of [`LineFault`]'s variants. The capture is then unchanged.
     pub fn line(&mut self, text: &[u8]) -> Result<(), LineFault>
         ensures taken { OnOk result ((limits : Limits) (lines : List (List ℕ)) →
-            HasTaken limits self.old lines → HasTaken limits self.new (lines ++ text.now ∷ [])) }
+            HasAcceptedLines limits self.old lines → HasAcceptedLines limits self.new (lines ++ text.now ∷ [])) }
         ensures fault { IfErr result (λ fault. (limits : Limits) (lines : List (List ℕ)) →
-            HasTaken limits self.old lines → IsFaultBehind limits lines text.now fault) }
+            HasAcceptedLines limits self.old lines → IsFaultAfter limits lines text.now fault) }
         ensures unchanged { IfErr result (λ _. self.new ≡ self.old) }
     {
         self.take_line(text)
     }
 
-    /// The same, and a line that is taken is counted.
+    /// Accepts a line as [`Capture::line`] does, and counts it.
     #[tactic(none)]
     pub(crate) fn take_line(&mut self, text: &[u8]) -> Result<(), LineFault>
         ensures taken { OnOk result ((limits : Limits) (lines : List (List ℕ)) →
-            HasTaken limits self.old lines → HasTaken limits self.new (lines ++ text.now ∷ [])) }
+            HasAcceptedLines limits self.old lines → HasAcceptedLines limits self.new (lines ++ text.now ∷ [])) }
         ensures fault { IfErr result (λ fault. (limits : Limits) (lines : List (List ℕ)) →
-            HasTaken limits self.old lines → IsFaultBehind limits lines text.now fault) }
+            HasAcceptedLines limits self.old lines → IsFaultAfter limits lines text.now fault) }
         ensures unchanged { IfErr result (λ _. self.new ≡ self.old) }
         ensures count { OnOk result ((count_of self.new ≡ count_of self.old + 1) × (count_of self.new ≤ LINES_MAX)) }
     {
@@ -72,12 +73,12 @@ impl Capture {
         Ok(())
     }
 
-    /// Takes what a line without its CR gives. Of the faults that the text has by itself it answers the first, and
-    /// then nothing changes.
+    /// Accepts the text of a line, without its CR, and doesn't count it. The error is the first of the text's faults
+    /// after `TooLong`; the capture is then unchanged.
     fn take(&mut self, text: &[u8]) -> Result<(), LineFault>
         requires { length text.now ≤ LINE_MAX }
         ensures taken { OnOk result ((limits : Limits) (given : List Entry) → self.old.lines ≡ length given →
-            AreSent limits self.old given → TakesText limits self.new given text.now) }
+            AreSent limits self.old given → AcceptsText limits self.new given text.now) }
         ensures fault { IfErr result (λ fault. (limits : Limits) (given : List Entry) →
             AreSent limits self.old given → IsFirstOwnFault limits given text.now fault) }
         ensures unchanged { IfErr result (λ _. self.new ≡ self.old) }
@@ -91,14 +92,14 @@ impl Capture {
         }
     }
 
-    /// Takes the bytes of an endpoint that the digits spell.
+    /// Accepts a line of an endpoint's bytes, which the digits encode.
     #[tactic(none)]
     fn take_bytes(&mut self, role: Role, digits: &[u8]) -> Result<(), LineFault>
         requires { length digits.now ≤ 8192 }
         ensures taken { OnOk result ((limits : Limits) (given : List Entry) → self.old.lines ≡ length given →
-            AreSent limits self.old given → TakesText limits self.new given (bytes_front role ++ digits.now)) }
+            AreSent limits self.old given → AcceptsText limits self.new given (bytes_prefix role ++ digits.now)) }
         ensures fault { IfErr result (λ fault. (limits : Limits) (given : List Entry) →
-            AreSent limits self.old given → IsFirstOwnFault limits given (bytes_front role ++ digits.now) fault) }
+            AreSent limits self.old given → IsFirstOwnFault limits given (bytes_prefix role ++ digits.now) fault) }
         ensures unchanged { IfErr result (λ _. self.new ≡ self.old) }
         ensures lines { self.new.lines ≡ self.old.lines }
     {
@@ -110,11 +111,11 @@ impl Capture {
         }
     }
 
-    /// Takes an endpoint's end mark.
+    /// Accepts an endpoint's end mark.
     #[tactic(none)]
     fn take_mark(&mut self, role: Role) -> Result<(), LineFault>
         ensures taken { OnOk result ((limits : Limits) (given : List Entry) →
-            AreSent limits self.old given → TakesText limits self.new given (end_mark role)) }
+            AreSent limits self.old given → AcceptsText limits self.new given (end_mark role)) }
         ensures fault { IfErr result (λ fault. (limits : Limits) (given : List Entry) →
             AreSent limits self.old given → IsFirstOwnFault limits given (end_mark role) fault) }
         ensures unchanged { IfErr result (λ _. self.new ≡ self.old) }
@@ -126,18 +127,18 @@ impl Capture {
         }
     }
 
-    /// How many lines it has taken.
+    /// The number of lines accepted.
     pub(crate) fn count(&self) -> u32
         ensures { result ≡ count_of self.now }
     {
         self.lines
     }
 
-    /// The report of the lines taken.
+    /// The report of the lines accepted so far (RFC 6455 section 7.1).
     #[tactic(none)]
     pub fn report(&self) -> Report
         ensures { (limits : Limits) (lines : List (List ℕ)) →
-            HasTaken limits self.now lines → IsReport limits lines result }
+            HasAcceptedLines limits self.now lines → IsReport limits lines result }
     {
         let client = self.client.side();
         let server = self.server.side();
@@ -158,7 +159,7 @@ impl Capture {
     }
 }
 
-/// Whose Close came in an earlier line, by the lines in which the Closes end.
+/// The endpoint whose Close ends in an earlier line, given the line in which each endpoint's Close ends.
 fn first_closed(client: Option<u32>, server: Option<u32>) -> Option<Role>
     ensures { result ≡ earlier_of client server }
 {
@@ -171,7 +172,7 @@ fn first_closed(client: Option<u32>, server: Option<u32>) -> Option<Role>
     }
 }
 
-/// Its name alone: a capture's parts are its own.
+/// Prints only the type's name.
 impl Debug for Capture {
     fn fmt<W: fmt::Write>(&self, f: &mut Formatter<W>) -> fmt::Result {
         f.write_str("Capture { .. }")

@@ -1,11 +1,11 @@
 ghost use Rattle.std.specs.Prelude.{◌≡◌, ◌<◌, ◌*◌, MatchBool, Ok, length, unwrap_or};
 ghost use Rattle.wsn_capture.specs.Words.{decode_of, hex_digit_value, is_hex_digit, HasNoHex};
 
-/// Puts the bytes that pairs of hexadecimal digits spell into `bytes`, and answers whether all are digits, of either
-/// case. If not, `bytes` is left open.
+/// Decodes pairs of hexadecimal digits, of either case, into `bytes`, and returns whether all are digits. If not, the
+/// contents of `bytes` are unspecified.
 ///
-/// The loop has no way out at a bad digit: whether one is a letter can't be foreseen, and a branch at each would take
-/// longer than all else that is done with a line.
+/// The loop has no early exit: a branch at each digit can't be predicted, and would take longer than the rest of the
+/// work on a line.
 #[tactic(none)]
 pub fn decode_pairs(digits: &[u8], bytes: &mut [u8]) -> bool
     requires { length digits.now ≡ 2 * length bytes.old }
@@ -27,7 +27,7 @@ fn is_digit(byte: u8) -> bool
     matches!(byte, b'0'..=b'9' | b'A'..=b'F' | b'a'..=b'f')
 }
 
-/// The value of a digit, and 0 for a byte that is none.
+/// The value of a digit; 0 for any other byte.
 fn digit_value(byte: u8) -> u8
     ensures value { result ≡ unwrap_or (hex_digit_value byte) 0 }
     ensures small { result < 16 }

@@ -1,26 +1,29 @@
 ghost use Rattle.std.specs.Prelude.{◌≡◌, ℕ, List, Some, Err, ◌↔◌, false, true};
-ghost use Rattle.wsn_capture.specs.CaptureAnswers.{IsAnswerOf, IsCaptureJudged};
+ghost use Rattle.wsn_capture.specs.CaptureAnswers.{IsCaptureAnswerOf, IsCaptureJudged};
 
 use crate::capture_stop::CaptureStop;
 use crate::line_splitter::LineSplitter;
-use crate::report::Report;
 use std::io::Read;
-use wsn_rules::Limits;
-use wsn_scan::PIECE;
+use wsn_rules::{Limits, Report};
+use wsn_scan::CHUNK;
 use wsn_wire::Input;
 
-/// Reads a capture's text to its end and tells the report of its lines; or, as soon as it is shown, the first line
-/// that isn't taken. It takes pieces of at most [`PIECE`] bytes. The limits hold for each endpoint's stream by itself.
+/// Reads a capture's text to its end and returns the report of its lines. It reads chunks of at most [`CHUNK`] bytes.
+/// The limits apply to each endpoint's stream separately.
+///
+/// The error `Line` is the first line that isn't accepted. It is returned once the line has ended or is too long
+/// whatever follows, with at most 4,095 bytes read after that byte. `Read` is a read that failed; every line that was
+/// complete by then is accepted.
 #[tactic(none)]
 pub fn judge_capture<R: Read>(input: &mut Input<R>, limits: Limits) -> Result<Report, CaptureStop>
     requires { input.old.failed ≡ false }
     ensures judged { IsCaptureJudged limits input.old input.new result }
     ensures whole { (all : List ℕ) → input.old.remaining ≡ Some all → input.new.failed ≡ false →
-        IsAnswerOf limits all result }
+        IsCaptureAnswerOf limits all result }
     ensures failed { (result ≡ Err CaptureStop.Read) ↔ (input.new.failed ≡ true) }
 {
     let mut lines = LineSplitter::new(limits);
-    let mut piece = [0; PIECE];
+    let mut piece = [0; CHUNK];
     loop {
         let Some(count) = input.read(&mut piece) else {
             return Err(CaptureStop::Read);

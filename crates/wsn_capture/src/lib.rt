@@ -1,18 +1,29 @@
-//! Captures: what both endpoints of a WebSocket connection sent, in lines of hexadecimal digits, and how the
-//! connection closed (RFC 6455 section 7.1).
+//! Captures: what both endpoints of a WebSocket connection sent, in lines of hexadecimal digits, and how the connection
+//! closed (RFC 6455 section 7.1).
 //!
-//! The bytes of an endpoint's lines, joined, are the *stream* that it sent, which ends at its end mark; what became of
-//! that stream is its [`Side`].
+//! The client closes with code 1000, the server echoes it, and both directions end:
 //!
-//! A [`Capture`] takes lines and tells the [`Report`] of those that it took. [`judge_capture`] reads a text, hands each
-//! of its lines to one, and tells its report, or the first line that isn't taken; [`put_report`] prints a report. None
-//! of them takes memory, and no more than one line is held.
+//! ```text
+//! C 88820000000003e8
+//! S 880203e8
+//! S.
+//! C.
+//! ```
 //!
-//! Which lines a text has is said in `wsn_lines`; `specs/Entries.antt` says what a line gives,
-//! `specs/LineFaults.antt` which lines aren't taken, `specs/Sides.antt` what became of each stream,
-//! `specs/Reports.antt` what is reported of both, and `specs/ReportLines.antt` how that is printed.
-//! `specs/CaptureAnswers.antt` says what is answered of a text. [`laws`] has what holds of these, and
-//! `specs/Captures.antt` says how a [`Capture`] stands to the lines that it has taken.
+//! An endpoint's *stream* is the bytes of its lines, joined; its end mark ends the stream. Its [`Side`] says what
+//! became of that stream.
+//!
+//! [`judge_capture`] reads a text and returns the [`Report`] of its lines, or the first line that isn't accepted. A
+//! [`Capture`] accepts lines one by one and reports on those that it has accepted. [`put_report`] prints a report. A
+//! [`SideReader`] is one endpoint's stream as a reader: an engine reads it as it reads any stream. None of them
+//! allocates memory, and at most one line is held.
+//!
+//! In `wsn_rules`, `specs/TextLines.antt` defines the lines of a text, `specs/Entries.antt` what a line gives,
+//! `specs/Sides.antt` what became of each stream and `specs/Reports.antt` the report; in `wsn_print`,
+//! `specs/ReportText.antt` defines how a report is printed. Here, `specs/LineFaults.antt` defines which lines aren't
+//! accepted, `specs/CaptureAnswers.antt` the answer to a text, `specs/SideTexts.antt` one endpoint's stream as a function
+//! of a text, and `specs/Captures.antt` how a [`Capture`]'s state is related to the lines that it has accepted. [`laws`]
+//! has what follows from these definitions, and [`line_fault_examples`] lines with their first faults.
 #![tactic(auto)]
 
 mod capture;
@@ -22,15 +33,21 @@ mod judging;
 pub mod laws;
 mod limited_scan;
 mod line_fault;
+pub mod line_fault_examples;
 mod line_form;
 mod line_splitter;
-mod report;
-mod report_lines;
+mod lines_before;
 mod sent_stream;
+mod side_bytes;
+pub mod side_examples;
+mod side_lines;
+mod side_reader;
+mod side_source;
 
 pub use capture::Capture;
 pub use capture_stop::CaptureStop;
 pub use judging::judge_capture;
 pub use line_fault::LineFault;
-pub use report::{Outcome, Report, Side};
-pub use report_lines::put_report;
+pub use side_reader::SideReader;
+pub use wsn_print::put_report;
+pub use wsn_rules::{Outcome, Report, Side};

@@ -3,7 +3,7 @@ use wsn_rules::{Limits, Verdict};
 use wsn_scan::Scan;
 use wsn_wire::Role;
 
-/// The scan of a stream up to the input limit. What comes behind a refusal is counted, and not read.
+/// The scan of a stream up to the input limit. Bytes after a refusal are counted but not read.
 #[derive(Drop)]
 pub struct LimitedScan {
     scan: Scan,
@@ -11,20 +11,20 @@ pub struct LimitedScan {
 }
 
 impl Model for LimitedScan {
-    ghost use Rattle.wsn_capture.specs.LimitedScans.{Scanned, IsSound};
+    ghost use Rattle.wsn_capture.specs.LimitedScans.{Scanned, HasEnoughRoom};
 
     ghost Value = { Scanned };
 
     ghost view = { λ s. record { scan = s.scan; room = s.room } };
 
-    ghost invariant = { λ s. IsSound (record { scan = s.scan; room = s.room }) };
+    ghost invariant = { λ s. HasEnoughRoom (record { scan = s.scan; room = s.room }) };
 }
 
 impl LimitedScan {
     ghost use Rattle.std.specs.Prelude.{◌≡◌, ◌≤◌, ℕ, List, [], ◌++◌, length};
     ghost use Rattle.wsn_capture.specs.Words.{Frame, IsVerdict, HasStreamed};
 
-    /// Nothing has come.
+    /// The scan of a stream of no bytes.
     pub fn new(role: Role, limits: Limits) -> LimitedScan
         ensures { HasStreamed role limits result [] }
     {
@@ -34,14 +34,14 @@ impl LimitedScan {
         }
     }
 
-    /// How many bytes may come yet: the input limit less those that came.
+    /// The number of bytes that may still come: the input limit less those that came.
     pub fn room(&self) -> u64
         ensures { result ≡ self.now.room }
     {
         self.room
     }
 
-    /// Takes bytes, no more than `room`. It may unmask payload in place.
+    /// Consumes bytes, at most `room` of them. It may unmask payload in place.
     #[tactic(none)]
     pub fn take(&mut self, bytes: &mut [u8])
         requires { length bytes.old ≤ self.old.room }

@@ -3,26 +3,27 @@ ghost use Rattle.wsn_capture.specs.LineFaults.{fault_word};
 
 use thiserror::Error;
 
-/// Why a line of a capture isn't taken (specs/LineFaults.antt). Of a line's faults the first counts.
+/// Why a line of a capture isn't accepted (specs/LineFaults.antt). The variants are in order of precedence: a line's
+/// first fault is reported.
 #[derive(Clone, Copy, Debug, PartialEq, Eq, Error)]
 #[error("{}", self.word())]
 pub enum LineFault {
-    /// 1,000,000 lines were taken before.
+    /// 1,000,000 lines were accepted before.
     TooManyLines,
-    /// More than 8,194 bytes, the CR at its end not counted.
+    /// The line has more than 8,194 bytes, without the CR at its end.
     TooLong,
-    /// None of the forms of a line.
+    /// The line has none of the forms of a capture's line.
     BadForm,
-    /// What stands in the place of the bytes isn't pairs of hexadecimal digits.
+    /// What follows the letter and the space isn't one or more pairs of hexadecimal digits.
     BadHex,
-    /// The endpoint has its end mark.
+    /// The endpoint's end mark came before.
     AfterEnd,
-    /// With these bytes the endpoint has sent more than the input limit.
+    /// With this line the endpoint's stream has more bytes than the input limit.
     InputLimit,
 }
 
 impl LineFault {
-    /// The word that is printed of it.
+    /// The word that is printed for the fault.
     #[tactic(none)]
     pub fn word(&self) -> &'static str
         ensures word { result.now ≡ fault_word self.now }

@@ -1,24 +1,24 @@
 ghost use Rattle.std.specs.Prelude.{◌≡◌, ◌*◌, ◌+◌, ◌≤◌, MatchResult, length, take};
 ghost use Rattle.wsn_capture.specs.LineForms.{IsForm, HasNoHex};
-ghost use Rattle.wsn_capture.specs.Entries.{without_cr, IsHex};
+ghost use Rattle.wsn_rules.specs.Entries.{without_cr, IsHex};
 ghost use Rattle.wsn_capture.specs.declared.line_fault.LineFault.TheVariants.{BadHex};
 
 use crate::hex_pairs::decode_pairs;
 use crate::line_fault::LineFault;
 use wsn_wire::Role;
 
-/// The form of a line, before its digits are read.
+/// The form of a line, as known before its digits are read.
 #[derive(Clone, Copy)]
 pub enum LineForm {
     /// Empty, or a comment.
     Nothing,
-    /// Bytes of an endpoint: their digits stand behind two bytes.
+    /// Bytes of an endpoint: their digits follow two bytes, a letter and a space.
     Bytes(Role),
     /// An endpoint's end mark.
     Mark(Role),
 }
 
-/// The line without the CR at its end, if it has one there.
+/// The line without the CR at its end, if it has one.
 #[tactic(none)]
 pub fn strip_cr(line: &[u8]) -> &[u8]
     ensures { result.now ≡ without_cr line.now }
@@ -44,8 +44,8 @@ pub fn form_of(text: &[u8]) -> Option<LineForm>
     }
 }
 
-/// Puts the bytes that the digits spell at the front of `bytes`, and answers how many: one at least. The fault is
-/// `BadHex`, and then `bytes` is left open.
+/// Decodes the digits into the first bytes of `bytes` and returns the number of these, at least 1. The error is
+/// `BadHex`; the contents of `bytes` are then unspecified.
 #[tactic(none)]
 pub fn decode(digits: &[u8], bytes: &mut [u8]) -> Result<usize, LineFault>
     requires { length digits.now ≤ 2 * length bytes.old + 1 }

@@ -1,19 +1,18 @@
 ghost use Rattle.std.specs.Prelude.{◌≡◌, ◌+◌, ◌≤◌, ℕ, List, ◌∷◌, ◌++◌, [], OnOk, IfErr};
 ghost use Rattle.wsn_rules.specs.Limits.{Limits};
-ghost use Rattle.wsn_capture.specs.Captures.{HasTaken, count_of};
+ghost use Rattle.wsn_capture.specs.Captures.{HasAcceptedLines, count_of};
 ghost use Rattle.wsn_capture.specs.LineSplitters.{IsStopAt};
 
 use crate::capture::Capture;
 use crate::capture_stop::CaptureStop;
-use crate::report::Report;
 use arrayvec::ArrayVec;
 use memchr::memchr;
-use wsn_rules::Limits;
+use wsn_rules::{Limits, Report};
 
-/// So many bytes of a line make it too long, whatever follows and whether or not a CR ends it.
-const BEGUN_MAX: usize = 8196;
+/// A line of this many bytes is too long, whatever follows and whether or not a CR ends it.
+pub(crate) const BEGUN_MAX: usize = 8196;
 
-/// Splits bytes that come in pieces into lines, and hands each to a capture. It holds the line that has begun.
+/// Splits the chunks of a text into lines and passes each to a capture. It holds the line that isn't finished.
 #[derive(Drop)]
 pub struct LineSplitter {
     capture: Capture,
@@ -22,9 +21,9 @@ pub struct LineSplitter {
 
 impl LineSplitter {
     ghost use Rattle.std.specs.Prelude.{◌≡◌, ◌+◌, ◌<◌, ◌≤◌, ◌≢◌, ℕ, List, [], ◌∷◌, ◌++◌, length, take, OnOk, IfOk, IfErr};
-    ghost use Rattle.wsn_capture.specs.Words.{Limits, IsLine, HasTaken, count_of, IsAnswerOf, HasSplit, IsStopAt, IsStopBy, IsStopWithin, left_of};
+    ghost use Rattle.wsn_capture.specs.Words.{Limits, IsLine, HasAcceptedLines, count_of, IsCaptureAnswerOf, HasSplit, IsStopAt, IsStopBy, IsStopWithin, bytes_left};
 
-    /// Nothing has come.
+    /// A splitter of a text of no bytes.
     pub fn new(limits: Limits) -> LineSplitter
         ensures split { HasSplit limits result [] }
         ensures few { count_of result.capture ≤ 1000000 }
@@ -36,7 +35,8 @@ impl LineSplitter {
         }
     }
 
-    /// Takes a piece: all of it, or up to the byte that shows that a line isn't taken.
+    /// Consumes a piece. The error is returned at the first byte at which a line isn't accepted, whatever follows: the
+    /// byte ends the line or makes it too long.
     pub fn take(&mut self, piece: &[u8]) -> Result<(), CaptureStop>
         requires few { count_of self.old.capture ≤ 1000000 }
         requires short { length self.old.begun.items < BEGUN_MAX }
@@ -46,18 +46,19 @@ impl LineSplitter {
             HasSplit limits self.old came → IsStopWithin limits came piece.now stop) }
         ensures few { OnOk result (count_of self.new.capture ≤ 1000000) }
         ensures short { OnOk result (length self.new.begun.items < BEGUN_MAX) }
-        ensures left { OnOk result (left_of self.new + length piece.now ≤ left_of self.old) }
+        ensures left { OnOk result (bytes_left self.new + length piece.now ≤ bytes_left self.old) }
     {
         let mut taken = 0;
         while taken < piece.len() {
-            taken += self.take_front(&piece[taken..])?;
+            taken += self.take_prefix(&piece[taken..])?;
         }
         Ok(())
     }
 
-    /// Takes the front of a piece, and answers how many bytes: to the end of a line, or all that may be of one.
+    /// Consumes a prefix of a piece, to the end of a line or as much as one line may hold, and returns its length in
+    /// bytes.
     #[tactic(none)]
-    fn take_front(&mut self, piece: &[u8]) -> Result<usize, CaptureStop>
+    fn take_prefix(&mut self, piece: &[u8]) -> Result<usize, CaptureStop>
         requires some { 0 < length piece.now }
         requires few { count_of self.old.capture ≤ 1000000 }
         requires short { length self.old.begun.items < BEGUN_MAX }
@@ -68,7 +69,7 @@ impl LineSplitter {
             HasSplit limits self.old came → IsStopWithin limits came piece.now stop) }
         ensures few { OnOk result (count_of self.new.capture ≤ 1000000) }
         ensures short { OnOk result (length self.new.begun.items < BEGUN_MAX) }
-        ensures left { IfOk result (λ count. left_of self.new + count ≤ left_of self.old) }
+        ensures left { IfOk result (λ count. bytes_left self.new + count ≤ bytes_left self.old) }
     {
         let room = BEGUN_MAX - self.begun.len();
         let front = &piece[..room.min(piece.len())];
@@ -84,27 +85,27 @@ impl LineSplitter {
         }
     }
 
-    /// Ends the line with these bytes and an LF behind them: it is handed to the capture.
+    /// Ends the line with these bytes, which an LF follows, and passes it to the capture.
     fn end_line(&mut self, bytes: &[u8]) -> Result<(), CaptureStop>
         requires few { count_of self.old.capture ≤ 1000000 }
         requires fits { length self.old.begun.items + length bytes.now < BEGUN_MAX }
-        ensures taken { OnOk result ((limits : Limits) (lines : List (List ℕ)) → HasTaken limits self.old.capture lines
-            → HasTaken limits self.new.capture (lines ++ (self.old.begun.items ++ bytes.now) ∷ [])) }
+        ensures taken { OnOk result ((limits : Limits) (lines : List (List ℕ)) → HasAcceptedLines limits self.old.capture lines
+            → HasAcceptedLines limits self.new.capture (lines ++ (self.old.begun.items ++ bytes.now) ∷ [])) }
         ensures stop { IfErr result (λ stop. (limits : Limits) (lines : List (List ℕ)) →
-            HasTaken limits self.old.capture lines
+            HasAcceptedLines limits self.old.capture lines
             → IsStopAt limits lines (self.old.begun.items ++ bytes.now) stop) }
         ensures begun { OnOk result (self.new.begun.items ≡ []) }
         ensures count { OnOk result ((count_of self.new.capture ≡ count_of self.old.capture + 1)
             × (count_of self.new.capture ≤ 1000000)) }
     {
         if self.begun.is_empty() {
-            return hand_on(&mut self.capture, bytes);
+            return pass_on(&mut self.capture, bytes);
         }
         let _fits = self.begun.try_extend_from_slice(bytes);
         self.end_begun()
     }
 
-    /// Goes on with the line. It is handed on once these bytes make it too long.
+    /// Appends bytes to the line. A line that they make too long is passed to the capture.
     #[tactic(none)]
     fn go_on(&mut self, bytes: &[u8]) -> Result<(), CaptureStop>
         requires few { count_of self.old.capture ≤ 1000000 }
@@ -112,11 +113,11 @@ impl LineSplitter {
         ensures split { OnOk result ((limits : Limits) (came : List ℕ) → IsLine bytes.now →
             HasSplit limits self.old came → HasSplit limits self.new (came ++ bytes.now)) }
         ensures stop { IfErr result (λ stop. (length self.old.begun.items + length bytes.now ≡ BEGUN_MAX)
-            × ((limits : Limits) (lines : List (List ℕ)) → HasTaken limits self.old.capture lines
+            × ((limits : Limits) (lines : List (List ℕ)) → HasAcceptedLines limits self.old.capture lines
             → IsStopAt limits lines (self.old.begun.items ++ bytes.now) stop)) }
         ensures few { OnOk result (count_of self.new.capture ≤ 1000000) }
         ensures short { OnOk result (length self.new.begun.items < BEGUN_MAX) }
-        ensures left { OnOk result (left_of self.new + length bytes.now ≤ left_of self.old) }
+        ensures left { OnOk result (bytes_left self.new + length bytes.now ≤ bytes_left self.old) }
     {
         let _fits = self.begun.try_extend_from_slice(bytes);
         if self.begun.is_full() {
@@ -125,27 +126,27 @@ impl LineSplitter {
         Ok(())
     }
 
-    /// Hands the line that has begun to the capture.
+    /// Passes the unfinished line to the capture.
     fn end_begun(&mut self) -> Result<(), CaptureStop>
         requires few { count_of self.old.capture ≤ 1000000 }
-        ensures taken { OnOk result ((limits : Limits) (lines : List (List ℕ)) → HasTaken limits self.old.capture lines
-            → HasTaken limits self.new.capture (lines ++ self.old.begun.items ∷ [])) }
+        ensures taken { OnOk result ((limits : Limits) (lines : List (List ℕ)) → HasAcceptedLines limits self.old.capture lines
+            → HasAcceptedLines limits self.new.capture (lines ++ self.old.begun.items ∷ [])) }
         ensures stop { IfErr result (λ stop. (limits : Limits) (lines : List (List ℕ)) →
-            HasTaken limits self.old.capture lines → IsStopAt limits lines self.old.begun.items stop) }
+            HasAcceptedLines limits self.old.capture lines → IsStopAt limits lines self.old.begun.items stop) }
         ensures begun { OnOk result (self.new.begun.items ≡ []) }
         ensures count { OnOk result ((count_of self.new.capture ≡ count_of self.old.capture + 1)
             × (count_of self.new.capture ≤ 1000000)) }
     {
-        hand_on(&mut self.capture, self.begun.as_slice())?;
+        pass_on(&mut self.capture, self.begun.as_slice())?;
         self.begun.clear();
         Ok(())
     }
 
-    /// The answer at the end of the text: what has begun is its last line, unless it is empty.
+    /// The answer at the end of the text. The unfinished line is the last line, unless it is empty.
     #[tactic(none)]
     pub fn finish(mut self) -> Result<Report, CaptureStop>
         requires few { count_of self.capture ≤ 1000000 }
-        ensures { (limits : Limits) (came : List ℕ) → HasSplit limits self came → IsAnswerOf limits came result }
+        ensures { (limits : Limits) (came : List ℕ) → HasSplit limits self came → IsCaptureAnswerOf limits came result }
     {
         if self.begun.is_empty() {
             return Ok(self.capture.report());
@@ -155,14 +156,14 @@ impl LineSplitter {
     }
 }
 
-/// Hands a line to a capture, and tells its number with its fault.
+/// Passes a line to a capture. An error has the line's number, counted from 1, and its fault.
 #[tactic(none)]
-fn hand_on(capture: &mut Capture, line: &[u8]) -> Result<(), CaptureStop>
+fn pass_on(capture: &mut Capture, line: &[u8]) -> Result<(), CaptureStop>
     requires few { count_of capture.old ≤ 1000000 }
     ensures taken { OnOk result ((limits : Limits) (lines : List (List ℕ)) →
-        HasTaken limits capture.old lines → HasTaken limits capture.new (lines ++ line.now ∷ [])) }
+        HasAcceptedLines limits capture.old lines → HasAcceptedLines limits capture.new (lines ++ line.now ∷ [])) }
     ensures stop { IfErr result (λ stop. (limits : Limits) (lines : List (List ℕ)) →
-        HasTaken limits capture.old lines → IsStopAt limits lines line.now stop) }
+        HasAcceptedLines limits capture.old lines → IsStopAt limits lines line.now stop) }
     ensures count { OnOk result ((count_of capture.new ≡ count_of capture.old + 1) × (count_of capture.new ≤ 1000000)) }
 {
     let number = capture.count() + 1;

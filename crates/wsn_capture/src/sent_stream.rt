@@ -1,14 +1,13 @@
 use crate::limited_scan::LimitedScan;
 use crate::line_fault::LineFault;
-use crate::report::Side;
-use wsn_rules::{Limits, Verdict};
+use wsn_rules::{Limits, Side, Verdict};
 use wsn_wire::Role;
 
 /// The stream that one endpoint sent.
 #[derive(Drop)]
 pub struct SentStream {
     scan: LimitedScan,
-    /// How many lines came before the one in which the last byte of a Close stands.
+    /// The number of lines before the line with a Close's last byte.
     close_line: Option<u32>,
     ended: bool,
 }
@@ -17,7 +16,7 @@ impl SentStream {
     ghost use Rattle.std.specs.Prelude.{◌≡◌, ◌≤◌, ℕ, List, [], ◌∷◌, ◌++◌, length, false, OnOk, IfErr};
     ghost use Rattle.wsn_capture.specs.Words.{Entry, Bytes, Mark, IsSide, sent, has_ended, ended_as, HasStreamed, HasSent, IsLimited, IsClosedBy, IsNoted};
 
-    /// Nothing has come.
+    /// A stream of no bytes.
     pub fn new(role: Role, limits: Limits) -> SentStream
         ensures { HasSent role limits result [] }
     {
@@ -28,8 +27,8 @@ impl SentStream {
         }
     }
 
-    /// Takes the bytes of a line, before which some `lines` came. It may unmask payload in place. The fault is
-    /// `AfterEnd` behind the end mark, else `InputLimit` past the limit, and then nothing changes.
+    /// Consumes the bytes of a line, which comes after `lines` others. It may unmask payload in place. The error is
+    /// `AfterEnd` after the end mark, else `InputLimit` if the limit is exceeded; the stream is then unchanged.
     #[tactic(none)]
     pub fn take(&mut self, bytes: &mut [u8], lines: u32) -> Result<(), LineFault>
         ensures taken { OnOk result ((role : Role) (limits : Limits) (given : List Entry) → lines ≡ length given →
@@ -49,8 +48,8 @@ impl SentStream {
         Ok(())
     }
 
-    /// How many lines came before the one in which a Close ends, if one has come: those that were kept, or else
-    /// these.
+    /// The number of lines before the one in which a Close ends, if a Close has come: the number noted before, or else
+    /// `lines`.
     #[tactic(none)]
     fn closed_in(&self, lines: u32) -> Option<u32>
         ensures { (role : Role) (limits : Limits) (bytes : List ℕ) →
@@ -75,7 +74,7 @@ impl SentStream {
         }
     }
 
-    /// Takes the end mark. The fault is `AfterEnd` behind another, and then nothing changes.
+    /// Accepts the end mark. The error is `AfterEnd` after another; the stream is then unchanged.
     #[tactic(none)]
     pub fn end(&mut self) -> Result<(), LineFault>
         ensures taken { OnOk result ((role : Role) (limits : Limits) (given : List Entry) →
@@ -105,7 +104,7 @@ impl SentStream {
         }
     }
 
-    /// What became of a stream without a Close: it is running until its end mark.
+    /// What became of a stream without a Close: it is running until its end mark, and then this side.
     fn unclosed(&self, side: Side) -> Side
         ensures { result ≡ ended_as side self.now.ended }
     {
@@ -115,7 +114,7 @@ impl SentStream {
         side
     }
 
-    /// How many lines came before the one in which the last byte of a Close stands.
+    /// The number of lines before the line with a Close's last byte, if a Close has come.
     #[tactic(none)]
     pub fn close_line(&self) -> Option<u32>
         ensures { result ≡ self.now.close_line }

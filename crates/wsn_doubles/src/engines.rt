@@ -1,7 +1,7 @@
-//! The engines, each over a row's stream and a reader of the tests.
+//! The engines, each applied to a vector's stream and a reader of the tests.
 
 use crate::readers::Chopped;
-use crate::rows::Stream;
+use crate::vectors::Stream;
 use std::alloc::Allocator;
 use std::io::Write;
 use wsn_canon::{Compared, normalise, same};
@@ -9,12 +9,12 @@ use wsn_plan::{Plan, PlanAnswer, RecutAnswer, plan_of, recut, recut_uniform};
 use wsn_scan::{Limits, Stop, Verdict, judge, list};
 use wsn_wire::{Input, Output, Role};
 
-/// What `judge` answers.
+/// The answer of `judge`.
 pub fn judged(stream: &Stream, mut reader: Chopped) -> Result<Verdict, Stop> {
     judge(&mut Input::new(&mut reader), stream.role, stream.limits)
 }
 
-/// What `list` answers and writes.
+/// The answer of `list`, which writes to this writer.
 pub fn listed<W: Write>(
     stream: &Stream,
     mut reader: Chopped,
@@ -28,7 +28,7 @@ pub fn listed<W: Write>(
     )
 }
 
-/// What `normalise` answers and writes, with memory from this heap.
+/// The answer of `normalise`, which writes to this writer and allocates from this heap.
 pub fn normalised<A: Allocator + Copy, W: Write>(
     heap: A,
     stream: &Stream,
@@ -44,7 +44,7 @@ pub fn normalised<A: Allocator + Copy, W: Write>(
     )
 }
 
-/// What `same` answers of what two readers give, with memory from this heap.
+/// The answer of `same` for the streams of two readers. It allocates from this heap.
 pub fn compared<A: Allocator + Copy>(
     heap: A,
     mut first: Chopped,
@@ -61,7 +61,7 @@ pub fn compared<A: Allocator + Copy>(
     )
 }
 
-/// What `plan_of` answers, with memory from this heap.
+/// The answer of `plan_of`, which allocates from this heap.
 pub fn planned<A: Allocator + Copy>(
     heap: A,
     role: Role,
@@ -71,7 +71,7 @@ pub fn planned<A: Allocator + Copy>(
     plan_of(heap, &mut Input::new(&mut reader), role, limits)
 }
 
-/// What a recut by this plan answers and writes, with memory from this heap.
+/// The answer of a recut by this plan, which writes to this writer and allocates from this heap.
 pub fn recut_by<A: Allocator + Copy, W: Write>(
     heap: A,
     role: Role,
@@ -90,17 +90,17 @@ pub fn recut_by<A: Allocator + Copy, W: Write>(
     )
 }
 
-/// The key of a client's frames that are cut again uniformly.
+/// The key of a client's frames in a recut by size.
 pub const KEY: [u8; 4] = [1, 2, 3, 4];
 
-/// Frames of one size, of at least a byte, and whether a message's first stands in front of the controls before it.
+/// The size of frames, at least one byte, and whether the controls before a message are interleaved with its frames.
 #[derive(Clone, Copy, Debug)]
 pub struct Sizes {
     pub size: u32,
     pub weave: bool,
 }
 
-/// What a recut in frames of one size answers and writes, with memory from this heap.
+/// The answer of a recut in frames of one size, which writes to this writer and allocates from this heap.
 pub fn recut_uniformly<A: Allocator + Copy, W: Write>(
     heap: A,
     role: Role,

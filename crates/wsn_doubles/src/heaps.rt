@@ -1,23 +1,23 @@
-//! What stands in for memory: heaps that refuse.
+//! Doubles of memory: heaps in which allocations fail.
 
 use linked_list_allocator::LocalHeap;
 use std::alloc::{AllocError, Global};
 use std::mem::forget;
 
-/// The bytes of a block of a heap: enough for a short message.
+/// The bytes of a heap's block: enough for a short message.
 pub const BLOCK: usize = 16;
 
-/// A heap of so many blocks. Of none, it refuses each growth.
+/// A heap of `blocks` blocks. With none, every allocation fails.
 pub fn heap_of(alloc: Global, blocks: usize) -> Result<LocalHeap, AllocError> {
     let heap = LocalHeap::new(alloc, blocks.max(1).saturating_mul(BLOCK))?;
     if blocks == 0 {
-        // no heap is smaller than a block, so this one is taken, for good
+        // the smallest heap has one block, which is allocated here and never freed
         forget(Vec::<u8, &LocalHeap>::with_capacity(&heap, BLOCK)?);
     }
     Ok(heap)
 }
 
-/// Takes all that is left of a heap, until what it answers is dropped.
+/// Allocates all that is left of a heap, until the result is dropped.
 pub fn fill(alloc: Global, heap: &LocalHeap) -> Result<Vec<Vec<u8, &LocalHeap>>, AllocError> {
     let mut ballast = Vec::new(alloc);
     let mut size = 1usize << 20;

@@ -1,44 +1,44 @@
-//! What stands in for input: readers that chop, fail and never end.
+//! Doubles of input: readers with short reads, readers that fail, and readers without an end.
 
 use std::io::{self, Error, ErrorKind, Read};
 
-/// How many bytes a read gives at most, one size after another.
+/// The maximum sizes of reads that tests try.
 pub const READS: [usize; 7] = [1, 2, 3, 4_095, 4_096, 4_097, usize::MAX];
 
-/// A reader that gives its bytes by at most so many a call, and behind them its end. It may fail at one call.
+/// A reader that returns at most `at_most` bytes per call, and then its end. It may fail at one call.
 #[derive(Drop)]
 pub struct Chopped<'a> {
     rest: &'a [u8],
-    most: usize,
-    /// Where it fails, by how many bytes are left, and how.
+    at_most: usize,
+    /// It fails once this number of bytes is left, with this kind of error.
     fails: Option<(usize, ErrorKind)>,
 }
 
 impl<'a> Chopped<'a> {
-    /// One that never fails.
-    pub fn new(bytes: &'a [u8], most: usize) -> Self {
+    /// A reader that never fails.
+    pub fn new(bytes: &'a [u8], at_most: usize) -> Self {
         Chopped {
             rest: bytes,
-            most,
+            at_most,
             fails: None,
         }
     }
 
-    /// One that fails behind its last byte, and only then has its end.
-    pub fn breaking(bytes: &'a [u8], most: usize) -> Self {
-        Chopped::stumbling(bytes, most, 0, ErrorKind::Other)
+    /// A reader that fails after its last byte, and only then has its end.
+    pub fn breaking(bytes: &'a [u8], at_most: usize) -> Self {
+        Chopped::stumbling(bytes, at_most, 0, ErrorKind::Other)
     }
 
-    /// One that fails where so many bytes are left, and then gives these.
-    pub fn stumbling(bytes: &'a [u8], most: usize, left: usize, kind: ErrorKind) -> Self {
+    /// A reader that fails once `left` bytes are left, and then returns these.
+    pub fn stumbling(bytes: &'a [u8], at_most: usize, left: usize, kind: ErrorKind) -> Self {
         Chopped {
             rest: bytes,
-            most,
+            at_most,
             fails: Some((left, kind)),
         }
     }
 
-    /// How many bytes it hasn't given yet.
+    /// The number of bytes that are not read yet.
     pub fn left(&self) -> usize {
         self.rest.len()
     }
@@ -46,32 +46,32 @@ impl<'a> Chopped<'a> {
 
 impl Read for Chopped<'_> {
     fn read(&mut self, buf: &mut [u8]) -> io::Result<usize> {
-        let mut most = self.most;
+        let mut at_most = self.at_most;
         if let Some((left, kind)) = self.fails {
             if self.rest.len() <= left {
                 self.fails = None;
                 return Err(Error::from(kind));
             }
-            most = most.min(self.rest.len() - left);
+            at_most = at_most.min(self.rest.len() - left);
         }
-        let count = most.min(buf.len()).min(self.rest.len());
+        let count = at_most.min(buf.len()).min(self.rest.len());
         buf[..count].copy_from_slice(&self.rest[..count]);
         self.rest = &self.rest[count..];
         Ok(count)
     }
 }
 
-/// A reader of some bytes, and behind them of others over and over. It gives as many as it is asked for.
+/// A reader that returns some bytes and then others, repeated without end. It fills each buffer.
 #[derive(Drop)]
 pub struct Endless {
     rest: &'static [u8],
     again: &'static [u8],
-    /// How many bytes it gave.
+    /// The number of bytes that were read.
     pub given: usize,
 }
 
 impl Endless {
-    /// One of the first bytes, and of the others over and over.
+    /// A reader of the first bytes and then of the others, repeated.
     pub fn new(first: &'static [u8], again: &'static [u8]) -> Self {
         Endless {
             rest: first,

@@ -1,9 +1,9 @@
-//! What stands in for output: writers that take little, stall and fail.
+//! Doubles of output: writers that accept little, accept nothing, or fail.
 
 use std::alloc::Global;
 use std::io::{self, Error, ErrorKind, Write};
 
-/// What a writer does once it holds all that it may: at each further call, or at one alone, behind which it takes all.
+/// What a full writer does: at each further call, or at one (`Once`), after which it accepts everything.
 #[derive(Clone, Copy, Debug, PartialEq, Eq)]
 pub enum Full {
     Fails,
@@ -14,7 +14,7 @@ pub enum Full {
     TakesNothingOnce,
 }
 
-/// Each way of being full.
+/// Every behaviour of a full writer.
 pub const FULL: [Full; 6] = [
     Full::Fails,
     Full::FailsOnce,
@@ -24,37 +24,37 @@ pub const FULL: [Full; 6] = [
     Full::TakesNothingOnce,
 ];
 
-/// A writer that takes at most so many bytes a call, and so many in all.
+/// A writer that accepts at most `at_most` bytes per call, until it is full.
 #[derive(Drop)]
 pub struct Narrow {
     pub taken: Vec<u8>,
-    most: usize,
+    at_most: usize,
     room: usize,
     full: Full,
 }
 
 impl Narrow {
-    /// One that takes at most so many bytes a call, and is full behind so many.
-    pub fn new(alloc: Global, most: usize, room: usize, full: Full) -> Self {
+    /// A writer that accepts at most `at_most` bytes per call, and is full after `room` bytes.
+    pub fn new(alloc: Global, at_most: usize, room: usize, full: Full) -> Self {
         Narrow {
             taken: Vec::new(alloc),
-            most,
+            at_most,
             room,
             full,
         }
     }
 
-    /// One that takes all.
+    /// A writer that accepts everything.
     pub fn wide(alloc: Global) -> Self {
         Narrow::new(alloc, usize::MAX, usize::MAX, Full::Fails)
     }
 
-    /// One that takes all, a byte a call.
+    /// A writer that accepts everything, one byte per call.
     pub fn byte_by_byte(alloc: Global) -> Self {
         Narrow::new(alloc, 1, usize::MAX, Full::Fails)
     }
 
-    /// What it does where it is full: an error, or nothing.
+    /// The answer of a call where the writer is full.
     fn refuse(&mut self) -> io::Result<()> {
         match self.full {
             Full::Fails | Full::TakesNothing => {}
@@ -71,7 +71,7 @@ impl Narrow {
 
 impl Write for Narrow {
     fn write(&mut self, buf: &[u8]) -> io::Result<usize> {
-        let count = self.most.min(buf.len()).min(self.room);
+        let count = self.at_most.min(buf.len()).min(self.room);
         if count == 0 {
             self.refuse()?;
             return Ok(0);

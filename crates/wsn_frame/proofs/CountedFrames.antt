@@ -1,4 +1,4 @@
--- Counting one frame more.
+-- Counting one more frame.
 use Rattle.std.proofs.Common.{◌≡◌, ℕ, ◌+◌, ◌≤◌, Bool, true, false, not, cond, ◌&&◌, List, [], ◌∷◌, ◌++◌, length, refl, sym, ap, ◌∙◌, arith, length-append}
 use Rattle.std.specs.Prelude.{filter}
 use Rattle.std.proofs.lemmas.List.Elements.{filter-append}
@@ -22,7 +22,7 @@ module _ {A : Type 0} (passes : A → Bool) where
   count_within : (xs : List A) → length (filter passes xs) ≤ length xs
   count_within xs = omega (arith, length-filter passes xs, count_by-le-length passes xs)
 
--- No count is above that of the frames.
+-- No count is greater than the number of frames.
 pub record IsWithin (t : Counts) (fs : List Frame) : Type 0 where
   pub frames : t.frames ≤ length fs
   pub messages : t.messages ≤ length fs

@@ -1,4 +1,4 @@
--- A whole head: its frame may stand behind the open message, and its payload starts.
+-- After a complete head that fits the open message, the payload starts.
 use Rattle.std.proofs.Common.{◌≡◌, ◌≢◌, ℕ, ◌⊎◌, List, [], ◌∷◌, ◌++◌, inl, inr, refl, sym, ap, ◌∙◌}
 use Rattle.wsn_wire.specs.declared.endpoint.Role.{Role}
 use Rattle.wsn_wire.specs.declared.opcode.Op.TheVariants.{Continue, Text, Binary}
@@ -14,12 +14,12 @@ use Rattle.wsn_rules.specs.Evidence.Evidence.{ByFirst}
 use Rattle.wsn_frame.specs.PartialHeads.{IsHead}
 
 module _ (role : Role) (limits : Limits) (group : List Frame) (head : Head) (head_bytes : List ℕ) (h : IsHead role limits group head head_bytes) where
-  -- the first byte showed nothing
+  -- The first byte is evidence for no refusal.
   no_first : (reason : Reason) → EvidentByFirst limits group reason (first_byte head.first.fin head.first.op) → ⊥
   no_first reason row =
       let first = first_byte head.first.fin head.first.op in
-      let behind = h.second ∷ (h.lengths ++ key_bytes head.key) in
-      let none : behind ≡ [] = (h.unshown (first ∷ []) behind reason h.whole (ByFirst first refl row)).0 in
+      let following = h.second ∷ (h.lengths ++ key_bytes head.key) in
+      let none : following ≡ [] = (h.has_no_evidence (first ∷ []) following reason h.whole (ByFirst first refl row)).0 in
       cc
 
   field : opcode_field (first_byte head.first.fin head.first.op) ≡ opcode head.first.op

@@ -1,4 +1,4 @@
--- A frame that is taken at once, where all of it lies in a piece.
+-- A frame that is read at once, from one piece.
 use Rattle.std.proofs.Common.{◌≡◌, ◌↔◌, ℕ, ◌+◌, ◌-◌, ◌<◌, ◌≤◌, true, Option, Ok, Result, List, [], ◌++◌, length, take, drop, refl, sym, ap, ◌∙◌, subst, arith}
 use Rattle.std.proofs.lemmas.Slice.{between-put_mid}
 use Rattle.std.proofs.Math.Seq.{take-add}
@@ -15,7 +15,7 @@ use Rattle.wsn_frame.specs.Payloads.{unmasked_by, HoldsPayload}
 use Rattle.wsn_frame.proofs.PayloadBytes.{starts, unmasked_by-nil}
 use Rattle.wsn_frame.proofs.PayloadMore.{length-unmasked_by, unmasked_by-twice, holds_on}
 
--- the payload within a piece, from start to end, unmasked in place
+-- The payload in a piece, from `start` to `end`, unmasked in place.
 module _ (key : Option (List ℕ)) (start end : ℕ) (piece new : List ℕ) (ordered : start ≤ end) (within : end ≤ length piece) (unmasked : new ≡ unmasked_by key 0 (mid_of start (end - start) piece)) where
   abbrev wire : List ℕ
   wire = mid_of start (end - start) piece
@@ -26,30 +26,30 @@ module _ (key : Option (List ℕ)) (start end : ℕ) (piece new : List ℕ) (ord
   size_new : length new ≡ end - start
   size_new = ap (λ (bs : List ℕ). length bs) unmasked ∙ length-unmasked_by key 0 wire ∙ mid_len start end piece within
 
-  pub kept_behind_frame : drop end after ≡ drop end piece
-  kept_behind_frame = drop_put start end piece new ordered within size_new
+  pub kept_after_frame : drop end after ≡ drop end piece
+  kept_after_frame = drop_put start end piece new ordered within size_new
 
   pub payload_after : mid_of start (end - start) after ≡ unmasked_by key 0 wire
   payload_after = between-put_mid start (end - start) piece new end (omega arith) size_new ∙ unmasked
 
-  -- masked again, the piece is as it was
+  -- Masked again, the piece is unchanged.
   pub masked_back : (again : List ℕ) → again ≡ unmasked_by key 0 (mid_of start (end - start) after) → put_mid start (end - start) after again ≡ piece
   masked_back again is =
       let old : again ≡ wire = is ∙ ap (λ (bs : List ℕ). unmasked_by key 0 bs) payload_after ∙ unmasked_by-twice key 0 wire in
       let front : take start after ≡ take start piece = take_put start (end - start) piece new (omega arith) in
-      let behind : post_of start (end - start) after ≡ post_of start (end - start) piece = Post-is start end after ordered ∙ kept_behind_frame ∙ sym (Post-is start end piece ordered) in
+      let following : post_of start (end - start) after ≡ post_of start (end - start) piece = Post-is start end after ordered ∙ kept_after_frame ∙ sym (Post-is start end piece ordered) in
       ap (λ (bs : List ℕ). bs ++ (again ++ post_of start (end - start) after)) front
       ∙ ap (λ (bs : List ℕ). take start piece ++ (bs ++ post_of start (end - start) after)) old
-      ∙ ap (λ (bs : List ℕ). take start piece ++ (wire ++ bs)) behind
+      ∙ ap (λ (bs : List ℕ). take start piece ++ (wire ++ bs)) following
       ∙ put_same start (end - start) piece
 
--- a head, and the payload behind it
+-- A head and the payload after it.
 pub head_and_payload : (start end : ℕ) (piece : List ℕ) → start ≤ end → take end piece ≡ take start piece ++ mid_of start (end - start) piece
 head_and_payload start end piece ordered =
     let sum : end ≡ start + (end - start) = omega arith in
     ap (λ (n : ℕ). take n piece) sum ∙ take-add start (end - start) piece
 
--- what the check found in a whole payload, unmasked in place
+-- The result of checking a whole payload, unmasked in place.
 pub fed_at_once : (group : List Frame) (first total : ℕ) (key : Option (List ℕ)) (wire fed : List ℕ) (result : Result PayloadCheck BadByte) → fed ≡ unmasked_by key 0 wire → length wire ≡ total
     → ((true ≡ true ↔ (0 + length fed ≡ total)) → 0 + length fed ≤ total → IsChecked group first total [] fed result)
     → IsChecked group first total [] (unmasked_by key 0 wire) result
@@ -58,7 +58,7 @@ fed_at_once group first total key wire fed result is size found =
     let count : 0 + length fed ≡ total = omega (arith, size_fed) in
     subst (λ (bs : List ℕ). IsChecked group first total [] bs result) is (found ((λ yes. count), (λ all. refl)) (omega (arith, count)))
 
--- All of the payload was checked and shows nothing.
+-- All of the payload was checked and is evidence for no refusal.
 pub holds_at_once : (role : Role) (limits : Limits) (group : List Frame) (head : Head) (check next : PayloadCheck) (head_bytes wire rest : List ℕ) → rest ≡ head_bytes ++ wire → IsBytes wire
     → IsHead role limits group head head_bytes → HasChecked group (first_byte head.first.fin head.first.op) check [] → 0 < head.len → length wire ≡ head.len
     → IsChecked group (first_byte head.first.fin head.first.op) head.len [] (unmasked_by head.key 0 wire) (Ok next) → HoldsPayload role limits group head next wire rest

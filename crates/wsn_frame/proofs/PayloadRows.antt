@@ -1,4 +1,4 @@
--- What the bytes of a payload show, piece by piece: of a message's text, and of a Close's body.
+-- The evidence in a payload, piece by piece: in the text of a message and in the body of a Close.
 use Rattle.std.proofs.Common.{◌≡◌, ◌≢◌, ℕ, suc, ◌+◌, ◌-◌, ◌<◌, ◌≤◌, ◌⊎◌, ◌↔◌, Bool, true, Option, Result, Ok, Err, List, [], ◌∷◌, ◌++◌, length, get_or, take, drop, refl, sym, ap, ◌∙◌, subst, inl, inr, append_assoc, arith}
 use Rattle.std.proofs.Math.Seq.{take-append-add}
 use Rattle.std.proofs.lemmas.List.{take-append-drop, take-append-le, length-append, length-take-le, take_all}
@@ -14,24 +14,24 @@ use Rattle.wsn_text.specs.Utf8.{Range, IsText, BeginsText, IsFirstBad}
 use Rattle.wsn_text.specs.CloseBody.{IsAcceptedCode}
 use Rattle.wsn_text.proofs.Numbers.{less_or_not}
 use Rattle.wsn_text.proofs.Rests.{text-nil}
-use Rattle.wsn_text.proofs.Fronts.{bad_ends, first_bad_front}
+use Rattle.wsn_text.proofs.Prefixes.{bad_ends, first_bad_front}
 use Rattle.wsn_rules.specs.Evidence.{IsOfText, EndsBad, EndsInside, EvidentByPayload}
-use Rattle.wsn_rules.specs.Group.{text_of}
+use Rattle.wsn_rules.specs.Group.{payload_of}
 use Rattle.wsn_frame.specs.declared.payload_check.BadByte.{BadByte}
 use Rattle.wsn_frame.specs.declared.payload_check.PayloadCheck.{PayloadCheck}
 use Rattle.wsn_frame.specs.declared.payload_check.PayloadCheck.TheVariants.{Text, Close}
 use Rattle.wsn_frame.specs.declared.payload_check.CloseBody.{CloseBody}
 use Rattle.wsn_frame.specs.declared.payload_check.CloseBody.TheVariants.{Empty, HalfCode, Code}
-use Rattle.wsn_frame.specs.PayloadChecks.{HasChecked, IsQuiet, IsChecked, IsBody, IsBodyChecked, IsTextTaken}
+use Rattle.wsn_frame.specs.PayloadChecks.{HasChecked, IsQuiet, IsChecked, IsBody, IsBodyChecked, IsTextConsumed}
 use Rattle.wsn_rules.proofs.MessageText.{begins_not_bad}
 
--- ---- fronts of a text
+-- ---- prefixes of a text
 
--- bytes that end bad don't begin text
+-- Bytes that end with a bad byte don't begin text.
 pub bad_not_begins : (text : List ℕ) → EndsBad text → BeginsText text → ⊥
 bad_not_begins text bad begins = bad_ends text bad.0 bad.2 begins
 
--- behind text that is taken, the bytes of the piece in front of its first bad one begin text
+-- After text, the bytes of the piece before its first bad byte begin text.
 pub begins_before_bad : (taken piece : List ℕ) (at k : ℕ) → IsFirstBad (taken ++ piece) (length taken + at) → 0 < k → k ≤ at → BeginsText (taken ++ take k piece)
 begins_before_bad taken piece at k first some le =
     let below : length taken + (k - 1) < length taken + at = omega arith in
@@ -39,7 +39,7 @@ begins_before_bad taken piece at k first some le =
     let front : take (length taken + (k - 1) + 1) (taken ++ piece) ≡ taken ++ take k piece = ap (λ (n : ℕ). take n (taken ++ piece)) count ∙ take-append-add taken piece k in
     subst BeginsText front (first.least (length taken + (k - 1)) below)
 
--- up to it they end bad
+-- The bytes up to the first bad byte end with it.
 pub ends_at_bad : (taken piece : List ℕ) (at : ℕ) → at < length piece → IsFirstBad (taken ++ piece) (length taken + at) → EndsBad (taken ++ take (at + 1) piece)
 ends_at_bad taken piece at within first =
     let took : length (take (at + 1) piece) ≡ at + 1 = length-take-le (at + 1) piece (omega arith) in
@@ -48,16 +48,16 @@ ends_at_bad taken piece at within first =
     ap (λ (bs : List ℕ). taken ++ bs) (sym (take-append-drop (at + 1) piece)) ∙ sym (append_assoc taken (take (at + 1) piece) (drop (at + 1) piece)) in
     (length taken + at, count, first_bad_front (taken ++ take (at + 1) piece) (drop (at + 1) piece) (length taken + at) (omega arith) (subst (λ (bs : List ℕ). IsFirstBad bs (length taken + at)) parted first))
 
--- ---- a piece of a text that shows only whether it is UTF-8
+-- ---- a piece of a text with no other evidence than for invalid UTF-8
 
--- Shows reason k: the first k bytes of the piece show the reason. They show bad by ending bad, cut by ending
--- inside a character where the text ends, and nothing else.
+-- `Shows reason k`: the first k bytes of the piece are evidence for the reason. They are for `bad` if they end with a
+-- bad byte, for `cut` if the text ends inside a character, and for no other reason.
 pub record OnlyTextShows (Shows : Reason → ℕ → Type 0) (taken piece : List ℕ) (ends : Bool) (bad cut : Reason) : Type 0 where
   pub only : (reason : Reason) (k : ℕ) → 0 < k → k ≤ length piece → Shows reason k → ((reason ≡ bad) × EndsBad (taken ++ take k piece)) ⊎ ((reason ≡ cut) × (k ≡ length piece) × (ends ≡ true) × EndsInside (taken ++ take k piece))
   pub by_bad : (k : ℕ) → EndsBad (taken ++ take k piece) → Shows bad k
   pub by_cut : (k : ℕ) → k ≡ length piece → ends ≡ true → EndsInside (taken ++ take k piece) → Shows cut k
 
--- Up to the byte at the place the piece shows nothing, and by that byte the reason and none of a lower number.
+-- The byte at this offset is the first evidence: for this reason, and for none with a lower number.
 abbrev pub IsFirstFault : (Reason → ℕ → Type 0) → List ℕ → ℕ → Reason → Type 0
 IsFirstFault Shows piece at reason =
     (at < length piece) × ((k : ℕ) (r : Reason) → 0 < k → k ≤ at → Shows r k → ⊥) × Shows reason (at + 1) × ((r : Reason) → Shows r (at + 1) → number_of reason ≤ number_of r)
@@ -73,8 +73,8 @@ good_text_shows_nothing Shows taken piece ends bad cut rows begins whole k r som
 
 pub bad_byte_shows_first : (Shows : Reason → ℕ → Type 0) (taken piece : List ℕ) (ends : Bool) (bad cut : Reason) (at : ℕ) → OnlyTextShows Shows taken piece ends bad cut → at < length piece → IsFirstBad (taken ++ piece) (length taken + at) → IsFirstFault Shows piece at bad
 bad_byte_shows_first Shows taken piece ends bad cut at rows within first =
-    let shown : EndsBad (taken ++ take (at + 1) piece) = ends_at_bad taken piece at within first in
-    (within, quiet, rows.by_bad (at + 1) shown, least shown)
+    let is_evident : EndsBad (taken ++ take (at + 1) piece) = ends_at_bad taken piece at within first in
+    (within, quiet, rows.by_bad (at + 1) is_evident, least is_evident)
   where
     quiet : (k : ℕ) (r : Reason) → 0 < k → k ≤ at → Shows r k → ⊥
     quiet k r some le shows =
@@ -84,10 +84,10 @@ bad_byte_shows_first Shows taken piece ends bad cut at rows within first =
         ]
 
     least : EndsBad (taken ++ take (at + 1) piece) → (r : Reason) → Shows r (at + 1) → number_of bad ≤ number_of r
-    least shown r shows =
+    least is_evident r shows =
         elim (rows.only r (at + 1) (omega arith) (omega arith) shows) [
           | inl b ↦ omega (arith, ap number_of b.0)
-          | inr c ↦ absurd (bad_not_begins (taken ++ take (at + 1) piece) shown c.3.0)
+          | inr c ↦ absurd (bad_not_begins (taken ++ take (at + 1) piece) is_evident c.3.0)
         ]
 
 pub cut_text_shows_first : (Shows : Reason → ℕ → Type 0) (taken piece : List ℕ) (ends : Bool) (bad cut : Reason) (at : ℕ) → OnlyTextShows Shows taken piece ends bad cut → at + 1 ≡ length piece → ends ≡ true → EndsInside (taken ++ piece) → IsFirstFault Shows piece at cut
@@ -109,20 +109,20 @@ cut_text_shows_first Shows taken piece ends bad cut at rows count end inside =
           | inr c ↦ omega (arith, ap number_of c.0)
         ]
 
-pub text_fault_shows_first : (Shows : Reason → ℕ → Type 0) (taken piece : List ℕ) (ends : Bool) (bad cut : Reason) (fault : BadByte) → OnlyTextShows Shows taken piece ends bad cut → IsTextTaken taken piece ends bad cut (Err fault) → IsFirstFault Shows piece fault.at fault.reason
+pub text_fault_shows_first : (Shows : Reason → ℕ → Type 0) (taken piece : List ℕ) (ends : Bool) (bad cut : Reason) (fault : BadByte) → OnlyTextShows Shows taken piece ends bad cut → IsTextConsumed taken piece ends bad cut (Err fault) → IsFirstFault Shows piece fault.at fault.reason
 text_fault_shows_first Shows taken piece ends bad cut fault rows found =
     elim found [
       | inl b ↦ subst (IsFirstFault Shows piece fault.at) (sym b.0) (bad_byte_shows_first Shows taken piece ends bad cut fault.at rows b.1 b.2)
       | inr c ↦ subst (IsFirstFault Shows piece fault.at) (sym c.0) (cut_text_shows_first Shows taken piece ends bad cut fault.at rows c.1 c.2 c.3)
     ]
 
--- ---- a message's text
+-- ---- the text of a message
 
 pub text_not_close : (group : List Frame) (opcode : ℕ) → IsOfText group opcode → opcode ≡ 8 → ⊥
 text_not_close [] opcode text close = omega (arith, text, close)
 text_not_close (f ∷ group) opcode text close = omega (arith, text.0, close)
 
--- the first k bytes of a piece that doesn't pass the payload's end are its end only if they are the whole piece
+-- The first k bytes of a piece end the payload only if they are the whole piece.
 ends_with_piece : (before piece : List ℕ) (total k : ℕ) → k ≤ length piece → length before + length piece ≤ total → length (before ++ take k piece) ≡ total → (k ≡ length piece) × (length before + length piece ≡ total)
 ends_with_piece before piece total k le within count =
     let took : length (take k piece) ≡ k = length-take-le k piece le in
@@ -135,58 +135,58 @@ count_at_end before piece total k whole count =
     let all : length (before ++ take k piece) ≡ length before + length (take k piece) = length-append before (take k piece) in
     omega arith
 
-pub text_rows : (group : List Frame) (first total : ℕ) (before piece : List ℕ) (ends : Bool) → IsOfText group (opcode_field first) → length before + length piece ≤ total → ends ≡ true ↔ ((fin_bit first ≡ true) × (length before + length piece ≡ total)) → OnlyTextShows (λ (reason : Reason) (k : ℕ). EvidentByPayload group reason first total (before ++ take k piece)) (text_of group ++ before) piece ends TextBad TextCut
+pub text_rows : (group : List Frame) (first total : ℕ) (before piece : List ℕ) (ends : Bool) → IsOfText group (opcode_field first) → length before + length piece ≤ total → ends ≡ true ↔ ((fin_bit first ≡ true) × (length before + length piece ≡ total)) → OnlyTextShows (λ (reason : Reason) (k : ℕ). EvidentByPayload group reason first total (before ++ take k piece)) (payload_of group ++ before) piece ends TextBad TextCut
 text_rows group first total before piece ends of_text within at_end =
     record { only = only; by_bad = by_bad; by_cut = by_cut }
   where
-    parted : (k : ℕ) → text_of group ++ (before ++ take k piece) ≡ (text_of group ++ before) ++ take k piece
-    parted k = sym (append_assoc (text_of group) before (take k piece))
+    parted : (k : ℕ) → payload_of group ++ (before ++ take k piece) ≡ (payload_of group ++ before) ++ take k piece
+    parted k = sym (append_assoc (payload_of group) before (take k piece))
 
-    only : (reason : Reason) (k : ℕ) → 0 < k → k ≤ length piece → EvidentByPayload group reason first total (before ++ take k piece) → ((reason ≡ TextBad) × EndsBad ((text_of group ++ before) ++ take k piece)) ⊎ ((reason ≡ TextCut) × (k ≡ length piece) × (ends ≡ true) × EndsInside ((text_of group ++ before) ++ take k piece))
-    only TextBad k some le shown = inl (refl, subst EndsBad (parted k) shown.1)
-    only TextCut k some le shown =
-        let whole : (k ≡ length piece) × (length before + length piece ≡ total) = ends_with_piece before piece total k le within shown.2 in
-        inr (refl, whole.0, at_end.1 (shown.1, whole.1), subst EndsInside (parted k) shown.3)
-    only CloseCode k some le shown = absurd (text_not_close group (opcode_field first) of_text shown.0)
-    only CloseReason k some le shown = absurd (text_not_close group (opcode_field first) of_text shown.0)
-    only _ k some le shown = absurd shown
+    only : (reason : Reason) (k : ℕ) → 0 < k → k ≤ length piece → EvidentByPayload group reason first total (before ++ take k piece) → ((reason ≡ TextBad) × EndsBad ((payload_of group ++ before) ++ take k piece)) ⊎ ((reason ≡ TextCut) × (k ≡ length piece) × (ends ≡ true) × EndsInside ((payload_of group ++ before) ++ take k piece))
+    only TextBad k some le is_evident = inl (refl, subst EndsBad (parted k) is_evident.1)
+    only TextCut k some le is_evident =
+        let whole : (k ≡ length piece) × (length before + length piece ≡ total) = ends_with_piece before piece total k le within is_evident.2 in
+        inr (refl, whole.0, at_end.1 (is_evident.1, whole.1), subst EndsInside (parted k) is_evident.3)
+    only CloseCode k some le is_evident = absurd (text_not_close group (opcode_field first) of_text is_evident.0)
+    only CloseReason k some le is_evident = absurd (text_not_close group (opcode_field first) of_text is_evident.0)
+    only _ k some le is_evident = absurd is_evident
 
-    by_bad : (k : ℕ) → EndsBad ((text_of group ++ before) ++ take k piece) → EvidentByPayload group TextBad first total (before ++ take k piece)
+    by_bad : (k : ℕ) → EndsBad ((payload_of group ++ before) ++ take k piece) → EvidentByPayload group TextBad first total (before ++ take k piece)
     by_bad k bad = (of_text, subst EndsBad (sym (parted k)) bad)
 
-    by_cut : (k : ℕ) → k ≡ length piece → ends ≡ true → EndsInside ((text_of group ++ before) ++ take k piece) → EvidentByPayload group TextCut first total (before ++ take k piece)
+    by_cut : (k : ℕ) → k ≡ length piece → ends ≡ true → EndsInside ((payload_of group ++ before) ++ take k piece) → EvidentByPayload group TextCut first total (before ++ take k piece)
     by_cut k whole end inside = (of_text, (at_end.0 end).0, count_at_end before piece total k whole (at_end.0 end).1, subst EndsInside (sym (parted k)) inside)
 
--- ---- a Close's body
+-- ---- the body of a Close
 
--- the reason of a body whose code came before the piece
-reason_behind : (code : ℕ) (before text : List ℕ) (front : List ℕ) → before ≡ to_be_bytes w16 code ++ text → drop 2 (before ++ front) ≡ text ++ front
-reason_behind code before text front coded = ap (λ (bs : List ℕ). drop 2 (bs ++ front)) coded
+-- The reason of a body whose code came before the piece.
+reason_after : (code : ℕ) (before text : List ℕ) (front : List ℕ) → before ≡ to_be_bytes w16 code ++ text → drop 2 (before ++ front) ≡ text ++ front
+reason_after code before text front coded = ap (λ (bs : List ℕ). drop 2 (bs ++ front)) coded
 
 pub reason_rows : (group : List Frame) (first total code : ℕ) (before text piece : List ℕ) (last : Bool) → opcode_field first ≡ 8 → before ≡ to_be_bytes w16 code ++ text → length before + length piece ≤ total → last ≡ true ↔ (length before + length piece ≡ total) → OnlyTextShows (λ (reason : Reason) (k : ℕ). EvidentByPayload group reason first total (before ++ take k piece)) text piece last CloseReason CloseReason
 reason_rows group first total code before text piece last close coded within at_end =
     record { only = only; by_bad = by_bad; by_cut = by_cut }
   where
     parted : (k : ℕ) → drop 2 (before ++ take k piece) ≡ text ++ take k piece
-    parted k = reason_behind code before text (take k piece) coded
+    parted k = reason_after code before text (take k piece) coded
 
     only : (reason : Reason) (k : ℕ) → 0 < k → k ≤ length piece → EvidentByPayload group reason first total (before ++ take k piece) → ((reason ≡ CloseReason) × EndsBad (text ++ take k piece)) ⊎ ((reason ≡ CloseReason) × (k ≡ length piece) × (last ≡ true) × EndsInside (text ++ take k piece))
-    only CloseReason k some le shown =
-        elim shown.1 [
+    only CloseReason k some le is_evident =
+        elim is_evident.1 [
           | inl bad ↦ inl (refl, subst EndsBad (parted k) bad)
           | inr cut ↦
               let whole : (k ≡ length piece) × (length before + length piece ≡ total) = ends_with_piece before piece total k le within cut.0 in
               inr (refl, whole.0, at_end.1 whole.1, subst EndsInside (parted k) cut.1)
         ]
-    only CloseCode k some le shown =
+    only CloseCode k some le is_evident =
         let took : length (take k piece) ≡ k = length-take-le k piece le in
         let all : length (before ++ take k piece) ≡ length before + length (take k piece) = length-append before (take k piece) in
         let two : length before ≡ suc (suc (length text)) = ap length coded in
-        let count : length (before ++ take k piece) ≡ 2 = shown.1 in
+        let count : length (before ++ take k piece) ≡ 2 = is_evident.1 in
         absurd (omega arith)
-    only TextBad k some le shown = absurd (text_not_close group (opcode_field first) shown.0 close)
-    only TextCut k some le shown = absurd (text_not_close group (opcode_field first) shown.0 close)
-    only _ k some le shown = absurd shown
+    only TextBad k some le is_evident = absurd (text_not_close group (opcode_field first) is_evident.0 close)
+    only TextCut k some le is_evident = absurd (text_not_close group (opcode_field first) is_evident.0 close)
+    only _ k some le is_evident = absurd is_evident
 
     by_bad : (k : ℕ) → EndsBad (text ++ take k piece) → EvidentByPayload group CloseReason first total (before ++ take k piece)
     by_bad k bad = (close, inl (subst EndsBad (sym (parted k)) bad))
@@ -194,7 +194,7 @@ reason_rows group first total code before text piece last close coded within at_
     by_cut : (k : ℕ) → k ≡ length piece → last ≡ true → EndsInside (text ++ take k piece) → EvidentByPayload group CloseReason first total (before ++ take k piece)
     by_cut k whole end inside = (close, inr (count_at_end before piece total k whole (at_end.0 end), subst EndsInside (sym (parted k)) inside))
 
--- ---- the code of a Close's body, and what stands behind it
+-- ---- the code of a Close's body, and the reason after it
 
 pub short_body_ends_no_reason : (payload : List ℕ) → length payload ≤ 2 → (EndsBad (drop 2 payload) → ⊥) × (EndsInside (drop 2 payload) → ⊥)
 short_body_ends_no_reason [] short = (λ bad. absurd (omega (arith, bad.1)), λ inside. inside.1 text-nil)
@@ -202,7 +202,7 @@ short_body_ends_no_reason (b ∷ []) short = (λ bad. absurd (omega (arith, bad.
 short_body_ends_no_reason (b ∷ c ∷ []) short = (λ bad. absurd (omega (arith, bad.1)), λ inside. inside.1 text-nil)
 short_body_ends_no_reason (b ∷ c ∷ d ∷ payload) short = absurd (omega arith)
 
--- the first bytes of a Close's body up to an accepted code
+-- The first bytes of a Close's body, up to an accepted code.
 pub accepted_code_is_quiet : (group : List Frame) (first total : ℕ) (before begun : List ℕ) (code : ℕ) → opcode_field first ≡ 8 → before ++ begun ≡ to_be_bytes w16 code → code < 65536 → IsAcceptedCode code → IsQuiet group first total before begun (length begun)
 accepted_code_is_quiet group first total before begun code close coded fits accepted = quiet
   where
@@ -215,48 +215,48 @@ accepted_code_is_quiet group first total before begun code close coded fits acce
         omega arith
 
     quiet : (k : ℕ) (reason : Reason) → 0 < k → k ≤ length begun → EvidentByPayload group reason first total (before ++ take k begun) → ⊥
-    quiet k CloseCode some le shown =
+    quiet k CloseCode some le is_evident =
         let took : length (take k begun) ≡ k = length-take-le k begun le in
         let front : length (before ++ take k begun) ≡ length before + length (take k begun) = length-append before (take k begun) in
         let all : length (before ++ begun) ≡ length before + length begun = length-append before begun in
         let two : length (before ++ begun) ≡ 2 = ap length coded in
-        let count : length (before ++ take k begun) ≡ 2 = shown.1 in
+        let count : length (before ++ take k begun) ≡ 2 = is_evident.1 in
         let whole : take k begun ≡ begun = take_all k begun (omega arith) in
         let value : from_be_bytes w16 (before ++ take k begun) ≡ code = ap (λ (bs : List ℕ). from_be_bytes w16 (before ++ bs)) whole ∙ ap (λ (bs : List ℕ). from_be_bytes w16 bs) coded ∙ from_be_bytes-to_be_bytes_2 code fits in
-        shown.2 (subst IsAcceptedCode (sym value) accepted)
-    quiet k CloseReason some le shown =
+        is_evident.2 (subst IsAcceptedCode (sym value) accepted)
+    quiet k CloseReason some le is_evident =
         let none : (EndsBad (drop 2 (before ++ take k begun)) → ⊥) × (EndsInside (drop 2 (before ++ take k begun)) → ⊥) = short_body_ends_no_reason (before ++ take k begun) (short k le) in
-        elim shown.1 [ inl bad ↦ none.0 bad | inr cut ↦ none.1 cut.1 ]
-    quiet k TextBad some le shown = text_not_close group (opcode_field first) shown.0 close
-    quiet k TextCut some le shown = text_not_close group (opcode_field first) shown.0 close
-    quiet k _ some le shown = shown
+        elim is_evident.1 [ inl bad ↦ none.0 bad | inr cut ↦ none.1 cut.1 ]
+    quiet k TextBad some le is_evident = text_not_close group (opcode_field first) is_evident.0 close
+    quiet k TextCut some le is_evident = text_not_close group (opcode_field first) is_evident.0 close
+    quiet k _ some le is_evident = is_evident
 
-front_behind : (before begun rest : List ℕ) (k n : ℕ) → k ≡ length begun + n → before ++ take k (begun ++ rest) ≡ (before ++ begun) ++ take n rest
-front_behind before begun rest k n count =
+front_after : (before begun rest : List ℕ) (k n : ℕ) → k ≡ length begun + n → before ++ take k (begun ++ rest) ≡ (before ++ begun) ++ take n rest
+front_after before begun rest k n count =
     ap (λ (m : ℕ). before ++ take m (begun ++ rest)) count ∙ ap (λ (bs : List ℕ). before ++ bs) (take-append-add begun rest n) ∙ sym (append_assoc before begun (take n rest))
 
 pub quiet-append : (group : List Frame) (first total : ℕ) (before begun rest : List ℕ) (n : ℕ) → IsQuiet group first total before begun (length begun) → IsQuiet group first total (before ++ begun) rest n → IsQuiet group first total before (begun ++ rest) (length begun + n)
-quiet-append group first total before begun rest n quiet quiet_behind k reason some le shown =
+quiet-append group first total before begun rest n quiet quiet_after k reason some le is_evident =
     elim (less_or_not (length begun) k) [
-      | inl behind ↦
-          let moved : before ++ take k (begun ++ rest) ≡ (before ++ begun) ++ take (k - length begun) rest = front_behind before begun rest k (k - length begun) (omega arith) in
-          quiet_behind (k - length begun) reason (omega arith) (omega arith) (subst (EvidentByPayload group reason first total) moved shown)
+      | inl following ↦
+          let moved : before ++ take k (begun ++ rest) ≡ (before ++ begun) ++ take (k - length begun) rest = front_after before begun rest k (k - length begun) (omega arith) in
+          quiet_after (k - length begun) reason (omega arith) (omega arith) (subst (EvidentByPayload group reason first total) moved is_evident)
       | inr within ↦
           let same : take k (begun ++ rest) ≡ take k begun = take-append-le k begun rest within in
-          quiet k reason some within (subst (λ (bs : List ℕ). EvidentByPayload group reason first total (before ++ bs)) same shown)
+          quiet k reason some within (subst (λ (bs : List ℕ). EvidentByPayload group reason first total (before ++ bs)) same is_evident)
     ]
 
--- a fault of the bytes behind the code
-pub fault_behind : (group : List Frame) (first total : ℕ) (before begun rest : List ℕ) (at : ℕ) (fault shown : BadByte) → IsQuiet group first total before begun (length begun) → length begun ≡ at + 1 → shown.at ≡ at + 1 + fault.at → shown.reason ≡ fault.reason → IsFirstFault (λ (reason : Reason) (k : ℕ). EvidentByPayload group reason first total ((before ++ begun) ++ take k rest)) rest fault.at fault.reason → IsChecked group first total before (begun ++ rest) (Err shown)
-fault_behind group first total before begun rest at fault shown quiet count place same found =
+-- A fault in the bytes after the code.
+pub fault_after : (group : List Frame) (first total : ℕ) (before begun rest : List ℕ) (at : ℕ) (fault is_evident : BadByte) → IsQuiet group first total before begun (length begun) → length begun ≡ at + 1 → is_evident.at ≡ at + 1 + fault.at → is_evident.reason ≡ fault.reason → IsFirstFault (λ (reason : Reason) (k : ℕ). EvidentByPayload group reason first total ((before ++ begun) ++ take k rest)) rest fault.at fault.reason → IsChecked group first total before (begun ++ rest) (Err is_evident)
+fault_after group first total before begun rest at fault is_evident quiet count place same found =
     let all : length (begun ++ rest) ≡ length begun + length rest = length-append begun rest in
     let within : fault.at < length rest = found.0 in
-    let place_behind : shown.at ≡ length begun + fault.at = omega arith in
-    let moved : before ++ take (shown.at + 1) (begun ++ rest) ≡ (before ++ begun) ++ take (fault.at + 1) rest = front_behind before begun rest (shown.at + 1) (fault.at + 1) (omega arith) in
+    let place_after : is_evident.at ≡ length begun + fault.at = omega arith in
+    let moved : before ++ take (is_evident.at + 1) (begun ++ rest) ≡ (before ++ begun) ++ take (fault.at + 1) rest = front_after before begun rest (is_evident.at + 1) (fault.at + 1) (omega arith) in
     let quiet_both : IsQuiet group first total before (begun ++ rest) (length begun + fault.at) = quiet-append group first total before begun rest fault.at quiet found.1 in (
       omega arith,
-      subst (IsQuiet group first total before (begun ++ rest)) (sym place_behind) quiet_both,
-      subst (λ (bs : List ℕ). EvidentByPayload group shown.reason first total bs) (sym moved) (subst (λ (r : Reason). EvidentByPayload group r first total ((before ++ begun) ++ take (fault.at + 1) rest)) (sym same) found.2),
+      subst (IsQuiet group first total before (begun ++ rest)) (sym place_after) quiet_both,
+      subst (λ (bs : List ℕ). EvidentByPayload group is_evident.reason first total bs) (sym moved) (subst (λ (r : Reason). EvidentByPayload group r first total ((before ++ begun) ++ take (fault.at + 1) rest)) (sym same) found.2),
       λ r other. subst (λ (reason : Reason). number_of reason ≤ number_of r) (sym same) (found.3 r (subst (λ (bs : List ℕ). EvidentByPayload group r first total bs) moved other)),
     )
 
@@ -266,9 +266,9 @@ coded_by_two_bytes code n two bytes value =
     let low : get_or code 1 0 < 256 = bytes 1 in
     (sym (be_bytes_2 code n two bytes value), omega arith)
 
--- ---- what each kind of check finds of a piece
+-- ---- the result of each kind of check
 
--- the text ends with the piece, where both the frame is final and the piece is its last
+-- The text ends with the piece if the frame is final and the piece is its last.
 abbrev pub EndsWith : Bool → Bool → Bool → Type 0
 EndsWith ends fin last = ends ≡ true ↔ ((fin ≡ true) × (last ≡ true))
 
@@ -276,56 +276,56 @@ text_at_end : (first total count : ℕ) (ends fin last : Bool) → EndsWith ends
 text_at_end first total count ends fin last both final at_end =
     ((λ end. let parts : (fin ≡ true) × (last ≡ true) = both.0 end in (final ∙ parts.0, at_end.0 parts.1)), λ parts. both.1 (sym final ∙ parts.0, at_end.1 parts.1))
 
-pub text_checked : (utf8 new : Option (List Range)) (piece : List ℕ) (ends fin last : Bool) → EndsWith ends fin last → ((taken : List ℕ) → HasValidated utf8 taken → BeginsText taken → IsTextTaken taken piece ends TextBad TextCut (Ok new)) → (group : List Frame) (first total : ℕ) (before : List ℕ) → HasChecked group first (Text utf8) before → fin_bit first ≡ fin → last ≡ true ↔ (length before + length piece ≡ total) → length before + length piece ≤ total → IsChecked group first total before piece (Ok (Text new))
-text_checked utf8 new piece ends fin last both takes group first total before checked final at_end within =
-    let found : IsTextTaken (text_of group ++ before) piece ends TextBad TextCut (Ok new) = takes (text_of group ++ before) checked.1 checked.2 in
-    let joined : (text_of group ++ before) ++ piece ≡ text_of group ++ (before ++ piece) = append_assoc (text_of group) before piece in
+pub text_checked : (utf8 new : Option (List Range)) (piece : List ℕ) (ends fin last : Bool) → EndsWith ends fin last → ((taken : List ℕ) → HasValidated utf8 taken → BeginsText taken → IsTextConsumed taken piece ends TextBad TextCut (Ok new)) → (group : List Frame) (first total : ℕ) (before : List ℕ) → HasChecked group first (Text utf8) before → fin_bit first ≡ fin → last ≡ true ↔ (length before + length piece ≡ total) → length before + length piece ≤ total → IsChecked group first total before piece (Ok (Text new))
+text_checked utf8 new piece ends fin last both consumes group first total before checked final at_end within =
+    let found : IsTextConsumed (payload_of group ++ before) piece ends TextBad TextCut (Ok new) = consumes (payload_of group ++ before) checked.1 checked.2 in
+    let joined : (payload_of group ++ before) ++ piece ≡ payload_of group ++ (before ++ piece) = append_assoc (payload_of group) before piece in
     let quiet : IsQuiet group first total before piece (length piece) =
-    good_text_shows_nothing (λ (reason : Reason) (k : ℕ). EvidentByPayload group reason first total (before ++ take k piece)) (text_of group ++ before) piece ends TextBad TextCut (text_rows group first total before piece ends checked.0 within (text_at_end first total (length before + length piece) ends fin last both final at_end)) found.1 found.2 in
+    good_text_shows_nothing (λ (reason : Reason) (k : ℕ). EvidentByPayload group reason first total (before ++ take k piece)) (payload_of group ++ before) piece ends TextBad TextCut (text_rows group first total before piece ends checked.0 within (text_at_end first total (length before + length piece) ends fin last both final at_end)) found.1 found.2 in
     ((checked.0, subst (HasValidated new) joined found.0, subst BeginsText joined found.1), quiet)
 
-pub text_refused : (utf8 : Option (List Range)) (fault : BadByte) (piece : List ℕ) (ends fin last : Bool) → EndsWith ends fin last → ((taken : List ℕ) → HasValidated utf8 taken → BeginsText taken → IsTextTaken taken piece ends TextBad TextCut (Err fault)) → (group : List Frame) (first total : ℕ) (before : List ℕ) → HasChecked group first (Text utf8) before → fin_bit first ≡ fin → last ≡ true ↔ (length before + length piece ≡ total) → length before + length piece ≤ total → IsChecked group first total before piece (Err fault)
-text_refused utf8 fault piece ends fin last both takes group first total before checked final at_end within =
-    text_fault_shows_first (λ (reason : Reason) (k : ℕ). EvidentByPayload group reason first total (before ++ take k piece)) (text_of group ++ before) piece ends TextBad TextCut fault (text_rows group first total before piece ends checked.0 within (text_at_end first total (length before + length piece) ends fin last both final at_end)) (takes (text_of group ++ before) checked.1 checked.2)
+pub text_refused : (utf8 : Option (List Range)) (fault : BadByte) (piece : List ℕ) (ends fin last : Bool) → EndsWith ends fin last → ((taken : List ℕ) → HasValidated utf8 taken → BeginsText taken → IsTextConsumed taken piece ends TextBad TextCut (Err fault)) → (group : List Frame) (first total : ℕ) (before : List ℕ) → HasChecked group first (Text utf8) before → fin_bit first ≡ fin → last ≡ true ↔ (length before + length piece ≡ total) → length before + length piece ≤ total → IsChecked group first total before piece (Err fault)
+text_refused utf8 fault piece ends fin last both consumes group first total before checked final at_end within =
+    text_fault_shows_first (λ (reason : Reason) (k : ℕ). EvidentByPayload group reason first total (before ++ take k piece)) (payload_of group ++ before) piece ends TextBad TextCut fault (text_rows group first total before piece ends checked.0 within (text_at_end first total (length before + length piece) ends fin last both final at_end)) (consumes (payload_of group ++ before) checked.1 checked.2)
 
-pub reason_checked : (utf8 new : Option (List Range)) (code : ℕ) (piece : List ℕ) (last : Bool) → ((taken : List ℕ) → HasValidated utf8 taken → BeginsText taken → IsTextTaken taken piece last CloseReason CloseReason (Ok new)) → (before : List ℕ) → IsBody (Code code utf8) before → IsBodyChecked before piece last (Ok (Close (Code code new)))
-reason_checked utf8 new code piece last takes before body group first total close at_end within =
+pub reason_checked : (utf8 new : Option (List Range)) (code : ℕ) (piece : List ℕ) (last : Bool) → ((taken : List ℕ) → HasValidated utf8 taken → BeginsText taken → IsTextConsumed taken piece last CloseReason CloseReason (Ok new)) → (before : List ℕ) → IsBody (Code code utf8) before → IsBodyChecked before piece last (Ok (Close (Code code new)))
+reason_checked utf8 new code piece last consumes before body group first total close at_end within =
     let text = body.0 in
-    let found : IsTextTaken body.0 piece last CloseReason CloseReason (Ok new) = takes body.0 body.4 body.5 in
+    let found : IsTextConsumed body.0 piece last CloseReason CloseReason (Ok new) = consumes body.0 body.4 body.5 in
     let joined : before ++ piece ≡ to_be_bytes w16 code ++ (body.0 ++ piece) = ap (λ (bs : List ℕ). bs ++ piece) body.1 ∙ append_assoc (to_be_bytes w16 code) body.0 piece in
     let quiet : IsQuiet group first total before piece (length piece) =
     good_text_shows_nothing (λ (reason : Reason) (k : ℕ). EvidentByPayload group reason first total (before ++ take k piece)) body.0 piece last CloseReason CloseReason (reason_rows group first total code before body.0 piece last close body.1 within at_end) found.1 found.2 in
     ((close, (body.0 ++ piece, joined, body.2, body.3, found.0, found.1)), quiet)
 
-pub reason_refused : (utf8 : Option (List Range)) (fault : BadByte) (code : ℕ) (piece : List ℕ) (last : Bool) → ((taken : List ℕ) → HasValidated utf8 taken → BeginsText taken → IsTextTaken taken piece last CloseReason CloseReason (Err fault)) → (before : List ℕ) → IsBody (Code code utf8) before → IsBodyChecked before piece last (Err fault)
-reason_refused utf8 fault code piece last takes before body group first total close at_end within =
-    text_fault_shows_first (λ (reason : Reason) (k : ℕ). EvidentByPayload group reason first total (before ++ take k piece)) body.0 piece last CloseReason CloseReason fault (reason_rows group first total code before body.0 piece last close body.1 within at_end) (takes body.0 body.4 body.5)
+pub reason_refused : (utf8 : Option (List Range)) (fault : BadByte) (code : ℕ) (piece : List ℕ) (last : Bool) → ((taken : List ℕ) → HasValidated utf8 taken → BeginsText taken → IsTextConsumed taken piece last CloseReason CloseReason (Err fault)) → (before : List ℕ) → IsBody (Code code utf8) before → IsBodyChecked before piece last (Err fault)
+reason_refused utf8 fault code piece last consumes before body group first total close at_end within =
+    text_fault_shows_first (λ (reason : Reason) (k : ℕ). EvidentByPayload group reason first total (before ++ take k piece)) body.0 piece last CloseReason CloseReason fault (reason_rows group first total code before body.0 piece last close body.1 within at_end) (consumes body.0 body.4 body.5)
 
--- the length of a body, split behind its code
+-- The length of a body, split after its code.
 split_count : (before begun rest : List ℕ) → length before + length (begun ++ rest) ≡ length (before ++ begun) + length rest
 split_count before begun rest =
     let front : length (before ++ begun) ≡ length before + length begun = length-append before begun in
     let all : length (begun ++ rest) ≡ length begun + length rest = length-append begun rest in
     omega arith
 
-pub code_checked : (code rest : List ℕ) (n : ℕ) (last : Bool) (new : Option (List Range)) → (code ≡ to_be_bytes w16 n) × (n < 65536) → IsAcceptedCode n → IsTextTaken [] rest last CloseReason CloseReason (Ok new) → (before begun : List ℕ) → before ++ begun ≡ code → IsBodyChecked before (begun ++ rest) last (Ok (Close (Code n new)))
+pub code_checked : (code rest : List ℕ) (n : ℕ) (last : Bool) (new : Option (List Range)) → (code ≡ to_be_bytes w16 n) × (n < 65536) → IsAcceptedCode n → IsTextConsumed [] rest last CloseReason CloseReason (Ok new) → (before begun : List ℕ) → before ++ begun ≡ code → IsBodyChecked before (begun ++ rest) last (Ok (Close (Code n new)))
 code_checked code rest n last new coded accepted found before begun whole group first total close at_end within =
-    let spelled : before ++ begun ≡ to_be_bytes w16 n = whole ∙ coded.0 in
+    let encoded : before ++ begun ≡ to_be_bytes w16 n = whole ∙ coded.0 in
     let count : length before + length (begun ++ rest) ≡ length (before ++ begun) + length rest = split_count before begun rest in
-    let joined : before ++ (begun ++ rest) ≡ to_be_bytes w16 n ++ rest = sym (append_assoc before begun rest) ∙ ap (λ (bs : List ℕ). bs ++ rest) spelled in
-    let of_code : IsQuiet group first total before begun (length begun) = accepted_code_is_quiet group first total before begun n close spelled coded.1 accepted in
+    let joined : before ++ (begun ++ rest) ≡ to_be_bytes w16 n ++ rest = sym (append_assoc before begun rest) ∙ ap (λ (bs : List ℕ). bs ++ rest) encoded in
+    let of_code : IsQuiet group first total before begun (length begun) = accepted_code_is_quiet group first total before begun n close encoded coded.1 accepted in
     let of_rest : IsQuiet group first total (before ++ begun) rest (length rest) =
-    good_text_shows_nothing (λ (reason : Reason) (k : ℕ). EvidentByPayload group reason first total ((before ++ begun) ++ take k rest)) [] rest last CloseReason CloseReason (reason_rows group first total n (before ++ begun) [] rest last close spelled (omega arith) ((λ end. sym count ∙ at_end.0 end), λ same. at_end.1 (count ∙ same))) found.1 found.2 in
+    good_text_shows_nothing (λ (reason : Reason) (k : ℕ). EvidentByPayload group reason first total ((before ++ begun) ++ take k rest)) [] rest last CloseReason CloseReason (reason_rows group first total n (before ++ begun) [] rest last close encoded (omega arith) ((λ end. sym count ∙ at_end.0 end), λ same. at_end.1 (count ∙ same))) found.1 found.2 in
     let both : IsQuiet group first total before (begun ++ rest) (length begun + length rest) = quiet-append group first total before begun rest (length rest) of_code of_rest in
     ((close, (rest, joined, coded.1, accepted, found.0, found.1)), subst (IsQuiet group first total before (begun ++ rest)) (sym (length-append begun rest)) both)
 
-pub code_refused : (code rest : List ℕ) (n at : ℕ) (last : Bool) (fault : BadByte) → (code ≡ to_be_bytes w16 n) × (n < 65536) → IsAcceptedCode n → IsTextTaken [] rest last CloseReason CloseReason (Err fault) → (before begun : List ℕ) → before ++ begun ≡ code → length begun ≡ at + 1 → IsBodyChecked before (begun ++ rest) last (Err (record { at = at + 1 + fault.at; reason = fault.reason }))
+pub code_refused : (code rest : List ℕ) (n at : ℕ) (last : Bool) (fault : BadByte) → (code ≡ to_be_bytes w16 n) × (n < 65536) → IsAcceptedCode n → IsTextConsumed [] rest last CloseReason CloseReason (Err fault) → (before begun : List ℕ) → before ++ begun ≡ code → length begun ≡ at + 1 → IsBodyChecked before (begun ++ rest) last (Err (record { at = at + 1 + fault.at; reason = fault.reason }))
 code_refused code rest n at last fault coded accepted found before begun whole begun_count group first total close at_end within =
-    let spelled : before ++ begun ≡ to_be_bytes w16 n = whole ∙ coded.0 in
+    let encoded : before ++ begun ≡ to_be_bytes w16 n = whole ∙ coded.0 in
     let count : length before + length (begun ++ rest) ≡ length (before ++ begun) + length rest = split_count before begun rest in
-    fault_behind group first total before begun rest at fault (record { at = at + 1 + fault.at; reason = fault.reason }) (accepted_code_is_quiet group first total before begun n close spelled coded.1 accepted) begun_count refl refl (text_fault_shows_first (λ (reason : Reason) (k : ℕ). EvidentByPayload group reason first total ((before ++ begun) ++ take k rest)) [] rest last CloseReason CloseReason fault (reason_rows group first total n (before ++ begun) [] rest last close spelled (omega arith) ((λ end. sym count ∙ at_end.0 end), λ same. at_end.1 (count ∙ same))) found)
+    fault_after group first total before begun rest at fault (record { at = at + 1 + fault.at; reason = fault.reason }) (accepted_code_is_quiet group first total before begun n close encoded coded.1 accepted) begun_count refl refl (text_fault_shows_first (λ (reason : Reason) (k : ℕ). EvidentByPayload group reason first total ((before ++ begun) ++ take k rest)) [] rest last CloseReason CloseReason fault (reason_rows group first total n (before ++ begun) [] rest last close encoded (omega arith) ((λ end. sym count ∙ at_end.0 end), λ same. at_end.1 (count ∙ same))) found)
 
--- ---- a piece's first byte, or two, and what stands behind
+-- ---- the first byte of a piece, or two, and the rest
 
 split_first : (bytes : List ℕ) → 0 < length bytes → get_or bytes 0 0 ∷ take (length bytes - 1) (drop 1 bytes) ≡ bytes
 split_first [] some = absurd (omega arith)
@@ -336,12 +336,12 @@ split_two [] some not_one = absurd (omega arith)
 split_two (b ∷ []) some not_one = absurd (not_one refl)
 split_two (b ∷ c ∷ bytes) some not_one = ap (λ (bs : List ℕ). b ∷ c ∷ bs) (take_all (length (b ∷ c ∷ bytes) - 2) bytes (omega arith))
 
--- a piece that brings the second byte of the code
+-- The piece contains the second byte of the code.
 pub half_code_goes_on : (high : ℕ) (piece : List ℕ) (last : Bool) (result : Result PayloadCheck BadByte) → 0 < length piece → ((before begun : List ℕ) → before ++ begun ≡ high ∷ get_or piece 0 0 ∷ [] → length begun ≡ 1 → IsBodyChecked before (begun ++ take (length piece - 1) (drop 1 piece)) last result) → (before : List ℕ) → IsBody (HalfCode high) before → IsBodyChecked before piece last result
 half_code_goes_on high piece last result some checked before body =
     subst (λ (bs : List ℕ). IsBodyChecked before bs last result) (split_first piece some) (checked before (get_or piece 0 0 ∷ []) (ap (λ (bs : List ℕ). bs ++ (get_or piece 0 0 ∷ [])) body) refl)
 
--- a piece that brings both
+-- The piece contains both bytes of the code.
 pub empty_goes_on : (piece : List ℕ) (last : Bool) (result : Result PayloadCheck BadByte) → 0 < length piece → length piece ≢ 1 → ((before begun : List ℕ) → before ++ begun ≡ get_or piece 0 0 ∷ get_or piece 1 0 ∷ [] → length begun ≡ 2 → IsBodyChecked before (begun ++ take (length piece - 2) (drop 2 piece)) last result) → (before : List ℕ) → IsBody Empty before → IsBodyChecked before piece last result
 empty_goes_on piece last result some not_one checked before body =
     subst (λ (bs : List ℕ). IsBodyChecked before bs last result) (split_two piece some not_one) (checked before (get_or piece 0 0 ∷ get_or piece 1 0 ∷ []) (ap (λ (bs : List ℕ). bs ++ (get_or piece 0 0 ∷ get_or piece 1 0 ∷ [])) body) refl)

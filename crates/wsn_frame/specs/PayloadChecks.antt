@@ -1,4 +1,4 @@
--- How the check of a payload stands to the bytes that came, unmasked. RFC 6455 sections 5.5.1, 5.6, 7.4 and 8.1.
+-- The check of a payload after its first bytes, unmasked. RFC 6455 sections 5.5.1, 5.6, 7.4 and 8.1.
 use Rattle.std.specs.Prelude.{◌≡◌, ◌≢◌, ℕ, ◌+◌, ◌<◌, ◌≤◌, ◌⊎◌, ◌↔◌, Bool, true, Option, Result, Ok, Err, List, [], ◌∷◌, ◌++◌, length, take}
 use Rattle.std.specs.Int.{to_be_bytes, w16}
 use Rattle.wsn_wire.specs.declared.refusal.Reason.{Reason}
@@ -13,10 +13,10 @@ use Rattle.wsn_frame.specs.declared.payload_check.PayloadCheck.TheVariants.{Free
 use Rattle.wsn_frame.specs.declared.payload_check.CloseBody.{CloseBody}
 use Rattle.wsn_frame.specs.declared.payload_check.CloseBody.TheVariants.{Empty, HalfCode, Code}
 use Rattle.wsn_frame.specs.declared.payload_check.BadByte.{BadByte}
-use Rattle.wsn_rules.specs.Group.{text_of}
+use Rattle.wsn_rules.specs.Group.{payload_of}
 use Rattle.wsn_rules.specs.Evidence.{EndsInside, IsOfText, EvidentByPayload}
 
--- The part of a Close's body that came.
+-- These bytes are the part of a Close's body that has been checked.
 abbrev pub IsBody : CloseBody → List ℕ → Type 0
 IsBody Empty payload = payload ≡ []
 IsBody (HalfCode b) payload = payload ≡ b ∷ []
@@ -24,20 +24,22 @@ IsBody (Code code reason) payload =
     (text : List ℕ) × (payload ≡ to_be_bytes w16 code ++ text) × (code < 65536) × IsAcceptedCode code
     × HasValidated reason text × BeginsText text
 
--- The check suits the frame, whose first byte is first behind the group, and has seen this much of its payload.
+-- The check is the one for a frame with this first byte, after the group, and these bytes of its payload have been
+-- checked.
 abbrev pub HasChecked : List Frame → ℕ → PayloadCheck → List ℕ → Type 0
 HasChecked group first Free payload = (IsOfText group (opcode_field first) → ⊥) × (opcode_field first ≢ 8)
 HasChecked group first (Text utf8) payload =
-    IsOfText group (opcode_field first) × HasValidated utf8 (text_of group ++ payload)
-    × BeginsText (text_of group ++ payload)
+    IsOfText group (opcode_field first) × HasValidated utf8 (payload_of group ++ payload)
+    × BeginsText (payload_of group ++ payload)
 HasChecked group first (Close body) payload = (opcode_field first ≡ 8) × IsBody body payload
 
--- The first n bytes of the piece, behind the payload before, show nothing; total is the payload's whole length.
+-- No prefix of 1 to n bytes of the piece, after the payload `before`, is evidence for a refusal; `total` is the
+-- payload's length.
 abbrev pub IsQuiet : List Frame → ℕ → ℕ → List ℕ → List ℕ → ℕ → Type 0
 IsQuiet group first total before piece n =
     (k : ℕ) (reason : Reason) → 0 < k → k ≤ n → EvidentByPayload group reason first total (before ++ take k piece) → ⊥
 
--- What checking a piece found.
+-- The result of checking a piece of a payload.
 abbrev pub IsChecked : List Frame → ℕ → ℕ → List ℕ → List ℕ → Result PayloadCheck BadByte → Type 0
 IsChecked group first total before piece (Ok check) =
     HasChecked group first check (before ++ piece) × IsQuiet group first total before piece (length piece)
@@ -47,17 +49,17 @@ IsChecked group first total before piece (Err bad) =
     × ((r : Reason) → EvidentByPayload group r first total (before ++ take (bad.at + 1) piece) →
     number_of bad.reason ≤ number_of r)
 
--- What a piece of a Close's body was found to be, behind the part of it that came before. last: it ends the payload.
+-- The result of checking a piece of a Close's body, after the part `before`; `last`: the piece ends the payload.
 abbrev pub IsBodyChecked : List ℕ → List ℕ → Bool → Result PayloadCheck BadByte → Type 0
 IsBodyChecked before piece last result =
     (group : List Frame) (first total : ℕ) → opcode_field first ≡ 8 →
     (last ≡ true ↔ (length before + length piece ≡ total))
     → length before + length piece ≤ total → IsChecked group first total before piece result
 
--- What a piece of a text was found to be, behind the part taken. ends: the text ends with it.
-abbrev pub IsTextTaken : List ℕ → List ℕ → Bool → Reason → Reason → Result (Option (List Range)) BadByte → Type 0
-IsTextTaken taken piece ends bad cut (Ok utf8) =
+-- The result of checking a piece of a text, after the part `taken`; `ends`: the piece ends the text.
+abbrev pub IsTextConsumed : List ℕ → List ℕ → Bool → Reason → Reason → Result (Option (List Range)) BadByte → Type 0
+IsTextConsumed taken piece ends bad cut (Ok utf8) =
     HasValidated utf8 (taken ++ piece) × BeginsText (taken ++ piece) × (ends ≡ true → IsText (taken ++ piece))
-IsTextTaken taken piece ends bad cut (Err fault) =
+IsTextConsumed taken piece ends bad cut (Err fault) =
     ((fault.reason ≡ bad) × (fault.at < length piece) × IsFirstBad (taken ++ piece) (length taken + fault.at))
     ⊎ ((fault.reason ≡ cut) × (fault.at + 1 ≡ length piece) × (ends ≡ true) × EndsInside (taken ++ piece))

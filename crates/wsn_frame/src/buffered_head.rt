@@ -2,31 +2,32 @@ ghost use Rattle.std.specs.Prelude.{◌≡◌, ◌+◌, ◌<◌, ◌≤◌, List
 ghost use Rattle.wsn_wire.specs.declared.endpoint.Role.{Role};
 ghost use Rattle.wsn_wire.specs.Frame.{Frame};
 ghost use Rattle.wsn_frame.specs.OpenMessages.{IsOpenMessage};
-ghost use Rattle.wsn_frame.specs.PartialHeads.{IsInHead, HasLength, IsHeadAtFront, key_in};
+ghost use Rattle.wsn_frame.specs.PartialHeads.{IsInHead, HasLength, IsHeadPrefix, key_in};
 
 use crate::frame_context::FrameContext;
 use crate::partial_head::{Head, PartialHead};
 use wsn_wire::{FirstByte, LenForm, Role};
 
-/// The bytes of the longest head.
+/// The maximum length of a head in bytes.
 const HEAD_MAX: usize = 14;
 
-/// A payload's length, as the front of a frame spells it.
+/// A payload's length, as the start of a frame encodes it.
 #[derive(Clone, Copy)]
 struct Length {
-    spelled: LenForm,
+    encoded: LenForm,
     len: u64,
-    /// How many bytes of the frame stand up to its end.
+    /// The number of the frame's bytes up to the end of the length.
     end: usize,
 }
 
-/// The head at the front of the piece, and its size in bytes, where the piece is as long as the longest head,
-/// the length stands in at most two bytes of its own, and nothing is shown. `None` says nothing of the piece.
+/// Reads a complete head at the start of `piece`, with its size in bytes, if `piece` has at least 14 bytes, at most two
+/// length bytes follow the second byte, and the head is evidence for no refusal. `None` decides nothing about `piece`:
+/// its head can be read byte by byte.
 #[inline(always)]
 #[tactic(none)]
 pub fn whole_head(piece: &[u8], context: &FrameContext) -> Option<(usize, Head)>
     ensures { IfSome result
-        (λ found. IsHeadAtFront context.now.role context.now.limits context.now.message piece.now found.0 found.1) }
+        (λ found. IsHeadPrefix context.now.role context.now.limits context.now.message piece.now found.0 found.1) }
 {
     if piece.len() < HEAD_MAX {
         return None;
@@ -34,7 +35,7 @@ pub fn whole_head(piece: &[u8], context: &FrameContext) -> Option<(usize, Head)>
     let Some(first) = first_byte(piece[0], context) else {
         return None;
     };
-    let Some(length) = length_at_front(first, piece, context) else {
+    let Some(length) = length_at_start(first, piece, context) else {
         return None;
     };
     if context.is_too_big(first.op, length.len) {
@@ -46,14 +47,14 @@ pub fn whole_head(piece: &[u8], context: &FrameContext) -> Option<(usize, Head)>
     };
     let head = Head {
         first,
-        spelled: length.spelled,
+        encoded: length.encoded,
         len: length.len,
         key,
     };
     Some((size, head))
 }
 
-/// The four bytes of a key.
+/// The four bytes of a key, from offset `at` of the piece.
 fn key_at(piece: &[u8], at: usize) -> [u8; 4]
     requires { at + 4 ≤ length piece.now }
     ensures { result ≡ key_in piece.now at }
@@ -61,7 +62,7 @@ fn key_at(piece: &[u8], at: usize) -> [u8; 4]
     [piece[at], piece[at + 1], piece[at + 2], piece[at + 3]]
 }
 
-/// A first byte that shows nothing.
+/// Reads a first byte that is evidence for no refusal.
 #[inline(always)]
 #[tactic(none)]
 fn first_byte(byte: u8, context: &FrameContext) -> Option<FirstByte>
@@ -77,19 +78,19 @@ fn first_byte(byte: u8, context: &FrameContext) -> Option<FirstByte>
     }
 }
 
-/// A length that shows nothing by its spelling, behind the first byte of a piece.
+/// Reads the length after the first byte of a piece, if its bytes are evidence for no refusal.
 #[inline(always)]
-fn length_at_front(first: FirstByte, piece: &[u8], context: &FrameContext) -> Option<Length>
+fn length_at_start(first: FirstByte, piece: &[u8], context: &FrameContext) -> Option<Length>
     requires { HEAD_MAX ≤ length piece.now }
     ensures within { IfSome result (λ found. (0 < found.end) × (found.end ≤ 4)) }
     ensures reported { IfSome result (λ found. (group : List Frame) →
         IsInHead context.now.role context.now.limits group (PartialHead.First first) (take 1 piece.now) →
-        HasLength context.now.role context.now.limits group first found.spelled found.len (take found.end piece.now)) }
+        HasLength context.now.role context.now.limits group first found.encoded found.len (take found.end piece.now)) }
 {
-    let Ok(spelled) = wsn_wire::second(first, context.role, piece[1]) else {
+    let Ok(encoded) = wsn_wire::second(first, context.role, piece[1]) else {
         return None;
     };
-    let (len, end) = match spelled {
+    let (len, end) = match encoded {
         LenForm::Short(len) => (u64::from(len), 2),
         LenForm::Two => match wsn_wire::two([piece[2], piece[3]], context.limits.lengths()) {
             Ok(len) => (len, 4),
@@ -97,5 +98,5 @@ fn length_at_front(first: FirstByte, piece: &[u8], context: &FrameContext) -> Op
         },
         LenForm::Eight => return None,
     };
-    Some(Length { spelled, len, end })
+    Some(Length { encoded, len, end })
 }

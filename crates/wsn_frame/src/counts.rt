@@ -1,11 +1,15 @@
 use wsn_wire::Op;
 
-/// How many whole frames came, and how many of them ended a message or were a ping or a pong.
+/// The number of complete frames, and how many of them end a message, are pings, or are pongs.
 #[derive(Clone, Copy)]
 pub struct Counts {
+    /// All frames.
     pub frames: u64,
+    /// The final data frames.
     pub messages: u64,
+    /// The pings.
     pub pings: u64,
+    /// The pongs.
     pub pongs: u64,
 }
 
@@ -13,7 +17,7 @@ impl Counts {
     ghost use Rattle.std.specs.Prelude.{◌≡◌, ◌+◌, ◌<◌, ◌^◌, List, [], ◌∷◌, ◌++◌, length};
     ghost use Rattle.wsn_frame.specs.Words.{Frame, AreCounts};
 
-    /// No frame.
+    /// The counts of no frames.
     #[tactic(none)]
     pub fn new() -> Counts
         ensures { AreCounts result [] }
@@ -26,7 +30,7 @@ impl Counts {
         }
     }
 
-    /// One frame more.
+    /// The counts with one more frame, which has this FIN and this opcode.
     #[tactic(none)]
     pub fn with(self, fin: bool, op: Op) -> Counts
         ensures { (fs : List Frame) (f : Frame) → AreCounts self fs → length fs < 2 ^ 63 → f.fin ≡ fin → f.op ≡ op →

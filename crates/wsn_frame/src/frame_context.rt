@@ -1,30 +1,32 @@
-//! The rules of messages that a head shows: which data frame may stand behind which, and how large a message may be.
+//! The rules of messages for a head: which data frame may follow which, and how long a message may be.
 
 use crate::open_message::OpenMessage;
 use wsn_rules::Limits;
 use wsn_wire::{Op, Reason, Role};
 
-/// What a frame is read under: the endpoint that sent it, the limits, and the message that is open before it.
+/// The context in which a frame is read.
 #[derive(Clone, Copy)]
 pub struct FrameContext {
+    /// The endpoint that sent the frame.
     pub role: Role,
+    /// The limits.
     pub limits: Limits,
+    /// The message that is open before the frame, if there is one.
     pub message: Option<OpenMessage>,
 }
 
 impl FrameContext {
-    ghost use Rattle.std.specs.Prelude.{◌≡◌, ℕ, ◌+◌, ◌<◌, ◌↔◌, List, length, MatchOption, IsTrue};
-    ghost use Rattle.wsn_frame.specs.Words.{Frame, opcode, opcode_field, IsFirstShown, ShownByFirst, text_of, IsDataOpcode, EvidentByFirst, IsOpenMessage};
+    ghost use Rattle.std.specs.Prelude.{◌≡◌, ℕ, ◌+◌, ◌<◌, ◌↔◌, List, length, IsTrue};
+    ghost use Rattle.wsn_frame.specs.Words.{Frame, opcode, opcode_field, IsFirstOrNone, EvidentInFirst, payload_of, IsDataOpcode, EvidentByFirst, IsOpenMessage};
 
-    /// Why a frame may not stand behind the open message, by its opcode (RFC 6455 section 5.4), or by how many
-    /// frames the message has (section 10.4).
+    /// The reason to refuse a frame for its opcode after the open message (RFC 6455 section 5.4), or because the
+    /// message already has the maximum number of frames (section 10.4). `None` if there is no such reason.
     #[inline(always)]
     #[tactic(none)]
     pub fn misplaced(&self, op: Op) -> Option<Reason>
         ensures { (group : List Frame) (first : ℕ) → IsOpenMessage self.now.message group →
-            opcode_field first ≡ opcode op → ((reason : Reason) → ¬ (ShownByFirst reason first)) →
-            MatchOption result ((reason : Reason) → ¬ (EvidentByFirst self.now.limits group reason first)) (λ reason.
-            IsFirstShown (λ other. EvidentByFirst self.now.limits group other first) reason) }
+            opcode_field first ≡ opcode op → ((reason : Reason) → ¬ (EvidentInFirst reason first)) →
+            IsFirstOrNone (λ reason. EvidentByFirst self.now.limits group reason first) result }
     {
         match self.message {
             None => match op {
@@ -45,7 +47,7 @@ impl FrameContext {
         }
     }
 
-    /// Whether the message has as many frames as it may (RFC 6455 section 10.4).
+    /// Whether the message has the maximum number of frames (RFC 6455 section 10.4).
     #[tactic(none)]
     fn has_all_frames(&self, message: OpenMessage) -> bool
         ensures { IsTrue result ↔ (self.now.limits.frames ≡ Some message.frames) }
@@ -56,12 +58,13 @@ impl FrameContext {
         }
     }
 
-    /// Whether the message passes the limit with a payload of `len` bytes more (RFC 6455 section 10.4).
+    /// Whether a data frame with `len` bytes of payload makes the message longer than its limit (RFC 6455 section
+    /// 10.4). `false` for a control frame.
     #[inline(always)]
     #[tactic(none)]
     pub fn is_too_big(&self, op: Op, len: u64) -> bool
         ensures { (group : List Frame) → IsOpenMessage self.now.message group →
-            IsTrue result ↔ (IsDataOpcode (opcode op) × (self.now.limits.message < length (text_of group) + len)) }
+            IsTrue result ↔ (IsDataOpcode (opcode op) × (self.now.limits.message < length (payload_of group) + len)) }
     {
         let size = match self.message {
             Some(message) => u64::from(message.size),

@@ -1,11 +1,11 @@
-//! One frame of a stream, as its bytes come (RFC 6455 sections 5.2 to 5.6).
+//! Reads one frame of a stream as its bytes arrive (RFC 6455 sections 5.2 to 5.6).
 //!
-//! [`FrameContext`] is what a frame is read under: the endpoint that sent it, the limits, and the message that is
-//! open before it. Its head comes byte by byte ([`PartialHead`]), or whole from a buffer ([`whole_head`]); its
-//! payload is unmasked in place ([`unmask`]) and checked piece by piece ([`PayloadCheck`]). [`message_after`] and
-//! [`Counts`] say what is open and what is counted behind it. Nothing here keeps a payload, and nothing takes memory.
+//! [`FrameContext`] is the context of a frame: the endpoint that sent it, the limits, and the message that is open
+//! before it. The head is read byte by byte ([`PartialHead`]), or at once from a buffer ([`whole_head`]). The payload
+//! is unmasked in place ([`unmask`]) and checked piece by piece ([`PayloadCheck`]). [`message_after`] and [`Counts`]
+//! give the open message and the counts after the frame. Nothing here keeps a payload or allocates.
 //!
-//! These types are plain data. What a value means, where such bytes came of a frame, the definitions of `specs/` say.
+//! These types are plain data. The definitions in `specs/` relate their values to the bytes of a frame.
 #![tactic(auto)]
 
 mod buffered_head;

@@ -5,18 +5,19 @@ use crate::payload_check::PayloadCheck;
 use wsn_text::Utf8;
 use wsn_wire::Op;
 
-/// The message that is open, in whole frames.
+/// The open message, up to its last complete frame.
 #[derive(Clone, Copy)]
 pub struct OpenMessage {
-    /// How its text stands; `None` for a binary message.
+    /// The state of its text; `None` for a binary message.
     pub text: Option<Utf8>,
-    /// The bytes of its payloads.
+    /// The total length of its payloads in bytes.
     pub size: u32,
-    /// The frames that it has so far.
+    /// The number of its frames so far.
     pub frames: u64,
 }
 
-/// The message that is open behind one frame more, whose payload was checked so.
+/// The message that is open after one more frame; `check` is the result of checking the frame's payload. `None` if no
+/// message is open.
 #[tactic(none)]
 pub fn message_after(
     message: Option<OpenMessage>,
@@ -37,7 +38,7 @@ pub fn message_after(
     }
 }
 
-/// The message with one fragment more.
+/// The message with one more fragment.
 #[tactic(none)]
 fn longer(message: Option<OpenMessage>, len: u64, check: &PayloadCheck) -> OpenMessage
     ensures { IsOneFragmentMore message len check.now result }

@@ -9,43 +9,46 @@ ghost use Rattle.wsn_text.specs.Utf8.{BeginsText};
 ghost use Rattle.wsn_text.specs.Validated.{HasValidated};
 ghost use Rattle.wsn_rules.specs.Evidence.{EvidentByPayload};
 ghost use Rattle.wsn_frame.specs.OpenMessages.{IsOpenMessage};
-ghost use Rattle.wsn_frame.specs.PayloadChecks.{HasChecked, IsChecked, IsBody, IsBodyChecked, IsTextTaken};
+ghost use Rattle.wsn_frame.specs.PayloadChecks.{HasChecked, IsChecked, IsBody, IsBodyChecked, IsTextConsumed};
 
 use crate::open_message::OpenMessage;
 use wsn_text::{Utf8, code_allowed};
 use wsn_wire::{FirstByte, Op, Reason};
 
-/// What a payload's bytes are checked for, and how far (RFC 6455 sections 5.5.1, 5.6 and 8.1).
+/// The check of a frame's payload, and its state after the bytes so far (RFC 6455 sections 5.5.1, 5.6 and 8.1).
 #[derive(Clone, Copy)]
 pub enum PayloadCheck {
-    /// A binary message, a ping or a pong: any bytes.
+    /// No check: a binary message, a ping or a pong.
     Free,
-    /// The joined text of a message.
+    /// The text of a message, over all its frames.
     Text(Utf8),
-    /// A Close's body.
+    /// The body of a Close.
     Close(CloseBody),
 }
 
-/// A Close's body as far as it came.
+/// A Close's body so far.
 #[derive(Clone, Copy)]
 pub enum CloseBody {
+    /// No byte.
     Empty,
     /// The first byte of the code.
     HalfCode(u8),
-    /// The code, and how the reason stands.
+    /// The code, and the state of the reason.
     Code(u16, Utf8),
 }
 
-/// The first byte of a piece that shows a reason, counted from 0, and the reason.
+/// The first byte of a piece that is evidence for a reason, and the reason.
 #[derive(Clone, Copy)]
 pub struct BadByte {
+    /// The offset of the byte in the piece, from 0.
     pub at: usize,
+    /// The reason to refuse the stream.
     pub reason: Reason,
 }
 
 impl PayloadCheck {
-    /// What the payload of a frame with this first byte is checked for, behind the message that is open. A
-    /// frame goes on with an open message, and begins one only where none is open (RFC 6455 section 5.4).
+    /// The check of the payload of a frame with this first byte, after the open message. The frame must continue an
+    /// open message, begin one while none is open, or be a control frame (RFC 6455 section 5.4).
     #[tactic(none)]
     pub fn new(first: FirstByte, message: Option<OpenMessage>) -> PayloadCheck
         ensures { (group : List Frame) → IsOpenMessage message group → (first.op ≡ Continue → group ≢ [])
@@ -63,12 +66,12 @@ impl PayloadCheck {
         }
     }
 
-    /// Takes the next bytes of the payload, unmasked. `fin` is the frame's, and `last` says whether they end its
-    /// payload.
+    /// Checks the next bytes of the payload, which are unmasked. `fin` is the frame's FIN; `last` says whether the
+    /// bytes end its payload.
     ///
     /// # Errors
     ///
-    /// The first byte that shows `CloseCode`, `CloseReason`, `TextBad` or `TextCut`.
+    /// The first byte that is evidence for `CloseCode`, `CloseReason`, `TextBad` or `TextCut`, with that reason.
     #[inline(always)]
     pub fn feed(self, piece: &[u8], fin: bool, last: bool) -> Result<PayloadCheck, BadByte>
         requires { 0 < length piece.now }
@@ -87,7 +90,7 @@ impl PayloadCheck {
         }
     }
 
-    /// Whether a final frame that has no payload cuts the message's text.
+    /// Whether a frame with an empty payload ends the message inside a character; `fin` is the frame's FIN.
     #[tactic(none)]
     pub fn is_cut(&self, fin: bool) -> bool
         ensures { (group : List Frame) (first : ℕ) → HasChecked group first self.now [] → fin_bit first ≡ fin
@@ -102,7 +105,7 @@ impl PayloadCheck {
 }
 
 impl CloseBody {
-    /// The code that a whole body holds.
+    /// The code in a complete body; `None` if the body is empty.
     #[tactic(none)]
     pub fn code(self) -> Option<u16>
         ensures { (payload : List ℕ) → IsBody self payload → length payload ≢ 1 → result ≡ close_code payload }
@@ -113,7 +116,7 @@ impl CloseBody {
         }
     }
 
-    /// Takes the next bytes of the body, as [`PayloadCheck::feed`] does.
+    /// Checks the next bytes of the body, as [`PayloadCheck::feed`] does.
     #[tactic(none)]
     fn feed(self, piece: &[u8], last: bool) -> Result<PayloadCheck, BadByte>
         requires { 0 < length piece.now }
@@ -135,8 +138,8 @@ impl CloseBody {
     }
 }
 
-/// Takes a Close's code (RFC 6455 section 7.4), whose second byte stands at `at` of a piece, and the `rest` of
-/// that piece.
+/// Checks a Close's code (RFC 6455 section 7.4), whose second byte is at offset `at` of a piece, and the `rest` of that
+/// piece.
 fn feed_code(code: [u8; 2], at: usize, rest: &[u8], last: bool) -> Result<PayloadCheck, BadByte>
     requires { at + length rest.now < 2 ^ 63 }
     ensures within { IfErr result (λ bad. bad.at ≤ at + 1 + length rest.now) }
@@ -162,19 +165,19 @@ fn feed_code(code: [u8; 2], at: usize, rest: &[u8], last: bool) -> Result<Payloa
     }
 }
 
-/// Takes more of a Close's reason (RFC 6455 section 5.5.1).
+/// Checks more of a Close's reason (RFC 6455 section 5.5.1).
 fn feed_reason(reason: Utf8, piece: &[u8], last: bool) -> Result<Utf8, BadByte>
     requires { 0 < length piece.now }
     ensures within { IfErr result (λ bad. bad.at ≤ length piece.now) }
     ensures taken { (taken : List ℕ) → HasValidated reason taken → BeginsText taken
-        → IsTextTaken taken piece.now last CloseReason CloseReason result }
+        → IsTextConsumed taken piece.now last CloseReason CloseReason result }
 {
-    let shown = Reason::CloseReason;
-    feed_text(reason, piece, last, shown, shown)
+    let is_evident = Reason::CloseReason;
+    feed_text(reason, piece, last, is_evident, is_evident)
 }
 
-/// Takes more of a text, which ends with this piece if `ends` is true. The reason is `bad` where a byte can't
-/// follow, and `cut` where the text ends inside a character (RFC 6455 section 8.1).
+/// Checks more of a text, which ends with this piece if `ends` is true. The reason of an error is `bad` at a byte that
+/// cannot follow, and `cut` if the text ends inside a character (RFC 6455 section 8.1).
 #[inline(always)]
 #[tactic(none)]
 fn feed_text(
@@ -187,7 +190,7 @@ fn feed_text(
     requires { 0 < length piece.now }
     ensures within { IfErr result (λ bad. bad.at ≤ length piece.now) }
     ensures taken { (taken : List ℕ) → HasValidated utf8 taken → BeginsText taken
-        → IsTextTaken taken piece.now ends bad cut result }
+        → IsTextConsumed taken piece.now ends bad cut result }
 {
     utf8.feed(piece).map_err(|at| BadByte { at, reason: bad })?;
     if ends && !utf8.is_whole() {

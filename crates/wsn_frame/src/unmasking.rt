@@ -3,8 +3,8 @@ ghost use Rattle.wsn_frame.specs.Payloads.{unmasked_by};
 
 use wsn_wire::mask;
 
-/// Masks or unmasks bytes of a payload in place, if there is a key (RFC 6455 section 5.3). The first of them stands
-/// at `start` of the payload, counted from 0.
+/// Masks or unmasks bytes of a payload in place, if there is a key (RFC 6455 section 5.3). `start` is the offset of the
+/// first of them in the payload, from 0.
 #[inline(always)]
 #[tactic(none)]
 pub fn unmask(key: Option<[u8; 4]>, start: u64, bytes: &mut [u8])

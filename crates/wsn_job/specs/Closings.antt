@@ -1,20 +1,23 @@
--- What judging a capture prints and tells, and the exit status.
-use Rattle.std.specs.Prelude.{◌≡◌, ℕ, Result, Ok, Err, List, ◌++◌, codes, decimal}
-use Rattle.wsn_wire.specs.Transfer.{Incoming, Outgoing, IsWritten, IsPartlyWritten}
+-- What `closing` prints on standard output and standard error, and its exit status.
+use Rattle.std.specs.Prelude.{◌≡◌, ℕ, Result, Ok, Err, List}
+use Rattle.wsn_io.specs.Transfer.{Incoming, Outgoing, IsWritten, IsPartlyWritten}
 use Rattle.wsn_rules.specs.Limits.{Limits}
-use Rattle.wsn_capture.specs.declared.report.Outcome.{Outcome}
-use Rattle.wsn_capture.specs.declared.report.Outcome.TheVariants.{Clean, Complete}
-use Rattle.wsn_capture.specs.declared.report.Report.{Report}
+use Rattle.wsn_rules.specs.declared.report.Report.{Report}
 use Rattle.wsn_capture.specs.declared.capture_stop.CaptureStop.TheVariants as capture
 use Rattle.wsn_capture.specs.CaptureAnswers.{IsCaptureJudged}
 use Rattle.wsn_capture.specs.LineFaults.{fault_word}
-use Rattle.wsn_capture.specs.ReportLines.{report_lines}
+use Rattle.wsn_io.specs.declared.stop.Stop.TheVariants as stop
+use Rattle.wsn_print.specs.FaultText.{line_fault_line}
+use Rattle.wsn_print.specs.ReportText.{report_lines}
+use Rattle.wsn_print.specs.Statuses.{outcome_status}
+use Rattle.wsn_print.specs.StopText.{stop_line}
 use Rattle.wsn_job.specs.declared.closings.ClosingStop.{ClosingStop}
 use Rattle.wsn_job.specs.declared.closings.ClosingStop.TheVariants.{Capture, Write}
-use Rattle.wsn_verdicts.specs.Telling.{IsToldOn}
+use Rattle.wsn_job.specs.Channels.{Channels}
+use Rattle.wsn_job.specs.Diagnostics.{IsDiagnosed}
 
--- The report's lines were printed, and before a stop nothing; where a write failed, there is a report, and a prefix of
--- its lines was.
+-- The report's lines were printed; before a stop, nothing was. If a write failed, there is a report, and a prefix of
+-- its lines was printed.
 abbrev pub IsReportPrinted : Limits → Incoming → Incoming → Outgoing → Outgoing → Result Report ClosingStop → Type 0
 IsReportPrinted limits old new before after (Ok report) =
     IsCaptureJudged limits old new (Ok report) × IsWritten before after (report_lines report)
@@ -23,30 +26,24 @@ IsReportPrinted limits old new before after (Err (Capture stopped)) =
 IsReportPrinted limits old new before after (Err Write) =
     (report : Report) × IsCaptureJudged limits old new (Ok report) × IsPartlyWritten before after (report_lines report)
 
--- 0 where both sides sent a Close, and else 1
-abbrev pub outcome_status : Outcome → ℕ
-outcome_status Clean = 0
-outcome_status Complete = 0
-outcome_status outcome = 1
-
--- 2 at a stop
+-- the exit status for a report or a stop: 2 for a stop
 abbrev pub closing_status : Result Report ClosingStop → ℕ
 closing_status (Ok report) = outcome_status report.outcome
 closing_status (Err stopped) = 2
 
--- The line of a stop. Lines of the capture are counted from 1.
+-- the line for a stop; lines of the capture are counted from 1
 abbrev pub closing_stop_line : ClosingStop → List ℕ
-closing_stop_line (Capture capture.Read) = codes "read failed\n"
-closing_stop_line (Capture (capture.Line number fault)) =
-    codes "line " ++ decimal number ++ codes ": " ++ fault_word fault ++ codes "\n"
-closing_stop_line Write = codes "write failed\n"
+closing_stop_line (Capture capture.Read) = stop_line stop.Read
+closing_stop_line (Capture (capture.Line number fault)) = line_fault_line number (fault_word fault)
+closing_stop_line Write = stop_line stop.Write
 
--- A stop is told in its line.
-abbrev pub IsClosingTold : Result Report ClosingStop → Outgoing → Outgoing → Type 0
-IsClosingTold (Ok report) old new = new ≡ old
-IsClosingTold (Err stopped) old new = IsToldOn old new (closing_stop_line stopped)
+-- A stop is reported in its line; for a report nothing is written to standard error.
+abbrev pub IsClosingDiagnosed : Result Report ClosingStop → Outgoing → Outgoing → Type 0
+IsClosingDiagnosed (Ok report) old new = new ≡ old
+IsClosingDiagnosed (Err stopped) old new = IsDiagnosed old new (closing_stop_line stopped)
 
--- `closing`: the input, the first output and the second, before and after, and the exit status.
-abbrev pub IsClosingRun : Limits → Incoming → Incoming → Outgoing → Outgoing → Outgoing → Outgoing → ℕ → Type 0
-IsClosingRun limits old new before after quiet told status = (done : Result Report ClosingStop)
-    × IsReportPrinted limits old new before after done × (status ≡ closing_status done) × IsClosingTold done quiet told
+-- `closing`: its channels before and after, and the exit status, are of one answer.
+abbrev pub IsClosingRun : Limits → Channels → Channels → ℕ → Type 0
+IsClosingRun limits before after status = (done : Result Report ClosingStop)
+    × IsReportPrinted limits before.input after.input before.output after.output done
+    × (status ≡ closing_status done) × IsClosingDiagnosed done before.errors after.errors

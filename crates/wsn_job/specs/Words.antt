@@ -1,3 +1,14 @@
--- The words that the clauses in src/ use, passed on.
+-- The names that the clauses in src/ use, re-exported.
+pub use Rattle.wsn_io.specs.Transfer.{IsWrittenUpToFailure}
+pub use Rattle.wsn_io.specs.declared.stop.Stop.{Stop}
+pub use Rattle.wsn_rules.specs.declared.compared.Compared.{Compared}
+pub use Rattle.wsn_print.specs.ComparisonText.{comparison_line}
+pub use Rattle.wsn_print.specs.FaultText.{unfinished_line}
+pub use Rattle.wsn_print.specs.Statuses.{comparison_status, verdict_status}
+pub use Rattle.wsn_print.specs.StopText.{stop_line}
+pub use Rattle.wsn_print.specs.VerdictText.{verdict_line}
 pub use Rattle.wsn_plan.specs.Recutting.{IsRecut}
-pub use Rattle.wsn_job.specs.Recuts.{IsRecutRun, IsRecutTold, MayCut, planned_by, recut_status, fault_line}
+pub use Rattle.wsn_job.specs.Comparisons.{IsComparisonPrinted}
+pub use Rattle.wsn_job.specs.Diagnostics.{IsStopDiagnosed, IsDiagnosed}
+pub use Rattle.wsn_job.specs.Recuts.{IsRecutRun, IsRecutDiagnosed, MayRecut, planned_by, recut_status}
+pub use Rattle.wsn_job.specs.Verdicts.{IsVerdictPrinted, IsVerdictDiagnosed, IsJudgeRun, IsFramesRun, IsNormalRun}

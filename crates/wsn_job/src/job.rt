@@ -1,6 +1,6 @@
 ghost use Rattle.std.specs.Prelude.{◌≡◌, ◌↔◌, ◌⊎◌, None, IsSome, IfSome};
 ghost use Rattle.wsn_wire.specs.declared.endpoint.Role.TheVariants.{Server};
-ghost use Rattle.wsn_job.specs.Recuts.{MayCut, key_by_size};
+ghost use Rattle.wsn_job.specs.Recuts.{MayRecut, key_by_size};
 ghost use Rattle.wsn_job.specs.declared.job.How.TheVariants.{BySize};
 
 use std::alloc::{Allocator, Global};
@@ -8,30 +8,30 @@ use wsn_plan::Plan;
 use wsn_scan::Limits;
 use wsn_wire::Role;
 
-/// The work of one command.
+/// The work of one command over one input.
 #[derive(Drop)]
 pub enum Job<A: Allocator = Global> {
     /// Print the verdict on the stream that this endpoint sent.
     Judge(Role, Limits),
-    /// Print a line for each of its frames, and then the verdict.
+    /// Print a line for each of the stream's frames, and then the verdict.
     Frames(Role, Limits),
-    /// Write the normal form of what it means.
+    /// Write the normal form of the stream's meaning.
     Normal(Role, Limits),
-    /// Print the plan of its own frames.
+    /// Print the plan of the stream's own frames.
     Plan(Role, Limits),
-    /// Write what it means in frames that are cut in another way.
+    /// Write the stream's meaning in other frames.
     Recut(Role, Limits, How<A>),
-    /// Print how the connection closed whose capture is read.
+    /// Print how the connection closed, from a capture of both sides.
     Closing(Limits),
 }
 
-/// How a stream is cut again.
+/// How a stream is recut.
 #[derive(Drop)]
 pub enum How<A: Allocator = Global> {
     /// By the steps of a plan.
     ByPlan(Plan<A>),
-    /// In frames of `size` bytes and the rest of each message, each of them with this key. With `weave` the first
-    /// frame of a message that has several stands in front of the controls directly before it.
+    /// Into frames of `size` bytes, and a last frame with the rest of each message, all with this key. With `weave`,
+    /// the first of a message's several frames comes before the controls directly before the message.
     BySize {
         size: u32,
         weave: bool,
@@ -40,11 +40,13 @@ pub enum How<A: Allocator = Global> {
 }
 
 impl<A: Allocator> How<A> {
-    /// Frames of `size` bytes. A client's have this key, or one of zeros; a server's have none. `None` for frames of
-    /// no bytes, and for a server's frames with a key (RFC 6455 section 5.1).
+    /// A recut into frames of `size` bytes. A client's frames have this key, or a key of zeros; a server's have none
+    /// (RFC 6455 section 5.1).
+    ///
+    /// `None` for a size of 0, and for a server with a key.
     #[tactic(none)]
     pub fn by_size(role: Role, size: u32, weave: bool, key: Option<[u8; 4]>) -> Option<Self>
-        ensures may { IfSome result (MayCut role) }
+        ensures may { IfSome result (MayRecut role) }
         ensures how { IfSome result (λ how. how ≡ BySize size weave (key_by_size role key)) }
         ensures none { result ≡ None ↔ ((size ≡ 0) ⊎ ((role ≡ Server) × IsSome key)) }
     {

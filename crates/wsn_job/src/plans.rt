@@ -1,14 +1,17 @@
 ghost use Rattle.std.specs.Prelude.{◌≡◌, false, true};
-ghost use Rattle.wsn_job.specs.Plans.{IsPlanRun, IsPlanPrinted, IsPlanTold, plan_status};
+ghost use Rattle.wsn_job.specs.Plans.{IsPlanRun, IsPlanPrinted, IsPlanDiagnosed, plan_status};
+ghost use Rattle.wsn_job.specs.Channels.{channels};
 
+use crate::diagnostics::{diagnose, diagnose_stop, diagnose_verdict};
 use std::alloc::Allocator;
 use std::io::{Read, Write};
 use wsn_plan::{PlanAnswer, plan_of, write_plan};
+use wsn_print::line_of_unfinished;
 use wsn_scan::{Limits, Stop};
-use wsn_verdicts::{tell, tell_stop, tell_verdict};
 use wsn_wire::{Input, Output, Role};
 
-/// Prints the plan of the input's own frames, and tells what keeps it from that.
+/// Prints the plan of the stream's own frames and returns the exit status. An answer without a plan, or a stop, is
+/// reported on `errors`.
 pub(crate) fn run_plan<A: Allocator + Copy, R: Read, W: Write, E: Write>(
     alloc: A,
     input: &mut Input<R>,
@@ -19,12 +22,13 @@ pub(crate) fn run_plan<A: Allocator + Copy, R: Read, W: Write, E: Write>(
 ) -> u8
     requires readable { input.old.failed ≡ false }
     requires writable { output.old.failed ≡ false }
-    ensures done { IsPlanRun A role limits input.old input.new output.old output.new errors.old errors.new result }
+    ensures done { IsPlanRun A role limits (channels input.old output.old errors.old)
+        (channels input.new output.new errors.new) result }
     ensures read { input.new.failed ≡ true → result ≡ 2 }
     ensures write { output.new.failed ≡ true → result ≡ 2 }
 {
     let done = print_plan(alloc, input, role, limits, output);
-    tell_answer(&done, errors);
+    diagnose_answer(&done, errors);
     status(&done)
 }
 
@@ -49,18 +53,21 @@ fn print_plan<A: Allocator + Copy, R: Read, W: Write>(
 }
 
 #[tactic(none)]
-fn tell_answer<A: Allocator, E: Write>(done: &Result<PlanAnswer<A>, Stop>, errors: &mut Output<E>)
-    ensures { IsPlanTold done.now errors.old errors.new }
+fn diagnose_answer<A: Allocator, E: Write>(
+    done: &Result<PlanAnswer<A>, Stop>,
+    errors: &mut Output<E>,
+)
+    ensures { IsPlanDiagnosed done.now errors.old errors.new }
 {
     match done {
         Ok(PlanAnswer::Plan(_)) => {}
-        Ok(PlanAnswer::NotAccepted(verdict)) => tell_verdict(errors, verdict),
-        Ok(PlanAnswer::Unfinished) => tell(errors, b"unfinished\n"),
-        Err(stop) => tell_stop(errors, *stop),
+        Ok(PlanAnswer::NotAccepted(verdict)) => diagnose_verdict(errors, verdict),
+        Ok(PlanAnswer::Unfinished) => diagnose(errors, line_of_unfinished()),
+        Err(stop) => diagnose_stop(errors, *stop),
     }
 }
 
-/// The exit status of an answer or a stop.
+/// The exit status for an answer or a stop.
 #[tactic(none)]
 fn status<A: Allocator>(done: &Result<PlanAnswer<A>, Stop>) -> u8
     ensures { result ≡ plan_status done.now }

@@ -1,4 +1,4 @@
--- The events from a place on, and the first message among them.
+-- The events from an index on, and the first message among them.
 use Rattle.std.proofs.Common.{◌≡◌, ◌≢◌, ℕ, ◌+◌, ◌<◌, ◌≤◌, Option, None, Some, MatchOption, is_some, true, false, List, [], ◌∷◌, length, drop, map, get_or, refl, sym, ap, ◌∙◌, drop-drop, arith}
 use Rattle.std.proofs.lemmas.List.{drop-map, drop_more, length-drop, length-map}
 use Rattle.std.proofs.Math.ListN.{drop_of_length-le}
@@ -6,44 +6,50 @@ use Rattle.wsn_rules.specs.Meaning.{MeantEvent}
 use Rattle.wsn_rules.specs.Meaning as meant_event
 use Rattle.wsn_rules.specs.Plan.{next_text}
 use Rattle.wsn_rules.specs.Fault.{BeginsWithMessage, BeginsWithControl}
-use Rattle.wsn_canon.specs.declared.event.Event.{Event}
-use Rattle.wsn_canon.specs.declared.event.Event.TheVariants as events
-use Rattle.wsn_canon.specs.EventsMeant.{meant}
+use Rattle.wsn_plan.specs.declared.kept.Kept.{Kept}
+use Rattle.wsn_plan.specs.declared.kept.Kept.TheVariants as kepts
+use Rattle.wsn_plan.specs.KeptEvents.{kept_meant}
 use Rattle.wsn_plan.specs.declared.walking.Walk.{Walk}
 use Rattle.wsn_plan.specs.Walking.{from_message, IsPlaced, IsControl, IsMessageOf}
 
--- ---- one event, and those behind it
+-- ---- one event, and those after it
 
-pub drop_meant : {A : Type 0} (es : List (Event A)) (at : ℕ) (d : Event A) → at < length es → drop at (map meant es) ≡ meant (get_or es at d) ∷ drop (at + 1) (map meant es)
+-- the values from an index on, by what they mean
+pub stands_for : {E : Type 0} (mean : E → MeantEvent) (es : List E) (at : ℕ) (d : E) → at < length es → d ≡ get_or es at d
+    → drop at (map mean es) ≡ mean d ∷ drop (at + 1) (map mean es)
+stands_for {E} mean es at d less is =
+    drop-map mean at es ∙ ap (map mean) (drop_more es at d less)
+    ∙ ap (λ (later : List MeantEvent). mean (get_or es at d) ∷ later) (sym (drop-map mean (at + 1) es))
+    ∙ ap (λ (e : E). mean e ∷ drop (at + 1) (map mean es)) (sym is)
+
+pub drop_meant : {A : Type 0} (es : List (Kept A)) (at : ℕ) (d : Kept A) → at < length es → drop at (map kept_meant es) ≡ kept_meant (get_or es at d) ∷ drop (at + 1) (map kept_meant es)
 drop_meant es at d less =
-    drop-map meant at es ∙ ap (map meant) (drop_more es at d less)
-    ∙ ap (λ (later : List MeantEvent). meant (get_or es at d) ∷ later) (sym (drop-map meant (at + 1) es))
+    drop-map kept_meant at es ∙ ap (map kept_meant) (drop_more es at d less)
+    ∙ ap (λ (later : List MeantEvent). kept_meant (get_or es at d) ∷ later) (sym (drop-map kept_meant (at + 1) es))
 
-pub drop_none : {A : Type 0} (es : List (Event A)) (at : ℕ) → length es ≤ at → drop at (map meant es) ≡ []
-drop_none es at past = drop_of_length-le (map meant es) (omega (arith, length-map es meant))
+pub drop_none : {A : Type 0} (es : List (Kept A)) (at : ℕ) → length es ≤ at → drop at (map kept_meant es) ≡ []
+drop_none es at past = drop_of_length-le (map kept_meant es) (omega (arith, length-map es kept_meant))
 
-pub no_message : {A : Type 0} (e : Event A) → ((kind : _) (text : _) → e ≡ events.Message kind text → ⊥) → IsControl (meant e)
-no_message (events.Message kind text) none = absurd (none kind text refl)
-no_message (events.Ping body) none = (_, _, refl)
-no_message (events.Pong body) none = (_, _, refl)
-no_message (events.Close held) none = (_, _, refl)
+pub no_message : {A : Type 0} (e : Kept A) → ((kind : _) (text : _) → e ≡ kepts.Message kind text → ⊥) → IsControl (kept_meant e)
+no_message (kepts.Message kind text) none = absurd (none kind text refl)
+no_message (kepts.Control op body) none = (_, _, refl)
 
-pub past_a_control : {A : Type 0} (es : List (Event A)) (at : ℕ) (d : Event A) → at < length es → d ≡ get_or es at d → IsControl (meant d)
-    → from_message (drop at (map meant es)) ≡ from_message (drop (at + 1) (map meant es))
+pub past_a_control : {A : Type 0} (es : List (Kept A)) (at : ℕ) (d : Kept A) → at < length es → d ≡ get_or es at d → IsControl (kept_meant d)
+    → from_message (drop at (map kept_meant es)) ≡ from_message (drop (at + 1) (map kept_meant es))
 past_a_control es at d less is (op, body, control) =
-    ap from_message (drop_meant es at d less ∙ ap (λ (e : MeantEvent). e ∷ drop (at + 1) (map meant es)) (ap meant (sym is) ∙ control))
+    ap from_message (drop_meant es at d less ∙ ap (λ (e : MeantEvent). e ∷ drop (at + 1) (map kept_meant es)) (ap kept_meant (sym is) ∙ control))
 
-pub stands_at : {A : Type 0} (es : List (Event A)) (at : ℕ) (d : Event A) → at < length es → d ≡ get_or es at d → drop at (map meant es) ≡ meant d ∷ drop (at + 1) (map meant es)
-stands_at {A} es at d less is = drop_meant es at d less ∙ ap (λ (e : Event A). meant e ∷ drop (at + 1) (map meant es)) (sym is)
+pub stands_at : {A : Type 0} (es : List (Kept A)) (at : ℕ) (d : Kept A) → at < length es → d ≡ get_or es at d → drop at (map kept_meant es) ≡ kept_meant d ∷ drop (at + 1) (map kept_meant es)
+stands_at {A} es at d less is = drop_meant es at d less ∙ ap (λ (e : Kept A). kept_meant e ∷ drop (at + 1) (map kept_meant es)) (sym is)
 
-pub message_there : {A : Type 0} (es : List (Event A)) (at len : ℕ) (d : Event A) → at < length es → d ≡ get_or es at d → IsMessageOf (meant d) len → BeginsWithMessage (drop at (map meant es))
+pub message_there : {A : Type 0} (es : List (Kept A)) (at len : ℕ) (d : Kept A) → at < length es → d ≡ get_or es at d → IsMessageOf (kept_meant d) len → BeginsWithMessage (drop at (map kept_meant es))
 message_there es at len d less is (kind, text, message, size) =
-    (kind, text, drop (at + 1) (map meant es), stands_at es at d less is ∙ ap (λ (e : MeantEvent). e ∷ drop (at + 1) (map meant es)) message)
+    (kind, text, drop (at + 1) (map kept_meant es), stands_at es at d less is ∙ ap (λ (e : MeantEvent). e ∷ drop (at + 1) (map kept_meant es)) message)
 
-pub text_there : {A : Type 0} (es : List (Event A)) (at len : ℕ) (d : Event A) → at < length es → d ≡ get_or es at d → IsMessageOf (meant d) len
-    → (text : List ℕ) × (next_text (drop at (map meant es)) ≡ Some text) × (len ≡ length text)
+pub text_there : {A : Type 0} (es : List (Kept A)) (at len : ℕ) (d : Kept A) → at < length es → d ≡ get_or es at d → IsMessageOf (kept_meant d) len
+    → (text : List ℕ) × (next_text (drop at (map kept_meant es)) ≡ Some text) × (len ≡ length text)
 text_there es at len d less is (kind, text, message, size) =
-    (text, ap next_text (stands_at es at d less is ∙ ap (λ (e : MeantEvent). e ∷ drop (at + 1) (map meant es)) message), size)
+    (text, ap next_text (stands_at es at d less is ∙ ap (λ (e : MeantEvent). e ∷ drop (at + 1) (map kept_meant es)) message), size)
 
 -- ---- the first message
 
@@ -74,8 +80,8 @@ is_at_a_control (meant_event.Message kind text ∷ later) other = absurd (other 
 is_at_a_control (meant_event.Control op body ∷ later) other = (op, body, later, refl)
 
 pub message_or_not : (left : List MeantEvent) → BeginsWithMessage left → BeginsWithControl left → ⊥
-message_or_not left (kind, text, later, is) (op, body, behind, also) =
-    let both : meant_event.Message kind text ∷ later ≡ meant_event.Control op body ∷ behind = sym is ∙ also in cc
+message_or_not left (kind, text, later, is) (op, body, following, also) =
+    let both : meant_event.Message kind text ∷ later ≡ meant_event.Control op body ∷ following = sym is ∙ also in cc
 
 -- a control is never the first message
 pub no_text : (left : List MeantEvent) → left ≡ from_message left → BeginsWithControl left → ⊥
@@ -84,81 +90,81 @@ no_text left first control =
     let shorter = no_longer control.2 in
     omega (arith, shorter, ap (λ (es : List MeantEvent). length es) same, ap (λ (es : List MeantEvent). length (from_message es)) same, ap (λ (es : List MeantEvent). length es) first)
 
-pub no_text_there : {A : Type 0} (es : List (Event A)) (at : ℕ) (d : Event A) → at < length es → d ≡ get_or es at d → IsControl (meant d)
-    → drop at (map meant es) ≡ from_message (drop at (map meant es)) → next_text (drop at (map meant es)) ≡ None
+pub no_text_there : {A : Type 0} (es : List (Kept A)) (at : ℕ) (d : Kept A) → at < length es → d ≡ get_or es at d → IsControl (kept_meant d)
+    → drop at (map kept_meant es) ≡ from_message (drop at (map kept_meant es)) → next_text (drop at (map kept_meant es)) ≡ None
 no_text_there es at d less is (op, body, control) first =
-    absurd (no_text (drop at (map meant es)) first (op, body, drop (at + 1) (map meant es), stands_at es at d less is ∙ ap (λ (e : MeantEvent). e ∷ drop (at + 1) (map meant es)) control))
+    absurd (no_text (drop at (map kept_meant es)) first (op, body, drop (at + 1) (map kept_meant es), stands_at es at d less is ∙ ap (λ (e : MeantEvent). e ∷ drop (at + 1) (map kept_meant es)) control))
 
-pub text_or_none : {A : Type 0} (es : List (Event A)) (at : ℕ) (d : Event A) → at < length es → d ≡ get_or es at d → drop at (map meant es) ≡ from_message (drop at (map meant es))
-    → (len : Option ℕ) → MatchOption len (IsControl (meant d)) (IsMessageOf (meant d))
-    → MatchOption len (next_text (drop at (map meant es)) ≡ None) (λ n. (text : List ℕ) × (next_text (drop at (map meant es)) ≡ Some text) × (n ≡ length text))
+pub text_or_none : {A : Type 0} (es : List (Kept A)) (at : ℕ) (d : Kept A) → at < length es → d ≡ get_or es at d → drop at (map kept_meant es) ≡ from_message (drop at (map kept_meant es))
+    → (len : Option ℕ) → MatchOption len (IsControl (kept_meant d)) (IsMessageOf (kept_meant d))
+    → MatchOption len (next_text (drop at (map kept_meant es)) ≡ None) (λ n. (text : List ℕ) × (next_text (drop at (map kept_meant es)) ≡ Some text) × (n ≡ length text))
 text_or_none es at d less is first None control = no_text_there es at d less is control first
 text_or_none es at d less is first (Some n) message = text_there es at n d less is message
 
--- what an option that was tested holds
+-- what an option holds that isn't None
 module _ (C : Type 0) (M : ℕ → Type 0) where
-  pub told : (o : Option ℕ) → MatchOption o C M → is_some o ≡ true → (n : ℕ) × M n
-  told None m is = cc
-  told (Some n) m is = (n, m)
+  pub has_reported : (o : Option ℕ) → MatchOption o C M → is_some o ≡ true → (n : ℕ) × M n
+  has_reported None m is = cc
+  has_reported (Some n) m is = (n, m)
 
-  pub not_told : (o : Option ℕ) → MatchOption o C M → is_some o ≡ false → C
-  not_told None m is = m
-  not_told (Some n) m is = cc
+  pub not_reported : (o : Option ℕ) → MatchOption o C M → is_some o ≡ false → C
+  not_reported None m is = m
+  not_reported (Some n) m is = cc
 
 pub first_twice : (left : List MeantEvent) → from_message (from_message left) ≡ from_message left
 first_twice [] = refl
 first_twice (meant_event.Message kind text ∷ later) = refl
 first_twice (meant_event.Control op body ∷ later) = first_twice later
 
--- ---- the places of a walk
+-- ---- the indexes of a walk
 
 same_place : (i j : ℕ) (es : List MeantEvent) → i ≤ length es → j ≤ length es → drop i es ≡ drop j es → i ≡ j
 same_place i j es within also same = omega (arith, ap (λ (l : List MeantEvent). length l) same, length-drop i es, length-drop j es)
 
 -- one event further
-pub behind_one : (n : ℕ) (es : List MeantEvent) (e : MeantEvent) (later : List MeantEvent) → drop n es ≡ e ∷ later → (n + 1 ≤ length es) × (drop (n + 1) es ≡ later)
-behind_one n es e later is = (
+pub after_one : (n : ℕ) (es : List MeantEvent) (e : MeantEvent) (later : List MeantEvent) → drop n es ≡ e ∷ later → (n + 1 ≤ length es) × (drop (n + 1) es ≡ later)
+after_one n es e later is = (
   omega (arith, ap (λ (l : List MeantEvent). length l) is, length-drop n es),
   sym (drop-drop 1 n es) ∙ ap (drop 1) is,
 )
 
-module _ {A : Type 0} (walk : Walk) (es : List (Event A)) (placed : IsPlaced walk (map meant es)) where
-  pub first_is_first : drop walk.message (map meant es) ≡ from_message (drop walk.message (map meant es))
-  first_is_first = placed.first ∙ sym (first_twice (drop walk.event (map meant es))) ∙ sym (ap from_message placed.first)
+module _ {A : Type 0} (walk : Walk) (es : List (Kept A)) (placed : IsPlaced walk (map kept_meant es)) where
+  pub first_is_first : drop walk.message (map kept_meant es) ≡ from_message (drop walk.message (map kept_meant es))
+  first_is_first = placed.first ∙ sym (first_twice (drop walk.event (map kept_meant es))) ∙ sym (ap from_message placed.first)
 
-  pub text_is : next_text (drop walk.event (map meant es)) ≡ next_text (drop walk.message (map meant es))
-  text_is = sym (ap next_text placed.first ∙ same_text (drop walk.event (map meant es)))
+  pub text_is : next_text (drop walk.event (map kept_meant es)) ≡ next_text (drop walk.message (map kept_meant es))
+  text_is = sym (ap next_text placed.first ∙ same_text (drop walk.event (map kept_meant es)))
 
-  pub some_left : (walk.event ≡ length es → ⊥) → drop walk.event (map meant es) ≢ []
+  pub some_left : (walk.event ≡ length es → ⊥) → drop walk.event (map kept_meant es) ≢ []
   some_left less none =
-      less (let within : walk.event ≤ length (map meant es) = placed.event in
-      omega (arith, ap (λ (l : List MeantEvent). length l) none, length-drop walk.event (map meant es), length-map es meant))
+      less (let within : walk.event ≤ length (map kept_meant es) = placed.event in
+      omega (arith, ap (λ (l : List MeantEvent). length l) none, length-drop walk.event (map kept_meant es), length-map es kept_meant))
 
-  pub none_left : walk.event ≡ length es → drop walk.event (map meant es) ≡ []
+  pub none_left : walk.event ≡ length es → drop walk.event (map kept_meant es) ≡ []
   none_left is = drop_none es walk.event (omega arith)
 
-  pub begins_with_message : walk.message ≡ walk.event → drop walk.event (map meant es) ≢ [] → BeginsWithMessage (drop walk.event (map meant es))
+  pub begins_with_message : walk.message ≡ walk.event → drop walk.event (map kept_meant es) ≢ [] → BeginsWithMessage (drop walk.event (map kept_meant es))
   begins_with_message same some =
-      is_at_a_message (drop walk.event (map meant es)) (sym placed.first ∙ ap (λ (n : ℕ). drop n (map meant es)) same) some
+      is_at_a_message (drop walk.event (map kept_meant es)) (sym placed.first ∙ ap (λ (n : ℕ). drop n (map kept_meant es)) same) some
 
-  pub begins_with_control : (walk.message ≡ walk.event → ⊥) → BeginsWithControl (drop walk.event (map meant es))
+  pub begins_with_control : (walk.message ≡ walk.event → ⊥) → BeginsWithControl (drop walk.event (map kept_meant es))
   begins_with_control other =
-      is_at_a_control (drop walk.event (map meant es)) (λ same. other (same_place walk.message walk.event (map meant es) placed.message placed.event (placed.first ∙ same)))
+      is_at_a_control (drop walk.event (map kept_meant es)) (λ same. other (same_place walk.message walk.event (map kept_meant es) placed.message placed.event (placed.first ∙ same)))
 
-  -- ---- behind a step
+  -- ---- after a step
 
-  pub placed_piece : (pieces held : ℕ) → IsPlaced (record walk { pieces = pieces; held = held }) (map meant es)
+  pub placed_piece : (pieces held : ℕ) → IsPlaced (record walk { pieces = pieces; held = held }) (map kept_meant es)
   placed_piece pieces held = record { event = placed.event; message = placed.message; first = placed.first }
 
-  pub placed_last : (next : ℕ) → BeginsWithMessage (drop walk.event (map meant es)) → next ≤ length es → drop next (map meant es) ≡ from_message (drop (walk.event + 1) (map meant es))
-      → IsPlaced (record { pieces = 0; held = 0; event = walk.event + 1; message = next }) (map meant es)
+  pub placed_last : (next : ℕ) → BeginsWithMessage (drop walk.event (map kept_meant es)) → next ≤ length es → drop next (map kept_meant es) ≡ from_message (drop (walk.event + 1) (map kept_meant es))
+      → IsPlaced (record { pieces = 0; held = 0; event = walk.event + 1; message = next }) (map kept_meant es)
   placed_last next begins within first = record {
-    event = (behind_one walk.event (map meant es) _ _ begins.3).0;
-    message = omega (arith, within, length-map es meant);
+    event = (after_one walk.event (map kept_meant es) _ _ begins.3).0;
+    message = omega (arith, within, length-map es kept_meant);
     first = first;
   }
 
-  pub placed_control : BeginsWithControl (drop walk.event (map meant es)) → IsPlaced (record walk { event = walk.event + 1 }) (map meant es)
+  pub placed_control : BeginsWithControl (drop walk.event (map kept_meant es)) → IsPlaced (record walk { event = walk.event + 1 }) (map kept_meant es)
   placed_control begins =
-      let behind = behind_one walk.event (map meant es) _ _ begins.3 in
-      record { event = behind.0; message = placed.message; first = placed.first ∙ ap from_message begins.3 ∙ sym (ap from_message behind.1) }
+      let following = after_one walk.event (map kept_meant es) _ _ begins.3 in
+      record { event = following.0; message = placed.message; first = placed.first ∙ ap from_message begins.3 ∙ sym (ap from_message following.1) }

@@ -3,7 +3,7 @@ pub mod EventsAhead
 pub mod Reasons
 pub mod WalkedSteps
 pub mod UniformSteps
-pub mod FramesOut
+pub mod MaskedPayloads
 pub mod NextEvents
 pub mod RecutSoFar
 pub mod Recuts

@@ -1,4 +1,4 @@
--- The event that a plan's next step stands for, where it lies.
+-- The event of a plan's next step, and its index.
 use Rattle.std.proofs.Common.{◌≡◌, ℕ, ◌+◌, ◌<◌, ◌≤◌, Some, List, [], ◌∷◌, length, drop, map, get_or, refl, sym, ap, ◌∙◌, subst, arith}
 use Rattle.std.proofs.lemmas.List.{length-map}
 use Rattle.wsn_wire.specs.declared.opcode.Kind.{Kind}
@@ -9,11 +9,11 @@ use Rattle.wsn_rules.specs.LawfulEvents.{AreLawful}
 use Rattle.wsn_rules.specs.Plan.{next_text}
 use Rattle.wsn_rules.specs.Recut.{next_message}
 use Rattle.wsn_rules.proofs.Prefixes.{head_same}
-use Rattle.wsn_canon.specs.declared.event.Event.{Event}
-use Rattle.wsn_canon.specs.EventsMeant.{meant}
+use Rattle.wsn_plan.specs.declared.kept.Kept.{Kept}
+use Rattle.wsn_plan.specs.KeptEvents.{kept_meant}
 use Rattle.wsn_plan.specs.declared.walking.Walk.{Walk}
 use Rattle.wsn_plan.specs.Walking.{from_message, IsPlaced}
-use Rattle.wsn_plan.proofs.EventsAhead.{stands_at, behind_one}
+use Rattle.wsn_plan.proofs.EventsAhead.{stands_at, after_one}
 use Rattle.wsn_plan.proofs.WalkedSteps.{lawful_from}
 
 -- the first message, by its text
@@ -33,22 +33,22 @@ first_of (meant_event.Control op body ∷ left) text is =
     let rest = first_of left text is in
     record { kind = rest.kind; later = rest.later; from = rest.from; next_kind = rest.next_kind; next_text = rest.next_text }
 
-module _ {A : Type 0} (es : List (Event A)) where
-  -- an event stands there
-  pub is_within : (at : ℕ) (e : MeantEvent) (later : List MeantEvent) → drop at (map meant es) ≡ e ∷ later → at < length es
-  is_within at e later is = let more = (behind_one at (map meant es) e later is).0 in omega (arith, more, length-map es meant)
+module _ {A : Type 0} (es : List (Kept A)) where
+  -- there is an event at this index
+  pub is_within : (at : ℕ) (e : MeantEvent) (later : List MeantEvent) → drop at (map kept_meant es) ≡ e ∷ later → at < length es
+  is_within at e later is = let more = (after_one at (map kept_meant es) e later is).0 in omega (arith, more, length-map es kept_meant)
 
-  pub is_there : (at : ℕ) (d : Event A) (e : MeantEvent) (later : List MeantEvent) → d ≡ get_or es at d → drop at (map meant es) ≡ e ∷ later → meant d ≡ e
+  pub is_there : (at : ℕ) (d : Kept A) (e : MeantEvent) (later : List MeantEvent) → d ≡ get_or es at d → drop at (map kept_meant es) ≡ e ∷ later → kept_meant d ≡ e
   is_there at d e later found is =
-      head_same (meant d) e (drop (at + 1) (map meant es)) later (sym (stands_at es at d (is_within at e later is) found) ∙ is)
+      head_same (kept_meant d) e (drop (at + 1) (map kept_meant es)) later (sym (stands_at es at d (is_within at e later is) found) ∙ is)
 
-  pub first_there : (walk : Walk) → IsPlaced walk (map meant es) → (text : List ℕ) → next_text (drop walk.event (map meant es)) ≡ Some text
-      → (first : IsFirst (drop walk.event (map meant es)) text) × (drop walk.message (map meant es) ≡ meant_event.Message first.kind text ∷ first.later)
+  pub first_there : (walk : Walk) → IsPlaced walk (map kept_meant es) → (text : List ℕ) → next_text (drop walk.event (map kept_meant es)) ≡ Some text
+      → (first : IsFirst (drop walk.event (map kept_meant es)) text) × (drop walk.message (map kept_meant es) ≡ meant_event.Message first.kind text ∷ first.later)
   first_there walk placed text is =
-      let first = first_of (drop walk.event (map meant es)) text is in
+      let first = first_of (drop walk.event (map kept_meant es)) text is in
       (first, placed.first ∙ first.from)
 
-  pub control_is_short : (most at : ℕ) (op : Op) (body : List ℕ) (later : List MeantEvent) → AreLawful most (map meant es) → drop at (map meant es) ≡ meant_event.Control op body ∷ later → length body ≤ 125
+  pub control_is_short : (most at : ℕ) (op : Op) (body : List ℕ) (later : List MeantEvent) → AreLawful most (map kept_meant es) → drop at (map kept_meant es) ≡ meant_event.Control op body ∷ later → length body ≤ 125
   control_is_short most at op body later lawful is =
-      let left = subst (AreLawful most) is (lawful_from most at (map meant es) lawful) in
+      let left = subst (AreLawful most) is (lawful_from most at (map kept_meant es) lawful) in
       left.0.size

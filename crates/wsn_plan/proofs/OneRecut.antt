@@ -1,10 +1,10 @@
--- Of an input whose bytes are known a recut has one answer and writes one list of bytes, and planning has one answer.
+-- For an input whose bytes are known a recut has one answer and writes one list of bytes, and planning has one answer.
 use Rattle.std.proofs.Common.{◌≡◌, ℕ, ◌+◌, ◌<◌, false, Result, Ok, Err, List, [], length, take, refl, sym, ap, ◌∙◌, subst, arith}
 use Rattle.std.proofs.lemmas.List.{take-take}
 use Rattle.std.proofs.KnownBytes.{Appends-nil}
 use Rattle.wsn_wire.specs.declared.endpoint.Role.{Role}
 use Rattle.wsn_wire.specs.Frame.{Frame}
-use Rattle.wsn_wire.specs.Transfer.{Outgoing, IsWritten}
+use Rattle.wsn_io.specs.Transfer.{Outgoing, IsWritten}
 use Rattle.wsn_rules.specs.declared.step.Step.{Step}
 use Rattle.wsn_rules.specs.declared.why.Why.{Why}
 use Rattle.wsn_rules.specs.declared.verdict.Verdict.{Verdict}
@@ -16,15 +16,15 @@ use Rattle.wsn_rules.specs.Verdict.{IsVerdict}
 use Rattle.wsn_rules.proofs.OneVerdict.{one_verdict}
 use Rattle.wsn_rules.proofs.PlanTheory.Faults.{not_both, one_fault}
 use Rattle.wsn_rules.proofs.StaysRefused.{refused_alike}
-use Rattle.wsn_scan.specs.declared.stop.Stop.{Stop}
-use Rattle.wsn_scan.specs.declared.stop.Stop.TheVariants as stop
+use Rattle.wsn_io.specs.declared.stop.Stop.{Stop}
+use Rattle.wsn_io.specs.declared.stop.Stop.TheVariants as stop
 use Rattle.wsn_scan.specs.Judging.{IsUnrefused}
-use Rattle.wsn_canon.specs.Normalised.{IsWithinLimit}
+use Rattle.wsn_events.specs.Normalised.{IsWithinLimit}
 use Rattle.wsn_plan.specs.declared.planning.PlanAnswer.{PlanAnswer}
 use Rattle.wsn_plan.specs.declared.planning.PlanAnswer.TheVariants as plans
 use Rattle.wsn_plan.specs.declared.recutting.RecutAnswer.{RecutAnswer}
 use Rattle.wsn_plan.specs.declared.recutting.RecutAnswer.TheVariants.{Done, NotAccepted, Fault}
-use Rattle.wsn_scan.specs.Stops.{AnswersAll}
+use Rattle.wsn_io.specs.Stops.{HasNoFailure}
 use Rattle.wsn_plan.specs.Planning.{IsPlanFor, IsPlannedWhole}
 use Rattle.wsn_plan.specs.Recutting.{IsAnswerTo, GoesOut, IsRecutWhole, Planner}
 
@@ -33,7 +33,7 @@ unwritten : (before after : Outgoing) → before.failed ≡ false → after ≡ 
 unwritten before after sound same = subst (λ (o : Outgoing). IsWritten before o []) (sym same) (sound, Appends-nil before.written)
 
 module _ (role : Role) (limits : Limits) where
-  -- a verdict within the limit, or more bytes than it
+  -- a verdict within the limit, or more bytes than the limit
   past_or_not : (all : List ℕ) (fs : List Frame) (verdict : Verdict) → IsVerdict role limits all fs verdict → IsWithinLimit limits all verdict → limits.input < length all
       → IsUnrefused role limits (take limits.input all) → ⊥
   past_or_not all fs (Accepted s) is within more none = omega (arith, within, more)
@@ -46,28 +46,28 @@ module _ (role : Role) (limits : Limits) where
   pub one_recut_answer : (plan : List Step) (verdict : Verdict) (events : List MeantEvent) (answer other : RecutAnswer) → IsAnswerTo role limits plan verdict events answer
       → IsAnswerTo role limits plan verdict events other → answer ≡ other
   one_recut_answer plan verdict events Done Done one two = refl
-  one_recut_answer plan verdict events Done (NotAccepted told) one two = absurd (two.1 one.0)
+  one_recut_answer plan verdict events Done (NotAccepted has_reported) one two = absurd (two.1 one.0)
   one_recut_answer plan verdict events Done (Fault step why) one two = absurd (not_both role limits events plan step why one.1 two.1)
-  one_recut_answer plan verdict events (NotAccepted told) Done one two = absurd (one.1 two.0)
-  one_recut_answer plan verdict events (NotAccepted told) (NotAccepted also) one two = ap (λ (v : Verdict). NotAccepted v) (one.0 ∙ sym two.0)
-  one_recut_answer plan verdict events (NotAccepted told) (Fault step why) one two = absurd (one.1 two.0)
+  one_recut_answer plan verdict events (NotAccepted has_reported) Done one two = absurd (one.1 two.0)
+  one_recut_answer plan verdict events (NotAccepted has_reported) (NotAccepted also) one two = ap (λ (v : Verdict). NotAccepted v) (one.0 ∙ sym two.0)
+  one_recut_answer plan verdict events (NotAccepted has_reported) (Fault step why) one two = absurd (one.1 two.0)
   one_recut_answer plan verdict events (Fault step why) Done one two = absurd (not_both role limits events plan step why two.1 one.1)
-  one_recut_answer plan verdict events (Fault step why) (NotAccepted told) one two = absurd (two.1 one.0)
+  one_recut_answer plan verdict events (Fault step why) (NotAccepted has_reported) one two = absurd (two.1 one.0)
   one_recut_answer plan verdict events (Fault step why) (Fault also other) one two =
       let same = one_fault role limits events plan step also why other one.1 two.1 in
       ap (λ (s : ℕ). Fault s why) same.0 ∙ ap (λ (w : Why). Fault also w) same.1
 
-  -- what goes out with an answer
+  -- what is written with an answer
   out_with : List Step → List MeantEvent → RecutAnswer → List ℕ
   out_with plan events Done = recut_bytes plan events
-  out_with plan events (NotAccepted told) = []
+  out_with plan events (NotAccepted has_reported) = []
   out_with plan events (Fault step why) = []
 
   goes_out : (plan : List Step) (events : List MeantEvent) (before after : Outgoing) (answer : RecutAnswer) → before.failed ≡ false → GoesOut plan events before after answer
       → IsWritten before after (out_with plan events answer)
   unfolding out_with
   goes_out plan events before after Done sound out = out
-  goes_out plan events before after (NotAccepted told) sound out = unwritten before after sound out
+  goes_out plan events before after (NotAccepted has_reported) sound out = unwritten before after sound out
   goes_out plan events before after (Fault step why) sound out = unwritten before after sound out
 
   abbrev AreAlike : Outgoing → Outgoing → Outgoing → Outgoing → Type 0
@@ -76,7 +76,7 @@ module _ (role : Role) (limits : Limits) where
   module _ (planned : Planner) (all : List ℕ) (before after other_before other_after : Outgoing) (sound : before.failed ≡ false) (also_sound : other_before.failed ≡ false) where
     both_answer : (answer other : RecutAnswer) → IsRecutWhole role limits planned all before after (Ok answer) → IsRecutWhole role limits planned all other_before other_after (Ok other)
         → (answer ≡ other) × AreAlike before after other_before other_after
-    both_answer answer other (v, fs, v_is, within, told, out) (w, gs, w_is, also_within, also_told, also_out) = (same, (out_with plan events answer, goes_out plan events before after answer sound out, also_written))
+    both_answer answer other (v, fs, v_is, within, has_reported, out) (w, gs, w_is, also_within, also_reported, also_out) = (same, (out_with plan events answer, goes_out plan events before after answer sound out, also_written))
       where
         alike : (fs ≡ gs) × (v ≡ w)
         alike = one_verdict role limits all fs gs v w v_is w_is
@@ -87,11 +87,11 @@ module _ (role : Role) (limits : Limits) where
         plan : List Step
         plan = planned events
 
-        told_here : IsAnswerTo role limits plan v events other
-        told_here = subst (λ (u : Verdict). IsAnswerTo role limits plan u events other) (sym alike.1) (subst (λ (hs : List Frame). IsAnswerTo role limits (planned (meaning hs)) w (meaning hs) other) (sym alike.0) also_told)
+        reported_here : IsAnswerTo role limits plan v events other
+        reported_here = subst (λ (u : Verdict). IsAnswerTo role limits plan u events other) (sym alike.1) (subst (λ (hs : List Frame). IsAnswerTo role limits (planned (meaning hs)) w (meaning hs) other) (sym alike.0) also_reported)
 
         same : answer ≡ other
-        same = one_recut_answer plan v events answer other told told_here
+        same = one_recut_answer plan v events answer other has_reported reported_here
 
         out_here : GoesOut plan events other_before other_after other
         out_here = subst (λ (hs : List Frame). GoesOut (planned (meaning hs)) (meaning hs) other_before other_after other) (sym alike.0) also_out
@@ -99,7 +99,7 @@ module _ (role : Role) (limits : Limits) where
         also_written : IsWritten other_before other_after (out_with plan events answer)
         also_written = subst (λ (a : RecutAnswer). IsWritten other_before other_after (out_with plan events a)) (sym same) (goes_out plan events other_before other_after other also_sound out_here)
 
-    pub one_recut : (result other : Result RecutAnswer Stop) → AnswersAll result → AnswersAll other → IsRecutWhole role limits planned all before after result
+    pub one_recut : (result other : Result RecutAnswer Stop) → HasNoFailure result → HasNoFailure other → IsRecutWhole role limits planned all before after result
         → IsRecutWhole role limits planned all other_before other_after other → (result ≡ other) × AreAlike before after other_before other_after
     one_recut (Ok answer) (Ok other) says also one two =
         let both = both_answer answer other one two in
@@ -119,21 +119,21 @@ module _ (role : Role) (limits : Limits) where
   module _ {A : Type 0} (all : List ℕ) where
     one_plan_answer : (frames : List Frame) (verdict : Verdict) (answer other : PlanAnswer A) → IsPlanFor frames verdict answer → IsPlanFor frames verdict other → answer ≡ other
     one_plan_answer frames verdict (plans.Plan plan) (plans.Plan also) one two = ap (λ (p : List Step). plans.Plan p) (one.2 ∙ sym two.2)
-    one_plan_answer frames verdict (plans.Plan plan) (plans.NotAccepted told) one two = absurd (two.1 one.0)
+    one_plan_answer frames verdict (plans.Plan plan) (plans.NotAccepted has_reported) one two = absurd (two.1 one.0)
     one_plan_answer frames verdict (plans.Plan plan) plans.Unfinished one two = absurd (two.1 one.1)
-    one_plan_answer frames verdict (plans.NotAccepted told) (plans.Plan plan) one two = absurd (one.1 two.0)
-    one_plan_answer frames verdict (plans.NotAccepted told) (plans.NotAccepted also) one two = ap (λ (v : Verdict). plans.NotAccepted v) (one.0 ∙ sym two.0)
-    one_plan_answer frames verdict (plans.NotAccepted told) plans.Unfinished one two = absurd (one.1 two.0)
+    one_plan_answer frames verdict (plans.NotAccepted has_reported) (plans.Plan plan) one two = absurd (one.1 two.0)
+    one_plan_answer frames verdict (plans.NotAccepted has_reported) (plans.NotAccepted also) one two = ap (λ (v : Verdict). plans.NotAccepted v) (one.0 ∙ sym two.0)
+    one_plan_answer frames verdict (plans.NotAccepted has_reported) plans.Unfinished one two = absurd (one.1 two.0)
     one_plan_answer frames verdict plans.Unfinished (plans.Plan plan) one two = absurd (one.1 two.1)
-    one_plan_answer frames verdict plans.Unfinished (plans.NotAccepted told) one two = absurd (two.1 one.0)
+    one_plan_answer frames verdict plans.Unfinished (plans.NotAccepted has_reported) one two = absurd (two.1 one.0)
     one_plan_answer frames verdict plans.Unfinished plans.Unfinished one two = refl
 
-    pub one_plan_of : (result other : Result (PlanAnswer A) Stop) → AnswersAll result → AnswersAll other → IsPlannedWhole role limits all result → IsPlannedWhole role limits all other
+    pub one_plan_of : (result other : Result (PlanAnswer A) Stop) → HasNoFailure result → HasNoFailure other → IsPlannedWhole role limits all result → IsPlannedWhole role limits all other
         → result ≡ other
-    one_plan_of (Ok answer) (Ok other) says also (v, fs, v_is, within, told) (w, gs, w_is, also_within, also_told) =
+    one_plan_of (Ok answer) (Ok other) says also (v, fs, v_is, within, has_reported) (w, gs, w_is, also_within, also_reported) =
         let alike = one_verdict role limits all fs gs v w v_is w_is in
-        let told_here : IsPlanFor fs v other = subst (λ (u : Verdict). IsPlanFor fs u other) (sym alike.1) (subst (λ (hs : List Frame). IsPlanFor hs w other) (sym alike.0) also_told) in
-        ap (λ (a : PlanAnswer A). let r : Result (PlanAnswer A) Stop = Ok a in r) (one_plan_answer fs v answer other told told_here)
+        let reported_here : IsPlanFor fs v other = subst (λ (u : Verdict). IsPlanFor fs u other) (sym alike.1) (subst (λ (hs : List Frame). IsPlanFor hs w other) (sym alike.0) also_reported) in
+        ap (λ (a : PlanAnswer A). let r : Result (PlanAnswer A) Stop = Ok a in r) (one_plan_answer fs v answer other has_reported reported_here)
     one_plan_of (Ok answer) (Err stop.InputLimit) says also one two = absurd (past_or_not all one.1 one.0 one.2 one.3 two.0 two.1)
     one_plan_of (Err stop.InputLimit) (Ok other) says also one two = absurd (past_or_not all two.1 two.0 two.2 two.3 one.0 one.1)
     one_plan_of (Err stop.InputLimit) (Err stop.InputLimit) says also one two = refl

@@ -1,12 +1,12 @@
--- The plan of a stream's frames: what is known at each notice of their reader.
-use Rattle.std.proofs.Common.{◌≡◌, ◌≢◌, ℕ, ◌+◌, false, Bool, Option, None, Some, Result, Ok, Err, List, [], ◌∷◌, ◌++◌, drop, refl, sym, ap, ◌∙◌, subst, arith}
+-- The plan of a stream's frames, at each notice of their reader.
+use Rattle.std.proofs.Common.{◌≡◌, ◌≢◌, ℕ, ◌+◌, false, Bool, Option, None, Some, Result, Ok, Err, List, [], ◌∷◌, ◌++◌, drop, refl, sym, ap, ◌∙◌, subst}
 use Rattle.std.specs.Prelude.{⊤}
 use Rattle.std.proofs.lemmas.List.{map-append}
-use Rattle.std.proofs.KnownBytes.{Consumes-nil, Consumes-trans}
+use Rattle.wsn_io.proofs.Received.{received_none, received_on}
 use Rattle.std.specs.Io.KnownBytes.{Consumes}
 use Rattle.wsn_wire.specs.declared.endpoint.Role.{Role}
 use Rattle.wsn_wire.specs.Frame.{Frame}
-use Rattle.wsn_wire.specs.Transfer.{Incoming, IsReceived}
+use Rattle.wsn_io.specs.Transfer.{Incoming, IsReceived}
 use Rattle.wsn_rules.specs.declared.head_info.HeadInfo.{HeadInfo}
 use Rattle.wsn_rules.specs.declared.step.Step.{Step}
 use Rattle.wsn_rules.specs.declared.verdict.Summary.{Summary}
@@ -20,20 +20,20 @@ use Rattle.wsn_rules.specs.Verdict.{IsVerdict}
 use Rattle.wsn_scan.specs.declared.notice_reader.NextNotice.{NextNotice}
 use Rattle.wsn_scan.specs.declared.notice_reader.NextNotice.TheVariants as notices
 use Rattle.wsn_scan.specs.declared.notice_reader.NoticeReader.{NoticeReader}
-use Rattle.wsn_scan.specs.declared.stop.Stop.{Stop}
-use Rattle.wsn_scan.specs.declared.stop.Stop.TheVariants as stop
-use Rattle.wsn_scan.specs.FramesTold.{Position, BetweenFrames, InFrame, IsToldOf}
-use Rattle.wsn_scan.specs.NoticeReaders.{HasTold, IsReading, payload_of}
+use Rattle.wsn_io.specs.declared.stop.Stop.{Stop}
+use Rattle.wsn_io.specs.declared.stop.Stop.TheVariants as stop
+use Rattle.wsn_scan.specs.ReportedFrames.{Position, BetweenFrames, InFrame, IsReportedOf}
+use Rattle.wsn_scan.specs.NoticeReaders.{HasReported, IsReading, held_payload}
 use Rattle.wsn_scan.specs.ReadNotices.{ReadsOn, IsHaltedAt}
-use Rattle.wsn_scan.proofs.ReaderTold.{told_of}
-use Rattle.wsn_canon.specs.Normalised.{IsWithinLimit}
-use Rattle.wsn_canon.proofs.GivenSoFar.{all_came}
-use Rattle.wsn_canon.proofs.WholeNormalForms.{of_all}
+use Rattle.wsn_scan.proofs.ReaderReports.{reported_of}
+use Rattle.wsn_events.specs.Normalised.{IsWithinLimit}
+use Rattle.wsn_events.proofs.GivenSoFar.{all_came}
+use Rattle.wsn_events.proofs.WholeNormalForms.{of_all}
 use Rattle.wsn_plan.specs.declared.planning.PlanAnswer.{PlanAnswer}
 use Rattle.wsn_plan.specs.declared.planning.PlanAnswer.TheVariants.{Plan, NotAccepted, Unfinished}
 use Rattle.wsn_plan.specs.Gathering.{HasWholeFrame}
 use Rattle.wsn_plan.proofs.Recuts.{past_limit}
-use Rattle.wsn_plan.specs.Planning.{IsPlanFor, IsPlanOf, IsPlanned, IsPlannedWhole, IsAnswerWith, step_behind}
+use Rattle.wsn_plan.specs.Planning.{IsPlanFor, IsPlanOf, IsPlanned, IsPlannedWhole, IsAnswerWith, step_of_head}
 
 -- ---- the answer
 
@@ -49,23 +49,23 @@ answer_for : {A : Type 0} (role : Role) (limits : Limits) (came : List ℕ) (don
     → IsVerdict role limits came done verdict → plan ≡ plan_of done → IsAnswerWith verdict plan answer → IsPlanFor done verdict answer
 answer_for role limits came done (Accepted s) plan (Plan steps) is same (none, all) = (tt, none_open (unfinished done) (sym (ap (λ (u : Summary). u.unfinished) is.1) ∙ none), all ∙ same)
 answer_for role limits came done (Accepted s) plan Unfinished is same some = (tt, some_open (unfinished done) (λ none. some (ap (λ (u : Summary). u.unfinished) is.1 ∙ none)))
-answer_for role limits came done (Accepted s) plan (NotAccepted told) is same never = absurd never
-answer_for {A} role limits came done (Cut s) plan answer is same told = subst (λ (a : PlanAnswer A). IsPlanFor done (Cut s) a) (sym told) (refl, λ no. no)
-answer_for {A} role limits came done (Refused r) plan answer is same told = subst (λ (a : PlanAnswer A). IsPlanFor done (Refused r) a) (sym told) (refl, λ no. no)
+answer_for role limits came done (Accepted s) plan (NotAccepted has_reported) is same never = absurd never
+answer_for {A} role limits came done (Cut s) plan answer is same has_reported = subst (λ (a : PlanAnswer A). IsPlanFor done (Cut s) a) (sym has_reported) (refl, λ no. no)
+answer_for {A} role limits came done (Refused r) plan answer is same has_reported = subst (λ (a : PlanAnswer A). IsPlanFor done (Refused r) a) (sym has_reported) (refl, λ no. no)
 
--- ---- at work
+-- ---- while planning
 
 -- The step of the frame that has begun is kept.
 abbrev pub IsStepAt : Position → Option Step → Type 0
 IsStepAt BetweenFrames begun = ⊤
-IsStepAt (InFrame info payload) begun = begun ≡ Some (step_behind info)
+IsStepAt (InFrame info payload) begun = begun ≡ Some (step_of_head info)
 
--- The reader has read all that came, and the plan is that of the frames whose ends it told.
+-- The reader has read all that came, and the plan is that of the frames that were reported to their ends.
 pub record HasPlanned (role : Role) (limits : Limits) (old new : Incoming) (reader : NoticeReader) (plan : List Step) (begun : Option Step) : Type 0 where
   pub came : List ℕ
   pub done : List Frame
   pub at : Position
-  pub told : HasTold role limits reader came done at
+  pub has_reported : HasReported role limits reader came done at
   pub received : IsReceived (limits.input + 1) old new came
   pub steps : plan ≡ plan_of done
   pub step : IsStepAt at begun
@@ -76,13 +76,13 @@ no_frame [] f is = cc
 no_frame (b ∷ before) f is = cc
 
 module _ (role : Role) (limits : Limits) (old : Incoming) where
-  pub begins : (reader : NoticeReader) → HasTold role limits reader [] [] BetweenFrames → old.failed ≡ false → HasPlanned role limits old old reader [] None
-  begins reader told readable = record {
+  pub begins : (reader : NoticeReader) → HasReported role limits reader [] [] BetweenFrames → old.failed ≡ false → HasPlanned role limits old old reader [] None
+  begins reader has_reported readable = record {
     came = [];
     done = [];
     at = BetweenFrames;
-    told = told;
-    received = record { consumed = Consumes-nil old.remaining; few = omega arith };
+    has_reported = has_reported;
+    received = received_none (limits.input + 1) old;
     steps = refl;
     step = tt;
     readable = readable;
@@ -90,24 +90,21 @@ module _ (role : Role) (limits : Limits) (old : Incoming) where
 
   module _ (mid new : Incoming) (reader next : NoticeReader) (plan : List Step) (begun : Option Step) (planned : HasPlanned role limits old mid reader plan begun) where
     pub is_reading : IsReading reader
-    is_reading = record { role = role; limits = limits; came = planned.came; done = planned.done; at = planned.at; told = planned.told }
+    is_reading = record { role = role; limits = limits; came = planned.came; done = planned.done; at = planned.at; has_reported = planned.has_reported }
 
-    -- the reader's next answer, at the bytes that had come
+    -- the reader's next answer, after the bytes that had come
     abbrev Answers : Result NextNotice Stop → Type 0
     Answers result = ReadsOn role limits mid new next planned.came planned.done planned.at result
 
     received : (result : Result NextNotice Stop) (on : Answers result) → IsReceived (limits.input + 1) old new (planned.came ++ on.more)
-    received result on = record {
-      consumed = Consumes-trans old.remaining mid.remaining new.remaining planned.came on.more planned.received.consumed on.consumed;
-      few = on.few;
-    }
+    received result on = received_on (limits.input + 1) old mid new planned.came on.more planned.received on.consumed on.few
 
-    pub head : (answer : NextNotice) (info : HeadInfo) → answer ≡ notices.Head info → Answers (Ok answer) → HasPlanned role limits old new next plan (Some (step_behind info))
+    pub head : (answer : NextNotice) (info : HeadInfo) → answer ≡ notices.Head info → Answers (Ok answer) → HasPlanned role limits old new next plan (Some (step_of_head info))
     head answer info is goes = record {
       came = planned.came ++ on.more;
       done = planned.done;
       at = InFrame info [];
-      told = on.next.0.1;
+      has_reported = on.next.0.1;
       received = received (Ok (notices.Head info)) on;
       steps = planned.steps;
       step = refl;
@@ -121,8 +118,8 @@ module _ (role : Role) (limits : Limits) (old : Incoming) where
     payload answer is goes = record {
       came = planned.came ++ on.more;
       done = planned.done;
-      at = InFrame on.next.0.0 (on.next.0.1 ++ payload_of next);
-      told = on.next.0.3;
+      at = InFrame on.next.0.0 (on.next.0.1 ++ held_payload next);
+      has_reported = on.next.0.3;
       received = received (Ok notices.Payload) on;
       steps = planned.steps;
       step = subst (λ (at : Position). IsStepAt at begun) on.next.0.2 planned.step;
@@ -146,7 +143,7 @@ module _ (role : Role) (limits : Limits) (old : Incoming) where
       its_step : begun ≡ Some (step_of frame)
       its_step = subst (λ (at : Position). IsStepAt at begun) on.next.0.2 planned.step
 
-      -- there was a head
+      -- a head came before
       pub has_begun : begun ≡ None → ⊥
       has_begun none = let no : None ≡ Some (step_of frame) = sym none ∙ its_step in cc
 
@@ -155,7 +152,7 @@ module _ (role : Role) (limits : Limits) (old : Incoming) where
         came = planned.came ++ on.more;
         done = ended;
         at = BetweenFrames;
-        told = on.next.0.3;
+        has_reported = on.next.0.3;
         received = received (Ok (notices.FrameEnd event)) on;
         steps =
             let same : step ≡ step_of frame = let both : Some step ≡ Some (step_of frame) = sym has ∙ its_step in cc in
@@ -164,16 +161,16 @@ module _ (role : Role) (limits : Limits) (old : Incoming) where
         readable = on.next.1;
       }
 
-      stands : IsToldOf role limits (planned.came ++ on.more) ended BetweenFrames
-      stands = told_of role limits next (planned.came ++ on.more) ended BetweenFrames on.next.0.3
+      has_scanned : IsReportedOf role limits (planned.came ++ on.more) ended BetweenFrames
+      has_scanned = reported_of role limits next (planned.came ++ on.more) ended BetweenFrames on.next.0.3
 
       has_frame : HasWholeFrame role limits (planned.came ++ on.more)
       has_frame = record {
         frames = ended;
-        lawful = stands.lawful;
+        lawful = has_scanned.lawful;
         some = no_frame planned.done frame;
-        rest = stands.rest ++ drop limits.input (planned.came ++ on.more);
-        whole = all_came role limits (planned.came ++ on.more) ended BetweenFrames stands;
+        rest = has_scanned.rest ++ drop limits.input (planned.came ++ on.more);
+        whole = all_came role limits (planned.came ++ on.more) ended BetweenFrames has_scanned;
       }
 
       pub no_memory : {A : Type 0} → IsPlanned {A = A} role limits old new (Err stop.Memory)
@@ -225,10 +222,10 @@ module _ {A : Type 0} (role : Role) (limits : Limits) where
             subst (λ (bs : List ℕ). IsWithinLimit limits bs verdict) (sym is) here.1,
             planned,
           )
-      by_result rest left is (Err stop.InputLimit) told = past_limit role limits came rest all is told.0 told.1
-      by_result rest left is (Err stop.Read) told = tt
-      by_result rest left is (Err stop.Memory) told = tt
-      by_result rest left is (Err stop.Write) told = tt
+      by_result rest left is (Err stop.InputLimit) has_reported = past_limit role limits came rest all is has_reported.0 has_reported.1
+      by_result rest left is (Err stop.Read) has_reported = tt
+      by_result rest left is (Err stop.Memory) has_reported = tt
+      by_result rest left is (Err stop.Write) has_reported = tt
 
       by_rest : (rest : Option (List ℕ)) → new.remaining ≡ rest → Consumes (Some all) rest came → IsPlannedWhole role limits all result
       by_rest None left consumed = absurd consumed

@@ -1,9 +1,9 @@
--- The first reason against a step, row after row of the table.
+-- The first reason against a step, row by row of the table.
 use Rattle.std.proofs.Common.{◌≡◌, ◌≢◌, ℕ, ◌+◌, ◌-◌, ◌<◌, ◌≤◌, Option, None, Some, List, [], length, sym, ap, ◌∙◌, subst, inl, inr, arith}
 use Rattle.std.proofs.lemmas.Option.{same_Some}
 use Rattle.wsn_text.proofs.Numbers.{less_or_not}
 use Rattle.wsn_wire.specs.declared.endpoint.Role.{Role}
-use Rattle.wsn_wire.specs.declared.spelling.Form.{Form}
+use Rattle.wsn_wire.specs.declared.length_forms.Form.{Form}
 use Rattle.wsn_rules.specs.declared.step.Step.{Step}
 use Rattle.wsn_rules.specs.declared.step.Step.TheVariants.{Piece, Last, Control}
 use Rattle.wsn_rules.specs.declared.why.Why.{Why}
@@ -21,7 +21,7 @@ within_or_not a b not = elim (less_or_not b a) [ inl less ↦ absurd (not less) 
 -- ---- rows that don't hold
 
 module _ (Held : Why → Type 0) where
-  -- What holds stands in this row or a later one.
+  -- A reason that holds is in this row or a later one.
   abbrev pub Passed : ℕ → Type 0
   Passed n = (why : Why) → Held why → n ≤ order_of why
 

@@ -1,4 +1,4 @@
--- A recut, step after step: the frames so far and the next one.
+-- A recut, step by step: the frames so far and the next one.
 use Rattle.std.proofs.Common.{◌≡◌, ℕ, ◌+◌, ◌<◌, ◌≤◌, ◌^◌, Some, List, [], ◌∷◌, ◌++◌, length, take, drop, get_or, sym, ap, ◌∙◌, subst, append-nil, arith}
 use Rattle.std.proofs.lemmas.List.{drop_more, take_more, take-append-drop}
 use Rattle.std.proofs.KnownBytes.{Appends-trans}
@@ -6,37 +6,37 @@ use Rattle.std.proofs.Math.Seq.{take-length, take-append-add}
 use Rattle.std.specs.Io.KnownBytes.{Appends}
 use Rattle.wsn_wire.specs.declared.endpoint.Role.{Role}
 use Rattle.wsn_wire.specs.Frame.{Frame, frame_bytes, stream}
-use Rattle.wsn_wire.specs.Transfer.{Outgoing, IsWritten, IsPartlyWritten}
-use Rattle.wsn_scan.proofs.Printing.{front_of_more}
+use Rattle.wsn_io.specs.Transfer.{Outgoing, IsWritten, IsPartlyWritten}
+use Rattle.wsn_io.proofs.PutTexts.{front_of_more}
 use Rattle.wsn_rules.specs.declared.step.Step.{Step}
 use Rattle.wsn_rules.specs.declared.step.Step.TheVariants.{Piece, Last, Control}
 use Rattle.wsn_rules.specs.Limits.{Limits}
 use Rattle.wsn_rules.specs.Meaning.{MeantEvent}
 use Rattle.wsn_rules.specs.Plan.{pending, total, events_left, next_text}
 use Rattle.wsn_rules.specs.Fitting.{BeginsToFit}
-use Rattle.wsn_rules.specs.Recut.{next_message, step_frame, frame_at, frames_behind, recut, recut_bytes}
+use Rattle.wsn_rules.specs.Recut.{next_message, step_frame, frame_at, frames_after, recut, recut_bytes}
 use Rattle.wsn_rules.proofs.Prefixes.{push-append}
 use Rattle.wsn_rules.proofs.Walk.{stream-append}
 use Rattle.wsn_rules.proofs.PlanTheory.FitsFromTheFront.{begins_prefix, step_law}
 use Rattle.wsn_rules.proofs.PlanTheory.StepDecided.{pending_fit}
 use Rattle.wsn_rules.proofs.PlanTheory.RecutSteps.{next_is, next_is_lawful}
 use Rattle.wsn_plan.specs.declared.walking.Walk.{Walk}
-use Rattle.wsn_plan.specs.Walking.{MayTake, IsTaken, held_after}
-use Rattle.wsn_plan.specs.Framing.{frame_here, SpellsItsLength}
+use Rattle.wsn_plan.specs.Walking.{IsApplicable, HasAdvancedBy, held_after}
+use Rattle.wsn_plan.specs.Framing.{frame_here, EncodesItsLength}
 use Rattle.wsn_plan.specs.Recutting.{FitsWithin}
-use Rattle.wsn_plan.proofs.WalkedSteps.{Follows, lawful_from, takes, held_is_small, follows_on}
+use Rattle.wsn_plan.proofs.WalkedSteps.{Follows, lawful_from, consumes, held_is_small, follows_on}
 
 -- ---- the frames of a plan in parts
 
 module _ (es : List MeantEvent) where
-  frames-append : (before plan more : List Step) → frames_behind es before (plan ++ more) ≡ frames_behind es before plan ++ frames_behind es (before ++ plan) more
-  frames-append before [] more = ap (λ (b : List Step). frames_behind es b more) (sym (append-nil before))
+  frames-append : (before plan more : List Step) → frames_after es before (plan ++ more) ≡ frames_after es before plan ++ frames_after es (before ++ plan) more
+  frames-append before [] more = ap (λ (b : List Step). frames_after es b more) (sym (append-nil before))
   frames-append before (step ∷ plan) more =
       ap (λ (fs : List Frame). frame_at es before step ∷ fs)
-      (frames-append (before ++ step ∷ []) plan more ∙ ap (λ (b : List Step). frames_behind es (before ++ step ∷ []) plan ++ frames_behind es b more) (push-append before step plan))
+      (frames-append (before ++ step ∷ []) plan more ∙ ap (λ (b : List Step). frames_after es (before ++ step ∷ []) plan ++ frames_after es b more) (push-append before step plan))
 
-  bytes-append : (plan more : List Step) → recut_bytes (plan ++ more) es ≡ recut_bytes plan es ++ stream (frames_behind es plan more)
-  bytes-append plan more = ap stream (frames-append [] plan more) ∙ stream-append (recut plan es) (frames_behind es plan more)
+  bytes-append : (plan more : List Step) → recut_bytes (plan ++ more) es ≡ recut_bytes plan es ++ stream (frames_after es plan more)
+  bytes-append plan more = ap stream (frames-append [] plan more) ∙ stream-append (recut plan es) (frames_after es plan more)
 
   pub bytes_push : (plan : List Step) (i : ℕ) (d : Step) → i < length plan
       → recut_bytes (take (i + 1) plan) es ≡ recut_bytes (take i plan) es ++ frame_bytes (frame_at es (take i plan) (get_or plan i d))
@@ -44,10 +44,10 @@ module _ (es : List MeantEvent) where
       ap (λ (steps : List Step). recut_bytes steps es) (take_more plan i d less) ∙ bytes-append (take i plan) (get_or plan i d ∷ [])
       ∙ ap (λ (bs : List ℕ). recut_bytes (take i plan) es ++ bs) (append-nil (frame_bytes (frame_at es (take i plan) (get_or plan i d))))
 
-  pub bytes_behind : (plan : List Step) (i : ℕ) → recut_bytes plan es ≡ recut_bytes (take i plan) es ++ stream (frames_behind es (take i plan) (drop i plan))
-  bytes_behind plan i = ap (λ (steps : List Step). recut_bytes steps es) (sym (take-append-drop i plan)) ∙ bytes-append (take i plan) (drop i plan)
+  pub bytes_after : (plan : List Step) (i : ℕ) → recut_bytes plan es ≡ recut_bytes (take i plan) es ++ stream (frames_after es (take i plan) (drop i plan))
+  bytes_after plan i = ap (λ (steps : List Step). recut_bytes steps es) (sym (take-append-drop i plan)) ∙ bytes-append (take i plan) (drop i plan)
 
--- ---- the frame by what a walk knows
+-- ---- the frame by the state of the walk
 
 module _ (role : Role) (limits : Limits) (es : List MeantEvent) (plan : List Step) (walk : Walk) (walked : Follows role limits es plan walk) where
   pub frame_is : (step : Step) → frame_here walk (drop walk.event es) step ≡ frame_at es plan step
@@ -55,7 +55,7 @@ module _ (role : Role) (limits : Limits) (es : List MeantEvent) (plan : List Ste
   frame_is (Last key form) = λ i. step_frame (walked.counted i) (walked.summed i) (walked.remaining i) (Last key form)
   frame_is (Control key) = λ i. step_frame (walked.counted i) (walked.summed i) (walked.remaining i) (Control key)
 
-  pub form_is : (step : Step) → BeginsToFit role limits (plan ++ step ∷ []) es → SpellsItsLength walk (drop walk.event es) step
+  pub form_is : (step : Step) → BeginsToFit role limits (plan ++ step ∷ []) es → EncodesItsLength walk (drop walk.event es) step
   form_is (Piece len key form) begins = (step_law role limits es plan (Piece len key form) begins).1.1.1
   form_is (Last key form) begins =
       let law = (step_law role limits es plan (Last key form) begins).1 in
@@ -63,9 +63,9 @@ module _ (role : Role) (limits : Limits) (es : List MeantEvent) (plan : List Ste
       rw (text_is, walked.summed) law.5.1
   form_is (Control key) begins = tt
 
--- ---- a plan that fits, on its way
+-- ---- a plan that fits, step by step
 
--- The walk has followed so many of its steps.
+-- The walk has followed the first i steps.
 pub record IsUnderWay (es : List MeantEvent) (plan : List Step) (i : ℕ) (walk : Walk) : Type 0 where
   pub within : FitsWithin plan es
   pub follows : Follows within.role within.limits es (take i plan) walk
@@ -90,16 +90,16 @@ module _ (es : List MeantEvent) (plan : List Step) (i : ℕ) (walk : Walk) (way 
       (omega (arith, size, held), omega (arith, bounded.1, most, ap (λ (t : List ℕ). length t) (next_is (drop walk.event es) text is)))
 
   module _ (d : Step) (less : i < length plan) where
-    pub may_here : MayTake walk es (get_or plan i d)
-    may_here = takes way.within.role way.within.limits es (take i plan) walk (get_or plan i d) way.follows (begins_here d less)
+    pub may_here : IsApplicable walk es (get_or plan i d)
+    may_here = consumes way.within.role way.within.limits es (take i plan) walk (get_or plan i d) way.follows (begins_here d less)
 
-    pub form_here : SpellsItsLength walk (drop walk.event es) (get_or plan i d)
+    pub form_here : EncodesItsLength walk (drop walk.event es) (get_or plan i d)
     form_here = form_is way.within.role way.within.limits es (take i plan) walk way.follows (get_or plan i d) (begins_here d less)
 
     pub small_here : walk.held < 2 ^ 64 → held_after walk.held (get_or plan i d) < 2 ^ 64
     small_here small = held_is_small way.within.role way.within.limits es walk (get_or plan i d) way.within.range way.within.lawful small may_here
 
-    pub way_on : (next : Walk) → IsTaken walk next (get_or plan i d) → IsUnderWay es plan (i + 1) next
+    pub way_on : (next : Walk) → HasAdvancedBy walk next (get_or plan i d) → IsUnderWay es plan (i + 1) next
     way_on next taken = record {
       within = way.within;
       follows = follows_on way.within.role way.within.limits es plan i d walk next less way.follows (begins_here d less) taken;
@@ -124,9 +124,9 @@ module _ (es : List MeantEvent) (plan : List Step) (i : ℕ) (walk : Walk) (way 
     partly_on before mid after went (failed, (k, out)) =
         let front = recut_bytes (take i plan) es in
         let frame = frame_bytes (frame_here walk (drop walk.event es) (get_or plan i d)) in
-        let rest = stream (frames_behind es (take (i + 1) plan) (drop (i + 1) plan)) in
+        let rest = stream (frames_after es (take (i + 1) plan) (drop (i + 1) plan)) in
         let longer = front_of_more (length front + k) (front ++ frame) rest in
-        let whole : (front ++ frame) ++ rest ≡ recut_bytes plan es = ap (λ (bs : List ℕ). bs ++ rest) more_bytes ∙ sym (bytes_behind es plan (i + 1)) in
+        let whole : (front ++ frame) ++ rest ≡ recut_bytes plan es = ap (λ (bs : List ℕ). bs ++ rest) more_bytes ∙ sym (bytes_after es plan (i + 1)) in
         let same : front ++ take k frame ≡ take longer.0 (recut_bytes plan es) =
         sym (take-append-add front frame k) ∙ sym longer.1 ∙ ap (λ (bs : List ℕ). take longer.0 bs) whole in
         (failed, (longer.0, subst (λ (bs : List ℕ). Appends before.written after.written bs) same (Appends-trans before.written mid.written after.written front (take k frame) went.1 out)))

@@ -1,10 +1,10 @@
--- What a recut says at each of its ends, of the bytes that came and of all bytes of an input.
+-- What a recut answers at each of its ends, for the bytes that came and for all bytes of an input.
 use Rattle.std.proofs.Common.{◌≡◌, ℕ, ◌+◌, ◌<◌, Option, None, Some, Result, Ok, Err, List, [], ◌++◌, length, take, map, inl, inr, refl, sym, ap, ◌∙◌, subst, append-nil, length-append, arith}
 use Rattle.std.proofs.lemmas.List.{take-append-le, length-map}
 use Rattle.std.specs.Io.KnownBytes.{Consumes}
 use Rattle.wsn_wire.specs.declared.endpoint.Role.{Role}
 use Rattle.wsn_wire.specs.Frame.{Frame, stream}
-use Rattle.wsn_wire.specs.Transfer.{Incoming, Outgoing}
+use Rattle.wsn_io.specs.Transfer.{Incoming, Outgoing}
 use Rattle.wsn_rules.specs.declared.verdict.Summary.{Summary}
 use Rattle.wsn_rules.specs.declared.verdict.Verdict.{Verdict}
 use Rattle.wsn_rules.specs.declared.verdict.Verdict.TheVariants.{Accepted, Cut, Refused}
@@ -14,19 +14,19 @@ use Rattle.wsn_rules.specs.Accepted.{IsAccepted}
 use Rattle.wsn_rules.specs.Meaning.{MeantEvent, meaning}
 use Rattle.wsn_rules.specs.Verdict.{IsVerdict}
 use Rattle.wsn_rules.proofs.LawfulMeaning.{lawful_meaning}
-use Rattle.wsn_scan.specs.declared.stop.Stop.{Stop}
-use Rattle.wsn_scan.specs.declared.stop.Stop.TheVariants as stop
+use Rattle.wsn_io.specs.declared.stop.Stop.{Stop}
+use Rattle.wsn_io.specs.declared.stop.Stop.TheVariants as stop
 use Rattle.wsn_scan.specs.Judging.{IsReached, IsUnrefused}
-use Rattle.wsn_canon.specs.EventsMeant.{meant}
-use Rattle.wsn_canon.specs.Normalised.{IsWithinLimit}
-use Rattle.wsn_canon.specs.Sources.{IsMeaningOf}
-use Rattle.wsn_canon.proofs.WholeNormalForms.{of_all}
+use Rattle.wsn_plan.specs.KeptEvents.{kept_meant}
+use Rattle.wsn_events.specs.Normalised.{IsWithinLimit}
+use Rattle.wsn_events.specs.Sources.{IsMeaningOf}
+use Rattle.wsn_events.proofs.WholeNormalForms.{of_all}
 use Rattle.wsn_plan.specs.declared.gathering.Gathered.{Gathered}
 use Rattle.wsn_plan.specs.declared.recutting.RecutAnswer.{RecutAnswer}
 use Rattle.wsn_plan.specs.declared.recutting.RecutAnswer.TheVariants.{Done, NotAccepted, Fault}
-use Rattle.wsn_plan.specs.Gathering.{HasWholeFrame, IsStoppedBehind, IsGathered}
-use Rattle.wsn_canon.specs.Comparing.{IsAnAccepted}
-use Rattle.wsn_plan.specs.Recutting.{IsAnswerTo, GoesOut, IsCutAgain, Planner, IsRecutOf, IsRecut, IsRecutWhole}
+use Rattle.wsn_plan.specs.Gathering.{HasWholeFrame, IsStoppedAfter, IsGathered}
+use Rattle.wsn_events.specs.Comparing.{IsAnAccepted}
+use Rattle.wsn_plan.specs.Recutting.{IsAnswerTo, GoesOut, IsRefragmented, Planner, IsRecutOf, IsRecut, IsRecutWhole}
 
 not_accepted : (verdict : Verdict) → ((s : Summary) → verdict ≡ Accepted s → ⊥) → IsAnAccepted verdict → ⊥
 not_accepted (Accepted s) none is = none s refl
@@ -44,15 +44,15 @@ module _ {A : Type 0} (role : Role) (limits : Limits) (planned : Planner) (old n
   pub stopped_before : (stopped : Stop) → IsGathered {A = A} role limits old new (Err stopped) → IsRecut role limits planned old new before before (Err stopped)
   stopped_before stopped gathered = record { came = gathered.came; received = gathered.received; of_bytes = of stopped gathered.of_bytes }
     where
-      of : (s : Stop) → IsStoppedBehind role limits new gathered.came s → IsRecutOf role limits planned new gathered.came before before (Err s)
-      of stop.Read told = (told, refl)
-      of stop.InputLimit told = (told, refl)
-      of stop.Memory told = (told, refl)
-      of stop.Write told = absurd told
+      of : (s : Stop) → IsStoppedAfter role limits new gathered.came s → IsRecutOf role limits planned new gathered.came before before (Err s)
+      of stop.Read has_reported = (has_reported, refl)
+      of stop.InputLimit has_reported = (has_reported, refl)
+      of stop.Memory has_reported = (has_reported, refl)
+      of stop.Write has_reported = absurd has_reported
 
   module _ (g : Gathered A) (gathered : IsGathered role limits old new (Ok g)) where
     abbrev events : List MeantEvent
-    events = map meant g.events.items
+    events = map kept_meant g.events.items
 
     pub isnt_accepted : ((s : Summary) → g.verdict ≡ Accepted s → ⊥) → IsRecut role limits planned old new before before (Ok (NotAccepted g.verdict))
     isnt_accepted none = record {
@@ -71,29 +71,29 @@ module _ {A : Type 0} (role : Role) (limits : Limits) (planned : Planner) (old n
       pub are_lawful : AreLawful limits.message events
       are_lawful = subst (AreLawful limits.message) (sym frames_of.2) (lawful_meaning role limits frames_of.0 frames_of.1.lawful gathered.range)
 
-      pub cut : (after : Outgoing) (result : Result RecutAnswer Stop) → IsCutAgain role limits (planned events) events before after result → IsRecut role limits planned old new before after result
+      pub cut : (after : Outgoing) (result : Result RecutAnswer Stop) → IsRefragmented role limits (planned events) events before after result → IsRecut role limits planned old new before after result
       cut after result did = record { came = gathered.came; received = gathered.received; of_bytes = of result did }
         where
           ok : IsAnAccepted g.verdict
           ok = accepted g.verdict s is
 
-          of : (r : Result RecutAnswer Stop) → IsCutAgain role limits (planned events) events before after r → IsRecutOf role limits planned new gathered.came before after r
-          of (Ok Done) told = (g.verdict, events, gathered.of_bytes, (ok, told.0), told.1)
-          of (Ok (NotAccepted verdict)) told = absurd told
-          of (Ok (Fault step why)) told = (g.verdict, events, gathered.of_bytes, (ok, told.0), told.1)
-          of (Err stop.Write) told = (g.verdict, events, gathered.of_bytes, (ok, told.1), told.2)
-          of (Err stop.Read) told = let no : stop.Read ≡ stop.Write = told.0 in absurd cc
-          of (Err stop.InputLimit) told = let no : stop.InputLimit ≡ stop.Write = told.0 in absurd cc
-          of (Err stop.Memory) told = let no : stop.Memory ≡ stop.Write = told.0 in absurd cc
+          of : (r : Result RecutAnswer Stop) → IsRefragmented role limits (planned events) events before after r → IsRecutOf role limits planned new gathered.came before after r
+          of (Ok Done) has_reported = (g.verdict, events, gathered.of_bytes, (ok, has_reported.0), has_reported.1)
+          of (Ok (NotAccepted verdict)) has_reported = absurd has_reported
+          of (Ok (Fault step why)) has_reported = (g.verdict, events, gathered.of_bytes, (ok, has_reported.0), has_reported.1)
+          of (Err stop.Write) has_reported = (g.verdict, events, gathered.of_bytes, (ok, has_reported.1), has_reported.2)
+          of (Err stop.Read) has_reported = let no : stop.Read ≡ stop.Write = has_reported.0 in absurd cc
+          of (Err stop.InputLimit) has_reported = let no : stop.InputLimit ≡ stop.Write = has_reported.0 in absurd cc
+          of (Err stop.Memory) has_reported = let no : stop.Memory ≡ stop.Write = has_reported.0 in absurd cc
 
-      -- no memory for the plan: there is an event, and so a whole frame
+      -- an allocation for the plan failed: there is an event, and so a whole frame
       whole_frame : 0 < length g.events.items → HasWholeFrame role limits gathered.came
       whole_frame some =
           let front = frames_front role limits gathered.came frames_of.0 frames_of.1 in
           record {
             frames = frames_of.0;
             lawful = frames_of.1.lawful;
-            some = λ none. omega (arith, length-map g.events.items meant, ap (λ (es : List MeantEvent). length es) (frames_of.2 ∙ ap meaning none), some);
+            some = λ none. omega (arith, length-map g.events.items kept_meant, ap (λ (es : List MeantEvent). length es) (frames_of.2 ∙ ap meaning none), some);
             rest = front.0;
             whole = front.1;
           }
@@ -126,20 +126,20 @@ module _ (role : Role) (limits : Limits) (planned : Planner) where
 
       by_result : (rest : List ℕ) → new.remaining ≡ Some rest → all ≡ came ++ rest → (r : Result RecutAnswer Stop)
           → IsRecutOf role limits planned new came before after r → IsRecutWhole role limits planned all before after r
-      by_result rest left is (Ok answer) (verdict, kept, last, told, out) =
+      by_result rest left is (Ok answer) (verdict, kept, last, has_reported, out) =
           let fs = last.1.0 in
           let here = of_all role limits new came rest fs verdict last.0 left last.1.1 in (
             verdict,
             fs,
             subst (λ (bs : List ℕ). IsVerdict role limits bs fs verdict) (sym is) here.0,
             subst (λ (bs : List ℕ). IsWithinLimit limits bs verdict) (sym is) here.1,
-            subst (λ (es : List MeantEvent). IsAnswerTo role limits (planned es) verdict es answer) last.1.2 told,
+            subst (λ (es : List MeantEvent). IsAnswerTo role limits (planned es) verdict es answer) last.1.2 has_reported,
             subst (λ (es : List MeantEvent). GoesOut (planned es) es before after answer) last.1.2 out,
           )
-      by_result rest left is (Err stop.InputLimit) (told, same) = let past = past_limit role limits came rest all is told.0 told.1 in (past.0, past.1, same)
-      by_result rest left is (Err stop.Read) told = tt
-      by_result rest left is (Err stop.Memory) told = tt
-      by_result rest left is (Err stop.Write) told = tt
+      by_result rest left is (Err stop.InputLimit) (has_reported, same) = let past = past_limit role limits came rest all is has_reported.0 has_reported.1 in (past.0, past.1, same)
+      by_result rest left is (Err stop.Read) has_reported = tt
+      by_result rest left is (Err stop.Memory) has_reported = tt
+      by_result rest left is (Err stop.Write) has_reported = tt
 
       by_rest : (rest : Option (List ℕ)) → new.remaining ≡ rest → Consumes (Some all) rest came → IsRecutWhole role limits planned all before after result
       by_rest None left consumed = absurd consumed

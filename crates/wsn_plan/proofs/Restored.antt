@@ -1,11 +1,11 @@
--- A normal form, cut again by the plan of the input that it was written of, is the input.
+-- A normal form, refragmented by the plan of the input that it was written of, is that input.
 use Rattle.std.proofs.Common.{◌≡◌, ℕ, ◌+◌, ◌-◌, ◌≤◌, Bool, true, false, cond, Option, None, Some, Ok, List, [], ◌∷◌, ◌++◌, length, take, inl, inr, refl, sym, ap, ◌∙◌, subst, arith, length-append}
 use Rattle.std.proofs.lemmas.List.{take-append-le, take_all}
 use Rattle.wsn_wire.specs.declared.endpoint.Role.{Role}
 use Rattle.wsn_wire.specs.declared.opcode.Op.{Op}
 use Rattle.wsn_wire.specs.declared.opcode.Op.TheVariants.{Close}
 use Rattle.wsn_wire.specs.Frame.{Frame, stream}
-use Rattle.wsn_wire.specs.Transfer.{Outgoing, IsWritten}
+use Rattle.wsn_io.specs.Transfer.{Outgoing, IsWritten}
 use Rattle.wsn_rules.specs.declared.step.Step.{Step}
 use Rattle.wsn_rules.specs.declared.verdict.Summary.{Summary}
 use Rattle.wsn_rules.specs.declared.verdict.Verdict.{Verdict}
@@ -22,28 +22,28 @@ use Rattle.wsn_rules.specs.Verdict.{IsVerdict}
 use Rattle.wsn_rules.proofs.NormalLaws.{own_frames}
 use Rattle.wsn_rules.proofs.OneVerdict.{one_verdict}
 use Rattle.wsn_rules.proofs.PlanTheory.PlansOfFrames.{plan_of_fits, plan_of_restores}
-use Rattle.wsn_canon.specs.Normalised.{IsNormalisedWhole}
+use Rattle.wsn_events.specs.Normalised.{IsNormalisedWhole}
 use Rattle.wsn_plan.specs.declared.planning.PlanAnswer.TheVariants.{Plan}
 use Rattle.wsn_plan.specs.declared.recutting.RecutAnswer.{RecutAnswer}
 use Rattle.wsn_plan.specs.declared.recutting.RecutAnswer.TheVariants.{Done}
 use Rattle.wsn_plan.specs.Planning.{IsPlannedWhole, IsRestored}
-use Rattle.wsn_canon.specs.Comparing.{IsAnAccepted}
+use Rattle.wsn_events.specs.Comparing.{IsAnAccepted}
 use Rattle.wsn_plan.specs.Recutting.{IsAnswerTo, GoesOut, IsRecutWhole}
 use Rattle.wsn_plan.proofs.OneRecut.{one_recut_answer}
 
--- ---- what was used, and the tail
+-- ---- the bytes used, and the tail
 
-behind_an_open : (here : Bool) (code : Option ℕ) (later : Option (Option ℕ)) → cond here (Some code) later ≡ None → later ≡ None
-behind_an_open true code later none = absurd cc
-behind_an_open false code later none = none
+after_an_open : (here : Bool) (code : Option ℕ) (later : Option (Option ℕ)) → cond here (Some code) later ≡ None → later ≡ None
+after_an_open true code later none = absurd cc
+after_an_open false code later none = none
 
 ends_closed : (before : List Frame) (f : Frame) → f.op ≡ Close → close_of (before ++ f ∷ []) ≡ None → ⊥
 ends_closed [] f is none =
-    let told : cond (is_close Close) (Some (close_code f.payload)) None ≡ None = subst (λ (o : Op). cond (is_close o) (Some (close_code f.payload)) None ≡ None) is none in
+    let has_reported : cond (is_close Close) (Some (close_code f.payload)) None ≡ None = subst (λ (o : Op). cond (is_close o) (Some (close_code f.payload)) None ≡ None) is none in
     absurd cc
-ends_closed (b ∷ before) f is none = ends_closed before f is (behind_an_open (is_close b.op) (close_code b.payload) (close_of (before ++ f ∷ [])) none)
+ends_closed (b ∷ before) f is none = ends_closed before f is (after_an_open (is_close b.op) (close_code b.payload) (close_of (before ++ f ∷ [])) none)
 
--- the frames of an accepted input are its front, and all of it without a Close
+-- The frames of an accepted input are a prefix of it, and all of it without a Close.
 pub record IsFront (all : List ℕ) (fs : List Frame) : Type 0 where
   pub front : take (length (stream fs)) all ≡ stream fs
   pub within : length (stream fs) ≤ length all
@@ -72,7 +72,7 @@ module _ (role : Role) (limits : Limits) (range : InRange limits) (all : List �
   Restores = (normal : List ℕ) × IsWritten before after normal × ((recut_before recut_after : Outgoing) (answer : RecutAnswer)
       → IsRecutWhole role limits (λ _. plan) normal recut_before recut_after (Ok answer) → (answer ≡ Done) × IsRestored all verdict recut_before recut_after)
 
-  -- of frames that leave no message unfinished
+  -- for frames that leave no message unfinished
   module _ (summary : Summary) (fs : List Frame) (is : IsVerdict role limits all fs (Accepted summary)) (finished : unfinished fs ≡ []) (same : plan ≡ plan_of fs) where
     abbrev normal : List ℕ
     normal = normal_form role (meaning fs)
@@ -100,7 +100,7 @@ module _ (role : Role) (limits : Limits) (range : InRange limits) (all : List �
 
     restored_by : (recut_before recut_after : Outgoing) (answer : RecutAnswer) → IsRecutWhole role limits (λ _. plan) normal recut_before recut_after (Ok answer)
         → (answer ≡ Done) × IsRestored all (Accepted summary) recut_before recut_after
-    restored_by recut_before recut_after answer (v, gs, v_is, within, told, out) = (done, (written, whole, no_tail))
+    restored_by recut_before recut_after answer (v, gs, v_is, within, has_reported, out) = (done, (written, whole, no_tail))
       where
         alike : (gs ≡ own.0) × (v ≡ Accepted own_verdict.0)
         alike = one_verdict role limits normal gs own.0 v (Accepted own_verdict.0) v_is own_verdict.1
@@ -108,11 +108,11 @@ module _ (role : Role) (limits : Limits) (range : InRange limits) (all : List �
         means : meaning gs ≡ meaning fs
         means = ap meaning alike.0 ∙ own.4
 
-        told_here : IsAnswerTo role limits plan (Accepted own_verdict.0) (meaning fs) answer
-        told_here = subst (λ (u : Verdict). IsAnswerTo role limits plan u (meaning fs) answer) alike.1 (subst (λ (es : List MeantEvent). IsAnswerTo role limits plan v es answer) means told)
+        reported_here : IsAnswerTo role limits plan (Accepted own_verdict.0) (meaning fs) answer
+        reported_here = subst (λ (u : Verdict). IsAnswerTo role limits plan u (meaning fs) answer) alike.1 (subst (λ (es : List MeantEvent). IsAnswerTo role limits plan v es answer) means has_reported)
 
         done : answer ≡ Done
-        done = one_recut_answer role limits plan (Accepted own_verdict.0) (meaning fs) answer Done told_here (tt, fits)
+        done = one_recut_answer role limits plan (Accepted own_verdict.0) (meaning fs) answer Done reported_here (tt, fits)
 
         out_here : IsWritten recut_before recut_after (recut_bytes plan (meaning fs))
         out_here = subst (λ (a : RecutAnswer). GoesOut plan (meaning fs) recut_before recut_after a) done (subst (λ (es : List MeantEvent). GoesOut plan es recut_before recut_after answer) means out)

@@ -2,7 +2,7 @@
 use Rattle.std.proofs.Common.{◌≡◌, ℕ, Ok, List, []}
 use Rattle.wsn_wire.specs.declared.endpoint.Role.{Role}
 use Rattle.wsn_wire.specs.Frame.{Frame, stream}
-use Rattle.wsn_wire.specs.Transfer.{Outgoing, IsWritten}
+use Rattle.wsn_io.specs.Transfer.{Outgoing, IsWritten}
 use Rattle.wsn_rules.specs.declared.verdict.Verdict.{Verdict}
 use Rattle.wsn_rules.specs.declared.verdict.Verdict.TheVariants.{Accepted, Cut, Refused}
 use Rattle.wsn_rules.specs.Accepted.{IsAccepted}
@@ -16,11 +16,11 @@ use Rattle.wsn_rules.specs.Verdict.{IsVerdict}
 use Rattle.wsn_rules.proofs.LawfulMeaning.{lawful_meaning}
 use Rattle.wsn_rules.proofs.PlanTheory.RecutFrames.{recut_is_finished, recut_means, recut_is_accepted}
 use Rattle.wsn_plan.specs.declared.recutting.RecutAnswer.TheVariants.{Done}
-use Rattle.wsn_canon.specs.Comparing.{IsAnAccepted}
+use Rattle.wsn_events.specs.Comparing.{IsAnAccepted}
 use Rattle.wsn_plan.specs.Recutting.{IsRecutWhole, Planner}
 
 module _ (role : Role) (limits : Limits) (planned : Planner) (all : List ℕ) (before after : Outgoing) (range : InRange limits) (are_plans : (events : List MeantEvent) → IsPlan (planned events)) where
-  -- it went out, and with the input it is accepted and means the same
+  -- it was written, is accepted as the input is, and means the same
   abbrev MeansTheSame : Type 0
   MeansTheSame = (fs gs : List Frame) × IsAccepted role limits all fs × IsWritten before after (stream gs)
       × IsAccepted role limits (stream gs) gs × (unfinished gs ≡ []) × (meaning gs ≡ meaning fs)

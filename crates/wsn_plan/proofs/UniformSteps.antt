@@ -1,11 +1,11 @@
--- The uniform plan, event after event, with the controls that wait for their message counted.
+-- The uniform plan, event by event, with the controls before the next message counted.
 use Rattle.std.proofs.Common.{◌≡◌, ℕ, ◌+◌, ◌-◌, zero, suc, Bool, true, false, Option, List, [], ◌∷◌, ◌++◌, length, replicate, take, drop, min, Result, Ok, Err, IfOk, refl, sym, ap, ◌∙◌, append_assoc, arith}
-use Rattle.wsn_wire.specs.declared.spelling.Form.TheVariants.{Shortest}
+use Rattle.wsn_wire.specs.declared.length_forms.Form.TheVariants.{Shortest}
 use Rattle.wsn_rules.specs.declared.step.Step.{Step}
 use Rattle.wsn_rules.specs.declared.step.Step.TheVariants.{Piece, Last, Control}
 use Rattle.wsn_rules.specs.Meaning.{MeantEvent, Message}
 use Rattle.wsn_rules.specs.Meaning as meant_event
-use Rattle.wsn_rules.specs.UniformPlan.{piece_count, ahead, uniform_behind, uniform_pieces}
+use Rattle.wsn_rules.specs.UniformPlan.{piece_count, ahead, uniform_after, uniform_pieces}
 use Rattle.wsn_plan.specs.Uniform.{message_steps}
 use Rattle.wsn_plan.specs.Walking.{IsControl, IsMessageOf}
 
@@ -20,7 +20,7 @@ pub pushed_more : (old plan next : List Step) (n : ℕ) (x : Step) → plan ≡ 
 pushed_more old plan next n x so_far more =
     more ∙ ap (λ (xs : List Step). xs ++ x ∷ []) so_far ∙ append_assoc old (replicate n x) (x ∷ []) ∙ ap (λ (xs : List Step). old ++ xs) (replicate_more n x)
 
--- how many Pieces stand ahead of the controls, and how many behind
+-- how many Pieces come before the controls, and how many after
 pub split_pieces : (weave : Bool) (n m : ℕ) (x : Step) → m ≡ min n (ahead weave) → (take (ahead weave) (replicate n x) ≡ replicate m x) × (drop (ahead weave) (replicate n x) ≡ replicate (n - m) x)
 split_pieces false n m x is =
     let none : m ≡ 0 = omega arith in
@@ -36,32 +36,32 @@ split_pieces true (suc n) m x is =
     (sym (ap (λ (k : ℕ). replicate k x) one), ap (λ (k : ℕ). replicate k x) rest)
 
 module _ (size : ℕ) (weave : Bool) (key : Option (List ℕ)) where
-  -- the plan behind so many controls that wait
-  abbrev pub plan_behind : ℕ → List MeantEvent → List Step
-  plan_behind controls left = uniform_behind size weave key (replicate controls (Control key)) left
+  -- the plan of the counted controls and the events that are left
+  abbrev pub plan_after : ℕ → List MeantEvent → List Step
+  plan_after controls left = uniform_after size weave key (replicate controls (Control key)) left
 
-  pub control_waits : (controls : ℕ) (op : _) (body : List ℕ) (later : List MeantEvent) → plan_behind controls (meant_event.Control op body ∷ later) ≡ plan_behind (controls + 1) later
+  pub control_waits : (controls : ℕ) (op : _) (body : List ℕ) (later : List MeantEvent) → plan_after controls (meant_event.Control op body ∷ later) ≡ plan_after (controls + 1) later
   control_waits controls op body later =
-      ap (λ (run : List Step). uniform_behind size weave key run later) (replicate_more controls (Control key))
+      ap (λ (run : List Step). uniform_after size weave key run later) (replicate_more controls (Control key))
 
   pub message_comes : (controls : ℕ) (kind : _) (text : List ℕ) (later : List MeantEvent)
-      → plan_behind controls (Message kind text ∷ later) ≡ message_steps size weave key controls (length text) ++ plan_behind 0 later
+      → plan_after controls (Message kind text ∷ later) ≡ message_steps size weave key controls (length text) ++ plan_after 0 later
   message_comes controls kind text later =
       let pieces = uniform_pieces size key text in
       let first = take (ahead weave) pieces in
       let run = replicate controls (Control key) in
       let others = drop (ahead weave) pieces in
-      let rest = plan_behind 0 later in
+      let rest = plan_after 0 later in
       sym (
       append_assoc first (run ++ (others ++ Last key Shortest ∷ [])) rest
       ∙ ap (λ (steps : List Step). first ++ steps) (append_assoc run (others ++ Last key Shortest ∷ []) rest
       ∙ ap (λ (steps : List Step). run ++ steps) (append_assoc others (Last key Shortest ∷ []) rest))
       )
 
-  pub message_pushed : (old ahead_of run behind all : List Step) (controls bytes m : ℕ) → m ≡ min (piece_count size bytes) (ahead weave)
+  pub message_pushed : (old ahead_of run following all : List Step) (controls bytes m : ℕ) → m ≡ min (piece_count size bytes) (ahead weave)
       → ahead_of ≡ old ++ replicate m (Piece size key Shortest) → run ≡ ahead_of ++ replicate controls (Control key)
-      → behind ≡ run ++ replicate (piece_count size bytes - m) (Piece size key Shortest) → all ≡ behind ++ Last key Shortest ∷ [] → all ≡ old ++ message_steps size weave key controls bytes
-  message_pushed old ahead_of run behind all controls bytes m least first second third fourth =
+      → following ≡ run ++ replicate (piece_count size bytes - m) (Piece size key Shortest) → all ≡ following ++ Last key Shortest ∷ [] → all ≡ old ++ message_steps size weave key controls bytes
+  message_pushed old ahead_of run following all controls bytes m least first second third fourth =
       let piece = Piece size key Shortest in
       let parts = split_pieces weave (piece_count size bytes) m piece least in
       let a = replicate m piece in
@@ -73,21 +73,21 @@ module _ (size : ℕ) (weave : Bool) (key : Option (List ℕ)) where
       pushed ∙ joined ∙ ap (λ (xs : List Step). old ++ (xs ++ (b ++ (d ++ e)))) (sym parts.0)
       ∙ ap (λ (xs : List Step). old ++ (take (ahead weave) (replicate (piece_count size bytes) piece) ++ (b ++ (xs ++ e)))) (sym parts.1)
 
-  -- ---- the plan so far, and what is behind it
+  -- ---- the plan so far, and the rest
 
-  pub counts_control : (plan whole : List Step) (controls : ℕ) (e : MeantEvent) (later : List MeantEvent) → IsControl e → whole ≡ plan ++ plan_behind controls (e ∷ later) → whole ≡ plan ++ plan_behind (controls + 1) later
+  pub counts_control : (plan whole : List Step) (controls : ℕ) (e : MeantEvent) (later : List MeantEvent) → IsControl e → whole ≡ plan ++ plan_after controls (e ∷ later) → whole ≡ plan ++ plan_after (controls + 1) later
   counts_control plan whole controls e later (op, body, is) so_far =
-      so_far ∙ ap (λ (x : MeantEvent). plan ++ plan_behind controls (x ∷ later)) is ∙ ap (λ (xs : List Step). plan ++ xs) (control_waits controls op body later)
+      so_far ∙ ap (λ (x : MeantEvent). plan ++ plan_after controls (x ∷ later)) is ∙ ap (λ (xs : List Step). plan ++ xs) (control_waits controls op body later)
 
-  pub ends_message : (plan next whole : List Step) (controls bytes : ℕ) (e : MeantEvent) (later : List MeantEvent) → IsMessageOf e bytes → whole ≡ plan ++ plan_behind controls (e ∷ later)
-      → next ≡ plan ++ message_steps size weave key controls bytes → whole ≡ next ++ plan_behind 0 later
+  pub ends_message : (plan next whole : List Step) (controls bytes : ℕ) (e : MeantEvent) (later : List MeantEvent) → IsMessageOf e bytes → whole ≡ plan ++ plan_after controls (e ∷ later)
+      → next ≡ plan ++ message_steps size weave key controls bytes → whole ≡ next ++ plan_after 0 later
   ends_message plan next whole controls bytes e later (kind, text, is, len) so_far pushed =
       let steps = message_steps size weave key controls (length text) in
       let same : next ≡ plan ++ steps = pushed ∙ ap (λ (n : ℕ). plan ++ message_steps size weave key controls n) len in
-      so_far ∙ ap (λ (x : MeantEvent). plan ++ plan_behind controls (x ∷ later)) is ∙ ap (λ (xs : List Step). plan ++ xs) (message_comes controls kind text later)
-      ∙ sym (append_assoc plan steps (plan_behind 0 later)) ∙ sym (ap (λ (xs : List Step). xs ++ plan_behind 0 later) same)
+      so_far ∙ ap (λ (x : MeantEvent). plan ++ plan_after controls (x ∷ later)) is ∙ ap (λ (xs : List Step). plan ++ xs) (message_comes controls kind text later)
+      ∙ sym (append_assoc plan steps (plan_after 0 later)) ∙ sym (ap (λ (xs : List Step). xs ++ plan_after 0 later) same)
 
--- of what was done, if it was
+-- what follows from a result that is Ok
 pub ok_on : {A E : Type 0} (r : Result A E) (P Q : Type 0) → (P → Q) → IfOk r (λ _. P) → IfOk r (λ _. Q)
 ok_on (Ok a) P Q f p = f p
 ok_on (Err e) P Q f p = p

@@ -1,4 +1,4 @@
--- A plan that is walked over events: what its next step stands for, and what is known behind it.
+-- A plan that is followed over events: what its next step is for, and the state after it.
 use Rattle.std.proofs.Common.{◌≡◌, ℕ, ◌+◌, ◌<◌, ◌≤◌, ◌^◌, zero, suc, List, [], ◌∷◌, ◌++◌, length, take, drop, get_or, sym, ap, ◌∙◌, subst, drop-drop, arith}
 use Rattle.std.proofs.lemmas.List.{drop_more, take_more, take-append-drop}
 use Rattle.std.proofs.Math.Seq.{take-length, length-take-le}
@@ -19,7 +19,7 @@ use Rattle.wsn_rules.proofs.PlanTheory.PiecesInARow.{length_push, total_push}
 use Rattle.wsn_rules.proofs.PlanTheory.RecutSteps.{next_is, next_is_lawful}
 use Rattle.wsn_rules.proofs.PlanTheory.Walked.{walked_piece, walked_last, walked_control, walked_fault}
 use Rattle.wsn_plan.specs.declared.walking.Walk.{Walk}
-use Rattle.wsn_plan.specs.Walking.{MayTake, IsTaken, pieces_after, held_after, event_after}
+use Rattle.wsn_plan.specs.Walking.{IsApplicable, HasAdvancedBy, pieces_after, held_after, event_after}
 
 pub lawful_from : (most n : ℕ) (es : List MeantEvent) → AreLawful most es → AreLawful most (drop n es)
 lawful_from most zero es lawful = lawful
@@ -38,22 +38,22 @@ module _ (role : Role) (limits : Limits) (es : List MeantEvent) where
   begins_on plan walk (Last key form) range walked none = (walked_last role limits es plan walk.pieces walk.held (drop walk.event es) range walked key form none).begins
   begins_on plan walk (Control key) range walked none = (walked_control role limits es plan walk.pieces walk.held (drop walk.event es) range walked key none).begins
 
-  pub takes : (plan : List Step) (walk : Walk) (step : Step) → Follows plan walk → BeginsToFit role limits (plan ++ step ∷ []) es → MayTake walk es step
-  takes plan walk (Piece len key form) walked begins =
+  pub consumes : (plan : List Step) (walk : Walk) (step : Step) → Follows plan walk → BeginsToFit role limits (plan ++ step ∷ []) es → IsApplicable walk es step
+  consumes plan walk (Piece len key form) walked begins =
       let law = step_law role limits es plan (Piece len key form) begins in
       let fit = law.1.0 in
       let size : total (pending plan ++ Piece len key form ∷ []) ≤ length fit.0 = fit.2.size in
       let summed : walk.held ≡ total (pending plan) = walked.summed in
       (fit.0, ap next_text walked.remaining ∙ fit.1, omega (arith, size, summed, total_push (pending plan) (Piece len key form)))
-  takes plan walk (Last key form) walked begins =
+  consumes plan walk (Last key form) walked begins =
       let law = (step_law role limits es plan (Last key form) begins).1 in
       (law.0, law.1, law.2, walked.remaining ∙ law.3)
-  takes plan walk (Control key) walked begins =
+  consumes plan walk (Control key) walked begins =
       let law = (step_law role limits es plan (Control key) begins).1 in
       (law.0, law.1, law.2, walked.remaining ∙ law.3)
 
-  -- the bytes of the Pieces are few
-  pub held_is_small : (walk : Walk) (step : Step) → InRange limits → AreLawful limits.message es → walk.held < 2 ^ 64 → MayTake walk es step → held_after walk.held step < 2 ^ 64
+  -- the bytes of the Pieces fit 64 bits
+  pub held_is_small : (walk : Walk) (step : Step) → InRange limits → AreLawful limits.message es → walk.held < 2 ^ 64 → IsApplicable walk es step → held_after walk.held step < 2 ^ 64
   held_is_small walk (Piece len key form) range lawful small may =
       let left = drop walk.event es in
       let bounded = next_is_lawful limits.message left may.0 (lawful_from limits.message walk.event es lawful) may.1 in
@@ -103,7 +103,7 @@ module _ (role : Role) (limits : Limits) (es : List MeantEvent) where
       (subst (λ (steps : List Step). IsFault role limits steps es (length (take i plan)) why) (parts_at plan i d less) fault)
 
   pub follows_on : (plan : List Step) (i : ℕ) (d : Step) (walk next : Walk) → i < length plan → Follows (take i plan) walk → BeginsToFit role limits (take i plan ++ get_or plan i d ∷ []) es
-      → IsTaken walk next (get_or plan i d) → Follows (take (i + 1) plan) next
+      → HasAdvancedBy walk next (get_or plan i d) → Follows (take (i + 1) plan) next
   follows_on plan i d walk next less walked begins taken =
       subst (λ (steps : List Step). Follows steps next) (sym (take_more plan i d less))
       (walked_on (take i plan) walk next (get_or plan i d) walked begins taken.0 taken.1 taken.2)

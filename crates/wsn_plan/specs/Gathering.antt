@@ -1,18 +1,18 @@
--- What reading an input to its verdict gives where all its events are kept.
+-- What reading an input to its verdict gives when all its events are kept.
 use Rattle.std.specs.Prelude.{◌≡◌, ◌≢◌, ℕ, ◌+◌, ◌⊎◌, false, Result, Ok, Err, List, [], ◌++◌, map}
 use Rattle.wsn_wire.specs.declared.endpoint.Role.{Role}
 use Rattle.wsn_wire.specs.Frame.{Frame, stream}
-use Rattle.wsn_wire.specs.Transfer.{Incoming, IsReceived}
+use Rattle.wsn_io.specs.Transfer.{Incoming, IsReceived}
 use Rattle.wsn_rules.specs.Limits.{Limits, InRange}
 use Rattle.wsn_rules.specs.Lawful.{IsLawful}
-use Rattle.wsn_scan.specs.declared.stop.Stop.{Stop}
-use Rattle.wsn_scan.specs.declared.stop.Stop.TheVariants as stop
+use Rattle.wsn_io.specs.declared.stop.Stop.{Stop}
+use Rattle.wsn_io.specs.declared.stop.Stop.TheVariants as stop
 use Rattle.wsn_scan.specs.Judging.{IsStopped}
-use Rattle.wsn_canon.specs.EventsMeant.{meant}
-use Rattle.wsn_canon.specs.Sources.{HasDataPayload, IsLast}
+use Rattle.wsn_plan.specs.KeptEvents.{kept_meant}
+use Rattle.wsn_events.specs.Sources.{HasDataPayload, IsLast}
 use Rattle.wsn_plan.specs.declared.gathering.Gathered.{Gathered}
 
--- A whole frame is among the bytes: they begin with lawful frames.
+-- The bytes have a whole frame: they begin with lawful frames, at least one.
 pub record HasWholeFrame (role : Role) (limits : Limits) (bytes : List ℕ) : Type 0 where
   pub frames : List Frame
   pub lawful : IsLawful role limits frames
@@ -20,22 +20,22 @@ pub record HasWholeFrame (role : Role) (limits : Limits) (bytes : List ℕ) : Ty
   pub rest : List ℕ
   pub whole : bytes ≡ stream frames ++ rest
 
--- There is something to keep: a payload byte of a data frame came, or a whole frame.
+-- There is something to keep: the bytes have payload of a data frame, or a whole frame.
 abbrev pub HasSomethingKept : Role → Limits → List ℕ → Type 0
 HasSomethingKept role limits bytes = HasDataPayload role limits bytes ⊎ HasWholeFrame role limits bytes
 
--- What a stop says of the bytes that came.
-abbrev pub IsStoppedBehind : Role → Limits → Incoming → List ℕ → Stop → Type 0
-IsStoppedBehind role limits new came stop.Memory = HasSomethingKept role limits came × (new.failed ≡ false)
-IsStoppedBehind role limits new came stopped = IsStopped role limits new came stopped
+-- The stop after the bytes that came.
+abbrev pub IsStoppedAfter : Role → Limits → Incoming → List ℕ → Stop → Type 0
+IsStoppedAfter role limits new came stop.Memory = HasSomethingKept role limits came × (new.failed ≡ false)
+IsStoppedAfter role limits new came stopped = IsStopped role limits new came stopped
 
--- The verdict is that of the bytes that came, and the events are their meaning.
+-- The result is right for the bytes that came: their verdict, and events that are their meaning; or a stop.
 abbrev pub IsGatheredOf : {A : Type 0} → Role → Limits → Incoming → List ℕ → Result (Gathered A) Stop → Type 0
 IsGatheredOf role limits new came (Ok gathered) =
-    IsLast role limits new came (map meant gathered.events.items) (Ok gathered.verdict)
-IsGatheredOf role limits new came (Err stopped) = IsStoppedBehind role limits new came stopped
+    IsLast role limits new came (map kept_meant gathered.events.items) (Ok gathered.verdict)
+IsGatheredOf role limits new came (Err stopped) = IsStoppedAfter role limits new came stopped
 
--- The bytes that came from the input, one more than its limit at most, and what the result says of them.
+-- These bytes came from the input, at most one past its limit, and the result is right for them.
 pub record IsGathered {A : Type 0} (role : Role) (limits : Limits) (old new : Incoming)
     (result : Result (Gathered A) Stop) : Type 0 where
   pub came : List ℕ

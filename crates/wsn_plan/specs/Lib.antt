@@ -1,8 +1,10 @@
+-- for callers and private functions
+pub mod KeptEvents
 pub mod Gathering
 pub mod Walking
 pub mod Uniform
 pub mod Framing
 pub mod Recutting
 pub mod Planning
--- what the clauses in src/ import
+-- for the clauses in src/
 pub mod Words

@@ -1,15 +1,15 @@
--- The steps of one message in a uniform plan, in numbers.
+-- The steps of one message in a uniform plan, by the numbers of bytes and controls.
 use Rattle.std.specs.Prelude.{ℕ, Bool, Option, List, [], ◌∷◌, ◌++◌, replicate, take, drop}
-use Rattle.wsn_wire.specs.declared.spelling.Form.TheVariants.{Shortest}
+use Rattle.wsn_wire.specs.declared.length_forms.Form.TheVariants.{Shortest}
 use Rattle.wsn_rules.specs.declared.step.Step.{Step}
 use Rattle.wsn_rules.specs.declared.step.Step.TheVariants.{Piece, Last, Control}
 use Rattle.wsn_rules.specs.UniformPlan.{piece_count, ahead}
 
--- the Pieces of a message of so many bytes
+-- the Pieces of a message of this many bytes
 abbrev pub pieces_of : ℕ → Option (List ℕ) → ℕ → List Step
 pieces_of size key bytes = replicate (piece_count size bytes) (Piece size key Shortest)
 
--- the steps of a message of so many bytes, and of so many controls directly before it
+-- the steps of a message of this many bytes, and of this many controls directly before it
 abbrev pub message_steps : ℕ → Bool → Option (List ℕ) → ℕ → ℕ → List Step
 message_steps size weave key controls bytes =
     take (ahead weave) (pieces_of size key bytes)

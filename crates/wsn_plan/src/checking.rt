@@ -1,25 +1,25 @@
 ghost use Rattle.std.specs.Prelude.{MatchOption, map};
-ghost use Rattle.wsn_plan.specs.Words.{InRange, AreLawful, Fits, IsFault, meant};
+ghost use Rattle.wsn_plan.specs.Words.{InRange, AreLawful, Fits, IsFault, kept_meant};
 
+use crate::kept::Kept;
 use crate::walking::Walk;
 use std::alloc::Allocator;
-use wsn_canon::Event;
 use wsn_rules::{Step, Why};
 use wsn_scan::Limits;
 use wsn_wire::Role;
 
-/// The fault of a plan for these events: its step, counted from 0, and the reason. `None` if it fits them.
+/// The fault of a plan for these events: the faulty step, counted from 0, and the reason. `None` if the plan fits them.
 #[tactic(none)]
 pub(crate) fn fault_of<A: Allocator>(
     role: Role,
     limits: Limits,
-    events: &[Event<A>],
+    events: &[Kept<A>],
     steps: &[Step],
 ) -> Option<(u64, Why)>
     requires range { InRange limits }
-    requires lawful { AreLawful limits.message (map meant events.now) }
-    ensures { MatchOption result (Fits role limits steps.now (map meant events.now))
-        (λ fault. IsFault role limits steps.now (map meant events.now) fault.0 fault.1) }
+    requires lawful { AreLawful limits.message (map kept_meant events.now) }
+    ensures { MatchOption result (Fits role limits steps.now (map kept_meant events.now))
+        (λ fault. IsFault role limits steps.now (map kept_meant events.now) fault.0 fault.1) }
 {
     let mut walk = Walk::start(events);
     for (index, step) in steps.iter().enumerate() {

@@ -1,69 +1,71 @@
 ghost use Rattle.std.specs.Prelude.{◌≡◌, ℕ, ◌+◌, ◌-◌, ◌<◌, ◌≤◌, ◌^◌, true, false, Option, Some, List, length, map, drop};
-ghost use Rattle.wsn_plan.specs.Words.{FormFits, frame_bytes, is_control, wire_payload, Kind, Message, AreLawful, next_text, Op, op_behind, IsPut, meant, close_body, IsPlaced, MayTake, control_frame, piece_frame, last_frame, frame_here, SpellsItsLength};
+ghost use Rattle.wsn_plan.specs.Words.{FormFits, frame_bytes, is_control, Kind, Message, AreLawful, next_text, Op, op_after, IsWrittenOrStops, kept_meant, close_body, IsPlaced, IsApplicable, control_frame, piece_frame, last_frame, frame_here, EncodesItsLength};
 ghost use Rattle.wsn_rules.specs.Meaning.{Control};
 
+use crate::kept::Kept;
 use crate::walking::Walk;
 use std::alloc::Allocator;
 use std::io::Write;
-use wsn_canon::{Event, control_of};
+use wsn_events::put_frame;
+use wsn_frame::unmask;
 use wsn_rules::Step;
 use wsn_scan::Stop;
-use wsn_wire::{Form, Kind, Op, Output, head_as, mask};
+use wsn_wire::{Form, Kind, Op, Output};
 
-/// Writes the frame of a plan's next step. The events are masked where they lie, and are as they were afterwards.
-/// `Write` if the writer fails: a prefix of the frame went out.
+/// Writes the frame of a plan's next step. The events are masked in place and are unchanged afterwards. `Write` if the
+/// writer fails: a prefix of the frame is written.
 pub(crate) fn put_step<A: Allocator, W: Write>(
     output: &mut Output<W>,
-    events: &mut [Event<A>],
+    events: &mut [Kept<A>],
     walk: &Walk,
     step: &Step,
 ) -> Result<(), Stop>
     requires unfailed { output.old.failed ≡ false }
-    requires placed { IsPlaced walk.now (map meant events.old) }
-    requires may { MayTake walk.now (map meant events.old) step.now }
-    requires form { SpellsItsLength walk.now (drop walk.now.event (map meant events.old)) step.now }
-    requires held { (text : List ℕ) → next_text (drop walk.now.event (map meant events.old)) ≡ Some text →
+    requires placed { IsPlaced walk.now (map kept_meant events.old) }
+    requires may { IsApplicable walk.now (map kept_meant events.old) step.now }
+    requires form { EncodesItsLength walk.now (drop walk.now.event (map kept_meant events.old)) step.now }
+    requires held { (text : List ℕ) → next_text (drop walk.now.event (map kept_meant events.old)) ≡ Some text →
         (walk.now.held ≤ length text) × (length text < 2 ^ 63) }
-    requires lawful { (most : ℕ) × AreLawful most (map meant events.old) }
-    ensures put { IsPut output.old output.new
-        (frame_bytes (frame_here walk.now (drop walk.now.event (map meant events.old)) step.now)) result }
-    ensures same { map meant events.new ≡ map meant events.old }
+    requires lawful { (most : ℕ) × AreLawful most (map kept_meant events.old) }
+    ensures put { IsWrittenOrStops output.old output.new
+        (frame_bytes (frame_here walk.now (drop walk.now.event (map kept_meant events.old)) step.now)) result }
+    ensures same { map kept_meant events.new ≡ map kept_meant events.old }
 {
     match step {
         Step::Piece { len, key, form } => {
             put_piece(output, &mut events[walk.message], walk, *len, *key, *form)
         }
         Step::Last { key, form } => put_last(output, &mut events[walk.event], walk, *key, *form),
-        Step::Control { key } => put_control(output, &events[walk.event], *key),
+        Step::Control { key } => put_control(output, &mut events[walk.event], *key),
     }
 }
 
-/// Writes a message's frame that isn't its last.
+/// Writes a frame of a message that isn't its last.
 fn put_piece<A: Allocator, W: Write>(
     output: &mut Output<W>,
-    event: &mut Event<A>,
+    event: &mut Kept<A>,
     walk: &Walk,
     len: u64,
     key: Option<[u8; 4]>,
     form: Form,
 ) -> Result<(), Stop>
     requires unfailed { output.old.failed ≡ false }
-    requires message { (kind : Kind) × (text : List ℕ) × (meant event.old ≡ Message kind text)
+    requires message { (kind : Kind) × (text : List ℕ) × (kept_meant event.old ≡ Message kind text)
         × (walk.now.held + len ≤ length text) × (length text < 2 ^ 63) }
     requires form { FormFits form len }
-    ensures put { (kind : Kind) (text : List ℕ) → meant event.old ≡ Message kind text →
-        IsPut output.old output.new (frame_bytes (piece_frame walk.now len key form kind text)) result }
-    ensures same { meant event.new ≡ meant event.old }
+    ensures put { (kind : Kind) (text : List ℕ) → kept_meant event.old ≡ Message kind text →
+        IsWrittenOrStops output.old output.new (frame_bytes (piece_frame walk.now len key form kind text)) result }
+    ensures same { kept_meant event.new ≡ kept_meant event.old }
 {
-    let Event::Message(kind, text) = event else {
+    let Kept::Message(kind, text) = event else {
         unreachable!();
     };
     let from = walk.held as usize;
     let to = from + len as usize;
-    put_frame(
+    put_masked(
         output,
         false,
-        op_behind(walk.pieces, *kind),
+        op_after(walk.pieces, *kind),
         key,
         form,
         &mut text[from..to],
@@ -73,37 +75,37 @@ fn put_piece<A: Allocator, W: Write>(
 /// Writes a message's last frame.
 fn put_last<A: Allocator, W: Write>(
     output: &mut Output<W>,
-    event: &mut Event<A>,
+    event: &mut Kept<A>,
     walk: &Walk,
     key: Option<[u8; 4]>,
     form: Form,
 ) -> Result<(), Stop>
     requires unfailed { output.old.failed ≡ false }
-    requires message { (kind : Kind) × (text : List ℕ) × (meant event.old ≡ Message kind text)
+    requires message { (kind : Kind) × (text : List ℕ) × (kept_meant event.old ≡ Message kind text)
         × (walk.now.held ≤ length text) × (length text < 2 ^ 63)
         × FormFits form (length text - walk.now.held) }
-    ensures put { (kind : Kind) (text : List ℕ) → meant event.old ≡ Message kind text →
-        IsPut output.old output.new (frame_bytes (last_frame walk.now key form kind text)) result }
-    ensures same { meant event.new ≡ meant event.old }
+    ensures put { (kind : Kind) (text : List ℕ) → kept_meant event.old ≡ Message kind text →
+        IsWrittenOrStops output.old output.new (frame_bytes (last_frame walk.now key form kind text)) result }
+    ensures same { kept_meant event.new ≡ kept_meant event.old }
 {
-    let Event::Message(kind, text) = event else {
+    let Kept::Message(kind, text) = event else {
         unreachable!();
     };
     let from = walk.held as usize;
-    put_frame(
+    put_masked(
         output,
         true,
-        op_behind(walk.pieces, *kind),
+        op_after(walk.pieces, *kind),
         key,
         form,
         &mut text[from..],
     )
 }
 
-/// The opcode of a message's frame behind so many Pieces: the first has its kind's, the others continue it (RFC 6455
-/// section 5.4).
-fn op_behind(pieces: u64, kind: Kind) -> Op
-    ensures op { result ≡ op_behind pieces kind }
+/// The opcode of a message's frame after this many Pieces: the first has that of the message's kind, the others
+/// continue it (RFC 6455 section 5.4).
+fn op_after(pieces: u64, kind: Kind) -> Op
+    ensures op { result ≡ op_after pieces kind }
     ensures data { is_control result ≡ false }
 {
     match kind {
@@ -116,22 +118,25 @@ fn op_behind(pieces: u64, kind: Kind) -> Op
 /// Writes a control frame.
 fn put_control<A: Allocator, W: Write>(
     output: &mut Output<W>,
-    event: &Event<A>,
+    event: &mut Kept<A>,
     key: Option<[u8; 4]>,
 ) -> Result<(), Stop>
     requires unfailed { output.old.failed ≡ false }
-    requires control { (op : Op) × (body : List ℕ) × (meant event.now ≡ Control op body) × (length body ≤ 125) }
-    ensures { (op : Op) (body : List ℕ) → meant event.now ≡ Control op body →
-        IsPut output.old output.new (frame_bytes (control_frame key (op, body))) result }
+    requires control { (op : Op) × (body : List ℕ) × (kept_meant event.old ≡ Control op body) × (length body ≤ 125) }
+    ensures put { (op : Op) (body : List ℕ) → kept_meant event.old ≡ Control op body →
+        IsWrittenOrStops output.old output.new (frame_bytes (control_frame key (op, body))) result }
+    ensures same { kept_meant event.new ≡ kept_meant event.old }
 {
-    let (op, mut body) = control_of(event);
-    put_frame(output, true, op, key, Form::Shortest, &mut body)
+    let Kept::Control(op, body) = event else {
+        unreachable!();
+    };
+    put_masked(output, true, *op, key, Form::Shortest, body)
 }
 
-/// Writes a frame: its head, and its payload behind it, each in one call (RFC 6455 sections 5.2 and 5.3). With a key
-/// the payload is masked where it lies, and unmasked again once it went out. `Write` if the writer fails: a prefix of
-/// the frame went out.
-pub(crate) fn put_frame<W: Write>(
+/// Writes a frame. With a key the payload is masked in place, and unmasked again afterwards: `unmask` does both (RFC
+/// 6455 section 5.3). `Write` if the writer fails: a prefix of the frame is written.
+#[tactic(none)]
+fn put_masked<W: Write>(
     output: &mut Output<W>,
     fin: bool,
     op: Op,
@@ -143,24 +148,12 @@ pub(crate) fn put_frame<W: Write>(
     requires size { length payload.old < 2 ^ 63 }
     requires control { is_control op ≡ true → (fin ≡ true) × (length payload.old ≤ 125) × (form ≡ Form.Shortest) }
     requires fits { FormFits form (length payload.old) }
-    ensures put { IsPut output.old output.new
+    ensures put { IsWrittenOrStops output.old output.new
         (frame_bytes (record { fin = fin; op = op; key = key; form = form; payload = payload.old })) result }
     ensures same { payload.new ≡ payload.old }
 {
-    let head = head_as(fin, op, key, payload.len() as u64, form);
-    mask_by(key, payload);
-    let done = output.put(&head) && output.put(payload);
-    mask_by(key, payload);
-    if done { Ok(()) } else { Err(Stop::Write) }
-}
-
-/// Masks a whole payload, if there is a key.
-#[tactic(none)]
-fn mask_by(key: Option<[u8; 4]>, payload: &mut [u8])
-    requires { length payload.old < 2 ^ 63 }
-    ensures { payload.new ≡ wire_payload key payload.old }
-{
-    if let Some(key) = key {
-        mask(key, 0, payload);
-    }
+    unmask(key, 0, payload);
+    let done = put_frame(output, fin, op, key, form, payload);
+    unmask(key, 0, payload);
+    done
 }

@@ -1,35 +1,35 @@
-//! Facts of this crate's answers. Each function does nothing: its contract is the fact.
+//! Laws about this crate's answers. Each function does nothing: its contract is the law.
 
 ghost use Rattle.std.specs.Prelude.{◌≡◌, ℕ, List, [], Result, Ok, false};
-ghost use Rattle.wsn_plan.specs.Words.{Role, Frame, stream, Outgoing, IsWritten, IsAccepted, unfinished, MeantEvent, meaning, IsPlan, Step, Verdict, Limits, InRange, Stop, IsNormalisedWhole, PlanAnswer, Plan, RecutAnswer, Done, AnswersAll, IsPlannedWhole, IsRestored, IsRecutWhole, Planner};
+ghost use Rattle.wsn_plan.specs.Words.{Role, Frame, stream, Outgoing, IsWritten, IsAccepted, unfinished, MeantEvent, meaning, IsPlan, Step, Verdict, Limits, InRange, Stop, IsNormalisedWhole, PlanAnswer, Plan, RecutAnswer, Done, HasNoFailure, IsPlannedWhole, IsRestored, IsRecutWhole, Planner};
 
 use std::alloc::Allocator;
 pub use wsn_plan_text::laws::{law_one_line_fault, law_one_plan};
 
-/// Of an input whose bytes are known [`recut`](crate::recut) has one answer and writes one list of bytes, in whatever
-/// pieces it comes, unless a read, a write or memory fails. So has [`recut_uniform`](crate::recut_uniform).
+/// [`recut`](crate::recut) has one answer for an input whose bytes are known and writes one list of bytes, in whatever
+/// chunks they come, unless a read, a write or an allocation fails. So has [`recut_uniform`](crate::recut_uniform).
 pub fn law_one_recut()
     ensures { (role : Role) (limits : Limits) (planned : Planner) (all : List ℕ)
         (before after other_before other_after : Outgoing) (result other : Result RecutAnswer Stop) →
-        before.failed ≡ false → other_before.failed ≡ false → AnswersAll result → AnswersAll other →
+        before.failed ≡ false → other_before.failed ≡ false → HasNoFailure result → HasNoFailure other →
         IsRecutWhole role limits planned all before after result →
         IsRecutWhole role limits planned all other_before other_after other →
         (result ≡ other) × ((bytes : List ℕ) × IsWritten before after bytes
         × IsWritten other_before other_after bytes) }
 {}
 
-/// Of an input whose bytes are known [`plan_of`](crate::plan_of) has one answer, in whatever pieces it comes, unless a
-/// read or memory fails.
+/// [`plan_of`](crate::plan_of) has one answer for an input whose bytes are known, in whatever chunks they come, unless
+/// a read or an allocation fails.
 pub fn law_one_plan_of<A: Allocator>()
     ensures { (role : Role) (limits : Limits) (all : List ℕ) (result other : Result (PlanAnswer A) Stop) →
-        AnswersAll result → AnswersAll other → IsPlannedWhole role limits all result →
+        HasNoFailure result → HasNoFailure other → IsPlannedWhole role limits all result →
         IsPlannedWhole role limits all other → result ≡ other }
 {}
 
-/// A stream may be kept as its normal form and its plan. Where [`plan_of`](crate::plan_of) answers a plan for an input,
-/// and [`normalise`](wsn_canon::normalise) writes what it means, [`recut`](crate::recut) of what was written by that
-/// plan writes the input's own bytes: up to the end of its Close, or all of them without a Close. A normal form may be
-/// longer than its input, and then its recut may meet the input limit.
+/// A stream can be stored as its normal form and its plan. If [`plan_of`](crate::plan_of) returns a plan for an input
+/// and [`normalise`](wsn_events::normalise) writes the input's meaning, then [`recut`](crate::recut) of these bytes by
+/// that plan writes the input's own bytes: up to the end of its Close, or all of them without a Close. A normal form
+/// can be longer than its input, and then its recut can meet the input limit.
 pub fn law_restored<A: Allocator>()
     ensures { (role : Role) (limits : Limits) (all : List ℕ) (plan : List Step) (verdict : Verdict)
         (before after : Outgoing) →
@@ -41,10 +41,10 @@ pub fn law_restored<A: Allocator>()
         (answer ≡ Done) × IsRestored all verdict recut_before recut_after) }
 {}
 
-/// What [`recut`](crate::recut) writes means what its input does: of an input whose bytes are known, and with `Done`,
-/// the input is accepted, and so is what went out, which has no tail and leaves no message unfinished. Any
-/// [`Plan`](crate::Plan) is a plan, as its `steps` say, and so is each that
-/// [`recut_uniform`](crate::recut_uniform) cuts by.
+/// What [`recut`](crate::recut) writes means what its input does. With `Done`, and for an input whose bytes are known,
+/// input and output are accepted and mean the same; the output has no tail and leaves no message unfinished. `IsPlan`
+/// holds of any [`Plan`](crate::Plan), as the contract of its `steps` says, and of each plan that
+/// [`recut_uniform`](crate::recut_uniform) uses.
 pub fn law_same_meaning()
     ensures { (role : Role) (limits : Limits) (planned : Planner) (all : List ℕ) (before after : Outgoing) →
         InRange limits → ((events : List MeantEvent) → IsPlan (planned events)) →

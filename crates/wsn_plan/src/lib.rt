@@ -1,18 +1,19 @@
-//! Plans of streams, and streams cut again by them (RFC 6455 sections 5.2 to 5.4).
+//! Plans of streams, and streams refragmented by plans (RFC 6455 sections 5.2 to 5.4).
 //!
-//! A [`Plan`] has one [`Step`] for each frame; `wsn_plan_text` reads and writes it as text.
-//! [`plan_of`] answers the plan of a stream's own frames, and [`uniform`] plans frames of one size.
-//! [`recut`] writes what an accepted input means in frames as a plan says, or tells what is wrong with the plan, and
-//! [`recut_uniform`] cuts a stream again by the plan of one size.
+//! A [`Plan`] has one [`Step`] for each frame; `wsn_plan_text` reads and writes it as text. [`plan_of`] returns the
+//! plan of a stream's own frames, and [`uniform`] plans frames of one size. [`recut`] writes what an accepted input
+//! means in the frames of a plan, or returns the plan's fault. [`recut_uniform`] refragments a stream by a uniform
+//! plan.
 //!
-//! Which plans fit, their faults and their recuts are defined in `wsn_rules`. `specs/Recutting.antt` says what a recut
-//! answers and writes, `specs/Gathering.antt` what is known where it stops, and `specs/Planning.antt` what `plan_of`
-//! answers.
+//! Which plans fit, their faults and their recuts are defined in `wsn_rules`. `specs/Recutting.antt` defines what a
+//! recut answers and writes, `specs/Gathering.antt` what is known when it stops, and `specs/Planning.antt` what
+//! `plan_of` returns.
 #![tactic(auto)]
 
 mod checking;
 mod framing;
 mod gathering;
+mod kept;
 pub mod laws;
 mod planning;
 mod recutting;

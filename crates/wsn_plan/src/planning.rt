@@ -1,5 +1,5 @@
 ghost use Rattle.std.specs.Prelude.{◌≡◌, ℕ, false, List, Some};
-ghost use Rattle.wsn_plan.specs.Planning.{IsAnswerWith, IsPlanned, IsPlannedWhole, step_behind};
+ghost use Rattle.wsn_plan.specs.Planning.{IsAnswerWith, IsPlanned, IsPlannedWhole, step_of_head};
 
 use crate::Plan;
 use std::alloc::{Allocator, Global};
@@ -8,22 +8,24 @@ use wsn_rules::{HeadInfo, Step};
 use wsn_scan::{Limits, NextNotice, NoticeReader, Stop, Verdict};
 use wsn_wire::{Input, Role};
 
-/// What planning a stream answers.
+/// What [`plan_of`] returns.
 #[derive(Drop)]
 pub enum PlanAnswer<A: Allocator = Global> {
-    /// The input is accepted and leaves no message unfinished: the steps of its own frames, up to its Close.
+    /// The input is accepted and leaves no message unfinished: the steps of its frames, up to its Close.
     Plan(Plan<A>),
     /// The input isn't accepted.
     NotAccepted(Verdict),
-    /// The input is accepted, and its Close leaves a message unfinished, which no plan restores.
+    /// The input is accepted, but its Close interrupts a message, and no plan restores that.
     Unfinished,
 }
 
-/// The plan of an input's own frames (RFC 6455 sections 5.2 to 5.4): the recut of what the input means by it is the
-/// input again, up to the end of its Close. `role` is the endpoint that sent the stream. `Read` if the reader fails and
-/// `InputLimit` if more bytes come than the input limit; `Memory` if memory is refused, behind a whole frame.
+/// Plans an input's own frames (RFC 6455 sections 5.2 to 5.4): the recut of the input's meaning by this plan is the
+/// input again, up to the end of its Close. `role` is the endpoint that sent the stream.
 ///
-/// It holds one piece of the input, no payload, and 24 bytes for each frame that ended, in a vector that may have room
+/// Errors: `Read` if the reader fails; `InputLimit` if a byte past the input limit comes; `Memory` if an allocation
+/// fails, which can happen only after a whole frame.
+///
+/// It holds one chunk of the input, no payload, and 24 bytes for each frame that ended, in a vector that can have room
 /// for twice as many.
 #[tactic(none)]
 pub fn plan_of<A: Allocator + Copy, R: Read>(
@@ -57,7 +59,7 @@ pub fn plan_of<A: Allocator + Copy, R: Read>(
 /// The step of a frame with this head.
 #[tactic(none)]
 fn step_of(head: &HeadInfo) -> Step
-    ensures { result ≡ step_behind head.now }
+    ensures { result ≡ step_of_head head.now }
 {
     let HeadInfo { key, form, len, .. } = *head;
     if head.op.is_control() {
@@ -69,7 +71,7 @@ fn step_of(head: &HeadInfo) -> Step
     Step::Piece { len, key, form }
 }
 
-/// What a plan of the frames of an input with this verdict comes to.
+/// The answer for an input with this verdict, by the plan of its frames.
 #[tactic(none)]
 fn answer_of<A: Allocator>(verdict: Verdict, plan: Plan<A>) -> PlanAnswer<A>
     ensures { IsAnswerWith verdict plan result }

@@ -6,42 +6,45 @@ ghost use Rattle.wsn_rules.specs.Limits.{InRange};
 ghost use Rattle.wsn_rules.specs.LawfulEvents.{AreLawful};
 ghost use Rattle.wsn_rules.specs.Recut.{recut_bytes};
 ghost use Rattle.wsn_rules.specs.UniformPlan.{uniform_plan};
-ghost use Rattle.wsn_scan.specs.Stops.{IsPut};
-ghost use Rattle.wsn_canon.specs.EventsMeant.{meant};
-ghost use Rattle.wsn_plan.specs.Recutting.{IsRecut, IsRecutWhole, IsCutAgain, FitsWithin};
+ghost use Rattle.wsn_io.specs.Stops.{IsWrittenOrStops};
+ghost use Rattle.wsn_plan.specs.KeptEvents.{kept_meant};
+ghost use Rattle.wsn_plan.specs.Recutting.{IsRecut, IsRecutWhole, IsRefragmented, FitsWithin};
 
+use crate::Plan;
 use crate::checking::fault_of;
 use crate::framing::put_step;
 use crate::gathering::{Gathered, gather};
+use crate::kept::Kept;
+use crate::uniform_plans::uniform_of_kept;
 use crate::walking::Walk;
-use crate::{Plan, uniform};
 use std::alloc::Allocator;
 use std::io::{Read, Write};
-use wsn_canon::Event;
 use wsn_rules::{Step, Why};
 use wsn_scan::{Limits, Stop, Verdict};
 use wsn_wire::{Input, Output, Role};
 
-/// What a recut answers.
+/// What [`recut`] and [`recut_uniform`] return.
 #[derive(Clone, Copy, Debug)]
 pub enum RecutAnswer {
-    /// The input is accepted, the plan fits what it means, and the recut was written.
+    /// The input is accepted, the plan fits its meaning, and the recut is written.
     Done,
     /// The input isn't accepted, whatever the plan.
     NotAccepted(Verdict),
-    /// The input is accepted, and the plan doesn't fit what it means: the step that is wrong, counted from 0, and the
-    /// reason. The step is the number of steps, where the plan ends before the events do.
+    /// The input is accepted, but the plan doesn't fit its meaning: the faulty step, counted from 0, and the reason. If
+    /// the plan ends before the events do, `step` is the number of steps.
     Fault { step: u64, why: Why },
 }
 
-/// Cuts a stream again: reads an input, and writes what it means in frames as the plan says (RFC 6455 section 5.4).
-/// `role` is the endpoint that sent the stream. Input and plan are checked whole before the first byte goes out: with
-/// every answer but `Done`, and every stop but `Write`, the output is as it was. `Read` if the reader fails and
-/// `InputLimit` if more bytes come than the input limit; `Memory` if memory is refused, behind a payload byte of a
-/// data frame or a whole frame; `Write` if the writer fails: a prefix of the recut went out.
+/// Refragments a stream: reads an input and writes its meaning in the frames of a plan (RFC 6455 section 5.4). `role`
+/// is the endpoint that sent the stream. The whole input and the plan are checked before the first byte is written:
+/// with any answer but `Done`, and any error but `Write`, the output is unchanged.
 ///
-/// It holds all that the input means: the bytes of its messages, at most those of the input, and some 150 bytes for
-/// each message and control, in vectors that may have room for twice as much.
+/// Errors: `Read` if the reader fails; `InputLimit` if a byte past the input limit comes; `Memory` if an allocation
+/// fails, which can happen only after a payload byte of a data frame or a whole frame; `Write` if the writer fails: a
+/// prefix of the recut is written.
+///
+/// It holds all that the input means: the bytes of its messages and controls, which are at most those of the input, and
+/// 32 bytes for each message and control, in vectors that can have room for twice as much.
 pub fn recut<A: Allocator + Copy, R: Read, W: Write>(
     alloc: A,
     input: &mut Input<R>,
@@ -63,12 +66,12 @@ pub fn recut<A: Allocator + Copy, R: Read, W: Write>(
     let Verdict::Accepted(_) = verdict else {
         return Ok(RecutAnswer::NotAccepted(verdict));
     };
-    cut_again(output, role, limits, &mut events, plan.steps())
+    refragment(output, role, limits, &mut events, plan.steps())
 }
 
-/// Cuts a stream again by the uniform plan of what it means, as [`recut`] does by the plan that [`uniform`] answers.
-/// Its only fault is `TooManyPieces`. The plan is held beside the events: 24 bytes for each frame, in a vector that may
-/// have room for twice as many.
+/// Refragments a stream as [`recut`] does, by the plan that [`uniform`] makes of its events. `size` is at least 1, and
+/// there is a key exactly for a client. Its only fault is `TooManyPieces`. The plan is held beside the events: 24 bytes
+/// for each frame, in a vector that can have room for twice as many.
 pub fn recut_uniform<A: Allocator + Copy, R: Read, W: Write>(
     alloc: A,
     input: &mut Input<R>,
@@ -95,23 +98,23 @@ pub fn recut_uniform<A: Allocator + Copy, R: Read, W: Write>(
     let Verdict::Accepted(_) = verdict else {
         return Ok(RecutAnswer::NotAccepted(verdict));
     };
-    let plan = uniform(alloc, &events, role, size, weave, key)?;
-    cut_again(output, role, limits, &mut events, plan.steps())
+    let plan = uniform_of_kept(alloc, &events, size, weave, key)?;
+    refragment(output, role, limits, &mut events, plan.steps())
 }
 
-/// Writes events by a plan that fits them, or answers its fault and writes nothing.
+/// Writes the events in the frames of a plan that fits them, or returns the plan's fault and writes nothing.
 #[tactic(none)]
-fn cut_again<A: Allocator, W: Write>(
+fn refragment<A: Allocator, W: Write>(
     output: &mut Output<W>,
     role: Role,
     limits: Limits,
-    events: &mut [Event<A>],
+    events: &mut [Kept<A>],
     steps: &[Step],
 ) -> Result<RecutAnswer, Stop>
     requires unfailed { output.old.failed ≡ false }
     requires range { InRange limits }
-    requires lawful { AreLawful limits.message (map meant events.old) }
-    ensures { IsCutAgain role limits steps.now (map meant events.old) output.old output.new result }
+    requires lawful { AreLawful limits.message (map kept_meant events.old) }
+    ensures { IsRefragmented role limits steps.now (map kept_meant events.old) output.old output.new result }
 {
     if let Some((step, why)) = fault_of(role, limits, events, steps) {
         return Ok(RecutAnswer::Fault { step, why });
@@ -120,16 +123,16 @@ fn cut_again<A: Allocator, W: Write>(
     Ok(RecutAnswer::Done)
 }
 
-/// Writes the frames of a plan that fits the events. `Write` if the writer fails: a prefix of them went out.
+/// Writes the frames of a plan that fits the events. `Write` if the writer fails: a prefix of them is written.
 #[tactic(none)]
 fn put_steps<A: Allocator, W: Write>(
     output: &mut Output<W>,
-    events: &mut [Event<A>],
+    events: &mut [Kept<A>],
     steps: &[Step],
 ) -> Result<(), Stop>
     requires unfailed { output.old.failed ≡ false }
-    requires fits { FitsWithin steps.now (map meant events.old) }
-    ensures { IsPut output.old output.new (recut_bytes steps.now (map meant events.old)) result }
+    requires fits { FitsWithin steps.now (map kept_meant events.old) }
+    ensures { IsWrittenOrStops output.old output.new (recut_bytes steps.now (map kept_meant events.old)) result }
 {
     let mut walk = Walk::start(events);
     for step in steps {

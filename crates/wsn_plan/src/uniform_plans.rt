@@ -1,19 +1,22 @@
-ghost use Rattle.std.specs.Prelude.{◌≡◌, ℕ, ◌++◌, ◌≤◌, ◌<◌, ◌^◌, ◌↔◌, List, IfOk, IfErr, IsSome, length, map, replicate};
-ghost use Rattle.wsn_plan.specs.Words.{Client, Shortest, Piece, Last, Control, piece_count, ahead, uniform_plan, meant, message_steps};
+ghost use Rattle.std.specs.Prelude.{◌≡◌, ℕ, ◌++◌, ◌≤◌, ◌<◌, ◌^◌, ◌↔◌, List, IfOk, IfErr, IsSome, MatchOption, length, map, replicate};
+ghost use Rattle.wsn_plan.specs.Words.{Client, Shortest, Piece, Last, Control, piece_count, ahead, uniform_plan, meant, kept_meant, message_steps};
+ghost use Rattle.wsn_plan.specs.Walking.{IsControl, IsMessageOf};
 
 use crate::Plan;
+use crate::kept::Kept;
 use crate::walking::message_len;
 use std::alloc::Allocator;
-use wsn_canon::Event;
+use wsn_events::Event;
 use wsn_rules::Step;
 use wsn_scan::Stop;
 use wsn_wire::{Form, Role};
 
-/// The uniform plan of events for an endpoint of this role: each control in one frame, and each message in frames of
-/// `size` bytes, the last of which holds what is left (RFC 6455 section 5.4). With `weave` the first frame of a
-/// message that has several stands in front of the controls directly before it. All frames have this key: one exactly
-/// for a client (section 5.1). `Memory`, and no other stop, if memory is refused: without events it asks for
-/// no memory.
+/// Plans frames of one size for events of an endpoint of this role: each control in one frame, and each message in
+/// frames of `size` bytes, the last of which holds the rest (RFC 6455 section 5.4). `size` is at least 1. With `weave`,
+/// the first frame of a message that has several comes before the controls directly before that message. All frames
+/// have this key: a client's must have one, a server's none (section 5.1).
+///
+/// `Memory` if an allocation fails, and no other error. Without events it allocates no memory.
 pub fn uniform<A: Allocator>(
     alloc: A,
     events: &[Event<A>],
@@ -27,8 +30,34 @@ pub fn uniform<A: Allocator>(
     ensures plan { IfOk result (λ plan. plan ≡ uniform_plan size weave key (map meant events.now)) }
     ensures stop { IfErr result (λ stop. (stop ≡ Stop.Memory) × (0 < length events.now)) }
 {
-    // The role says whether there is a key, and nothing else.
+    // The role only determines whether there is a key.
     let _ = role;
+    let mut plan = Plan::new(alloc);
+    let mut controls = 0;
+    for event in events {
+        if let Some(bytes) = event_len(event) {
+            push_message(&mut plan, size, weave, key, controls, bytes)?;
+            controls = 0;
+        } else {
+            controls += 1;
+        }
+    }
+    push_times(&mut plan, Step::Control { key }, controls)?;
+    Ok(plan)
+}
+
+/// Plans frames of one size for events that are kept, as [`uniform`] does.
+pub(crate) fn uniform_of_kept<A: Allocator>(
+    alloc: A,
+    events: &[Kept<A>],
+    size: u32,
+    weave: bool,
+    key: Option<[u8; 4]>,
+) -> Result<Plan<A>, Stop>
+    requires size { 1 ≤ size }
+    ensures plan { IfOk result (λ plan. plan ≡ uniform_plan size weave key (map kept_meant events.now)) }
+    ensures stop { IfErr result (λ stop. (stop ≡ Stop.Memory) × (0 < length events.now)) }
+{
     let mut plan = Plan::new(alloc);
     let mut controls = 0;
     for event in events {
@@ -43,7 +72,17 @@ pub fn uniform<A: Allocator>(
     Ok(plan)
 }
 
-/// Appends the steps of a message and of the controls directly before it.
+/// How many bytes a message has; `None` for a control.
+fn event_len<A: Allocator>(event: &Event<A>) -> Option<u64>
+    ensures { MatchOption result (IsControl (meant event.now)) (IsMessageOf (meant event.now)) }
+{
+    match event {
+        Event::Message(_, text) => Some(text.len() as u64),
+        _ => None,
+    }
+}
+
+/// Appends the steps of a message of this many bytes, and of the controls directly before it.
 #[tactic(none)]
 fn push_message<A: Allocator>(
     plan: &mut Plan<A>,
@@ -73,7 +112,7 @@ fn push_message<A: Allocator>(
     })
 }
 
-/// How many Pieces of a message stand in front of the controls directly before it, at most.
+/// How many Pieces of a message come before the controls directly before it, at most.
 #[tactic(none)]
 fn most_ahead(weave: bool) -> u64
     ensures { result ≡ ahead weave }
@@ -81,7 +120,7 @@ fn most_ahead(weave: bool) -> u64
     if weave { 1 } else { 0 }
 }
 
-/// Appends a step so many times.
+/// Appends a step this many times.
 fn push_times<A: Allocator>(plan: &mut Plan<A>, step: Step, times: u64) -> Result<(), Stop>
     ensures pushed { IfOk result (λ _. plan.new ≡ plan.old ++ replicate times step) }
     ensures stop { IfErr result (λ stop. (stop ≡ Stop.Memory) × (0 < times)) }

@@ -5,33 +5,33 @@ ghost use Rattle.wsn_rules.specs.declared.step.Step.TheVariants.{Piece, Last, Co
 ghost use Rattle.wsn_rules.specs.Plan.{next_text};
 ghost use Rattle.wsn_rules.specs.Fitting.{IsAllowedForm};
 ghost use Rattle.wsn_rules.specs.Fault.{Holds};
-ghost use Rattle.wsn_canon.specs.EventsMeant.{meant};
-ghost use Rattle.wsn_plan.specs.Walking.{from_message, IsPlaced, IsAgainst, IsFirstAgainst, MayTake, IsTaken, IsControl, IsMessageOf, held_after};
+ghost use Rattle.wsn_plan.specs.KeptEvents.{kept_meant};
+ghost use Rattle.wsn_plan.specs.Walking.{from_message, IsPlaced, IsAgainst, IsFirstAgainst, IsApplicable, HasAdvancedBy, IsControl, IsMessageOf, held_after};
 
+use crate::kept::Kept;
 use std::alloc::Allocator;
-use wsn_canon::Event;
 use wsn_rules::{Step, Why};
 use wsn_scan::Limits;
 use wsn_wire::{Form, Lengths, Role};
 
-/// How far a plan has been followed over the events that it cuts: what its steps so far leave.
+/// How far a plan has been followed over events: the state after its steps so far.
 #[derive(Clone, Copy)]
 pub(crate) struct Walk {
     /// How many Pieces of the next message there were.
     pub pieces: u64,
     /// How many bytes of the next message they hold.
     pub held: u64,
-    /// The index of the first event that has no end yet.
+    /// The index of the first event that hasn't ended.
     pub event: usize,
-    /// The index of the first message that has no end yet; the number of events, if none is left.
+    /// The index of the first message that hasn't ended; the number of events if there is none.
     pub message: usize,
 }
 
 impl Walk {
     /// Before the first step.
-    pub fn start<A: Allocator>(events: &[Event<A>]) -> Walk
+    pub fn start<A: Allocator>(events: &[Kept<A>]) -> Walk
         ensures start { (result.pieces ≡ 0) × (result.held ≡ 0) × (result.event ≡ 0) }
-        ensures placed { IsPlaced result (map meant events.now) }
+        ensures placed { IsPlaced result (map kept_meant events.now) }
     {
         Walk {
             pieces: 0,
@@ -47,12 +47,12 @@ impl Walk {
         &self,
         role: Role,
         limits: Limits,
-        events: &[Event<A>],
+        events: &[Kept<A>],
         step: &Step,
     ) -> Option<Why>
-        requires placed { IsPlaced self.now (map meant events.now) }
+        requires placed { IsPlaced self.now (map kept_meant events.now) }
         requires few { self.now.pieces + 1 < 2 ^ 64 }
-        ensures { IsFirstAgainst (IsAgainst role limits self.now (map meant events.now) step.now) result }
+        ensures { IsFirstAgainst (IsAgainst role limits self.now (map kept_meant events.now) step.now) result }
     {
         match step {
             Step::Piece { len, key, form } => {
@@ -63,20 +63,20 @@ impl Walk {
         }
     }
 
-    /// A message's Piece must have a key exactly for a client, belong to a message, hold no more than is left of it,
-    /// leave a frame for its Last, and may be spelled in its form.
+    /// A Piece must have a key exactly for a client, belong to a message, hold at most what is left of it, leave a
+    /// frame for its Last, and have a length that may be encoded in its form.
     fn against_piece<A: Allocator>(
         &self,
         role: Role,
         limits: Limits,
-        events: &[Event<A>],
+        events: &[Kept<A>],
         len: u64,
         key: Option<[u8; 4]>,
         form: Form,
     ) -> Option<Why>
-        requires placed { IsPlaced self.now (map meant events.now) }
+        requires placed { IsPlaced self.now (map kept_meant events.now) }
         requires few { self.now.pieces + 1 < 2 ^ 64 }
-        ensures { IsFirstAgainst (IsAgainst role limits self.now (map meant events.now) (Piece len key form)) result }
+        ensures { IsFirstAgainst (IsAgainst role limits self.now (map kept_meant events.now) (Piece len key form)) result }
     {
         if !has_key_of(role, key) {
             return Some(Why::KeyMismatch);
@@ -99,19 +99,19 @@ impl Walk {
         None
     }
 
-    /// A message's last frame must have a key exactly for a client, end a message that is the next event, and may be
-    /// spelled in its form.
+    /// A Last must have a key exactly for a client, end a message that is the next event, and have a length that may be
+    /// encoded in its form.
     #[tactic(none)]
     fn against_last<A: Allocator>(
         &self,
         role: Role,
         limits: Limits,
-        events: &[Event<A>],
+        events: &[Kept<A>],
         key: Option<[u8; 4]>,
         form: Form,
     ) -> Option<Why>
-        requires { IsPlaced self.now (map meant events.now) }
-        ensures { IsFirstAgainst (IsAgainst role limits self.now (map meant events.now) (Last key form)) result }
+        requires { IsPlaced self.now (map kept_meant events.now) }
+        ensures { IsFirstAgainst (IsAgainst role limits self.now (map kept_meant events.now) (Last key form)) result }
     {
         if !has_key_of(role, key) {
             return Some(Why::KeyMismatch);
@@ -131,16 +131,16 @@ impl Walk {
         None
     }
 
-    /// A control frame must have a key exactly for a client, and stand for a control that is the next event.
+    /// A Control must have a key exactly for a client, and be for a control that is the next event.
     fn against_control<A: Allocator>(
         &self,
         role: Role,
-        events: &[Event<A>],
+        events: &[Kept<A>],
         key: Option<[u8; 4]>,
     ) -> Option<Why>
-        requires { IsPlaced self.now (map meant events.now) }
+        requires { IsPlaced self.now (map kept_meant events.now) }
         ensures { (limits : _) →
-            IsFirstAgainst (IsAgainst role limits self.now (map meant events.now) (Control key)) result }
+            IsFirstAgainst (IsAgainst role limits self.now (map kept_meant events.now) (Control key)) result }
     {
         if !has_key_of(role, key) {
             return Some(Why::KeyMismatch);
@@ -154,14 +154,14 @@ impl Walk {
         None
     }
 
-    /// Goes on behind a step that may stand here.
-    pub fn take<A: Allocator>(&mut self, events: &[Event<A>], step: &Step)
-        requires placed { IsPlaced self.old (map meant events.now) }
-        requires may { MayTake self.old (map meant events.now) step.now }
+    /// Follows a step that may come here.
+    pub fn take<A: Allocator>(&mut self, events: &[Kept<A>], step: &Step)
+        requires placed { IsPlaced self.old (map kept_meant events.now) }
+        requires may { IsApplicable self.old (map kept_meant events.now) step.now }
         requires few { self.old.pieces + 1 < 2 ^ 64 }
         requires small { held_after self.old.held step.now < 2 ^ 64 }
-        ensures taken { IsTaken self.old self.new step.now }
-        ensures placed { IsPlaced self.new (map meant events.now) }
+        ensures taken { HasAdvancedBy self.old self.new step.now }
+        ensures placed { IsPlaced self.new (map kept_meant events.now) }
     {
         match step {
             Step::Piece { len, .. } => {
@@ -179,11 +179,11 @@ impl Walk {
     }
 }
 
-/// The index of the first message from here on; the number of events, if there is none.
-fn next_message<A: Allocator>(events: &[Event<A>], from: usize) -> usize
+/// The index of the first message from this index on; the number of events if there is none.
+fn next_message<A: Allocator>(events: &[Kept<A>], from: usize) -> usize
     requires { from ≤ length events.now }
     ensures within { result ≤ length events.now }
-    ensures message { drop result (map meant events.now) ≡ from_message (drop from (map meant events.now)) }
+    ensures message { drop result (map kept_meant events.now) ≡ from_message (drop from (map kept_meant events.now)) }
 {
     let mut at = from;
     while at < events.len() {
@@ -195,11 +195,11 @@ fn next_message<A: Allocator>(events: &[Event<A>], from: usize) -> usize
     at
 }
 
-/// How many bytes the message there has, if a message stands there.
-fn text_len<A: Allocator>(events: &[Event<A>], at: usize) -> Option<u64>
-    requires { drop at (map meant events.now) ≡ from_message (drop at (map meant events.now)) }
-    ensures { MatchOption result (next_text (drop at (map meant events.now)) ≡ None)
-        (λ len. (text : List ℕ) × (next_text (drop at (map meant events.now)) ≡ Some text) × (len ≡ length text)) }
+/// How many bytes the message at this index has; `None` if there is no message.
+fn text_len<A: Allocator>(events: &[Kept<A>], at: usize) -> Option<u64>
+    requires { drop at (map kept_meant events.now) ≡ from_message (drop at (map kept_meant events.now)) }
+    ensures { MatchOption result (next_text (drop at (map kept_meant events.now)) ≡ None)
+        (λ len. (text : List ℕ) × (next_text (drop at (map kept_meant events.now)) ≡ Some text) × (len ≡ length text)) }
 {
     if at < events.len() {
         message_len(&events[at])
@@ -208,17 +208,17 @@ fn text_len<A: Allocator>(events: &[Event<A>], at: usize) -> Option<u64>
     }
 }
 
-/// How many bytes a message has; `None` of a control.
-pub(crate) fn message_len<A: Allocator>(event: &Event<A>) -> Option<u64>
-    ensures { MatchOption result (IsControl (meant event.now)) (IsMessageOf (meant event.now)) }
+/// How many bytes a message has; `None` for a control.
+pub(crate) fn message_len<A: Allocator>(event: &Kept<A>) -> Option<u64>
+    ensures { MatchOption result (IsControl (kept_meant event.now)) (IsMessageOf (kept_meant event.now)) }
 {
     match event {
-        Event::Message(_, text) => Some(text.len() as u64),
+        Kept::Message(_, text) => Some(text.len() as u64),
         _ => None,
     }
 }
 
-/// Whether a Piece is longer than what those before it leave of a message.
+/// Whether a Piece is longer than what the Pieces before it leave of a message.
 fn is_too_long(held: u64, len: u64, text_len: u64) -> bool
     ensures { IsTrue result ↔ (text_len < held + len) }
 {
@@ -228,7 +228,7 @@ fn is_too_long(held: u64, len: u64, text_len: u64) -> bool
     }
 }
 
-/// Whether a frame of this endpoint has a key as it must: a client's has one, a server's none (RFC 6455 section 5.1).
+/// Whether a frame has a key as its endpoint must send it: a client's has one, a server's none (RFC 6455 section 5.1).
 fn has_key_of(role: Role, key: Option<[u8; 4]>) -> bool
     ensures { IsTrue result ↔ (IsSome key ↔ (role ≡ Client)) }
 {
@@ -238,7 +238,7 @@ fn has_key_of(role: Role, key: Option<[u8; 4]>) -> bool
     }
 }
 
-/// Whether so many Pieces leave no room for one more and the message's last frame.
+/// Whether this many Pieces leave no frame for one more and the message's last.
 #[tactic(none)]
 fn is_one_too_many(limits: Limits, pieces: u64) -> bool
     requires { pieces + 1 < 2 ^ 64 }
@@ -250,7 +250,7 @@ fn is_one_too_many(limits: Limits, pieces: u64) -> bool
     }
 }
 
-/// Whether a length may be spelled in this form (RFC 6455 section 5.2).
+/// Whether a length may be encoded in this form (RFC 6455 section 5.2).
 fn is_allowed_form(lengths: Lengths, form: Form, len: u64) -> bool
     ensures { IsTrue result ↔ IsAllowedForm lengths form len }
 {

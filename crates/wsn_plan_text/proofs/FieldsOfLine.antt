@@ -1,10 +1,10 @@
--- A line has its fields in one way: its word and what stands behind it determine them.
+-- A line has its fields in one way: its first word and the text after it determine them.
 use Rattle.std.proofs.Common.{◌≡◌, ℕ, Option, Some, List, ◌∷◌, ◌++◌, codes, refl, sym, ap, ◌∙◌, append_assoc, arith}
-use Rattle.wsn_plan_text.specs.PlanText.{HasNo, behind, Fields, OfPiece, OfLast, OfControl, HasFields}
-use Rattle.wsn_plan_text.specs.Cuts.{AreKeyAndForm, AreFields, word_of, rest_of}
-use Rattle.wsn_plan_text.proofs.OneCut.{one_cut}
+use Rattle.wsn_plan_text.specs.PlanText.{HasNo, preceded_by, Fields, OfPiece, OfLast, OfControl, HasFields}
+use Rattle.wsn_plan_text.specs.Splits.{AreKeyAndForm, AreFields, first_word, rest_of}
+use Rattle.wsn_plan_text.proofs.OneSplit.{one_cut}
 
-pub word_has_no_space : (fields : Fields) → HasNo 32 (word_of fields)
+pub word_has_no_space : (fields : Fields) → HasNo 32 (first_word fields)
 word_has_no_space (OfPiece number key form) = (omega arith, (omega arith, (omega arith, (omega arith, (omega arith, tt)))))
 word_has_no_space (OfLast key form) = (omega arith, (omega arith, (omega arith, (omega arith, tt))))
 word_has_no_space (OfControl key) =
@@ -13,42 +13,42 @@ word_has_no_space (OfControl key) =
 -- ---- a line is its word, a space and the rest
 
 piece_as_parts : (number key : List ℕ) (form : Option (List ℕ))
-    → codes "piece " ++ number ++ codes " " ++ key ++ behind 32 form ≡ codes "piece" ++ 32 ∷ (number ++ 32 ∷ (key ++ behind 32 form))
+    → codes "piece " ++ number ++ codes " " ++ key ++ preceded_by 32 form ≡ codes "piece" ++ 32 ∷ (number ++ 32 ∷ (key ++ preceded_by 32 form))
 piece_as_parts number key form =
     ap (λ (text : List ℕ). codes "piece " ++ text)
-    (append_assoc (number ++ codes " ") key (behind 32 form) ∙ append_assoc number (codes " ") (key ++ behind 32 form))
+    (append_assoc (number ++ codes " ") key (preceded_by 32 form) ∙ append_assoc number (codes " ") (key ++ preceded_by 32 form))
 
-last_as_parts : (key : List ℕ) (form : Option (List ℕ)) → codes "last " ++ key ++ behind 32 form ≡ codes "last" ++ 32 ∷ (key ++ behind 32 form)
+last_as_parts : (key : List ℕ) (form : Option (List ℕ)) → codes "last " ++ key ++ preceded_by 32 form ≡ codes "last" ++ 32 ∷ (key ++ preceded_by 32 form)
 last_as_parts key form = refl
 
-pub parts_of : (line : List ℕ) (fields : Fields) → HasFields line fields → AreFields fields × (line ≡ word_of fields ++ 32 ∷ rest_of fields)
+pub parts_of : (line : List ℕ) (fields : Fields) → HasFields line fields → AreFields fields × (line ≡ first_word fields ++ 32 ∷ rest_of fields)
 parts_of line (OfPiece number key form) has = ((has.0, has.1, has.2), has.3 ∙ piece_as_parts number key form)
 parts_of line (OfLast key form) has = ((has.0, has.1), has.2 ∙ last_as_parts key form)
 parts_of line (OfControl key) has = (has.0, has.1)
 
-pub from_parts : (line : List ℕ) (fields : Fields) → AreFields fields → line ≡ word_of fields ++ 32 ∷ rest_of fields → HasFields line fields
+pub from_parts : (line : List ℕ) (fields : Fields) → AreFields fields → line ≡ first_word fields ++ 32 ∷ rest_of fields → HasFields line fields
 from_parts line (OfPiece number key form) are e = (are.0, are.1, are.2, e ∙ sym (piece_as_parts number key form))
 from_parts line (OfLast key form) are e = (are.0, are.1, e ∙ sym (last_as_parts key form))
 from_parts line (OfControl key) are e = (are, e)
 
--- ---- in one way
+-- ---- only one way
 
 pub one_key_and_form : (text key other : List ℕ) (form more : Option (List ℕ)) → AreKeyAndForm text key form → AreKeyAndForm text other more
     → (key ≡ other) × (form ≡ more)
 one_key_and_form text key other form more are also = one_cut 32 key other form more are.0.1 also.0.1 (sym are.2 ∙ also.2)
 
--- what stands behind a word, as a key and a form
+-- the text after a word, as a number and the rest
 number_and_rest : (number other key more : List ℕ) → HasNo 32 number → HasNo 32 other → number ++ 32 ∷ key ≡ other ++ 32 ∷ more
     → (number ≡ other) × (key ≡ more)
 number_and_rest number other key more clear also e =
-    let cut = one_cut 32 number other (Some key) (Some more) clear also e in
+    let split = one_cut 32 number other (Some key) (Some more) clear also e in
     let rests : key ≡ more = cc in
-    (cut.0, rests)
+    (split.0, rests)
 
-same_rest : (fields others : Fields) → AreFields fields → AreFields others → word_of fields ≡ word_of others → rest_of fields ≡ rest_of others
+same_rest : (fields others : Fields) → AreFields fields → AreFields others → first_word fields ≡ first_word others → rest_of fields ≡ rest_of others
     → fields ≡ others
 same_rest (OfPiece number key form) (OfPiece other code more) are also words rests =
-    let numbers = number_and_rest number other (key ++ behind 32 form) (code ++ behind 32 more) are.0.1 also.0.1 rests in
+    let numbers = number_and_rest number other (key ++ preceded_by 32 form) (code ++ preceded_by 32 more) are.0.1 also.0.1 rests in
     let keys = one_cut 32 key code form more are.1.1 also.1.1 numbers.1 in
     let first : number ≡ other = numbers.0 in
     let second : key ≡ code = keys.0 in
@@ -67,17 +67,17 @@ same_rest (OfLast key form) (OfControl code) are also words rests = absurd (cc w
 same_rest (OfControl key) (OfPiece other code more) are also words rests = absurd (cc words)
 same_rest (OfControl key) (OfLast code more) are also words rests = absurd (cc words)
 
--- of a line that is cut at its first space
-pub fields_at_cut : (line word : List ℕ) (rest : Option (List ℕ)) (fields : Fields) → HasNo 32 word → line ≡ word ++ behind 32 rest
-    → HasFields line fields → (word ≡ word_of fields) × (rest ≡ Some (rest_of fields))
+-- a line that is split at its first space
+pub fields_at_cut : (line word : List ℕ) (rest : Option (List ℕ)) (fields : Fields) → HasNo 32 word → line ≡ word ++ preceded_by 32 rest
+    → HasFields line fields → (word ≡ first_word fields) × (rest ≡ Some (rest_of fields))
 fields_at_cut line word rest fields clear e has =
     let parts = parts_of line fields has in
-    one_cut 32 word (word_of fields) rest (Some (rest_of fields)) clear (word_has_no_space fields) (sym e ∙ parts.1)
+    one_cut 32 word (first_word fields) rest (Some (rest_of fields)) clear (word_has_no_space fields) (sym e ∙ parts.1)
 
 pub one_list_of_fields : (line : List ℕ) (fields others : Fields) → HasFields line fields → HasFields line others → fields ≡ others
 one_list_of_fields line fields others has also =
     let parts = parts_of line fields has in
     let more = parts_of line others also in
-    let cut = fields_at_cut line (word_of fields) (Some (rest_of fields)) others (word_has_no_space fields) parts.1 also in
+    let split = fields_at_cut line (first_word fields) (Some (rest_of fields)) others (word_has_no_space fields) parts.1 also in
     let rests : rest_of fields ≡ rest_of others = cc in
-    same_rest fields others parts.0 more.0 cut.0 rests
+    same_rest fields others parts.0 more.0 split.0 rests

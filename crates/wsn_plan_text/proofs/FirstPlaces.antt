@@ -1,4 +1,4 @@
--- Cutting a text at the first place of a byte.
+-- A text split at the first byte of a value.
 use Rattle.std.proofs.Common.{◌≡◌, ℕ, suc, ◌+◌, ◌<◌, Bool, true, false, cond, None, Some, List, [], ◌∷◌, ◌++◌, length, take, drop, refl, sym, ap, ◌∙◌, arith, nat_eq}
 use Rattle.std.specs.Prelude.{position}
 use Rattle.std.specs.List.{position_from}
@@ -6,7 +6,7 @@ use Rattle.std.proofs.lemmas.Bool.{eqb-true, eqb-false}
 use Rattle.std.proofs.lemmas.Iterator.Adapters.{position_from-zero}
 use Rattle.std.proofs.lemmas.List.{append-nil}
 use Rattle.wsn_plan_text.specs.PlanText.{HasNo}
-use Rattle.wsn_plan_text.specs.Cuts.{IsCut}
+use Rattle.wsn_plan_text.specs.Splits.{IsSplit}
 
 some_same : (x y : ℕ) → Some x ≡ Some y → x ≡ y
 some_same x y e = cc
@@ -14,7 +14,7 @@ some_same x y e = cc
 abbrev CutAt : ℕ → List ℕ → ℕ → Type 0
 CutAt byte text k = (k < length text) × HasNo byte (take k text) × (text ≡ take k text ++ byte ∷ drop (k + 1) text)
 
--- behind the first byte, which passes or not
+-- at the first byte, which has the value or not
 found_from : (byte i at x : ℕ) (text : List ℕ) (passes : Bool) → nat_eq x byte ≡ passes
     → cond passes (Some i) (position_from (λ y. nat_eq y byte) (i + 1) text) ≡ Some at
     → ((j : ℕ) → position_from (λ y. nat_eq y byte) j text ≡ Some at → (k : ℕ) × (at ≡ j + k) × CutAt byte text k)
@@ -24,17 +24,17 @@ found_from byte i at x text true here e later =
     let place = some_same i at e in
     (0, omega arith, (omega arith, tt, ap (λ (y : ℕ). y ∷ text) same))
 found_from byte i at x text false here e later =
-    let behind = later (i + 1) e in
-    let place = behind.1 in
-    let below = behind.2.0 in
-    let one_more : suc (behind.0 + 1) ≡ suc behind.0 + 1 = omega arith in (
-      suc behind.0,
+    let preceded_by = later (i + 1) e in
+    let place = preceded_by.1 in
+    let below = preceded_by.2.0 in
+    let one_more : suc (preceded_by.0 + 1) ≡ suc preceded_by.0 + 1 = omega arith in (
+      suc preceded_by.0,
       omega (arith, place),
       (
         omega (arith, below),
-        (eqb-false x byte here, behind.2.1),
-        ap (λ (bytes : List ℕ). x ∷ bytes) behind.2.2
-            ∙ ap (λ (n : ℕ). x ∷ (take behind.0 text ++ byte ∷ drop n (x ∷ text))) one_more,
+        (eqb-false x byte here, preceded_by.2.1),
+        ap (λ (bytes : List ℕ). x ∷ bytes) preceded_by.2.2
+            ∙ ap (λ (n : ℕ). x ∷ (take preceded_by.0 text ++ byte ∷ drop n (x ∷ text))) one_more,
       ),
     )
 
@@ -59,5 +59,5 @@ cut_at_place byte at text e =
     let same : p.0 ≡ at = omega (arith, p.1) in
     rw same at p.2
 
-pub cut_nowhere : (byte : ℕ) (text : List ℕ) → None ≡ position (λ y. nat_eq y byte) text → IsCut byte text text None
+pub cut_nowhere : (byte : ℕ) (text : List ℕ) → None ≡ position (λ y. nat_eq y byte) text → IsSplit byte text text None
 cut_nowhere byte text e = (missed byte 0 text (sym (position_from-zero (λ y. nat_eq y byte) text) ∙ sym e), sym (append-nil text))

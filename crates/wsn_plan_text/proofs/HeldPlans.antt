@@ -1,4 +1,4 @@
--- What is known of a plan that a program holds stays true where a step is pushed.
+-- What holds of a plan's steps stays true when a step is pushed.
 use Rattle.std.proofs.Common.{◌≡◌, ◌<◌, ◌^◌, Bool, true, false, List, [], ◌∷◌, ◌++◌, IfSome, sym, subst}
 use Rattle.std.specs.Prelude.{if◌then◌else◌}
 use Rattle.std.specs.List.{AllByRecursion}

@@ -1,13 +1,13 @@
--- A line has one first fault, and none if it spells a step.
+-- A line has one first fault, and none if it encodes a step.
 use Rattle.std.proofs.Common.{◌≡◌, ℕ, List, refl}
 use Rattle.wsn_rules.specs.declared.step.Step.{Step}
 use Rattle.wsn_plan_text.specs.declared.plan_fault.LineWhy.{LineWhy}
 use Rattle.wsn_plan_text.specs.declared.plan_fault.LineWhy.TheVariants.{BadForm, BadNumber, BadKey, BadLength}
-use Rattle.wsn_plan_text.specs.PlanText.{Fields, HasFields, HasNumber, HasKey, HasForm, SpellsStep, IsLineFault}
+use Rattle.wsn_plan_text.specs.PlanText.{Fields, HasFields, HasNumber, HasKey, HasForm, EncodesStep, IsLineFault}
 use Rattle.wsn_plan_text.proofs.FieldsOfLine.{one_list_of_fields}
-use Rattle.wsn_plan_text.proofs.SpelledLines.{fields_of_step, told_parts}
+use Rattle.wsn_plan_text.proofs.EncodedLines.{fields_of_step, reported_parts}
 
--- what stands against a fault behind fields that have all that comes before it in the order
+-- these fields have this fault and none that comes before it
 abbrev Opposes : LineWhy → Fields → Type 0
 Opposes BadForm fields = ⊥
 Opposes BadNumber fields = ¬ (HasNumber fields)
@@ -27,17 +27,17 @@ fault_of_fields line fields BadLength has fault =
     let same = one_list_of_fields line fault.0 fields fault.1 has in
     (rw same at fault.2, rw same at fault.3, rw same at fault.4)
 
-pub not_step_and_fault : (line : List ℕ) (step : Step) (why : LineWhy) → SpellsStep line step → ¬ (IsLineFault line why)
+pub not_step_and_fault : (line : List ℕ) (step : Step) (why : LineWhy) → EncodesStep line step → ¬ (IsLineFault line why)
 not_step_and_fault line step BadForm spells fault = let f = fields_of_step line step spells in fault f.0 f.1
 not_step_and_fault line step BadNumber spells fault =
     let f = fields_of_step line step spells in
-    fault_of_fields line f.0 BadNumber f.1 fault (told_parts f.0 step f.2).0
+    fault_of_fields line f.0 BadNumber f.1 fault (reported_parts f.0 step f.2).0
 not_step_and_fault line step BadKey spells fault =
     let f = fields_of_step line step spells in
-    (fault_of_fields line f.0 BadKey f.1 fault).1 (told_parts f.0 step f.2).1
+    (fault_of_fields line f.0 BadKey f.1 fault).1 (reported_parts f.0 step f.2).1
 not_step_and_fault line step BadLength spells fault =
     let f = fields_of_step line step spells in
-    (fault_of_fields line f.0 BadLength f.1 fault).2 (told_parts f.0 step f.2).2
+    (fault_of_fields line f.0 BadLength f.1 fault).2 (reported_parts f.0 step f.2).2
 
 one_opposed : (fields : Fields) (why other : LineWhy) → Opposes why fields → Opposes other fields → why ≡ other
 one_opposed fields BadForm other fault also = absurd fault

@@ -4,20 +4,20 @@ use Rattle.std.specs.List.{AllZip}
 use Rattle.std.proofs.lemmas.List.{append-nil}
 use Rattle.wsn_rules.specs.declared.step.Step.{Step}
 use Rattle.wsn_plan_text.specs.declared.plan_fault.LineWhy.{LineWhy}
-use Rattle.wsn_plan_text.specs.PlanText.{SpellsStep, SpellsPlan, IsLineFault, IsFirstFault, BeginsWithAStep}
-use Rattle.wsn_plan_text.specs.Cuts.{IsNextLine}
-use Rattle.wsn_lines.specs.TextLines.{AreLines}
-use Rattle.wsn_lines.proofs.TextLines.{no_lines, line_in_front, last_line, same_lines, has_lines}
+use Rattle.wsn_plan_text.specs.PlanText.{EncodesStep, EncodesPlan, IsLineFault, IsFirstPlanFault, BeginsWithAStep}
+use Rattle.wsn_plan_text.specs.Splits.{IsNextLine}
+use Rattle.wsn_rules.specs.TextLines.{AreLines}
+use Rattle.wsn_rules.proofs.TextLines.{no_lines, line_in_front, last_line, same_lines, has_lines}
 
--- the lines so far spell the plan so far, and with the lines of the rest they are the lines of the text
+-- the lines so far encode the plan so far, and with the lines of the rest they are the lines of the text
 abbrev pub HasReadPlan : List ℕ → List ℕ → List Step → ℕ → Type 0
-HasReadPlan text rest plan number = (lines : List (List ℕ)) × AllZip SpellsStep lines plan × (length lines ≡ number)
+HasReadPlan text rest plan number = (lines : List (List ℕ)) × AllZip EncodesStep lines plan × (length lines ≡ number)
     × ((more : List (List ℕ)) → AreLines rest more → AreLines text (lines ++ more))
 
 pub nothing_read : (text : List ℕ) → HasReadPlan text text [] 0
 nothing_read text = ([], tt, refl, λ more has. has)
 
-pub all_read : (text rest : List ℕ) (plan : List Step) (number : ℕ) → HasReadPlan text rest plan number → rest ≡ [] → SpellsPlan text plan
+pub all_read : (text rest : List ℕ) (plan : List Step) (number : ℕ) → HasReadPlan text rest plan number → rest ≡ [] → EncodesPlan text plan
 all_read text rest plan number read none =
     let here : AreLines rest [] = subst (λ (other : List ℕ). AreLines other []) (sym none) no_lines in
     (read.0, subst (AreLines text) (append-nil read.0) (read.3 [] here), read.1)
@@ -33,15 +33,15 @@ next_in_front text line rest next more has =
           subst (λ (others : List (List ℕ)). AreLines text (line ∷ others)) none alone
     ]
 
-zip_push : (lines : List (List ℕ)) (plan : List Step) (line : List ℕ) (step : Step) → AllZip SpellsStep lines plan → SpellsStep line step
-    → AllZip SpellsStep (lines ++ line ∷ []) (plan ++ step ∷ [])
+zip_push : (lines : List (List ℕ)) (plan : List Step) (line : List ℕ) (step : Step) → AllZip EncodesStep lines plan → EncodesStep line step
+    → AllZip EncodesStep (lines ++ line ∷ []) (plan ++ step ∷ [])
 zip_push [] [] line step spell spells = (spells, tt)
 zip_push [] (first ∷ plan) line step spell spells = absurd spell
 zip_push (first ∷ lines) [] line step spell spells = absurd spell
 zip_push (first ∷ lines) (next ∷ plan) line step spell spells = (spell.0, zip_push lines plan line step spell.1 spells)
 
 pub one_more_read : (text rest line later : List ℕ) (plan : List Step) (number : ℕ) (step : Step) → HasReadPlan text rest plan number
-    → IsNextLine rest line later → SpellsStep line step → HasReadPlan text later (plan ++ step ∷ []) (number + 1)
+    → IsNextLine rest line later → EncodesStep line step → HasReadPlan text later (plan ++ step ∷ []) (number + 1)
 one_more_read text rest line later plan number step read next spells =
     let count = read.2 in (
       read.0 ++ line ∷ [],
@@ -50,27 +50,27 @@ one_more_read text rest line later plan number step read next spells =
       λ more has. subst (AreLines text) (sym (append_assoc read.0 (line ∷ []) more)) (read.3 (line ∷ more) (next_in_front rest line later next more has)),
     )
 
--- the lines of the text, about the next one
+-- the lines of the text, split at the next one
 lines_about : (text rest line later : List ℕ) (plan : List Step) (number : ℕ) (read : HasReadPlan text rest plan number) → IsNextLine rest line later
     → (after : List (List ℕ)) × AreLines text (read.0 ++ line ∷ after)
 lines_about text rest line later plan number read next =
-    let behind = has_lines later in
-    (behind.0, read.3 (line ∷ behind.0) (next_in_front rest line later next behind.0 behind.1))
+    let preceded_by = has_lines later in
+    (preceded_by.0, read.3 (line ∷ preceded_by.0) (next_in_front rest line later next preceded_by.0 preceded_by.1))
 
 pub fault_read : (text rest line later : List ℕ) (plan : List Step) (number : ℕ) (why : LineWhy) → HasReadPlan text rest plan number
-    → IsNextLine rest line later → IsLineFault line why → IsFirstFault text (number + 1) why
+    → IsNextLine rest line later → IsLineFault line why → IsFirstPlanFault text (number + 1) why
 fault_read text rest line later plan number why read next fault =
     let about = lines_about text rest line later plan number read next in
     (read.0, line, about.0, plan, about.1, read.1, fault, ap (λ (n : ℕ). n + 1) (sym read.2))
 
 begins : (text : List ℕ) (before : List (List ℕ)) (line : List ℕ) (after : List (List ℕ)) (plan : List Step) (step : Step)
-    → AreLines text (before ++ line ∷ after) → AllZip SpellsStep before plan → SpellsStep line step → BeginsWithAStep text
+    → AreLines text (before ++ line ∷ after) → AllZip EncodesStep before plan → EncodesStep line step → BeginsWithAStep text
 begins text [] line after plan step has spell spells = (line, after, step, has, spells)
 begins text (first ∷ before) line after [] step has spell spells = absurd spell
 begins text (first ∷ before) line after (next ∷ plan) step has spell spells = (first, before ++ line ∷ after, next, has, spell.0)
 
 pub begins_read : (text rest line later : List ℕ) (plan : List Step) (number : ℕ) (step : Step) → HasReadPlan text rest plan number
-    → IsNextLine rest line later → SpellsStep line step → BeginsWithAStep text
+    → IsNextLine rest line later → EncodesStep line step → BeginsWithAStep text
 begins_read text rest line later plan number step read next spells =
     let about = lines_about text rest line later plan number read next in
     begins text read.0 line about.0 plan step about.1 read.1 spells
@@ -82,7 +82,7 @@ some_and_none text (x ∷ line) rest some e none =
     let rests = ap (λ (other : List ℕ). length other) none in
     omega (arith, all, rests)
 
--- what is left gets shorter
+-- the rest gets shorter
 pub shorter : (text line rest : List ℕ) → IsNextLine text line rest → length rest < length text
 shorter text line rest next =
     elim next.1 [

@@ -1,17 +1,17 @@
--- A text spells one plan, or has one first fault.
+-- A text encodes one plan or has one first fault.
 use Rattle.std.proofs.Common.{◌≡◌, ℕ, suc, ◌+◌, ◌⊎◌, List, [], ◌∷◌, ◌++◌, length, refl, sym, ap, ◌∙◌, inl, inr}
 use Rattle.std.specs.List.{AllZip}
 use Rattle.wsn_rules.specs.declared.step.Step.{Step}
 use Rattle.wsn_rules.proofs.Prefixes.{head_same, tail_same, cons_same}
 use Rattle.wsn_plan_text.specs.declared.plan_fault.LineWhy.{LineWhy}
-use Rattle.wsn_plan_text.specs.PlanText.{SpellsStep, SpellsPlan, IsLineFault, IsFirstFault}
-use Rattle.wsn_lines.specs.TextLines.{AreLines}
-use Rattle.wsn_lines.proofs.TextLines.{same_lines, has_lines}
-use Rattle.wsn_plan_text.proofs.SpelledLines.{one_step}
+use Rattle.wsn_plan_text.specs.PlanText.{EncodesStep, EncodesPlan, IsLineFault, IsFirstPlanFault}
+use Rattle.wsn_rules.specs.TextLines.{AreLines}
+use Rattle.wsn_rules.proofs.TextLines.{same_lines, has_lines}
+use Rattle.wsn_plan_text.proofs.EncodedLines.{one_step}
 use Rattle.wsn_plan_text.proofs.LineFaults.{not_step_and_fault, one_line_fault}
 use Rattle.wsn_plan_text.proofs.DecidedLines.{step_or_fault}
 
-same_steps : (lines : List (List ℕ)) (plan other : List Step) → AllZip SpellsStep lines plan → AllZip SpellsStep lines other → plan ≡ other
+same_steps : (lines : List (List ℕ)) (plan other : List Step) → AllZip EncodesStep lines plan → AllZip EncodesStep lines other → plan ≡ other
 same_steps [] [] [] spell also = refl
 same_steps [] [] (step ∷ other) spell also = absurd also
 same_steps [] (step ∷ plan) other spell also = absurd spell
@@ -20,27 +20,27 @@ same_steps (line ∷ lines) (step ∷ plan) [] spell also = absurd also
 same_steps (line ∷ lines) (step ∷ plan) (next ∷ other) spell also =
     cons_same step next plan other (one_step line step next spell.0 also.0) (same_steps lines plan other spell.1 also.1)
 
-pub one_plan : (text : List ℕ) (plan other : List Step) → SpellsPlan text plan → SpellsPlan text other → plan ≡ other
+pub one_plan : (text : List ℕ) (plan other : List Step) → EncodesPlan text plan → EncodesPlan text other → plan ≡ other
 one_plan text plan other spells also =
     let same = same_lines text also.0 spells.0 also.1 spells.1 in
     same_steps spells.0 plan other spells.2 (rw same at also.2)
 
--- a line among lines that spell steps
-spelled_at : (before : List (List ℕ)) (line : List ℕ) (after : List (List ℕ)) (plan : List Step) → AllZip SpellsStep (before ++ line ∷ after) plan
-    → (step : Step) × SpellsStep line step
-spelled_at [] line after [] spell = absurd spell
-spelled_at [] line after (step ∷ plan) spell = (step, spell.0)
-spelled_at (first ∷ before) line after [] spell = absurd spell
-spelled_at (first ∷ before) line after (step ∷ plan) spell = spelled_at before line after plan spell.1
+-- a line among lines that encode steps
+encoded_at : (before : List (List ℕ)) (line : List ℕ) (after : List (List ℕ)) (plan : List Step) → AllZip EncodesStep (before ++ line ∷ after) plan
+    → (step : Step) × EncodesStep line step
+encoded_at [] line after [] spell = absurd spell
+encoded_at [] line after (step ∷ plan) spell = (step, spell.0)
+encoded_at (first ∷ before) line after [] spell = absurd spell
+encoded_at (first ∷ before) line after (step ∷ plan) spell = encoded_at before line after plan spell.1
 
-pub not_plan_and_fault : (text : List ℕ) (plan : List Step) (number : ℕ) (why : LineWhy) → SpellsPlan text plan → ¬ (IsFirstFault text number why)
+pub not_plan_and_fault : (text : List ℕ) (plan : List Step) (number : ℕ) (why : LineWhy) → EncodesPlan text plan → ¬ (IsFirstPlanFault text number why)
 not_plan_and_fault text plan number why spells (before, line, after, front, has, spell, fault, e) =
     let same = same_lines text spells.0 (before ++ line ∷ after) spells.1 has in
-    let step = spelled_at before line after plan (rw same at spells.2) in
+    let step = encoded_at before line after plan (rw same at spells.2) in
     not_step_and_fault line step.0 why step.1 fault
 
 same_fault : (before other : List (List ℕ)) (line next : List ℕ) (after rest : List (List ℕ)) (plan more : List Step) (why also_why : LineWhy)
-    → before ++ line ∷ after ≡ other ++ next ∷ rest → AllZip SpellsStep before plan → AllZip SpellsStep other more
+    → before ++ line ∷ after ≡ other ++ next ∷ rest → AllZip EncodesStep before plan → AllZip EncodesStep other more
     → IsLineFault line why → IsLineFault next also_why → (length before ≡ length other) × (why ≡ also_why)
 same_fault [] [] line next after rest plan more why also_why e spell also fault also_fault =
     let same = head_same line next after rest e in
@@ -57,23 +57,23 @@ same_fault (first ∷ before) (second ∷ other) line next after rest [] more wh
 same_fault (first ∷ before) (second ∷ other) line next after rest (step ∷ plan) [] why also_why e spell also fault also_fault = absurd also
 same_fault (first ∷ before) (second ∷ other) line next after rest (step ∷ plan) (twin ∷ more) why also_why e spell also fault also_fault =
     let rests = tail_same first second (before ++ line ∷ after) (other ++ next ∷ rest) e in
-    let behind = same_fault before other line next after rest plan more why also_why rests spell.1 also.1 fault also_fault in
-    (ap suc behind.0, behind.1)
+    let preceded_by = same_fault before other line next after rest plan more why also_why rests spell.1 also.1 fault also_fault in
+    (ap suc preceded_by.0, preceded_by.1)
 
-pub one_first_fault : (text : List ℕ) (number other_number : ℕ) (why other : LineWhy) → IsFirstFault text number why → IsFirstFault text other_number other
+pub one_first_fault : (text : List ℕ) (number other_number : ℕ) (why other : LineWhy) → IsFirstPlanFault text number why → IsFirstPlanFault text other_number other
     → (number ≡ other_number) × (why ≡ other)
 one_first_fault text number other_number why other (before, line, after, plan, has, spell, fault, e) (more, next, rest, twin, also, also_spell, also_fault, f) =
     let lines = same_lines text (before ++ line ∷ after) (more ++ next ∷ rest) has also in
     let same = same_fault before more line next after rest plan twin why other lines spell also_spell fault also_fault in
     (e ∙ ap (λ (n : ℕ). n + 1) same.0 ∙ sym f, same.1)
 
--- ---- one of them
+-- ---- one of both
 
--- lines that spell a plan, or a first fault of them
+-- lines that encode a plan, or have a first fault
 abbrev PlanOrFault : List (List ℕ) → Type 0
-PlanOrFault lines = ((plan : List Step) × AllZip SpellsStep lines plan)
+PlanOrFault lines = ((plan : List Step) × AllZip EncodesStep lines plan)
     ⊎ ((before : List (List ℕ)) × (line : List ℕ) × (after : List (List ℕ)) × (plan : List Step) × (why : LineWhy)
-    × (lines ≡ before ++ line ∷ after) × AllZip SpellsStep before plan × IsLineFault line why)
+    × (lines ≡ before ++ line ∷ after) × AllZip EncodesStep before plan × IsLineFault line why)
 
 lines_decided : (lines : List (List ℕ)) → PlanOrFault lines
 lines_decided [] = inl ([], tt)
@@ -87,7 +87,7 @@ lines_decided (line ∷ lines) =
       | inr fault ↦ inr ([], line, lines, [], fault.0, refl, tt, fault.1)
     ]
 
-pub plan_or_fault : (text : List ℕ) → ((plan : List Step) × SpellsPlan text plan) ⊎ ((number : ℕ) × (why : LineWhy) × IsFirstFault text number why)
+pub plan_or_fault : (text : List ℕ) → ((plan : List Step) × EncodesPlan text plan) ⊎ ((number : ℕ) × (why : LineWhy) × IsFirstPlanFault text number why)
 plan_or_fault text =
     let lines = has_lines text in
     elim (lines_decided lines.0) [

@@ -1,4 +1,4 @@
--- The text that is written of a plan spells the plan.
+-- The text that is written of a plan encodes the plan.
 use Rattle.std.proofs.Common.{◌≡◌, ℕ, zero, suc, ◌^◌, ◌<◌, Option, None, Some, List, [], ◌∷◌, ◌++◌, map, codes, refl, sym, ap, subst, inl, ◌∙◌, arith}
 use Rattle.std.specs.Prelude.{decimal, IfSome}
 use Rattle.std.specs.List.{AllByRecursion, AllZip}
@@ -9,21 +9,21 @@ use Rattle.wsn_wire.specs.Frame.{IsBytes, IsKey}
 use Rattle.wsn_rules.specs.declared.step.Step.{Step}
 use Rattle.wsn_rules.specs.declared.step.Step.TheVariants as step
 use Rattle.wsn_rules.specs.Plan.{IsPlan, key_of, piece_length}
-use Rattle.wsn_rules.specs.Lines.{key_text, form_text}
-use Rattle.wsn_lines.specs.TextLines.{ended}
-use Rattle.wsn_plan_text.specs.PlanText.{HasNo, SpellsKey, SpellsStep, SpellsPlan, step_line, plan_text}
-use Rattle.wsn_plan_text.proofs.SpelledFields.{number_has_no, key_has_no, form_has_no_lf}
+use Rattle.wsn_print.specs.Fields.{key_text, form_text}
+use Rattle.wsn_rules.specs.TextLines.{ended}
+use Rattle.wsn_plan_text.specs.PlanText.{HasNo, EncodesKey, EncodesStep, EncodesPlan, step_line, plan_text}
+use Rattle.wsn_plan_text.proofs.EncodedFields.{number_has_no, key_has_no, form_has_no_lf}
 
--- ---- no LF stands in a line that spells a step
+-- ---- a line that encodes a step has no LF
 
 both_have_no : (byte : ℕ) (text other : List ℕ) → HasNo byte text → HasNo byte other → HasNo byte (text ++ other)
 both_have_no byte [] other clear also = also
 both_have_no byte (x ∷ text) other clear also = (clear.0, both_have_no byte text other clear.1 also)
 
-key_has_no_lf : (text : List ℕ) (key : Option (List ℕ)) → SpellsKey text key → HasNo 10 text
+key_has_no_lf : (text : List ℕ) (key : Option (List ℕ)) → EncodesKey text key → HasNo 10 text
 key_has_no_lf text key spells = key_has_no 10 text key (λ e. cc e) (omega arith) spells
 
-step_has_no_lf : (line : List ℕ) (step : Step) → SpellsStep line step → HasNo 10 line
+step_has_no_lf : (line : List ℕ) (step : Step) → EncodesStep line step → HasNo 10 line
 step_has_no_lf line (step.Piece len key form) spells =
     let number = number_has_no 10 spells.0 len (omega arith) spells.2 in
     let word : HasNo 10 (codes "piece ") = (omega arith, (omega arith, (omega arith, (omega arith, (omega arith, (omega arith, tt)))))) in
@@ -57,26 +57,26 @@ bytes_by_place [] all i = omega arith
 bytes_by_place (byte ∷ bytes) all zero = all.0
 bytes_by_place (byte ∷ bytes) all (suc i) = bytes_by_place bytes all.1 i
 
-key_spelled : (key : Option (List ℕ)) → IfSome key IsKey → SpellsKey (key_text key) key
-key_spelled None is_key = refl
-key_spelled (Some key) is_key =
+key_encoded : (key : Option (List ℕ)) → IfSome key IsKey → EncodesKey (key_text key) key
+key_encoded None is_key = refl
+key_encoded (Some key) is_key =
     let long = length-encode_with lower_digits key in
     let four = is_key.0 in
     (omega (arith, long, four), decode_of-encode_lower key (bytes_by_place key is_key.1))
 
-line_spells : (step : Step) → IfSome (key_of step) IsKey → piece_length step < 2 ^ 64 → SpellsStep (line_text step) step
-line_spells (step.Piece len key form) is_key small = (decimal len, key_text key, (small, refl), key_spelled key is_key, refl)
-line_spells (step.Last key form) is_key small = (key_text key, key_spelled key is_key, refl)
-line_spells (step.Control key) is_key small = (key_text key, key_spelled key is_key, refl)
+line_encodes : (step : Step) → IfSome (key_of step) IsKey → piece_length step < 2 ^ 64 → EncodesStep (line_text step) step
+line_encodes (step.Piece len key form) is_key small = (decimal len, key_text key, (small, refl), key_encoded key is_key, refl)
+line_encodes (step.Last key form) is_key small = (key_text key, key_encoded key is_key, refl)
+line_encodes (step.Control key) is_key small = (key_text key, key_encoded key is_key, refl)
 
--- ---- and of a plan
+-- ---- what is written of a plan
 
 lines_spell : (plan : List Step) → IsPlan plan → AllByRecursion (λ step. piece_length step < 2 ^ 64) plan
-    → AllZip SpellsStep (map line_text plan) plan
+    → AllZip EncodesStep (map line_text plan) plan
 lines_spell [] is_plan small = tt
-lines_spell (step ∷ plan) is_plan small = (line_spells step is_plan.0 small.0, lines_spell plan is_plan.1 small.1)
+lines_spell (step ∷ plan) is_plan small = (line_encodes step is_plan.0 small.0, lines_spell plan is_plan.1 small.1)
 
-lines_without_lf : (lines : List (List ℕ)) (plan : List Step) → AllZip SpellsStep lines plan → AllByRecursion (HasNo 10) lines
+lines_without_lf : (lines : List (List ℕ)) (plan : List Step) → AllZip EncodesStep lines plan → AllByRecursion (HasNo 10) lines
 lines_without_lf [] [] spell = tt
 lines_without_lf [] (step ∷ plan) spell = absurd spell
 lines_without_lf (line ∷ lines) [] spell = absurd spell
@@ -88,7 +88,7 @@ text_of_lines (step ∷ plan) =
     ap (λ (text : List ℕ). text ++ plan_text plan) (ended_line step)
     ∙ ap (λ (text : List ℕ). line_text step ++ codes "\n" ++ text) (text_of_lines plan)
 
-pub text_spells_plan : (plan : List Step) → IsPlan plan → AllByRecursion (λ step. piece_length step < 2 ^ 64) plan → SpellsPlan (plan_text plan) plan
-text_spells_plan plan is_plan small =
+pub text_encodes_plan : (plan : List Step) → IsPlan plan → AllByRecursion (λ step. piece_length step < 2 ^ 64) plan → EncodesPlan (plan_text plan) plan
+text_encodes_plan plan is_plan small =
     let spell = lines_spell plan is_plan small in
     (map line_text plan, record { each = lines_without_lf (map line_text plan) plan spell; joined = inl (text_of_lines plan) }, spell)

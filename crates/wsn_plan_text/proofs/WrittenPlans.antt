@@ -1,18 +1,18 @@
--- A plan's lines as they go out, until a write fails.
+-- A plan's lines as they are written, up to a failed write.
 use Rattle.std.proofs.Common.{◌≡◌, ℕ, suc, ◌<◌, Result, Ok, Err, true, false, List, [], ◌∷◌, ◌++◌, length, take, drop, get_or, sym, ap, subst, ◌∙◌, inl, inr}
 use Rattle.std.specs.Prelude.{IsErrAnd}
 use Rattle.std.proofs.Math.Seq.{take-suc}
 use Rattle.std.proofs.lemmas.List.{append-nil, take-append-drop}
 use Rattle.std.proofs.lemmas.Grind.{flat_map-append}
-use Rattle.wsn_wire.specs.Transfer.{Outgoing, IsWritten, IsPartlyWritten, IsWrittenUpToFailure}
+use Rattle.wsn_io.specs.Transfer.{Outgoing, IsWritten, IsPartlyWritten, IsWrittenUpToFailure}
 use Rattle.wsn_rules.specs.declared.step.Step.{Step}
-use Rattle.wsn_scan.specs.declared.stop.Stop.{Stop}
-use Rattle.wsn_scan.specs.declared.stop.Stop.TheVariants as stop
-use Rattle.wsn_scan.specs.Stops.{IsPut}
-use Rattle.wsn_scan.proofs.Printing.{prints_on, prints_no_more}
+use Rattle.wsn_io.specs.declared.stop.Stop.{Stop}
+use Rattle.wsn_io.specs.declared.stop.Stop.TheVariants as stop
+use Rattle.wsn_io.specs.Stops.{IsWrittenOrStops}
+use Rattle.wsn_io.proofs.PutTexts.{prints_on, prints_no_more}
 use Rattle.wsn_plan_text.specs.PlanText.{step_line, plan_text}
 
--- the text of a plan about the step at a place
+-- the text of a plan, split at the step of an index
 text_at : (plan : List Step) (k : ℕ) (default : Step) → k < length plan
     → plan_text plan ≡ plan_text (take k plan) ++ step_line (get_or plan k default) ++ plan_text (drop (suc k) plan)
 text_at plan k default within =
@@ -28,14 +28,14 @@ partly before after text failed (inl went) = let both : false ≡ true = sym wen
 partly before after text failed (inr front) = front
 
 put_result : (before after : Outgoing) (text : List ℕ) (stopped : Stop) (result : Result (Unit {0}) Stop) → IsErrAnd result (λ other. other ≡ stopped)
-    → stopped ≡ stop.Write → IsPartlyWritten before after text → IsPut before after text result
+    → stopped ≡ stop.Write → IsPartlyWritten before after text → IsWrittenOrStops before after text result
 put_result before after text stopped (Ok done) is e front = absurd is
 put_result before after text stopped (Err other) is e front = (is ∙ e, front)
 
 pub plan_stopped : (before mid after : Outgoing) (plan : List Step) (k : ℕ) (default : Step) (stopped : Stop) (result : Result (Unit {0}) Stop)
     → k < length plan → IsWritten before mid (plan_text (take k plan))
-    → IsPut {A = Unit {0}} mid after (step_line (get_or plan k default)) (Err stopped) → IsErrAnd result (λ other. other ≡ stopped)
-    → IsPut before after (plan_text plan) result
+    → IsWrittenOrStops {A = Unit {0}} mid after (step_line (get_or plan k default)) (Err stopped) → IsErrAnd result (λ other. other ≡ stopped)
+    → IsWrittenOrStops before after (plan_text plan) result
 plan_stopped before mid after plan k default stopped result within written put is =
     let line : List ℕ = step_line (get_or plan k default) in
     let front = prints_on before mid after (plan_text (take k plan)) line written.0 (inl written) (inr put.1) in

@@ -1,7 +1,8 @@
+-- for callers and private functions
 pub mod PlanText
 pub mod PlanFiles
 pub mod Plans
-pub mod Cuts
+pub mod Splits
 pub mod SeenFields
--- what the clauses in src/ import
+-- for the clauses in src/
 pub mod Words

@@ -1,30 +1,30 @@
-//! Facts of plan text. Each function does nothing: its contract is the fact.
+//! Laws about plan text. Each function does nothing: its contract is the law.
 
 ghost use Rattle.std.specs.Prelude.{◌≡◌, ℕ, ◌⊎◌, List};
-ghost use Rattle.wsn_plan_text.specs.Words.{IsPlan, Step, HasLengths, LineWhy, SpellsPlan, SpellsStep, IsLineFault, plan_text, IsFirstFault};
+ghost use Rattle.wsn_plan_text.specs.Words.{IsPlan, Step, HasLengths, LineWhy, EncodesPlan, EncodesStep, IsLineFault, plan_text, IsFirstPlanFault};
 
-/// A text spells one plan at most, and the text that is written of a plan spells that plan: any
-/// [`Plan`](crate::Plan) is one whose lengths fit 64 bits, as its `steps` say.
+/// A text encodes one plan at most, and the text that is written of a plan encodes that plan. This holds of any
+/// [`Plan`](crate::Plan): its lengths fit 64 bits, as the contract of its `steps` says.
 pub fn law_one_plan()
     ensures one { (text : List ℕ) (plan other : List Step) →
-        SpellsPlan text plan → SpellsPlan text other → plan ≡ other }
+        EncodesPlan text plan → EncodesPlan text other → plan ≡ other }
     ensures written { (plan : List Step) → IsPlan plan → HasLengths plan →
-        SpellsPlan (plan_text plan) plan }
+        EncodesPlan (plan_text plan) plan }
 {}
 
-/// A line spells one step, or has one first fault; and a text spells a plan, or has one first fault.
+/// A line encodes one step or has one first fault, and a text encodes one plan or has one first fault: never both.
 pub fn law_one_line_fault()
-    ensures line { (line : List ℕ) → ((step : Step) × SpellsStep line step) ⊎ ((why : LineWhy) × IsLineFault line why) }
+    ensures line { (line : List ℕ) → ((step : Step) × EncodesStep line step) ⊎ ((why : LineWhy) × IsLineFault line why) }
     ensures one_step { (line : List ℕ) (step other : Step) →
-        SpellsStep line step → SpellsStep line other → step ≡ other }
+        EncodesStep line step → EncodesStep line other → step ≡ other }
     ensures one_fault { (line : List ℕ) (why other : LineWhy) →
         IsLineFault line why → IsLineFault line other → why ≡ other }
     ensures not_both { (line : List ℕ) (step : Step) (why : LineWhy) →
-        SpellsStep line step → ¬ (IsLineFault line why) }
-    ensures text { (text : List ℕ) → ((plan : List Step) × SpellsPlan text plan)
-        ⊎ ((number : ℕ) × (why : LineWhy) × IsFirstFault text number why) }
+        EncodesStep line step → ¬ (IsLineFault line why) }
+    ensures text { (text : List ℕ) → ((plan : List Step) × EncodesPlan text plan)
+        ⊎ ((number : ℕ) × (why : LineWhy) × IsFirstPlanFault text number why) }
     ensures one_first_fault { (text : List ℕ) (number other_number : ℕ) (why other : LineWhy) →
-        IsFirstFault text number why → IsFirstFault text other_number other → (number ≡ other_number) × (why ≡ other) }
+        IsFirstPlanFault text number why → IsFirstPlanFault text other_number other → (number ≡ other_number) × (why ≡ other) }
     ensures not_both_of_a_text { (text : List ℕ) (plan : List Step) (number : ℕ) (why : LineWhy) →
-        SpellsPlan text plan → ¬ (IsFirstFault text number why) }
+        EncodesPlan text plan → ¬ (IsFirstPlanFault text number why) }
 {}

@@ -1,11 +1,12 @@
-//! Plans and their text: how a stream's events are to be cut into frames, a line for each (RFC 6455 sections 5.2 to
+//! Plans and their text: how a stream's events are split into frames, one line for each frame (RFC 6455 sections 5.2 to
 //! 5.4).
 //!
-//! A [`Plan`] has one [`Step`] for each frame. [`read_plan`] reads one from text, [`read_plan_file`] from a file, and
-//! [`write_plan`] writes it. `wsn_plan` makes plans and cuts streams again by them, and hands these names on.
+//! A [`Plan`] has one [`Step`] for each frame. [`read_plan`] reads a plan from text, [`read_plan_file`] from a file,
+//! and [`write_plan`] writes it as text. `wsn_plan` makes plans, refragments streams by them, and re-exports these
+//! names.
 //!
-//! `specs/PlanText.antt` says which text spells which plan, and what is wrong with a text that spells none;
-//! `specs/PlanFiles.antt` what a file gives.
+//! `specs/PlanText.antt` defines which text encodes which plan, and the fault of a text that encodes none.
+//! `specs/PlanFiles.antt` defines what a file gives.
 #![tactic(auto)]
 
 pub mod laws;

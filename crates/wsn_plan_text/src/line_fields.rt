@@ -2,41 +2,44 @@ ghost use Rattle.std.specs.Prelude.{◌≡◌, ◌↔◌, ◌==◌, List, Option
 ghost use Rattle.std.specs.Option.{option_copied};
 ghost use Rattle.wsn_plan_text.specs.PlanText as text;
 ghost use Rattle.wsn_plan_text.specs.PlanText.{HasFields, IsField};
-ghost use Rattle.wsn_plan_text.specs.Cuts.{AreFieldsBehind, AreKeyAndForm, IsCut};
+ghost use Rattle.wsn_plan_text.specs.Splits.{AreFieldsAfter, AreKeyAndForm, IsSplit};
 ghost use Rattle.wsn_plan_text.specs.SeenFields.{seen};
 
-/// The fields of a line of plan text, by its first word: none is empty, and none has a space.
+/// The fields of a line of plan text, by its first word. No field is empty or has a space.
 #[derive(Clone, Copy, Drop)]
 pub enum Fields<'a> {
+    /// `piece NUMBER KEY` or `piece NUMBER KEY FORM`.
     Piece {
         number: &'a [u8],
         key: &'a [u8],
         form: Option<&'a [u8]>,
     },
+    /// `last KEY` or `last KEY FORM`.
     Last {
         key: &'a [u8],
         form: Option<&'a [u8]>,
     },
+    /// `control KEY`.
     Control {
         key: &'a [u8],
     },
 }
 
-/// A line's fields. `None` if the first word is unknown, a field is empty, or there are too few or too many.
+/// A line's fields. `None` if its first word is unknown, a field is empty, or there are too few or too many fields.
 #[tactic(none)]
 pub fn fields_of(line: &[u8]) -> Option<Fields<'_>>
     ensures { MatchOption result
         ((fields : text.Fields) → ¬ (HasFields line.now fields))
         (λ fields. HasFields line.now (seen fields)) }
 {
-    let (word, rest) = cut(line, b' ');
-    fields_behind(word, rest?)
+    let (word, rest) = split(line, b' ');
+    fields_after(word, rest?)
 }
 
-fn fields_behind<'a>(word: &[u8], rest: &'a [u8]) -> Option<Fields<'a>>
+fn fields_after<'a>(word: &[u8], rest: &'a [u8]) -> Option<Fields<'a>>
     ensures { MatchOption result
-        ((fields : text.Fields) → ¬ (AreFieldsBehind word.now rest.now fields))
-        (λ fields. AreFieldsBehind word.now rest.now (seen fields)) }
+        ((fields : text.Fields) → ¬ (AreFieldsAfter word.now rest.now fields))
+        (λ fields. AreFieldsAfter word.now rest.now (seen fields)) }
 {
     match word {
         b"piece" => piece_fields(rest),
@@ -51,10 +54,10 @@ fn fields_behind<'a>(word: &[u8], rest: &'a [u8]) -> Option<Fields<'a>>
 
 fn piece_fields(rest: &[u8]) -> Option<Fields<'_>>
     ensures { MatchOption result
-        ((fields : text.Fields) → ¬ (AreFieldsBehind (codes "piece") rest.now fields))
-        (λ fields. AreFieldsBehind (codes "piece") rest.now (seen fields)) }
+        ((fields : text.Fields) → ¬ (AreFieldsAfter (codes "piece") rest.now fields))
+        (λ fields. AreFieldsAfter (codes "piece") rest.now (seen fields)) }
 {
-    let (number, rest) = cut(rest, b' ');
+    let (number, rest) = split(rest, b' ');
     if number.is_empty() {
         return None;
     }
@@ -62,14 +65,14 @@ fn piece_fields(rest: &[u8]) -> Option<Fields<'_>>
     Some(Fields::Piece { number, key, form })
 }
 
-/// A key, and the field behind it, if there is one.
+/// A key, and the field after it, if there is one. `None` if a field is empty or there are more fields.
 #[tactic(none)]
 fn key_and_form(text: &[u8]) -> Option<(&[u8], Option<&[u8]>)>
     ensures { MatchOption result
         ((key : List ℕ) (form : Option (List ℕ)) → ¬ (AreKeyAndForm text.now key form))
         (λ parts. AreKeyAndForm text.now parts.0.now (option_copied parts.1)) }
 {
-    let (key, form) = cut(text, b' ');
+    let (key, form) = split(text, b' ');
     if key.is_empty() {
         return None;
     }
@@ -84,12 +87,13 @@ fn key_and_form(text: &[u8]) -> Option<(&[u8], Option<&[u8]>)>
 fn is_field(text: &[u8]) -> bool
     ensures { IsTrue result ↔ IsField text.now }
 {
-    !text.is_empty() && cut(text, b' ').1.is_none()
+    !text.is_empty() && split(text, b' ').1.is_none()
 }
 
-/// What stands in front of the first such byte, and behind it; all, if there is none.
-pub fn cut(text: &[u8], byte: u8) -> (&[u8], Option<&[u8]>)
-    ensures { IsCut byte text.now result.0.now (option_copied result.1) }
+/// Splits a text at the first byte of this value: the text before it, and the text after it. Without such a byte it
+/// returns the whole text and `None`.
+pub fn split(text: &[u8], byte: u8) -> (&[u8], Option<&[u8]>)
+    ensures { IsSplit byte text.now result.0.now (option_copied result.1) }
 {
     match first_place(text, byte) {
         Some(at) => (&text[..at], Some(&text[at + 1..])),

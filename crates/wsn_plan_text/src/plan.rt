@@ -6,11 +6,11 @@ ghost use Rattle.wsn_plan_text.specs.Plans.{HasLengths};
 
 use std::alloc::{Allocator, Global};
 use std::marker::Model;
+use wsn_io::Stop;
 use wsn_rules::Step;
-use wsn_scan::Stop;
 
-/// How a stream's events are to be cut into frames and spelled: one step for each frame, in order (RFC 6455
-/// sections 5.2 to 5.4).
+/// How a stream's events are split into frames and how each frame is encoded: one step for each frame, in order (RFC
+/// 6455 sections 5.2 to 5.4).
 #[derive(Drop)]
 pub struct Plan<A: Allocator = Global> {
     steps: Vec<Step, A>,
@@ -25,7 +25,7 @@ impl<A: Allocator> Model for Plan<A> {
 }
 
 impl<A: Allocator> Plan<A> {
-    /// The plan without steps. It takes no memory.
+    /// A plan without steps. It allocates no memory.
     pub fn new(alloc: A) -> Self
         ensures { result ≡ [] }
     {
@@ -34,7 +34,7 @@ impl<A: Allocator> Plan<A> {
         }
     }
 
-    /// Appends a step. `Memory` if memory is refused, and then the plan is as it was.
+    /// Appends a step. `Memory` if the allocation fails: then the plan is unchanged.
     #[tactic(none)]
     pub fn push(&mut self, step: Step) -> Result<(), Stop>
         ensures pushed { IfOk result (λ _. self.new ≡ self.old ++ step ∷ []) }
@@ -44,7 +44,7 @@ impl<A: Allocator> Plan<A> {
         self.steps.push(step).map_err(|_| Stop::Memory)
     }
 
-    /// The steps in order. The keys of a plan are keys, and its lengths fit 64 bits.
+    /// The steps in order. Each key is four bytes, and each length fits 64 bits.
     pub fn steps(&self) -> &[Step]
         ensures steps { result.now ≡ self.now }
         ensures keys { IsPlan self.now }
@@ -54,7 +54,7 @@ impl<A: Allocator> Plan<A> {
     }
 }
 
-/// The key of any step is a key, and its length fits 64 bits. It does nothing: its contract is the fact.
+/// A law: any step's key is four bytes, and its length fits 64 bits.
 fn law_step(step: Step)
     ensures key { IfSome (key_of step) IsKey }
     ensures length { piece_length step < 2 ^ 64 }
@@ -64,7 +64,7 @@ fn law_step(step: Step)
     }
 }
 
-/// Any key is four bytes. It does nothing: its contract is the fact.
+/// A law: any key is four bytes.
 fn law_key(key: Option<[u8; 4]>)
     ensures { IfSome key IsKey }
 {

@@ -1,9 +1,9 @@
 use thiserror::Error;
 
-/// What is wrong with a line of plan text: of the faults that hold the first one here counts.
+/// What is wrong with a line of plan text. Of several faults, the first in this order is reported.
 #[derive(Clone, Copy, Debug, PartialEq, Eq, Error)]
 pub enum LineWhy {
-    /// The first word is unknown, a field is empty, or there are too few fields or too many.
+    /// The first word is unknown, a field is empty, or there are too few or too many fields.
     #[error("bad-form")]
     BadForm,
     /// The piece's length isn't a decimal number without leading zeros, or doesn't fit 64 bits.
@@ -12,18 +12,18 @@ pub enum LineWhy {
     /// The key is neither a dash nor eight hexadecimal digits.
     #[error("bad-key")]
     BadKey,
-    /// The field behind the key is neither `two` nor `eight`.
+    /// The field after the key is neither `two` nor `eight`.
     #[error("bad-length")]
     BadLength,
 }
 
-/// Why plan text wasn't read.
+/// Why plan text gives no plan.
 #[derive(Clone, Copy, Debug, PartialEq, Eq, Error)]
 pub enum PlanFault {
-    /// Memory was refused.
+    /// An allocation failed.
     #[error("out of memory")]
     Memory,
-    /// The first line, numbered from 1, that spells no step.
+    /// The first line that encodes no step, numbered from 1, and its first fault.
     #[error("plan line {number}: {why}")]
     Line { number: u64, why: LineWhy },
 }

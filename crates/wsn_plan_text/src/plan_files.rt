@@ -8,20 +8,20 @@ use std::alloc::{AllocError, Allocator};
 use std::io::Read;
 use wsn_wire::Input;
 
-/// The most bytes of a plan file.
-const MOST: usize = 67_108_864;
+/// The maximum size of a plan file in bytes.
+const FILE_MAX: usize = 67_108_864;
 
-/// The most bytes that one read takes.
-const PIECE: usize = 4_096;
+/// The maximum number of bytes that one read returns.
+const CHUNK: usize = 4_096;
 
 /// Why a plan file gives no plan.
 #[derive(Drop)]
 pub enum PlanFileFault {
     /// A read failed.
     Unread,
-    /// It has more than 67,108,864 bytes.
+    /// The file has more than 67,108,864 bytes.
     TooLong,
-    /// Its text spells no plan, or memory was refused.
+    /// Its text encodes no plan, or an allocation failed.
     Faulty(PlanFault),
 }
 
@@ -37,9 +37,11 @@ impl From<AllocError> for PlanFileFault {
     }
 }
 
-/// Reads a file to its end, and answers the plan that its text spells. `Unread` where a read fails, `TooLong` once
-/// 67,108,865 bytes have come, and `Faulty` where the text has a faulty line or memory is refused, behind the file's
-/// first byte. The text is held beside the plan.
+/// Reads a plan file to its end, and returns the plan that its text encodes. All of the text is held in memory beside
+/// the plan.
+///
+/// Errors: `Unread` if a read fails; `TooLong` once 67,108,865 bytes have come; `Faulty` if the text has a faulty line,
+/// or if an allocation fails after the file's first byte.
 pub fn read_plan_file<A: Allocator + Copy, R: Read>(
     alloc: A,
     file: &mut Input<R>,
@@ -54,7 +56,7 @@ pub fn read_plan_file<A: Allocator + Copy, R: Read>(
     }
 }
 
-/// The bytes of a file, if they are no more than the most.
+/// The bytes of a file, if they are at most the maximum.
 #[tactic(none)]
 fn read_text<A: Allocator, R: Read>(
     alloc: A,
@@ -65,9 +67,9 @@ fn read_text<A: Allocator, R: Read>(
     ensures fault { IfErr result (λ fault. IsPlanFileRead file.old file.new (Err fault)) }
 {
     let mut text = Vec::new(alloc);
-    let mut piece = [0; PIECE];
-    while text.len() <= MOST {
-        let wanted = (MOST + 1 - text.len()).min(PIECE);
+    let mut piece = [0; CHUNK];
+    while text.len() <= FILE_MAX {
+        let wanted = (FILE_MAX + 1 - text.len()).min(CHUNK);
         let Some(count) = file.read(&mut piece[..wanted]) else {
             return Err(PlanFileFault::Unread);
         };

@@ -1,7 +1,7 @@
 ghost use Rattle.std.specs.Prelude.{◌≡◌, ◌≢◌, ◌<◌, ◌↔◌, ◌⊎◌, ℕ, [], codes, slice_index, IsTrue, MatchResult, Option, List};
-ghost use Rattle.wsn_plan_text.specs.Words.{option_copied, Form, form_text, BadKey, BadLength, BadNumber, behind, IsLineFault, IsReadPlan, SpellsKey, SpellsNumber, SpellsStep, IsNextLine};
+ghost use Rattle.wsn_plan_text.specs.Words.{option_copied, Form, form_text, BadKey, BadLength, BadNumber, preceded_by, IsLineFault, IsReadPlan, EncodesKey, EncodesNumber, EncodesStep, IsNextLine};
 
-use crate::line_fields::{Fields, cut, fields_of};
+use crate::line_fields::{Fields, fields_of, split};
 use crate::plan::Plan;
 use crate::plan_fault::{LineWhy, PlanFault};
 use hex::FromHex;
@@ -10,9 +10,10 @@ use std::str;
 use wsn_rules::Step;
 use wsn_wire::Form;
 
-/// Reads the plan that a text spells: a line for each step, such as `piece 3 -`, `last 37FA213D` or `last - two`.
-/// `Line` with the number of the first line that spells no step, from 1, and its first fault. `Memory` if memory is
-/// refused, which may come in front of a faulty line.
+/// Reads the plan that a text encodes: one line for each step, such as `piece 3 -`, `last 37FA213D` or `last - two`.
+///
+/// Errors: `Line` with the number, from 1, of the first line that encodes no step, and its first fault. `Memory` if an
+/// allocation fails; a later line may be faulty then.
 #[tactic(none)]
 pub fn read_plan<A: Allocator>(alloc: A, text: &[u8]) -> Result<Plan<A>, PlanFault>
     ensures { IsReadPlan text.now result }
@@ -35,20 +36,20 @@ pub fn read_plan<A: Allocator>(alloc: A, text: &[u8]) -> Result<Plan<A>, PlanFau
     Ok(plan)
 }
 
-/// The first line without its LF, and the text behind it.
+/// The first line without its LF, and the text after it.
 #[tactic(none)]
 fn next_line(text: &[u8]) -> (&[u8], &[u8])
     requires { text.now ≢ [] }
     ensures { IsNextLine text.now result.0.now result.1.now }
 {
-    let (line, rest) = cut(text, b'\n');
+    let (line, rest) = split(text, b'\n');
     (line, rest.unwrap_or(&[]))
 }
 
-/// The step that a line spells, or the line's first fault.
+/// The step that a line encodes, or the line's first fault.
 #[tactic(none)]
 fn step_of(line: &[u8]) -> Result<Step, LineWhy>
-    ensures { MatchResult result (SpellsStep line.now) (IsLineFault line.now) }
+    ensures { MatchResult result (EncodesStep line.now) (IsLineFault line.now) }
 {
     let fields = fields_of(line).ok_or(LineWhy::BadForm)?;
     match fields {
@@ -65,13 +66,13 @@ fn step_of(line: &[u8]) -> Result<Step, LineWhy>
     }
 }
 
-/// A decimal number without leading zeros.
+/// A decimal number without leading zeros that fits 64 bits, or `BadNumber`.
 fn number_of(field: &[u8]) -> Result<u64, LineWhy>
     ensures { MatchResult result
-        (SpellsNumber field.now)
-        (λ why. (why ≡ BadNumber) × ((n : ℕ) → ¬ (SpellsNumber field.now n))) }
+        (EncodesNumber field.now)
+        (λ why. (why ≡ BadNumber) × ((n : ℕ) → ¬ (EncodesNumber field.now n))) }
 {
-    // `parse` takes leading zeros and a plus sign too.
+    // `parse` also accepts leading zeros and a plus sign.
     if !is_plain(field) {
         return Err(LineWhy::BadNumber);
     }
@@ -84,7 +85,7 @@ fn number_of(field: &[u8]) -> Result<u64, LineWhy>
     }
 }
 
-/// Whether a number begins with a digit other than 0, or is 0.
+/// Whether a field begins with a digit other than 0, or is `0`.
 #[tactic(none)]
 fn is_plain(field: &[u8]) -> bool
     ensures { IsTrue result
@@ -93,12 +94,12 @@ fn is_plain(field: &[u8]) -> bool
     matches!(field, b"0" | [b'1'..=b'9', ..])
 }
 
-/// A key's four bytes in hexadecimal digits; none, if there is a dash.
+/// A key in eight hexadecimal digits, or none for a dash, or `BadKey`.
 #[tactic(none)]
 fn key_of(field: &[u8]) -> Result<Option<[u8; 4]>, LineWhy>
     ensures { MatchResult result
-        (SpellsKey field.now)
-        (λ why. (why ≡ BadKey) × ((key : Option (List ℕ)) → ¬ (SpellsKey field.now key))) }
+        (EncodesKey field.now)
+        (λ why. (why ≡ BadKey) × ((key : Option (List ℕ)) → ¬ (EncodesKey field.now key))) }
 {
     if matches!(field, b"-") {
         return Ok(None);
@@ -109,11 +110,11 @@ fn key_of(field: &[u8]) -> Result<Option<[u8; 4]>, LineWhy>
     }
 }
 
-/// How a length is spelled that is spelled longer than needed; without the field, it's spelled in the shortest way.
+/// How a length is encoded: in two or eight bytes as the field says, or without a field in the shortest encoding.
 fn form_of(field: Option<&[u8]>) -> Result<Form, LineWhy>
     ensures { MatchResult result
-        (λ form. behind 32 (option_copied field.entry) ≡ form_text form)
-        (λ why. (why ≡ BadLength) × ((form : Form) → ¬ (behind 32 (option_copied field.entry) ≡ form_text form))) }
+        (λ form. preceded_by 32 (option_copied field.entry) ≡ form_text form)
+        (λ why. (why ≡ BadLength) × ((form : Form) → ¬ (preceded_by 32 (option_copied field.entry) ≡ form_text form))) }
 {
     match field {
         None => Ok(Form::Shortest),

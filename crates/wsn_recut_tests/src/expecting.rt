@@ -1,5 +1,5 @@
-//! What a test expects of plans and recuts: plans and their texts that must be there, and the lines and the bytes that
-//! come of a row. Where one of these isn't as it is wanted, the message tells what it is of.
+//! Assertions on plans, recuts and runs, and plans and texts that must exist. The context of a failure is its last
+//! argument.
 
 ghost use Rattle.std.specs.Prelude.{◌≡◌, true};
 
@@ -7,8 +7,8 @@ use std::alloc::{Allocator, Global};
 use std::fmt::Debug;
 use std::process::Abort;
 use wsn_canon::{Compared, Event};
-use wsn_doubles::lines::{compared_line, recut_line};
-use wsn_doubles::outcomes::Outcome;
+use wsn_doubles::answer_lines::{compared_line, recut_line};
+use wsn_doubles::command_runs::CommandRun;
 use wsn_plan::{Plan, PlanFault, RecutAnswer, read_plan, write_plan};
 use wsn_scan::Stop;
 use wsn_wire::Output;
@@ -20,60 +20,60 @@ pub fn expect(rt: &impl Abort, holds: bool)
     assert!(rt; holds);
 }
 
-/// Fails unless this holds of what is told.
+/// Fails unless this holds, and prints the context.
 pub fn expect_of(rt: &impl Abort, holds: bool, of: &impl Debug) {
     assert!(rt; holds, "{of:?}");
 }
 
-/// Fails unless this is the line, or the text, that is wanted of what is told.
-pub fn expect_line_of(rt: &impl Abort, line: &str, wanted: &str, of: &impl Debug) {
-    assert_eq!(rt; line, wanted, "{of:?}");
+/// Fails unless this is the expected line or text, and prints the context.
+pub fn expect_line_of(rt: &impl Abort, line: &str, expected: &str, of: &impl Debug) {
+    assert_eq!(rt; line, expected, "{of:?}");
 }
 
-/// Fails unless these are the bytes that are wanted of what is told.
-pub fn expect_bytes_of(rt: &impl Abort, bytes: &[u8], wanted: &[u8], of: &impl Debug) {
-    assert_eq!(rt; bytes, wanted, "{of:?}");
+/// Fails unless these are the expected bytes, and prints the context.
+pub fn expect_bytes_of(rt: &impl Abort, bytes: &[u8], expected: &[u8], of: &impl Debug) {
+    assert_eq!(rt; bytes, expected, "{of:?}");
 }
 
-/// Fails unless so many is how many are wanted.
-pub fn expect_count(rt: &impl Abort, count: usize, wanted: usize) {
-    assert_eq!(rt; count, wanted);
+/// Fails unless this is the expected count.
+pub fn expect_count(rt: &impl Abort, count: usize, expected: usize) {
+    assert_eq!(rt; count, expected);
 }
 
-/// Fails unless a value is as it is wanted of what is told.
+/// Fails unless this is the expected value, and prints the context.
 pub fn expect_equal_of<T: PartialEq + Debug>(
     rt: &impl Abort,
     found: &T,
-    wanted: &T,
+    expected: &T,
     of: &impl Debug,
 ) {
-    assert_eq!(rt; found, wanted, "{of:?}");
+    assert_eq!(rt; found, expected, "{of:?}");
 }
 
-/// Fails unless a command ended by this status, with these bytes on standard output, and on standard error this line,
-/// or nothing where it is empty.
-pub fn expect_outcome(rt: &impl Abort, done: &Outcome, status: u8, out: &[u8], line: &str) {
+/// Fails unless a command ended with this exit status, these bytes on standard output, and this line on standard
+/// error. An empty line means none.
+pub fn expect_run(rt: &impl Abort, done: &CommandRun, status: u8, out: &[u8], line: &str) {
     let end: &[u8] = if line.is_empty() { b"" } else { b"\n" };
-    let told = done.said.as_slice().strip_suffix(end);
+    let reported = done.err.as_slice().strip_suffix(end);
     expect_bytes_of(rt, done.out.as_slice(), out, &line);
-    expect_of(rt, told == Some(line.as_bytes()), &(line, &done.said));
+    expect_of(rt, reported == Some(line.as_bytes()), &(line, &done.err));
     expect_of(rt, done.status == status, &(line, done.status));
 }
 
-/// The plan of a text. Fails unless the text spells one.
+/// The plan of a text. Fails unless the text is a plan.
 pub fn plan_read(rt: &impl Abort, alloc: Global, text: &[u8]) -> Plan {
     read_plan(alloc, text).expect(rt, "a plan's text")
 }
 
-/// The text that is written of a plan.
+/// The text of a plan, as it is written.
 pub fn plan_written(rt: &impl Abort, alloc: Global, plan: &Plan) -> Vec<u8> {
     let mut text = Vec::new(alloc);
     write_plan(&mut Output::new(&mut text), plan).expect(rt, "memory");
     text
 }
 
-/// The words of a fault of a plan's text.
-pub fn fault_line(rt: &impl Abort, alloc: Global, fault: PlanFault) -> String {
+/// The printed line of a fault in a plan's text.
+pub fn recut_fault_line(rt: &impl Abort, alloc: Global, fault: PlanFault) -> String {
     format!(in alloc; "{fault}").expect(rt, "memory")
 }
 
@@ -82,43 +82,43 @@ pub fn push_event<A: Allocator>(rt: &impl Abort, events: &mut Vec<Event<A>>, eve
     events.push(event).expect(rt, "memory");
 }
 
-/// Fails unless a recut answered this line.
+/// Fails unless this is the line of a recut's answer.
 pub fn expect_answer(
     rt: &impl Abort,
     alloc: Global,
     answer: &Result<RecutAnswer, Stop>,
-    wanted: &str,
+    expected: &str,
     of: &impl Debug,
 ) {
     let line = recut_line(alloc, answer).expect(rt, "memory");
-    expect_line_of(rt, line.as_str(), wanted, of);
+    expect_line_of(rt, line.as_str(), expected, of);
 }
 
-/// Fails unless a recut answered this line, and wrote these bytes.
+/// Fails unless this is the line of a recut's answer, and these bytes were written.
 pub fn expect_recut(
     rt: &impl Abort,
     alloc: Global,
     found: (&Result<RecutAnswer, Stop>, &[u8]),
-    wanted: (&str, &[u8]),
+    expected: (&str, &[u8]),
     of: &impl Debug,
 ) {
-    expect_answer(rt, alloc, found.0, wanted.0, of);
-    expect_bytes_of(rt, found.1, wanted.1, of);
+    expect_answer(rt, alloc, found.0, expected.0, of);
+    expect_bytes_of(rt, found.1, expected.1, of);
 }
 
-/// Fails unless a recut of a row answered this line, and wrote these bytes. The count tells how the row was read.
+/// Fails unless this is the line of a row's recut, and these bytes were written. The count says how the row was read.
 pub fn expect_recut_at(
     rt: &impl Abort,
     alloc: Global,
     found: (&Result<RecutAnswer, Stop>, &[u8]),
-    wanted: (&str, &[u8]),
+    expected: (&str, &[u8]),
     row: &impl Debug,
     count: usize,
 ) {
-    expect_recut(rt, alloc, found, wanted, &(row, count));
+    expect_recut(rt, alloc, found, expected, &(row, count));
 }
 
-/// Fails unless `same` answered that two streams mean the same.
+/// Fails unless `same` answered that two streams have the same events.
 pub fn expect_equal(
     rt: &impl Abort,
     alloc: Global,

@@ -1,15 +1,14 @@
-//! Tests of plans and recuts, and of the commands `plan` and `recut`. Nothing here is a library.
+//! Tests of plans and recuts, and of the commands `plan` and `recut`.
 //!
-//! Plans: `plan_text` is of their text, `plan_files` of files, `plans` of the plan of a stream's own frames. Recuts:
-//! `recuts` by plans that fit, `recut_faults` by plans that don't, `uniform_recuts` in frames of one size, and
-//! `long_plans` in a million. `plan_commands` is of both commands, and `size_commands` of `recut` in frames of one
-//! size. `peer` is of another implementation, the kit's `tungstenite`: what it reads of recuts and normal forms, and
-//! that what it writes is accepted.
+//! A rule's test is found by its printed word: faults of a plan (`piece-too-long`) in `recut_faults`, faults of its
+//! text (`bad_key`) in `plan_text`.
 //!
-//! Hostile use: `recut_stops` is of readers and writers that fail, `recut_memory` of memory that is refused.
+//! Plans: `plan_text` and `plan_files` read and write them, `plans` takes them from streams. Recuts: `recuts` by plans
+//! that fit, `recut_faults` by plans that do not, `sized_recuts` in frames of one size, `long_plans` in a million
+//! steps. `plan_commands` and `recut_size_commands` run the commands.
 //!
-//! `expecting` has the plans and the texts that must be there, and asserts what is wanted of a value, and of the lines
-//! and the bytes that come of a row.
+//! Hostile use: failing readers and writers in `recut_stops`, failed allocations in `recut_memory`. `peer` is another
+//! implementation, the kit's `tungstenite`. `expecting` has the assertions.
 #![tactic(auto)]
 
 #[cfg(test)]
@@ -31,10 +30,10 @@ mod recut_faults;
 #[cfg(test)]
 mod recut_memory;
 #[cfg(test)]
+mod recut_size_commands;
+#[cfg(test)]
 mod recut_stops;
 #[cfg(test)]
 mod recuts;
 #[cfg(test)]
-mod size_commands;
-#[cfg(test)]
-mod uniform_recuts;
+mod sized_recuts;

@@ -1,19 +1,19 @@
-//! Plans of a million steps, and streams of a million frames. Work that grows with the square of these wouldn't end in
-//! the minute that a test has.
+//! Plans of a million steps, and streams of a million frames. Work that grows with their square would pass the time
+//! limit of a test.
 
 use crate::expecting::{expect_answer, expect_count, expect_of, plan_read, plan_written};
 use std::alloc::Global;
 use std::process::Abort;
 use wsn_doubles::engines::{Sizes, planned, recut_by, recut_uniformly};
 use wsn_doubles::readers::Chopped;
-use wsn_doubles::rows::{filled, greatest};
+use wsn_doubles::vectors::{filled, greatest};
 use wsn_plan::{Plan, PlanAnswer, RecutAnswer};
 use wsn_scan::Stop;
 use wsn_wire::Role;
 
 const MANY: usize = 1_000_000;
 
-/// The same bytes so many times, between these.
+/// The first bytes, `count` times the others, and the last bytes.
 fn repeated(
     rt: &impl Abort,
     alloc: Global,
@@ -36,22 +36,22 @@ fn expect_done(
     alloc: Global,
     answer: &Result<RecutAnswer, Stop>,
     out: &[u8],
-    wanted: &[u8],
+    expected: &[u8],
 ) {
-    expect_answer(rt, alloc, answer, "done", &wanted.len());
-    expect_of(rt, out == wanted, &wanted.len());
+    expect_answer(rt, alloc, answer, "done", &expected.len());
+    expect_of(rt, out == expected, &expected.len());
 }
 
-/// Fails unless these bytes come of a server's stream by a plan.
-fn expect_cut(rt: &impl Abort, alloc: Global, bytes: &[u8], plan: &Plan, wanted: &[u8]) {
+/// Fails unless a server's stream is recut by a plan into these bytes.
+fn expect_recut_by(rt: &impl Abort, alloc: Global, bytes: &[u8], plan: &Plan, expected: &[u8]) {
     let mut out = Vec::new(alloc);
     let reader = Chopped::new(bytes, usize::MAX);
     let answer = recut_by(alloc, Role::Server, greatest(), plan, reader, &mut out);
-    expect_done(rt, alloc, &answer, out.as_slice(), wanted);
+    expect_done(rt, alloc, &answer, out.as_slice(), expected);
 }
 
-/// Fails unless these bytes come of a server's stream in frames of a byte.
-fn expect_cut_in_bytes(rt: &impl Abort, alloc: Global, bytes: &[u8], wanted: &[u8]) {
+/// Fails unless a server's stream is recut in frames of one byte into these bytes.
+fn expect_recut_in_bytes(rt: &impl Abort, alloc: Global, bytes: &[u8], expected: &[u8]) {
     let mut out = Vec::new(alloc);
     let sizes = Sizes {
         size: 1,
@@ -59,7 +59,7 @@ fn expect_cut_in_bytes(rt: &impl Abort, alloc: Global, bytes: &[u8], wanted: &[u
     };
     let reader = Chopped::new(bytes, usize::MAX);
     let answer = recut_uniformly(alloc, Role::Server, greatest(), sizes, reader, &mut out);
-    expect_done(rt, alloc, &answer, out.as_slice(), wanted);
+    expect_done(rt, alloc, &answer, out.as_slice(), expected);
 }
 
 #[test]
@@ -84,18 +84,18 @@ fn expect_planned(rt: &impl Abort, alloc: Global, bytes: &[u8], plan: &Plan) {
 }
 
 #[test]
-fn a_million_controls_are_planned_and_cut(rt: HostRuntime) {
+fn a_million_controls_are_planned_and_recut(rt: HostRuntime) {
     let alloc = rt.alloc();
     let pings = repeated(&rt, alloc, b"", b"\x89\x00", MANY, b"");
     let text = repeated(&rt, alloc, b"", b"control -\n", MANY, b"");
     let plan = plan_read(&rt, alloc, text.as_slice());
-    expect_cut(&rt, alloc, pings.as_slice(), &plan, pings.as_slice());
+    expect_recut_by(&rt, alloc, pings.as_slice(), &plan, pings.as_slice());
     expect_planned(&rt, alloc, pings.as_slice(), &plan);
 }
 
-/// Pieces that stand in front of a million controls belong to the message behind these.
+/// Pieces before a million controls belong to the message after them.
 #[test]
-fn a_million_controls_in_front_of_a_message_are_cut(rt: HostRuntime) {
+fn a_million_controls_before_a_message_are_recut(rt: HostRuntime) {
     let alloc = rt.alloc();
     let bytes = repeated(&rt, alloc, b"", b"\x8a\x00", MANY, b"\x82\x02AB");
     let text = repeated(
@@ -107,26 +107,26 @@ fn a_million_controls_in_front_of_a_message_are_cut(rt: HostRuntime) {
         b"last -\n",
     );
     let (first, again, last) = (b"\x02\x00\x8a\x00", b"\x00\x00\x8a\x00", b"\x80\x02AB");
-    let wanted = repeated(&rt, alloc, first, again, MANY - 1, last);
+    let expected = repeated(&rt, alloc, first, again, MANY - 1, last);
     let plan = plan_read(&rt, alloc, text.as_slice());
-    expect_cut(&rt, alloc, bytes.as_slice(), &plan, wanted.as_slice());
+    expect_recut_by(&rt, alloc, bytes.as_slice(), &plan, expected.as_slice());
 }
 
-/// The plan of a message in a million frames of a byte.
+/// The plan of a message in a million frames of one byte.
 fn plan_of_bytes(rt: &impl Abort, alloc: Global) -> Plan {
     let text = repeated(rt, alloc, b"", b"piece 1 -\n", MANY - 1, b"last -\n");
     plan_read(rt, alloc, text.as_slice())
 }
 
 #[test]
-fn a_message_is_cut_in_a_million_frames(rt: HostRuntime) {
+fn a_message_is_recut_in_a_million_frames(rt: HostRuntime) {
     let alloc = rt.alloc();
     let message = filled(alloc, b"\x82\x7f\0\0\0\0\0\x0f\x42\x40", 0x2a, MANY).expect(
         &rt, "memory",
     );
     let (first, again, last) = (b"\x02\x01\x2a", b"\x00\x01\x2a", b"\x80\x01\x2a");
-    let wanted = repeated(&rt, alloc, first, again, MANY - 2, last);
+    let expected = repeated(&rt, alloc, first, again, MANY - 2, last);
     let plan = plan_of_bytes(&rt, alloc);
-    expect_cut(&rt, alloc, message.as_slice(), &plan, wanted.as_slice());
-    expect_cut_in_bytes(&rt, alloc, message.as_slice(), wanted.as_slice());
+    expect_recut_by(&rt, alloc, message.as_slice(), &plan, expected.as_slice());
+    expect_recut_in_bytes(&rt, alloc, message.as_slice(), expected.as_slice());
 }

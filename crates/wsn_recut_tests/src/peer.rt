@@ -1,4 +1,4 @@
-//! A real peer, the kit's `tungstenite`: its server reads what is written here, and what it writes is read here.
+//! An independent peer, the kit's `tungstenite`: its server reads our output, and we read its output.
 
 use crate::expecting::{expect_answer, expect_equal, expect_line_of, expect_of};
 use std::alloc::Global;
@@ -6,7 +6,7 @@ use std::process::Abort;
 use tungstenite::{CloseCode, CloseFrame, Duplex, Message, NoMask, Utf8Bytes, WebSocket};
 use wsn_doubles::engines::{Sizes, compared, recut_uniformly};
 use wsn_doubles::readers::Chopped;
-use wsn_doubles::rows::{filled, greatest};
+use wsn_doubles::vectors::{filled, greatest};
 use wsn_wire::Role;
 
 /// A server that reads these bytes, and keeps what it writes.
@@ -20,7 +20,7 @@ fn server(alloc: Global, bytes: &[u8]) -> Server<'_> {
     WebSocket::from_raw_socket(alloc, stream, NoMask, tungstenite::Role::Server, None)
 }
 
-/// The kinds of the session's messages, and how long they are: of a close, its reason.
+/// The kinds of the session's messages, and their lengths: for a Close, that of its reason.
 const SESSION: [(&str, usize); 5] = [
     ("text", 5),
     ("ping", 1),
@@ -29,7 +29,7 @@ const SESSION: [(&str, usize); 5] = [
     ("close", 3),
 ];
 
-/// The first bytes, so many stars behind them, and the last.
+/// The first bytes, then `count` stars, then the last bytes.
 fn stars_between(
     rt: &impl Abort,
     alloc: Global,
@@ -42,7 +42,7 @@ fn stars_between(
     bytes
 }
 
-/// The normal form of a client's text "Hello", ping `01`, 300 bytes of binary, text of a euro sign, and close 1000
+/// The normal form of a client's text "Hello", ping `01`, 300 bytes of binary, text of a euro sign, and Close 1000
 /// "bye".
 fn session(rt: &impl Abort, alloc: Global) -> Vec<u8> {
     let first = b"\x81\x85\0\0\0\0Hello\x89\x81\0\0\0\0\x01\x82\xfe\x01\x2c\0\0\0\0";
@@ -50,13 +50,13 @@ fn session(rt: &impl Abort, alloc: Global) -> Vec<u8> {
     stars_between(rt, alloc, first, 300, last)
 }
 
-/// The normal form of the same three data messages from a server.
+/// The normal form of the same three data messages of a server.
 fn messages(rt: &impl Abort, alloc: Global) -> Vec<u8> {
     let first = b"\x81\x05Hello\x82\x7e\x01\x2c";
     stars_between(rt, alloc, first, 300, b"\x81\x03\xe2\x82\xac")
 }
 
-/// The kind of a message, and its bytes: of a close, those of its reason.
+/// The kind of a message, and its length: for a Close, that of its reason.
 fn kind_and_len(message: &Message) -> (&'static str, usize) {
     let kind = match message {
         Message::Text(_) => "text",
@@ -68,35 +68,35 @@ fn kind_and_len(message: &Message) -> (&'static str, usize) {
     (kind, message.len())
 }
 
-/// A server reads the session from these bytes, and another sends its data messages on.
+/// Fails unless a server reads the session from these bytes, and another sends its data messages.
 fn expect_session(rt: &impl Abort, alloc: Global, bytes: &[u8]) {
-    let wanted = messages(rt, alloc);
+    let expected = messages(rt, alloc);
     let sent = passed_on(rt, alloc, bytes);
-    expect_same(rt, alloc, sent.as_slice(), wanted.as_slice());
+    expect_same(rt, alloc, sent.as_slice(), expected.as_slice());
 }
 
-/// What a server writes that sends on the data messages of the session, which another reads from these bytes.
+/// The output of a server that sends the data messages of the session, which another server reads from these bytes.
 fn passed_on(rt: &impl Abort, alloc: Global, bytes: &[u8]) -> Vec<u8> {
     let mut sending = server(alloc, b"");
     pass_session_on(rt, server(alloc, bytes), &mut sending);
     sending.into_inner().writer
 }
 
-/// The messages of the session, one by one.
+/// Passes on the messages of the session, one by one.
 fn pass_session_on(rt: &impl Abort, mut reading: Server, sending: &mut Server) {
     for (kind, len) in SESSION {
         pass_on(rt, &mut reading, sending, kind, len);
     }
 }
 
-/// Fails unless a message is of this kind and length.
+/// Fails unless a message has this kind and length.
 fn expect_message(rt: &impl Abort, message: &Message, kind: &str, len: usize) {
     let (kind_read, len_read) = kind_and_len(message);
     expect_line_of(rt, kind_read, kind, &len);
     expect_of(rt, len_read == len, &kind);
 }
 
-/// A server reads a message of this kind and length, and another sends it on if it is of data.
+/// Reads a message of this kind and length by one server, and sends it by another if it is of data.
 fn pass_on(rt: &impl Abort, reading: &mut Server, sending: &mut Server, kind: &str, len: usize) {
     let message = reading.read().expect(rt, "a message");
     expect_message(rt, &message, kind, len);
@@ -105,12 +105,12 @@ fn pass_on(rt: &impl Abort, reading: &mut Server, sending: &mut Server, kind: &s
     }
 }
 
-/// A server sends this message.
+/// Sends this message by a server.
 fn send(rt: &impl Abort, socket: &mut Server, message: Message) {
     socket.send(message).expect(rt, "a message is sent");
 }
 
-/// Fails unless two streams of a server mean the same.
+/// Fails unless two streams of a server have the same events.
 fn expect_same(rt: &impl Abort, alloc: Global, first: &[u8], second: &[u8]) {
     let answer = compared(
         alloc,
@@ -139,7 +139,7 @@ fn a_server_reads_frames_of_each_size(rt: HostRuntime) {
     }
 }
 
-/// A server reads the session in frames of one size.
+/// Fails unless a server reads the session in frames of one size.
 fn expect_session_in(rt: &impl Abort, alloc: Global, bytes: &[u8], sizes: Sizes) {
     let mut out = Vec::new(alloc);
     let reader = Chopped::new(bytes, usize::MAX);
@@ -148,7 +148,7 @@ fn expect_session_in(rt: &impl Abort, alloc: Global, bytes: &[u8], sizes: Sizes)
     expect_session(rt, alloc, out.as_slice());
 }
 
-/// What a server writes of text "Hello", 126 bytes of binary, and close 1000.
+/// The output of a server that sends text "Hello", 126 bytes of binary, and Close 1000.
 fn sent(rt: &impl Abort, alloc: Global) -> Vec<u8> {
     let mut socket = server(alloc, b"");
     send_data(rt, alloc, &mut socket);
@@ -165,7 +165,7 @@ fn send_data(rt: &impl Abort, alloc: Global, socket: &mut Server) {
     send(rt, socket, binary);
 }
 
-/// Sends close 1000.
+/// Sends Close 1000.
 fn close_normally(rt: &impl Abort, socket: &mut Server) {
     let frame = CloseFrame {
         code: CloseCode::Normal,
@@ -179,6 +179,6 @@ fn what_a_server_writes_is_accepted(rt: HostRuntime) {
     let alloc = rt.alloc();
     let sent = sent(&rt, alloc);
     let first = b"\x81\x05Hello\x82\x7e\x00\x7e";
-    let wanted = stars_between(&rt, alloc, first, 126, b"\x88\x02\x03\xe8");
-    expect_same(&rt, alloc, sent.as_slice(), wanted.as_slice());
+    let expected = stars_between(&rt, alloc, first, 126, b"\x88\x02\x03\xe8");
+    expect_same(&rt, alloc, sent.as_slice(), expected.as_slice());
 }

@@ -1,4 +1,5 @@
-//! Plan files: read in pieces, by readers that fail, without memory, and how much of one that is too long is read.
+//! Plan files: with short reads, with readers that fail, without memory, and how much is read of a file that is too
+//! long.
 
 use crate::expecting::{expect, expect_count, expect_of};
 use std::alloc::Global;
@@ -25,28 +26,28 @@ static STEPS: [Step; 3] = [
 
 #[test]
 fn a_plan_file_is_read_to_its_end(rt: HostRuntime) {
-    for most in READS {
-        expect_read(&rt, rt.alloc(), most);
-        expect_unread(&rt, rt.alloc(), most);
+    for at_most in READS {
+        expect_read(&rt, rt.alloc(), at_most);
+        expect_unread(&rt, rt.alloc(), at_most);
     }
 }
 
-/// Fails unless the plan is read of a file, by reads of at most so many bytes.
-fn expect_read(rt: &impl Abort, alloc: Global, most: usize) {
-    let mut file = Input::new(Chopped::new(TEXT, most));
+/// Fails unless the plan is read from a file, with reads of at most `at_most` bytes.
+fn expect_read(rt: &impl Abort, alloc: Global, at_most: usize) {
+    let mut file = Input::new(Chopped::new(TEXT, at_most));
     let plan = read_plan_file(alloc, &mut file).ok().expect(rt, "a plan");
-    expect_of(rt, plan.steps() == STEPS.as_slice(), &most);
+    expect_of(rt, plan.steps() == STEPS.as_slice(), &at_most);
 }
 
-/// Fails unless a failed read behind the file's last byte is told, by reads of at most so many bytes.
-fn expect_unread(rt: &impl Abort, alloc: Global, most: usize) {
-    let mut file = Input::new(Chopped::breaking(TEXT, most));
+/// Fails unless a failed read after the file's last byte is reported.
+fn expect_unread(rt: &impl Abort, alloc: Global, at_most: usize) {
+    let mut file = Input::new(Chopped::breaking(TEXT, at_most));
     let answer = read_plan_file(alloc, &mut file);
-    expect_of(rt, matches!(&answer, Err(PlanFileFault::Unread)), &most);
+    expect_of(rt, matches!(&answer, Err(PlanFileFault::Unread)), &at_most);
 }
 
 #[test]
-fn a_plan_file_wants_memory(rt: HostRuntime) {
+fn a_plan_file_answers_out_of_memory(rt: HostRuntime) {
     let heap = heap_of(rt.alloc(), 0).expect(&rt, "memory");
     let answer = read_plan_file(&heap, &mut Input::new(Chopped::new(TEXT, 1)));
     let is_refused = matches!(&answer, Err(PlanFileFault::Faulty(PlanFault::Memory)));
@@ -54,7 +55,7 @@ fn a_plan_file_wants_memory(rt: HostRuntime) {
 }
 
 #[test]
-fn of_a_file_without_an_end_a_byte_more_than_the_most_is_read(rt: HostRuntime) {
+fn an_endless_plan_file_is_read_to_one_byte_past_the_maximum(rt: HostRuntime) {
     let mut file = Endless::new(b"", b"\n");
     let answer = read_plan_file(rt.alloc(), &mut Input::new(&mut file));
     let is_too_long = matches!(&answer, Err(PlanFileFault::TooLong));

@@ -1,8 +1,8 @@
-//! Plan text: what is read of a text, what is written of a plan, and where memory or a write fails.
+//! Plan text: the steps that are read, the text that is written, and failures of memory or of a write.
 
 use crate::expecting::{
-    expect, expect_bytes_of, expect_count, expect_equal_of, expect_line_of, expect_of, fault_line,
-    plan_read, plan_written,
+    expect, expect_bytes_of, expect_count, expect_equal_of, expect_line_of, expect_of, plan_read,
+    plan_written, recut_fault_line,
 };
 use crate::recuts::NINE_PLAN;
 use std::alloc::{Allocator, Global};
@@ -35,7 +35,7 @@ static PLANS: [(&str, &str); 9] = [
     ),
 ];
 
-/// A text, its first faulty line, and what is wrong with it.
+/// A text, the number of its first malformed line, and the fault with its printed word.
 static FAULTS: [(&str, u64, LineWhy, &str); 29] = [
     ("\n", 1, LineWhy::BadForm, "bad-form"),
     ("last  -", 1, LineWhy::BadForm, "bad-form"),
@@ -75,20 +75,20 @@ static FAULTS: [(&str, u64, LineWhy, &str); 29] = [
 
 #[test]
 fn plans_are_read_and_written(rt: HostRuntime) {
-    for (text, wanted) in PLANS.iter() {
-        expect_rewritten(&rt, rt.alloc(), text, wanted);
+    for (text, expected) in PLANS.iter() {
+        expect_rewritten(&rt, rt.alloc(), text, expected);
     }
 }
 
-/// Fails unless this is written of the plan of a text, also to a writer of one byte a call.
-fn expect_rewritten(rt: &impl Abort, alloc: Global, text: &str, wanted: &str) {
+/// Fails unless this is written of the plan of a text, also to a writer that accepts one byte per call.
+fn expect_rewritten(rt: &impl Abort, alloc: Global, text: &str, expected: &str) {
     let plan = plan_read(rt, alloc, text.as_bytes());
     let written = plan_written(rt, alloc, &plan);
-    expect_bytes_of(rt, written.as_slice(), wanted.as_bytes(), &text);
+    expect_bytes_of(rt, written.as_slice(), expected.as_bytes(), &text);
     let mut slow = Narrow::byte_by_byte(alloc);
     let answer = write_plan(&mut Output::new(&mut slow), &plan);
     expect_of(rt, answer == Ok(()), &text);
-    expect_bytes_of(rt, slow.taken.as_slice(), wanted.as_bytes(), &text);
+    expect_bytes_of(rt, slow.taken.as_slice(), expected.as_bytes(), &text);
 }
 
 #[test]
@@ -113,7 +113,7 @@ fn steps_are_those_of_the_lines(rt: HostRuntime) {
 }
 
 #[test]
-fn the_first_fault_is_told(rt: HostRuntime) {
+fn bad_form_bad_number_bad_key_and_bad_length(rt: HostRuntime) {
     for (text, number, why, word) in FAULTS.iter() {
         let fault = PlanFault::Line {
             number: *number,
@@ -124,21 +124,21 @@ fn the_first_fault_is_told(rt: HostRuntime) {
     }
 }
 
-/// Fails unless this fault is told of a text, with memory from this heap.
-fn expect_fault<A: Allocator>(rt: &impl Abort, heap: A, text: &str, wanted: PlanFault) {
-    let told = read_plan(heap, text.as_bytes()).err();
-    expect_equal_of(rt, &told, &Some(wanted), &text);
+/// Fails unless this is the fault of a text, with memory from this heap.
+fn expect_fault<A: Allocator>(rt: &impl Abort, heap: A, text: &str, expected: PlanFault) {
+    let reported = read_plan(heap, text.as_bytes()).err();
+    expect_equal_of(rt, &reported, &Some(expected), &text);
 }
 
-/// Fails unless this line's number and this word are printed of a fault.
+/// Fails unless this number and this word are printed of a fault.
 fn expect_printed(rt: &impl Abort, alloc: Global, fault: PlanFault, number: u64, word: &str) {
-    let printed = fault_line(rt, alloc, fault);
-    let wanted = format!(in alloc; "plan line {number}: {word}").expect(rt, "memory");
-    expect_line_of(rt, printed.as_str(), wanted.as_str(), &fault);
+    let printed = recut_fault_line(rt, alloc, fault);
+    let expected = format!(in alloc; "plan line {number}: {word}").expect(rt, "memory");
+    expect_line_of(rt, printed.as_str(), expected.as_str(), &fault);
 }
 
 #[test]
-fn a_failed_write_is_told(rt: HostRuntime) {
+fn write_plan_reports_a_failed_write(rt: HostRuntime) {
     let alloc = rt.alloc();
     let text = "piece 3 - two\ncontrol 00000001\nlast -\n";
     let plan = plan_read(&rt, alloc, text.as_bytes());
@@ -149,16 +149,16 @@ fn a_failed_write_is_told(rt: HostRuntime) {
     }
 }
 
-/// Fails unless a failed write behind these first bytes of a plan's text is told.
-fn expect_unwritten(rt: &impl Abort, alloc: Global, plan: &Plan, full: Full, front: &[u8]) {
-    let mut writer = Narrow::new(alloc, 1, front.len(), full);
+/// Fails unless a failed write after this prefix of a plan's text is reported.
+fn expect_unwritten(rt: &impl Abort, alloc: Global, plan: &Plan, full: Full, prefix: &[u8]) {
+    let mut writer = Narrow::new(alloc, 1, prefix.len(), full);
     let answer = write_plan(&mut Output::new(&mut writer), plan);
     expect_of(rt, answer == Err(Stop::Write), &full);
-    expect_bytes_of(rt, writer.taken.as_slice(), front, &full);
+    expect_bytes_of(rt, writer.taken.as_slice(), prefix, &full);
 }
 
-/// Whether so many steps are read of a text with memory from a heap of so many blocks. Fails unless memory was refused
-/// otherwise.
+/// Whether this number of steps is read from a text, with memory from a heap of `blocks` blocks. Fails unless an
+/// allocation failed otherwise.
 fn is_read(rt: &impl Abort, alloc: Global, blocks: usize, text: &[u8], steps: usize) -> bool {
     let heap = heap_of(alloc, blocks).expect(rt, "memory");
     match read_plan(&heap, text) {
@@ -173,9 +173,9 @@ fn is_read(rt: &impl Abort, alloc: Global, blocks: usize, text: &[u8], steps: us
     }
 }
 
-/// Eighteen steps grow a plan four times.
+/// A plan of eighteen steps grows four times.
 #[test]
-fn refused_memory_is_told(rt: HostRuntime) {
+fn read_plan_answers_out_of_memory(rt: HostRuntime) {
     let mut refused = 0u32;
     let mut read = 0u32;
     for blocks in 0..200usize {
@@ -189,7 +189,7 @@ fn refused_memory_is_told(rt: HostRuntime) {
     expect_of(&rt, read > 20, &read);
 }
 
-/// A first line that spells no step needs no memory.
+/// A malformed first line needs no memory.
 #[test]
 fn a_fault_needs_no_memory(rt: HostRuntime) {
     let heap = heap_of(rt.alloc(), 0).expect(&rt, "memory");

@@ -1,37 +1,37 @@
-//! The plan of a stream's own frames, and that a recut of the stream's normal form by it is the stream again.
+//! The plan of a stream's own frames, and that the recut of its normal form by that plan is the stream again.
 
 use crate::expecting::{expect_bytes_of, expect_line_of, expect_of, expect_recut, plan_written};
 use crate::recuts::{NINE_MESSAGES, NINE_PLAN};
 use std::alloc::{Allocator, Global};
 use std::fmt::Debug;
 use std::process::Abort;
+use wsn_doubles::answer_lines::planned_line;
 use wsn_doubles::engines::{planned, recut_by};
 use wsn_doubles::heaps::heap_of;
-use wsn_doubles::lines::planned_line;
 use wsn_doubles::readers::{Chopped, READS};
-use wsn_doubles::rows::{
-    ANY_LENGTHS, GREATEST, Stream, Under, limits_under, line_behind, stream_named, streams,
+use wsn_doubles::vectors::{
+    ANY_LENGTHS, GREATEST, Settings, Stream, limits_from, line_after, stream_named, streams,
 };
 use wsn_plan::{Plan, PlanAnswer};
 use wsn_scan::Stop;
 use wsn_wire::Role;
 
-/// A stream, and what planning it answers.
+/// A stream, and the answer of planning it.
 #[derive(Clone, Copy, Debug)]
 pub struct Planned {
     pub role: Role,
-    pub under: Under,
+    pub settings: Settings,
     pub bytes: &'static [u8],
-    /// `plan`, `unfinished`, or the verdict of a stream that isn't accepted.
+    /// `plan`, `unfinished`, or the verdict of a stream that is not accepted.
     pub line: &'static str,
-    /// The text of its plan.
+    /// The text of the stream's plan.
     pub text: &'static str,
 }
 
-/// Nothing from a server.
+/// An empty stream of a server.
 const NOTHING: Planned = Planned {
     role: Role::Server,
-    under: GREATEST,
+    settings: GREATEST,
     bytes: b"",
     line: "plan",
     text: "",
@@ -79,7 +79,7 @@ pub static PLANNED: [Planned; 13] = [
         ..NOTHING
     },
     Planned {
-        under: ANY_LENGTHS,
+        settings: ANY_LENGTHS,
         bytes: b"\x81\x7e\x00\x01A",
         text: "last - two\n",
         ..NOTHING
@@ -109,50 +109,50 @@ pub static PLANNED: [Planned; 13] = [
 #[test]
 fn streams_are_planned(rt: HostRuntime) {
     for row in PLANNED.iter() {
-        for most in READS {
-            expect_planned(&rt, rt.alloc(), row, most);
+        for at_most in READS {
+            expect_planned(&rt, rt.alloc(), row, at_most);
         }
     }
 }
 
-/// Fails unless a row's line and its plan's text come of its stream, by reads of at most so many bytes.
-fn expect_planned(rt: &impl Abort, alloc: Global, row: &Planned, most: usize) {
-    let limits = limits_under(&row.under).expect(rt, "limits in range");
-    let answer = planned(alloc, row.role, limits, Chopped::new(row.bytes, most));
-    expect_text(rt, alloc, &answer, row.text, row, most);
-    expect_told(rt, alloc, &answer, row.line, row, most);
+/// Fails unless planning a row gives its line and its plan's text, with reads of at most `at_most` bytes.
+fn expect_planned(rt: &impl Abort, alloc: Global, row: &Planned, at_most: usize) {
+    let limits = limits_from(&row.settings).expect(rt, "limits in range");
+    let answer = planned(alloc, row.role, limits, Chopped::new(row.bytes, at_most));
+    expect_text(rt, alloc, &answer, row.text, row, at_most);
+    expect_reported(rt, alloc, &answer, row.line, row, at_most);
 }
 
-/// Fails unless this is the text of a row's plan, or nothing where there is none, by reads of at most so many bytes.
+/// Fails unless this is the text of a row's plan, or empty where there is no plan.
 fn expect_text(
     rt: &impl Abort,
     alloc: Global,
     answer: &Result<PlanAnswer, Stop>,
-    wanted: &str,
+    expected: &str,
     row: &impl Debug,
-    most: usize,
+    at_most: usize,
 ) {
     let text = match answer {
         Ok(PlanAnswer::Plan(plan)) => plan_written(rt, alloc, plan),
         _ => Vec::new(alloc),
     };
-    expect_bytes_of(rt, text.as_slice(), wanted.as_bytes(), &(row, most));
+    expect_bytes_of(rt, text.as_slice(), expected.as_bytes(), &(row, at_most));
 }
 
-/// Fails unless planning a row answered this line, by reads of at most so many bytes or from so many blocks.
-fn expect_told<A: Allocator>(
+/// Fails unless this is the line of planning a row. The count is the size of a read, or a number of blocks.
+fn expect_reported<A: Allocator>(
     rt: &impl Abort,
     alloc: Global,
     answer: &Result<PlanAnswer<A>, Stop>,
-    wanted: &str,
+    expected: &str,
     row: &impl Debug,
     count: usize,
 ) {
     let line = planned_line(alloc, answer).expect(rt, "memory");
-    expect_line_of(rt, line.as_str(), wanted, &(row, count));
+    expect_line_of(rt, line.as_str(), expected, &(row, count));
 }
 
-/// How many bytes the frames of an accepted stream have.
+/// The number of bytes in the frames of an accepted stream.
 fn used(rt: &impl Abort, stream: &Stream) -> usize {
     let word = stream.verdict.split(' ').nth(1).expect(rt, "a count");
     word.parse::<usize>().expect(rt, "a count")
@@ -160,60 +160,66 @@ fn used(rt: &impl Abort, stream: &Stream) -> usize {
 
 /// Fails unless the recut of a stream's normal form by this plan is the stream, up to its Close.
 fn expect_restored(rt: &impl Abort, alloc: Global, stream: &Stream, plan: &Plan) {
-    let front = stream.bytes.get(..used(rt, stream)).expect(rt, "frames");
+    let prefix = stream.bytes.get(..used(rt, stream)).expect(rt, "frames");
     let mut out = Vec::new(alloc);
     let reader = Chopped::new(stream.normal.as_slice(), 4_095);
     let answer = recut_by(alloc, stream.role, stream.limits, plan, reader, &mut out);
     let found = (&answer, out.as_slice());
-    expect_recut(rt, alloc, found, ("done", front), &stream.name);
+    expect_recut(rt, alloc, found, ("done", prefix), &stream.name);
 }
 
 #[test]
-fn a_stream_comes_back_from_its_plan_and_its_normal_form(rt: HostRuntime) {
-    for stream in streams(rt.alloc()).expect(&rt, "every row").iter() {
+fn a_stream_is_restored_from_its_plan_and_its_normal_form(rt: HostRuntime) {
+    for stream in streams(rt.alloc()).expect(&rt, "every vector").iter() {
         if stream.is_accepted() {
-            expect_back(&rt, rt.alloc(), stream);
+            expect_restored_or_unfinished(&rt, rt.alloc(), stream);
         }
     }
 }
 
-/// Fails unless a stream comes back by its plan, or is unfinished and has none.
-fn expect_back(rt: &impl Abort, alloc: Global, stream: &Stream) {
+/// Fails unless a stream is restored by its plan, or is unfinished and has none.
+fn expect_restored_or_unfinished(rt: &impl Abort, alloc: Global, stream: &Stream) {
     let reader = Chopped::new(stream.bytes.as_slice(), 4_095);
     let answer = planned(alloc, stream.role, stream.limits, reader);
     if let Ok(PlanAnswer::Plan(plan)) = &answer {
         expect_restored(rt, alloc, stream, plan);
     } else {
-        expect_told(rt, alloc, &answer, "unfinished", &stream.name, 4_095);
+        expect_reported(rt, alloc, &answer, "unfinished", &stream.name, 4_095);
         expect_of(rt, !stream.verdict.ends_with(" -"), &stream.name);
     }
 }
 
 #[test]
-fn a_failed_read_is_told_before_the_answer_shows(rt: HostRuntime) {
+fn a_failed_read_is_reported_unless_the_answer_is_decided(rt: HostRuntime) {
     let alloc = rt.alloc();
-    for stream in streams(alloc).expect(&rt, "every row").iter() {
-        for front in stream.fronts(alloc).expect(&rt, "memory").iter() {
-            expect_unplanned(&rt, alloc, stream, front, 1);
-            expect_unplanned(&rt, alloc, stream, front, 4_096);
+    for stream in streams(alloc).expect(&rt, "every vector").iter() {
+        for prefix in stream.prefixes(alloc).expect(&rt, "memory").iter() {
+            expect_unplanned(&rt, alloc, stream, prefix, 1);
+            expect_unplanned(&rt, alloc, stream, prefix, 4_096);
         }
     }
 }
 
-/// Fails unless a failed read behind these first bytes of a stream is told, by reads of at most so many bytes.
-fn expect_unplanned(rt: &impl Abort, alloc: Global, stream: &Stream, front: &[u8], most: usize) {
-    let wanted = line_behind(stream, front);
-    let reader = Chopped::breaking(front, most);
+/// Fails unless a failed read after this prefix of a stream is reported, with reads of at most `at_most` bytes.
+fn expect_unplanned(
+    rt: &impl Abort,
+    alloc: Global,
+    stream: &Stream,
+    prefix: &[u8],
+    at_most: usize,
+) {
+    let expected = line_after(stream, prefix);
+    let reader = Chopped::breaking(prefix, at_most);
     let answer = planned(alloc, stream.role, stream.limits, reader);
-    expect_told(rt, alloc, &answer, wanted, &stream.name, most);
+    expect_reported(rt, alloc, &answer, expected, &stream.name, at_most);
 }
 
-/// Heaps of fewer blocks than this are tried, and the last has memory for all that is tried.
+/// Heaps of fewer blocks than this are tried. The last of them has enough memory for every test.
 pub const BLOCKS: usize = 128;
 
-/// Each growth refused in turn: no plan and no verdict in its place.
+/// Each growth fails in turn: there is then no plan and no verdict.
 #[test]
-fn refused_memory_is_told(rt: HostRuntime) {
+fn planning_answers_out_of_memory(rt: HostRuntime) {
     for row in PLANNED.iter() {
         let mut served = false;
         for blocks in 0..BLOCKS {
@@ -224,15 +230,15 @@ fn refused_memory_is_told(rt: HostRuntime) {
     }
 }
 
-/// Whether planning the stream of a row has memory enough in a heap of so many blocks. Fails unless it answers the
-/// row's line then, and otherwise that memory was refused.
+/// Whether a heap of `blocks` blocks has enough memory to plan the stream of a row. Fails unless the answer is then
+/// the row's line, and otherwise `out of memory`.
 fn is_served(rt: &impl Abort, alloc: Global, row: &Planned, blocks: usize) -> bool {
-    let limits = limits_under(&row.under).expect(rt, "limits in range");
+    let limits = limits_from(&row.settings).expect(rt, "limits in range");
     let heap = heap_of(alloc, blocks).expect(rt, "memory");
     let answer = planned(&heap, row.role, limits, Chopped::new(row.bytes, 1));
     let is_served = answer.is_ok();
-    let wanted = if is_served { row.line } else { "out of memory" };
-    expect_told(rt, alloc, &answer, wanted, row, blocks);
+    let expected = if is_served { row.line } else { "out of memory" };
+    expect_reported(rt, alloc, &answer, expected, row, blocks);
     is_served
 }
 
@@ -241,12 +247,12 @@ fn fragments_of_65_535_bytes_and_of_one_are_planned(rt: HostRuntime) {
     let alloc = rt.alloc();
     let stream = stream_named(alloc, "fragments of 65,535 bytes and of one").expect(
         &rt,
-        "a row of this name",
+        "a vector of this name",
     );
-    for most in READS {
-        let reader = Chopped::new(stream.bytes.as_slice(), most);
+    for at_most in READS {
+        let reader = Chopped::new(stream.bytes.as_slice(), at_most);
         let answer = planned(alloc, stream.role, stream.limits, reader);
         let text = "piece 65535 -\nlast -\n";
-        expect_text(&rt, alloc, &answer, text, &stream.name, most);
+        expect_text(&rt, alloc, &answer, text, &stream.name, at_most);
     }
 }

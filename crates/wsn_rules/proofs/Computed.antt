@@ -1,13 +1,13 @@
--- The verdict that the law on every input finds, where it computes: of an input that is written out.
+-- The verdict that the law on every input finds, where it computes: for an input that is written out.
 use Rattle.std.proofs.Common.{◌≡◌, ℕ, ◌<◌, ◌≤◌, Bool, true, false, ◌&&◌, List, [], ◌∷◌, Option, Some, None, nat_lt, nat_le, ◌==◌, refl, ap, arith}
 use Rattle.std.proofs.lemmas.Bool.{and_parts, ltb-true, leb-true, eqb-true, false≢true}
 use Rattle.std.proofs.lemmas.Option.{same_Some}
 use Rattle.wsn_wire.specs.declared.endpoint.Role.{Role}
 use Rattle.wsn_wire.specs.Frame.{IsBytes}
 use Rattle.wsn_wire.proofs.FrameLemmas.{op_at, form_at, key_at, frame_at}
-use Rattle.wsn_text.proofs.Numbers.{less_or_not, same_or_not}
-use Rattle.wsn_text.proofs.Decide.{nothing, begun, four_long, three_long, behind_first, behind_byte, behind, fill, begins_by, begins_decided, text_by, text_decided}
-use Rattle.wsn_text.proofs.Fronts.{begins_or_bad, begins_or_first_bad}
+unfoldable pub use Rattle.wsn_text.proofs.Numbers.{less_or_not, same_or_not}
+use Rattle.wsn_text.proofs.Decide.{nothing, begun, four_long, three_long, after_first, after_byte, following, fill, begins_by, begins_decided, text_by, text_decided}
+use Rattle.wsn_text.proofs.Prefixes.{begins_or_bad, begins_or_first_bad}
 use Rattle.wsn_rules.specs.Limits.{Limits, InRange}
 use Rattle.wsn_rules.specs.Meaning.{MeantEvent, meaning}
 use Rattle.wsn_wire.specs.Refusal.{number_of}
@@ -17,13 +17,13 @@ use Rattle.wsn_rules.specs.Examples.{ShortVerdict, RefusedAt, CutAt, AcceptedTo,
 use Rattle.wsn_rules.proofs.MessageText.{accepted_code_or_not}
 use Rattle.wsn_rules.proofs.DecidedRows.{both, both_in_turn, either, denied, less, at_most, bool_is, role_is, only_shortest, no_group, limit_is, is_long, is_short_one, not_minimal, top_bit, op_is_text, of_text, ends_bad, ends_inside, by_first, by_second, by_length, by_payload}
 use Rattle.wsn_rules.proofs.DecidedEvidence.{into_payload, first_evidence, second_evidence, length_evidence, payload_evidence, evidence_decided}
-use Rattle.wsn_rules.proofs.LeastShown.{least_or_none, reason_at, numbered, least_reason, front_decided, least_front, least_shown, same_number}
-use Rattle.wsn_rules.proofs.LayoutFronts.{front_or_missing, layout_of, layout_or_within}
+use Rattle.wsn_rules.proofs.LeastEvident.{least_or_none, reason_at, numbered, least_reason, front_decided, least_front, least_evident, same_number}
+use Rattle.wsn_rules.proofs.LayoutPrefixes.{front_or_missing, layout_of, layout_or_within}
 use Rattle.wsn_rules.proofs.LawfulLists.{close_or_not}
-use Rattle.wsn_rules.proofs.UnshownLayouts.{unshown_is_lawful}
-use Rattle.wsn_rules.proofs.EveryInput.{HasVerdict, refused, cut, accepted, ended, unshown_frame, from, has_verdict}
+use Rattle.wsn_rules.proofs.LayoutsWithoutEvidence.{without_evidence_is_lawful}
+use Rattle.wsn_rules.proofs.EveryInput.{HasVerdict, refused, cut, accepted, ended, without_evidence_frame, from, has_verdict}
 
--- ---- tests for what an example must be
+-- ---- tests for the parts of an example
 
 abbrev pub all_bytes : List ℕ → Bool
 all_bytes [] = true
@@ -64,7 +64,7 @@ range_by_test limits test =
 -- ---- the verdict
 
 unfoldable pub found : (role : Role) (limits : Limits) (range : InRange limits) (bytes : List ℕ) → IsBytes bytes → HasVerdict role limits range bytes
-unfolding less_or_not same_or_not nothing begun four_long three_long behind_first behind_byte behind fill begins_by begins_decided text_by text_decided begins_or_bad begins_or_first_bad accepted_code_or_not both both_in_turn either denied less at_most bool_is role_is only_shortest no_group limit_is is_long is_short_one not_minimal top_bit op_is_text of_text ends_bad ends_inside by_first by_second by_length by_payload into_payload first_evidence second_evidence length_evidence payload_evidence evidence_decided least_or_none reason_at numbered least_reason front_decided least_front least_shown front_or_missing layout_of layout_or_within close_or_not unshown_is_lawful refused cut accepted ended unshown_frame from has_verdict op_at form_at key_at frame_at
+unfolding less_or_not same_or_not nothing begun four_long three_long after_first after_byte following fill begins_by begins_decided text_by text_decided begins_or_bad begins_or_first_bad accepted_code_or_not both both_in_turn either denied less at_most bool_is role_is only_shortest no_group limit_is is_long is_short_one not_minimal top_bit op_is_text of_text ends_bad ends_inside by_first by_second by_length by_payload into_payload first_evidence second_evidence length_evidence payload_evidence evidence_decided least_or_none reason_at numbered least_reason front_decided least_front least_evident front_or_missing layout_of layout_or_within close_or_not without_evidence_is_lawful refused cut accepted ended without_evidence_frame from has_verdict op_at form_at key_at frame_at
 found role limits range bytes in_bytes = has_verdict role limits range bytes in_bytes
 
 abbrev pub same_option : Option ℕ → Option ℕ → Bool
@@ -89,43 +89,43 @@ same_close_by_test None (Some n) test = absurd (false≢true test)
 same_close_by_test (Some m) None test = absurd (false≢true test)
 same_close_by_test (Some m) (Some n) test = ap Some (same_option_by_test m n test)
 
-abbrev pub tells : ShortVerdict → Verdict → Bool
-tells (RefusedAt place reason) (Refused refusal) = (refusal.place == place) && (number_of refusal.reason == number_of reason)
-tells (CutAt used) (Cut summary) = summary.used == used
-tells (AcceptedTo used tail unfinished) (Accepted summary) = (summary.used == used) && ((summary.tail == tail) && same_option summary.unfinished unfinished)
-tells (Counts frames messages pings pongs close) (Accepted summary) =
+abbrev pub reports : ShortVerdict → Verdict → Bool
+reports (RefusedAt place reason) (Refused refusal) = (refusal.place == place) && (number_of refusal.reason == number_of reason)
+reports (CutAt used) (Cut summary) = summary.used == used
+reports (AcceptedTo used tail unfinished) (Accepted summary) = (summary.used == used) && ((summary.tail == tail) && same_option summary.unfinished unfinished)
+reports (Counts frames messages pings pongs close) (Accepted summary) =
     (summary.frames == frames) && ((summary.messages == messages) && ((summary.pings == pings) && ((summary.pongs == pongs) && same_close summary.close close)))
-tells short verdict = false
+reports short verdict = false
 
-tells_by_test : (short : ShortVerdict) (verdict : Verdict) → tells short verdict ≡ true → Abbreviates short verdict
-tells_by_test (RefusedAt place reason) (Refused refusal) test =
+reports_by_test : (short : ShortVerdict) (verdict : Verdict) → reports short verdict ≡ true → Abbreviates short verdict
+reports_by_test (RefusedAt place reason) (Refused refusal) test =
     let parts = and_parts (refusal.place == place) (number_of refusal.reason == number_of reason) test in
     (eqb-true refusal.place place parts.0, same_number refusal.reason reason (eqb-true (number_of refusal.reason) (number_of reason) parts.1))
-tells_by_test (CutAt used) (Cut summary) test = eqb-true summary.used used test
-tells_by_test (AcceptedTo used tail unfinished) (Accepted summary) test =
+reports_by_test (CutAt used) (Cut summary) test = eqb-true summary.used used test
+reports_by_test (AcceptedTo used tail unfinished) (Accepted summary) test =
     let parts = and_parts (summary.used == used) ((summary.tail == tail) && same_option summary.unfinished unfinished) test in
     let more = and_parts (summary.tail == tail) (same_option summary.unfinished unfinished) parts.1 in
     (eqb-true summary.used used parts.0, eqb-true summary.tail tail more.0, same_option_by_test summary.unfinished unfinished more.1)
-tells_by_test (RefusedAt place reason) (Cut summary) test = absurd (false≢true test)
-tells_by_test (RefusedAt place reason) (Accepted summary) test = absurd (false≢true test)
-tells_by_test (CutAt used) (Refused refusal) test = absurd (false≢true test)
-tells_by_test (CutAt used) (Accepted summary) test = absurd (false≢true test)
-tells_by_test (AcceptedTo used tail unfinished) (Refused refusal) test = absurd (false≢true test)
-tells_by_test (AcceptedTo used tail unfinished) (Cut summary) test = absurd (false≢true test)
-tells_by_test (Counts frames messages pings pongs close) (Accepted summary) test =
+reports_by_test (RefusedAt place reason) (Cut summary) test = absurd (false≢true test)
+reports_by_test (RefusedAt place reason) (Accepted summary) test = absurd (false≢true test)
+reports_by_test (CutAt used) (Refused refusal) test = absurd (false≢true test)
+reports_by_test (CutAt used) (Accepted summary) test = absurd (false≢true test)
+reports_by_test (AcceptedTo used tail unfinished) (Refused refusal) test = absurd (false≢true test)
+reports_by_test (AcceptedTo used tail unfinished) (Cut summary) test = absurd (false≢true test)
+reports_by_test (Counts frames messages pings pongs close) (Accepted summary) test =
     let one = and_parts (summary.frames == frames) _ test in
     let two = and_parts (summary.messages == messages) _ one.1 in
     let three = and_parts (summary.pings == pings) _ two.1 in
     let four = and_parts (summary.pongs == pongs) (same_close summary.close close) three.1 in
     (eqb-true summary.frames frames one.0, eqb-true summary.messages messages two.0, eqb-true summary.pings pings three.0, eqb-true summary.pongs pongs four.0, same_close_by_test summary.close close four.1)
-tells_by_test (Counts frames messages pings pongs close) (Refused refusal) test = absurd (false≢true test)
-tells_by_test (Counts frames messages pings pongs close) (Cut summary) test = absurd (false≢true test)
+reports_by_test (Counts frames messages pings pongs close) (Refused refusal) test = absurd (false≢true test)
+reports_by_test (Counts frames messages pings pongs close) (Cut summary) test = absurd (false≢true test)
 
 pub judged : (role : Role) (limits : Limits) (bytes : List ℕ) (short : ShortVerdict) (range : in_range limits ≡ true) (in_bytes : all_bytes bytes ≡ true) →
-    tells short (found role limits (range_by_test limits range) bytes (bytes_by_test bytes in_bytes)).verdict ≡ true → Judged role limits bytes short
+    reports short (found role limits (range_by_test limits range) bytes (bytes_by_test bytes in_bytes)).verdict ≡ true → Judged role limits bytes short
 judged role limits bytes short range in_bytes test =
     let v = found role limits (range_by_test limits range) bytes (bytes_by_test bytes in_bytes) in
-    record { frames = v.frames; verdict = v.verdict; is = v.is; tells = tells_by_test short v.verdict test }
+    record { frames = v.frames; verdict = v.verdict; is = v.is; reports = reports_by_test short v.verdict test }
 
 -- ---- the meaning
 

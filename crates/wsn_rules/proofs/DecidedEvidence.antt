@@ -1,19 +1,19 @@
--- Whether bytes are evidence is decided, and so is whether a front of bytes is.
+-- Whether bytes, or a prefix of bytes, are evidence for a refusal is decided.
 use Rattle.std.proofs.Common.{◌≡◌, ℕ, ◌+◌, ◌<◌, ◌≤◌, List, [], ◌∷◌, ◌++◌, length, take, drop, refl, sym, ap, ◌∙◌, subst, inl, inr, arith}
 use Rattle.wsn_text.proofs.Numbers.{less_or_not, same_or_not}
 use Rattle.std.proofs.lemmas.List.{take-append-drop, length-take-le, length-append}
 use Rattle.wsn_wire.specs.declared.endpoint.Role.{Role}
 use Rattle.wsn_wire.specs.declared.refusal.Reason.{Reason}
 use Rattle.wsn_wire.specs.Frame.{Frame}
-use Rattle.wsn_wire.specs.Layout.{len_form_at, length_count, length_told, key_count}
-use Rattle.wsn_wire.specs.Rows.{ShownBySecond}
+use Rattle.wsn_wire.specs.Layout.{len_form_at, length_count, encoded_length, key_count}
+use Rattle.wsn_wire.specs.Rows.{EvidentInSecond}
 use Rattle.wsn_rules.specs.Limits.{Limits}
 use Rattle.wsn_rules.specs.Evidence.{Evidence, EvidentByFirst, EvidentByLength, EvidentByPayload, IntoPayload, unmasked}
 use Rattle.wsn_rules.specs.Evidence.Evidence.{ByFirst, BySecond, ByLength, ByPayload}
 use Rattle.wsn_rules.proofs.Prefixes.{head_same, tail_same, nil-cons, same_front}
 use Rattle.wsn_rules.proofs.DecidedRows.{Decided, by_first, by_second, by_length, by_payload}
 
--- ---- the head, and what has come of the payload
+-- ---- the head and the payload so far
 
 -- Two readings of the same bytes agree.
 pub record SameInto {seen : List ℕ} (p q : IntoPayload seen) : Type 0 where
@@ -38,21 +38,21 @@ same_into seen p q =
     record { first = firsts; second = seconds; len = lens.0; key = keys.0; wire = keys.1 }
 
 pub RowInto : List Frame → Reason → {seen : List ℕ} → IntoPayload seen → Type 0
-RowInto group reason p = EvidentByPayload group reason p.first (length_told (len_form_at p.second) p.len) (unmasked p.second p.key p.wire)
+RowInto group reason p = EvidentByPayload group reason p.first (encoded_length (len_form_at p.second) p.len) (unmasked p.second p.key p.wire)
 
 pub row_into_same : (group : List Frame) (reason : Reason) (seen : List ℕ) (p q : IntoPayload seen) → RowInto group reason p → RowInto group reason q
 unfolding RowInto
 row_into_same group reason seen p q row =
     let same = same_into seen p q in
-    let total : length_told (len_form_at p.second) p.len ≡ length_told (len_form_at q.second) q.len =
-    ap (λ (b : ℕ). length_told (len_form_at b) p.len) same.second ∙ ap (λ (bs : List ℕ). length_told (len_form_at q.second) bs) same.len in
+    let total : encoded_length (len_form_at p.second) p.len ≡ encoded_length (len_form_at q.second) q.len =
+    ap (λ (b : ℕ). encoded_length (len_form_at b) p.len) same.second ∙ ap (λ (bs : List ℕ). encoded_length (len_form_at q.second) bs) same.len in
     let payload : unmasked p.second p.key p.wire ≡ unmasked q.second q.key q.wire =
     ap (λ (b : ℕ). unmasked b p.key p.wire) same.second ∙ ap (λ (bs : List ℕ). unmasked q.second bs p.wire) same.key ∙ ap (λ (bs : List ℕ). unmasked q.second q.key bs) same.wire in
-    subst (λ (b : ℕ). EvidentByPayload group reason b (length_told (len_form_at q.second) q.len) (unmasked q.second q.key q.wire)) same.first
+    subst (λ (b : ℕ). EvidentByPayload group reason b (encoded_length (len_form_at q.second) q.len) (unmasked q.second q.key q.wire)) same.first
     (subst (λ (n : ℕ). EvidentByPayload group reason p.first n (unmasked q.second q.key q.wire)) total
-    (subst (λ (bs : List ℕ). EvidentByPayload group reason p.first (length_told (len_form_at p.second) p.len) bs) payload row))
+    (subst (λ (bs : List ℕ). EvidentByPayload group reason p.first (encoded_length (len_form_at p.second) p.len) bs) payload row))
 
--- whether the bytes have a whole head, and no more than the payload's length behind it
+-- Whether the bytes have a complete head, and after it no more bytes than the payload's length.
 unfoldable pub into_payload : (seen : List ℕ) → Decided (IntoPayload seen)
 into_payload [] = inr (λ p. nil-cons p.first (p.second ∷ (p.len ++ (p.key ++ p.wire))) p.whole)
 into_payload (first ∷ []) = inr (λ p. nil-cons p.second (p.len ++ (p.key ++ p.wire)) (tail_same first p.first [] (p.second ∷ (p.len ++ (p.key ++ p.wire))) p.whole))
@@ -63,7 +63,7 @@ into_payload (first ∷ second ∷ rest) =
           let count = length_count (len_form_at second) in
           let keys = key_count second in
           let len = take (length_count (len_form_at second)) rest in
-          let behind = drop (length_count (len_form_at second)) rest in
+          let following = drop (length_count (len_form_at second)) rest in
           let len_is : length (take (length_count (len_form_at second)) rest) ≡ length_count (len_form_at second) = length-take-le (length_count (len_form_at second)) rest (omega arith) in
           let parted : take (length_count (len_form_at second)) rest ++ drop (length_count (len_form_at second)) rest ≡ rest = take-append-drop (length_count (len_form_at second)) rest in
           let all : length rest ≡ length (take (length_count (len_form_at second)) rest) + length (drop (length_count (len_form_at second)) rest) = ap (λ (bs : List ℕ). length bs) (sym parted) ∙ length-append (take (length_count (len_form_at second)) rest) (drop (length_count (len_form_at second)) rest) in
@@ -88,13 +88,13 @@ into_payload (first ∷ second ∷ rest) =
 
     with_parts : (len key wire : List ℕ) → rest ≡ len ++ (key ++ wire) → length len ≡ length_count (len_form_at second) → length key ≡ key_count second → Decided (IntoPayload (first ∷ second ∷ rest))
     with_parts len key wire is len_is key_is =
-        elim (less_or_not (length_told (len_form_at second) len) (length wire)) [
+        elim (less_or_not (encoded_length (len_form_at second) len) (length wire)) [
           | inr within ↦ inl (record { first = first; second = second; len = len; key = key; wire = wire; whole = ap (λ (bs : List ℕ). first ∷ second ∷ bs) is; len_count = len_is; key_counted = key_is; within = within })
-          | inl past ↦ inr (λ p. past_told past p)
+          | inl past ↦ inr (λ p. past_reported past p)
         ]
       where
-        past_told : length_told (len_form_at second) len < length wire → IntoPayload (first ∷ second ∷ rest) → ⊥
-        past_told past p =
+        past_reported : encoded_length (len_form_at second) len < length wire → IntoPayload (first ∷ second ∷ rest) → ⊥
+        past_reported past p =
             let theirs = p.len ++ (p.key ++ p.wire) in
             let tails = tail_same first p.first (second ∷ rest) (p.second ∷ theirs) p.whole in
             let seconds : second ≡ p.second = head_same second p.second rest theirs tails in
@@ -104,9 +104,9 @@ into_payload (first ∷ second ∷ rest) =
             let key_counts : length key ≡ length p.key = key_is ∙ ap key_count seconds ∙ sym p.key_counted in
             let keys = same_front key p.key wire p.wire key_counts lens.1 in
             let wires : length wire ≡ length p.wire = ap (λ (bs : List ℕ). length bs) keys.1 in
-            let told : length_told (len_form_at second) len ≡ length_told (len_form_at p.second) p.len =
-            ap (λ (b : ℕ). length_told (len_form_at b) len) seconds ∙ ap (λ (bs : List ℕ). length_told (len_form_at p.second) bs) lens.0 in
-            let fits : length p.wire ≤ length_told (len_form_at p.second) p.len = p.within in
+            let decoded : encoded_length (len_form_at second) len ≡ encoded_length (len_form_at p.second) p.len =
+            ap (λ (b : ℕ). encoded_length (len_form_at b) len) seconds ∙ ap (λ (bs : List ℕ). encoded_length (len_form_at p.second) bs) lens.0 in
+            let fits : length p.wire ≤ encoded_length (len_form_at p.second) p.len = p.within in
             omega arith
 
 -- ---- evidence
@@ -121,13 +121,13 @@ module _ (role : Role) (limits : Limits) (group : List Frame) (reason : Reason) 
       ]
   first_evidence (b ∷ c ∷ seen) = inr (λ p. nil-cons c seen (sym (tail_same b p.0 (c ∷ seen) [] p.1)))
 
-  unfoldable pub second_evidence : (seen : List ℕ) → Decided ((first : ℕ) × (second : ℕ) × (seen ≡ first ∷ second ∷ []) × ShownBySecond role reason first second)
+  unfoldable pub second_evidence : (seen : List ℕ) → Decided ((first : ℕ) × (second : ℕ) × (seen ≡ first ∷ second ∷ []) × EvidentInSecond role reason first second)
   second_evidence [] = inr (λ p. nil-cons p.0 (p.1 ∷ []) p.2)
   second_evidence (b ∷ []) = inr (λ p. nil-cons p.1 [] (tail_same b p.0 [] (p.1 ∷ []) p.2))
   second_evidence (b ∷ c ∷ []) =
       elim (by_second role reason b c) [
         | inl row ↦ inl (b, c, refl, row)
-        | inr not ↦ inr (λ p. not (subst (λ (n : ℕ). ShownBySecond role reason n c) (sym (head_same b p.0 (c ∷ []) (p.1 ∷ []) p.2)) (subst (λ (n : ℕ). ShownBySecond role reason p.0 n) (sym (head_same c p.1 [] [] (tail_same b p.0 (c ∷ []) (p.1 ∷ []) p.2))) p.3)))
+        | inr not ↦ inr (λ p. not (subst (λ (n : ℕ). EvidentInSecond role reason n c) (sym (head_same b p.0 (c ∷ []) (p.1 ∷ []) p.2)) (subst (λ (n : ℕ). EvidentInSecond role reason p.0 n) (sym (head_same c p.1 [] [] (tail_same b p.0 (c ∷ []) (p.1 ∷ []) p.2))) p.3)))
       ]
   second_evidence (b ∷ c ∷ d ∷ seen) = inr (λ p. nil-cons d seen (sym (tail_same c p.1 (d ∷ seen) [] (tail_same b p.0 (c ∷ d ∷ seen) (p.1 ∷ []) p.2))))
 
@@ -158,7 +158,7 @@ module _ (role : Role) (limits : Limits) (group : List Frame) (reason : Reason) 
   payload_evidence seen =
       elim (into_payload seen) [
         | inr not ↦ inr (λ p. not p.0)
-        | inl p ↦ elim (by_payload group reason p.first (length_told (len_form_at p.second) p.len) (unmasked p.second p.key p.wire)) [
+        | inl p ↦ elim (by_payload group reason p.first (encoded_length (len_form_at p.second) p.len) (unmasked p.second p.key p.wire)) [
           | inl row ↦ inl (p, row)
           | inr not ↦ inr (λ q. not (row_into_same group reason seen q.0 p q.1))
         ]
@@ -181,7 +181,7 @@ module _ (role : Role) (limits : Limits) (group : List Frame) (reason : Reason) 
         ]
       ]
     where
-      none : (((first : ℕ) × (seen ≡ first ∷ []) × EvidentByFirst limits group reason first) → ⊥) → (((first : ℕ) × (second : ℕ) × (seen ≡ first ∷ second ∷ []) × ShownBySecond role reason first second) → ⊥) → (LengthEvidence seen → ⊥) → (((p : IntoPayload seen) × RowInto group reason p) → ⊥) → Evidence role limits group reason seen → ⊥
+      none : (((first : ℕ) × (seen ≡ first ∷ []) × EvidentByFirst limits group reason first) → ⊥) → (((first : ℕ) × (second : ℕ) × (seen ≡ first ∷ second ∷ []) × EvidentInSecond role reason first second) → ⊥) → (LengthEvidence seen → ⊥) → (((p : IntoPayload seen) × RowInto group reason p) → ⊥) → Evidence role limits group reason seen → ⊥
       none no_first no_second no_length no_payload (ByFirst first is row) = no_first (first, is, row)
       none no_first no_second no_length no_payload (BySecond first second is row) = no_second (first, second, is, row)
       none no_first no_second no_length no_payload (ByLength first second len is count row) = no_length (first, second, len, is, count, row)

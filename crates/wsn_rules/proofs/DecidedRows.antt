@@ -5,22 +5,22 @@ use Rattle.wsn_text.proofs.Numbers.{less_or_not, same_or_not}
 use Rattle.std.proofs.lemmas.Option.{same_Some}
 use Rattle.wsn_wire.specs.declared.endpoint.Role.{Role}
 use Rattle.wsn_wire.specs.declared.endpoint.Role.TheVariants.{Client, Server}
-use Rattle.wsn_wire.specs.declared.spelling.Lengths.{Lengths}
-use Rattle.wsn_wire.specs.declared.spelling.Lengths.TheVariants.{Shortest, Any}
-use Rattle.wsn_wire.specs.declared.spelling.LenForm.{LenForm}
-use Rattle.wsn_wire.specs.declared.spelling.LenForm.TheVariants as len_form
+use Rattle.wsn_wire.specs.declared.length_forms.Lengths.{Lengths}
+use Rattle.wsn_wire.specs.declared.length_forms.Lengths.TheVariants.{Shortest, Any}
+use Rattle.wsn_wire.specs.declared.length_forms.LenForm.{LenForm}
+use Rattle.wsn_wire.specs.declared.length_forms.LenForm.TheVariants as len_form
 use Rattle.wsn_wire.specs.declared.opcode.Op.{Op}
 use Rattle.wsn_wire.specs.declared.opcode.Op.TheVariants.{Continue, Text, Binary, Close, Ping, Pong}
 use Rattle.wsn_wire.specs.declared.refusal.Reason.{Reason}
 use Rattle.wsn_wire.specs.declared.refusal.Reason.TheVariants.{ReservedBits, ReservedOpcode, ControlNotFinal, NothingToContinue, MessageOpen, MaskMissing, MaskPresent, ControlTooLong, CloseOneByte, LengthTopBit, LengthNotMinimal, MessageTooBig, CloseCode, CloseReason, TextBad, TextCut, TooManyFrames}
 use Rattle.wsn_wire.specs.Frame.{Frame}
-use Rattle.wsn_wire.specs.Layout.{fin_bit, reserved_bits, opcode_field, mask_bit, len_form_at, length_told}
-use Rattle.wsn_wire.specs.Rows.{IsLong, IsNotMinimal, HasTopBit, ShownBySecond}
+use Rattle.wsn_wire.specs.Layout.{fin_bit, reserved_bits, opcode_field, mask_bit, len_form_at, encoded_length}
+use Rattle.wsn_wire.specs.Rows.{IsLong, IsNotMinimal, HasTopBit, EvidentInSecond}
 use Rattle.wsn_text.specs.Utf8.{IsText, BeginsText}
 use Rattle.wsn_text.proofs.Decide.{begins_decided, text_decided}
-use Rattle.wsn_text.proofs.Fronts.{bad_ends, first_bad_unique, begins_or_first_bad}
+use Rattle.wsn_text.proofs.Prefixes.{bad_ends, first_bad_unique, begins_or_first_bad}
 use Rattle.wsn_rules.specs.Limits.{Limits}
-use Rattle.wsn_rules.specs.Group.{text_of}
+use Rattle.wsn_rules.specs.Group.{payload_of}
 use Rattle.wsn_rules.specs.Evidence.{EvidentByFirst, EvidentByLength, EvidentByPayload, IsDataOpcode, IsOfText, EndsBad, EndsInside}
 use Rattle.wsn_rules.proofs.Prefixes.{nil-cons}
 use Rattle.wsn_rules.proofs.MessageText.{accepted_code_or_not}
@@ -28,14 +28,14 @@ use Rattle.wsn_rules.proofs.MessageText.{accepted_code_or_not}
 abbrev pub Decided : Type 0 → Type 0
 Decided P = P ⊎ (P → ⊥)
 
--- ---- of parts
+-- ---- parts of rows
 
 unfoldable pub both : (P Q : Type 0) → Decided P → Decided Q → Decided (P × Q)
 both P Q (inl p) (inl q) = inl (p, q)
 both P Q (inl p) (inr not) = inr (λ pq. not pq.1)
 both P Q (inr not) q = inr (λ pq. not pq.0)
 
--- the second part is looked at only where the first holds
+-- The second part is decided only if the first holds.
 unfoldable pub both_in_turn : (P Q : Type 0) → Decided P → (P → Decided Q) → Decided (P × Q)
 both_in_turn P Q (inl p) next = elim (next p) [ inl q ↦ inl (p, q) | inr not ↦ inr (λ pq. not pq.1) ]
 both_in_turn P Q (inr not) next = inr (λ pq. not pq.0)
@@ -124,7 +124,7 @@ ends_bad text =
 unfoldable pub ends_inside : (text : List ℕ) → Decided (EndsInside text)
 ends_inside text = both (BeginsText text) (IsText text → ⊥) (begins_decided text) (denied (IsText text) (text_decided text))
 
--- ---- of the rows
+-- ---- rows
 
 unfoldable pub by_first : (limits : Limits) (group : List Frame) (reason : Reason) (first : ℕ) → Decided (EvidentByFirst limits group reason first)
 by_first limits group ReservedBits first = less 0 (reserved_bits first)
@@ -140,7 +140,7 @@ by_first limits group MessageOpen first =
 by_first limits group TooManyFrames first = both _ _ (same_or_not (opcode_field first) 0) (limit_is limits.frames (length group))
 by_first limits group reason first = inr (λ row. row)
 
-unfoldable pub by_second : (role : Role) (reason : Reason) (first second : ℕ) → Decided (ShownBySecond role reason first second)
+unfoldable pub by_second : (role : Role) (reason : Reason) (first second : ℕ) → Decided (EvidentInSecond role reason first second)
 by_second role MaskMissing first second = both _ _ (role_is role Client) (bool_is (mask_bit second) false)
 by_second role MaskPresent first second = both _ _ (role_is role Server) (bool_is (mask_bit second) true)
 by_second role ControlTooLong first second =
@@ -150,11 +150,11 @@ by_second role CloseOneByte first second = both _ _ (same_or_not (opcode_field f
 by_second role reason first second = inr (λ row. row)
 
 unfoldable pub by_length : (limits : Limits) (group : List Frame) (reason : Reason) (first second : ℕ) (len : List ℕ) → Decided (EvidentByLength limits group reason first second len)
-by_length limits group LengthTopBit first second len = top_bit (len_form_at second) (length_told (len_form_at second) len)
+by_length limits group LengthTopBit first second len = top_bit (len_form_at second) (encoded_length (len_form_at second) len)
 by_length limits group LengthNotMinimal first second len =
-    both _ _ (only_shortest limits.lengths) (not_minimal (len_form_at second) (length_told (len_form_at second) len))
+    both _ _ (only_shortest limits.lengths) (not_minimal (len_form_at second) (encoded_length (len_form_at second) len))
 by_length limits group MessageTooBig first second len =
-    both _ _ (at_most (opcode_field first) 2) (less limits.message (length (text_of group) + length_told (len_form_at second) len))
+    both _ _ (at_most (opcode_field first) 2) (less limits.message (length (payload_of group) + encoded_length (len_form_at second) len))
 by_length limits group reason first second len = inr (λ row. row)
 
 unfoldable pub by_payload : (group : List Frame) (reason : Reason) (first total : ℕ) (payload : List ℕ) → Decided (EvidentByPayload group reason first total payload)
@@ -168,9 +168,9 @@ by_payload group CloseCode first total payload =
 by_payload group CloseReason first total payload =
     both_in_turn _ _ (same_or_not (opcode_field first) 8)
     (λ _. either _ _ (ends_bad (drop 2 payload)) (both_in_turn _ _ (same_or_not (length payload) total) (λ _. ends_inside (drop 2 payload))))
-by_payload group TextBad first total payload = both_in_turn _ _ (of_text group (opcode_field first)) (λ _. ends_bad (text_of group ++ payload))
+by_payload group TextBad first total payload = both_in_turn _ _ (of_text group (opcode_field first)) (λ _. ends_bad (payload_of group ++ payload))
 by_payload group TextCut first total payload =
-    elim (both_in_turn _ _ (both _ _ (of_text group (opcode_field first)) (bool_is (fin_bit first) true)) (λ _. both_in_turn _ _ (same_or_not (length payload) total) (λ _. ends_inside (text_of group ++ payload)))) [
+    elim (both_in_turn _ _ (both _ _ (of_text group (opcode_field first)) (bool_is (fin_bit first) true)) (λ _. both_in_turn _ _ (same_or_not (length payload) total) (λ _. ends_inside (payload_of group ++ payload)))) [
       | inl p ↦ inl (p.0.0, p.0.1, p.1.0, p.1.1)
       | inr not ↦ inr (λ row. not ((row.0, row.1), (row.2, row.3)))
     ]

@@ -1,4 +1,4 @@
--- What the first byte of a frame shows behind an open message, or with none open.
+-- The evidence in the first byte of a frame, after an open message or without one.
 use Rattle.std.proofs.Common.{◌≡◌, ◌≢◌, ℕ, ◌≤◌, Some, List, [], ◌⊎◌, length, ap, inl, inr, arith}
 use Rattle.wsn_wire.specs.declared.opcode.Op.{Op}
 use Rattle.wsn_wire.specs.declared.opcode.Op.TheVariants.{Continue, Text, Binary, Close, Ping, Pong}
@@ -6,8 +6,8 @@ use Rattle.wsn_wire.specs.declared.refusal.Reason.{Reason}
 use Rattle.wsn_wire.specs.declared.refusal.Reason.TheVariants.{NothingToContinue, MessageOpen, TooManyFrames}
 use Rattle.wsn_wire.specs.Frame.{Frame, opcode}
 use Rattle.wsn_wire.specs.Layout.{opcode_field}
-use Rattle.wsn_wire.specs.Refusal.{number_of, IsFirstShown}
-use Rattle.wsn_wire.specs.Rows.{ShownByFirst}
+use Rattle.wsn_wire.specs.Refusal.{number_of, IsFirstEvident}
+use Rattle.wsn_wire.specs.Rows.{EvidentInFirst}
 use Rattle.wsn_rules.specs.Limits.{Limits}
 use Rattle.wsn_rules.specs.Evidence.{EvidentByFirst}
 use Rattle.wsn_rules.proofs.HeadEvidence.{first_number, first_row}
@@ -36,12 +36,12 @@ control_not_data op (inl is) = let number : opcode op ≡ 8 = ap opcode is in om
 control_not_data op (inr (inl is)) = let number : opcode op ≡ 9 = ap opcode is in omega (arith, number)
 control_not_data op (inr (inr is)) = let number : opcode op ≡ 10 = ap opcode is in omega (arith, number)
 
--- what a first byte shows by itself has a lower number than what it shows behind a group
-pub first_of_byte : (limits : Limits) (group : List Frame) (first : ℕ) (reason : Reason) → IsFirstShown (λ r. ShownByFirst r first) reason → IsFirstShown (λ r. EvidentByFirst limits group r first) reason
-first_of_byte limits group first reason is = record { shown = first_row limits group reason first is.shown; least = least }
+-- Evidence in the first byte alone has a lower number than evidence that depends on the group.
+pub first_of_byte : (limits : Limits) (group : List Frame) (first : ℕ) (reason : Reason) → IsFirstEvident (λ r. EvidentInFirst r first) reason → IsFirstEvident (λ r. EvidentByFirst limits group r first) reason
+first_of_byte limits group first reason is = record { is_evident = first_row limits group reason first is.is_evident; least = least }
   where
     low : number_of reason ≤ 3
-    low = first_number reason first is.shown
+    low = first_number reason first is.is_evident
 
     least : (r : Reason) → EvidentByFirst limits group r first → number_of reason ≤ number_of r
     least NothingToContinue row = omega (arith, low)
@@ -49,11 +49,11 @@ first_of_byte limits group first reason is = record { shown = first_row limits g
     least TooManyFrames row = omega (arith, low)
     least r row = is.least r row
 
--- ---- a first byte that shows nothing by itself
+-- ---- a first byte that alone is evidence for no refusal
 
-module _ (limits : Limits) (group : List Frame) (first : ℕ) (alone : (reason : Reason) → ShownByFirst reason first → ⊥) where
-  pub nothing_to_continue : group ≡ [] → opcode_field first ≡ 0 → IsFirstShown (λ r. EvidentByFirst limits group r first) NothingToContinue
-  nothing_to_continue none continues = record { shown = (continues, none); least = least }
+module _ (limits : Limits) (group : List Frame) (first : ℕ) (alone : (reason : Reason) → EvidentInFirst reason first → ⊥) where
+  pub nothing_to_continue : group ≡ [] → opcode_field first ≡ 0 → IsFirstEvident (λ r. EvidentByFirst limits group r first) NothingToContinue
+  nothing_to_continue none continues = record { is_evident = (continues, none); least = least }
     where
       least : (r : Reason) → EvidentByFirst limits group r first → 4 ≤ number_of r
       least NothingToContinue row = omega arith
@@ -67,8 +67,8 @@ module _ (limits : Limits) (group : List Frame) (first : ℕ) (alone : (reason :
   begins_message none other TooManyFrames row = other row.0
   begins_message none other r row = alone r row
 
-  pub message_is_open : group ≢ [] → (opcode_field first ≡ 1) ⊎ (opcode_field first ≡ 2) → IsFirstShown (λ r. EvidentByFirst limits group r first) MessageOpen
-  message_is_open some begins = record { shown = (begins, some); least = least }
+  pub message_is_open : group ≢ [] → (opcode_field first ≡ 1) ⊎ (opcode_field first ≡ 2) → IsFirstEvident (λ r. EvidentByFirst limits group r first) MessageOpen
+  message_is_open some begins = record { is_evident = (begins, some); least = least }
     where
       least : (r : Reason) → EvidentByFirst limits group r first → 5 ≤ number_of r
       least NothingToContinue row = absurd (some row.1)
@@ -76,8 +76,8 @@ module _ (limits : Limits) (group : List Frame) (first : ℕ) (alone : (reason :
       least TooManyFrames row = omega arith
       least r row = absurd (alone r row)
 
-  pub too_many_frames : group ≢ [] → opcode_field first ≡ 0 → limits.frames ≡ Some (length group) → IsFirstShown (λ r. EvidentByFirst limits group r first) TooManyFrames
-  too_many_frames some continues all = record { shown = (continues, all); least = least }
+  pub too_many_frames : group ≢ [] → opcode_field first ≡ 0 → limits.frames ≡ Some (length group) → IsFirstEvident (λ r. EvidentByFirst limits group r first) TooManyFrames
+  too_many_frames some continues all = record { is_evident = (continues, all); least = least }
     where
       least : (r : Reason) → EvidentByFirst limits group r first → 17 ≤ number_of r
       least NothingToContinue row = absurd (some row.1)

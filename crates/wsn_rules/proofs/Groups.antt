@@ -1,4 +1,4 @@
--- The unfinished group, and the meaning, of a list of frames that goes on; the group of a lawful list.
+-- The unfinished group, and the meaning, of a list of frames that continues; the group of a lawful list.
 use Rattle.std.proofs.Common.{◌≡◌, ◌≢◌, ◌≤◌, Bool, true, false, cond, not, ◌||◌, List, [], ◌∷◌, ◌++◌, ◌⊎◌, length, filter, refl, sym, ap, ◌∙◌, subst, inl, inr, append-nil, append_assoc, true≢false, if◌then◌else◌, zero-le}
 use Rattle.std.proofs.lemmas.Bool.{cases_Bool, cond-true, cond-false}
 use Rattle.std.specs.Option.{ForSome}
@@ -9,13 +9,13 @@ use Rattle.wsn_wire.specs.declared.opcode.Op.TheVariants.{Continue, Text, Binary
 use Rattle.wsn_wire.specs.Frame.{Frame, is_control}
 use Rattle.wsn_text.specs.Utf8.{BeginsText}
 use Rattle.wsn_rules.specs.Limits.{Limits}
-use Rattle.wsn_rules.specs.Group.{after_last, is_data, is_final, unfinished, first_op, text_of}
+use Rattle.wsn_rules.specs.Group.{after_last, is_data, is_final, unfinished, first_op, payload_of}
 use Rattle.wsn_rules.specs.Lawful.{GroupLaw, LawAt, IsLawful}
-use Rattle.wsn_rules.specs.Meaning.{event_at, events_behind, meaning}
+use Rattle.wsn_rules.specs.Meaning.{event_at, events_after, meaning}
 use Rattle.wsn_rules.proofs.Prefixes.{push-append, nil-push}
 use Rattle.wsn_rules.proofs.LawfulLists.{law_at_split}
 
--- ---- the unfinished group after one frame more
+-- ---- the unfinished group after one more frame
 
 filter_push_yes : (fs : List Frame) (f : Frame) → is_data f ≡ true → filter is_data (fs ++ f ∷ []) ≡ filter is_data fs ++ f ∷ []
 filter_push_yes [] f kept = cond-true (is_data f) (f ∷ []) [] kept
@@ -84,16 +84,16 @@ unfinished_push fs f =
       | inr control ↦ unfinished_control fs f control ∙ sym (cond-false (is_data f) (cond f.fin [] (unfinished fs ++ f ∷ [])) (unfinished fs) control)
     ]
 
--- ---- the meaning of a list that goes on
+-- ---- the meaning of a list that continues
 
-pub events-append : (before fs gs : List Frame) → events_behind before (fs ++ gs) ≡ events_behind before fs ++ events_behind (before ++ fs) gs
-events-append before [] gs = ap (λ (hs : List Frame). events_behind hs gs) (sym (append-nil before))
+pub events-append : (before fs gs : List Frame) → events_after before (fs ++ gs) ≡ events_after before fs ++ events_after (before ++ fs) gs
+events-append before [] gs = ap (λ (hs : List Frame). events_after hs gs) (sym (append-nil before))
 events-append before (f ∷ fs) gs =
     let here = if f.fin then event_at before f ∷ [] else [] in
-    ap (λ es. here ++ es) (events-append (before ++ f ∷ []) fs gs ∙ ap (λ (hs : List Frame). events_behind (before ++ f ∷ []) fs ++ events_behind hs gs) (push-append before f fs))
-    ∙ sym (append_assoc here (events_behind (before ++ f ∷ []) fs) (events_behind (before ++ f ∷ fs) gs))
+    ap (λ es. here ++ es) (events-append (before ++ f ∷ []) fs gs ∙ ap (λ (hs : List Frame). events_after (before ++ f ∷ []) fs ++ events_after hs gs) (push-append before f fs))
+    ∙ sym (append_assoc here (events_after (before ++ f ∷ []) fs) (events_after (before ++ f ∷ fs) gs))
 
-pub meaning-append : (fs gs : List Frame) → meaning (fs ++ gs) ≡ meaning fs ++ events_behind fs gs
+pub meaning-append : (fs gs : List Frame) → meaning (fs ++ gs) ≡ meaning fs ++ events_after fs gs
 meaning-append fs gs = events-append [] fs gs
 
 pub meaning_push : (fs : List Frame) (f : Frame) → meaning (fs ++ f ∷ []) ≡ meaning fs ++ (if f.fin then event_at fs f ∷ [] else [])
@@ -101,12 +101,12 @@ meaning_push fs f = meaning-append fs (f ∷ []) ∙ ap (λ es. meaning fs ++ es
 
 -- ---- the group of a lawful list
 
--- What an unfinished group is.
+-- The properties of an unfinished group.
 pub record IsGroup (limits : Limits) (group : List Frame) : Type 0 where
-  pub size : length (text_of group) ≤ limits.message
+  pub size : length (payload_of group) ≤ limits.message
   pub count : ForSome limits.frames (λ most. length group ≤ most)
-  pub begins : first_op group ≡ Text → BeginsText (text_of group)
-  -- it begins with Text or Binary
+  pub begins : first_op group ≡ Text → BeginsText (payload_of group)
+  -- It begins with Text or Binary.
   pub kind : group ≢ [] → (first_op group ≡ Text) ⊎ (first_op group ≡ Binary)
 
 pub is_group_nil : (limits : Limits) → IsGroup limits []

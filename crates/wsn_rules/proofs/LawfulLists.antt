@@ -1,4 +1,4 @@
--- Lawful lists of frames: one frame more at their end, their fronts, and what stands behind a front.
+-- Lawful lists of frames: with one more frame, their prefixes, and the frames after a prefix.
 use Rattle.std.proofs.Common.{◌≡◌, List, [], ◌∷◌, ◌++◌, ◌⊎◌, ◌↔◌, refl, sym, ap, ◌∙◌, subst, inl, inr, append-nil}
 use Rattle.wsn_wire.specs.declared.endpoint.Role.{Role}
 use Rattle.wsn_wire.specs.declared.opcode.Op.{Op}
@@ -7,7 +7,7 @@ use Rattle.wsn_wire.specs.Frame.{Frame, stream}
 use Rattle.wsn_rules.specs.Limits.{Limits}
 use Rattle.wsn_rules.specs.Group.{unfinished}
 use Rattle.wsn_rules.specs.Lawful.{LawAt, IsLawful}
-use Rattle.wsn_rules.specs.LawfulBehind.{AreLawfulBehind}
+use Rattle.wsn_rules.specs.LawfulAfter.{AreLawfulAfter}
 use Rattle.wsn_rules.specs.Accepted.{HasNoClose, EndsWithClose, IsAccepted}
 use Rattle.wsn_rules.proofs.Prefixes.{nil-push, nil-cons, split_push, push-append, tail_same, head_same}
 
@@ -59,7 +59,7 @@ module _ (role : Role) (limits : Limits) where
   pub lawful_front : (fs gs : List Frame) → IsLawful role limits (fs ++ gs) → IsLawful role limits fs
   lawful_front fs gs lawful = record {
     each = λ before after f e. lawful.each before (after ++ gs) f (split_front fs gs before f after e);
-    close_last = λ before after f e c. none_behind after gs (lawful.close_last before (after ++ gs) f (split_front fs gs before f after e) c);
+    close_last = λ before after f e c. none_after after gs (lawful.close_last before (after ++ gs) f (split_front fs gs before f after e) c);
   }
     where
       split_front : (fs gs before : List Frame) (f : Frame) (after : List Frame) → fs ≡ before ++ f ∷ after → fs ++ gs ≡ before ++ f ∷ (after ++ gs)
@@ -70,14 +70,14 @@ module _ (role : Role) (limits : Limits) where
           let first = head_same g b fs (before ++ f ∷ after) e in
           cc
 
-      none_behind : (xs ys : List Frame) → xs ++ ys ≡ [] → xs ≡ []
-      none_behind [] ys e = refl
-      none_behind (x ∷ xs) ys e = absurd (nil-cons x (xs ++ ys) (sym e))
+      none_after : (xs ys : List Frame) → xs ++ ys ≡ [] → xs ≡ []
+      none_after [] ys e = refl
+      none_after (x ∷ xs) ys e = absurd (nil-cons x (xs ++ ys) (sym e))
 
   pub law_at_split : (fs : List Frame) (f : Frame) (gs : List Frame) → IsLawful role limits (fs ++ f ∷ gs) → LawAt role limits fs f
   law_at_split fs f gs lawful = lawful.each fs gs f refl
 
-  -- nothing stands behind a Close, so none is in front of a frame
+  -- No frame follows a Close, so no Close comes before a frame.
   pub no_close_before : (fs : List Frame) (f : Frame) (gs : List Frame) → IsLawful role limits (fs ++ f ∷ gs) → HasNoClose fs
   no_close_before fs f gs lawful before after g e c =
       nil-push after f gs (sym (lawful.close_last before (after ++ f ∷ gs) g (split_middle fs before g after f gs e) c))
@@ -90,7 +90,7 @@ module _ (role : Role) (limits : Limits) where
           let first = head_same h b fs (before ++ g ∷ after) e in
           cc
 
-  -- a lawful list has no Close, or ends with one
+  -- A lawful list has no Close, or ends with one.
   pub close_is_last : (fs : List Frame) → IsLawful role limits fs → HasNoClose fs ⊎ EndsWithClose fs
   close_is_last fs lawful = from_front fs [] lawful no_close_nil
     where
@@ -104,27 +104,27 @@ module _ (role : Role) (limits : Limits) where
                 subst (λ (hs : List Frame). HasNoClose hs ⊎ EndsWithClose hs) moved (from_front fs (before ++ f ∷ []) (subst (IsLawful role limits) (sym moved) lawful) (no_close_push before f none o))
           ]
 
-  -- ---- from the front, behind the frames before
+  -- ---- frame by frame, after the frames before
 
-  pub lawful_behind : (before fs : List Frame) → IsLawful role limits (before ++ fs) → AreLawfulBehind role limits before fs
-  lawful_behind before [] lawful = tt
-  lawful_behind before (f ∷ fs) lawful =
-      (law_at_split before f fs lawful, lawful.close_last before fs f refl, lawful_behind (before ++ f ∷ []) fs (subst (IsLawful role limits) (sym (push-append before f fs)) lawful))
+  pub lawful_after : (before fs : List Frame) → IsLawful role limits (before ++ fs) → AreLawfulAfter role limits before fs
+  lawful_after before [] lawful = tt
+  lawful_after before (f ∷ fs) lawful =
+      (law_at_split before f fs lawful, lawful.close_last before fs f refl, lawful_after (before ++ f ∷ []) fs (subst (IsLawful role limits) (sym (push-append before f fs)) lawful))
 
-  pub lawful_from_front : (before fs : List Frame) → IsLawful role limits before → HasNoClose before → AreLawfulBehind role limits before fs → IsLawful role limits (before ++ fs)
-  lawful_from_front before [] lawful none behind = subst (IsLawful role limits) (sym (append-nil before)) lawful
-  lawful_from_front before (f ∷ fs) lawful none behind =
-      let with_f = lawful_push before f lawful none behind.0 in
+  pub lawful_from_front : (before fs : List Frame) → IsLawful role limits before → HasNoClose before → AreLawfulAfter role limits before fs → IsLawful role limits (before ++ fs)
+  lawful_from_front before [] lawful none following = subst (IsLawful role limits) (sym (append-nil before)) lawful
+  lawful_from_front before (f ∷ fs) lawful none following =
+      let with_f = lawful_push before f lawful none following.0 in
       elim (close_or_not f.op) [
-        | inl c ↦ subst (λ (hs : List Frame). IsLawful role limits (before ++ f ∷ hs)) (sym (behind.1 c)) with_f
-        | inr o ↦ subst (IsLawful role limits) (push-append before f fs) (lawful_from_front (before ++ f ∷ []) fs with_f (no_close_push before f none o) behind.2)
+        | inl c ↦ subst (λ (hs : List Frame). IsLawful role limits (before ++ f ∷ hs)) (sym (following.1 c)) with_f
+        | inr o ↦ subst (IsLawful role limits) (push-append before f fs) (lawful_from_front (before ++ f ∷ []) fs with_f (no_close_push before f none o) following.2)
       ]
 
   pub came_on : (fs : List Frame) (f : Frame) → IsLawful role limits (fs ++ f ∷ []) → IsLawful role limits fs × HasNoClose fs × LawAt role limits fs f
   came_on fs f lawful = (lawful_front fs (f ∷ []) lawful, no_close_before fs f [] lawful, law_at_split fs f [] lawful)
 
-  pub lawful_iff_from_front : (fs : List Frame) → IsLawful role limits fs ↔ AreLawfulBehind role limits [] fs
-  lawful_iff_from_front fs = (λ lawful. lawful_behind [] fs lawful, λ behind. lawful_from_front [] fs lawful_nil no_close_nil behind)
+  pub lawful_iff_from_front : (fs : List Frame) → IsLawful role limits fs ↔ AreLawfulAfter role limits [] fs
+  lawful_iff_from_front fs = (λ lawful. lawful_after [] fs lawful, λ following. lawful_from_front [] fs lawful_nil no_close_nil following)
 
   pub finished_is_accepted : (fs : List Frame) → IsLawful role limits fs → unfinished fs ≡ [] → IsAccepted role limits (stream fs) fs
   finished_is_accepted fs lawful finished = record {

@@ -1,4 +1,4 @@
--- Of a message's text and a Close's body: the opcodes that they go by, and where a bad byte shows.
+-- The text of a message and the body of a Close: their opcodes, and where a bad byte is evident.
 use Rattle.std.proofs.Common.{◌≡◌, ◌≢◌, ℕ, zero, suc, ◌+◌, ◌-◌, ◌<◌, ◌≤◌, true, not, List, [], ◌∷◌, ◌++◌, ◌⊎◌, length, take, drop, refl, sym, ap, ◌∙◌, subst, inl, inr, append_assoc, append-nil, arith, true≢false}
 use Rattle.std.specs.Int.{from_be_bytes, to_be_bytes, w16}
 use Rattle.wsn_text.proofs.Numbers.{less_or_not}
@@ -12,11 +12,11 @@ use Rattle.wsn_wire.proofs.MaskLemmas.{at-All}
 use Rattle.wsn_text.specs.Utf8.{IsText, BeginsText, IsFirstBad}
 use Rattle.wsn_text.specs.CloseBody.{IsAcceptedCode, IsCloseBody}
 use Rattle.wsn_text.proofs.Decide.{text_decided}
-use Rattle.wsn_text.proofs.Fronts.{begins-nil, begins_front, begins_take, bad_ends, first_bad_front, begins_or_first_bad, text_begins}
+use Rattle.wsn_text.proofs.Prefixes.{begins-nil, begins_front, begins_take, bad_ends, first_bad_front, begins_or_first_bad, text_begins}
 use Rattle.wsn_rules.specs.Evidence.{IsDataOpcode, IsOfText, EndsBad, EndsInside}
-use Rattle.wsn_rules.specs.Group.{is_data, first_op, text_of}
+use Rattle.wsn_rules.specs.Group.{is_data, first_op, payload_of}
 
--- ---- a Close's body
+-- ---- the body of a Close
 
 pub not_one_byte : (body : List ℕ) → IsCloseBody body → length body ≢ 1
 not_one_byte body (inl none) one = let empty : length body ≡ 0 = ap (λ (bs : List ℕ). length bs) none in omega arith
@@ -56,7 +56,7 @@ opcode_of_data Close e = absurd (true≢false (sym e))
 opcode_of_data Ping e = absurd (true≢false (sym e))
 opcode_of_data Pong e = absurd (true≢false (sym e))
 
--- a message begins with opcode 1 or 2
+-- A message begins with opcode 1 or 2.
 pub begins_from_opcode : (op : Op) → (opcode op ≡ 1) ⊎ (opcode op ≡ 2) → (op ≡ Continue → ⊥) × (not (is_control op) ≡ true)
 begins_from_opcode Continue (inl e) = absurd (omega arith)
 begins_from_opcode Continue (inr e) = absurd (omega arith)
@@ -85,12 +85,12 @@ continue_or_not Close = inr (λ same. cc)
 continue_or_not Ping = inr (λ same. cc)
 continue_or_not Pong = inr (λ same. cc)
 
--- ---- a group with one frame more
+-- ---- a group with one more frame
 
-pub text_of_push : (group : List Frame) (f : Frame) → text_of (group ++ f ∷ []) ≡ text_of group ++ f.payload
-text_of_push group f = flat_map-append (λ (g : Frame). g.payload) group (f ∷ []) ∙ ap (λ (bytes : List ℕ). text_of group ++ bytes) (append-nil f.payload)
+pub text_of_push : (group : List Frame) (f : Frame) → payload_of (group ++ f ∷ []) ≡ payload_of group ++ f.payload
+text_of_push group f = flat_map-append (λ (g : Frame). g.payload) group (f ∷ []) ∙ ap (λ (bytes : List ℕ). payload_of group ++ bytes) (append-nil f.payload)
 
--- a data frame of a text message, by its opcode and by its group
+-- A data frame of a text message, by its opcode and by its group.
 pub of_text_from_group : (group : List Frame) (f : Frame) → is_data f ≡ true → first_op (group ++ f ∷ []) ≡ Text → IsOfText group (opcode f.op)
 of_text_from_group [] f is_data text = ap opcode text
 of_text_from_group (g ∷ group) f is_data text = (opcode_of_data f.op is_data, text)
@@ -103,12 +103,12 @@ group_from_of_text (g ∷ group) f text = (data_from_opcode f.op text.0, text.1)
 
 -- ---- a bad byte
 
--- of bytes behind a front that begins text, the first bad one is behind the front
-pub bad_behind_front : (front bytes : List ℕ) (i : ℕ) → BeginsText front → IsFirstBad (front ++ bytes) i → (n : ℕ) × (n ≤ length bytes) × EndsBad (front ++ take n bytes)
-bad_behind_front front bytes i begins bad =
+-- If a prefix begins text, the first bad byte comes after it.
+pub bad_after_front : (front bytes : List ℕ) (i : ℕ) → BeginsText front → IsFirstBad (front ++ bytes) i → (n : ℕ) × (n ≤ length bytes) × EndsBad (front ++ take n bytes)
+bad_after_front front bytes i begins bad =
     elim (less_or_not i (length front)) [
       | inl within ↦ absurd (bad_ends front i (first_bad_front front bytes i within bad) begins)
-      | inr behind ↦
+      | inr following ↦
           let n = i + 1 - length front in
           let all : length (front ++ bytes) ≡ length front + length bytes = length-append front bytes in
           let within : i < length (front ++ bytes) = bad.within in
@@ -120,12 +120,12 @@ bad_behind_front front bytes i begins bad =
           (i + 1 - length front, fits, (i, count, first_bad_front (front ++ take (i + 1 - length front) bytes) (drop (i + 1 - length front) bytes) i (omega arith) (subst (λ (bs : List ℕ). IsFirstBad bs i) parted bad)))
     ]
 
--- a front of bytes that begin text doesn't end bad
+-- A prefix of bytes that begin text doesn't end with a bad byte.
 pub begins_not_bad : (front bytes : List ℕ) (n : ℕ) → BeginsText (front ++ bytes) → EndsBad (front ++ take n bytes) → ⊥
 begins_not_bad front bytes n begins bad =
     bad_ends (front ++ take n bytes) bad.0 bad.2 (begins_front (front ++ take n bytes) (drop n bytes) (subst BeginsText (sym (append_assoc front (take n bytes) (drop n bytes))) (subst (λ (bs : List ℕ). BeginsText (front ++ bs)) (sym (take-append-drop n bytes)) begins)))
 
--- ---- a Close's body
+-- ---- the body of a Close, lawful or not
 
 pub below_accepted : (code : ℕ) → code < 1000 → IsAcceptedCode code → ⊥
 below_accepted code below is = grind arith
@@ -164,7 +164,7 @@ accepted_code_or_not code =
 accepted_fits : (code : ℕ) → IsAcceptedCode code → code < 65536
 accepted_fits code is = grind arith
 
--- the code that a lawful body begins with is accepted
+-- The code at the start of a lawful body is accepted.
 pub code_is_accepted : (body : List ℕ) → IsCloseBody body → (n : ℕ) → n ≤ length body → length (take n body) ≡ 2 → IsAcceptedCode (from_be_bytes w16 (take n body))
 code_is_accepted body (inl none) n fits two =
     let took : length (take n body) ≡ n = length-take-le n body fits in
@@ -178,7 +178,7 @@ code_is_accepted body (inr p) n fits two =
     let value : from_be_bytes w16 (take n body) ≡ p.0 = ap (λ (bs : List ℕ). from_be_bytes w16 bs) front ∙ from_be_bytes-to_be_bytes_2 p.0 (accepted_fits p.0 p.2) in
     subst IsAcceptedCode (sym value) p.2
 
--- the reason of a lawful body neither ends bad nor inside a character
+-- The reason of a lawful body doesn't end with a bad byte or inside a character.
 pub reason_is_text : (body : List ℕ) → IsCloseBody body → IsText (drop 2 body)
 reason_is_text body (inl none) = subst (λ (bs : List ℕ). IsText (drop 2 bs)) (sym none) no_text
   where
@@ -203,24 +203,24 @@ reason_not_bad body is n bad =
     front_of_rest (suc (suc n)) (b ∷ []) = take_nil (suc (suc n) - 2)
     front_of_rest (suc (suc n)) (b ∷ c ∷ bs) = let less : suc (suc n) - 2 ≡ n = omega arith in rw less refl
 
--- What a body shows by one of its fronts: a code that isn't accepted, or a reason that isn't text.
+-- A prefix of the body has a code that isn't accepted, or a reason that isn't text.
 abbrev pub BodyShows : List ℕ → Type 0
 BodyShows body =
     ((n : ℕ) × (n ≤ length body) × (length (take n body) ≡ 2) × (IsAcceptedCode (from_be_bytes w16 (take n body)) → ⊥))
     ⊎ ((n : ℕ) × (n ≤ length body) × (EndsBad (drop 2 (take n body)) ⊎ ((length (take n body) ≡ length body) × EndsInside (drop 2 (take n body)))))
 
--- a body of bytes, and not of a single one, is lawful or shows why it isn't
+-- A body of bytes, but not a single one, is lawful or has evidence against it.
 pub body_or_shows : (body : List ℕ) → IsBytes body → length body ≢ 1 → IsCloseBody body ⊎ BodyShows body
 body_or_shows [] bytes not_one = inl (inl refl)
 body_or_shows (b ∷ []) bytes not_one = absurd (not_one refl)
 body_or_shows (b ∷ c ∷ reason) bytes not_one =
     let code = from_be_bytes w16 (b ∷ c ∷ []) in
-    let spelled : to_be_bytes w16 (from_be_bytes w16 (b ∷ c ∷ [])) ≡ b ∷ c ∷ [] =
+    let encoded : to_be_bytes w16 (from_be_bytes w16 (b ∷ c ∷ [])) ≡ b ∷ c ∷ [] =
     be_bytes_2 (b ∷ c ∷ []) (from_be_bytes w16 (b ∷ c ∷ [])) refl (at-All (λ n. n < 256) (omega arith) (b ∷ c ∷ []) (bytes.0, (bytes.1.0, tt))) refl in
     elim (accepted_code_or_not (from_be_bytes w16 (b ∷ c ∷ []))) [
       | inr refused ↦ inr (inl (2, omega arith, refl, refused))
       | inl accepted ↦ elim (text_decided reason) [
-        | inl text ↦ inl (inr (from_be_bytes w16 (b ∷ c ∷ []), reason, accepted, text, ap (λ (bs : List ℕ). bs ++ reason) (sym spelled)))
+        | inl text ↦ inl (inr (from_be_bytes w16 (b ∷ c ∷ []), reason, accepted, text, ap (λ (bs : List ℕ). bs ++ reason) (sym encoded)))
         | inr not_text ↦ inr (inr (reason_shows reason not_text))
       ]
     ]
@@ -232,6 +232,6 @@ body_or_shows (b ∷ c ∷ reason) bytes not_one =
               let all : take (length reason) reason ≡ reason = take_all (length reason) reason (omega arith) in
               (suc (suc (length reason)), omega arith, inr (ap (λ (bs : List ℕ). length (b ∷ c ∷ bs)) all, subst EndsInside (sym all) (begins, not_text)))
           | inr bad ↦
-              let shown = bad_behind_front [] reason bad.0 begins-nil bad.1 in
-              (suc (suc shown.0), omega (arith, shown.1), inl shown.2)
+              let is_evident = bad_after_front [] reason bad.0 begins-nil bad.1 in
+              (suc (suc is_evident.0), omega (arith, is_evident.1), inl is_evident.2)
         ]

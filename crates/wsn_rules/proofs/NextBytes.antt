@@ -1,39 +1,39 @@
--- A refusal, and its absence, from what the fronts of the bytes behind some frames show.
+-- A refusal, or its absence, from the prefixes of the bytes after some frames.
 use Rattle.std.proofs.Common.{◌≡◌, ℕ, ◌+◌, ◌<◌, ◌≤◌, List, ◌++◌, length, take, sym, subst, inl, inr, arith}
 use Rattle.std.proofs.lemmas.Bool.{cases_order}
 use Rattle.std.proofs.lemmas.List.{take_at, take-append-le}
 use Rattle.wsn_wire.specs.declared.endpoint.Role.{Role}
 use Rattle.wsn_wire.specs.declared.refusal.Reason.{Reason}
 use Rattle.wsn_wire.specs.Frame.{Frame, stream}
-use Rattle.wsn_wire.specs.Refusal.{IsFirstShown}
+use Rattle.wsn_wire.specs.Refusal.{IsFirstEvident}
 use Rattle.wsn_rules.specs.Limits.{Limits}
 use Rattle.wsn_rules.specs.Group.{unfinished}
 use Rattle.wsn_rules.specs.Lawful.{IsLawful}
 use Rattle.wsn_rules.specs.Accepted.{HasNoClose}
 use Rattle.wsn_rules.specs.Evidence.{Evidence}
-use Rattle.wsn_rules.specs.Verdict.{Shown, ComesFirst, IsRefused}
-use Rattle.wsn_rules.proofs.LeastShown.{shown_front, ShownFront}
+use Rattle.wsn_rules.specs.Verdict.{IsEvidentAt, ComesFirst, IsRefused}
+use Rattle.wsn_rules.proofs.LeastEvident.{evident_front, ShownFront}
 
--- No front of the bytes is evidence.
+-- No prefix of the bytes is evidence for a refusal.
 abbrev pub ShowNothing : Role → Limits → List Frame → List ℕ → Type 0
 ShowNothing role limits group bytes = (m : ℕ) (r : Reason) → m ≤ length bytes → Evidence role limits group r (take m bytes) → ⊥
 
 module _ (role : Role) (limits : Limits) (fs : List Frame) where
-  pub nothing_shown : (bytes rest : List ℕ) → bytes ≡ stream fs ++ rest → ShowNothing role limits (unfinished fs) rest → (p : ℕ) (r : Reason) → Shown role limits bytes fs p r → ⊥
-  nothing_shown bytes rest whole none p r shown =
-      let front = shown_front role limits bytes fs rest whole p r shown in
+  pub nothing_evident : (bytes rest : List ℕ) → bytes ≡ stream fs ++ rest → ShowNothing role limits (unfinished fs) rest → (p : ℕ) (r : Reason) → IsEvidentAt role limits bytes fs p r → ⊥
+  nothing_evident bytes rest whole none p r is_evident =
+      let front = evident_front role limits bytes fs rest whole p r is_evident in
       none front.count r front.within front.evidence
 
-  -- Behind the frames the bytes seen are the first to show anything, and the reason is the first that they show.
+  -- After the frames, the bytes `seen` are the first evidence, and the reason is the first for which they are.
   pub refused_at : (bytes seen later : List ℕ) (place : ℕ) (reason : Reason) → bytes ≡ stream fs ++ (seen ++ later) → place + 1 ≡ length (stream fs) + length seen →
       IsLawful role limits fs → HasNoClose fs →
       ((m : ℕ) (r : Reason) → m < length seen → Evidence role limits (unfinished fs) r (take m seen) → ⊥) →
-      IsFirstShown (λ r. Evidence role limits (unfinished fs) r seen) reason → IsRefused role limits bytes fs place reason
+      IsFirstEvident (λ r. Evidence role limits (unfinished fs) r seen) reason → IsRefused role limits bytes fs place reason
   refused_at bytes seen later place reason whole at lawful no_close earlier first = record {
     lawful = lawful;
     no_close = no_close;
-    shown = record { seen = seen; later = later; whole = whole; at_place = at; evidence = first.shown };
-    least = λ p r shown. least p r (shown_front role limits bytes fs (seen ++ later) whole p r shown);
+    is_evident = record { seen = seen; later = later; whole = whole; at_place = at; evidence = first.is_evident };
+    least = λ p r is_evident. least p r (evident_front role limits bytes fs (seen ++ later) whole p r is_evident);
   }
     where
       same_place : (p count : ℕ) → p + 1 ≡ length (stream fs) + count → count ≡ length seen → place ≡ p

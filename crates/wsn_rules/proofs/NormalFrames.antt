@@ -1,5 +1,5 @@
--- The frames of a normal form are a recut, by a plan of one step for each event. So they are lawful, leave nothing
--- unfinished, and mean the events that they were made from.
+-- The frames of a normal form are a recut, by the plan with one step for each event. So they are lawful, leave no
+-- message unfinished, and mean the same events.
 use Rattle.std.proofs.Common.{◌≡◌, ◌≤◌, List, [], ◌∷◌, map, IsSome, IfSome, ◌↔◌, refl, sym, ap, ◌∙◌, subst, zero-le, arith}
 use Rattle.std.specs.Option.{ForSome}
 use Rattle.wsn_wire.specs.declared.endpoint.Role.{Role}
@@ -14,12 +14,12 @@ use Rattle.wsn_rules.specs.NormalForm.{normal_key, normal_frame}
 use Rattle.wsn_rules.specs.Plan.{IsPlan}
 use Rattle.wsn_rules.specs.Fitting.{Fits}
 use Rattle.wsn_rules.specs.Recut.{recut, normal_step, normal_plan}
-use Rattle.wsn_rules.proofs.PlanTheory.FromTheFront.{StepLaw, BeginsToFitFrom, left_behind, recut_from}
+use Rattle.wsn_rules.proofs.PlanTheory.FromTheFront.{StepLaw, BeginsToFitFrom, left_following, recut_from}
 use Rattle.wsn_rules.proofs.PlanTheory.Context.{recut_is}
 use Rattle.wsn_rules.proofs.PlanTheory.FitsFromTheFront.{fits_iff}
 use Rattle.wsn_rules.proofs.PlanTheory.RecutFrames.{recut_is_lawful, recut_is_finished, recut_means}
 
--- ---- the plan is one, and fits
+-- ---- the plan is a plan, and fits
 
 masked : (role : Role) → IsSome (normal_key role) ↔ (role ≡ Client)
 masked Client = (λ is. refl, λ is. refl)
@@ -34,7 +34,7 @@ normal_is_plan role [] = tt
 normal_is_plan role (Message kind text ∷ events) = (is_key role, normal_is_plan role events)
 normal_is_plan role (Control o body ∷ events) = (is_key role, normal_is_plan role events)
 
--- one frame is within a limit on frames that is at least 1
+-- The limit on frames allows one frame.
 abbrev pub AllowsOneFrame : Limits → Type 0
 AllowsOneFrame limits = ForSome limits.frames (λ most. 1 ≤ most)
 
@@ -47,7 +47,7 @@ begins role limits [] one = tt
 begins role limits (Message kind text ∷ events) one = (step_law role limits (Message kind text) events one, begins role limits events one)
 begins role limits (Control o body ∷ events) one = (step_law role limits (Control o body) events one, begins role limits events one)
 
-none_left : (role : Role) (events : List MeantEvent) → left_behind events (normal_plan role events) ≡ []
+none_left : (role : Role) (events : List MeantEvent) → left_following events (normal_plan role events) ≡ []
 none_left role [] = refl
 none_left role (Message kind text ∷ events) = none_left role events
 none_left role (Control o body ∷ events) = none_left role events
@@ -55,7 +55,7 @@ none_left role (Control o body ∷ events) = none_left role events
 pub normal_fits : (role : Role) (limits : Limits) (events : List MeantEvent) → AllowsOneFrame limits → Fits role limits (normal_plan role events) events
 normal_fits role limits events one = (fits_iff role limits events (normal_plan role events)).1 (begins role limits events one, none_left role events)
 
--- ---- its recut are the normal frames
+-- ---- the recut is the normal frames
 
 recut_from_is : (role : Role) (events : List MeantEvent) → recut_from [] events (normal_plan role events) ≡ map (normal_frame role) events
 recut_from_is role [] = refl
@@ -65,7 +65,7 @@ recut_from_is role (Control o body ∷ events) = ap (λ (fs : List Frame). norma
 pub normal_recut : (role : Role) (events : List MeantEvent) → recut (normal_plan role events) events ≡ map (normal_frame role) events
 normal_recut role events = recut_is (normal_plan role events) events ∙ recut_from_is role events
 
--- ---- so what holds of recuts holds of them
+-- ---- so they have the properties of recuts
 
 pub normal_lawful : (role : Role) (limits : Limits) (events : List MeantEvent) → AllowsOneFrame limits → AreLawful limits.message events → IsLawful role limits (map (normal_frame role) events)
 normal_lawful role limits events one lawful =

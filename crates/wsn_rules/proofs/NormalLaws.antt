@@ -1,8 +1,8 @@
--- What holds of normal forms: of lawful events they tell the events, they are accepted, and the normal form of
--- what they mean is theirs.
+-- Laws of normal forms: they determine lawful events, they are accepted, and the normal form of their meaning is the
+-- same.
 use Rattle.std.proofs.Common.{◌≡◌, ℕ, ◌-◌, ◌↔◌, None, List, [], length, map, refl, sym, ap, ◌∙◌}
 use Rattle.wsn_wire.specs.declared.endpoint.Role.{Role}
-use Rattle.wsn_wire.specs.declared.spelling.Lengths.TheVariants as spellings
+use Rattle.wsn_wire.specs.declared.length_forms.Lengths.TheVariants as encodings
 use Rattle.wsn_wire.specs.Frame.{Frame, stream}
 use Rattle.wsn_rules.specs.declared.verdict.Verdict.{Verdict}
 use Rattle.wsn_rules.specs.declared.verdict.Verdict.TheVariants.{Accepted}
@@ -22,7 +22,7 @@ use Rattle.wsn_rules.proofs.NormalFrames.{AllowsOneFrame, normal_finished, norma
 
 -- ---- an accepted input has one list of frames, and one meaning
 
--- the verdict on bytes that are accepted with these frames
+-- The verdict on bytes that are accepted with these frames.
 abbrev verdict_with : List ℕ → List Frame → Verdict
 verdict_with bytes fs = Accepted (counted fs (length (stream fs)) (length bytes - length (stream fs)))
 
@@ -37,11 +37,11 @@ accepted_frames role limits bytes fs gs accepted other =
 pub accepted_meaning : (role : Role) (limits : Limits) (bytes : List ℕ) (fs gs : List Frame) → IsAccepted role limits bytes fs → IsAccepted role limits bytes gs → meaning fs ≡ meaning gs
 accepted_meaning role limits bytes fs gs accepted other = ap meaning (accepted_frames role limits bytes fs gs accepted other)
 
--- ---- normal forms tell the events
+-- ---- normal forms determine the events
 
--- the limits that only limit messages
+-- Limits that limit only messages.
 abbrev limiting : ℕ → Limits
-limiting most = record { message = most; input = 0; frames = None; lengths = spellings.Shortest }
+limiting most = record { message = most; input = 0; frames = None; lengths = encodings.Shortest }
 
 limiting_allows : (most : ℕ) → AllowsOneFrame (limiting most)
 limiting_allows most limit is = cc
@@ -49,14 +49,14 @@ limiting_allows most limit is = cc
 lawful_limiting : (role : Role) (most : ℕ) (events : List MeantEvent) → AreLawful most events → IsLawful role (limiting most) (map (normal_frame role) events)
 lawful_limiting role most events lawful = normal_lawful role (limiting most) events (limiting_allows most) lawful
 
-pub normal_form_tells : (role : Role) (most : ℕ) (events others : List MeantEvent) → AreLawful most events → AreLawful most others → normal_form role events ≡ normal_form role others → events ≡ others
-normal_form_tells role most events others lawful also same =
+pub normal_form_reports : (role : Role) (most : ℕ) (events others : List MeantEvent) → AreLawful most events → AreLawful most others → normal_form role events ≡ normal_form role others → events ≡ others
+normal_form_reports role most events others lawful also same =
     let frames = same_bytes role (limiting most) (map (normal_frame role) events) (map (normal_frame role) others)
     (lawful_limiting role most events lawful) (lawful_limiting role most others also) same in
     sym (normal_meaning role (limiting most) events (limiting_allows most) lawful) ∙ ap meaning frames ∙ normal_meaning role (limiting most) others (limiting_allows most) also
 
 pub normal_form_iff : (role : Role) (most : ℕ) (events others : List MeantEvent) → AreLawful most events → AreLawful most others → (normal_form role events ≡ normal_form role others) ↔ (events ≡ others)
-normal_form_iff role most events others lawful also = (normal_form_tells role most events others lawful also, λ same. ap (normal_form role) same)
+normal_form_iff role most events others lawful also = (normal_form_reports role most events others lawful also, λ same. ap (normal_form role) same)
 
 pub inputs_iff : (role : Role) (limits : Limits) (bytes others : List ℕ) (fs gs : List Frame) → InRange limits → IsAccepted role limits bytes fs → IsAccepted role limits others gs
     → (normal_form role (meaning fs) ≡ normal_form role (meaning gs)) ↔ (meaning fs ≡ meaning gs)
@@ -65,7 +65,7 @@ inputs_iff role limits bytes others fs gs range accepted other =
 
 -- ---- normal forms are accepted
 
--- a limit on frames allows one
+-- A limit on frames allows one frame.
 pub one_frame : (limits : Limits) → InRange limits → AllowsOneFrame limits
 one_frame limits range = λ most is. (range.frames most is).0
 
@@ -88,7 +88,7 @@ own_frames role limits bytes fs range accepted =
     let frames = frames_of_events role limits (meaning fs) range lawful in
     (map (normal_frame role) (meaning fs), normal_accepted role limits (meaning fs) range lawful, refl, frames.1, frames.2)
 
--- whatever frames it is accepted with
+-- Whatever frames the normal form is accepted with.
 pub own_normal_form : (role : Role) (limits : Limits) (bytes : List ℕ) (fs gs : List Frame) → InRange limits → IsAccepted role limits bytes fs
     → IsAccepted role limits (normal_form role (meaning fs)) gs → normal_form role (meaning gs) ≡ normal_form role (meaning fs)
 own_normal_form role limits bytes fs gs range accepted again =

@@ -1,4 +1,4 @@
--- No list of bytes has two verdicts.
+-- No input has two verdicts.
 use Rattle.std.proofs.Common.{◌≡◌, ℕ, List, [], ◌∷◌, ◌++◌, length, sym, ap, ◌∙◌, subst, inl, inr, append_assoc, append-nil, arith, refl}
 use Rattle.wsn_wire.specs.declared.endpoint.Role.{Role}
 use Rattle.wsn_wire.specs.declared.refusal.Reason.{Reason}
@@ -9,7 +9,7 @@ use Rattle.wsn_rules.specs.Limits.{Limits}
 use Rattle.wsn_rules.specs.Group.{unfinished}
 use Rattle.wsn_rules.specs.Lawful.{IsLawful}
 use Rattle.wsn_rules.specs.Accepted.{HasNoClose, EndsWithClose, IsAccepted, Ends}
-use Rattle.wsn_rules.specs.Meaning.{meaning, events_behind}
+use Rattle.wsn_rules.specs.Meaning.{meaning, events_after}
 use Rattle.wsn_rules.specs.Evidence.{Evidence}
 use Rattle.wsn_wire.specs.Refusal.{number_of}
 use Rattle.wsn_rules.specs.Verdict.{ComesFirst, IsRefused, IsCut, IsVerdict}
@@ -22,32 +22,32 @@ use Rattle.wsn_rules.proofs.Groups.{meaning-append}
 use Rattle.wsn_rules.proofs.Walk.{walk, spellable_of_lawful}
 use Rattle.wsn_rules.proofs.RowsOfLayout.{evidence_is_row}
 use Rattle.wsn_rules.proofs.LawfulRows.{lawful_shows_no_row}
-use Rattle.wsn_rules.proofs.LeastShown.{same_number, evidence_is_some}
+use Rattle.wsn_rules.proofs.LeastEvident.{same_number, evidence_is_some}
 
--- a layout with more behind it, part by part
-layout_then : (bytes behind : List ℕ) (l : HasLayout bytes) → bytes ++ behind ≡ l.first ∷ l.second ∷ (l.len ++ (l.key ++ (l.payload ++ behind)))
-layout_then bytes behind l =
-    ap (λ (bs : List ℕ). bs ++ behind) l.whole
-    ∙ ap (λ (bs : List ℕ). l.first ∷ l.second ∷ bs) (append_assoc l.len (l.key ++ l.payload) behind ∙ ap (λ (bs : List ℕ). l.len ++ bs) (append_assoc l.key l.payload behind))
+-- A layout with more bytes after it, part by part.
+layout_then : (bytes following : List ℕ) (l : HasLayout bytes) → bytes ++ following ≡ l.first ∷ l.second ∷ (l.len ++ (l.key ++ (l.payload ++ following)))
+layout_then bytes following l =
+    ap (λ (bs : List ℕ). bs ++ following) l.whole
+    ∙ ap (λ (bs : List ℕ). l.first ∷ l.second ∷ bs) (append_assoc l.len (l.key ++ l.payload) following ∙ ap (λ (bs : List ℕ). l.len ++ bs) (append_assoc l.key l.payload following))
 
 close_ends : (fs : List Frame) → HasNoClose fs → EndsWithClose fs → ⊥
 close_ends fs none close = none close.0 [] close.1 close.3 close.2
 
 module _ (role : Role) (limits : Limits) where
-  -- behind lawful frames, evidence is no front of a frame that is lawful there
-  pub lawful_frame_shows_nothing : (fs : List Frame) (f : Frame) (gs : List Frame) → IsLawful role limits (fs ++ f ∷ gs) → (seen later behind : List ℕ) (reason : Reason) → seen ++ later ≡ frame_bytes f ++ behind → Evidence role limits (unfinished fs) reason seen → ⊥
-  lawful_frame_shows_nothing fs f gs lawful seen later behind reason e evidence =
+  -- After lawful frames, no prefix of a frame that is lawful there is evidence.
+  pub lawful_frame_shows_nothing : (fs : List Frame) (f : Frame) (gs : List Frame) → IsLawful role limits (fs ++ f ∷ gs) → (seen later following : List ℕ) (reason : Reason) → seen ++ later ≡ frame_bytes f ++ following → Evidence role limits (unfinished fs) reason seen → ⊥
+  lawful_frame_shows_nothing fs f gs lawful seen later following reason e evidence =
       let law = law_at_split role limits fs f gs lawful in
-      let l = layout_of_frame f law.frame.spelled.spellable in
-      let row = evidence_is_row role limits (unfinished fs) reason (frame_bytes f) behind seen later (layout_of_frame f law.frame.spelled.spellable) (e ∙ layout_then (frame_bytes f) behind (layout_of_frame f law.frame.spelled.spellable)) evidence in
+      let l = layout_of_frame f law.frame.encoded.encodable in
+      let row = evidence_is_row role limits (unfinished fs) reason (frame_bytes f) following seen later (layout_of_frame f law.frame.encoded.encodable) (e ∙ layout_then (frame_bytes f) following (layout_of_frame f law.frame.encoded.encodable)) evidence in
       lawful_shows_no_row role limits fs f law reason row.row
 
-  -- Lawful frames under the bytes, where no other goes on.
+  -- Lawful frames at the start of the bytes, which no other frame continues.
   pub record AreAll (bytes : List ℕ) (fs : List Frame) : Type 0 where
     pub lawful : IsLawful role limits fs
     pub rest : List ℕ
     pub whole : bytes ≡ stream fs ++ rest
-    pub last : (f : Frame) (gs : List Frame) (behind : List ℕ) → IsLawful role limits (fs ++ f ∷ gs) → rest ≡ frame_bytes f ++ behind → ⊥
+    pub last : (f : Frame) (gs : List Frame) (following : List ℕ) → IsLawful role limits (fs ++ f ∷ gs) → rest ≡ frame_bytes f ++ following → ⊥
 
   all_of_accepted : (bytes : List ℕ) (fs : List Frame) → IsAccepted role limits bytes fs → AreAll bytes fs
   all_of_accepted bytes fs a = by_end a.ends
@@ -57,13 +57,13 @@ module _ (role : Role) (limits : Limits) where
         lawful = a.lawful;
         rest = [];
         whole = p.2 ∙ sym (append-nil (stream fs));
-        last = λ f gs behind lawful e. nil-cons _ _ e;
+        last = λ f gs following lawful e. nil-cons _ _ e;
       }
       by_end (inr p) = record {
         lawful = a.lawful;
         rest = p.1.0;
         whole = p.1.1;
-        last = λ f gs behind lawful e. close_ends fs (no_close_before role limits fs f gs lawful) p.0;
+        last = λ f gs following lawful e. close_ends fs (no_close_before role limits fs f gs lawful) p.0;
       }
 
   all_of_cut : (bytes : List ℕ) (fs : List Frame) → IsCut role limits bytes fs → AreAll bytes fs
@@ -71,21 +71,21 @@ module _ (role : Role) (limits : Limits) where
     lawful = c.lawful;
     rest = c.rest;
     whole = c.whole;
-    last = λ f gs behind lawful e.
-        let spellable = (law_at_split role limits fs f gs lawful).frame.spelled.spellable in
+    last = λ f gs following lawful e.
+        let encodable = (law_at_split role limits fs f gs lawful).frame.encoded.encodable in
         let missing = c.within.0 in
-        let same : frame_bytes f ++ (behind ++ c.within.0) ≡ (c.rest ++ c.within.0) ++ [] =
-        sym (append_assoc (frame_bytes f) behind c.within.0) ∙ ap (λ (bs : List ℕ). bs ++ c.within.0) (sym e) ∙ sym (append-nil (c.rest ++ c.within.0)) in
-        let agree = layouts_agree (frame_bytes f) (c.rest ++ c.within.0) (behind ++ c.within.0) [] (layout_of_frame f spellable) c.within.2 same in
-        c.within.1 (nil-parts behind c.within.0 (sym agree.1)).1;
+        let same : frame_bytes f ++ (following ++ c.within.0) ≡ (c.rest ++ c.within.0) ++ [] =
+        sym (append_assoc (frame_bytes f) following c.within.0) ∙ ap (λ (bs : List ℕ). bs ++ c.within.0) (sym e) ∙ sym (append-nil (c.rest ++ c.within.0)) in
+        let agree = layouts_agree (frame_bytes f) (c.rest ++ c.within.0) (following ++ c.within.0) [] (layout_of_frame f encodable) c.within.2 same in
+        c.within.1 (nil-parts following c.within.0 (sym agree.1)).1;
   }
 
   all_of_refused : (bytes : List ℕ) (fs : List Frame) (place : ℕ) (reason : Reason) → IsRefused role limits bytes fs place reason → AreAll bytes fs
   all_of_refused bytes fs place reason r = record {
     lawful = r.lawful;
-    rest = r.shown.seen ++ r.shown.later;
-    whole = r.shown.whole;
-    last = λ f gs behind lawful e. lawful_frame_shows_nothing fs f gs lawful r.shown.seen r.shown.later behind reason e r.shown.evidence;
+    rest = r.is_evident.seen ++ r.is_evident.later;
+    whole = r.is_evident.whole;
+    last = λ f gs following lawful e. lawful_frame_shows_nothing fs f gs lawful r.is_evident.seen r.is_evident.later following reason e r.is_evident.evidence;
   }
 
   pub all_of_verdict : (bytes : List ℕ) (fs : List Frame) (v : Verdict) → IsVerdict role limits bytes fs v → AreAll bytes fs
@@ -95,17 +95,17 @@ module _ (role : Role) (limits : Limits) where
 
   -- ---- one list of frames
 
-  -- lawful frames under the bytes go on to those that are all
+  -- Lawful frames at the start of the bytes continue to the complete list.
   pub all_go_on : (bytes : List ℕ) (fs gs : List Frame) (r : List ℕ) → IsLawful role limits fs → bytes ≡ stream fs ++ r → AreAll bytes gs → (more : List Frame) × (gs ≡ fs ++ more)
   all_go_on bytes fs gs r lawful whole a =
       elim (walk fs gs r a.rest (spellable_of_lawful role limits fs lawful) (spellable_of_lawful role limits gs a.lawful) (sym whole ∙ a.whole)) [
         | inl p ↦ (p.0, p.1)
-        | inr p ↦ behind p.0 p.1 p.2
+        | inr p ↦ following p.0 p.1 p.2
       ]
     where
-      behind : (more : List Frame) → fs ≡ gs ++ more → a.rest ≡ stream more ++ r → (more : List Frame) × (gs ≡ fs ++ more)
-      behind [] is rests = ([], sym (append-nil gs) ∙ sym is ∙ sym (append-nil fs))
-      behind (f ∷ more) is rests = absurd (a.last f more (stream more ++ r) (subst (IsLawful role limits) is lawful) (rests ∙ append_assoc (frame_bytes f) (stream more) r))
+      following : (more : List Frame) → fs ≡ gs ++ more → a.rest ≡ stream more ++ r → (more : List Frame) × (gs ≡ fs ++ more)
+      following [] is rests = ([], sym (append-nil gs) ∙ sym is ∙ sym (append-nil fs))
+      following (f ∷ more) is rests = absurd (a.last f more (stream more ++ r) (subst (IsLawful role limits) is lawful) (rests ∙ append_assoc (frame_bytes f) (stream more) r))
 
   pub same_frames : (bytes : List ℕ) (fs gs : List Frame) → AreAll bytes fs → AreAll bytes gs → fs ≡ gs
   same_frames bytes fs gs a b =
@@ -132,16 +132,16 @@ module _ (role : Role) (limits : Limits) where
       where
         by_end : Ends fs bytes → ⊥
         by_end (inl p) =
-            let none : r.shown.seen ++ r.shown.later ≡ [] = append_cancel (stream fs) (r.shown.seen ++ r.shown.later) [] (sym r.shown.whole ∙ p.2 ∙ sym (append-nil (stream fs))) in
-            let seen_none : r.shown.seen ≡ [] = (nil-parts r.shown.seen r.shown.later (sym none)).0 in
-            let some = evidence_is_some role limits (unfinished fs) reason r.shown.seen r.shown.evidence in
-            let count : length r.shown.seen ≡ 0 = ap (λ (bs : List ℕ). length bs) seen_none in
+            let none : r.is_evident.seen ++ r.is_evident.later ≡ [] = append_cancel (stream fs) (r.is_evident.seen ++ r.is_evident.later) [] (sym r.is_evident.whole ∙ p.2 ∙ sym (append-nil (stream fs))) in
+            let seen_none : r.is_evident.seen ≡ [] = (nil-parts r.is_evident.seen r.is_evident.later (sym none)).0 in
+            let some = evidence_is_some role limits (unfinished fs) reason r.is_evident.seen r.is_evident.evidence in
+            let count : length r.is_evident.seen ≡ 0 = ap (λ (bs : List ℕ). length bs) seen_none in
             omega arith
         by_end (inr p) = close_ends fs r.no_close p.0
 
     one_refusal : (r s : Refusal) → IsRefused role limits bytes fs r.place r.reason → IsRefused role limits bytes fs s.place s.reason → r ≡ s
     one_refusal r s is_r is_s =
-        let pair = first_of_both (is_r.least s.place s.reason is_s.shown) (is_s.least r.place r.reason is_r.shown) in
+        let pair = first_of_both (is_r.least s.place s.reason is_s.is_evident) (is_s.least r.place r.reason is_r.is_evident) in
         λ i. record { place = pair.0 i; reason = same_number r.reason s.reason pair.1 i }
       where
         first_of_both : ComesFirst r.place r.reason s.place s.reason → ComesFirst s.place s.reason r.place r.reason → (r.place ≡ s.place) × (number_of r.reason ≡ number_of s.reason)
@@ -156,9 +156,9 @@ module _ (role : Role) (limits : Limits) where
     same_verdict (Accepted s) (Refused r) is also = absurd (accepted_not_refused r.place r.reason is.0 also)
     same_verdict (Cut s) (Accepted t) is also = absurd (accepted_not_cut also.0 is.0)
     same_verdict (Cut s) (Cut t) is also = ap Cut (is.1 ∙ sym also.1)
-    same_verdict (Cut s) (Refused r) is also = absurd (is.0.unshown r.place r.reason also.shown)
+    same_verdict (Cut s) (Refused r) is also = absurd (is.0.has_no_evidence r.place r.reason also.is_evident)
     same_verdict (Refused r) (Accepted t) is also = absurd (accepted_not_refused r.place r.reason also.0 is)
-    same_verdict (Refused r) (Cut t) is also = absurd (also.0.unshown r.place r.reason is.shown)
+    same_verdict (Refused r) (Cut t) is also = absurd (also.0.has_no_evidence r.place r.reason is.is_evident)
     same_verdict (Refused r) (Refused s) is also = ap Refused (one_refusal r s is also)
 
   pub one_verdict : (bytes : List ℕ) (fs gs : List Frame) (v w : Verdict) → IsVerdict role limits bytes fs v → IsVerdict role limits bytes gs w → (fs ≡ gs) × (v ≡ w)
@@ -169,7 +169,7 @@ module _ (role : Role) (limits : Limits) where
   -- ---- a longer input
 
   pub longer_goes_on : (bytes more : List ℕ) (fs gs : List Frame) (v w : Verdict) → IsVerdict role limits bytes fs v → IsVerdict role limits (bytes ++ more) gs w →
-      (extra : List Frame) × (gs ≡ fs ++ extra) × (meaning gs ≡ meaning fs ++ events_behind fs extra)
+      (extra : List Frame) × (gs ≡ fs ++ extra) × (meaning gs ≡ meaning fs ++ events_after fs extra)
   longer_goes_on bytes more fs gs v w is also =
       let a = all_of_verdict bytes fs v is in
       let b = all_of_verdict (bytes ++ more) gs w also in
@@ -186,5 +186,5 @@ module _ (role : Role) (limits : Limits) where
         lawful = lawful;
         rest = [];
         whole = whole ∙ sym (append-nil (stream hs));
-        last = λ f gs behind more e. nil-cons _ _ e;
+        last = λ f gs following more e. nil-cons _ _ e;
       }

@@ -1,4 +1,4 @@
--- Lemmas on plans: which fit, what they are recut to, and what is wrong with one that doesn't fit.
+-- Lemmas on plans: which plans fit, what recuts by them are, and the fault of a plan that doesn't fit.
 pub mod FromTheFront
 pub mod Context
 pub mod PiecesInARow
@@ -19,7 +19,7 @@ pub mod UniformFaults
 pub mod UniformOfFrames
 pub mod FramesOfUniform
 pub mod ControlsFromTheFront
-pub mod UniformWoven
+pub mod UniformInterleaved
 pub mod ComputedFaults
 pub mod RecutGoesOn
 pub mod ComputedRecuts

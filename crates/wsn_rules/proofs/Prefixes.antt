@@ -1,4 +1,4 @@
--- Lists that begin one list, and the places where a list is split.
+-- Lists that begin the same list, and where a list is split.
 use Rattle.std.proofs.Common.{◌≡◌, List, [], ◌∷◌, ◌++◌, ◌⊎◌, length, refl, sym, ap, inl, inr, arith, append_assoc}
 
 module _ {A : Type 0} where
@@ -22,7 +22,7 @@ module _ {A : Type 0} where
   pub cons_same : (x y : A) (xs ys : List A) → x ≡ y → xs ≡ ys → x ∷ xs ≡ y ∷ ys
   cons_same x y xs ys e f = cc
 
-  -- the one front is longer than the other, or as long
+  -- The list ys continues xs.
   abbrev pub GoesOn : List A → List A → List A → List A → Type 0
   GoesOn xs r ys s = (more : List A) × (ys ≡ xs ++ more) × (r ≡ more ++ s)
 
@@ -48,7 +48,7 @@ module _ {A : Type 0} where
   pub append_cancel : (xs r s : List A) → xs ++ r ≡ xs ++ s → r ≡ s
   append_cancel xs r s e = (same_front xs xs r s refl e).1
 
-  -- a list with one more at its end, split at an element: it's the last, or stands before it
+  -- A list with one more element, split at an element: it is the last, or comes before it.
   abbrev pub SplitPush : List A → A → List A → A → List A → Type 0
   SplitPush xs x before y after =
       ((before ≡ xs) × (y ≡ x) × (after ≡ [])) ⊎ ((between : List A) × (xs ≡ before ++ y ∷ between) × (after ≡ between ++ x ∷ []))
@@ -66,7 +66,7 @@ module _ {A : Type 0} where
         | inr p ↦ inr (p.0, cons_same w b xs (before ++ y ∷ p.0) heads p.1, p.2)
       ]
 
-  -- a list is empty or has a last element
+  -- A list is empty or has a last element.
   abbrev pub HasLast : List A → Type 0
   HasLast xs = (front : List A) × (last : A) × (xs ≡ front ++ last ∷ [])
 

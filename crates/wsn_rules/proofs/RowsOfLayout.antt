@@ -1,18 +1,18 @@
--- The rows that a whole layout shows, and the fronts of it that are their evidence.
+-- The rows that hold for a complete layout, and the prefixes of it that are their evidence.
 use Rattle.std.proofs.Common.{◌≡◌, ℕ, zero, suc, ◌+◌, ◌≤◌, Bool, true, false, List, [], ◌∷◌, ◌++◌, length, take, drop, refl, sym, ap, ◌∙◌, subst, inl, inr, append_assoc, append-nil, arith, if◌then◌else◌}
 use Rattle.std.proofs.lemmas.List.{take-append-drop, length-append, length-take-le, take_at, take_all}
 use Rattle.wsn_wire.specs.declared.endpoint.Role.{Role}
 use Rattle.wsn_wire.specs.declared.refusal.Reason.{Reason}
 use Rattle.wsn_wire.specs.Frame.{Frame, masked}
-use Rattle.wsn_wire.specs.Layout.{HasLayout, mask_bit, len_form_at, length_count, length_told, key_count}
-use Rattle.wsn_wire.specs.Rows.{ShownBySecond}
+use Rattle.wsn_wire.specs.Layout.{HasLayout, mask_bit, len_form_at, length_count, encoded_length, key_count}
+use Rattle.wsn_wire.specs.Rows.{EvidentInSecond}
 use Rattle.wsn_wire.proofs.MaskLemmas.{length-masked}
 use Rattle.wsn_rules.specs.Limits.{Limits}
 use Rattle.wsn_rules.specs.Evidence.{Evidence, EvidentByFirst, EvidentByLength, EvidentByPayload, unmasked}
 use Rattle.wsn_rules.specs.Evidence.Evidence.{ByFirst, BySecond, ByLength, ByPayload}
 use Rattle.wsn_rules.proofs.Prefixes.{head_same, tail_same, same_front, two_fronts, cons_same}
 
--- ---- unmasking the front of a payload
+-- ---- unmasking a prefix of a payload
 
 masked-take : (key : List ℕ) (start n : ℕ) (bytes : List ℕ) → masked key start (take n bytes) ≡ take n (masked key start bytes)
 masked-take key start zero bytes = refl
@@ -35,23 +35,23 @@ length-unmasked second key wire = either (mask_bit second)
 
 -- ---- the rows of a layout
 
--- what a layout's payload is after unmasking
-abbrev pub payload_of : {bytes : List ℕ} → HasLayout bytes → List ℕ
-payload_of l = unmasked l.second l.key l.payload
+-- The payload of a layout, unmasked.
+abbrev pub payload_in : {bytes : List ℕ} → HasLayout bytes → List ℕ
+payload_in l = unmasked l.second l.key l.payload
 
-abbrev pub told_by : {bytes : List ℕ} → HasLayout bytes → ℕ
-told_by l = length_told (len_form_at l.second) l.len
+abbrev pub reported_by : {bytes : List ℕ} → HasLayout bytes → ℕ
+reported_by l = encoded_length (len_form_at l.second) l.len
 
--- A part of the layout shows the reason: the first byte, the second, the length bytes, or the payload's first n.
+-- A row holds for a part of the layout: the first byte, the second, the length bytes, or the first n of the payload.
 pub data RowAt (role : Role) (limits : Limits) (group : List Frame) (reason : Reason) {bytes : List ℕ} (l : HasLayout bytes) : Type 0 where
   FirstShows : EvidentByFirst limits group reason l.first → RowAt role limits group reason l
-  SecondShows : ShownBySecond role reason l.first l.second → RowAt role limits group reason l
+  SecondShows : EvidentInSecond role reason l.first l.second → RowAt role limits group reason l
   LengthShows : EvidentByLength limits group reason l.first l.second l.len → RowAt role limits group reason l
-  PayloadShows : (n : ℕ) → n ≤ length l.payload → EvidentByPayload group reason l.first (told_by l) (take n (payload_of l)) → RowAt role limits group reason l
+  PayloadShows : (n : ℕ) → n ≤ length l.payload → EvidentByPayload group reason l.first (reported_by l) (take n (payload_in l)) → RowAt role limits group reason l
 
--- ---- the evidence of a row
+-- ---- the evidence for a row
 
--- A front of the bytes is evidence.
+-- A prefix of the bytes is evidence.
 pub record FrontShows (role : Role) (limits : Limits) (group : List Frame) (reason : Reason) (bytes : List ℕ) : Type 0 where
   pub seen : List ℕ
   pub later : List ℕ
@@ -84,9 +84,9 @@ row_has_evidence role limits group reason bytes l (PayloadShows n le row) =
     ap (λ (bs : List ℕ). l.key ++ bs) (sym (take-append-drop n l.payload)) ∙ sym (append_assoc l.key (take n l.payload) (drop n l.payload)) in
     let whole : l.len ++ (l.key ++ l.payload) ≡ (l.len ++ (l.key ++ take n l.payload)) ++ drop n l.payload =
     ap (λ (bs : List ℕ). l.len ++ bs) parted ∙ sym (append_assoc l.len (l.key ++ take n l.payload) (drop n l.payload)) in
-    let short : length (take n l.payload) ≤ told_by l =
+    let short : length (take n l.payload) ≤ reported_by l =
     let count : length (take n l.payload) ≡ n = length-take-le n l.payload le in
-    let all : length l.payload ≡ told_by l = l.payload_count in
+    let all : length l.payload ≡ reported_by l = l.payload_count in
     omega arith in
     record {
       seen = l.first ∷ l.second ∷ (l.len ++ (l.key ++ take n l.payload));
@@ -94,10 +94,10 @@ row_has_evidence role limits group reason bytes l (PayloadShows n le row) =
       whole = l.whole ∙ ap (λ (bs : List ℕ). l.first ∷ l.second ∷ bs) whole;
       evidence = ByPayload
           (record { first = l.first; second = l.second; len = l.len; key = l.key; wire = take n l.payload; whole = refl; len_count = l.len_count; key_counted = l.key_counted; within = short })
-          (subst (λ (p : List ℕ). EvidentByPayload group reason l.first (told_by l) p) (sym (unmasked-take l.second l.key n l.payload)) row);
+          (subst (λ (p : List ℕ). EvidentByPayload group reason l.first (reported_by l) p) (sym (unmasked-take l.second l.key n l.payload)) row);
     }
 
--- ---- evidence at the front of a layout is one of its rows, and is no longer than the layout
+-- ---- evidence at the start of a layout is one of its rows, and is no longer than the layout
 
 pub record IsRowOf (role : Role) (limits : Limits) (group : List Frame) (reason : Reason) {bytes : List ℕ} (l : HasLayout bytes) (seen : List ℕ) : Type 0 where
   pub row : RowAt role limits group reason l
@@ -110,10 +110,10 @@ length_of_layout bytes l =
     let inner = length-append l.key l.payload in
     omega arith
 
-pub evidence_is_row : (role : Role) (limits : Limits) (group : List Frame) (reason : Reason) (bytes behind seen later : List ℕ) (l : HasLayout bytes) →
-    seen ++ later ≡ l.first ∷ l.second ∷ (l.len ++ (l.key ++ (l.payload ++ behind))) → Evidence role limits group reason seen → IsRowOf role limits group reason l seen
-evidence_is_row role limits group reason bytes behind seen later l e (ByFirst first is row) =
-    let rest = l.second ∷ (l.len ++ (l.key ++ (l.payload ++ behind))) in
+pub evidence_is_row : (role : Role) (limits : Limits) (group : List Frame) (reason : Reason) (bytes following seen later : List ℕ) (l : HasLayout bytes) →
+    seen ++ later ≡ l.first ∷ l.second ∷ (l.len ++ (l.key ++ (l.payload ++ following))) → Evidence role limits group reason seen → IsRowOf role limits group reason l seen
+evidence_is_row role limits group reason bytes following seen later l e (ByFirst first is row) =
+    let rest = l.second ∷ (l.len ++ (l.key ++ (l.payload ++ following))) in
     let same : first ∷ later ≡ l.first ∷ rest = ap (λ (bs : List ℕ). bs ++ later) (sym is) ∙ e in
     let whole = length_of_layout bytes l in
     let count : length seen ≡ 1 = ap (λ (bs : List ℕ). length bs) is in
@@ -121,25 +121,25 @@ evidence_is_row role limits group reason bytes behind seen later l e (ByFirst fi
       row = FirstShows (subst (λ (b : ℕ). EvidentByFirst limits group reason b) (head_same first l.first later rest same) row);
       short = omega arith;
     }
-evidence_is_row role limits group reason bytes behind seen later l e (BySecond first second is row) =
-    let rest = l.len ++ (l.key ++ (l.payload ++ behind)) in
+evidence_is_row role limits group reason bytes following seen later l e (BySecond first second is row) =
+    let rest = l.len ++ (l.key ++ (l.payload ++ following)) in
     let same : first ∷ second ∷ later ≡ l.first ∷ l.second ∷ rest = ap (λ (bs : List ℕ). bs ++ later) (sym is) ∙ e in
     let firsts = head_same first l.first (second ∷ later) (l.second ∷ rest) same in
     let seconds = head_same second l.second later rest (tail_same first l.first (second ∷ later) (l.second ∷ rest) same) in
     let whole = length_of_layout bytes l in
     let count : length seen ≡ 2 = ap (λ (bs : List ℕ). length bs) is in
     record {
-      row = SecondShows (subst (λ (b : ℕ). ShownBySecond role reason b l.second) firsts (subst (λ (b : ℕ). ShownBySecond role reason first b) seconds row));
+      row = SecondShows (subst (λ (b : ℕ). EvidentInSecond role reason b l.second) firsts (subst (λ (b : ℕ). EvidentInSecond role reason first b) seconds row));
       short = omega arith;
     }
-evidence_is_row role limits group reason bytes behind seen later l e (ByLength first second len is len_count row) =
-    let rest = l.len ++ (l.key ++ (l.payload ++ behind)) in
+evidence_is_row role limits group reason bytes following seen later l e (ByLength first second len is len_count row) =
+    let rest = l.len ++ (l.key ++ (l.payload ++ following)) in
     let same : first ∷ second ∷ (len ++ later) ≡ l.first ∷ l.second ∷ rest = ap (λ (bs : List ℕ). bs ++ later) (sym is) ∙ e in
     let firsts = head_same first l.first (second ∷ (len ++ later)) (l.second ∷ rest) same in
     let tails = tail_same first l.first (second ∷ (len ++ later)) (l.second ∷ rest) same in
     let seconds = head_same second l.second (len ++ later) rest tails in
     let counts : length len ≡ length l.len = len_count ∙ ap (λ (b : ℕ). length_count (len_form_at b)) seconds ∙ sym l.len_count in
-    let lens = same_front len l.len later (l.key ++ (l.payload ++ behind)) counts (tail_same second l.second (len ++ later) rest tails) in
+    let lens = same_front len l.len later (l.key ++ (l.payload ++ following)) counts (tail_same second l.second (len ++ later) rest tails) in
     let whole = length_of_layout bytes l in
     let count : length seen ≡ 2 + length len = ap (λ (bs : List ℕ). length bs) is ∙ two_more len in
     record {
@@ -149,8 +149,8 @@ evidence_is_row role limits group reason bytes behind seen later l e (ByLength f
   where
     two_more : (bs : List ℕ) → suc (suc (length bs)) ≡ 2 + length bs
     two_more bs = omega arith
-evidence_is_row role limits group reason bytes behind seen later l e (ByPayload p row) =
-    let rest = l.len ++ (l.key ++ (l.payload ++ behind)) in
+evidence_is_row role limits group reason bytes following seen later l e (ByPayload p row) =
+    let rest = l.len ++ (l.key ++ (l.payload ++ following)) in
     let moved : seen ++ later ≡ p.first ∷ p.second ∷ (p.len ++ (p.key ++ (p.wire ++ later))) =
     ap (λ (bs : List ℕ). bs ++ later) p.whole
     ∙ ap (λ (bs : List ℕ). p.first ∷ p.second ∷ bs) (append_assoc p.len (p.key ++ p.wire) later ∙ ap (λ (bs : List ℕ). p.len ++ bs) (append_assoc p.key p.wire later)) in
@@ -160,29 +160,29 @@ evidence_is_row role limits group reason bytes behind seen later l e (ByPayload 
     let tails = tail_same p.first l.first (p.second ∷ mine) (l.second ∷ rest) same in
     let seconds = head_same p.second l.second mine rest tails in
     let len_counts : length p.len ≡ length l.len = p.len_count ∙ ap (λ (b : ℕ). length_count (len_form_at b)) seconds ∙ sym l.len_count in
-    let lens = same_front p.len l.len (p.key ++ (p.wire ++ later)) (l.key ++ (l.payload ++ behind)) len_counts (tail_same p.second l.second mine rest tails) in
+    let lens = same_front p.len l.len (p.key ++ (p.wire ++ later)) (l.key ++ (l.payload ++ following)) len_counts (tail_same p.second l.second mine rest tails) in
     let key_counts : length p.key ≡ length l.key = p.key_counted ∙ ap key_count seconds ∙ sym l.key_counted in
-    let keys = same_front p.key l.key (p.wire ++ later) (l.payload ++ behind) key_counts lens.1 in
-    let tolds : length_told (len_form_at p.second) p.len ≡ told_by l =
-    ap (λ (b : ℕ). length_told (len_form_at b) p.len) seconds ∙ ap (λ (bs : List ℕ). length_told (len_form_at l.second) bs) lens.0 in
+    let keys = same_front p.key l.key (p.wire ++ later) (l.payload ++ following) key_counts lens.1 in
+    let tolds : encoded_length (len_form_at p.second) p.len ≡ reported_by l =
+    ap (λ (b : ℕ). encoded_length (len_form_at b) p.len) seconds ∙ ap (λ (bs : List ℕ). encoded_length (len_form_at l.second) bs) lens.0 in
     let fits : length p.wire ≤ length l.payload =
-    let told : length p.wire ≤ length_told (len_form_at p.second) p.len = p.within in
-    let all : length l.payload ≡ told_by l = l.payload_count in
+    let decoded : length p.wire ≤ encoded_length (len_form_at p.second) p.len = p.within in
+    let all : length l.payload ≡ reported_by l = l.payload_count in
     omega arith in
-    let wire_is : p.wire ≡ take (length p.wire) l.payload = front_of p.wire l.payload later behind fits keys.1 in
-    let shown : EvidentByPayload group reason l.first (told_by l) (unmasked l.second l.key p.wire) =
-    subst (λ (b : ℕ). EvidentByPayload group reason b (told_by l) (unmasked l.second l.key p.wire)) firsts
+    let wire_is : p.wire ≡ take (length p.wire) l.payload = front_of p.wire l.payload later following fits keys.1 in
+    let is_evident : EvidentByPayload group reason l.first (reported_by l) (unmasked l.second l.key p.wire) =
+    subst (λ (b : ℕ). EvidentByPayload group reason b (reported_by l) (unmasked l.second l.key p.wire)) firsts
     (subst (λ (n : ℕ). EvidentByPayload group reason p.first n (unmasked l.second l.key p.wire)) tolds
-    (subst (λ (b : ℕ). EvidentByPayload group reason p.first (length_told (len_form_at p.second) p.len) (unmasked b l.key p.wire)) seconds
-    (subst (λ (bs : List ℕ). EvidentByPayload group reason p.first (length_told (len_form_at p.second) p.len) (unmasked p.second bs p.wire)) keys.0 row))) in
-    let unmasked_is : unmasked l.second l.key p.wire ≡ take (length p.wire) (payload_of l) =
+    (subst (λ (b : ℕ). EvidentByPayload group reason p.first (encoded_length (len_form_at p.second) p.len) (unmasked b l.key p.wire)) seconds
+    (subst (λ (bs : List ℕ). EvidentByPayload group reason p.first (encoded_length (len_form_at p.second) p.len) (unmasked p.second bs p.wire)) keys.0 row))) in
+    let unmasked_is : unmasked l.second l.key p.wire ≡ take (length p.wire) (payload_in l) =
     ap (λ (bs : List ℕ). unmasked l.second l.key bs) wire_is ∙ unmasked-take l.second l.key (length p.wire) l.payload in
     let whole = length_of_layout bytes l in
     let count : length seen ≡ 2 + (length p.len + (length p.key + length p.wire)) = ap (λ (bs : List ℕ). length bs) p.whole ∙ three_more p.len p.key p.wire in
     let of_len : length p.len ≡ length l.len = len_counts in
     let of_key : length p.key ≡ length l.key = key_counts in
     record {
-      row = PayloadShows (length p.wire) fits (subst (λ (bs : List ℕ). EvidentByPayload group reason l.first (told_by l) bs) unmasked_is shown);
+      row = PayloadShows (length p.wire) fits (subst (λ (bs : List ℕ). EvidentByPayload group reason l.first (reported_by l) bs) unmasked_is is_evident);
       short = omega arith;
     }
   where

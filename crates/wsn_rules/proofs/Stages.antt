@@ -1,11 +1,11 @@
--- What bytes can be evidence of, by how far they go into a frame.
+-- The evidence that bytes can be, by how far they go into a frame.
 use Rattle.std.proofs.Common.{◌≡◌, ℕ, ◌+◌, ◌<◌, List, [], ◌∷◌, ◌++◌, ◌⊎◌, length, sym, ap, ◌∙◌, subst, inl, inr, arith}
 use Rattle.std.proofs.lemmas.List.{length-append}
 use Rattle.wsn_wire.specs.declared.endpoint.Role.{Role}
 use Rattle.wsn_wire.specs.declared.refusal.Reason.{Reason}
 use Rattle.wsn_wire.specs.Frame.{Frame}
-use Rattle.wsn_wire.specs.Layout.{len_form_at, length_count, length_told, key_count}
-use Rattle.wsn_wire.specs.Rows.{ShownBySecond}
+use Rattle.wsn_wire.specs.Layout.{len_form_at, length_count, encoded_length, key_count}
+use Rattle.wsn_wire.specs.Rows.{EvidentInSecond}
 use Rattle.wsn_rules.specs.Limits.{Limits}
 use Rattle.wsn_rules.specs.Evidence.{Evidence, EvidentByFirst, EvidentByLength, EvidentByPayload, unmasked}
 use Rattle.wsn_rules.specs.Evidence.Evidence.{ByFirst, BySecond, ByLength, ByPayload}
@@ -18,7 +18,7 @@ module _ (role : Role) (limits : Limits) (group : List Frame) (reason : Reason) 
   no_bytes (ByLength first second len is count row) = nil-cons first (second ∷ len) is
   no_bytes (ByPayload p row) = nil-cons p.first (p.second ∷ (p.len ++ (p.key ++ p.wire))) p.whole
 
-  -- the first byte
+  -- The first byte.
   pub first_byte_shows : (first : ℕ) → Evidence role limits group reason (first ∷ []) → EvidentByFirst limits group reason first
   first_byte_shows first (ByFirst b is row) = subst (λ (n : ℕ). EvidentByFirst limits group reason n) (sym (head_same first b [] [] is)) row
   first_byte_shows first (BySecond b c is row) = absurd (nil-cons c [] (tail_same first b [] (c ∷ []) is))
@@ -26,111 +26,111 @@ module _ (role : Role) (limits : Limits) (group : List Frame) (reason : Reason) 
   first_byte_shows first (ByPayload p row) =
       absurd (nil-cons p.second (p.len ++ (p.key ++ p.wire)) (tail_same first p.first [] (p.second ∷ (p.len ++ (p.key ++ p.wire))) p.whole))
 
-  -- What stands behind the second byte, where the head is whole.
-  pub record PayloadBehind (first second : ℕ) (behind : List ℕ) : Type 0 where
+  -- The bytes after the second byte, if the head is complete.
+  pub record PayloadBehind (first second : ℕ) (following : List ℕ) : Type 0 where
     pub len : List ℕ
     pub key : List ℕ
     pub wire : List ℕ
-    pub whole : behind ≡ len ++ (key ++ wire)
+    pub whole : following ≡ len ++ (key ++ wire)
     pub len_count : length len ≡ length_count (len_form_at second)
     pub key_counted : length key ≡ key_count second
-    pub row : EvidentByPayload group reason first (length_told (len_form_at second) len) (unmasked second key wire)
+    pub row : EvidentByPayload group reason first (encoded_length (len_form_at second) len) (unmasked second key wire)
 
-  -- two bytes and more: the second byte, the last of the length, or the payload so far
+  -- Two bytes or more: the second byte, the last length byte, or the payload so far.
   abbrev pub ShownBehind : ℕ → ℕ → List ℕ → Type 0
-  ShownBehind first second behind =
-      ((behind ≡ []) × ShownBySecond role reason first second)
-      ⊎ (((length behind ≡ length_count (len_form_at second)) × EvidentByLength limits group reason first second behind)
-      ⊎ PayloadBehind first second behind)
+  ShownBehind first second following =
+      ((following ≡ []) × EvidentInSecond role reason first second)
+      ⊎ (((length following ≡ length_count (len_form_at second)) × EvidentByLength limits group reason first second following)
+      ⊎ PayloadBehind first second following)
 
-  pub shown_behind : (first second : ℕ) (behind : List ℕ) → Evidence role limits group reason (first ∷ second ∷ behind) → ShownBehind first second behind
-  shown_behind first second behind (ByFirst b is row) = absurd (nil-cons second behind (sym (tail_same first b (second ∷ behind) [] is)))
-  shown_behind first second behind (BySecond b c is row) =
-      let tails = tail_same first b (second ∷ behind) (c ∷ []) is in
-      inl (tail_same second c behind [] tails, subst (λ (n : ℕ). ShownBySecond role reason n second) (sym (head_same first b (second ∷ behind) (c ∷ []) is)) (subst (λ (n : ℕ). ShownBySecond role reason b n) (sym (head_same second c behind [] tails)) row))
-  shown_behind first second behind (ByLength b c len is count row) =
-      let tails = tail_same first b (second ∷ behind) (c ∷ len) is in
-      let seconds = head_same second c behind len tails in
-      let lens = tail_same second c behind len tails in
+  pub evident_after : (first second : ℕ) (following : List ℕ) → Evidence role limits group reason (first ∷ second ∷ following) → ShownBehind first second following
+  evident_after first second following (ByFirst b is row) = absurd (nil-cons second following (sym (tail_same first b (second ∷ following) [] is)))
+  evident_after first second following (BySecond b c is row) =
+      let tails = tail_same first b (second ∷ following) (c ∷ []) is in
+      inl (tail_same second c following [] tails, subst (λ (n : ℕ). EvidentInSecond role reason n second) (sym (head_same first b (second ∷ following) (c ∷ []) is)) (subst (λ (n : ℕ). EvidentInSecond role reason b n) (sym (head_same second c following [] tails)) row))
+  evident_after first second following (ByLength b c len is count row) =
+      let tails = tail_same first b (second ∷ following) (c ∷ len) is in
+      let seconds = head_same second c following len tails in
+      let lens = tail_same second c following len tails in
       inr (inl (
         ap (λ (bs : List ℕ). length bs) lens ∙ count ∙ ap (λ (n : ℕ). length_count (len_form_at n)) (sym seconds),
-        subst (λ (n : ℕ). EvidentByLength limits group reason n second behind) (sym (head_same first b (second ∷ behind) (c ∷ len) is))
-            (subst (λ (n : ℕ). EvidentByLength limits group reason b n behind) (sym seconds)
+        subst (λ (n : ℕ). EvidentByLength limits group reason n second following) (sym (head_same first b (second ∷ following) (c ∷ len) is))
+            (subst (λ (n : ℕ). EvidentByLength limits group reason b n following) (sym seconds)
             (subst (λ (bs : List ℕ). EvidentByLength limits group reason b c bs) (sym lens) row)),
       ))
-  shown_behind first second behind (ByPayload p row) =
+  evident_after first second following (ByPayload p row) =
       let theirs = p.len ++ (p.key ++ p.wire) in
-      let tails = tail_same first p.first (second ∷ behind) (p.second ∷ theirs) p.whole in
-      let seconds = head_same second p.second behind theirs tails in
+      let tails = tail_same first p.first (second ∷ following) (p.second ∷ theirs) p.whole in
+      let seconds = head_same second p.second following theirs tails in
       inr (inr (record {
         len = p.len;
         key = p.key;
         wire = p.wire;
-        whole = tail_same second p.second behind theirs tails;
+        whole = tail_same second p.second following theirs tails;
         len_count = p.len_count ∙ ap (λ (n : ℕ). length_count (len_form_at n)) (sym seconds);
         key_counted = p.key_counted ∙ ap key_count (sym seconds);
         row =
-            subst (λ (n : ℕ). EvidentByPayload group reason n (length_told (len_form_at second) p.len) (unmasked second p.key p.wire)) (sym (head_same first p.first (second ∷ behind) (p.second ∷ theirs) p.whole))
-            (subst (λ (n : ℕ). EvidentByPayload group reason p.first (length_told (len_form_at n) p.len) (unmasked n p.key p.wire)) (sym seconds) row);
+            subst (λ (n : ℕ). EvidentByPayload group reason n (encoded_length (len_form_at second) p.len) (unmasked second p.key p.wire)) (sym (head_same first p.first (second ∷ following) (p.second ∷ theirs) p.whole))
+            (subst (λ (n : ℕ). EvidentByPayload group reason p.first (encoded_length (len_form_at n) p.len) (unmasked n p.key p.wire)) (sym seconds) row);
       }))
 
-  length_behind : (first second : ℕ) (behind : List ℕ) (p : PayloadBehind first second behind) → length behind ≡ length_count (len_form_at second) + (key_count second + length p.wire)
-  length_behind first second behind p =
+  length_after : (first second : ℕ) (following : List ℕ) (p : PayloadBehind first second following) → length following ≡ length_count (len_form_at second) + (key_count second + length p.wire)
+  length_after first second following p =
       let all = ap (λ (bs : List ℕ). length bs) p.whole ∙ length-append p.len (p.key ++ p.wire) in
       let inner = length-append p.key p.wire in
       let lens : length p.len ≡ length_count (len_form_at second) = p.len_count in
       let keys : length p.key ≡ key_count second = p.key_counted in
       omega arith
 
-  -- nothing is shown between the second byte and the last of the length
+  -- No evidence ends between the second byte and the last length byte.
   pub within_length : (first second : ℕ) (part : List ℕ) → 0 < length part → length part < length_count (len_form_at second) → Evidence role limits group reason (first ∷ second ∷ part) → ⊥
   within_length first second part some short e =
-      elim (shown_behind first second part e) [
+      elim (evident_after first second part e) [
         | inl p ↦ omega (arith, ap (λ (bs : List ℕ). length bs) p.0)
         | inr q ↦ elim q [
           | inl p ↦ omega (arith, p.0)
-          | inr p ↦ omega (arith, length_behind first second part p)
+          | inr p ↦ omega (arith, length_after first second part p)
         ]
       ]
 
-  -- nor between the last byte of the length and the last of the key
+  -- No evidence ends between the last length byte and the last byte of the key.
   pub within_key : (first second : ℕ) (len part : List ℕ) → length len ≡ length_count (len_form_at second) → 0 < length part → length part < key_count second → Evidence role limits group reason (first ∷ second ∷ (len ++ part)) → ⊥
   within_key first second len part count some short e =
       let all = length-append len part in
-      elim (shown_behind first second (len ++ part) e) [
+      elim (evident_after first second (len ++ part) e) [
         | inl p ↦ omega (arith, ap (λ (bs : List ℕ). length bs) p.0)
         | inr q ↦ elim q [
           | inl p ↦ omega (arith, p.0)
-          | inr p ↦ omega (arith, length_behind first second (len ++ part) p)
+          | inr p ↦ omega (arith, length_after first second (len ++ part) p)
         ]
       ]
 
-  -- the last byte of the length, where it is not the second
+  -- The last length byte, if there are length bytes.
   pub last_length_byte_shows : (first second : ℕ) (len : List ℕ) → length len ≡ length_count (len_form_at second) → 0 < length len → 0 < key_count second → Evidence role limits group reason (first ∷ second ∷ len) → EvidentByLength limits group reason first second len
   last_length_byte_shows first second len count some keyed e =
-      elim (shown_behind first second len e) [
+      elim (evident_after first second len e) [
         | inl p ↦ absurd (omega (arith, ap (λ (bs : List ℕ). length bs) p.0))
         | inr q ↦ elim q [
           | inl p ↦ p.1
-          | inr p ↦ absurd (omega (arith, length_behind first second len p))
+          | inr p ↦ absurd (omega (arith, length_after first second len p))
         ]
       ]
 
-  -- behind the length: the payload so far alone
+  -- After the length, only the payload so far.
   pub payload_shows : (first second : ℕ) (len key wire : List ℕ) → length len ≡ length_count (len_form_at second) → length key ≡ key_count second → 0 < length key + length wire →
-      Evidence role limits group reason (first ∷ second ∷ (len ++ (key ++ wire))) → EvidentByPayload group reason first (length_told (len_form_at second) len) (unmasked second key wire)
+      Evidence role limits group reason (first ∷ second ∷ (len ++ (key ++ wire))) → EvidentByPayload group reason first (encoded_length (len_form_at second) len) (unmasked second key wire)
   payload_shows first second len key wire count keyed some e =
       let all = length-append len (key ++ wire) in
       let inner = length-append key wire in
-      elim (shown_behind first second (len ++ (key ++ wire)) e) [
+      elim (evident_after first second (len ++ (key ++ wire)) e) [
         | inl p ↦ absurd (omega (arith, ap (λ (bs : List ℕ). length bs) p.0))
         | inr q ↦ elim q [
           | inl p ↦ absurd (omega (arith, p.0))
           | inr p ↦
               let lens = same_front len p.len (key ++ wire) (p.key ++ p.wire) (count ∙ sym p.len_count) p.whole in
               let keys = same_front key p.key wire p.wire (keyed ∙ sym p.key_counted) lens.1 in
-              subst (λ (bs : List ℕ). EvidentByPayload group reason first (length_told (len_form_at second) bs) (unmasked second key wire)) (sym lens.0)
-              (subst (λ (bs : List ℕ). EvidentByPayload group reason first (length_told (len_form_at second) p.len) (unmasked second bs wire)) (sym keys.0)
-              (subst (λ (bs : List ℕ). EvidentByPayload group reason first (length_told (len_form_at second) p.len) (unmasked second p.key bs)) (sym keys.1) p.row))
+              subst (λ (bs : List ℕ). EvidentByPayload group reason first (encoded_length (len_form_at second) bs) (unmasked second key wire)) (sym lens.0)
+              (subst (λ (bs : List ℕ). EvidentByPayload group reason first (encoded_length (len_form_at second) p.len) (unmasked second bs wire)) (sym keys.0)
+              (subst (λ (bs : List ℕ). EvidentByPayload group reason first (encoded_length (len_form_at second) p.len) (unmasked second p.key bs)) (sym keys.1) p.row))
         ]
       ]

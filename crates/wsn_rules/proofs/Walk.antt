@@ -1,19 +1,19 @@
--- Two lists of lawful frames under one input: they are equal, or one goes on where the other ends.
+-- Two lists of lawful frames at the start of one input: they are equal, or one continues the other.
 use Rattle.std.proofs.Common.{◌≡◌, ℕ, List, [], ◌∷◌, ◌++◌, ◌⊎◌, refl, sym, ap, ◌∙◌, inl, inr, append_assoc}
 use Rattle.std.proofs.lemmas.List.Concat.{flat_map-append}
 use Rattle.wsn_wire.specs.declared.endpoint.Role.{Role}
-use Rattle.wsn_wire.specs.Frame.{Frame, frame_bytes, stream, IsSpellable}
+use Rattle.wsn_wire.specs.Frame.{Frame, frame_bytes, stream, IsEncodable}
 use Rattle.wsn_wire.proofs.FrameLemmas.{frame_bytes_determine}
 use Rattle.wsn_rules.specs.Limits.{Limits}
 use Rattle.wsn_rules.specs.Lawful.{IsLawful}
 use Rattle.wsn_rules.proofs.Prefixes.{cons_same}
 
--- Each frame is made of bytes.
+-- Each frame can be encoded.
 abbrev pub AreSpellable : List Frame → Type 0
-AreSpellable fs = (before after : List Frame) (f : Frame) → fs ≡ before ++ f ∷ after → IsSpellable f
+AreSpellable fs = (before after : List Frame) (f : Frame) → fs ≡ before ++ f ∷ after → IsEncodable f
 
 pub spellable_of_lawful : (role : Role) (limits : Limits) (fs : List Frame) → IsLawful role limits fs → AreSpellable fs
-spellable_of_lawful role limits fs lawful before after f e = (lawful.each before after f e).frame.spelled.spellable
+spellable_of_lawful role limits fs lawful before after f e = (lawful.each before after f e).frame.encoded.encodable
 
 spellable_tail : (f : Frame) (fs : List Frame) → AreSpellable (f ∷ fs) → AreSpellable fs
 spellable_tail f fs each before after g e = each (f ∷ before) after g (ap (λ (hs : List Frame). f ∷ hs) e)
@@ -28,7 +28,7 @@ stream_push fs f = stream-append fs (f ∷ []) ∙ ap (λ (bytes : List ℕ). st
     append-nil [] = refl
     append-nil (x ∷ xs) = ap (λ (ys : List ℕ). x ∷ ys) (append-nil xs)
 
--- gs goes on where fs ends, and r is what that and s are.
+-- gs continues fs, and r is the bytes of the continuation followed by s.
 abbrev pub GoesOnWith : List Frame → List ℕ → List Frame → List ℕ → Type 0
 GoesOnWith fs r gs s = (more : List Frame) × (gs ≡ fs ++ more) × (r ≡ stream more ++ s)
 

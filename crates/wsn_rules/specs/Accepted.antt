@@ -15,13 +15,13 @@ HasNoClose fs = (before after : List Frame) (f : Frame) → fs ≡ before ++ f �
 abbrev pub EndsWithClose : List Frame → Type 0
 EndsWithClose fs = (before : List Frame) × (close : Frame) × (close.op ≡ Close) × (fs ≡ before ++ close ∷ [])
 
--- Without a Close, no message is open and the frames are all of the bytes; with one, any tail may follow.
+-- Without a Close, no message is open and the bytes are just the frames; with a Close, any tail may follow.
 abbrev pub Ends : List Frame → List ℕ → Type 0
 Ends fs bytes =
     (HasNoClose fs × (unfinished fs ≡ []) × (bytes ≡ stream fs))
     ⊎ (EndsWithClose fs × ((tail : List ℕ) × (bytes ≡ stream fs ++ tail)))
 
--- The bytes are these frames, which are lawful, and the stream may end there.
+-- The bytes begin with these frames, which are lawful, and the stream may end there.
 pub record IsAccepted (role : Role) (limits : Limits) (bytes : List ℕ) (fs : List Frame) : Type 0 where
   pub lawful : IsLawful role limits fs
   pub ends : Ends fs bytes

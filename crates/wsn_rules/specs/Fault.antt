@@ -1,5 +1,4 @@
--- The one fault of a plan that doesn't fit: at the first step with which it doesn't begin to fit, for the first reason
--- of the table that holds there. The steps are counted from 0.
+-- The fault of a plan that doesn't fit: the first step, from 0, with which it doesn't begin to fit, and the reason.
 use Rattle.std.specs.Prelude.{◌≡◌, ℕ, ◌+◌, ◌-◌, ◌<◌, ◌≤◌, None, Some, List, [], ◌∷◌, ◌++◌, length, codes}
 use Rattle.wsn_wire.specs.declared.endpoint.Role.{Role}
 use Rattle.wsn_wire.specs.declared.opcode.Kind.{Kind}
@@ -14,6 +13,7 @@ use Rattle.wsn_rules.specs.Meaning as meant
 use Rattle.wsn_rules.specs.Plan.{pending, total, events_left, next_text}
 use Rattle.wsn_rules.specs.Fitting.{HasKeyOf, IsAllowedForm, BeginsToFit}
 
+-- The word that is printed for a reason.
 abbrev pub why_word : Why → List ℕ
 why_word KeyMismatch = codes "key-mismatch"
 why_word StepsLeft = codes "steps-left"
@@ -25,7 +25,7 @@ why_word NotAMessage = codes "not-a-message"
 why_word WrongForm = codes "wrong-form"
 why_word EventsLeft = codes "events-left"
 
--- the order of the reasons
+-- The reasons in order of precedence.
 abbrev pub order_of : Why → ℕ
 order_of KeyMismatch = 0
 order_of StepsLeft = 1
@@ -37,38 +37,42 @@ order_of NotAMessage = 6
 order_of WrongForm = 7
 order_of EventsLeft = 8
 
--- ---- the table: a step behind so many Pieces of the next message, which hold so many of its bytes, where these
--- events are left
+-- ---- the table of reasons: for a step after `count` Pieces of the next message, which contain `held` of its bytes,
+-- where the events `left` have no end yet
 
+-- The step is a Piece or a Last.
 abbrev pub IsOfMessage : Step → Type 0
 IsOfMessage (Control key) = ⊥
 IsOfMessage step = Unit {0}
 
+-- The first event is a message.
 abbrev pub BeginsWithMessage : List MeantEvent → Type 0
 BeginsWithMessage left =
     (kind : Kind) × (text : List ℕ) × (later : List MeantEvent) × (left ≡ meant.Message kind text ∷ later)
 
+-- The first event is a control.
 abbrev pub BeginsWithControl : List MeantEvent → Type 0
 BeginsWithControl left =
     (op : Op) × (body : List ℕ) × (later : List MeantEvent) × (left ≡ meant.Control op body ∷ later)
 
--- The piece is longer than what the Pieces leave of the next message.
+-- The piece is longer than the rest of the next message.
 abbrev pub IsTooLong : ℕ → List MeantEvent → Step → Type 0
 IsTooLong held left (Piece len key form) = (text : List ℕ) × (next_text left ≡ Some text) × (length text < held + len)
 IsTooLong held left step = ⊥
 
--- The message has all the Pieces that the limit on frames leaves it.
+-- The message already has all the Pieces that the limit on frames allows.
 abbrev pub IsOneTooMany : Limits → ℕ → Step → Type 0
 IsOneTooMany limits count (Piece len key form) = (most : ℕ) × (limits.frames ≡ Some most) × (most ≤ count + 1)
 IsOneTooMany limits count step = ⊥
 
--- The frame's length may not be spelled in the step's form.
+-- The length of the frame may not be encoded in the step's form.
 abbrev pub HasWrongForm : Limits → ℕ → List MeantEvent → Step → Type 0
 HasWrongForm limits held left (Piece len key form) = ¬ (IsAllowedForm limits.lengths form len)
 HasWrongForm limits held left (Last key form) =
     (text : List ℕ) × (next_text left ≡ Some text) × ¬ (IsAllowedForm limits.lengths form (length text - held))
 HasWrongForm limits held left (Control key) = ⊥
 
+-- The reason holds for the step.
 abbrev pub Holds : Role → Limits → ℕ → ℕ → List MeantEvent → Step → Why → Type 0
 Holds role limits count held left step KeyMismatch = ¬ (HasKeyOf role step)
 Holds role limits count held left step StepsLeft = left ≡ []
@@ -82,19 +86,19 @@ Holds role limits count held left step NotAMessage = ⊥
 Holds role limits count held left step WrongForm = HasWrongForm limits held left step
 Holds role limits count held left step EventsLeft = ⊥
 
--- the table for a step behind these steps
-abbrev pub HoldsBehind : Role → Limits → List Step → List MeantEvent → Step → Why → Type 0
-HoldsBehind role limits before events step why =
+-- The reason holds for a step after the steps `before`.
+abbrev pub HoldsAfter : Role → Limits → List Step → List MeantEvent → Step → Why → Type 0
+HoldsAfter role limits before events step why =
     Holds role limits (length (pending before)) (total (pending before)) (events_left events before) step why
 
--- Of the reasons that hold, the first.
+-- Of the reasons that hold, this one is the first.
 pub record IsFirstWhy (HoldsHere : Why → Type 0) (why : Why) : Type 0 where
   pub holds : HoldsHere why
   pub first : (other : Why) → HoldsHere other → order_of why ≤ order_of other
 
 -- ---- the fault
 
--- The longest part of the plan's front that begins to fit.
+-- The longest prefix of the plan that begins to fit, and the rest of the plan.
 pub record IsLongestFitting (role : Role) (limits : Limits) (plan : List Step) (events : List MeantEvent)
     (fitting rest : List Step) : Type 0 where
   pub whole : plan ≡ fitting ++ rest
@@ -102,11 +106,12 @@ pub record IsLongestFitting (role : Role) (limits : Limits) (plan : List Step) (
   pub longest : (others later : List Step) → plan ≡ others ++ later → BeginsToFit role limits others events
       → length others ≤ length fitting
 
--- What is wrong behind it: the next step, or that there is none and events are left.
+-- The reason after that prefix: it holds for the next step; or there is no next step, and events are left.
 abbrev pub IsWhy : Role → Limits → List MeantEvent → List Step → List Step → Why → Type 0
 IsWhy role limits events fitting [] why = (why ≡ EventsLeft) × ¬ (events_left events fitting ≡ [])
-IsWhy role limits events fitting (step ∷ rest) why = IsFirstWhy (HoldsBehind role limits fitting events step) why
+IsWhy role limits events fitting (step ∷ rest) why = IsFirstWhy (HoldsAfter role limits fitting events step) why
 
+-- The plan's fault is this step, for this reason.
 pub record IsFault (role : Role) (limits : Limits) (plan : List Step) (events : List MeantEvent)
     (step : ℕ) (why : Why) : Type 0 where
   pub fitting : List Step

@@ -7,32 +7,34 @@ use Rattle.wsn_wire.specs.declared.opcode.Kind.{Kind}
 use Rattle.wsn_wire.specs.declared.opcode.Kind.TheVariants as kind
 use Rattle.wsn_wire.specs.Frame.{Frame, is_control}
 
--- What stands behind the last element that passes: all, if none does.
+-- The elements after the last one that passes; all, if none passes.
 abbrev pub after_last : {A : Type 0} → (A → Bool) → List A → List A
 after_last passes [] = []
 after_last passes (x ∷ xs) = if list_any passes (x ∷ xs) then after_last passes xs else x ∷ xs
 
+-- The frame is a data frame.
 abbrev pub is_data : Frame → Bool
 is_data f = not (is_control f.op)
 
+-- The frame has FIN.
 abbrev pub is_final : Frame → Bool
 is_final f = f.fin
 
--- The data frames of the message that is not finished: those behind the last final data frame. The group of
--- a data frame is what is unfinished before it, and the frame itself.
+-- The data frames of the unfinished message: those after the last final data frame. The group of a data frame is the
+-- frames that are unfinished before it, and the frame itself.
 abbrev pub unfinished : List Frame → List Frame
 unfinished fs = after_last is_final (filter is_data fs)
 
--- Open: a message is not finished.
+-- A message is unfinished.
 abbrev pub IsOpen : List Frame → Type 0
 IsOpen fs = unfinished fs ≢ []
 
--- the opcode of a group's first frame
+-- The opcode of a group's first frame.
 abbrev pub first_op : List Frame → Op
 first_op [] = Continue
 first_op (f ∷ group) = f.op
 
--- the kind of a message that an opcode begins; only 1 begins text
+-- The kind of a message that begins with an opcode. Only opcode 1 begins text.
 abbrev pub kind_at : Op → Kind
 kind_at Continue = kind.Binary
 kind_at Text = kind.Text
@@ -41,10 +43,10 @@ kind_at Close = kind.Binary
 kind_at Ping = kind.Binary
 kind_at Pong = kind.Binary
 
--- a group's kind
+-- The kind of a group's message.
 abbrev pub kind_of : List Frame → Kind
 kind_of group = kind_at (first_op group)
 
--- a group's text: its payloads, joined
-abbrev pub text_of : List Frame → List ℕ
-text_of = flat_map (λ f. f.payload)
+-- The payload of a group: the payloads of its frames, joined.
+abbrev pub payload_of : List Frame → List ℕ
+payload_of = flat_map (λ f. f.payload)

@@ -1,4 +1,4 @@
--- The frames of a stream as their heads tell of them. RFC 6455 section 5.2.
+-- The heads that are reported of a stream. RFC 6455 section 5.2.
 use Rattle.std.specs.Prelude.{◌≡◌, ℕ, ◌+◌, ◌<◌, ◌^◌, ◌⊎◌, IfSome, List, [], ◌∷◌, ◌++◌, length}
 use Rattle.wsn_wire.specs.declared.endpoint.Role.{Role}
 use Rattle.wsn_wire.specs.Frame.{Frame, IsKey, FormFits, head_bytes, frame_bytes, stream}
@@ -7,42 +7,43 @@ use Rattle.wsn_rules.specs.Limits.{Limits}
 use Rattle.wsn_rules.specs.Group.{unfinished}
 use Rattle.wsn_rules.specs.Lawful.{IsLawful}
 use Rattle.wsn_rules.specs.Accepted.{HasNoClose, EndsWithClose}
-use Rattle.wsn_rules.specs.Unshown.{IsUnshown}
+use Rattle.wsn_rules.specs.NoEvidence.{HasNoEvidence}
 
--- what is told of a frame that begins at the place
+-- The head of a frame at this offset.
 abbrev pub info_of : ℕ → Frame → HeadInfo
 info_of place f = record { place = place; fin = f.fin; op = f.op; key = f.key; form = f.form; len = length f.payload }
 
--- what is told of whole frames, the first of which begins at the place
+-- The heads of frames, the first of which is at this offset.
 abbrev pub heads_from : ℕ → List Frame → List HeadInfo
 heads_from place [] = []
 heads_from place (f ∷ fs) = info_of place f ∷ heads_from (place + length (frame_bytes f)) fs
 
+-- The heads of frames from the start of a stream.
 abbrev pub heads_of : List Frame → List HeadInfo
 heads_of fs = heads_from 0 fs
 
--- The rest behind the frames fs begins with a whole head, no front of which shows a reason to refuse it.
+-- After the frames fs, the rest begins with a complete head, and no prefix of the head is evidence for a refusal.
 pub record BeginsWithHead (role : Role) (limits : Limits) (fs : List Frame) (rest : List ℕ) (info : HeadInfo)
     : Type 0 where
   pub head : List ℕ
-  pub behind : List ℕ
-  pub whole : rest ≡ head ++ behind
+  pub following : List ℕ
+  pub whole : rest ≡ head ++ following
   pub place : info.place ≡ length (stream fs)
-  pub spelled : head ≡ head_bytes info.fin info.op info.key info.form info.len
+  pub encoded : head ≡ head_bytes info.fin info.op info.key info.form info.len
   pub key : IfSome info.key IsKey
   pub form : FormFits info.form info.len
   pub size : info.len < 2 ^ 63
-  pub unshown : IsUnshown role limits (unfinished fs) head
+  pub has_no_evidence : HasNoEvidence role limits (unfinished fs) head
 
--- The heads that are told of a frame that has begun behind the frames fs: its own, if it is whole and shows
--- nothing; none behind a Close.
+-- The head that is reported for a frame that begins after the frames fs: the frame's head if it is complete and
+-- evidence for no refusal, otherwise none; and none after a Close.
 abbrev pub IsBegun : Role → Limits → List Frame → List ℕ → List HeadInfo → Type 0
 IsBegun role limits fs rest begun =
     ((begun ≡ []) × EndsWithClose fs)
     ⊎ ((begun ≡ []) × HasNoClose fs × ((info : HeadInfo) → BeginsWithHead role limits fs rest info → ⊥))
     ⊎ (HasNoClose fs × ((info : HeadInfo) × (begun ≡ info ∷ []) × BeginsWithHead role limits fs rest info))
 
--- All the heads that these bytes tell: those of their lawful frames, and of the frame that has begun.
+-- All heads that are reported of the bytes: those of their lawful frames, and that of a frame that begins after them.
 pub record AreHeads (role : Role) (limits : Limits) (bytes : List ℕ) (fs : List Frame) (heads : List HeadInfo)
     : Type 0 where
   pub rest : List ℕ

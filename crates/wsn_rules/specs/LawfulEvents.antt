@@ -1,4 +1,4 @@
--- Lawful events: what a meaning may hold. RFC 6455 sections 5.5, 5.6, 7.4 and 8.1.
+-- Lawful events: those that lawful frames can mean. RFC 6455 sections 5.5, 5.6, 7.4 and 8.1.
 use Rattle.std.specs.Prelude.{◌≡◌, ℕ, ◌^◌, ◌<◌, ◌≤◌, true, List, [], ◌∷◌, length}
 use Rattle.wsn_wire.specs.declared.opcode.Op.{Op}
 use Rattle.wsn_wire.specs.declared.opcode.Op.TheVariants.{Close}
@@ -15,23 +15,24 @@ pub record IsLawfulMessage (kind : Kind) (text : List ℕ) : Type 0 where
   pub size : length text < 2 ^ 63
   pub utf8 : kind ≡ Text → IsText text
 
--- [5.5] A control's body has at most 125 bytes; a Close's holds nothing, or an accepted code and a reason.
+-- [5.5] The body of a control has at most 125 bytes; that of a Close is empty, or an accepted code and a reason.
 pub record IsLawfulControl (op : Op) (body : List ℕ) : Type 0 where
   pub control : is_control op ≡ true
   pub in_bytes : IsBytes body
   pub size : length body ≤ 125
   pub close : op ≡ Close → IsCloseBody body
 
+-- The event is a lawful message or a lawful control.
 abbrev pub IsLawfulEvent : MeantEvent → Type 0
 IsLawfulEvent (Message kind text) = IsLawfulMessage kind text
 IsLawfulEvent (Control op body) = IsLawfulControl op body
 
--- An event under a limit on messages, with the events behind it: a Close has none.
+-- The event is within the limit on messages; if it is a Close, no event follows.
 abbrev pub IsWithin : ℕ → MeantEvent → List MeantEvent → Type 0
 IsWithin most (Message kind text) later = length text ≤ most
 IsWithin most (Control op body) later = op ≡ Close → later ≡ []
 
--- Lawful events, with messages of at most so many bytes, and a Close last.
+-- The events are lawful, each message has at most `most` bytes, and a Close is last.
 abbrev pub AreLawful : ℕ → List MeantEvent → Type 0
 AreLawful most [] = Unit {0}
 AreLawful most (e ∷ events) = IsLawfulEvent e × IsWithin most e events × AreLawful most events

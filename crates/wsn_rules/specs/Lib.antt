@@ -1,37 +1,44 @@
--- In the order in which one would read them. What bytes spell a frame stands in wsn_wire, what UTF-8 and a Close's
--- body are in wsn_text.
+-- The definitions in reading order. A frame's bytes are defined in wsn_wire, UTF-8 and the body of a Close in wsn_text.
 
 -- a stream that may be sent
 pub mod Limits
 pub mod FrameLaw
 pub mod Group
 pub mod Lawful
-pub mod LawfulBehind
--- what it says
+pub mod LawfulAfter
+-- the meaning of a stream
 pub mod Meaning
 pub mod LawfulEvents
 pub mod NormalForm
--- every stream's verdict
+-- the verdict on a stream
 pub mod Accepted
 pub mod Evidence
 pub mod Summary
 pub mod Verdict
--- what is told and printed of it
-pub mod Unshown
+-- the heads that are reported
+pub mod NoEvidence
 pub mod Heads
-pub mod Lines
--- its frames cut again
+-- recuts
 pub mod Plan
 pub mod Fitting
 pub mod Fault
 pub mod WalkedPlan
 pub mod Recut
-pub mod Spellings
+pub mod Encodings
 pub mod UniformPlan
-pub mod WovenPlan
+pub mod InterleavedPlan
 pub mod UniformFrames
--- how examples speak of it
+-- both sides of a connection: the lines and entries of a capture, what became of each stream, the report
+pub mod TextLines
+pub mod Entries
+pub mod Sides
+pub mod Reports
+-- what is shown of a stream, and of a capture
+pub mod ShownStream
+pub mod ShownCapture
+-- for the examples
 pub mod Examples
 pub mod PlanExamples
--- what the clauses in src/ import
+pub mod ShownExamples
+-- the names that the clauses in src/ import
 pub mod Words

@@ -1,10 +1,10 @@
--- What a stream is read under: the limits, as a contract sees them.
+-- The limits under which a stream is read.
 use Rattle.std.specs.Prelude.{ℕ, ◌^◌, ◌<◌, ◌≤◌, Option}
 use Rattle.std.specs.Option.{ForSome}
-use Rattle.wsn_wire.specs.declared.spelling.Lengths.{Lengths}
+use Rattle.wsn_wire.specs.declared.length_forms.Lengths.{Lengths}
 
--- The most bytes of a message, the most bytes of an input, the most frames of a message (none: any number),
--- and which spellings of a length are taken.
+-- The maximum number of bytes in a message, of bytes in an input, and of frames in a message (none: any number), and
+-- which encodings of a length are accepted.
 pub record Limits : Type 0 where
   pub message : ℕ
   pub input : ℕ

@@ -1,5 +1,4 @@
--- The normal form: one final frame for each event, in the shortest spelling, with a key of zeros or none.
--- It is for comparing. RFC 6455 section 5.3 wants keys on a live connection that no one can foresee.
+-- The normal form: one final frame for each event, with the shortest encoding of its length.
 use Rattle.std.specs.Prelude.{ℕ, true, List, [], ◌∷◌, map, Option, None, Some}
 use Rattle.wsn_wire.specs.declared.endpoint.Role.{Role}
 use Rattle.wsn_wire.specs.declared.endpoint.Role.TheVariants.{Client, Server}
@@ -7,26 +6,28 @@ use Rattle.wsn_wire.specs.declared.opcode.Op.{Op}
 use Rattle.wsn_wire.specs.declared.opcode.Op.TheVariants as op
 use Rattle.wsn_wire.specs.declared.opcode.Kind.{Kind}
 use Rattle.wsn_wire.specs.declared.opcode.Kind.TheVariants.{Text, Binary}
-use Rattle.wsn_wire.specs.declared.spelling.Form.TheVariants.{Shortest}
+use Rattle.wsn_wire.specs.declared.length_forms.Form.TheVariants.{Shortest}
 use Rattle.wsn_wire.specs.Frame.{Frame, stream}
 use Rattle.wsn_rules.specs.Meaning.{MeantEvent, Message, Control}
 
--- the key of a normal form: zeros for a client, none for a server
+-- The key of a normal form: zeros for a client, none for a server. A normal form is for comparing streams: RFC 6455
+-- section 5.3 requires unpredictable keys on a live connection.
 abbrev pub normal_key : Role → Option (List ℕ)
 normal_key Client = Some (0 ∷ 0 ∷ 0 ∷ 0 ∷ [])
 normal_key Server = None
 
--- the opcode that begins a message of a kind
+-- The opcode with which a message of a kind begins.
 abbrev pub op_of : Kind → Op
 op_of Text = op.Text
 op_of Binary = op.Binary
 
--- one final frame with an event's kind and content
+-- One final frame with the kind and content of an event.
 abbrev pub normal_frame : Role → MeantEvent → Frame
 normal_frame role (Message kind text) =
     record { fin = true; op = op_of kind; key = normal_key role; form = Shortest; payload = text }
 normal_frame role (Control o body) =
     record { fin = true; op = o; key = normal_key role; form = Shortest; payload = body }
 
+-- The normal form of events: the bytes of their normal frames.
 abbrev pub normal_form : Role → List MeantEvent → List ℕ
 normal_form role events = stream (map (normal_frame role) events)

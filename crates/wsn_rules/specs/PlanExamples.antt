@@ -1,10 +1,10 @@
--- How examples write plans and events, and what they say of inputs.
+-- The form of the examples of plans and recuts, and the plans and events in them.
 use Rattle.std.specs.Prelude.{◌≡◌, ℕ, Option, None, Some, List, [], ◌∷◌}
 use Rattle.wsn_wire.specs.declared.endpoint.Role.{Role}
 use Rattle.wsn_wire.specs.declared.opcode.Op.TheVariants.{Ping}
 use Rattle.wsn_wire.specs.declared.opcode.Kind.TheVariants.{Text}
-use Rattle.wsn_wire.specs.declared.spelling.Form.TheVariants.{Shortest}
-use Rattle.wsn_wire.specs.declared.spelling.Lengths.TheVariants.{Any}
+use Rattle.wsn_wire.specs.declared.length_forms.Form.TheVariants.{Shortest}
+use Rattle.wsn_wire.specs.declared.length_forms.Lengths.TheVariants.{Any}
 use Rattle.wsn_wire.specs.Frame.{Frame}
 use Rattle.wsn_rules.specs.declared.step.Step.{Step}
 use Rattle.wsn_rules.specs.declared.step.Step.TheVariants.{Piece, Last, Control}
@@ -17,45 +17,49 @@ use Rattle.wsn_rules.specs.Fitting.{Fits}
 use Rattle.wsn_rules.specs.Recut.{recut_bytes, plan_of}
 use Rattle.wsn_rules.specs.Examples.{greatest}
 
--- steps without a key, in the shortest spelling
+-- A Piece without a key, with the shortest encoding of its length.
 abbrev pub bare_piece : ℕ → Step
 bare_piece len = Piece len None Shortest
 
+-- The same for a Last.
 abbrev pub bare_last : Step
 bare_last = Last None Shortest
 
+-- The same for a Control.
 abbrev pub bare_control : Step
 bare_control = Control None
 
--- a client's key of zeros
+-- A client's key of zeros.
 abbrev pub zeros : Option (List ℕ)
 zeros = Some (0 ∷ 0 ∷ 0 ∷ 0 ∷ [])
 
+-- A key.
 abbrev pub one_key : Option (List ℕ)
 one_key = Some (1 ∷ 2 ∷ 3 ∷ 4 ∷ [])
 
--- a message in three frames with a control among them, each with a key of its own
+-- A message in three frames with a control between them, each with a key of its own.
 abbrev pub four_keys : List Step
 four_keys =
     Piece 1 (Some (0x37 ∷ 0xfa ∷ 0x21 ∷ 0x3d ∷ [])) Shortest ∷ Control (Some (0 ∷ 0 ∷ 0 ∷ 1 ∷ []))
     ∷ Piece 1 (Some (0xff ∷ 0 ∷ 0 ∷ 0 ∷ [])) Shortest ∷ Last zeros Shortest ∷ []
 
--- an empty Ping, and then the text "Hello"
+-- An empty Ping, and then the text "Hello".
 abbrev pub ping_and_hello : List MeantEvent
 ping_and_hello = meant.Control Ping [] ∷ Message Text (0x48 ∷ 0x65 ∷ 0x6c ∷ 0x6c ∷ 0x6f ∷ []) ∷ []
 
--- its normal form, for a server
+-- The normal form of these events for a server.
 abbrev pub whole_ping_and_hello : List ℕ
 whole_ping_and_hello = 0x89 ∷ 0x00 ∷ 0x81 ∷ 0x05 ∷ 0x48 ∷ 0x65 ∷ 0x6c ∷ 0x6c ∷ 0x6f ∷ []
 
--- two texts of a letter each
+-- Two texts of one letter each.
 abbrev pub two_letters : List MeantEvent
 two_letters = Message Text (0x41 ∷ []) ∷ Message Text (0x42 ∷ []) ∷ []
 
--- the greatest limits, with so many frames of a message, or with any spelling of a length
+-- The greatest limits, with a limit on frames.
 abbrev pub frames_of : ℕ → Limits
 frames_of most = record greatest { frames = Some most }
 
+-- The greatest limits, with any encoding of a length.
 abbrev pub any_length : Limits
 any_length = record greatest { lengths = Any }
 
@@ -66,7 +70,7 @@ pub record HasPlan (role : Role) (limits : Limits) (bytes : List ℕ) (plan : Li
   pub finished : unfinished frames ≡ []
   pub is : plan_of frames ≡ plan
 
--- The input is accepted, and the plan fits what it means and recuts that to the other bytes.
+-- The input is accepted, the plan fits its meaning, and the recut of the meaning is the other bytes.
 pub record RecutsTo (role : Role) (limits : Limits) (bytes : List ℕ) (plan : List Step) (others : List ℕ) : Type 0 where
   pub frames : List Frame
   pub accepted : IsAccepted role limits bytes frames

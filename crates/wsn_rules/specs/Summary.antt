@@ -1,45 +1,48 @@
--- What is counted of a stream that isn't refused. RFC 6455 sections 5.4 to 5.6 and 7.1.5.
+-- The counts of a stream that isn't refused. RFC 6455 sections 5.4 to 5.6 and 7.1.5.
 use Rattle.std.specs.Prelude.{ℕ, Bool, true, false, ◌&&◌, Option, Some, None, List, [], ◌∷◌, length, filter, if◌then◌else◌}
 use Rattle.std.specs.Int.{from_be_bytes, w16}
 use Rattle.wsn_wire.specs.declared.opcode.Op.{Op}
 use Rattle.wsn_wire.specs.declared.opcode.Op.TheVariants.{Close, Ping, Pong}
 use Rattle.wsn_wire.specs.Frame.{Frame}
 use Rattle.wsn_rules.specs.declared.verdict.Summary.{Summary}
-use Rattle.wsn_rules.specs.Group.{is_data, is_final, unfinished, text_of}
+use Rattle.wsn_rules.specs.Group.{is_data, is_final, unfinished, payload_of}
 
--- The size of the message that is not finished, if one is open.
+-- The size in bytes of the open message, if there is one.
 abbrev pub size_of_open : List Frame → Option ℕ
 size_of_open [] = None
-size_of_open (f ∷ group) = Some (length (text_of (f ∷ group)))
+size_of_open (f ∷ group) = Some (length (payload_of (f ∷ group)))
 
--- [5.4] A message ends with a final data frame.
+-- [5.4] The frame ends a message: it is a final data frame.
 abbrev pub ends_message : Frame → Bool
 ends_message f = is_data f && is_final f
 
+-- The opcode is Close.
 abbrev pub is_close : Op → Bool
 is_close Close = true
 is_close _ = false
 
+-- The opcode is Ping.
 abbrev pub is_ping : Op → Bool
 is_ping Ping = true
 is_ping _ = false
 
+-- The opcode is Pong.
 abbrev pub is_pong : Op → Bool
 is_pong Pong = true
 is_pong _ = false
 
--- [7.1.5] The code that a Close holds; none, if it is empty.
+-- [7.1.5] The code in the body of a Close; none if the body is empty.
 abbrev pub close_code : List ℕ → Option ℕ
 close_code [] = None
 close_code (b ∷ body) = Some (from_be_bytes w16 (b ∷ body))
 
--- The first Close: its code, or none; and none without a Close.
+-- The code of the first Close, or none if it is empty; and none without a Close.
 abbrev pub close_of : List Frame → Option (Option ℕ)
 close_of [] = None
 close_of (f ∷ fs) = if is_close f.op then Some (close_code f.payload) else close_of fs
 
--- The summary of the frames fs: how many bytes were used, how many stand behind a Close, the size of an open
--- message, how many frames, messages, pings and pongs there are, and the close.
+-- The summary of the frames fs: the bytes used, the bytes after a Close, the size of the open message, the numbers of
+-- frames, messages, pings and pongs, and the close.
 abbrev pub counted : List Frame → ℕ → ℕ → Summary
 counted fs used tail = record {
   used = used;

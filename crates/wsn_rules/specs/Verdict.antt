@@ -1,5 +1,4 @@
--- The verdict on a stream: accepted (specs/Accepted.antt), cut, or refused at a place for a reason.
--- RFC 6455 sections 5 and 7.
+-- The verdict on a stream: accepted, cut, or refused at an offset for a reason. RFC 6455 sections 5 and 7.
 use Rattle.std.specs.Prelude.{◌≡◌, ◌≢◌, ℕ, ◌+◌, ◌-◌, ◌<◌, ◌≤◌, ◌⊎◌, List, [], ◌++◌, length}
 use Rattle.wsn_wire.specs.declared.endpoint.Role.{Role}
 use Rattle.wsn_wire.specs.declared.refusal.Reason.{Reason}
@@ -17,8 +16,8 @@ use Rattle.wsn_rules.specs.Summary.{counted}
 
 -- ---- refused
 
--- The frame behind the frames fs shows the reason, by its bytes from its first to the one at the place.
-pub record Shown (role : Role) (limits : Limits) (bytes : List ℕ) (fs : List Frame) (place : ℕ) (reason : Reason)
+-- After the frames fs, the next frame's bytes up to the one at this offset are evidence for the reason.
+pub record IsEvidentAt (role : Role) (limits : Limits) (bytes : List ℕ) (fs : List Frame) (place : ℕ) (reason : Reason)
     : Type 0 where
   pub seen : List ℕ
   pub later : List ℕ
@@ -26,39 +25,39 @@ pub record Shown (role : Role) (limits : Limits) (bytes : List ℕ) (fs : List F
   pub at_place : place + 1 ≡ length (stream fs) + length seen
   pub evidence : Evidence role limits (unfinished fs) reason seen
 
--- An earlier place, or the same place and a number that is no greater.
+-- The offset is earlier; or it is the same, and the number of the reason is not greater.
 abbrev pub ComesFirst : ℕ → Reason → ℕ → Reason → Type 0
 ComesFirst p r place reason = (p < place) ⊎ ((p ≡ place) × (number_of r ≤ number_of reason))
 
--- Behind lawful frames without a Close, the reason is shown at the place, and of all that is shown it comes first.
+-- After lawful frames without a Close there is evidence for the reason at this offset, and it has precedence over all
+-- other evidence.
 pub record IsRefused (role : Role) (limits : Limits) (bytes : List ℕ) (fs : List Frame) (place : ℕ) (reason : Reason)
     : Type 0 where
   pub lawful : IsLawful role limits fs
   pub no_close : HasNoClose fs
-  pub shown : Shown role limits bytes fs place reason
-  pub least : (p : ℕ) (r : Reason) → Shown role limits bytes fs p r → ComesFirst place reason p r
+  pub is_evident : IsEvidentAt role limits bytes fs place reason
+  pub least : (p : ℕ) (r : Reason) → IsEvidentAt role limits bytes fs p r → ComesFirst place reason p r
 
 -- ---- cut
 
--- Bytes that end within a frame: something is missing of a list that has the layout.
+-- The bytes end inside a frame: with more bytes, at least one, they have the layout of a frame.
 abbrev pub EndsWithinFrame : List ℕ → Type 0
 EndsWithinFrame rest = (missing : List ℕ) × (missing ≢ []) × HasLayout (rest ++ missing)
 
--- Behind lawful frames without a Close, the rest ends within a frame and shows nothing; there is a rest, or
--- a message is open.
+-- After lawful frames without a Close, the rest ends inside a frame and is evidence for no refusal; the rest is not
+-- empty, or a message is open.
 pub record IsCut (role : Role) (limits : Limits) (bytes : List ℕ) (fs : List Frame) : Type 0 where
   pub lawful : IsLawful role limits fs
   pub no_close : HasNoClose fs
   pub rest : List ℕ
   pub whole : bytes ≡ stream fs ++ rest
   pub within : EndsWithinFrame rest
-  pub unshown : (p : ℕ) (r : Reason) → Shown role limits bytes fs p r → ⊥
+  pub has_no_evidence : (p : ℕ) (r : Reason) → IsEvidentAt role limits bytes fs p r → ⊥
   pub more : (rest ≢ []) ⊎ IsOpen fs
 
 -- ---- the verdict
 
--- The verdict on the bytes, whose lawful frames are fs. What is accepted is used up to its tail; what is cut
--- is used whole.
+-- The verdict on the bytes, whose lawful frames are fs. An accepted input is used up to its tail, a cut one completely.
 abbrev pub IsVerdict : Role → Limits → List ℕ → List Frame → Verdict → Type 0
 IsVerdict role limits bytes fs (Accepted summary) =
     IsAccepted role limits bytes fs × (summary ≡ counted fs (length (stream fs)) (length bytes - length (stream fs)))

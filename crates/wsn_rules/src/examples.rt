@@ -1,11 +1,11 @@
-//! Verdicts on inputs that are written out, computed from the definitions in `specs/`: for each reason to
-//! refuse, inputs that show it, with their places, and near ones that don't; and how streams end.
+//! Examples of verdicts, computed from the definitions in `specs/`: for each reason, inputs that are refused for it,
+//! with the offset, and similar inputs that aren't; and how streams end.
 
 ghost use Rattle.std.specs.Prelude.{None, Some, [], ◌∷◌, replicate};
 ghost use Rattle.wsn_wire.specs.declared.endpoint.Role.TheVariants.{Client, Server};
 ghost use Rattle.wsn_wire.specs.declared.opcode.Op.TheVariants.{Close, Ping, Pong};
 ghost use Rattle.wsn_wire.specs.declared.opcode.Kind.TheVariants as kind;
-ghost use Rattle.wsn_wire.specs.declared.spelling.Lengths.TheVariants.{Any};
+ghost use Rattle.wsn_wire.specs.declared.length_forms.Lengths.TheVariants.{Any};
 ghost use Rattle.wsn_wire.specs.declared.refusal.Reason.TheVariants.{CloseCode, CloseOneByte, CloseReason, ControlNotFinal, ControlTooLong, LengthNotMinimal, LengthTopBit, MaskMissing, MaskPresent, MessageOpen, MessageTooBig, NothingToContinue, ReservedBits, ReservedOpcode, TextBad, TextCut, TooManyFrames};
 ghost use Rattle.wsn_rules.specs.Meaning.{Message, Control};
 ghost use Rattle.wsn_rules.specs.Examples.{Judged, Means, greatest, RefusedAt, CutAt, AcceptedTo, Counts};
@@ -15,7 +15,7 @@ pub fn reserved_bits()
     ensures rsv1 { Judged Server greatest (0xc1 ∷ []) (RefusedAt 0 ReservedBits) }
     ensures rsv2 { Judged Server greatest (0xa1 ∷ []) (RefusedAt 0 ReservedBits) }
     ensures rsv3 { Judged Server greatest (0x91 ∷ []) (RefusedAt 0 ReservedBits) }
-    ensures behind_a_frame { Judged Server greatest (0x89 ∷ 0x00 ∷ 0xf0 ∷ []) (RefusedAt 2 ReservedBits) }
+    ensures after_a_frame { Judged Server greatest (0x89 ∷ 0x00 ∷ 0xf0 ∷ []) (RefusedAt 2 ReservedBits) }
     ensures near { Judged Server greatest (0x81 ∷ 0x00 ∷ []) (AcceptedTo 2 0 None) }
 {}
 
@@ -40,7 +40,7 @@ pub fn control_not_final()
     ensures near_data { Judged Server greatest (0x02 ∷ []) (CutAt 1) }
 {}
 
-/// Opcode 0 where no message is open.
+/// Opcode 0 while no message is open.
 pub fn nothing_to_continue()
     ensures last { Judged Server greatest (0x80 ∷ []) (RefusedAt 0 NothingToContinue) }
     ensures more { Judged Server greatest (0x00 ∷ 0x00 ∷ []) (RefusedAt 0 NothingToContinue) }
@@ -48,11 +48,11 @@ pub fn nothing_to_continue()
     ensures near { Judged Server greatest (0x01 ∷ 0x00 ∷ 0x80 ∷ 0x00 ∷ []) (AcceptedTo 4 0 None) }
 {}
 
-/// Opcode 1 or 2 where a message is open.
+/// Opcode 1 or 2 while a message is open.
 pub fn message_open()
     ensures text { Judged Server greatest (0x01 ∷ 0x00 ∷ 0x81 ∷ []) (RefusedAt 2 MessageOpen) }
     ensures binary { Judged Server greatest (0x01 ∷ 0x00 ∷ 0x82 ∷ []) (RefusedAt 2 MessageOpen) }
-    ensures behind_a_ping { Judged Server greatest (0x01 ∷ 0x00 ∷ 0x89 ∷ 0x00 ∷ 0x01 ∷ []) (RefusedAt 4 MessageOpen) }
+    ensures after_a_ping { Judged Server greatest (0x01 ∷ 0x00 ∷ 0x89 ∷ 0x00 ∷ 0x01 ∷ []) (RefusedAt 4 MessageOpen) }
     ensures near_finished { Judged Server greatest (0x81 ∷ 0x00 ∷ 0x81 ∷ 0x00 ∷ []) (AcceptedTo 4 0 None) }
     ensures near_ping { Judged Server greatest (0x01 ∷ 0x00 ∷ 0x89 ∷ 0x00 ∷ 0x80 ∷ 0x00 ∷ []) (AcceptedTo 6 0 None) }
 {}
@@ -103,7 +103,7 @@ pub fn length_top_bit()
     ensures near_cut { Judged Server greatest (0x82 ∷ 0x7f ∷ 0x80 ∷ []) (CutAt 3) }
 {}
 
-/// A length that fewer bytes would hold, where only the shortest are taken.
+/// A length that fewer bytes could hold, if only the shortest encoding is accepted.
 pub fn length_not_minimal()
     ensures two { Judged Server greatest (0x82 ∷ 0x7e ∷ 0x00 ∷ 0x7d ∷ []) (RefusedAt 3 LengthNotMinimal) }
     ensures eight { Judged Server greatest (0x82 ∷ 0x7f ∷ 0x00 ∷ 0x00 ∷ 0x00 ∷ 0x00 ∷ 0x00 ∷ 0x00 ∷ 0xff ∷ 0xff ∷ [])
@@ -120,7 +120,7 @@ pub fn length_not_minimal()
         (AcceptedTo 5 0 None) }
 {}
 
-/// A message that passes the limit, by the lengths of its frames.
+/// A message that is longer than its limit, by the lengths in the heads of its frames.
 pub fn message_too_big()
     ensures joined { Judged Server (record greatest { message = 4 })
         (0x01 ∷ 0x03 ∷ 0x48 ∷ 0x65 ∷ 0x6c ∷ 0x80 ∷ 0x02 ∷ []) (RefusedAt 6 MessageTooBig) }
@@ -139,7 +139,7 @@ pub fn message_too_big()
         (AcceptedTo 6 0 None) }
 {}
 
-/// A code that a Close may not carry.
+/// A code that a Close may not have.
 pub fn close_code()
     ensures below { Judged Server greatest (0x88 ∷ 0x02 ∷ 0x03 ∷ 0xe7 ∷ []) (RefusedAt 3 CloseCode) }
     ensures reserved { Judged Server greatest (0x88 ∷ 0x02 ∷ 0x03 ∷ 0xec ∷ []) (RefusedAt 3 CloseCode) }
@@ -187,7 +187,7 @@ pub fn text_bad()
         (AcceptedTo 7 0 None) }
 {}
 
-/// A text that ends inside a character with its final frame.
+/// A text whose final frame ends inside a character.
 pub fn text_cut()
     ensures one_frame { Judged Server greatest (0x81 ∷ 0x01 ∷ 0xe2 ∷ []) (RefusedAt 2 TextCut) }
     ensures empty_frame { Judged Server greatest (0x01 ∷ 0x01 ∷ 0xe2 ∷ 0x80 ∷ 0x00 ∷ []) (RefusedAt 4 TextCut) }
@@ -202,7 +202,7 @@ pub fn text_cut()
     ensures near_binary { Judged Server greatest (0x02 ∷ 0x01 ∷ 0xe2 ∷ 0x80 ∷ 0x00 ∷ []) (AcceptedTo 5 0 None) }
 {}
 
-/// A frame more than the limit, in one message.
+/// One frame more than the limit, in one message.
 pub fn too_many_frames()
     ensures one { Judged Server (record greatest { frames = Some 1 }) (0x01 ∷ 0x00 ∷ 0x00 ∷ [])
         (RefusedAt 2 TooManyFrames) }
@@ -222,20 +222,20 @@ pub fn too_many_frames()
         (AcceptedTo 6 0 None) }
 {}
 
-/// An earlier place goes first, and at one place the reason with the least number.
+/// An earlier offset has precedence; at one offset, the reason with the least number has.
 pub fn order_of_reasons()
-    ensures opcode_behind_bits { Judged Server greatest (0xc3 ∷ []) (RefusedAt 0 ReservedBits) }
-    ensures control_behind_bits { Judged Server greatest (0x49 ∷ []) (RefusedAt 0 ReservedBits) }
-    ensures continue_behind_bits { Judged Server greatest (0xc0 ∷ []) (RefusedAt 0 ReservedBits) }
-    ensures open_behind_bits { Judged Server greatest (0x01 ∷ 0x00 ∷ 0xc1 ∷ []) (RefusedAt 2 ReservedBits) }
-    ensures long_behind_mask { Judged Client greatest (0x89 ∷ 0x7e ∷ []) (RefusedAt 1 MaskMissing) }
-    ensures big_behind_mask { Judged Client (record greatest { message = 0 }) (0x81 ∷ 0x01 ∷ [])
+    ensures opcode_after_bits { Judged Server greatest (0xc3 ∷ []) (RefusedAt 0 ReservedBits) }
+    ensures control_after_bits { Judged Server greatest (0x49 ∷ []) (RefusedAt 0 ReservedBits) }
+    ensures continue_after_bits { Judged Server greatest (0xc0 ∷ []) (RefusedAt 0 ReservedBits) }
+    ensures open_after_bits { Judged Server greatest (0x01 ∷ 0x00 ∷ 0xc1 ∷ []) (RefusedAt 2 ReservedBits) }
+    ensures long_after_mask { Judged Client greatest (0x89 ∷ 0x7e ∷ []) (RefusedAt 1 MaskMissing) }
+    ensures big_after_mask { Judged Client (record greatest { message = 0 }) (0x81 ∷ 0x01 ∷ [])
         (RefusedAt 1 MaskMissing) }
-    ensures long_behind_no_mask { Judged Server greatest (0x89 ∷ 0xfe ∷ []) (RefusedAt 1 MaskPresent) }
-    ensures one_byte_behind_no_mask { Judged Server greatest (0x88 ∷ 0x81 ∷ []) (RefusedAt 1 MaskPresent) }
-    ensures big_behind_no_mask { Judged Server (record greatest { message = 0 }) (0x81 ∷ 0x81 ∷ [])
+    ensures long_after_no_mask { Judged Server greatest (0x89 ∷ 0xfe ∷ []) (RefusedAt 1 MaskPresent) }
+    ensures one_byte_after_no_mask { Judged Server greatest (0x88 ∷ 0x81 ∷ []) (RefusedAt 1 MaskPresent) }
+    ensures big_after_no_mask { Judged Server (record greatest { message = 0 }) (0x81 ∷ 0x81 ∷ [])
         (RefusedAt 1 MaskPresent) }
-    ensures big_behind_not_minimal { Judged Server (record greatest { message = 0 }) (0x82 ∷ 0x7e ∷ 0x00 ∷ 0x7d ∷ [])
+    ensures big_after_not_minimal { Judged Server (record greatest { message = 0 }) (0x82 ∷ 0x7e ∷ 0x00 ∷ 0x7d ∷ [])
         (RefusedAt 3 LengthNotMinimal) }
     ensures mask_at_a_later_place { Judged Client greatest (0x09 ∷ 0x05 ∷ []) (RefusedAt 0 ControlNotFinal) }
     ensures code_before_reason { Judged Server greatest (0x88 ∷ 0x04 ∷ 0x03 ∷ 0xed ∷ 0xff ∷ 0xff ∷ [])
@@ -260,7 +260,7 @@ pub fn ends_of_streams()
         (0x01 ∷ 0x03 ∷ 0x48 ∷ 0x65 ∷ 0x6c ∷ 0x89 ∷ 0x00 ∷ 0x80 ∷ 0x02 ∷ 0x6c ∷ 0x6f ∷ []) (AcceptedTo 11 0 None) }
 {}
 
-/// What is counted: frames, messages, pings, pongs, and the close.
+/// The counts in a summary: frames, messages, pings, pongs, and the close.
 pub fn summaries()
     ensures each { Judged Server greatest
         (0x01 ∷ 0x00 ∷ 0x89 ∷ 0x00 ∷ 0x80 ∷ 0x00 ∷ 0x8a ∷ 0x00 ∷ 0x82 ∷ 0x00 ∷ 0x89 ∷ 0x00 ∷ 0x88 ∷ 0x02 ∷ 0x03 ∷ 0xe8 ∷
@@ -269,7 +269,7 @@ pub fn summaries()
     ensures no_close { Judged Server greatest (0x81 ∷ 0x00 ∷ []) (Counts 1 1 0 0 None) }
 {}
 
-/// What a stream says: the message of each group, in the order in which they end.
+/// The meaning of a stream: the message of each group, in the order in which they end.
 pub fn meanings()
     ensures ping_between { Means Server greatest
         (0x01 ∷ 0x03 ∷ 0x48 ∷ 0x65 ∷ 0x6c ∷ 0x89 ∷ 0x00 ∷ 0x80 ∷ 0x02 ∷ 0x6c ∷ 0x6f ∷ [])
@@ -286,8 +286,8 @@ pub fn meanings()
     ensures nothing { Means Server greatest [] [] }
 {}
 
-/// The longest length that the second byte holds, in the shortest way and in two bytes; and the shortest that
-/// takes two.
+/// The longest payload whose length fits in the second byte, with that encoding and with two length bytes; and the
+/// shortest payload that requires two length bytes.
 pub fn long_frames()
     ensures ping { Judged Server greatest (0x89 ∷ 0x7d ∷ replicate 125 0xfe) (AcceptedTo 127 0 None) }
     ensures longer_form { Judged Server (record greatest { lengths = Any })

@@ -1,19 +1,18 @@
-//! Plans that are written out: what is wrong with them, that they fit, and uniform plans; computed from the definitions
-//! in `specs/`.
+//! Examples of plans, computed from the definitions in `specs/`: their faults, plans that fit, and uniform plans.
 
 ghost use Rattle.std.specs.Prelude.{◌≡◌, true, false, None, Some, [], ◌∷◌, replicate};
 ghost use Rattle.wsn_wire.specs.declared.endpoint.Role.TheVariants.{Client, Server};
 ghost use Rattle.wsn_wire.specs.declared.opcode.Op.TheVariants.{Close, Ping, Pong};
 ghost use Rattle.wsn_wire.specs.declared.opcode.Kind.TheVariants as kind;
-ghost use Rattle.wsn_wire.specs.declared.spelling.Form.TheVariants.{Shortest, Two, Eight};
-ghost use Rattle.wsn_wire.specs.declared.spelling.Lengths.TheVariants.{Any};
+ghost use Rattle.wsn_wire.specs.declared.length_forms.Form.TheVariants.{Shortest, Two, Eight};
+ghost use Rattle.wsn_wire.specs.declared.length_forms.Lengths.TheVariants.{Any};
 ghost use Rattle.wsn_rules.specs.declared.step.Step.TheVariants.{Piece, Last, Control};
 ghost use Rattle.wsn_rules.specs.declared.why.Why.TheVariants.{KeyMismatch, StepsLeft, NoMessage, PieceTooLong, TooManyPieces, NotAControl, NotAMessage, WrongForm, EventsLeft};
 ghost use Rattle.wsn_rules.specs.Words.{Message, Fits, IsFault, uniform_plan, greatest, bare_piece, bare_last};
 ghost use Rattle.wsn_rules.specs.Words.{bare_control, zeros, ping_and_hello, two_letters, frames_of, any_length};
 ghost use Rattle.wsn_rules.specs.Meaning as meant;
 
-/// A key for a server's frame, or none for a client's: before any other reason.
+/// A key for a server's frame, or no key for a client's: before any other reason.
 pub fn keys()
     ensures server { IsFault Server greatest (Control zeros ∷ []) ping_and_hello 0 KeyMismatch }
     ensures client { IsFault Client greatest (bare_control ∷ []) ping_and_hello 0 KeyMismatch }
@@ -22,7 +21,7 @@ pub fn keys()
     ensures near { Fits Client greatest (Control zeros ∷ Last zeros Shortest ∷ []) ping_and_hello }
 {}
 
-/// Ends that stand for the wrong events, for none, and events that have none.
+/// Ends of a plan that are for the wrong events or for none, and events without an end.
 pub fn ends()
     ensures not_a_message { IsFault Server greatest (bare_last ∷ []) ping_and_hello 0 NotAMessage }
     ensures not_a_control { IsFault Server greatest (bare_control ∷ bare_control ∷ []) ping_and_hello 1 NotAControl }
@@ -41,7 +40,7 @@ pub fn ends()
     ensures nothing { Fits Server greatest [] [] }
 {}
 
-/// Pieces that are longer than their message, alone and together; controls may stand among them.
+/// Pieces that are longer than their message, alone and together. Controls may come between them.
 pub fn pieces()
     ensures alone { IsFault Server greatest (bare_piece 6 ∷ []) ping_and_hello 0 PieceTooLong }
     ensures together { IsFault Server greatest (bare_control ∷ bare_piece 3 ∷ bare_piece 3 ∷ bare_last ∷ [])
@@ -60,7 +59,7 @@ pub fn pieces()
         ping_and_hello }
 {}
 
-/// A limit on frames leaves one for the last.
+/// Pieces leave one frame of the limit for the last frame of the message.
 pub fn frames()
     ensures second { IsFault Server (frames_of 2) (bare_piece 1 ∷ bare_piece 1 ∷ []) ping_and_hello 1 TooManyPieces }
     ensures first { IsFault Server (frames_of 1) (bare_piece 0 ∷ []) ping_and_hello 0 TooManyPieces }
@@ -77,7 +76,7 @@ pub fn frames()
     ensures uniform_near { Fits Server (frames_of 2) (uniform_plan 3 false None ping_and_hello) ping_and_hello }
 {}
 
-/// Lengths that may not be spelled in a form.
+/// Lengths that a form may not encode.
 pub fn forms()
     ensures shortest_two { IsFault Server greatest (Last None Two ∷ [])
         (Message kind.Text (0x41 ∷ []) ∷ []) 0 WrongForm }
@@ -101,9 +100,9 @@ pub fn forms()
 
 /// Uniform plans.
 pub fn uniform_plans()
-    ensures woven { uniform_plan 3 true None ping_and_hello ≡ bare_piece 3 ∷ bare_control ∷ bare_last ∷ [] }
+    ensures interleaved { uniform_plan 3 true None ping_and_hello ≡ bare_piece 3 ∷ bare_control ∷ bare_last ∷ [] }
     ensures in_turn { uniform_plan 3 false None ping_and_hello ≡ bare_control ∷ bare_piece 3 ∷ bare_last ∷ [] }
-    ensures woven_once { uniform_plan 2 true None ping_and_hello
+    ensures interleaved_once { uniform_plan 2 true None ping_and_hello
         ≡ bare_piece 2 ∷ bare_control ∷ bare_piece 2 ∷ bare_last ∷ [] }
     ensures whole { uniform_plan 5 true None ping_and_hello ≡ bare_control ∷ bare_last ∷ [] }
     ensures masked { uniform_plan 2 false (Some (1 ∷ 2 ∷ 3 ∷ 4 ∷ [])) (Message kind.Text (0x48 ∷ 0x65 ∷ 0x6c ∷

@@ -1,5 +1,5 @@
-//! What is wrong with a plan that doesn't fit the events it is for: one fault, which is found from the front. Each
-//! function does nothing: its contract is the fact.
+//! Laws of the fault of a plan that doesn't fit its events. There is exactly one, and it is found step by step. The
+//! functions do nothing when called; their contracts are proved.
 
 ghost use Rattle.std.specs.Prelude.{◌≡◌, ◌≢◌, ℕ, ◌+◌, ◌≤◌, Some, None, ◌⊎◌, Option, List, [], ◌∷◌, ◌++◌, length, drop};
 ghost use Rattle.wsn_rules.specs.Words.{ForSome, Role, Form, Step, Why, Limits, InRange, MeantEvent, next_text, Fits};
@@ -7,7 +7,7 @@ ghost use Rattle.wsn_rules.specs.Words.{Holds, IsFirstWhy, IsFault, HasWalked};
 ghost use Rattle.wsn_rules.specs.declared.step.Step.TheVariants.{Piece, Last, Control};
 ghost use Rattle.wsn_rules.specs.declared.why.Why.TheVariants.{EventsLeft};
 
-/// A plan fits, or has exactly one fault: at one step, for one reason.
+/// A plan fits, or it has exactly one fault: one step and one reason.
 pub fn law_one_fault()
     ensures some { (role : Role) (limits : Limits) (events : List MeantEvent) (plan : List Step) → InRange limits →
         Fits role limits plan events ⊎ ((step : ℕ) × (why : Why) × IsFault role limits plan events step why) }
@@ -18,11 +18,11 @@ pub fn law_one_fault()
         (step ≡ also) × (why ≡ other) }
 {}
 
-/// Plans from the front, step after step: behind steps that begin to fit, the first reason that holds for the next
-/// one is the plan's fault, whatever follows; and where none holds, the plan goes on with what then is pending and
-/// left. At its end it fits, if no event is left, and else that is its fault. What is pending is within the next
-/// message and leaves a frame for its last.
-pub fn law_fault_from_the_front()
+/// Checks a plan step by step. After steps that begin to fit, the first reason that holds for the next step is the
+/// plan's fault, whatever follows. If no reason holds, the plan up to that step begins to fit. At its end the plan fits
+/// if no event is left; otherwise that is its fault. The pending Pieces are within the next message and leave a frame
+/// for its last.
+pub fn law_fault_step_by_step()
     ensures start { (role : Role) (limits : Limits) (events : List MeantEvent) →
         HasWalked role limits events [] 0 0 events }
     ensures piece { (role : Role) (limits : Limits) (events : List MeantEvent)

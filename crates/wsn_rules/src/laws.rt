@@ -1,14 +1,15 @@
-//! What follows from the definitions in `specs/`. Each function does nothing: its contract is the fact.
+//! Laws of the definitions in `specs/`. The functions do nothing when called; their contracts are proved.
 
 ghost use Rattle.std.specs.Prelude.{◌≡◌, ◌≢◌, ℕ, ◌+◌, ◌↔◌, List, [], ◌∷◌, ◌++◌, take, map};
 ghost use Rattle.wsn_rules.specs.Words.{Role, Reason, Frame, IsBytes, frame_bytes, stream, HasLayout, Limits, InRange};
-ghost use Rattle.wsn_rules.specs.Words.{unfinished, LawAt, IsLawful, IsAccepted, events_behind, meaning, MeantEvent};
-ghost use Rattle.wsn_rules.specs.Words.{Shown, IsRefused, IsVerdict, Verdict, AreLawful, normal_frame, normal_form};
-ghost use Rattle.wsn_rules.specs.Words.{Step, IsPlan, Fits, Spell, AreRecut, recut, recut_bytes, plan_of, normal_plan};
+ghost use Rattle.wsn_rules.specs.Words.{unfinished, LawAt, IsLawful, IsAccepted, events_after, meaning, MeantEvent};
+ghost use Rattle.wsn_rules.specs.Words.{IsEvidentAt, IsRefused, IsVerdict, Verdict, AreLawful, normal_frame, normal_form};
+ghost use Rattle.wsn_rules.specs.Words.{Step, IsPlan, Fits, Encode, AreRecut, recut, recut_bytes, plan_of, normal_plan};
+ghost use Rattle.wsn_rules.specs.TextLines.{AreLines, lines_of};
 ghost use Rattle.wsn_rules.specs.declared.verdict.Verdict.TheVariants.{Refused};
 
-/// Every list of bytes has exactly one verdict, accepted, cut or refused, with one list of frames; so a refused
-/// one has one place and one reason, and an accepted one has one meaning.
+/// Every input has exactly one verdict (accepted, cut or refused), with exactly one list of frames. So a refused input
+/// has one offset and one reason, and an accepted input has one meaning.
 pub fn law_unique()
     ensures some { (role : Role) (limits : Limits) (bytes : List ℕ) → InRange limits → IsBytes bytes →
         (fs : List Frame) × (verdict : Verdict) × IsVerdict role limits bytes fs verdict }
@@ -18,8 +19,8 @@ pub fn law_unique()
         IsAccepted role limits bytes fs → IsAccepted role limits bytes gs → meaning fs ≡ meaning gs }
 {}
 
-/// A refused input stays refused whatever follows, and so is every input with the same bytes up to the place.
-/// No input that begins with those bytes has another verdict.
+/// A refused input stays refused at the same offset for the same reason, whatever follows; so is every input with the
+/// same bytes up to that offset. No input that begins with those bytes has another verdict.
 pub fn law_stays_refused()
     ensures longer { (role : Role) (limits : Limits) (bytes more : List ℕ) (fs : List Frame) (place : ℕ)
         (reason : Reason) →
@@ -35,53 +36,55 @@ pub fn law_stays_refused()
         (gs ≡ fs) × (verdict ≡ Refused (record { place = place; reason = reason })) }
 {}
 
-/// The frames of a longer input go on where those of its front end, and so does their meaning.
+/// The frames of a longer input continue those of a prefix, and so does their meaning. Lawful frames that an input
+/// begins with are the first ones of its verdict.
 pub fn law_longer_input()
     ensures verdicts { (role : Role) (limits : Limits) (bytes more : List ℕ) (fs gs : List Frame)
         (verdict longer : Verdict) →
         IsVerdict role limits bytes fs verdict → IsVerdict role limits (bytes ++ more) gs longer →
-        (extra : List Frame) × (gs ≡ fs ++ extra) × (meaning gs ≡ meaning fs ++ events_behind fs extra) }
+        (extra : List Frame) × (gs ≡ fs ++ extra) × (meaning gs ≡ meaning fs ++ events_after fs extra) }
     ensures lawful_front { (role : Role) (limits : Limits) (bytes rest : List ℕ) (fs gs : List Frame)
         (verdict : Verdict) →
         IsLawful role limits fs → bytes ≡ stream fs ++ rest → IsVerdict role limits bytes gs verdict →
         (extra : List Frame) × (gs ≡ fs ++ extra) }
 {}
 
-/// The table of refusals is whole: bytes with the layout of a frame that show nothing behind lawful frames are
-/// the bytes of a frame that is lawful there. And it is sound: a frame that is lawful there shows nothing.
+/// The table of refusals is complete: bytes with the layout of a frame that are evidence for no refusal after lawful
+/// frames are the bytes of a frame that is lawful there. It is sound: a frame that is lawful there is evidence for no
+/// refusal.
 pub fn law_the_table_is_whole()
     ensures whole { (role : Role) (limits : Limits) (fs : List Frame) (bytes : List ℕ) →
         InRange limits → IsLawful role limits fs → HasLayout bytes →
-        ((place : ℕ) (reason : Reason) → ¬ (Shown role limits (stream fs ++ bytes) fs place reason)) →
+        ((place : ℕ) (reason : Reason) → ¬ (IsEvidentAt role limits (stream fs ++ bytes) fs place reason)) →
         (f : Frame) × LawAt role limits fs f × (frame_bytes f ≡ bytes) }
-    ensures sound { (role : Role) (limits : Limits) (fs gs : List Frame) (f : Frame) (behind : List ℕ) (place : ℕ)
+    ensures sound { (role : Role) (limits : Limits) (fs gs : List Frame) (f : Frame) (following : List ℕ) (place : ℕ)
         (reason : Reason) →
         IsLawful role limits (fs ++ f ∷ gs) →
-        ¬ (Shown role limits (stream fs ++ (frame_bytes f ++ behind)) fs place reason) }
+        ¬ (IsEvidentAt role limits (stream fs ++ (frame_bytes f ++ following)) fs place reason) }
 {}
 
-/// The frames that a verdict speaks of are lawful, and the input begins with their bytes.
+/// The frames of a verdict are lawful, and the input begins with their bytes.
 pub fn law_frames_of_a_verdict()
     ensures lawful { (role : Role) (limits : Limits) (bytes : List ℕ) (fs : List Frame) (verdict : Verdict) →
         IsVerdict role limits bytes fs verdict → IsLawful role limits fs }
-    ensures front { (role : Role) (limits : Limits) (bytes : List ℕ) (fs : List Frame) (verdict : Verdict) →
+    ensures prefix { (role : Role) (limits : Limits) (bytes : List ℕ) (fs : List Frame) (verdict : Verdict) →
         IsVerdict role limits bytes fs verdict → (rest : List ℕ) × (bytes ≡ stream fs ++ rest) }
 {}
 
-/// The bytes of a lawful list that leaves no message open are accepted without a tail.
+/// The bytes of lawful frames that leave no message open are accepted, without a tail.
 pub fn law_finished_is_accepted()
     ensures { (role : Role) (limits : Limits) (fs : List Frame) →
         IsLawful role limits fs → unfinished fs ≡ [] → IsAccepted role limits (stream fs) fs }
 {}
 
-/// What lawful frames mean is lawful, within the limit on messages.
+/// The meaning of lawful frames is lawful, within the limit on messages.
 pub fn law_meaning_is_lawful()
     ensures { (role : Role) (limits : Limits) (fs : List Frame) →
         IsLawful role limits fs → InRange limits → AreLawful limits.message (meaning fs) }
 {}
 
-/// Lawful events of one role have the same normal form exactly if they are the same, and so two accepted
-/// inputs have the same normal form exactly if they mean the same.
+/// Lawful events of one role have the same normal form exactly if they are the same. So two accepted inputs have the
+/// same normal form exactly if they mean the same.
 pub fn law_canon()
     ensures events { (role : Role) (most : ℕ) (events others : List MeantEvent) →
         AreLawful most events → AreLawful most others →
@@ -91,8 +94,8 @@ pub fn law_canon()
         (normal_form role (meaning fs) ≡ normal_form role (meaning gs)) ↔ (meaning fs ≡ meaning gs) }
 {}
 
-/// A normal form is accepted under the limits that its input was accepted under, means the same, and is its
-/// own normal form.
+/// The normal form of an accepted input is accepted under the same limits, means the same, and is its own normal form.
+/// The normal frames of lawful events are lawful, leave no message unfinished, and mean the events.
 pub fn law_once()
     ensures accepted { (role : Role) (limits : Limits) (bytes : List ℕ) (fs : List Frame) → InRange limits →
         IsAccepted role limits bytes fs →
@@ -109,9 +112,9 @@ pub fn law_once()
         × (meaning (map (normal_frame role) events) ≡ events) }
 {}
 
-/// Every refragmentation within the limits means the same. The recut of lawful events by a plan that fits them is
-/// lawful, leaves no message unfinished and means the events, and its bytes are accepted without a tail; and so is
-/// the recut of an accepted input's meaning.
+/// Every recut within the limits means the same. The recut of lawful events by a plan that fits them is lawful, leaves
+/// no message unfinished and means the events; its bytes are accepted, without a tail. So is the recut of an accepted
+/// input's meaning.
 pub fn law_recut()
     ensures events { (role : Role) (limits : Limits) (plan : List Step) (events : List MeantEvent) →
         AreLawful limits.message events → IsPlan plan → Fits role limits plan events →
@@ -124,7 +127,7 @@ pub fn law_recut()
         × (meaning (recut plan (meaning fs)) ≡ meaning fs) }
 {}
 
-/// The normal form is a recut: by the plan of one step for each event, with the normal form's key. That plan fits
+/// The normal form is a recut: by the plan with one step for each event and with the normal form's key. That plan fits
 /// any events.
 pub fn law_normal_form_is_a_recut()
     ensures fits { (role : Role) (limits : Limits) (events : List MeantEvent) → InRange limits →
@@ -135,8 +138,9 @@ pub fn law_normal_form_is_a_recut()
         recut_bytes (normal_plan role events) events ≡ normal_form role events }
 {}
 
-/// The plan of lawful frames that leave no message unfinished fits what they mean, and recuts that to just these
-/// frames. Plans that fit and differ give different bytes. So the inputs that spell events are exactly their recuts.
+/// The plan of lawful frames that leave no message unfinished fits their meaning, and the recut of that meaning by the
+/// plan is just these frames. Different plans that fit give different bytes. So the inputs that encode events are
+/// exactly their recuts.
 pub fn law_restore()
     ensures fits { (role : Role) (limits : Limits) (fs : List Frame) → IsLawful role limits fs → unfinished fs ≡ [] →
         IsPlan (plan_of fs) × Fits role limits (plan_of fs) (meaning fs) }
@@ -147,6 +151,14 @@ pub fn law_restore()
     ensures differ { (role : Role) (limits : Limits) (events : List MeantEvent) (plan other : List Step) →
         AreLawful limits.message events → IsPlan plan → IsPlan other → Fits role limits plan events →
         Fits role limits other events → plan ≢ other → recut_bytes plan events ≢ recut_bytes other events }
-    ensures spellings { (role : Role) (limits : Limits) (events : List MeantEvent) (bytes : List ℕ) →
-        AreLawful limits.message events → Spell role limits events bytes ↔ AreRecut role limits events bytes }
+    ensures encodings { (role : Role) (limits : Limits) (events : List MeantEvent) (bytes : List ℕ) →
+        AreLawful limits.message events → Encode role limits events bytes ↔ AreRecut role limits events bytes }
+{}
+
+/// A text has exactly one list of lines.
+pub fn law_one_list_of_lines()
+    ensures some { (text : List ℕ) → (lines : List (List ℕ)) × AreLines text lines }
+    ensures one { (text : List ℕ) (lines others : List (List ℕ)) →
+        AreLines text lines → AreLines text others → lines ≡ others }
+    ensures function { (text : List ℕ) → AreLines text (lines_of text) }
 {}

@@ -1,13 +1,17 @@
-//! The book of rules: what the bytes mean that one endpoint of a WebSocket connection sent after the opening
-//! handshake (RFC 6455 sections 5, 7 and 8). Definitions in `specs/` and what follows from them, and no engine.
+//! The rules: what the bytes mean that one endpoint of a WebSocket connection sends after the opening handshake (RFC
+//! 6455 sections 5, 7 and 8). This crate has the definitions in `specs/`, the laws that follow from them, and the types
+//! of the answers; the engines are in other crates.
 //!
-//! `specs/Lib.antt` names the definitions in the order in which one would read them. [`laws`] has what holds of
-//! them, [`lists`] how lists of frames go on, [`recuts`] how recuts do, [`faults`] what is wrong with plans,
-//! [`uniform_plans`] where those fit. Written out are verdicts and meanings of inputs in [`examples`], normal forms
-//! in [`normal_forms`], plans of inputs and recuts in [`plan_examples`], plans and their faults in
-//! [`fault_examples`], and lines in [`printed_lines`].
+//! `specs/Lib.antt` lists the definitions in reading order. [`laws`] has the main laws, [`lists`] how lists of frames
+//! continue, [`recuts`] how recuts continue, [`faults`] the faults of plans, [`uniform_plans`] where those plans fit,
+//! and [`shown`] what is shown of a stream and of a capture. The examples are computed from the definitions: verdicts
+//! and meanings in [`examples`], normal forms in [`normal_forms`], plans of inputs and recuts in [`plan_examples`],
+//! plans and their faults in [`fault_examples`], captures and their reports in [`capture_examples`], what is shown of
+//! frames in [`shown_examples`].
 #![tactic(auto)]
 
+pub mod capture_examples;
+mod compared;
 pub mod examples;
 pub mod fault_examples;
 pub mod faults;
@@ -17,15 +21,19 @@ mod limits;
 pub mod lists;
 pub mod normal_forms;
 pub mod plan_examples;
-pub mod printed_lines;
 pub mod recuts;
+mod report;
+pub mod shown;
+pub mod shown_examples;
 mod step;
 pub mod uniform_plans;
 mod verdict;
 mod why;
 
+pub use compared::Compared;
 pub use head_info::HeadInfo;
 pub use limits::{INPUT_MAX, Limits, MESSAGE_MAX};
+pub use report::{Outcome, Report, Side};
 pub use step::Step;
 pub use verdict::{Refusal, Summary, Verdict};
 pub use why::Why;

@@ -1,17 +1,17 @@
 ghost use Rattle.std.specs.Prelude.{◌≡◌, ℕ, ◌^◌, ◌<◌, ◌≤◌, ◌↔◌, None, Some, IsSome, IfSome, IfNone};
-ghost use Rattle.wsn_wire.specs.declared.spelling.Lengths.TheVariants.{Shortest};
+ghost use Rattle.wsn_wire.specs.declared.length_forms.Lengths.TheVariants.{Shortest};
 
 use std::marker::Model;
 use wsn_wire::Lengths;
 
-/// The most bytes of a message.
+/// The greatest limit on the bytes of a message.
 pub const MESSAGE_MAX: u32 = 16_777_216;
 
-/// The most bytes of an input.
+/// The greatest limit on the bytes of an input.
 pub const INPUT_MAX: u64 = 1_099_511_627_776;
 
-/// What a stream is read under: the most bytes of a message and of an input, the most frames of a message,
-/// and which spellings of a length are taken.
+/// The limits under which a stream is read: the maximum number of bytes in a message and in an input, the maximum
+/// number of frames in a message, and which encodings of a length are accepted.
 #[derive(Clone, Copy, Debug)]
 pub struct Limits {
     message: u32,
@@ -40,8 +40,8 @@ impl Model for Limits {
 impl Limits {
     ghost use Rattle.wsn_rules.specs.Limits.{Limits, InRange};
 
-    /// Limits in bytes: a message of 0 to 16,777,216, an input of 0 to 2^40. `None` exactly outside of these.
-    /// Any number of frames, and the shortest lengths alone.
+    /// Limits of `message` bytes for a message and `input` bytes for an input, with any number of frames in a message
+    /// and only the shortest encoding of a length. `None` exactly if `message` is over 16,777,216 or `input` over 2^40.
     #[tactic(none)]
     pub fn new(message: u32, input: u64) -> Option<Limits>
         ensures in_range { IsSome result ↔ ((message ≤ 16777216) × (input ≤ 2 ^ 40)) }
@@ -59,7 +59,7 @@ impl Limits {
         })
     }
 
-    /// The same with at most `frames` frames in a message. `None` exactly for 0.
+    /// The same limits with at most `frames` frames in a message. `None` exactly if `frames` is 0.
     #[tactic(none)]
     pub fn with_frames(self, frames: u32) -> Option<Limits>
         ensures in_range { IsSome result ↔ (0 < frames) }
@@ -74,7 +74,7 @@ impl Limits {
         })
     }
 
-    /// The same with these spellings of a length.
+    /// The same limits with these accepted encodings of a length.
     #[tactic(none)]
     pub fn with_lengths(self, lengths: Lengths) -> Limits
         ensures { result ≡ record self { lengths = lengths } }
@@ -82,7 +82,7 @@ impl Limits {
         Limits { lengths, ..self }
     }
 
-    /// The most bytes of a message.
+    /// The maximum number of bytes in a message.
     #[tactic(none)]
     pub fn message(&self) -> u32
         ensures value { result ≡ self.now.message }
@@ -91,7 +91,7 @@ impl Limits {
         self.message
     }
 
-    /// The most bytes of an input.
+    /// The maximum number of bytes in an input.
     #[tactic(none)]
     pub fn input(&self) -> u64
         ensures value { result ≡ self.now.input }
@@ -100,7 +100,7 @@ impl Limits {
         self.input
     }
 
-    /// The most frames of a message, if there is such a limit.
+    /// The maximum number of frames in a message; `None` if any number is allowed.
     #[tactic(none)]
     pub fn frames(&self) -> Option<u32>
         ensures { result ≡ self.now.frames }
@@ -108,7 +108,7 @@ impl Limits {
         self.frames
     }
 
-    /// Which spellings of a length are taken.
+    /// Which encodings of a length are accepted.
     #[tactic(none)]
     pub fn lengths(&self) -> Lengths
         ensures { result ≡ self.now.lengths }

@@ -1,4 +1,4 @@
-//! Normal forms that are written out, computed from the definition in `specs/NormalForm.antt`.
+//! Examples of normal forms, computed from the definition in `specs/NormalForm.antt`.
 
 ghost use Rattle.std.specs.Prelude.{◌≡◌, [], ◌∷◌, ◌++◌, replicate};
 ghost use Rattle.wsn_wire.specs.declared.endpoint.Role.TheVariants.{Client, Server};
@@ -7,8 +7,8 @@ ghost use Rattle.wsn_wire.specs.declared.opcode.Kind.TheVariants.{Text, Binary};
 ghost use Rattle.wsn_rules.specs.Meaning.{Message, Control};
 ghost use Rattle.wsn_rules.specs.NormalForm.{normal_form};
 
-/// Normal forms, byte for byte: a client's keys of zeros, a server's frames without a key, every opcode, events
-/// in order, and a length that takes two bytes.
+/// Normal forms, byte for byte: a client's key of zeros, a server's frames without a key, every opcode, events in
+/// order, and a length in two bytes.
 pub fn normal_forms()
     ensures client_text { normal_form Client (Message Text (0x48 ∷ 0x65 ∷ 0x6c ∷ 0x6c ∷ 0x6f ∷ []) ∷ [])
         ≡ 0x81 ∷ 0x85 ∷ 0x00 ∷ 0x00 ∷ 0x00 ∷ 0x00 ∷ 0x48 ∷ 0x65 ∷ 0x6c ∷ 0x6c ∷ 0x6f ∷ [] }

@@ -1,15 +1,15 @@
-//! Plans of inputs that are written out, and what plans recut them to; computed from the definitions in `specs/`.
+//! Examples of the plans of inputs, and of recuts by plans, computed from the definitions in `specs/`.
 
 ghost use Rattle.std.specs.Prelude.{◌≡◌, None, Some, [], ◌∷◌, ◌++◌, replicate};
 ghost use Rattle.wsn_wire.specs.declared.endpoint.Role.TheVariants.{Client, Server};
-ghost use Rattle.wsn_wire.specs.declared.spelling.Form.TheVariants.{Shortest, Two, Eight};
+ghost use Rattle.wsn_wire.specs.declared.length_forms.Form.TheVariants.{Shortest, Two, Eight};
 ghost use Rattle.wsn_rules.specs.declared.step.Step.TheVariants.{Piece, Last, Control};
 ghost use Rattle.wsn_rules.specs.Words.{recut_bytes, normal_plan, greatest, HasPlan, RecutsTo, bare_piece, bare_last};
 ghost use Rattle.wsn_rules.specs.Words.{bare_control, zeros, ping_and_hello, two_letters, one_key, four_keys};
 ghost use Rattle.wsn_rules.specs.Words.{whole_ping_and_hello, frames_of, any_length};
 
-/// Plans of inputs: keys, forms, empty pieces, pieces that end inside a character, controls among them, and a Close
-/// in front of a tail.
+/// Plans of inputs: keys, forms, empty pieces, pieces that end inside a character, controls between them, and a Close
+/// before a tail.
 pub fn plans()
     ensures masked { HasPlan Client greatest
         (0x81 ∷ 0x85 ∷ 0x37 ∷ 0xfa ∷ 0x21 ∷ 0x3d ∷ 0x7f ∷ 0x9f ∷ 0x4d ∷ 0x51 ∷ 0x58 ∷ [])
@@ -38,7 +38,7 @@ pub fn plans()
     ensures nothing { HasPlan Client greatest [] [] }
 {}
 
-/// Recuts of inputs by plans that fit: most give an input back from its normal form.
+/// Recuts of inputs by plans that fit. Most of them restore an input from its normal form.
 pub fn recuts()
     ensures ping_between { RecutsTo Server greatest whole_ping_and_hello
         (bare_piece 3 ∷ bare_control ∷ bare_last ∷ [])
@@ -46,7 +46,7 @@ pub fn recuts()
     ensures ping_before { RecutsTo Server greatest
         (0x01 ∷ 0x03 ∷ 0x48 ∷ 0x65 ∷ 0x6c ∷ 0x89 ∷ 0x00 ∷ 0x80 ∷ 0x02 ∷ 0x6c ∷ 0x6f ∷ [])
         (bare_control ∷ bare_last ∷ []) whole_ping_and_hello }
-    ensures ping_behind { RecutsTo Server greatest whole_ping_and_hello (bare_piece 5 ∷ bare_control ∷ bare_last ∷ [])
+    ensures ping_after { RecutsTo Server greatest whole_ping_and_hello (bare_piece 5 ∷ bare_control ∷ bare_last ∷ [])
         (0x01 ∷ 0x05 ∷ 0x48 ∷ 0x65 ∷ 0x6c ∷ 0x6c ∷ 0x6f ∷ 0x89 ∷ 0x00 ∷ 0x80 ∷ 0x00 ∷ []) }
     ensures in_two_frames { RecutsTo Server (frames_of 2) whole_ping_and_hello
         (bare_control ∷ bare_piece 3 ∷ bare_last ∷ [])
@@ -87,7 +87,7 @@ pub fn recuts()
     ensures nothing { RecutsTo Client greatest [] [] [] }
 {}
 
-/// Recuts of events, and the normal form as one.
+/// Recuts of events; the normal form is one of them.
 pub fn recuts_of_events()
     ensures ping_between { recut_bytes (bare_piece 3 ∷ bare_control ∷ bare_last ∷ []) ping_and_hello
         ≡ 0x01 ∷ 0x03 ∷ 0x48 ∷ 0x65 ∷ 0x6c ∷ 0x89 ∷ 0x00 ∷ 0x80 ∷ 0x02 ∷ 0x6c ∷ 0x6f ∷ [] }

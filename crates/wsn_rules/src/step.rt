@@ -1,15 +1,15 @@
 use wsn_wire::Form;
 
-/// One step of a plan: how the next frame of a stream is to be cut and spelled (RFC 6455 sections 5.2 to 5.4).
+/// One step of a plan: the next frame of a stream (RFC 6455 sections 5.2 to 5.4).
 #[derive(Clone, Copy, Debug, PartialEq, Eq)]
 pub enum Step {
-    /// A frame of a message that isn't its last: how many bytes of the message it holds.
+    /// A frame of a message, but not its last: it contains the next `len` bytes of the message.
     Piece {
         len: u64,
         key: Option<[u8; 4]>,
         form: Form,
     },
-    /// A message's last frame: it holds what is left of the message.
+    /// The last frame of a message: it contains the rest of the message.
     Last {
         key: Option<[u8; 4]>,
         form: Form,

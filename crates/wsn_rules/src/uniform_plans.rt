@@ -1,17 +1,17 @@
-//! Uniform plans: where they fit, where weave puts the controls, and which frames they are the plan of. Each function
-//! does nothing: its contract is the fact.
+//! Laws of uniform plans: where they fit, how `weave` interleaves the controls, and which frames they are the plan of.
+//! The functions do nothing when called; their contracts are proved.
 
 ghost use Rattle.std.specs.Prelude.{◌≡◌, ℕ, ◌≤◌, ◌⊎◌, ◌↔◌, Bool, true, false, Option, None, IsSome, IfSome, List};
 ghost use Rattle.std.specs.Prelude.{[], ◌∷◌, ◌++◌};
 ghost use Rattle.wsn_rules.specs.Words.{Role, Frame, IsKey, Why, Limits, InRange, unfinished, IsLawful, MeantEvent};
 ghost use Rattle.wsn_rules.specs.Words.{meaning, Step, IsPlan, pending, Fits, IsFault, plan_of, uniform_plan};
-ghost use Rattle.wsn_rules.specs.Words.{IsWoven, AreUniform};
+ghost use Rattle.wsn_rules.specs.Words.{IsInterleaved, AreUniform};
 ghost use Rattle.wsn_wire.specs.declared.endpoint.Role.TheVariants.{Client};
 ghost use Rattle.wsn_rules.specs.declared.step.Step.TheVariants.{Control};
 ghost use Rattle.wsn_rules.specs.declared.why.Why.TheVariants.{TooManyPieces};
 
-/// A uniform plan with a key exactly for a client fits any events where messages may have any number of frames.
-/// Where the limits bound that number, it fits, or its only fault is that a message has too many Pieces.
+/// A uniform plan with a key for a client, or without one for a server, fits any events if messages may have any number
+/// of frames. If the limits bound that number, it fits, or its only fault is that a message has too many Pieces.
 pub fn law_uniform_plan_fits()
     ensures plan { (size : ℕ) (weave : Bool) (key : Option (List ℕ)) → IfSome key IsKey → (events : List MeantEvent) →
         IsPlan (uniform_plan size weave key events) }
@@ -30,19 +30,19 @@ pub fn law_uniform_plan_fits()
         IsFault role limits (uniform_plan size weave key events) events step why → why ≡ TooManyPieces }
 {}
 
-/// Without weave each control of a uniform plan stands between messages. With weave it is that plan, woven: its ends
-/// keep their order, and so do the steps of messages, and of the Pieces of the message around a control just the first
-/// stands in front of it. Of each plan there is at most one that is it, woven.
+/// Without `weave`, every control of a uniform plan is between messages. With it, the plan is the same plan
+/// interleaved: its ends and the steps of messages keep their order, and of the Pieces of the message around a control
+/// exactly the first comes before it. A plan has at most one such interleaving.
 pub fn law_weave()
-    ensures plain { (size : ℕ) (key : Option (List ℕ)) (events : List MeantEvent) (front behind : List Step)
-        (own : Option (List ℕ)) → uniform_plan size false key events ≡ front ++ Control own ∷ behind →
-        pending front ≡ [] }
-    ensures woven { (size : ℕ) (key : Option (List ℕ)) (events : List MeantEvent) →
-        IsWoven (uniform_plan size false key events) (uniform_plan size true key events) }
-    ensures only_this { (plan one other : List Step) → IsWoven plan one → IsWoven plan other → one ≡ other }
+    ensures plain { (size : ℕ) (key : Option (List ℕ)) (events : List MeantEvent) (before after : List Step)
+        (own : Option (List ℕ)) → uniform_plan size false key events ≡ before ++ Control own ∷ after →
+        pending before ≡ [] }
+    ensures interleaved { (size : ℕ) (key : Option (List ℕ)) (events : List MeantEvent) →
+        IsInterleaved (uniform_plan size false key events) (uniform_plan size true key events) }
+    ensures only_this { (plan one other : List Step) → IsInterleaved plan one → IsInterleaved plan other → one ≡ other }
 {}
 
-/// The plan of frames is the uniform plan of what they mean exactly if the frames are uniform.
+/// The plan of frames is the uniform plan of their meaning exactly if the frames are uniform.
 pub fn law_plan_of_uniform_frames()
     ensures answers { (size : ℕ) (key : Option (List ℕ)) (role : Role) (limits : Limits) (fs : List Frame) → 1 ≤ size →
         IsLawful role limits fs → unfinished fs ≡ [] → AreUniform size key fs →

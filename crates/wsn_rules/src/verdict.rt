@@ -1,38 +1,43 @@
 use wsn_wire::Reason;
 
-/// Where a stream is refused, and why: the offset of the byte that shows it.
+/// Where and why a stream is refused.
 #[derive(Clone, Copy, Debug, PartialEq, Eq)]
 pub struct Refusal {
+    /// The offset of the offending byte, from 0.
     pub place: u64,
+    /// The reason.
     pub reason: Reason,
 }
 
-/// What is counted of a stream that isn't refused (specs/Summary.antt).
+/// The counts of a stream that isn't refused (specs/Summary.antt).
 #[derive(Clone, Copy, Debug, PartialEq, Eq)]
 pub struct Summary {
-    /// How many bytes were taken: all but the tail.
+    /// The number of bytes used: all but the tail.
     pub used: u64,
-    /// How many bytes stand behind a Close.
+    /// The number of bytes after the Close.
     pub tail: u64,
-    /// The payload bytes of the message that isn't finished, in whole frames; `None` if none is open.
+    /// The number of payload bytes in the complete frames of the unfinished message; `None` if no message is open.
     pub unfinished: Option<u32>,
-    /// Whole frames, the Close among them.
+    /// The number of complete frames, with the Close.
     pub frames: u64,
-    /// Final data frames.
+    /// The number of final data frames.
     pub messages: u64,
+    /// The number of pings.
     pub pings: u64,
+    /// The number of pongs.
     pub pongs: u64,
-    /// `None` without a Close, `Some(None)` for an empty one, else its code.
+    /// `None` without a Close, `Some(None)` for an empty one, otherwise its code.
     pub close: Option<Option<u16>>,
 }
 
-/// What a stream is (specs/Verdict.antt): every list of bytes is exactly one of these.
+/// The verdict on a stream (specs/Verdict.antt). Every input has exactly one.
 #[derive(Clone, Copy, Debug, PartialEq, Eq)]
 pub enum Verdict {
-    /// Whole lawful frames, and no message open; or a Close, and any bytes behind it.
+    /// Complete lawful frames, and no message open; or complete lawful frames with a Close at their end, and any bytes
+    /// after it.
     Accepted(Summary),
-    /// Whole lawful frames, and a frame or a message that isn't finished.
+    /// Complete lawful frames, and an unfinished frame or message.
     Cut(Summary),
-    /// A byte shows that the stream isn't lawful.
+    /// A byte is evidence that the stream isn't lawful.
     Refused(Refusal),
 }

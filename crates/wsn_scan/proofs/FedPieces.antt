@@ -1,4 +1,4 @@
--- A piece that is handed to a scan share by share.
+-- A piece that a scan consumes part by part.
 use Rattle.std.proofs.Common.{◌≡◌, ℕ, suc, ◌+◌, ◌-◌, ◌*◌, ◌<◌, ◌≤◌, None, List, [], ◌∷◌, ◌++◌, length, take, drop, get_or, inl, inr, refl, sym, ap, ◌∙◌, subst, append_assoc, append-nil, arith, length-drop, take-append-drop}
 use Rattle.std.proofs.lemmas.Bool.{cases_eq}
 use Rattle.std.proofs.Math.Seq.{take-add, drop-append-add}
@@ -15,35 +15,35 @@ use Rattle.wsn_scan.specs.declared.stage.Stage.TheVariants as stages
 use Rattle.wsn_scan.specs.declared.scan.Scan.{Scan}
 use Rattle.wsn_rules.specs.Limits.{Limits}
 use Rattle.wsn_rules.specs.declared.head_info.HeadInfo.{HeadInfo}
-use Rattle.wsn_scan.specs.Scans.{Reaches, Advances, GetsOn, ends_pending_at, ends_pending, room_of}
+use Rattle.wsn_scan.specs.Scans.{IsReachedBy, Advances, MakesProgress, ends_pending_at, ends_pending, room_of}
 use Rattle.wsn_scan.specs.Reports.{Reported, reported_after, IsRefusal, refusal_in_notice}
-use Rattle.wsn_scan.specs.Feeding.{HasTaken, TakesFront, heads_in}
+use Rattle.wsn_scan.specs.Feeding.{HasScannedBytes, ConsumesPrefix, heads_in}
 
 -- a bound on each byte, index by index
 pub bytes_below : (xs : List ℕ) → ((i : ℕ) → get_or xs i 0 < 256) → IsBytes xs
 bytes_below [] below = tt
 bytes_below (x ∷ xs) below = (below 0, bytes_below xs (λ i. below (suc i)))
 
--- what is handed on is all that stands behind the first so many
+-- the part that is passed on is all that comes after the first `at` bytes
 pub share_is : (at : ℕ) (xs : List ℕ) → mid_of at (length xs - at) xs ≡ drop at xs
 share_is at xs = take_all (length xs - at) (drop at xs) (omega (arith, length-drop at xs))
 
--- what stands behind n more bytes, once a share is back
-behind_share : (at k n : ℕ) (xs ys : List ℕ) → at ≤ length xs → n ≤ length ys → drop (at + n) (put_mid at k xs ys) ≡ drop n ys ++ post_of at k xs
-behind_share at k n xs ys within fits =
+-- the bytes after n more, once the call has returned
+after_share : (at k n : ℕ) (xs ys : List ℕ) → at ≤ length xs → n ≤ length ys → drop (at + n) (put_mid at k xs ys) ≡ drop n ys ++ post_of at k xs
+after_share at k n xs ys within fits =
     let front : length (take at xs) ≡ at = length-take-le at xs within in
     ap (λ (m : ℕ). drop (m + n) (put_mid at k xs ys)) (sym front) ∙ drop-append-add (take at xs) (ys ++ post_of at k xs) n ∙ drop-append-le n ys (post_of at k xs) fits
 
--- what a share leaves behind its first n stays in the piece
-pub kept_behind : (at k n : ℕ) (xs ys : List ℕ) → at ≤ length xs → n ≤ length (mid_of at k xs) → length ys ≡ length (mid_of at k xs) → drop n ys ≡ drop n (mid_of at k xs)
+-- the bytes after the first n of the part stay in the piece
+pub kept_after : (at k n : ℕ) (xs ys : List ℕ) → at ≤ length xs → n ≤ length (mid_of at k xs) → length ys ≡ length (mid_of at k xs) → drop n ys ≡ drop n (mid_of at k xs)
     → drop (at + n) (put_mid at k xs ys) ≡ drop (at + n) xs
-kept_behind at k n xs ys within fits size same =
-    behind_share at k n xs ys within (omega arith)
+kept_after at k n xs ys within fits size same =
+    after_share at k n xs ys within (omega arith)
     ∙ ap (λ (zs : List ℕ). zs ++ post_of at k xs) same
-    ∙ sym (behind_share at k n xs (mid_of at k xs) within fits)
+    ∙ sym (after_share at k n xs (mid_of at k xs) within fits)
     ∙ ap (drop (at + n)) (put_same at k xs)
 
--- lists that are the same behind their first bytes are so further on
+-- lists that are the same after some bytes are the same after more
 pub same_further : (at n : ℕ) (xs ys : List ℕ) → at ≤ length xs → at ≤ length ys → drop at xs ≡ drop at ys → drop (at + n) xs ≡ drop (at + n) ys
 same_further at n xs ys in_xs in_ys same = further xs in_xs ∙ ap (drop n) same ∙ sym (further ys in_ys)
   where
@@ -52,26 +52,26 @@ same_further at n xs ys in_xs in_ys same = further xs in_xs ∙ ap (drop n) same
         let front : length (take at zs) ≡ at = length-take-le at zs within in
         ap (drop (at + n)) (sym (take-append-drop at zs)) ∙ ap (λ (m : ℕ). drop (m + n) (take at zs ++ drop at zs)) (sym front) ∙ drop-append-add (take at zs) (drop at zs) n
 
--- ---- what the scan has taken
+-- ---- what the scan has consumed
 
-pub takes_none : (scan : Scan) (piece : List ℕ) → TakesFront scan scan piece 0 []
+pub takes_none : (scan : Scan) (piece : List ℕ) → ConsumesPrefix scan scan piece 0 []
 takes_none scan piece role limits bytes heads taken =
-    subst (λ (hs : List HeadInfo). HasTaken role limits scan (bytes ++ take 0 piece) hs) (sym (append-nil heads))
-    (subst (λ (bs : List ℕ). HasTaken role limits scan bs heads) (sym (append-nil bytes)) taken)
+    subst (λ (hs : List HeadInfo). HasScannedBytes role limits scan (bytes ++ take 0 piece) hs) (sym (append-nil heads))
+    (subst (λ (bs : List ℕ). HasScannedBytes role limits scan bs heads) (sym (append-nil bytes)) taken)
 
--- a piece that is taken in two parts
-pub takes_further : (old mid new : Scan) (piece share : List ℕ) (at n : ℕ) (more heads : List HeadInfo) → share ≡ drop at piece → TakesFront old mid piece at more → TakesFront mid new share n heads
-    → TakesFront old new piece (at + n) (more ++ heads)
+-- a piece that is consumed in two parts
+pub takes_further : (old mid new : Scan) (piece share : List ℕ) (at n : ℕ) (more heads : List HeadInfo) → share ≡ drop at piece → ConsumesPrefix old mid piece at more → ConsumesPrefix mid new share n heads
+    → ConsumesPrefix old new piece (at + n) (more ++ heads)
 takes_further old mid new piece share at n more next is first second role limits bytes heads taken =
     let came = second role limits (bytes ++ take at piece) (heads ++ more) (first role limits bytes heads taken) in
     let joined : (bytes ++ take at piece) ++ take n share ≡ bytes ++ take (at + n) piece =
     append_assoc bytes (take at piece) (take n share) ∙ ap (λ (bs : List ℕ). bytes ++ (take at piece ++ take n bs)) is ∙ ap (λ (bs : List ℕ). bytes ++ bs) (sym (take-add at n piece)) in
-    subst (λ (bs : List ℕ). HasTaken role limits new bs (heads ++ (more ++ next))) joined
-    (subst (λ (hs : List HeadInfo). HasTaken role limits new ((bytes ++ take at piece) ++ take n share) hs) (append_assoc heads more next) came)
+    subst (λ (bs : List ℕ). HasScannedBytes role limits new bs (heads ++ (more ++ next))) joined
+    (subst (λ (hs : List HeadInfo). HasScannedBytes role limits new ((bytes ++ take at piece) ++ take n share) hs) (append_assoc heads more next) came)
 
--- what stands behind some bytes are bytes
-pub bytes_behind : (at : ℕ) (piece : List ℕ) → IsBytes piece → IsBytes (drop at piece)
-bytes_behind at piece in_bytes = IsBytes-right (take at piece) (drop at piece) (subst IsBytes (sym (take-append-drop at piece)) in_bytes)
+-- the elements after some bytes are bytes
+pub bytes_after : (at : ℕ) (piece : List ℕ) → IsBytes piece → IsBytes (drop at piece)
+bytes_after at piece in_bytes = IsBytes-right (take at piece) (drop at piece) (subst IsBytes (sym (take-append-drop at piece)) in_bytes)
 
 heads_after : (reported : Reported) (notice : Notice) (bytes : List ℕ) → (reported_after reported notice bytes).heads ≡ reported.heads ++ heads_in notice
 heads_after reported notices.More bytes = sym (append-nil reported.heads)
@@ -81,54 +81,54 @@ heads_after reported (notices.FrameEnd event) bytes = sym (append-nil reported.h
 heads_after reported notices.Closed bytes = sym (append-nil reported.heads)
 heads_after reported (notices.Refused refusal) bytes = sym (append-nil reported.heads)
 
-has_taken : (role : Role) (limits : Limits) (scan : Scan) (bytes : List ℕ) (notice : Notice) (reported : Reported) → Reaches role limits scan notice bytes reported → HasTaken role limits scan bytes reported.heads
-has_taken role limits scan bytes notice reported reached = record { frames = reached.frames; since = reached.since; payload = reported.payload; ends = reported.ends; stands = reached.stands }
+has_taken : (role : Role) (limits : Limits) (scan : Scan) (bytes : List ℕ) (notice : Notice) (reported : Reported) → IsReachedBy role limits scan notice bytes reported → HasScannedBytes role limits scan bytes reported.heads
+has_taken role limits scan bytes notice reported reached = record { frames = reached.frames; since = reached.since; payload = reported.payload; ends = reported.ends; has_scanned = reached.has_scanned }
 
--- what a call takes
-pub takes_by : (old new : Scan) (notice : Notice) (piece after : List ℕ) (n : ℕ) → Advances old new piece after n notice → IsBytes piece → TakesFront old new piece n (heads_in notice)
+-- what a call consumes
+pub takes_by : (old new : Scan) (notice : Notice) (piece after : List ℕ) (n : ℕ) → Advances old new piece after n notice → IsBytes piece → ConsumesPrefix old new piece n (heads_in notice)
 takes_by old new notice piece after n advances in_bytes role limits bytes heads taken =
     let reported : Reported = record { heads = heads; payload = taken.payload; ends = taken.ends } in
-    let reached = advances role limits bytes taken.since taken.frames reported in_bytes taken.stands in
-    subst (λ (hs : List HeadInfo). HasTaken role limits new (bytes ++ take n piece) hs) (heads_after reported notice (take n after))
+    let reached = advances role limits bytes taken.since taken.frames reported in_bytes taken.has_scanned in
+    subst (λ (hs : List HeadInfo). HasScannedBytes role limits new (bytes ++ take n piece) hs) (heads_after reported notice (take n after))
     (has_taken role limits new (bytes ++ take n piece) notice (reported_after reported notice (take n after)) reached)
 
-pub takes_on : (old mid new : Scan) (notice : Notice) (piece share after : List ℕ) (at n : ℕ) (more : List HeadInfo) → IsBytes piece → share ≡ drop at piece → TakesFront old mid piece at more
-    → Advances mid new share after n notice → TakesFront old new piece (at + n) (more ++ heads_in notice)
-takes_on old mid new notice piece share after at n more in_bytes is takes advances =
-    takes_further old mid new piece share at n more (heads_in notice) is takes (takes_by mid new notice share after n advances (subst IsBytes (sym is) (bytes_behind at piece in_bytes)))
+pub takes_on : (old mid new : Scan) (notice : Notice) (piece share after : List ℕ) (at n : ℕ) (more : List HeadInfo) → IsBytes piece → share ≡ drop at piece → ConsumesPrefix old mid piece at more
+    → Advances mid new share after n notice → ConsumesPrefix old new piece (at + n) (more ++ heads_in notice)
+takes_on old mid new notice piece share after at n more in_bytes is consumes advances =
+    takes_further old mid new piece share at n more (heads_in notice) is consumes (takes_by mid new notice share after n advances (subst IsBytes (sym is) (bytes_after at piece in_bytes)))
 
 -- ---- a piece so far
 
--- The scan has taken the piece up to this byte, and the piece as it is now is the same from there on.
+-- The scan has consumed the piece up to this byte, and the rest of the piece is unchanged.
 pub record IsFedTo (old scan : Scan) (piece here : List ℕ) (at : ℕ) : Type 0 where
   pub in_bytes : IsBytes piece
   pub within : at ≤ length piece
   pub size : length here ≡ length piece
   pub kept : drop at here ≡ drop at piece
   pub room : room_of scan + at ≡ room_of old
-  pub takes : (more : List HeadInfo) × TakesFront old scan piece at more
+  pub consumes : (more : List HeadInfo) × ConsumesPrefix old scan piece at more
 
 -- some bytes further
 pub fed_further : (old scan new : Scan) (piece here after : List ℕ) (at n : ℕ) → IsFedTo old scan piece here at → n ≤ length (mid_of at (length here - at) here)
     → length after ≡ length (mid_of at (length here - at) here) → drop n after ≡ drop n (mid_of at (length here - at) here) → room_of new + n ≡ room_of scan
-    → (IsBytes (mid_of at (length here - at) here) → (heads : List HeadInfo) × TakesFront scan new (mid_of at (length here - at) here) n heads) → IsFedTo old new piece (put_mid at (length here - at) here after) (at + n)
-fed_further old scan new piece here after at n fed fits same_size same room takes =
+    → (IsBytes (mid_of at (length here - at) here) → (heads : List HeadInfo) × ConsumesPrefix scan new (mid_of at (length here - at) here) n heads) → IsFedTo old new piece (put_mid at (length here - at) here after) (at + n)
+fed_further old scan new piece here after at n fed fits same_size same room consumes =
     let share = mid_of at (length here - at) here in
     let is : share ≡ drop at piece = share_is at here ∙ fed.kept in
     let in_here : at ≤ length here = omega (arith, fed.within, fed.size) in
-    let in_share : IsBytes share = subst IsBytes (sym is) (bytes_behind at piece fed.in_bytes) in
+    let in_share : IsBytes share = subst IsBytes (sym is) (bytes_after at piece fed.in_bytes) in
     let size : length share ≡ length (drop at piece) = ap (λ (bs : List ℕ). length bs) is in
-    let more = takes in_share in
+    let more = consumes in_share in
     record {
       in_bytes = fed.in_bytes;
       within = omega (arith, fits, size, length-drop at piece, fed.within);
       size = same_len_mid at (length here - at) here after same_size ∙ fed.size;
-      kept = kept_behind at (length here - at) n here after in_here fits same_size same ∙ same_further at n here piece in_here fed.within fed.kept;
+      kept = kept_after at (length here - at) n here after in_here fits same_size same ∙ same_further at n here piece in_here fed.within fed.kept;
       room = omega (arith, room, fed.room);
-      takes = (fed.takes.0 ++ more.0, takes_further old scan new piece share at n fed.takes.0 more.0 is fed.takes.1 more.1);
+      consumes = (fed.consumes.0 ++ more.0, takes_further old scan new piece share at n fed.consumes.0 more.0 is fed.consumes.1 more.1);
     }
 
--- ---- a call gets on
+-- ---- a call makes progress
 
 pub untold_few : (stage : Stage) → ends_pending_at stage ≤ 1
 untold_few stages.Between = omega arith
@@ -147,20 +147,20 @@ no_refusal (notices.FrameEnd event) other = (λ is. is, refl)
 no_refusal notices.Closed other = (λ is. is, refl)
 no_refusal (notices.Refused refusal) other = absurd (other refusal refl)
 
-pub none_told : (notice : Notice) → refusal_in_notice notice ≡ None → IsRefusal notice → ⊥
-none_told notices.More reported is = is
-none_told (notices.Head info) reported is = is
-none_told notices.Payload reported is = is
-none_told (notices.FrameEnd event) reported is = is
-none_told notices.Closed reported is = is
-none_told (notices.Refused refusal) reported is = absurd cc
+pub none_reported : (notice : Notice) → refusal_in_notice notice ≡ None → IsRefusal notice → ⊥
+none_reported notices.More reported is = is
+none_reported (notices.Head info) reported is = is
+none_reported notices.Payload reported is = is
+none_reported (notices.FrameEnd event) reported is = is
+none_reported notices.Closed reported is = is
+none_reported (notices.Refused refusal) reported is = absurd cc
 
--- each byte taken counts twice, so that a frame's end that is not reported yet counts less
-pub falls : (old new : Scan) (notice : Notice) (at n size : ℕ) → at < size → at + n ≤ size → (IsRefusal notice → ⊥) → GetsOn old new n notice
+-- each consumed byte counts twice, and a frame end that isn't reported yet counts once
+pub falls : (old new : Scan) (notice : Notice) (at n size : ℕ) → at < size → at + n ≤ size → (IsRefusal notice → ⊥) → MakesProgress old new n notice
     → 2 * (size - (at + n)) + ends_pending new < 2 * (size - at) + ends_pending old
-falls old new notice at n size less fits other gets_on =
+falls old new notice at n size less fits other makes_progress =
     let few = untold_few new.stage in
-    elim gets_on [
+    elim makes_progress [
       | inl some ↦ omega arith
       | inr rest ↦ elim rest [
         | inl fewer ↦ omega arith
@@ -168,7 +168,7 @@ falls old new notice at n size less fits other gets_on =
       ]
     ]
 
--- the same where more bytes are taken, or none and the scan stays as it is
+-- the same if more bytes are consumed, or none and the scan is unchanged
 pub falls_further : (old new : Scan) (at n size most : ℕ) → at + n ≤ size → 2 * (size - at) + ends_pending old < most → (n ≡ 0 → new ≡ old) → 2 * (size - (at + n)) + ends_pending new < most
 falls_further old new at n size most fits less same =
     elim (cases_eq n 0) [

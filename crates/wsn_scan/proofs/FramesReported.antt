@@ -14,14 +14,14 @@ use Rattle.wsn_rules.specs.declared.verdict.Refusal.{Refusal}
 use Rattle.wsn_rules.specs.declared.verdict.Verdict.{Verdict}
 use Rattle.wsn_rules.specs.declared.verdict.Verdict.TheVariants.{Refused}
 use Rattle.wsn_rules.specs.Limits.{Limits}
-use Rattle.wsn_scan.specs.Feeding.{HasTaken}
-use Rattle.wsn_scan.specs.FramesTold.{Position, BetweenFrames, InFrame}
+use Rattle.wsn_scan.specs.Feeding.{HasScannedBytes}
+use Rattle.wsn_scan.specs.ReportedFrames.{Position, BetweenFrames, InFrame}
 use Rattle.wsn_scan.specs.NoticeReaders.{EndsReported, begun_at, HasPayload}
 use Rattle.wsn_rules.specs.Verdict.{IsRefused, IsVerdict}
 use Rattle.wsn_rules.specs.Heads.{info_of, heads_of}
 use Rattle.wsn_rules.specs.Lawful.{IsLawful}
 use Rattle.wsn_frame.specs.PartialHeads.{info_at}
-use Rattle.wsn_scan.specs.Scans.{EndsWith, Stands, StandsAt, Takes, TakesAt, refusal_at, refusal_in, ends_pending, ends_pending_at}
+use Rattle.wsn_scan.specs.Scans.{EndsWith, HasScanned, HasScannedAt, ConsumesFromPiece, ConsumesAtStage, refusal_at, refusal_in, ends_pending, ends_pending_at}
 use Rattle.wsn_scan.specs.Reports.{Reported, reported_after, ends_of, IsHeadNotice, IsRefusal}
 use Rattle.wsn_scan.proofs.HeadsReported.{heads_push}
 use Rattle.wsn_rules.proofs.OneVerdict.{one_verdict}
@@ -29,12 +29,12 @@ use Rattle.wsn_rules.proofs.LawfulLists.{lawful_front}
 use Rattle.wsn_scan.proofs.Unrefused.{not_refused, refused}
 use Rattle.wsn_rules.proofs.Walk.{walk, spellable_of_lawful, stream_push}
 
--- a list that goes on by nothing
+-- a list that is no longer after another was appended
 no_more : {A : Type 0} (xs ys : List A) → length (xs ++ ys) ≡ length xs → ys ≡ []
 no_more xs [] same = refl
 no_more xs (y ∷ ys) same = absurd (omega (arith, length-append xs (y ∷ ys)))
 
--- of two lists with one last element more, the fronts are the same, and the last
+-- two equal lists, split before their last elements
 same_push : {A : Type 0} (xs ys : List A) (x y : A) → xs ++ x ∷ [] ≡ ys ++ y ∷ [] → (xs ≡ ys) × (x ≡ y)
 same_push [] [] x y same = (refl, cc)
 same_push [] (z ∷ ys) x y same = absurd (omega (arith, ap (λ (zs : List _). length zs) same, length-append ys (y ∷ [])))
@@ -64,21 +64,21 @@ between (InFrame info payload) none = absurd cc
 
 in_frame : (at : Position) (info : HeadInfo) (payload : List ℕ) → begun_at at ≡ info ∷ [] → HasPayload at payload → at ≡ InFrame info payload
 in_frame BetweenFrames info payload begun has = absurd cc
-in_frame (InFrame told front) info payload begun has = let same : told ≡ info = cc in ap (λ (i : HeadInfo). InFrame i front) same ∙ ap (λ (bs : List ℕ). InFrame info bs) (sym has)
+in_frame (InFrame has_reported front) info payload begun has = let same : has_reported ≡ info = cc in ap (λ (i : HeadInfo). InFrame i front) same ∙ ap (λ (bs : List ℕ). InFrame info bs) (sym has)
 
 not_both : (at : Position) (info : HeadInfo) (payload : List ℕ) → at ≡ BetweenFrames → at ≡ InFrame info payload → ⊥
 not_both at info payload none some = let both : BetweenFrames ≡ InFrame info payload = sym none ∙ some in cc
 
--- The last frame is whole, and its end isn't reported: all of it was reported but that.
+-- The last frame is whole, and all of it was reported but its end.
 pub record IsWhole (fs done : List Frame) (at : Position) (event : Bool) (f : Frame) : Type 0 where
   pub all : fs ≡ done ++ f ∷ []
   pub final : f.fin ≡ event
   pub is : at ≡ InFrame (info_of (length (stream done)) f) f.payload
 
 module _ (role : Role) (limits : Limits) where
-  -- the first so many lawful frames of the bytes are these
-  same_frames_told : (bytes r s : List ℕ) (fs gs : List Frame) → IsLawful role limits fs → IsLawful role limits gs → bytes ≡ stream fs ++ r → bytes ≡ stream gs ++ s → length fs ≡ length gs → fs ≡ gs
-  same_frames_told bytes r s fs gs lawful also whole again size =
+  -- as many lawful frames of the same bytes are the same
+  same_frames_reported : (bytes r s : List ℕ) (fs gs : List Frame) → IsLawful role limits fs → IsLawful role limits gs → bytes ≡ stream fs ++ r → bytes ≡ stream gs ++ s → length fs ≡ length gs → fs ≡ gs
+  same_frames_reported bytes r s fs gs lawful also whole again size =
       elim (walk fs gs r s (spellable_of_lawful role limits fs lawful) (spellable_of_lawful role limits gs also) (sym whole ∙ again)) [
         | inl on ↦
             let none = no_more fs on.0 (sym (ap (λ (hs : List Frame). length hs) on.1) ∙ sym size) in
@@ -90,32 +90,32 @@ module _ (role : Role) (limits : Limits) where
 
   pub same_by_ends : (bytes rest : List ℕ) (reported : Reported) (done fs : List Frame) (at : Position) → EndsReported role limits bytes reported done at → IsLawful role limits fs → bytes ≡ stream fs ++ rest
       → reported.ends ≡ ends_of fs → done ≡ fs
-  same_by_ends bytes rest reported done fs at told lawful whole ends =
-      let size : length done ≡ length fs = sym (length-ends done) ∙ ap (λ (bs : List Bool). length bs) (sym told.ends ∙ ends) ∙ length-ends fs in
-      same_frames_told bytes told.rest rest done fs told.lawful lawful told.whole whole size
+  same_by_ends bytes rest reported done fs at has_reported lawful whole ends =
+      let size : length done ≡ length fs = sym (length-ends done) ∙ ap (λ (bs : List Bool). length bs) (sym has_reported.ends ∙ ends) ∙ length-ends fs in
+      same_frames_reported bytes has_reported.rest rest done fs has_reported.lawful lawful has_reported.whole whole size
 
-  -- all the bytes tell
-  pub frames_of_bytes : (scan : Scan) (bytes since : List ℕ) (fs : List Frame) (reported : Reported) → Stands role limits scan bytes fs since reported → (verdict : Verdict) × IsVerdict role limits bytes fs verdict
-  frames_of_bytes scan bytes since fs reported stands = of (refusal_in scan) refl
+  -- the bytes have a verdict with these frames
+  pub frames_of_bytes : (scan : Scan) (bytes since : List ℕ) (fs : List Frame) (reported : Reported) → HasScanned role limits scan bytes fs since reported → (verdict : Verdict) × IsVerdict role limits bytes fs verdict
+  frames_of_bytes scan bytes since fs reported has_scanned = of (refusal_in scan) refl
     where
-      taken : HasTaken role limits scan bytes reported.heads
-      taken = record { frames = fs; since = since; payload = reported.payload; ends = reported.ends; stands = stands }
+      taken : HasScannedBytes role limits scan bytes reported.heads
+      taken = record { frames = fs; since = since; payload = reported.payload; ends = reported.ends; has_scanned = has_scanned }
 
       of : (refusal : Option Refusal) → refusal_in scan ≡ refusal → (verdict : Verdict) × IsVerdict role limits bytes fs verdict
-      of None none = not_refused role limits scan bytes since fs reported stands none
+      of None none = not_refused role limits scan bytes since fs reported has_scanned none
       of (Some refusal) is = (Refused refusal, subst (λ (bs : List ℕ). IsRefused role limits bs fs refusal.place refusal.reason) (append-nil bytes) ((refused role limits scan bytes reported.heads refusal taken is).refused []))
 
-  -- The bytes tell which frames are whole.
-  pub same_frames : (scan other : Scan) (bytes since rest : List ℕ) (fs gs : List Frame) (reported also : Reported) → Stands role limits scan bytes fs since reported → Stands role limits other bytes gs rest also → fs ≡ gs
-  same_frames scan other bytes since rest fs gs reported also stands too =
-      let one = frames_of_bytes scan bytes since fs reported stands in
+  -- The bytes determine which frames are whole.
+  pub same_frames : (scan other : Scan) (bytes since rest : List ℕ) (fs gs : List Frame) (reported also : Reported) → HasScanned role limits scan bytes fs since reported → HasScanned role limits other bytes gs rest also → fs ≡ gs
+  same_frames scan other bytes since rest fs gs reported also has_scanned too =
+      let one = frames_of_bytes scan bytes since fs reported has_scanned in
       let two = frames_of_bytes other bytes rest gs also too in
       (one_verdict role limits bytes fs gs one.0 two.0 one.1 two.1).0
 
   -- ---- what was reported, by the scan's stage
 
-  module _ (scan : Scan) (bytes since : List ℕ) (fs : List Frame) (reported : Reported) (stands : Stands role limits scan bytes fs since reported)
-      (done : List Frame) (at : Position) (told : EndsReported role limits bytes reported done at) where
+  module _ (scan : Scan) (bytes since : List ℕ) (fs : List Frame) (reported : Reported) (has_scanned : HasScanned role limits scan bytes fs since reported)
+      (done : List Frame) (at : Position) (has_reported : EndsReported role limits bytes reported done at) where
     abbrev pub IsToldAt : Stage → Type 0
     IsToldAt stages.Between = (done ≡ fs) × (at ≡ BetweenFrames)
     IsToldAt (stages.Head part) = (done ≡ fs) × (at ≡ BetweenFrames)
@@ -126,11 +126,11 @@ module _ (role : Role) (limits : Limits) where
     IsToldAt (stages.Refused refusal) = ⊤
 
     same : reported.ends ≡ ends_of fs → done ≡ fs
-    same ends = same_by_ends bytes since reported done fs at told stands.knows.lawful stands.knows.whole ends
+    same ends = same_by_ends bytes since reported done fs at has_reported has_scanned.has_consumed.lawful has_scanned.has_consumed.whole ends
 
     quiet : reported.heads ≡ heads_of fs → reported.ends ≡ ends_of fs → (done ≡ fs) × (at ≡ BetweenFrames)
     quiet heads ends =
-        (same ends, between at (same_front (heads_of done) (begun_at at) [] (sym told.heads ∙ heads ∙ ap (λ (hs : List Frame). heads_of hs) (sym (same ends)) ∙ sym (append-nil (heads_of done)))))
+        (same ends, between at (same_front (heads_of done) (begun_at at) [] (sym has_reported.heads ∙ heads ∙ ap (λ (hs : List Frame). heads_of hs) (sym (same ends)) ∙ sym (append-nil (heads_of done)))))
 
     whole : (event : Bool) → EndsWith event reported.payload fs → reported.heads ≡ heads_of fs → reported.ends ++ event ∷ [] ≡ ends_of fs → (f : Frame) × IsWhole fs done at event f
     whole event last heads ends =
@@ -139,31 +139,31 @@ module _ (role : Role) (limits : Limits) where
         let all : fs ≡ before ++ f ∷ [] = last.4 in
         let front = same_push reported.ends (ends_of before) event f.fin (ends ∙ ap (λ (hs : List Frame). ends_of hs) all ∙ ends_push before f) in
         let split : bytes ≡ stream before ++ (frame_bytes f ++ since) =
-        stands.knows.whole ∙ ap (λ (hs : List Frame). stream hs ++ since) all ∙ ap (λ (bs : List ℕ). bs ++ since) (stream_push before f) ∙ append_assoc (stream before) (frame_bytes f) since in
-        let lawful = lawful_front role limits before (f ∷ []) (subst (IsLawful role limits) all stands.knows.lawful) in
-        let is : done ≡ before = same_by_ends bytes (frame_bytes f ++ since) reported done before at told lawful split front.0 in
+        has_scanned.has_consumed.whole ∙ ap (λ (hs : List Frame). stream hs ++ since) all ∙ ap (λ (bs : List ℕ). bs ++ since) (stream_push before f) ∙ append_assoc (stream before) (frame_bytes f) since in
+        let lawful = lawful_front role limits before (f ∷ []) (subst (IsLawful role limits) all has_scanned.has_consumed.lawful) in
+        let is : done ≡ before = same_by_ends bytes (frame_bytes f ++ since) reported done before at has_reported lawful split front.0 in
         let with_it : fs ≡ done ++ f ∷ [] = all ∙ ap (λ (hs : List Frame). hs ++ f ∷ []) (sym is) in
         let begun : begun_at at ≡ info_of (length (stream done)) f ∷ [] =
-        same_front (heads_of done) (begun_at at) (info_of (length (stream done)) f ∷ []) (sym told.heads ∙ heads ∙ ap (λ (hs : List Frame). heads_of hs) with_it ∙ heads_push done f) in
-        let in_it = in_frame at (info_of (length (stream done)) f) reported.payload begun told.payload in
+        same_front (heads_of done) (begun_at at) (info_of (length (stream done)) f ∷ []) (sym has_reported.heads ∙ heads ∙ ap (λ (hs : List Frame). heads_of hs) with_it ∙ heads_push done f) in
+        let in_it = in_frame at (info_of (length (stream done)) f) reported.payload begun has_reported.payload in
         (f, record { all = with_it; final = last.2; is = in_it ∙ ap (λ (bs : List ℕ). InFrame (info_of (length (stream done)) f) bs) (sym last.3) })
 
-    pub told_at : (stage : Stage) → StandsAt role limits scan stage bytes fs since reported → IsToldAt stage
-    told_at stages.Between s = quiet s.at.2 s.at.3
-    told_at (stages.Head part) s = quiet s.at.2 s.at.3
-    told_at (stages.Payload inside) s =
+    pub reported_at : (stage : Stage) → HasScannedAt role limits scan stage bytes fs since reported → IsToldAt stage
+    reported_at stages.Between s = quiet s.at.2 s.at.3
+    reported_at (stages.Head part) s = quiet s.at.2 s.at.3
+    reported_at (stages.Payload inside) s =
         let is = same s.at.3 in
         let info = info_at (length (stream fs)) inside.head in
-        let begun = same_front (heads_of done) (begun_at at) (info ∷ []) (sym told.heads ∙ s.at.2 ∙ ap (λ (hs : List Frame). heads_of hs ++ info ∷ []) (sym is)) in
-        (is, in_frame at info reported.payload begun told.payload)
-    told_at (stages.Ended event) s = whole event s.at.1 s.at.3 s.at.4
-    told_at (stages.CloseEnded code) s = whole true s.at.2 s.at.4 s.at.5
-    told_at (stages.Closed code) s = quiet s.at.2 s.at.3
-    told_at (stages.Refused refusal) s = tt
+        let begun = same_front (heads_of done) (begun_at at) (info ∷ []) (sym has_reported.heads ∙ s.at.2 ∙ ap (λ (hs : List Frame). heads_of hs ++ info ∷ []) (sym is)) in
+        (is, in_frame at info reported.payload begun has_reported.payload)
+    reported_at (stages.Ended event) s = whole event s.at.1 s.at.3 s.at.4
+    reported_at (stages.CloseEnded code) s = whole true s.at.2 s.at.4 s.at.5
+    reported_at (stages.Closed code) s = quiet s.at.2 s.at.3
+    reported_at (stages.Refused refusal) s = tt
 
-    -- Between frames, or where each whole frame was told to its end, no end is owed.
+    -- between frames, or if each whole frame was reported to its end, no frame end has yet to be reported
     pub settled : (at ≡ BetweenFrames) ⊎ (done ≡ fs) → refusal_in scan ≡ None → (done ≡ fs) × (ends_pending scan ≡ 0)
-    settled known none = of scan.stage none (told_at scan.stage stands)
+    settled known none = of scan.stage none (reported_at scan.stage has_scanned)
       where
         owed : {event : Bool} (f : Frame) → IsWhole fs done at event f → ⊥
         owed f frame =
@@ -183,7 +183,7 @@ module _ (role : Role) (limits : Limits) where
         of (stages.Closed code) unrefused is = (is.0, refl)
         of (stages.Refused refusal) unrefused is = absurd cc
 
-    -- ---- what a notice says of the call that told it, which took n bytes of so many
+    -- ---- what the notice means for the call that reported it and consumed n bytes of `size`
 
     module _ (size n : ℕ) where
       abbrev pub IsSaidAt : Stage → Notice → Type 0
@@ -208,47 +208,47 @@ module _ (role : Role) (limits : Limits) where
       said_in_head stage notice is (inr (inl head)) = begins stage notice is.1 head
       said_in_head stage notice is (inr (inr refusal)) = refuses stage notice refusal
 
-      -- a payload that is not whole yet takes all of a piece, or some of it
-      said_in_payload : (inside : Inside) (notice : Notice) → StandsAt role limits scan (stages.Payload inside) bytes fs since reported → TakesAt (stages.Payload inside) size n notice → IsSaidAt (stages.Payload inside) notice
+      -- in a payload that isn't whole yet, a call consumes all of a piece, or some of it
+      said_in_payload : (inside : Inside) (notice : Notice) → HasScannedAt role limits scan (stages.Payload inside) bytes fs since reported → ConsumesAtStage (stages.Payload inside) size n notice → IsSaidAt (stages.Payload inside) notice
       said_in_payload inside notice s (inl more) =
           let short = s.at.1.short in
-          let behind = s.at.1.done in
-          let all : n ≡ size = elim more.2.2 [ inl same ↦ same | inr left ↦ absurd (omega (arith, more.1, left, short, behind)) ] in
-          subst (IsSaidAt (stages.Payload inside)) (sym more.0) ((told_at (stages.Payload inside) s).0, all, inr more.1)
+          let following = s.at.1.done in
+          let all : n ≡ size = elim more.2.2 [ inl same ↦ same | inr left ↦ absurd (omega (arith, more.1, left, short, following)) ] in
+          subst (IsSaidAt (stages.Payload inside)) (sym more.0) ((reported_at (stages.Payload inside) s).0, all, inr more.1)
       said_in_payload inside notice s (inr (inl payload)) =
-          subst (IsSaidAt (stages.Payload inside)) (sym payload.0) ((info_at (length (stream fs)) inside.head, (told_at (stages.Payload inside) s).1), payload.1)
+          subst (IsSaidAt (stages.Payload inside)) (sym payload.0) ((info_at (length (stream fs)) inside.head, (reported_at (stages.Payload inside) s).1), payload.1)
       said_in_payload inside notice s (inr (inr refusal)) = refuses (stages.Payload inside) notice refusal
 
-      said_at : (stage : Stage) (notice : Notice) → StandsAt role limits scan stage bytes fs since reported → TakesAt stage size n notice → IsSaidAt stage notice
-      said_at stages.Between notice s takes = said_in_head stages.Between notice (told_at stages.Between s) takes
-      said_at (stages.Head part) notice s takes = said_in_head (stages.Head part) notice (told_at (stages.Head part) s) takes
-      said_at (stages.Payload inside) notice s takes = said_in_payload inside notice s takes
-      said_at (stages.Ended event) notice s takes = subst (IsSaidAt (stages.Ended event)) (sym takes.1) (told_at (stages.Ended event) s, takes.0, refl)
-      said_at (stages.CloseEnded code) notice s takes = subst (IsSaidAt (stages.CloseEnded code)) (sym takes.1) (told_at (stages.CloseEnded code) s, takes.0, refl)
-      said_at (stages.Closed code) notice s takes =
-          let is = told_at (stages.Closed code) s in
-          subst (IsSaidAt (stages.Closed code)) (sym takes.1) (is.0, takes.0, inl is.1)
-      said_at (stages.Refused refusal) notice s takes = subst (IsSaidAt (stages.Refused refusal)) (sym takes.1) tt
+      said_at : (stage : Stage) (notice : Notice) → HasScannedAt role limits scan stage bytes fs since reported → ConsumesAtStage stage size n notice → IsSaidAt stage notice
+      said_at stages.Between notice s consumes = said_in_head stages.Between notice (reported_at stages.Between s) consumes
+      said_at (stages.Head part) notice s consumes = said_in_head (stages.Head part) notice (reported_at (stages.Head part) s) consumes
+      said_at (stages.Payload inside) notice s consumes = said_in_payload inside notice s consumes
+      said_at (stages.Ended event) notice s consumes = subst (IsSaidAt (stages.Ended event)) (sym consumes.1) (reported_at (stages.Ended event) s, consumes.0, refl)
+      said_at (stages.CloseEnded code) notice s consumes = subst (IsSaidAt (stages.CloseEnded code)) (sym consumes.1) (reported_at (stages.CloseEnded code) s, consumes.0, refl)
+      said_at (stages.Closed code) notice s consumes =
+          let is = reported_at (stages.Closed code) s in
+          subst (IsSaidAt (stages.Closed code)) (sym consumes.1) (is.0, consumes.0, inl is.1)
+      said_at (stages.Refused refusal) notice s consumes = subst (IsSaidAt (stages.Refused refusal)) (sym consumes.1) tt
 
-      pub said : (notice : Notice) → Takes scan size n notice → IsSaidAt scan.stage notice
-      said notice takes = said_at scan.stage notice stands takes
+      pub said : (notice : Notice) → ConsumesFromPiece scan size n notice → IsSaidAt scan.stage notice
+      said notice consumes = said_at scan.stage notice has_scanned consumes
 
-    -- ---- what is reported with one notice more
+    -- ---- what is reported after one more notice
 
-    -- more bytes, behind which the same was reported
-    pub same_told : (more : List ℕ) → EndsReported role limits (bytes ++ more) reported done at
-    same_told more = record {
-      lawful = told.lawful;
-      rest = told.rest ++ more;
-      whole = ap (λ (bs : List ℕ). bs ++ more) told.whole ∙ append_assoc (stream done) told.rest more;
-      ends = told.ends;
-      heads = told.heads;
-      payload = told.payload;
+    -- more bytes, and nothing more was reported
+    pub same_reported : (more : List ℕ) → EndsReported role limits (bytes ++ more) reported done at
+    same_reported more = record {
+      lawful = has_reported.lawful;
+      rest = has_reported.rest ++ more;
+      whole = ap (λ (bs : List ℕ). bs ++ more) has_reported.whole ∙ append_assoc (stream done) has_reported.rest more;
+      ends = has_reported.ends;
+      heads = has_reported.heads;
+      payload = has_reported.payload;
     }
 
-    pub head_told : (info : HeadInfo) (more taken : List ℕ) → at ≡ BetweenFrames → EndsReported role limits (bytes ++ more) (reported_after reported (notices.Head info) taken) done (InFrame info [])
-    head_told info more taken is =
-        let longer = same_told more in
+    pub head_reported : (info : HeadInfo) (more taken : List ℕ) → at ≡ BetweenFrames → EndsReported role limits (bytes ++ more) (reported_after reported (notices.Head info) taken) done (InFrame info [])
+    head_reported info more taken is =
+        let longer = same_reported more in
         let none : begun_at at ≡ [] = ap begun_at is in
         record {
           lawful = longer.lawful;
@@ -259,17 +259,17 @@ module _ (role : Role) (limits : Limits) where
           payload = refl;
         }
 
-    pub payload_told : (info : HeadInfo) (more taken : List ℕ) → at ≡ InFrame info reported.payload → EndsReported role limits (bytes ++ more) (reported_after reported notices.Payload taken) done (InFrame info (reported.payload ++ taken))
-    payload_told info more taken is =
-        let longer = same_told more in
+    pub payload_reported : (info : HeadInfo) (more taken : List ℕ) → at ≡ InFrame info reported.payload → EndsReported role limits (bytes ++ more) (reported_after reported notices.Payload taken) done (InFrame info (reported.payload ++ taken))
+    payload_reported info more taken is =
+        let longer = same_reported more in
         record { lawful = longer.lawful; rest = longer.rest; whole = longer.whole; ends = longer.ends; heads = longer.heads ∙ ap (λ (p : Position). heads_of done ++ begun_at p) is; payload = refl }
 
-    pub end_told : (event : Bool) (f : Frame) (more taken : List ℕ) → IsWhole fs done at event f → EndsReported role limits (bytes ++ more) (reported_after reported (notices.FrameEnd event) taken) (done ++ f ∷ []) BetweenFrames
-    end_told event f more taken frame = record {
-      lawful = subst (IsLawful role limits) frame.all stands.knows.lawful;
+    pub end_reported : (event : Bool) (f : Frame) (more taken : List ℕ) → IsWhole fs done at event f → EndsReported role limits (bytes ++ more) (reported_after reported (notices.FrameEnd event) taken) (done ++ f ∷ []) BetweenFrames
+    end_reported event f more taken frame = record {
+      lawful = subst (IsLawful role limits) frame.all has_scanned.has_consumed.lawful;
       rest = since ++ more;
-      whole = ap (λ (bs : List ℕ). bs ++ more) (stands.knows.whole ∙ ap (λ (hs : List Frame). stream hs ++ since) frame.all) ∙ append_assoc (stream (done ++ f ∷ [])) since more;
-      ends = ap (λ (bs : List Bool). bs ++ event ∷ []) told.ends ∙ ap (λ (b : Bool). ends_of done ++ b ∷ []) (sym frame.final) ∙ sym (ends_push done f);
-      heads = told.heads ∙ ap (λ (p : Position). heads_of done ++ begun_at p) frame.is ∙ sym (heads_push done f) ∙ sym (append-nil (heads_of (done ++ f ∷ [])));
+      whole = ap (λ (bs : List ℕ). bs ++ more) (has_scanned.has_consumed.whole ∙ ap (λ (hs : List Frame). stream hs ++ since) frame.all) ∙ append_assoc (stream (done ++ f ∷ [])) since more;
+      ends = ap (λ (bs : List Bool). bs ++ event ∷ []) has_reported.ends ∙ ap (λ (b : Bool). ends_of done ++ b ∷ []) (sym frame.final) ∙ sym (ends_push done f);
+      heads = has_reported.heads ∙ ap (λ (p : Position). heads_of done ++ begun_at p) frame.is ∙ sym (heads_push done f) ∙ sym (append-nil (heads_of (done ++ f ∷ [])));
       payload = tt;
     }

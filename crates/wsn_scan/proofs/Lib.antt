@@ -4,12 +4,16 @@ pub mod HeadBytes
 pub mod HeadsReported
 pub mod HeadsSoFar
 pub mod FrameEnds
+pub mod EventFrames
+pub mod EventRuns
+pub mod ReaderEvents
 pub mod Refusals
 pub mod MoreBytes
 pub mod FedPieces
 pub mod Printing
 pub mod ListedInputs
 pub mod Unrefused
+pub mod Chunks
 pub mod JudgedInputs
 pub mod OneAnswer
 pub mod WholeInputs
@@ -21,4 +25,4 @@ pub mod ReaderBuffers
 pub mod ReaderSteps
 pub mod ReaderReads
 pub mod ReaderCalls
-pub mod ReaderTold
+pub mod ReaderReports

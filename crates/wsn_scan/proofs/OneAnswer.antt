@@ -1,14 +1,14 @@
--- Of an input whose bytes are known only one answer is right, unless a read fails.
+-- For an input whose bytes are known one answer is right, unless a read fails.
 use Rattle.std.proofs.Common.{◌≡◌, ℕ, ◌+◌, ◌<◌, false, true, Option, None, Some, Result, Ok, Err, List, ◌++◌, length, take, refl, sym, ap, ◌∙◌, subst, append-nil, arith}
 use Rattle.std.proofs.lemmas.List.{take-take}
 use Rattle.std.specs.Io.KnownBytes.{Consumes, IsAtEnd}
 use Rattle.wsn_wire.specs.declared.endpoint.Role.{Role}
 use Rattle.wsn_wire.specs.Frame.{Frame}
-use Rattle.wsn_wire.specs.Transfer.{Incoming}
+use Rattle.wsn_io.specs.Transfer.{Incoming}
 use Rattle.wsn_rules.specs.declared.verdict.Verdict.{Verdict}
 use Rattle.wsn_rules.specs.declared.verdict.Verdict.TheVariants.{Accepted, Cut, Refused}
-use Rattle.wsn_scan.specs.declared.stop.Stop.{Stop}
-use Rattle.wsn_scan.specs.declared.stop.Stop.TheVariants as stop
+use Rattle.wsn_io.specs.declared.stop.Stop.{Stop}
+use Rattle.wsn_io.specs.declared.stop.Stop.TheVariants as stop
 use Rattle.wsn_rules.specs.Limits.{Limits}
 use Rattle.wsn_rules.specs.Verdict.{IsVerdict}
 use Rattle.wsn_scan.specs.Judging.{IsJudged, IsReached, IsUnrefused}
@@ -17,7 +17,7 @@ use Rattle.wsn_rules.proofs.StaysRefused.{refused_alike}
 use Rattle.wsn_scan.proofs.JudgedInputs.{whole_verdict, whole_limit}
 
 module _ (role : Role) (limits : Limits) (old : Incoming) (all : List ℕ) (known : old.remaining ≡ Some all) where
-  -- what came up to the end is all of it
+  -- what came before the end is all of the input
   all_came : (new : Incoming) (came : List ℕ) → Consumes old.remaining new.remaining came → IsAtEnd new.remaining → all ≡ came
   all_came new came consumed at_end = by_rest new.remaining (subst (λ (a : Option (List ℕ)). Consumes a new.remaining came) known consumed) at_end
     where
@@ -25,7 +25,7 @@ module _ (role : Role) (limits : Limits) (old : Incoming) (all : List ℕ) (know
       by_rest None is end = absurd is
       by_rest (Some rest) is end = is ∙ ap (λ (bs : List ℕ). came ++ bs) end ∙ append-nil came
 
-  -- a verdict, or more bytes than the limit allows that show no refusal within it
+  -- a verdict, or more bytes than the limit allows, and those within it not refused
   not_both : (new other : Incoming) (verdict : Verdict) → IsJudged role limits old new (Ok verdict) → IsJudged role limits old other (Err stop.InputLimit) → ⊥
   not_both new other verdict judged stopped =
       let limit = whole_limit role limits old other all stopped known in

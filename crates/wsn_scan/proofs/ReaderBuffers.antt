@@ -7,28 +7,29 @@ use Rattle.std.proofs.lemmas.List.{length-take, length-take-le, drop-append-le, 
 use borrow.Rule.Slice.PartMut.{mid_of, mid_len, post_of, put_mid, put_same}
 use Rattle.wsn_rules.specs.Limits.{Limits}
 use Rattle.wsn_scan.specs.declared.notice_reader.NoticeReader.{NoticeReader}
-use Rattle.wsn_scan.specs.NoticeReaders.{IsBuffered, unread, count_past}
+use Rattle.wsn_scan.specs.NoticeReaders.{IsBuffered, unread}
+use Rattle.wsn_scan.specs.Refill.{count_past}
 
 pub nothing : (xs : List ℕ) → length xs ≡ 0 → xs ≡ []
 nothing [] none = refl
 nothing (x ∷ xs) none = absurd (omega arith)
 
--- ---- a part of a buffer that is handed out and comes back
+-- ---- a part of a buffer that a call may write to
 
--- what stands behind the first n of the part, once it is back
-pub part_behind : (at end n : ℕ) (xs ys : List ℕ) → at ≤ end → end ≤ length xs → length ys ≡ end - at → at + n ≤ end
+-- the bytes after the first n of the part, once the call has returned
+pub part_after : (at end n : ℕ) (xs ys : List ℕ) → at ≤ end → end ≤ length xs → length ys ≡ end - at → at + n ≤ end
     → slice_range (put_mid at (end - at) xs ys) (at + n) end ≡ drop n ys
-part_behind at end n xs ys within in_xs size fits =
+part_after at end n xs ys within in_xs size fits =
     let front : length (take at xs) ≡ at = length-take-le at xs (omega arith) in
-    let behind : drop (at + n) (put_mid at (end - at) xs ys) ≡ drop n ys ++ post_of at (end - at) xs =
+    let following : drop (at + n) (put_mid at (end - at) xs ys) ≡ drop n ys ++ post_of at (end - at) xs =
     ap (λ (m : ℕ). drop (m + n) (put_mid at (end - at) xs ys)) (sym front) ∙ drop-append-add (take at xs) (ys ++ post_of at (end - at) xs) n
     ∙ drop-append-le n ys (post_of at (end - at) xs) (omega (arith, size)) in
     let left : end - (at + n) ≡ length (drop n ys) = omega (arith, length-drop n ys, size) in
-    ap (take (end - (at + n))) behind ∙ take-append-le (end - (at + n)) (drop n ys) (post_of at (end - at) xs) (omega (arith, left)) ∙ take_all (end - (at + n)) (drop n ys) (omega (arith, left))
+    ap (take (end - (at + n))) following ∙ take-append-le (end - (at + n)) (drop n ys) (post_of at (end - at) xs) (omega (arith, left)) ∙ take_all (end - (at + n)) (drop n ys) (omega (arith, left))
 
-pub range_behind : (at end n : ℕ) (xs : List ℕ) → at ≤ end → end ≤ length xs → at + n ≤ end → slice_range xs (at + n) end ≡ drop n (slice_range xs at end)
-range_behind at end n xs within in_xs fits =
-    ap (λ (ys : List ℕ). slice_range ys (at + n) end) (sym (put_same at (end - at) xs)) ∙ part_behind at end n xs (mid_of at (end - at) xs) within in_xs (mid_len at end xs in_xs) fits
+pub range_after : (at end n : ℕ) (xs : List ℕ) → at ≤ end → end ≤ length xs → at + n ≤ end → slice_range xs (at + n) end ≡ drop n (slice_range xs at end)
+range_after at end n xs within in_xs fits =
+    ap (λ (ys : List ℕ). slice_range ys (at + n) end) (sym (put_same at (end - at) xs)) ∙ part_after at end n xs (mid_of at (end - at) xs) within in_xs (mid_len at end xs in_xs) fits
 
 pub length-range : (at end : ℕ) (xs : List ℕ) → at ≤ end → end ≤ length xs → length (slice_range xs at end) ≡ end - at
 length-range at end xs within in_xs = length-take-le (end - at) (drop at xs) (omega (arith, length-drop at xs))
@@ -44,7 +45,7 @@ module _ (limits : Limits) (reader : NoticeReader) (came scanned : List ℕ) (b 
       let size : length (take limits.input came) ≡ length scanned + length (unread reader) = ap (λ (bs : List ℕ). length bs) b.within ∙ length-append scanned (unread reader) in
       omega (arith, size, length_unread, length-take limits.input came)
 
-  -- where one byte more came, the buffer had room for all within the limit
+  -- one byte more than the limit came, and the buffer had room for it
   pub past_limit : reader.past ≡ true → length came ≡ limits.input + 1
   past_limit past = let more = ltb-true limits.input (length came) (b.past ∙ past) in omega (arith, more, b.few)
 

@@ -1,12 +1,11 @@
--- What a call of a reader of notices reads and answers, step by step.
+-- What a call of a reader of notices reads and returns, step by step.
 use Rattle.std.specs.Prelude.{nat_lt, ◌⊎◌, if◌then◌else◌}
 use Rattle.std.proofs.lemmas.Bool.{le-ltb, cases_eq}
 use Rattle.std.proofs.Common.{◌≡◌, ℕ, ◌+◌, ◌-◌, ◌*◌, ◌<◌, ◌≤◌, Bool, true, false, arith, Option, None, Some, Result, Ok, Err, List, [], ◌++◌, length, sym, ap, ◌∙◌, subst, inl, inr, append_assoc, append-nil}
-use Rattle.std.proofs.KnownBytes.{Consumes-nil, Consumes-trans}
-use Rattle.std.specs.Io.KnownBytes.{Consumes}
 use Rattle.wsn_wire.specs.declared.endpoint.Role.{Role}
 use Rattle.wsn_wire.specs.Frame.{Frame}
-use Rattle.wsn_wire.specs.Transfer.{Incoming}
+use Rattle.wsn_io.specs.Transfer.{Incoming, IsConsumed}
+use Rattle.wsn_io.proofs.Received.{consumed_none, consumed_on}
 use Rattle.wsn_rules.specs.declared.verdict.Refusal.{Refusal}
 use Rattle.wsn_rules.specs.declared.verdict.Verdict.{Verdict}
 use Rattle.wsn_rules.specs.declared.verdict.Verdict.TheVariants.{Refused}
@@ -17,47 +16,47 @@ use Rattle.wsn_scan.specs.declared.notice.Notice.TheVariants as notices
 use Rattle.wsn_scan.specs.declared.notice_reader.NextNotice.{NextNotice}
 use Rattle.wsn_scan.specs.declared.notice_reader.NextNotice.TheVariants as nexts
 use Rattle.wsn_scan.specs.declared.notice_reader.NoticeReader.{NoticeReader}
-use Rattle.wsn_scan.specs.declared.stop.Stop.{Stop}
-use Rattle.wsn_scan.specs.FramesTold.{Position}
-use Rattle.wsn_scan.specs.NoticeReaders.{HasTold, IsReading, left_of}
-use Rattle.wsn_scan.specs.ReadNotices.{ReadsOn, IsNext, IsDone}
-use Rattle.wsn_scan.specs.ReaderSteps.{Tells, Progresses, IsUsed, IsFilled, IsRefusedBy, idle}
+use Rattle.wsn_io.specs.declared.stop.Stop.{Stop}
+use Rattle.wsn_scan.specs.ReportedFrames.{Position}
+use Rattle.wsn_scan.specs.NoticeReaders.{HasReported, IsReading, notices_left}
+use Rattle.wsn_scan.specs.ReadNotices.{ReadsOn, IsNextNotice, IsDone}
+use Rattle.wsn_scan.specs.ReaderSteps.{ReportsStep, Progresses, IsUsed, IsFilled, IsRefusedBy, idle}
 
--- A call has read so much, and told nothing yet.
+-- A call has read these bytes more and reported nothing yet.
 pub record HasRead (role : Role) (limits : Limits) (old new : Incoming) (reader : NoticeReader) (came : List ℕ) (done : List Frame) (at : Position) : Type 0 where
   pub more : List ℕ
-  pub consumed : Consumes old.remaining new.remaining more
-  pub told : HasTold role limits reader (came ++ more) done at
+  pub consumed : IsConsumed old new more
+  pub has_reported : HasReported role limits reader (came ++ more) done at
 
 module _ (role : Role) (limits : Limits) (old : Incoming) (came : List ℕ) (done : List Frame) (at : Position) where
-  pub begins : (reader : NoticeReader) → HasTold role limits reader came done at → HasRead role limits old old reader came done at
-  begins reader told = record { more = []; consumed = Consumes-nil old.remaining; told = subst (λ (bs : List ℕ). HasTold role limits reader bs done at) (sym (append-nil came)) told }
+  pub begins : (reader : NoticeReader) → HasReported role limits reader came done at → HasRead role limits old old reader came done at
+  begins reader has_reported = record { more = []; consumed = consumed_none old; has_reported = subst (λ (bs : List ℕ). HasReported role limits reader bs done at) (sym (append-nil came)) has_reported }
 
   module _ (mid : Incoming) (reader : NoticeReader) (read : HasRead role limits old mid reader came done at) where
-    -- it answers without reading more
-    pub answers : (next : NoticeReader) (result : Result NextNotice Stop) → IsNext role limits mid next (came ++ read.more) done at result → ReadsOn role limits old mid next came done at result
-    answers next result is = record { more = read.more; consumed = read.consumed; few = read.told.buffered.few; next = is }
+    -- it returns without reading more
+    pub answers : (next : NoticeReader) (result : Result NextNotice Stop) → IsNextNotice role limits mid next (came ++ read.more) done at result → ReadsOn role limits old mid next came done at result
+    answers next result is = record { more = read.more; consumed = read.consumed; few = read.has_reported.buffered.few; next = is }
 
     pub refused_done : (refusal : Refusal) → IsRefusedBy role limits (came ++ read.more) done at refusal → mid.failed ≡ false → IsDone role limits mid (came ++ read.more) done at (Refused refusal)
     refused_done refusal by unfailed = (
       (done, by.refused, by.soon, by.within, unfailed),
       subst (λ (bs : List ℕ). IsRefused role limits bs done refusal.place refusal.reason) (append-nil (came ++ read.more)) (by.refused []),
-      by.told,
+      by.has_reported,
     )
 
     -- one read more
     module _ (new : Incoming) (next : NoticeReader) where
-      both : (more : List ℕ) → Consumes mid.remaining new.remaining more → Consumes old.remaining new.remaining (read.more ++ more)
-      both more consumed = Consumes-trans old.remaining mid.remaining new.remaining read.more more read.consumed consumed
+      both : (more : List ℕ) → IsConsumed mid new more → IsConsumed old new (read.more ++ more)
+      both more consumed = consumed_on old mid new read.more more read.consumed consumed
 
       pub fills : IsFilled role limits mid new next (came ++ read.more) done at (Ok None) → HasRead role limits old new next came done at
       fills filled = record {
         more = read.more ++ filled.more;
         consumed = both filled.more filled.consumed;
-        told = subst (λ (bs : List ℕ). HasTold role limits next bs done at) (append_assoc came read.more filled.more) filled.next.0;
+        has_reported = subst (λ (bs : List ℕ). HasReported role limits next bs done at) (append_assoc came read.more filled.more) filled.next.0;
       }
 
-      joined : (result : Result (Option Verdict) Stop) (answer : Result NextNotice Stop) (filled : IsFilled role limits mid new next (came ++ read.more) done at result) → IsNext role limits new next ((came ++ read.more) ++ filled.more) done at answer
+      joined : (result : Result (Option Verdict) Stop) (answer : Result NextNotice Stop) (filled : IsFilled role limits mid new next (came ++ read.more) done at result) → IsNextNotice role limits new next ((came ++ read.more) ++ filled.more) done at answer
           → ReadsOn role limits old new next came done at answer
       joined result answer filled is =
           let all = append_assoc came read.more filled.more in
@@ -65,7 +64,7 @@ module _ (role : Role) (limits : Limits) (old : Incoming) (came : List ℕ) (don
             more = read.more ++ filled.more;
             consumed = both filled.more filled.consumed;
             few = subst (λ (bs : List ℕ). length bs ≤ limits.input + 1) all filled.few;
-            next = subst (λ (bs : List ℕ). IsNext role limits new next bs done at answer) all is;
+            next = subst (λ (bs : List ℕ). IsNextNotice role limits new next bs done at answer) all is;
           }
 
       pub ends : (verdict : Verdict) → IsFilled role limits mid new next (came ++ read.more) done at (Ok (Some verdict)) → ReadsOn role limits old new next came done at (Ok (nexts.Done verdict))
@@ -74,10 +73,10 @@ module _ (role : Role) (limits : Limits) (old : Incoming) (came : List ℕ) (don
       pub halts : (halted : Stop) → IsFilled role limits mid new next (came ++ read.more) done at (Err halted) → ReadsOn role limits old new next came done at (Err halted)
       halts halted filled = joined (Err halted) (Err halted) filled filled.next
 
-pub reading_of : (role : Role) (limits : Limits) (reader : NoticeReader) (came : List ℕ) (done : List Frame) (at : Position) → HasTold role limits reader came done at → IsReading reader
-reading_of role limits reader came done at told = record { role = role; limits = limits; came = came; done = done; at = at; told = told }
+pub reading_of : (role : Role) (limits : Limits) (reader : NoticeReader) (came : List ℕ) (done : List Frame) (at : Position) → HasReported role limits reader came done at → IsReading reader
+reading_of role limits reader came done at has_reported = record { role = role; limits = limits; came = came; done = done; at = at; has_reported = has_reported }
 
--- ---- the reads come to an end
+-- ---- the reads end
 
 pub idle_few : (at end : ℕ) (past : Bool) → idle at end past ≤ 1
 idle_few at end true = omega arith
@@ -87,7 +86,8 @@ idle_few at end false = few (nat_lt at end)
     few true = omega arith
     few false = omega arith
 
--- Where all of a buffer is scanned and one more read fills it, the bound falls: by what was scanned, or since the buffer was idle.
+-- when a scanned buffer is filled again, the bound falls: by the bytes that were scanned, or as the buffer is no longer
+-- idle
 pub read_falls : (at end left now next : ℕ) (past : Bool) → at ≤ end → past ≡ false → now + (end - at) ≤ left → next ≡ 0 → 2 * now + next < 2 * left + idle at end past
 read_falls at end left now next past within none falls zero = by (cases_eq at end)
   where
@@ -97,13 +97,13 @@ read_falls at end left now next past within none falls zero = by (cases_eq at en
         omega (arith, one, falls, zero)
     by (inr more) = omega (arith, more, within, falls, zero)
 
--- ---- a call of the scan that told nothing
+-- ---- a call of the scan that reported nothing
 
 pub used_by : (role : Role) (limits : Limits) (reader : NoticeReader) (came : List ℕ) (done : List Frame) (at : Position) (notice : Notice) → (notice ≡ notices.More) ⊎ (notice ≡ notices.Closed)
-    → Tells role limits reader came done at notice → IsUsed role limits reader came done at
-used_by role limits reader came done at notice (inl more) tells = subst (λ (m : Notice). Tells role limits reader came done at m) more tells
-used_by role limits reader came done at notice (inr closed) tells = subst (λ (m : Notice). Tells role limits reader came done at m) closed tells
+    → ReportsStep role limits reader came done at notice → IsUsed role limits reader came done at
+used_by role limits reader came done at notice (inl more) reports = subst (λ (m : Notice). ReportsStep role limits reader came done at m) more reports
+used_by role limits reader came done at notice (inr closed) reports = subst (λ (m : Notice). ReportsStep role limits reader came done at m) closed reports
 
-pub used_falls : (old new : NoticeReader) (notice : Notice) → (notice ≡ notices.More) ⊎ (notice ≡ notices.Closed) → Progresses old new notice → (left_of new + (old.end - old.at) ≤ left_of old) × (new.past ≡ old.past)
+pub used_falls : (old new : NoticeReader) (notice : Notice) → (notice ≡ notices.More) ⊎ (notice ≡ notices.Closed) → Progresses old new notice → (notices_left new + (old.end - old.at) ≤ notices_left old) × (new.past ≡ old.past)
 used_falls old new notice (inl more) falls = subst (λ (m : Notice). Progresses old new m) more falls
 used_falls old new notice (inr closed) falls = subst (λ (m : Notice). Progresses old new m) closed falls

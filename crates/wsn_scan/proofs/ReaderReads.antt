@@ -5,10 +5,10 @@ use Rattle.std.proofs.Common.{◌≡◌, ℕ, ◌+◌, ◌-◌, ◌<◌, ◌≤�
 use Rattle.std.proofs.lemmas.Bool.{cases_lt, ltb-false, lt-ltb, le-ltb}
 use Rattle.std.proofs.lemmas.List.{take-take, take_all, length-take-le}
 use Rattle.std.proofs.Math.Seq.{take-append-add}
-use Rattle.std.specs.Io.KnownBytes.{Consumes, IsAtEnd}
+use Rattle.std.specs.Io.KnownBytes.{IsAtEnd}
 use Rattle.wsn_wire.specs.declared.endpoint.Role.{Role}
-use Rattle.wsn_wire.specs.Frame.{Frame, IsBytes}
-use Rattle.wsn_wire.specs.Transfer.{Incoming}
+use Rattle.wsn_wire.specs.Frame.{Frame}
+use Rattle.wsn_io.specs.Transfer.{Incoming, IsConsumed}
 use Rattle.wsn_wire.proofs.FrameLemmas.{IsBytes-append}
 use Rattle.wsn_rules.specs.declared.verdict.Verdict.{Verdict}
 use Rattle.wsn_rules.specs.declared.verdict.Verdict.TheVariants.{Accepted, Cut, Refused}
@@ -17,151 +17,157 @@ use Rattle.wsn_rules.specs.Verdict.{IsVerdict}
 use Rattle.wsn_rules.specs.Heads.{heads_of, AreHeads}
 use Rattle.wsn_scan.specs.declared.notice_reader.NoticeReader.{NoticeReader}
 use Rattle.wsn_scan.specs.declared.scan.Scan.{Scan}
-use Rattle.wsn_scan.specs.declared.stop.Stop.{Stop}
-use Rattle.wsn_scan.specs.declared.stop.Stop.TheVariants as stop
-use Rattle.wsn_scan.specs.Feeding.{HasTaken}
-use Rattle.wsn_scan.specs.FramesTold.{Position}
+use Rattle.wsn_io.specs.declared.stop.Stop.{Stop}
+use Rattle.wsn_io.specs.declared.stop.Stop.TheVariants as stop
+use Rattle.wsn_scan.specs.Feeding.{HasScannedBytes}
+use Rattle.wsn_scan.specs.ReportedFrames.{Position}
 use Rattle.wsn_scan.specs.Judging.{IsUnrefused, IsReached}
-use Rattle.wsn_scan.specs.NoticeReaders.{HasTold, begun_at, unread, count_past}
-use Rattle.wsn_scan.specs.ReadNotices.{AllTold, IsDone, IsHaltedAt}
+use Rattle.wsn_scan.specs.NoticeReaders.{HasReported, begun_at, unread}
+use Rattle.wsn_scan.specs.declared.refill.ReadChunk.{ReadChunk}
+use Rattle.wsn_scan.specs.Refill.{IsChunk, chunk_size, count_of, count_past}
+use Rattle.wsn_scan.specs.ReadNotices.{AllReported, IsDone, IsHaltedAt}
 use Rattle.wsn_scan.specs.ReaderSteps.{IsUsed, IsFilled, IsFilledBy, idle, idle_of}
-use Rattle.wsn_scan.specs.Scans.{Stands, room_of, refusal_in}
+use Rattle.wsn_scan.specs.Scans.{HasScanned, room_of, refusal_in}
 use Rattle.wsn_scan.specs.Reports.{refusal_judged}
+use Rattle.wsn_scan.proofs.Chunks.{all_fit, full, most_of, past_test as chunk_past}
 use Rattle.wsn_scan.proofs.FramesReported.{frames_of_bytes}
-use Rattle.wsn_scan.proofs.HeadsSoFar.{heads_told}
+use Rattle.wsn_scan.proofs.HeadsSoFar.{heads_reported}
 use Rattle.wsn_scan.proofs.ReaderBuffers.{nothing, length_unread, past_limit, all_within}
 use Rattle.wsn_scan.proofs.Unrefused.{unrefused}
 
 module _ (role : Role) (limits : Limits) (reader : NoticeReader) (came : List ℕ) (done : List Frame) (at : Position) (used : IsUsed role limits reader came done at) where
   none_unread : unread reader ≡ []
-  none_unread = nothing (unread reader) (length_unread limits reader came used.told.scanned used.told.buffered ∙ omega (arith, used.all))
+  none_unread = nothing (unread reader) (length_unread limits reader came used.has_reported.scanned used.has_reported.buffered ∙ omega (arith, used.all))
 
-  -- all that came within the limit was scanned
-  scanned_all : take limits.input came ≡ used.told.scanned
-  scanned_all = used.told.buffered.within ∙ ap (λ (bs : List ℕ). used.told.scanned ++ bs) none_unread ∙ append-nil used.told.scanned
+  -- all that came within the limit is scanned
+  scanned_all : take limits.input came ≡ used.has_reported.scanned
+  scanned_all = used.has_reported.buffered.within ∙ ap (λ (bs : List ℕ). used.has_reported.scanned ++ bs) none_unread ∙ append-nil used.has_reported.scanned
 
-  came_is : reader.past ≡ false → came ≡ used.told.scanned
-  came_is none = all_within limits reader came used.told.scanned used.told.buffered none ∙ ap (λ (bs : List ℕ). used.told.scanned ++ bs) none_unread ∙ append-nil used.told.scanned
+  came_is : reader.past ≡ false → came ≡ used.has_reported.scanned
+  came_is none = all_within limits reader came used.has_reported.scanned used.has_reported.buffered none ∙ ap (λ (bs : List ℕ). used.has_reported.scanned ++ bs) none_unread ∙ append-nil used.has_reported.scanned
 
   size_is : reader.past ≡ false → length came + room_of reader.scan ≡ limits.input
-  size_is none = let size = ap (λ (bs : List ℕ). length bs) (came_is none) in omega (arith, size, used.told.stands.knows.room)
+  size_is none = let size = ap (λ (bs : List ℕ). length bs) (came_is none) in omega (arith, size, used.has_reported.has_scanned.has_consumed.room)
 
-  unrefused_so_far : IsUnrefused role limits used.told.scanned
+  unrefused_so_far : IsUnrefused role limits used.has_reported.scanned
   unrefused_so_far =
-      let taken : HasTaken role limits reader.scan used.told.scanned used.told.reported.heads =
-      record { frames = used.told.frames; since = used.told.since; payload = used.told.reported.payload; ends = used.told.reported.ends; stands = used.told.stands } in
-      unrefused role limits reader.scan used.told.scanned used.told.reported.heads taken used.told.unrefused
+      let taken : HasScannedBytes role limits reader.scan used.has_reported.scanned used.has_reported.reported.heads =
+      record { frames = used.has_reported.frames; since = used.has_reported.since; payload = used.has_reported.reported.payload; ends = used.has_reported.reported.ends; has_scanned = used.has_reported.has_scanned } in
+      unrefused role limits reader.scan used.has_reported.scanned used.has_reported.reported.heads taken used.has_reported.unrefused
 
   verdict_so_far : (verdict : Verdict) × IsVerdict role limits (take limits.input came) done verdict
   verdict_so_far =
-      let found = frames_of_bytes role limits reader.scan used.told.scanned used.told.since used.told.frames used.told.reported used.told.stands in
-      (found.0, subst (λ (bs : List ℕ). IsVerdict role limits bs done found.0) (sym scanned_all) (subst (λ (fs : List Frame). IsVerdict role limits used.told.scanned fs found.0) (sym used.frames) found.1))
+      let found = frames_of_bytes role limits reader.scan used.has_reported.scanned used.has_reported.since used.has_reported.frames used.has_reported.reported used.has_reported.has_scanned in
+      (found.0, subst (λ (bs : List ℕ). IsVerdict role limits bs done found.0) (sym scanned_all) (subst (λ (fs : List Frame). IsVerdict role limits used.has_reported.scanned fs found.0) (sym used.frames) found.1))
 
-  -- all that was scanned was told
-  scanned_told : AllTold role limits used.told.scanned done at
-  scanned_told =
-      subst (λ (fs : List Frame). AreHeads role limits used.told.scanned fs (heads_of done ++ begun_at at)) (sym used.frames)
-      (subst (AreHeads role limits used.told.scanned used.told.frames) used.told.ended.heads (heads_told role limits reader.scan used.told.scanned used.told.since used.told.frames used.told.reported used.told.stands))
+  -- all that was scanned is reported
+  scanned_reported : AllReported role limits used.has_reported.scanned done at
+  scanned_reported =
+      subst (λ (fs : List Frame). AreHeads role limits used.has_reported.scanned fs (heads_of done ++ begun_at at)) (sym used.frames)
+      (subst (AreHeads role limits used.has_reported.scanned used.has_reported.frames) used.has_reported.ended.heads (heads_reported role limits reader.scan used.has_reported.scanned used.has_reported.since used.has_reported.frames used.has_reported.reported used.has_reported.has_scanned))
 
-  told_so_far : AllTold role limits (take limits.input came) done at
-  told_so_far = subst (λ (bs : List ℕ). AllTold role limits bs done at) (sym scanned_all) scanned_told
+  reported_so_far : AllReported role limits (take limits.input came) done at
+  reported_so_far = subst (λ (bs : List ℕ). AllReported role limits bs done at) (sym scanned_all) scanned_reported
 
   pub limit_passed : (new : Incoming) → reader.past ≡ true → new.failed ≡ false → IsHaltedAt role limits new came done at stop.InputLimit
   limit_passed new past unfailed =
-      ((past_limit limits reader came used.told.scanned used.told.buffered past, subst (IsUnrefused role limits) (sym scanned_all) unrefused_so_far, unfailed), verdict_so_far, told_so_far)
+      ((past_limit limits reader came used.has_reported.scanned used.has_reported.buffered past, subst (IsUnrefused role limits) (sym scanned_all) unrefused_so_far, unfailed), verdict_so_far, reported_so_far)
 
   pub read_failed : (new : Incoming) → reader.past ≡ false → new.failed ≡ true → IsHaltedAt role limits new came done at stop.Read
-  read_failed new none failed = ((failed, omega (arith, size_is none), subst (IsUnrefused role limits) (sym (came_is none)) unrefused_so_far), verdict_so_far, told_so_far)
+  read_failed new none failed = ((failed, omega (arith, size_is none), subst (IsUnrefused role limits) (sym (came_is none)) unrefused_so_far), verdict_so_far, reported_so_far)
 
-  pub input_ended : (new : Incoming) (verdict : Verdict) → reader.past ≡ false → IsAtEnd new.remaining → new.failed ≡ false → IsVerdict role limits used.told.scanned used.told.frames verdict
+  pub input_ended : (new : Incoming) (verdict : Verdict) → reader.past ≡ false → IsAtEnd new.remaining → new.failed ≡ false → IsVerdict role limits used.has_reported.scanned used.has_reported.frames verdict
       → refusal_judged verdict ≡ None → IsDone role limits new came done at verdict
-  input_ended new verdict none at_end unfailed is other = (by verdict is_done other, is_done, subst (λ (bs : List ℕ). AllTold role limits bs done at) (sym (came_is none)) scanned_told)
+  input_ended new verdict none at_end unfailed is other = (by verdict is_done other, is_done, subst (λ (bs : List ℕ). AllReported role limits bs done at) (sym (came_is none)) scanned_reported)
     where
       is_done : IsVerdict role limits came done verdict
-      is_done = subst (λ (bs : List ℕ). IsVerdict role limits bs done verdict) (sym (came_is none)) (subst (λ (fs : List Frame). IsVerdict role limits used.told.scanned fs verdict) (sym used.frames) is)
+      is_done = subst (λ (bs : List ℕ). IsVerdict role limits bs done verdict) (sym (came_is none)) (subst (λ (fs : List Frame). IsVerdict role limits used.has_reported.scanned fs verdict) (sym used.frames) is)
 
       by : (v : Verdict) → IsVerdict role limits came done v → refusal_judged v ≡ None → IsReached role limits new came v
       by (Accepted summary) accepted reported = (done, accepted, at_end, omega (arith, size_is none), unfailed)
       by (Cut summary) cut reported = (done, cut, at_end, omega (arith, size_is none), unfailed)
       by (Refused refusal) refused reported = absurd cc
 
-  -- nothing came, and this is what it ends with
-  pub nothing_more : (next : NoticeReader) (old new : Incoming) → Consumes old.remaining new.remaining [] → (result : Result (Option Verdict) Stop) → IsFilledBy role limits new next came done at result
+  -- nothing came, and this is the result
+  pub nothing_more : (next : NoticeReader) (old new : Incoming) → IsConsumed old new [] → (result : Result (Option Verdict) Stop) → IsFilledBy role limits new next came done at result
       → IsFilled role limits old new next came done at result
   nothing_more next old new consumed result is = record {
     more = [];
     consumed = consumed;
-    few = subst (λ (bs : List ℕ). length bs ≤ limits.input + 1) (sym (append-nil came)) used.told.buffered.few;
+    few = subst (λ (bs : List ℕ). length bs ≤ limits.input + 1) (sym (append-nil came)) used.has_reported.buffered.few;
     next = subst (λ (bs : List ℕ). IsFilledBy role limits new next bs done at result) (sym (append-nil came)) is;
   }
 
-  -- One read gave the first n bytes of the buffer, and of them the reader keeps those that fit.
-  module _ (next : NoticeReader) (n : ℕ) (none : reader.past ≡ false) (some : n ≡ 0 → ⊥) (most : n ≤ room_of reader.scan + 1) (in_buffer : n ≤ 4096) (in_bytes : IsBytes (take n next.buffer))
-      (same_scan : next.scan ≡ reader.scan) (at_front : next.at ≡ 0)
-      (all_fit : n ≤ room_of reader.scan → next.end ≡ n) (full : room_of reader.scan ≤ n → next.end ≡ room_of reader.scan) (past_is : next.past ≡ nat_lt next.end n) where
-    length-read : length (take n next.buffer) ≡ n
-    length-read = let size = next.size in length-take-le n next.buffer (omega (arith, in_buffer, size))
+  -- One read gave a chunk, and the reader keeps the bytes within the limit.
+  module _ (next : NoticeReader) (old new : Incoming) (chunk : ReadChunk) (none : reader.past ≡ false) (got : IsChunk old new (room_of reader.scan) next.buffer chunk)
+      (same_scan : next.scan ≡ reader.scan) (at_front : next.at ≡ 0) (end_is : next.end ≡ chunk.len) (past_is : next.past ≡ chunk.past_limit) where
+    in_buffer : count_of chunk ≤ chunk_size
+    in_buffer = let size = next.size in omega (arith, got.in_buffer)
 
-    now_came : length (came ++ take n next.buffer) ≡ length came + n
-    now_came = length-append came (take n next.buffer) ∙ ap (λ (m : ℕ). length came + m) length-read
+    past_test : next.past ≡ nat_lt next.end (count_of chunk)
+    past_test = past_is ∙ chunk_past chunk ∙ ap (λ (len : ℕ). nat_lt len (count_of chunk)) (sym end_is)
 
-    front : take (room_of reader.scan) (take n next.buffer) ≡ slice_range next.buffer next.at next.end
+    end_full : room_of reader.scan ≤ count_of chunk → next.end ≡ room_of reader.scan
+    end_full more = end_is ∙ full old new (room_of reader.scan) next.buffer chunk got more
+
+    end_all : count_of chunk ≤ room_of reader.scan → next.end ≡ count_of chunk
+    end_all less = end_is ∙ all_fit old new (room_of reader.scan) next.buffer chunk got less
+
+    length-read : length (take (count_of chunk) next.buffer) ≡ count_of chunk
+    length-read = length-take-le (count_of chunk) next.buffer got.in_buffer
+
+    now_came : length (came ++ take (count_of chunk) next.buffer) ≡ length came + count_of chunk
+    now_came = length-append came (take (count_of chunk) next.buffer) ∙ ap (λ (m : ℕ). length came + m) length-read
+
+    front : take (room_of reader.scan) (take (count_of chunk) next.buffer) ≡ slice_range next.buffer next.at next.end
     front =
-        elim (cases_lt (room_of reader.scan) n) [
-          | inl more ↦ take-take (room_of reader.scan) n next.buffer (omega arith) ∙ ap (λ (m : ℕ). take m next.buffer) (sym (full (omega arith)))
-          | inr less ↦ take_all (room_of reader.scan) (take n next.buffer) (omega (arith, length-read)) ∙ ap (λ (m : ℕ). take m next.buffer) (sym (all_fit less))
+        elim (cases_lt (room_of reader.scan) (count_of chunk)) [
+          | inl more ↦ take-take (room_of reader.scan) (count_of chunk) next.buffer (omega arith) ∙ ap (λ (m : ℕ). take m next.buffer) (sym (end_full (omega arith)))
+          | inr less ↦ take_all (room_of reader.scan) (take (count_of chunk) next.buffer) (omega (arith, length-read)) ∙ ap (λ (m : ℕ). take m next.buffer) (sym (end_all less))
         ]
         ∙ ap (λ (m : ℕ). take m next.buffer) (omega (arith, at_front))
         ∙ ap (λ (m : ℕ). take (next.end - next.at) (drop m next.buffer)) (sym at_front)
 
-    past_same : nat_lt limits.input (length (came ++ take n next.buffer)) ≡ next.past
+    past_same : nat_lt limits.input (length (came ++ take (count_of chunk) next.buffer)) ≡ next.past
     past_same =
-        elim (cases_lt (room_of reader.scan) n) [
-          | inl more ↦ lt-ltb limits.input (length (came ++ take n next.buffer)) (omega (arith, now_came, size_is none)) ∙ sym (lt-ltb next.end n (omega (arith, full (omega arith)))) ∙ sym past_is
-          | inr less ↦ le-ltb limits.input (length (came ++ take n next.buffer)) (omega (arith, now_came, size_is none)) ∙ sym (le-ltb next.end n (omega (arith, all_fit less))) ∙ sym past_is
+        elim (cases_lt (room_of reader.scan) (count_of chunk)) [
+          | inl more ↦ lt-ltb limits.input (length (came ++ take (count_of chunk) next.buffer)) (omega (arith, now_came, size_is none)) ∙ sym (lt-ltb next.end (count_of chunk) (omega (arith, end_full (omega arith)))) ∙ sym past_test
+          | inr less ↦ le-ltb limits.input (length (came ++ take (count_of chunk) next.buffer)) (omega (arith, now_came, size_is none)) ∙ sym (le-ltb next.end (count_of chunk) (omega (arith, end_all less))) ∙ sym past_test
         ]
 
-    -- the byte past the limit stood behind those that fit
-    still_small : next.end + count_past next.past ≤ 4096
-    still_small =
-        elim (cases_lt (room_of reader.scan) n) [
-          | inl more ↦
-              let one : count_past next.past ≡ 1 = ap count_past (past_is ∙ lt-ltb next.end n (omega (arith, full (omega arith)))) in
-              omega (arith, one, full (omega arith), in_buffer)
-          | inr less ↦
-              let zero : count_past next.past ≡ 0 = ap count_past (past_is ∙ le-ltb next.end n (omega (arith, all_fit less))) in
-              omega (arith, zero, all_fit less, in_buffer)
-        ]
+    -- the byte past the limit came after the others
+    still_small : next.end + count_past next.past ≤ chunk_size
+    still_small = let same = ap count_past past_is in omega (arith, same, end_is, in_buffer)
 
-    refilled : HasTold role limits next (came ++ take n next.buffer) done at
+    refilled : HasReported role limits next (came ++ take (count_of chunk) next.buffer) done at
     refilled = record {
-      scanned = used.told.scanned;
-      frames = used.told.frames;
-      since = used.told.since;
-      reported = used.told.reported;
-      stands = subst (λ (s : Scan). Stands role limits s used.told.scanned used.told.frames used.told.since used.told.reported) (sym same_scan) used.told.stands;
-      unrefused = ap (λ (s : Scan). refusal_in s) same_scan ∙ used.told.unrefused;
-      ended = used.told.ended;
+      scanned = used.has_reported.scanned;
+      frames = used.has_reported.frames;
+      since = used.has_reported.since;
+      reported = used.has_reported.reported;
+      has_scanned = subst (λ (s : Scan). HasScanned role limits s used.has_reported.scanned used.has_reported.frames used.has_reported.since used.has_reported.reported) (sym same_scan) used.has_reported.has_scanned;
+      unrefused = ap (λ (s : Scan). refusal_in s) same_scan ∙ used.has_reported.unrefused;
+      ended = used.has_reported.ended;
       buffered = record {
-        within = ap (λ (m : ℕ). take m (came ++ take n next.buffer)) (sym (size_is none)) ∙ take-append-add came (take n next.buffer) (room_of reader.scan)
+        within = ap (λ (m : ℕ). take m (came ++ take (count_of chunk) next.buffer)) (sym (size_is none)) ∙ take-append-add came (take (count_of chunk) next.buffer) (room_of reader.scan)
             ∙ ap (λ (bs : List ℕ). came ++ bs) front ∙ ap (λ (bs : List ℕ). bs ++ unread next) (came_is none);
         past = past_same;
-        few = omega (arith, now_came, size_is none, most);
+        few = omega (arith, now_came, size_is none, most_of old new (room_of reader.scan) next.buffer chunk got);
         small = still_small;
-        in_bytes = IsBytes-append came (take n next.buffer) used.told.buffered.in_bytes in_bytes;
+        in_bytes = IsBytes-append came (take (count_of chunk) next.buffer) used.has_reported.buffered.in_bytes got.in_bytes;
       };
     }
 
     -- it has something to scan, or a byte past the limit
     not_idle : idle_of next ≡ 0
-    not_idle = by next.past (sym past_is)
+    not_idle = by next.past (sym past_test)
       where
-        by : (past : Bool) → nat_lt next.end n ≡ past → idle next.at next.end past ≡ 0
+        by : (past : Bool) → nat_lt next.end (count_of chunk) ≡ past → idle next.at next.end past ≡ 0
         by true less = refl
         by false all =
-            let end_is : n ≤ next.end = ltb-false next.end n all in
-            let positive : 0 < n = elim (cases_lt 0 n) [ inl more ↦ more | inr zero ↦ absurd (some (omega arith)) ] in
-            ap (λ (less : Bool). if less then 0 else 1) (lt-ltb next.at next.end (omega (arith, at_front, end_is, positive)))
+            let end_all_is : count_of chunk ≤ next.end = ltb-false next.end (count_of chunk) all in
+            let positive : 0 < count_of chunk = got.some in
+            ap (λ (less : Bool). if less then 0 else 1) (lt-ltb next.at next.end (omega (arith, at_front, end_all_is, positive)))
 
-    pub goes_on : (old new : Incoming) → Consumes old.remaining new.remaining (take n next.buffer) → new.failed ≡ false → IsFilled role limits old new next came done at (Ok None)
-    goes_on old new consumed unfailed = record { more = take n next.buffer; consumed = consumed; few = refilled.buffered.few; next = (refilled, not_idle, unfailed) }
+    pub goes_on : old.failed ≡ false → IsFilled role limits old new next came done at (Ok None)
+    goes_on unfailed = record { more = take (count_of chunk) next.buffer; consumed = got.consumed; few = refilled.buffered.few; next = (refilled, not_idle, got.unfailed ∙ unfailed) }

@@ -8,26 +8,27 @@ use Rattle.wsn_rules.specs.declared.verdict.Refusal.{Refusal}
 use Rattle.wsn_rules.specs.Limits.{Limits}
 use Rattle.wsn_rules.specs.Verdict.{IsRefused}
 use Rattle.wsn_rules.specs.Heads.{AreHeads}
-use Rattle.wsn_scan.specs.ReadNotices.{AllTold}
+use Rattle.wsn_scan.specs.ReadNotices.{AllReported}
 use Rattle.wsn_scan.specs.declared.notice.Notice.{Notice}
 use Rattle.wsn_scan.specs.declared.notice.Notice.TheVariants as notices
 use Rattle.wsn_scan.specs.declared.notice_reader.NoticeReader.{NoticeReader}
-use Rattle.wsn_scan.specs.Feeding.{HasTaken}
-use Rattle.wsn_scan.specs.FramesTold.{Position, BetweenFrames, InFrame}
-use Rattle.wsn_scan.specs.NoticeReaders.{HasTold, EndsReported, IsBuffered, unread, payload_of, count_past, left_of}
-use Rattle.wsn_scan.specs.ReaderSteps.{Tells, Progresses, IsUsed, IsRefusedBy}
-use Rattle.wsn_scan.specs.Scans.{Stands, Advances, Takes, Reaches, IsRefusedThere, room_of, refusal_in, ends_pending}
+use Rattle.wsn_scan.specs.Feeding.{HasScannedBytes}
+use Rattle.wsn_scan.specs.ReportedFrames.{Position, BetweenFrames, InFrame}
+use Rattle.wsn_scan.specs.NoticeReaders.{HasReported, EndsReported, IsBuffered, unread, held_payload, notices_left}
+use Rattle.wsn_scan.specs.Refill.{chunk_size, count_past}
+use Rattle.wsn_scan.specs.ReaderSteps.{ReportsStep, Progresses, IsUsed, IsRefusedBy}
+use Rattle.wsn_scan.specs.Scans.{HasScanned, Advances, ConsumesFromPiece, IsReachedBy, IsRefusedThere, room_of, refusal_in, ends_pending}
 use Rattle.wsn_scan.specs.Reports.{Reported, reported_after, refusal_in_notice}
 use Rattle.wsn_scan.proofs.FedPieces.{untold_few}
-use Rattle.wsn_scan.proofs.FramesReported.{IsSaidAt, said, settled, same_by_ends, same_frames, same_told, head_told, payload_told, end_told}
-use Rattle.wsn_scan.proofs.ReaderBuffers.{range_behind, length-range, length_unread, length_came}
-use Rattle.wsn_scan.proofs.Unrefused.{unrefused, place_behind}
+use Rattle.wsn_scan.proofs.FramesReported.{IsSaidAt, said, settled, same_by_ends, same_frames, same_reported, head_reported, payload_reported, end_reported}
+use Rattle.wsn_scan.proofs.ReaderBuffers.{range_after, length-range, length_unread, length_came}
+use Rattle.wsn_scan.proofs.Unrefused.{unrefused, place_after}
 
--- A call of the scan, which was handed what is in the buffer and took n bytes of it.
+-- A call of the scan, which got the unscanned part of the buffer and consumed n bytes of it.
 pub record IsCall (old new : NoticeReader) (n : ℕ) (notice : Notice) : Type 0 where
   pub in_bytes : IsBytes (unread old)
   pub advances : Advances old.scan new.scan (unread old) (slice_range new.buffer old.at old.end) n notice
-  pub takes : Takes old.scan (old.end - old.at) n notice
+  pub consumes : ConsumesFromPiece old.scan (old.end - old.at) n notice
   pub kept : slice_range new.buffer (old.at + n) old.end ≡ slice_range old.buffer (old.at + n) old.end
   pub room : room_of new.scan + n ≡ room_of old.scan
   pub reported : refusal_in new.scan ≡ refusal_in_notice notice
@@ -36,11 +37,11 @@ pub record IsCall (old new : NoticeReader) (n : ℕ) (notice : Notice) : Type 0 
   pub end_is : new.end ≡ old.end
   pub past_is : new.past ≡ old.past
 
-module _ (role : Role) (limits : Limits) (old new : NoticeReader) (n : ℕ) (came : List ℕ) (done : List Frame) (at : Position) (h : HasTold role limits old came done at) where
+module _ (role : Role) (limits : Limits) (old new : NoticeReader) (n : ℕ) (came : List ℕ) (done : List Frame) (at : Position) (h : HasReported role limits old came done at) where
   abbrev share : List ℕ
   share = take n (unread old)
 
-  -- what these bytes are then
+  -- these bytes after the call
   abbrev after : List ℕ
   after = take n (slice_range new.buffer old.at old.end)
 
@@ -54,7 +55,7 @@ module _ (role : Role) (limits : Limits) (old new : NoticeReader) (n : ℕ) (cam
     length-share : length share ≡ n
     length-share = length-take-le n (unread old) (omega (arith, unread_size, some))
 
-    payload_is : payload_of new ≡ after
+    payload_is : held_payload new ≡ after
     payload_is =
         ap (λ (from : ℕ). take (new.at - from) (drop from new.buffer)) call.from_is
         ∙ ap (λ (m : ℕ). take m (drop old.at new.buffer)) (omega (arith, call.at_is))
@@ -63,122 +64,122 @@ module _ (role : Role) (limits : Limits) (old new : NoticeReader) (n : ℕ) (cam
     parts : unread old ≡ share ++ unread new
     parts =
         sym (take-append-drop n (unread old))
-        ∙ ap (λ (bs : List ℕ). share ++ bs) (sym (range_behind old.at old.end n old.buffer old.left (let held = old.held in let size = old.size in omega (arith, held, size)) some) ∙ sym call.kept
+        ∙ ap (λ (bs : List ℕ). share ++ bs) (sym (range_after old.at old.end n old.buffer old.left (let held = old.held in let size = old.size in omega (arith, held, size)) some) ∙ sym call.kept
         ∙ ap (λ (m : ℕ). slice_range new.buffer m old.end) (sym call.at_is) ∙ ap (λ (m : ℕ). slice_range new.buffer new.at m) (sym call.end_is))
 
-    reached : Reaches role limits new.scan notice (h.scanned ++ share) (reported_after h.reported notice after)
-    reached = call.advances role limits h.scanned h.since h.frames h.reported call.in_bytes h.stands
+    reached : IsReachedBy role limits new.scan notice (h.scanned ++ share) (reported_after h.reported notice after)
+    reached = call.advances role limits h.scanned h.since h.frames h.reported call.in_bytes h.has_scanned
 
     buffered : IsBuffered limits new came (h.scanned ++ share)
     buffered = record {
       within = h.buffered.within ∙ ap (λ (bs : List ℕ). h.scanned ++ bs) parts ∙ sym (append_assoc h.scanned share (unread new));
       past = h.buffered.past ∙ sym call.past_is;
       few = h.buffered.few;
-      small = subst (λ (past : Bool). new.end + count_past past ≤ 4096) (sym call.past_is) (omega (arith, h.buffered.small, call.end_is));
+      small = subst (λ (past : Bool). new.end + count_past past ≤ chunk_size) (sym call.past_is) (omega (arith, h.buffered.small, call.end_is));
       in_bytes = h.buffered.in_bytes;
     }
 
-    told_on : refusal_in_notice notice ≡ None → (ended : List Frame) (to : Position) → EndsReported role limits (h.scanned ++ share) (reported_after h.reported notice after) ended to → HasTold role limits new came ended to
-    told_on none ended to told = record {
+    reported_on : refusal_in_notice notice ≡ None → (ended : List Frame) (to : Position) → EndsReported role limits (h.scanned ++ share) (reported_after h.reported notice after) ended to → HasReported role limits new came ended to
+    reported_on none ended to has_reported = record {
       scanned = h.scanned ++ share;
       frames = reached.frames;
       since = reached.since;
       reported = reported_after h.reported notice after;
-      stands = reached.stands;
+      has_scanned = reached.has_scanned;
       unrefused = call.reported ∙ none;
-      ended = told;
+      ended = has_reported;
       buffered = buffered;
     }
 
-    says : IsSaidAt role limits old.scan h.scanned h.since h.frames h.reported h.stands done at h.ended (old.end - old.at) n old.scan.stage notice
-    says = said role limits old.scan h.scanned h.since h.frames h.reported h.stands done at h.ended (old.end - old.at) n notice call.takes
+    says : IsSaidAt role limits old.scan h.scanned h.since h.frames h.reported h.has_scanned done at h.ended (old.end - old.at) n old.scan.stage notice
+    says = said role limits old.scan h.scanned h.since h.frames h.reported h.has_scanned done at h.ended (old.end - old.at) n notice call.consumes
 
     same_after : reported_after h.reported notice after ≡ h.reported → EndsReported role limits (h.scanned ++ share) (reported_after h.reported notice after) done at
-    same_after same = subst (λ (r : Reported). EndsReported role limits (h.scanned ++ share) r done at) (sym same) (same_told role limits old.scan h.scanned h.since h.frames h.reported h.stands done at h.ended share)
+    same_after same = subst (λ (r : Reported). EndsReported role limits (h.scanned ++ share) r done at) (sym same) (same_reported role limits old.scan h.scanned h.since h.frames h.reported h.has_scanned done at h.ended share)
 
-    -- all in the buffer was taken, and nothing was told
+    -- all of the buffer was consumed, and nothing was reported
     module _ (same : reported_after h.reported notice after ≡ h.reported) (none : refusal_in_notice notice ≡ None) (is : (done ≡ h.frames) × (n ≡ old.end - old.at) × ((at ≡ BetweenFrames) ⊎ (n ≡ 0))) where
       none_owed : (done ≡ reached.frames) × (ends_pending new.scan ≡ 0)
       none_owed =
-          settled role limits new.scan (h.scanned ++ share) reached.since reached.frames (reported_after h.reported notice after) reached.stands done at (same_after same)
+          settled role limits new.scan (h.scanned ++ share) reached.since reached.frames (reported_after h.reported notice after) reached.has_scanned done at (same_after same)
           (elim is.2 [ inl between ↦ inl between | inr nothing ↦ inr (is.0 ∙ same_so_far nothing) ]) (call.reported ∙ none)
         where
           same_so_far : n ≡ 0 → h.frames ≡ reached.frames
           same_so_far nothing =
               let bytes : h.scanned ++ share ≡ h.scanned = ap (λ (k : ℕ). h.scanned ++ take k (unread old)) nothing ∙ append-nil h.scanned in
-              same_frames role limits old.scan new.scan h.scanned h.since reached.since h.frames reached.frames h.reported (reported_after h.reported notice after) h.stands
-              (subst (λ (bs : List ℕ). Stands role limits new.scan bs reached.frames reached.since (reported_after h.reported notice after)) bytes reached.stands)
+              same_frames role limits old.scan new.scan h.scanned h.since reached.since h.frames reached.frames h.reported (reported_after h.reported notice after) h.has_scanned
+              (subst (λ (bs : List ℕ). HasScanned role limits new.scan bs reached.frames reached.since (reported_after h.reported notice after)) bytes reached.has_scanned)
 
       used : IsUsed role limits new came done at
-      unfolding told_on
-      used = record { told = told_on none done at (same_after same); all = omega (arith, call.at_is, call.end_is, is.1, old.left); frames = none_owed.0 }
+      unfolding reported_on
+      used = record { has_reported = reported_on none done at (same_after same); all = omega (arith, call.at_is, call.end_is, is.1, old.left); frames = none_owed.0 }
 
-      used_falls : left_of new + (old.end - old.at) ≤ left_of old
+      used_falls : notices_left new + (old.end - old.at) ≤ notices_left old
       used_falls = omega (arith, none_owed.1, call.room, is.1)
 
-    byte_falls : 0 < n → left_of new < left_of old
+    byte_falls : 0 < n → notices_left new < notices_left old
     byte_falls more = let few = untold_few new.scan.stage in omega (arith, more, call.room, few)
 
   refused_by : (refusal : Refusal) → IsCall old new n (notices.Refused refusal) → IsRefusedBy role limits came done at refusal
   refused_by refusal call =
       let at_it = reached (notices.Refused refusal) call in
-      let there : IsRefusedThere role limits refusal (h.scanned ++ share) at_it.frames h.reported = at_it.tells in
-      let behind = h.scanned ++ share in
-      let all_told = same_told role limits old.scan h.scanned h.since h.frames h.reported h.stands done at h.ended share in
-      let same : at_it.frames ≡ done = sym (same_by_ends role limits behind at_it.since h.reported done at_it.frames at all_told at_it.stands.knows.lawful at_it.stands.knows.whole there.ends) in
-      let refused_here : (later : List ℕ) → IsRefused role limits (behind ++ later) done refusal.place refusal.reason =
-      λ later. subst (λ (fs : List Frame). IsRefused role limits (behind ++ later) fs refusal.place refusal.reason) same (there.refused later) in
-      let taken : HasTaken role limits old.scan h.scanned h.reported.heads = record { frames = h.frames; since = h.since; payload = h.reported.payload; ends = h.reported.ends; stands = h.stands } in
-      let unshown = unrefused role limits old.scan h.scanned h.reported.heads taken h.unrefused in
-      let size : length behind ≡ length h.scanned + n = length-append h.scanned share ∙ ap (λ (k : ℕ). length h.scanned + k) (length-share (notices.Refused refusal) call) in
+      let there : IsRefusedThere role limits refusal (h.scanned ++ share) at_it.frames h.reported = at_it.reports in
+      let following = h.scanned ++ share in
+      let all_reported = same_reported role limits old.scan h.scanned h.since h.frames h.reported h.has_scanned done at h.ended share in
+      let same : at_it.frames ≡ done = sym (same_by_ends role limits following at_it.since h.reported done at_it.frames at all_reported at_it.has_scanned.has_consumed.lawful at_it.has_scanned.has_consumed.whole there.ends) in
+      let refused_here : (later : List ℕ) → IsRefused role limits (following ++ later) done refusal.place refusal.reason =
+      λ later. subst (λ (fs : List Frame). IsRefused role limits (following ++ later) fs refusal.place refusal.reason) same (there.refused later) in
+      let taken : HasScannedBytes role limits old.scan h.scanned h.reported.heads = record { frames = h.frames; since = h.since; payload = h.reported.payload; ends = h.reported.ends; has_scanned = h.has_scanned } in
+      let has_no_evidence = unrefused role limits old.scan h.scanned h.reported.heads taken h.unrefused in
+      let size : length following ≡ length h.scanned + n = length-append h.scanned share ∙ ap (λ (k : ℕ). length h.scanned + k) (length-share (notices.Refused refusal) call) in
       let past_it : length h.scanned ≤ refusal.place =
-      place_behind role limits h.scanned share done refusal.place refusal.reason unshown (subst (λ (bs : List ℕ). IsRefused role limits bs done refusal.place refusal.reason) (append-nil behind) (refused_here [])) in
+      place_after role limits h.scanned share done refusal.place refusal.reason has_no_evidence (subst (λ (bs : List ℕ). IsRefused role limits bs done refusal.place refusal.reason) (append-nil following) (refused_here [])) in
       let on = goes_on call in
       record {
         refused = λ later.
             subst (λ (bs : List ℕ). IsRefused role limits bs done refusal.place refusal.reason)
-            (sym (append_assoc behind on.0 later) ∙ ap (λ (bs : List ℕ). bs ++ later) (sym on.1)) (refused_here (on.0 ++ later));
+            (sym (append_assoc following on.0 later) ∙ ap (λ (bs : List ℕ). bs ++ later) (sym on.1)) (refused_here (on.0 ++ later));
         soon = omega (arith, length_came limits old came h.scanned h.buffered, past_it, h.buffered.small);
-        within = omega (arith, there.place, at_it.stands.knows.room);
-        told =
-            subst (λ (bs : List ℕ). AllTold role limits bs done at) (sym on.1)
-            (subst (AreHeads role limits (behind ++ on.0) done) all_told.heads (subst (λ (fs : List Frame). AreHeads role limits (behind ++ on.0) fs h.reported.heads) same (there.heads on.0)));
+        within = omega (arith, there.place, at_it.has_scanned.has_consumed.room);
+        has_reported =
+            subst (λ (bs : List ℕ). AllReported role limits bs done at) (sym on.1)
+            (subst (AreHeads role limits (following ++ on.0) done) all_reported.heads (subst (λ (fs : List Frame). AreHeads role limits (following ++ on.0) fs h.reported.heads) same (there.heads on.0)));
       }
     where
-      -- what came goes on behind what was scanned
+      -- what came continues what was scanned
       goes_on : IsCall old new n (notices.Refused refusal) → (more : List ℕ) × (came ≡ (h.scanned ++ share) ++ more)
       goes_on c = (
         unread new ++ drop limits.input came,
         sym (take-append-drop limits.input came) ∙ ap (λ (bs : List ℕ). bs ++ drop limits.input came) (buffered (notices.Refused refusal) c).within ∙ append_assoc (h.scanned ++ share) (unread new) (drop limits.input came),
       )
 
-  pub tells : (notice : Notice) → IsCall old new n notice → Tells role limits new came done at notice
-  tells (notices.Head info) call =
+  pub reports : (notice : Notice) → IsCall old new n notice → ReportsStep role limits new came done at notice
+  reports (notices.Head info) call =
       let says = says (notices.Head info) call in
-      (says.0, told_on (notices.Head info) call refl done (InFrame info []) (head_told role limits old.scan h.scanned h.since h.frames h.reported h.stands done at h.ended info share after says.0))
-  tells notices.Payload call =
+      (says.0, reported_on (notices.Head info) call refl done (InFrame info []) (head_reported role limits old.scan h.scanned h.since h.frames h.reported h.has_scanned done at h.ended info share after says.0))
+  reports notices.Payload call =
       let says = says notices.Payload call in
       let info = says.0.0 in
-      let told = told_on notices.Payload call refl done (InFrame info (h.reported.payload ++ after)) (payload_told role limits old.scan h.scanned h.since h.frames h.reported h.stands done at h.ended info share after says.0.1) in
-      let size : length (payload_of new) ≡ n = length-range new.from new.at new.buffer new.scanned (let left = new.left in let held = new.held in let size = new.size in omega (arith, left, held, size)) ∙ omega (arith, call.from_is, call.at_is) in (
+      let has_reported = reported_on notices.Payload call refl done (InFrame info (h.reported.payload ++ after)) (payload_reported role limits old.scan h.scanned h.since h.frames h.reported h.has_scanned done at h.ended info share after says.0.1) in
+      let size : length (held_payload new) ≡ n = length-range new.from new.at new.buffer new.scanned (let left = new.left in let held = new.held in let size = new.size in omega (arith, left, held, size)) ∙ omega (arith, call.from_is, call.at_is) in (
         info,
         h.reported.payload,
         says.0.1,
-        subst (λ (bs : List ℕ). HasTold role limits new came done (InFrame info (h.reported.payload ++ bs))) (sym (payload_is notices.Payload call)) told,
-        λ none. let empty : length (payload_of new) ≡ 0 = ap (λ (bs : List ℕ). length bs) none in omega (arith, empty, size, says.1),
+        subst (λ (bs : List ℕ). HasReported role limits new came done (InFrame info (h.reported.payload ++ bs))) (sym (payload_is notices.Payload call)) has_reported,
+        λ none. let empty : length (held_payload new) ≡ 0 = ap (λ (bs : List ℕ). length bs) none in omega (arith, empty, size, says.1),
       )
-  tells (notices.FrameEnd event) call =
+  reports (notices.FrameEnd event) call =
       let says = says (notices.FrameEnd event) call in
       let f = says.0.0 in
       let whole = says.0.1 in (
         f,
         whole.final,
         whole.is,
-        told_on (notices.FrameEnd event) call refl (done ++ f ∷ []) BetweenFrames (end_told role limits old.scan h.scanned h.since h.frames h.reported h.stands done at h.ended event f share after whole),
+        reported_on (notices.FrameEnd event) call refl (done ++ f ∷ []) BetweenFrames (end_reported role limits old.scan h.scanned h.since h.frames h.reported h.has_scanned done at h.ended event f share after whole),
       )
-  tells notices.More call = used notices.More call refl refl (says notices.More call)
-  tells notices.Closed call = used notices.Closed call refl refl (says notices.Closed call)
-  tells (notices.Refused refusal) call = refused_by refusal call
+  reports notices.More call = used notices.More call refl refl (says notices.More call)
+  reports notices.Closed call = used notices.Closed call refl refl (says notices.Closed call)
+  reports (notices.Refused refusal) call = refused_by refusal call
 
   pub progresses : (notice : Notice) → IsCall old new n notice → Progresses old new notice
   progresses (notices.Head info) call = byte_falls (notices.Head info) call (says (notices.Head info) call).1
@@ -186,8 +187,8 @@ module _ (role : Role) (limits : Limits) (old new : NoticeReader) (n : ℕ) (cam
   progresses (notices.FrameEnd event) call =
       let says = says (notices.FrameEnd event) call in
       let there = reached (notices.FrameEnd event) call in
-      let told = end_told role limits old.scan h.scanned h.since h.frames h.reported h.stands done at h.ended event says.0.0 share after says.0.1 in
-      let none = settled role limits new.scan (h.scanned ++ share) there.since there.frames (reported_after h.reported (notices.FrameEnd event) after) there.stands (done ++ says.0.0 ∷ []) BetweenFrames told (inl refl) call.reported in
+      let has_reported = end_reported role limits old.scan h.scanned h.since h.frames h.reported h.has_scanned done at h.ended event says.0.0 share after says.0.1 in
+      let none = settled role limits new.scan (h.scanned ++ share) there.since there.frames (reported_after h.reported (notices.FrameEnd event) after) there.has_scanned (done ++ says.0.0 ∷ []) BetweenFrames has_reported (inl refl) call.reported in
       omega (arith, says.1, says.2, none.1, call.room)
   progresses notices.More call = (used_falls notices.More call refl refl (says notices.More call), call.past_is)
   progresses notices.Closed call = (used_falls notices.Closed call refl refl (says notices.Closed call), call.past_is)

@@ -1,4 +1,4 @@
--- Which refusals the bytes show that a scan has taken: its own, or none.
+-- The bytes that a scan has consumed are refused exactly as the scan reports it.
 use Rattle.std.proofs.Common.{◌≡◌, ℕ, ◌+◌, ◌-◌, ◌≤◌, ◌⊎◌, Option, None, Some, List, [], ◌++◌, length, inl, inr, refl, sym, ap, ◌∙◌, subst, arith}
 use Rattle.std.proofs.lemmas.Bool.{cases_lt}
 use Rattle.std.proofs.lemmas.List.{take-append-le}
@@ -17,21 +17,21 @@ use Rattle.wsn_scan.specs.declared.stage.Stage.TheVariants as stages
 use Rattle.wsn_scan.specs.declared.scan.Scan.{Scan}
 use Rattle.wsn_rules.specs.Limits.{Limits}
 use Rattle.wsn_rules.specs.Group.{unfinished}
-use Rattle.wsn_frame.specs.PartialHeads.{StandsFor}
+use Rattle.wsn_frame.specs.PartialHeads.{HasHeadBytes}
 use Rattle.wsn_rules.specs.Verdict.{IsRefused, IsVerdict}
-use Rattle.wsn_scan.specs.Scans.{StandsAt, summary_of, taken_of, verdict_between, refusal_at, refusal_in, IsRefusedThere}
+use Rattle.wsn_scan.specs.Scans.{HasScannedAt, summary_of, taken_of, verdict_between, refusal_at, refusal_in, IsRefusedThere}
 use Rattle.wsn_scan.specs.Reports.{refusal_judged, Reported}
 use Rattle.wsn_scan.specs.Judging.{IsUnrefused}
 use Rattle.wsn_rules.specs.declared.head_info.HeadInfo.{HeadInfo}
-use Rattle.wsn_scan.specs.Feeding.{HasTaken}
+use Rattle.wsn_scan.specs.Feeding.{HasScannedBytes}
 use Rattle.wsn_scan.specs.Listing.{HasVerdictAndHeads}
-use Rattle.wsn_scan.proofs.HeadsSoFar.{heads_told}
+use Rattle.wsn_scan.proofs.HeadsSoFar.{heads_reported}
 use Rattle.wsn_rules.proofs.OneVerdict.{one_verdict}
 use Rattle.wsn_rules.proofs.StaysRefused.{place_within, refused_alike}
 use Rattle.wsn_scan.proofs.ScanVerdicts.{closed_verdict, cut_verdict, between_verdict, some_head, some_payload}
 use Rattle.wsn_scan.proofs.WithinFrames.{head_within, payload_within}
 
--- A verdict that is no refusal.
+-- The bytes have a verdict other than a refusal.
 record NotRefused (role : Role) (limits : Limits) (bytes : List ℕ) (fs : List Frame) : Type 0 where
   pub verdict : Verdict
   pub is : IsVerdict role limits bytes fs verdict
@@ -46,45 +46,45 @@ empty_or_some Empty = inl refl
 empty_or_some (First f) = inr (λ is. cc)
 empty_or_some (Two f came) = inr (λ is. cc)
 empty_or_some (Eight f came) = inr (λ is. cc)
-empty_or_some (Key f spelled len came) = inr (λ is. cc)
+empty_or_some (Key f encoded len came) = inr (λ is. cc)
 
 module _ (role : Role) (limits : Limits) where
   -- at each stage but a refusal
-  not_refused_at : (scan : Scan) (bytes rest : List ℕ) (fs : List Frame) (reported : Reported) (stage : Stage) → StandsAt role limits scan stage bytes fs rest reported → refusal_at stage ≡ None → NotRefused role limits bytes fs
-  not_refused_at scan bytes rest fs reported (stages.Head part) stands none =
+  not_refused_at : (scan : Scan) (bytes rest : List ℕ) (fs : List Frame) (reported : Reported) (stage : Stage) → HasScannedAt role limits scan stage bytes fs rest reported → refusal_at stage ≡ None → NotRefused role limits bytes fs
+  not_refused_at scan bytes rest fs reported (stages.Head part) has_scanned none =
       elim (empty_or_some part) [
         | inl empty ↦
-            let nothing : rest ≡ [] = subst (λ (p : PartialHead). StandsFor role p rest) empty stands.at.1.stands_for in
-            record { verdict = verdict_between scan scan.context.message; is = between_verdict role limits scan bytes rest fs reported (stages.Head part) stands stands.at.0 nothing; other = between_other scan scan.context.message }
+            let nothing : rest ≡ [] = subst (λ (p : PartialHead). HasHeadBytes role p rest) empty has_scanned.at.1.has_bytes in
+            record { verdict = verdict_between scan scan.context.message; is = between_verdict role limits scan bytes rest fs reported (stages.Head part) has_scanned has_scanned.at.0 nothing; other = between_other scan scan.context.message }
         | inr other ↦ record {
           verdict = Cut (summary_of scan (taken_of scan) 0 None);
-          is = cut_verdict role limits scan bytes rest fs reported (stages.Head part) stands stands.at.0 stands.at.1.unshown (head_within role limits (unfinished fs) part rest stands.at.1)
-              (inl (some_head role part rest stands.at.1.stands_for other));
+          is = cut_verdict role limits scan bytes rest fs reported (stages.Head part) has_scanned has_scanned.at.0 has_scanned.at.1.has_no_evidence (head_within role limits (unfinished fs) part rest has_scanned.at.1)
+              (inl (some_head role part rest has_scanned.at.1.has_bytes other));
           other = refl;
         }
       ]
-  not_refused_at scan bytes rest fs reported (stages.Payload inside) stands none =
-      let in_bytes = IsBytes-right (stream fs) rest (subst IsBytes stands.knows.whole stands.knows.in_bytes) in
+  not_refused_at scan bytes rest fs reported (stages.Payload inside) has_scanned none =
+      let in_bytes = IsBytes-right (stream fs) rest (subst IsBytes has_scanned.has_consumed.whole has_scanned.has_consumed.in_bytes) in
       record {
         verdict = Cut (summary_of scan (taken_of scan) 0 None);
-        is = cut_verdict role limits scan bytes rest fs reported (stages.Payload inside) stands stands.at.0 stands.at.1.holds.unshown (payload_within role limits (unfinished fs) inside rest reported.payload in_bytes stands.at.1)
-            (inl (some_payload role limits (unfinished fs) inside rest reported.payload stands.at.1));
+        is = cut_verdict role limits scan bytes rest fs reported (stages.Payload inside) has_scanned has_scanned.at.0 has_scanned.at.1.holds.has_no_evidence (payload_within role limits (unfinished fs) inside rest reported.payload in_bytes has_scanned.at.1)
+            (inl (some_payload role limits (unfinished fs) inside rest reported.payload has_scanned.at.1));
         other = refl;
       }
-  not_refused_at scan bytes rest fs reported stages.Between stands none =
-      record { verdict = verdict_between scan scan.context.message; is = between_verdict role limits scan bytes rest fs reported stages.Between stands stands.at.0 stands.at.1; other = between_other scan scan.context.message }
-  not_refused_at scan bytes rest fs reported (stages.Ended event) stands none =
-      record { verdict = verdict_between scan scan.context.message; is = between_verdict role limits scan bytes rest fs reported (stages.Ended event) stands stands.at.0 stands.at.2; other = between_other scan scan.context.message }
-  not_refused_at scan bytes rest fs reported (stages.CloseEnded code) stands none =
-      record { verdict = Accepted (summary_of scan scan.used (taken_of scan - scan.used) (Some code)); is = closed_verdict role limits scan bytes rest fs reported (stages.CloseEnded code) stands code stands.at.0 stands.at.1; other = refl }
-  not_refused_at scan bytes rest fs reported (stages.Closed code) stands none =
-      record { verdict = Accepted (summary_of scan scan.used (taken_of scan - scan.used) (Some code)); is = closed_verdict role limits scan bytes rest fs reported (stages.Closed code) stands code stands.at.0 stands.at.1; other = refl }
-  not_refused_at scan bytes rest fs reported (stages.Refused refusal) stands none = absurd cc
+  not_refused_at scan bytes rest fs reported stages.Between has_scanned none =
+      record { verdict = verdict_between scan scan.context.message; is = between_verdict role limits scan bytes rest fs reported stages.Between has_scanned has_scanned.at.0 has_scanned.at.1; other = between_other scan scan.context.message }
+  not_refused_at scan bytes rest fs reported (stages.Ended event) has_scanned none =
+      record { verdict = verdict_between scan scan.context.message; is = between_verdict role limits scan bytes rest fs reported (stages.Ended event) has_scanned has_scanned.at.0 has_scanned.at.2; other = between_other scan scan.context.message }
+  not_refused_at scan bytes rest fs reported (stages.CloseEnded code) has_scanned none =
+      record { verdict = Accepted (summary_of scan scan.used (taken_of scan - scan.used) (Some code)); is = closed_verdict role limits scan bytes rest fs reported (stages.CloseEnded code) has_scanned code has_scanned.at.0 has_scanned.at.1; other = refl }
+  not_refused_at scan bytes rest fs reported (stages.Closed code) has_scanned none =
+      record { verdict = Accepted (summary_of scan scan.used (taken_of scan - scan.used) (Some code)); is = closed_verdict role limits scan bytes rest fs reported (stages.Closed code) has_scanned code has_scanned.at.0 has_scanned.at.1; other = refl }
+  not_refused_at scan bytes rest fs reported (stages.Refused refusal) has_scanned none = absurd cc
 
-  pub not_refused : (scan : Scan) (bytes rest : List ℕ) (fs : List Frame) (reported : Reported) → StandsAt role limits scan scan.stage bytes fs rest reported → refusal_in scan ≡ None → (verdict : Verdict) × IsVerdict role limits bytes fs verdict
-  not_refused scan bytes rest fs reported stands none = let not = not_refused_at scan bytes rest fs reported scan.stage stands none in (not.verdict, not.is)
+  pub not_refused : (scan : Scan) (bytes rest : List ℕ) (fs : List Frame) (reported : Reported) → HasScannedAt role limits scan scan.stage bytes fs rest reported → refusal_in scan ≡ None → (verdict : Verdict) × IsVerdict role limits bytes fs verdict
+  not_refused scan bytes rest fs reported has_scanned none = let not = not_refused_at scan bytes rest fs reported scan.stage has_scanned none in (not.verdict, not.is)
 
-  -- bytes with another verdict show no refusal
+  -- bytes with another verdict are not refused
   no_refusal_of : (bytes : List ℕ) (fs : List Frame) → NotRefused role limits bytes fs → IsUnrefused role limits bytes
   no_refusal_of bytes fs not gs place reason refused =
       let one = one_verdict role limits bytes fs gs not.verdict (Refused (record { place = place; reason = reason })) not.is refused in
@@ -93,57 +93,57 @@ module _ (role : Role) (limits : Limits) where
       cc
 
   -- a scan that has not refused
-  pub unrefused : (scan : Scan) (bytes : List ℕ) (heads : List HeadInfo) → HasTaken role limits scan bytes heads → refusal_in scan ≡ None → IsUnrefused role limits bytes
-  unrefused scan bytes heads taken none = no_refusal_of bytes taken.frames (not_refused_at scan bytes taken.since taken.frames (record { heads = heads; payload = taken.payload; ends = taken.ends }) scan.stage taken.stands none)
+  pub unrefused : (scan : Scan) (bytes : List ℕ) (heads : List HeadInfo) → HasScannedBytes role limits scan bytes heads → refusal_in scan ≡ None → IsUnrefused role limits bytes
+  unrefused scan bytes heads taken none = no_refusal_of bytes taken.frames (not_refused_at scan bytes taken.since taken.frames (record { heads = heads; payload = taken.payload; ends = taken.ends }) scan.stage taken.has_scanned none)
 
-  refused_at_stage : (scan : Scan) (bytes rest : List ℕ) (fs : List Frame) (reported : Reported) (stage : Stage) (refusal : Refusal) → StandsAt role limits scan stage bytes fs rest reported → refusal_at stage ≡ Some refusal
+  refused_at_stage : (scan : Scan) (bytes rest : List ℕ) (fs : List Frame) (reported : Reported) (stage : Stage) (refusal : Refusal) → HasScannedAt role limits scan stage bytes fs rest reported → refusal_at stage ≡ Some refusal
       → IsRefusedThere role limits refusal bytes fs reported
-  refused_at_stage scan bytes rest fs reported stages.Between refusal stands is = absurd cc
-  refused_at_stage scan bytes rest fs reported (stages.Head part) refusal stands is = absurd cc
-  refused_at_stage scan bytes rest fs reported (stages.Payload inside) refusal stands is = absurd cc
-  refused_at_stage scan bytes rest fs reported (stages.Ended event) refusal stands is = absurd cc
-  refused_at_stage scan bytes rest fs reported (stages.CloseEnded code) refusal stands is = absurd cc
-  refused_at_stage scan bytes rest fs reported (stages.Closed code) refusal stands is = absurd cc
-  refused_at_stage scan bytes rest fs reported (stages.Refused held) refusal stands is =
+  refused_at_stage scan bytes rest fs reported stages.Between refusal has_scanned is = absurd cc
+  refused_at_stage scan bytes rest fs reported (stages.Head part) refusal has_scanned is = absurd cc
+  refused_at_stage scan bytes rest fs reported (stages.Payload inside) refusal has_scanned is = absurd cc
+  refused_at_stage scan bytes rest fs reported (stages.Ended event) refusal has_scanned is = absurd cc
+  refused_at_stage scan bytes rest fs reported (stages.CloseEnded code) refusal has_scanned is = absurd cc
+  refused_at_stage scan bytes rest fs reported (stages.Closed code) refusal has_scanned is = absurd cc
+  refused_at_stage scan bytes rest fs reported (stages.Refused held) refusal has_scanned is =
       let same : held ≡ refusal = cc in
-      subst (λ (r : Refusal). IsRefusedThere role limits r bytes fs reported) same stands.at
+      subst (λ (r : Refusal). IsRefusedThere role limits r bytes fs reported) same has_scanned.at
 
   -- a scan that has refused
-  pub refused : (scan : Scan) (bytes : List ℕ) (heads : List HeadInfo) (refusal : Refusal) → (taken : HasTaken role limits scan bytes heads) → refusal_in scan ≡ Some refusal
+  pub refused : (scan : Scan) (bytes : List ℕ) (heads : List HeadInfo) (refusal : Refusal) → (taken : HasScannedBytes role limits scan bytes heads) → refusal_in scan ≡ Some refusal
       → IsRefusedThere role limits refusal bytes taken.frames (record { heads = heads; payload = taken.payload; ends = taken.ends })
-  refused scan bytes heads refusal taken is = refused_at_stage scan bytes taken.since taken.frames (record { heads = heads; payload = taken.payload; ends = taken.ends }) scan.stage refusal taken.stands is
+  refused scan bytes heads refusal taken is = refused_at_stage scan bytes taken.since taken.frames (record { heads = heads; payload = taken.payload; ends = taken.ends }) scan.stage refusal taken.has_scanned is
 
-  -- no bytes, no refusal
-  pub unrefused_first : (scan : Scan) (heads : List HeadInfo) → HasTaken role limits scan [] heads → refusal_in scan ≡ None
+  -- an empty list of bytes is not refused
+  pub unrefused_first : (scan : Scan) (heads : List HeadInfo) → HasScannedBytes role limits scan [] heads → refusal_in scan ≡ None
   unrefused_first scan heads taken = by_refusal (refusal_in scan) refl
     where
       by_refusal : (reported : Option Refusal) → refusal_in scan ≡ reported → refusal_in scan ≡ None
       by_refusal None is = is
       by_refusal (Some refusal) is =
-          let shown = ((refused scan [] heads refusal taken is).refused []).shown in
-          absurd (omega (arith, place_within role limits taken.frames [] refusal.place refusal.reason shown))
+          let is_evident = ((refused scan [] heads refusal taken is).refused []).is_evident in
+          absurd (omega (arith, place_within role limits taken.frames [] refusal.place refusal.reason is_evident))
 
   -- ---- what was reported
 
-  -- a scan that has not refused has a verdict, and has reported the heads
-  pub told_so_far : (scan : Scan) (bytes : List ℕ) (heads : List HeadInfo) → HasTaken role limits scan bytes heads → refusal_in scan ≡ None → (verdict : Verdict) × HasVerdictAndHeads role limits bytes heads verdict
-  told_so_far scan bytes heads taken none =
+  -- a scan that has not refused has a verdict and has reported all heads
+  pub reported_so_far : (scan : Scan) (bytes : List ℕ) (heads : List HeadInfo) → HasScannedBytes role limits scan bytes heads → refusal_in scan ≡ None → (verdict : Verdict) × HasVerdictAndHeads role limits bytes heads verdict
+  reported_so_far scan bytes heads taken none =
       let reported : Reported = record { heads = heads; payload = taken.payload; ends = taken.ends } in
-      let not = not_refused_at scan bytes taken.since taken.frames reported scan.stage taken.stands none in
-      (not.verdict, record { frames = taken.frames; is_verdict = not.is; are_heads = heads_told role limits scan bytes taken.since taken.frames reported taken.stands })
+      let not = not_refused_at scan bytes taken.since taken.frames reported scan.stage taken.has_scanned none in
+      (not.verdict, record { frames = taken.frames; is_verdict = not.is; are_heads = heads_reported role limits scan bytes taken.since taken.frames reported taken.has_scanned })
 
-  -- and one that has refused, whatever follows
-  pub told_refused : (scan : Scan) (bytes later : List ℕ) (heads : List HeadInfo) (refusal : Refusal) → HasTaken role limits scan bytes heads → refusal_in scan ≡ Some refusal
+  -- a scan that has refused, whatever follows
+  pub reported_refused : (scan : Scan) (bytes later : List ℕ) (heads : List HeadInfo) (refusal : Refusal) → HasScannedBytes role limits scan bytes heads → refusal_in scan ≡ Some refusal
       → HasVerdictAndHeads role limits (bytes ++ later) heads (Refused refusal)
-  told_refused scan bytes later heads refusal taken is =
+  reported_refused scan bytes later heads refusal taken is =
       let there = refused scan bytes heads refusal taken is in
       record { frames = taken.frames; is_verdict = there.refused later; are_heads = there.heads later }
 
-  -- the place of a refusal is not among bytes that show none
-  pub place_behind : (before more : List ℕ) (fs : List Frame) (place : ℕ) (reason : Reason) → IsUnrefused role limits before → IsRefused role limits (before ++ more) fs place reason → length before ≤ place
-  place_behind before more fs place reason none shown =
+  -- bytes that are not refused end before the offset of a later refusal
+  pub place_after : (before more : List ℕ) (fs : List Frame) (place : ℕ) (reason : Reason) → IsUnrefused role limits before → IsRefused role limits (before ++ more) fs place reason → length before ≤ place
+  place_after before more fs place reason none is_evident =
       elim (cases_lt place (length before)) [
         | inl less ↦
-            absurd (none fs place reason (refused_alike role limits fs (before ++ more) before place reason (sym (take-append-le (place + 1) before more (omega arith))) shown))
+            absurd (none fs place reason (refused_alike role limits fs (before ++ more) before place reason (sym (take-append-le (place + 1) before more (omega arith))) is_evident))
         | inr within ↦ within
       ]

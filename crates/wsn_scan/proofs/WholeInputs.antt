@@ -1,10 +1,10 @@
--- What an answer says of an input whose bytes are known: of all of them, in whatever pieces they came.
+-- What an answer says of all bytes of an input whose bytes are known, in whatever chunks they come.
 use Rattle.std.proofs.Common.{◌≡◌, ℕ, ◌+◌, ◌<◌, ◌≤◌, Some, List, [], ◌++◌, length, take, sym, ap, ◌∙◌, subst, append-nil, arith}
 use Rattle.std.proofs.lemmas.List.{take-take}
 use Rattle.std.specs.Io.KnownBytes.{IsAtEnd}
 use Rattle.wsn_wire.specs.declared.endpoint.Role.{Role}
 use Rattle.wsn_wire.specs.Frame.{Frame}
-use Rattle.wsn_wire.specs.Transfer.{Incoming}
+use Rattle.wsn_io.specs.Transfer.{Incoming}
 use Rattle.wsn_rules.specs.declared.verdict.Verdict.{Verdict}
 use Rattle.wsn_rules.specs.declared.verdict.Verdict.TheVariants.{Accepted, Cut, Refused}
 use Rattle.wsn_rules.specs.Limits.{Limits}
@@ -13,7 +13,7 @@ use Rattle.wsn_rules.proofs.StaysRefused.{stays_refused, refused_alike}
 use Rattle.wsn_scan.specs.Judging.{IsReached, IsUnrefused, IsWithinLimit}
 
 module _ (role : Role) (limits : Limits) where
-  -- the verdict on what came is that on all of it
+  -- the verdict on what came is that on all of the input
   pub of_all : (new : Incoming) (came rest : List ℕ) (fs : List Frame) (verdict : Verdict) → IsReached role limits new came verdict → new.remaining ≡ Some rest
       → IsVerdict role limits came fs verdict → IsVerdict role limits (came ++ rest) fs verdict × IsWithinLimit limits (came ++ rest) verdict
   of_all new came rest fs (Refused refusal) reached left is = (stays_refused role limits fs came rest refusal.place refusal.reason is, reached.3)
@@ -26,7 +26,7 @@ module _ (role : Role) (limits : Limits) where
       let all : came ≡ came ++ rest = sym (append-nil came) ∙ ap (λ (bs : List ℕ). came ++ bs) (sym nothing) in
       (subst (λ (bs : List ℕ). IsVerdict role limits bs fs (Cut s)) all is, subst (λ (bs : List ℕ). length bs ≤ limits.input) all reached.3)
 
-  -- a verdict within the limit, and more bytes than the limit that show no refusal within it
+  -- a verdict within the limit, or more bytes than the limit and those within it not refused
   pub not_past : (all : List ℕ) (fs : List Frame) (verdict : Verdict) → IsVerdict role limits all fs verdict → IsWithinLimit limits all verdict → limits.input < length all → IsUnrefused role limits (take limits.input all) → ⊥
   not_past all fs (Accepted s) is within more none = omega (arith, within, more)
   not_past all fs (Cut s) is within more none = omega (arith, within, more)

@@ -1,14 +1,16 @@
--- what callers read: of a scan, of the engines, of a reader of notices
+-- for callers: a scan, its engines, and a reader of notices
 pub mod Reports
 pub mod Feeding
 pub mod Judging
-pub mod Stops
 pub mod Listing
-pub mod FramesTold
+pub mod ReportedFrames
 pub mod NoticeReaders
 pub mod ReadNotices
--- what private functions need
+pub mod ReportedEvents
+-- for private functions
 pub mod Scans
+pub mod Refill
 pub mod ReaderSteps
--- what the clauses in src/ import
+pub mod EventFrames
+-- for the clauses in src/
 pub mod Words

@@ -1,45 +1,58 @@
 -- What is printed of a stream: a line for each of its heads, and one for its verdict.
-use Rattle.std.specs.Prelude.{◌≡◌, ℕ, ◌+◌, ◌<◌, Option, Result, Ok, Err, List, ◌++◌, length, take, ⊤}
+use Rattle.std.specs.Prelude.{◌≡◌, ℕ, ◌+◌, ◌<◌, ◌≤◌, false, Option, Result, Ok, Err, List, ◌++◌, length, take, ⊤}
 use Rattle.wsn_wire.specs.declared.endpoint.Role.{Role}
+use Rattle.wsn_wire.specs.declared.refusal.Reason.{Reason}
 use Rattle.wsn_wire.specs.Frame.{Frame}
-use Rattle.wsn_wire.specs.Transfer.{Incoming, Outgoing, IsReceived, IsWritten, IsPartlyWritten, IsWrittenUpToFailure}
+use Rattle.wsn_io.specs.Transfer.{Incoming, Outgoing, IsReceived, IsWritten, IsPartlyWritten, IsWrittenUpToFailure}
 use Rattle.wsn_rules.specs.declared.head_info.HeadInfo.{HeadInfo}
 use Rattle.wsn_rules.specs.declared.verdict.Verdict.{Verdict}
-use Rattle.wsn_scan.specs.declared.stop.Stop.{Stop}
-use Rattle.wsn_scan.specs.declared.stop.Stop.TheVariants as stop
+use Rattle.wsn_io.specs.declared.stop.Stop.{Stop}
+use Rattle.wsn_io.specs.declared.stop.Stop.TheVariants as stop
 use Rattle.wsn_rules.specs.declared.verdict.Refusal.{Refusal}
 use Rattle.wsn_scan.specs.declared.scan.Scan.{Scan}
 use Rattle.wsn_rules.specs.Limits.{Limits}
-use Rattle.wsn_rules.specs.Verdict.{IsVerdict}
+use Rattle.wsn_rules.specs.Verdict.{IsRefused, IsVerdict}
 use Rattle.wsn_rules.specs.Heads.{AreHeads}
-use Rattle.wsn_rules.specs.Lines.{head_lines, verdict_line}
-use Rattle.wsn_scan.specs.Feeding.{HasFed}
-use Rattle.wsn_scan.specs.Judging.{IsAnswer, IsUnrefused, IsWithinLimit}
+use Rattle.wsn_print.specs.HeadText.{head_lines}
+use Rattle.wsn_print.specs.VerdictText.{verdict_line}
+use Rattle.wsn_scan.specs.Feeding.{HasFed, ConsumesPrefix}
+use Rattle.wsn_scan.specs.Refill.{chunk_size}
+use Rattle.wsn_scan.specs.Judging.{IsJudgeAnswer, IsUnrefused, IsWithinLimit}
 
--- The verdict on these bytes, and the heads that they tell.
+-- The bytes have this verdict, and these are all their heads.
 pub record HasVerdictAndHeads (role : Role) (limits : Limits) (bytes : List ℕ) (heads : List HeadInfo)
     (verdict : Verdict) : Type 0 where
   pub frames : List Frame
   pub is_verdict : IsVerdict role limits bytes frames verdict
   pub are_heads : AreHeads role limits bytes frames heads
 
+-- the lines of the heads, and then the verdict's line
 abbrev pub listing : List HeadInfo → Verdict → List ℕ
 listing heads verdict = head_lines heads ++ verdict_line verdict
 
--- What the scan takes of a piece, and that the heads which it tells go out.
-pub record IsListedPiece (old new : Scan) (before after : Outgoing) (piece : List ℕ) (refusal : Option Refusal)
+-- The scan has consumed the piece up to a refusal, if there is one, and the lines of the heads that it reported were
+-- written, up to a failed write.
+pub record IsListedChunk (old new : Scan) (before after : Outgoing) (piece : List ℕ) (refusal : Option Refusal)
     : Type 0 where
   pub fed : HasFed old new piece refusal
   pub printed : IsWrittenUpToFailure before after (head_lines fed.heads)
 
--- What a verdict that is printed answers, and what of its line went out.
+-- The scan has consumed the first n bytes of the piece, and the lines of the heads that it reported were written after
+-- what was printed before, up to a failed write.
+pub record IsListedRun (old new : Scan) (before after : Outgoing) (piece : List ℕ) (n : ℕ) : Type 0 where
+  pub heads : List HeadInfo
+  pub consumes : ConsumesPrefix old new piece n heads
+  pub printed : (first : Outgoing) (text : List ℕ) → IsWrittenUpToFailure first before text →
+      IsWrittenUpToFailure first after (text ++ head_lines heads)
+
+-- The verdict is returned and its line was written; or the write failed, and a prefix of the line was written.
 abbrev pub IsEnded : Outgoing → Outgoing → Verdict → Result Verdict Stop → Type 0
 IsEnded before after verdict (Ok answer) = (answer ≡ verdict) × IsWritten before after (verdict_line verdict)
 IsEnded before after verdict (Err stopped) =
     (stopped ≡ stop.Write) × IsPartlyWritten before after (verdict_line verdict)
 
--- What went out at each answer. Before a stop the lines are those of the bytes that came, at most `input` of them;
--- where a write failed, some front of them and of the verdict's line.
+-- What was written at each answer: with a verdict, the whole listing; after a failed write, a prefix of the listing of
+-- the bytes within the limit; at any other stop, the lines of the heads in those bytes.
 abbrev pub IsPrinted : Role → Limits → List ℕ → Outgoing → Outgoing → Result Verdict Stop → Type 0
 IsPrinted role limits came before after (Ok verdict) =
     (heads : List HeadInfo) × HasVerdictAndHeads role limits came heads verdict
@@ -53,13 +66,20 @@ IsPrinted role limits came before after (Err stopped) =
     × HasVerdictAndHeads role limits (take limits.input came) heads verdict
     × IsWritten before after (head_lines heads)
 
--- The answer says of the bytes that came what a judge's does, unless a write failed.
-abbrev pub IsListAnswer : Role → Limits → Incoming → List ℕ → Result Verdict Stop → Type 0
-IsListAnswer role limits new came (Err stop.Write) = ⊤
-IsListAnswer role limits new came result = IsAnswer role limits new came result
+-- If the bytes that came are refused, at most `chunk_size` - 1 of them came after the offending byte.
+abbrev pub IsReadUpToRefusal : Role → Limits → List ℕ → Type 0
+IsReadUpToRefusal role limits came =
+    (fs : List Frame) (place : ℕ) (reason : Reason) → IsRefused role limits came fs place reason
+    → length came ≤ place + chunk_size
 
--- The bytes that came from the input, one more than its limit at most, what the answer says of them, and what was
--- printed of them.
+-- The answer is right for the bytes that came, as a judge's is. If a write failed, no read has, and the bytes that came
+-- end as soon after a refusal as a judge's do.
+abbrev pub IsListAnswer : Role → Limits → Incoming → List ℕ → Result Verdict Stop → Type 0
+IsListAnswer role limits new came (Err stop.Write) = (new.failed ≡ false) × IsReadUpToRefusal role limits came
+IsListAnswer role limits new came result = IsJudgeAnswer role limits new came result
+
+-- These bytes came from the input, at most one past its limit. The answer is right for them, and this was printed of
+-- them.
 pub record IsListed (role : Role) (limits : Limits) (old new : Incoming) (before after : Outgoing)
     (result : Result Verdict Stop) : Type 0 where
   pub came : List ℕ
@@ -67,11 +87,10 @@ pub record IsListed (role : Role) (limits : Limits) (old new : Incoming) (before
   pub answer : IsListAnswer role limits new came result
   pub printed : IsPrinted role limits came before after result
 
--- ---- of an input whose bytes are known
+-- ---- an input whose bytes are known
 
--- What an answer says of all the bytes of an input. The verdict is theirs, and the lines of their heads and of the
--- verdict were written; or there are more than the limit, the first `input` of them show no refusal, and the lines of
--- the heads that those tell were written. Where a read or a write failed this says nothing.
+-- The answer for all bytes of an input. With a verdict on them, their listing was written. At the input limit the bytes
+-- within it are not refused, and the lines of their heads were written. At any other stop this says nothing.
 abbrev pub IsListedWhole : Role → Limits → List ℕ → Outgoing → Outgoing → Result Verdict Stop → Type 0
 IsListedWhole role limits all before after (Ok verdict) =
     (heads : List HeadInfo) × HasVerdictAndHeads role limits all heads verdict × IsWithinLimit limits all verdict

@@ -1,17 +1,18 @@
-ghost use Rattle.std.specs.Prelude.{◌≡◌, ℕ, ◌+◌, ◌<◌, ◌≤◌, List, Some, length, take, IfSome, IfNone, IfOk, Err, ◌↔◌, false, true};
-ghost use Rattle.wsn_scan.specs.Words.{Consumes, Keeps, IsAtEnd, Frame, IsBytes, IsJudged, IsUnrefused, IsVerdict};
+ghost use Rattle.std.specs.Prelude.{◌≡◌, ℕ, ◌<◌, List, Some, length, take, IfOk, Err, ◌↔◌, false, true};
+ghost use Rattle.wsn_scan.specs.Words.{Frame, IsJudged, IsUnrefused, IsVerdict};
 
+use crate::refill::{CHUNK, refill};
 use crate::scan::Scan;
-use crate::stop::Stop;
 use std::io::Read;
+use wsn_io::Stop;
 use wsn_rules::{Limits, Verdict};
 use wsn_wire::{Input, Role};
 
-/// The most bytes that one read takes.
-pub const PIECE: usize = 4096;
-
-/// Reads an input to its verdict: to its end, or up to a refusal. It takes pieces of at most 4,096 bytes, and one
-/// byte past the input limit at most. A refusal is answered before anything that came behind it.
+/// Reads an input to its verdict: to its end, or up to a refusal (RFC 6455 sections 5 and 7). `role` is the endpoint
+/// that sent the stream. The input is read in chunks of at most 4,096 bytes, and at most one byte past the input limit.
+///
+/// Errors: `Read` exactly if a read fails; `InputLimit` if a byte past the input limit comes. With either error, the
+/// bytes that came within the limit are not refused.
 #[tactic(none)]
 pub fn judge<R: Read>(input: &mut Input<R>, role: Role, limits: Limits) -> Result<Verdict, Stop>
     requires { input.old.failed ≡ false }
@@ -23,40 +24,16 @@ pub fn judge<R: Read>(input: &mut Input<R>, role: Role, limits: Limits) -> Resul
     ensures failed { (result ≡ Err Stop.Read) ↔ (input.new.failed ≡ true) }
 {
     let mut scan = Scan::new(role, limits);
-    let mut buffer = [0; PIECE];
+    let mut buffer = [0; CHUNK];
     loop {
-        let room = scan.room();
-        let Some(count) = read_piece(input, room, &mut buffer) else {
-            return Err(Stop::Read);
-        };
-        if count == 0 {
+        let Some(chunk) = refill(input, scan.room(), &mut buffer)? else {
             return Ok(scan.finish());
-        }
-        let fits = room.min(count as u64) as usize;
-        if let Some(refusal) = scan.feed(&mut buffer[..fits]) {
+        };
+        if let Some(refusal) = scan.feed(&mut buffer[..chunk.len]) {
             return Ok(Verdict::Refused(refusal));
         }
-        if count > fits {
+        if chunk.past_limit {
             return Err(Stop::InputLimit);
         }
     }
-}
-
-/// Reads once, into the front of the buffer, and no more than a byte past the room. It answers how many bytes
-/// came: 0 only at the end. `None` where the reader answered an error.
-pub(crate) fn read_piece<R: Read>(
-    input: &mut Input<R>,
-    room: u64,
-    buffer: &mut [u8],
-) -> Option<usize>
-    requires { 0 < length buffer.old }
-    ensures within { IfSome result (λ n. (n ≤ room + 1) × (n ≤ length buffer.new)) }
-    ensures bytes { IfSome result (λ n. Consumes input.old.remaining input.new.remaining (take n buffer.new)) }
-    ensures in_bytes { IfSome result (λ n. IsBytes (take n buffer.new)) }
-    ensures end { IfSome result (λ n. n ≡ 0 → IsAtEnd input.new.remaining) }
-    ensures some { IfSome result (λ _. input.new.failed ≡ input.old.failed) }
-    ensures none { IfNone result ((input.new.failed ≡ true) × Keeps input.old.remaining input.new.remaining) }
-{
-    let wanted = room.saturating_add(1).min(buffer.len() as u64) as usize;
-    input.read(&mut buffer[..wanted])
 }

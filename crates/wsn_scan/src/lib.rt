@@ -1,26 +1,28 @@
-//! The frames of one endpoint's stream, and its verdict (RFC 6455 sections 5 and 7).
+//! Reads one endpoint's stream, lists its frames and gives its verdict (RFC 6455 sections 5 and 7).
 //!
-//! [`Scan`] reads a stream in pieces and keeps none of it. [`judge`] reads an input to its verdict, [`list`] prints
-//! a line for each of its frames first, and [`put_verdict`] prints a verdict. What a stream means, and which verdict
-//! it has, `wsn_rules` defines; `specs/` says how a scan stands to the bytes that it has taken. What one frame needs of
-//! it, its head, its key and the check of its payload, is in `wsn_frame`.
+//! [`judge`] reads an input to its verdict. [`list`] does so too and prints a line for each frame first.
+//! [`NoticeReader`] reports each head, the payload and each frame's end as they come. [`Scan`] does the work for all
+//! three: it consumes a stream in pieces and keeps none of the bytes. [`put_verdict`] prints a verdict.
+//!
+//! `wsn_rules` defines what a stream means and which verdict it has. `specs/` defines how a scan's state relates to the
+//! bytes that it has consumed. One frame's head, key and payload check are in `wsn_frame`.
 #![tactic(auto)]
 
 mod judging;
 pub mod laws;
-mod lines;
 mod listing;
 mod notice;
 mod notice_reader;
+mod refill;
 mod scan;
 mod stage;
-mod stop;
 
-pub use judging::{PIECE, judge};
-pub use lines::{put_line, put_verdict};
+pub use judging::judge;
 pub use listing::list;
 pub use notice::Notice;
 pub use notice_reader::{NextNotice, NoticeReader};
+pub use refill::CHUNK;
 pub use scan::Scan;
-pub use stop::Stop;
+pub use wsn_io::Stop;
+pub use wsn_print::put_verdict;
 pub use wsn_rules::{HeadInfo, INPUT_MAX, Limits, MESSAGE_MAX, Refusal, Summary, Verdict};

@@ -1,19 +1,22 @@
-ghost use Rattle.std.specs.Prelude.{◌≡◌, ℕ, ◌≤◌, List, ◌++◌, length, false, Ok, Some};
-ghost use Rattle.wsn_scan.specs.Words.{Outgoing, IsWrittenUpToFailure, room_of, IsRunning, heads_in, head_lines, IsEnded, IsListedPiece, IsListed, IsListedWhole};
+ghost use Rattle.std.specs.Prelude.{◌≡◌, ℕ, ◌+◌, ◌≤◌, List, ◌++◌, length, drop, false, Ok, Some};
+ghost use Rattle.wsn_scan.specs.Words.{Outgoing, IsWrittenUpToFailure, room_of, IsRunning, heads_in, head_lines, IsEnded, IsListedChunk, IsListedRun, IsListed, IsListedWhole, IsBytes};
 
-use crate::judging::{PIECE, read_piece};
-use crate::lines::{put_head, put_verdict};
 use crate::notice::Notice;
+use crate::refill::{CHUNK, refill};
 use crate::scan::Scan;
-use crate::stop::Stop;
 use std::io::{Read, Write};
+use wsn_io::Stop;
+use wsn_print::{put_head, put_verdict};
 use wsn_rules::{Limits, Refusal, Verdict};
 use wsn_wire::{Input, Output, Role};
 
-/// Reads an input to its verdict, as [`judge`](crate::judge) does, and prints a line for each frame whose head
-/// came whole and showed no reason to refuse it, as soon as it came, and then the verdict's line. Before `Read`
-/// or `InputLimit` it has printed the lines of the heads that came, and none of a verdict. `Write` if the
-/// writer fails: some bytes at the front of the lines went out.
+/// Prints a line for each frame of an input and then the verdict's line, and returns the verdict (RFC 6455 section
+/// 5.2). It reads as [`judge`](crate::judge) does. A frame's line is printed as soon as its head is complete, if the
+/// head is valid so far.
+///
+/// Errors: `Read` if a read fails, and `InputLimit` if a byte past the input limit comes. With either, the lines of the
+/// heads that came within the limit are printed, and no verdict. `Write` if the writer fails: a prefix of the lines is
+/// written.
 #[tactic(none)]
 pub fn list<R: Read, W: Write>(
     input: &mut Input<R>,
@@ -28,30 +31,25 @@ pub fn list<R: Read, W: Write>(
         IsListedWhole role limits all output.old output.new result }
 {
     let mut scan = Scan::new(role, limits);
-    let mut buffer = [0; PIECE];
+    let mut buffer = [0; CHUNK];
     loop {
-        let room = scan.room();
-        let Some(count) = read_piece(input, room, &mut buffer) else {
-            return Err(Stop::Read);
-        };
-        if count == 0 {
+        let Some(chunk) = refill(input, scan.room(), &mut buffer)? else {
             return end(output, scan.finish());
-        }
-        let fits = room.min(count as u64) as usize;
-        let refusal = list_piece(&mut scan, &mut buffer[..fits], output);
+        };
+        let refusal = list_chunk(&mut scan, &mut buffer[..chunk.len], output);
         if output.failed() {
             return Err(Stop::Write);
         }
         if let Some(refusal) = refusal {
             return end(output, Verdict::Refused(refusal));
         }
-        if count > fits {
+        if chunk.past_limit {
             return Err(Stop::InputLimit);
         }
     }
 }
 
-/// Writes the verdict and answers it.
+/// Prints the verdict's line and returns the verdict. `Write` if the writer fails: a prefix of the line is written.
 #[tactic(none)]
 fn end<W: Write>(output: &mut Output<W>, verdict: Verdict) -> Result<Verdict, Stop>
     requires { output.old.failed ≡ false }
@@ -61,10 +59,10 @@ fn end<W: Write>(output: &mut Output<W>, verdict: Verdict) -> Result<Verdict, St
     Ok(verdict)
 }
 
-/// Hands the piece to the scan, all of it or up to a refusal, which it answers, and prints each head that the
-/// scan tells. After a failed write it only scans on.
+/// Feeds the piece to the scan, all of it or the bytes up to a refusal, and prints each head that the scan reports.
+/// Returns the refusal, if there is one. After a failed write it scans on and prints nothing.
 #[tactic(none)]
-fn list_piece<W: Write>(
+fn list_chunk<W: Write>(
     scan: &mut Scan,
     piece: &mut [u8],
     output: &mut Output<W>,
@@ -72,7 +70,7 @@ fn list_piece<W: Write>(
     requires begun { IsRunning scan.old }
     requires fits { length piece.old ≤ room_of scan.old }
     requires writable { output.old.failed ≡ false }
-    ensures { IsListedPiece scan.old scan.new output.old output.new piece.old result }
+    ensures { IsListedChunk scan.old scan.new output.old output.new piece.old result }
 {
     let mut at = 0;
     while at < piece.len() {
@@ -82,11 +80,32 @@ fn list_piece<W: Write>(
         if let Notice::Refused(refusal) = notice {
             return Some(refusal);
         }
+        at += list_frames(scan, &mut piece[at..], output);
     }
     scan.refusal()
 }
 
-/// Writes the head that a notice tells, unless a write has failed.
+/// Consumes frames at the start of the piece, up to the first that [`Scan::take_frame`] leaves, and prints their heads.
+/// Returns the number of bytes. With 0 nothing changes.
+#[inline(never)]
+#[tactic(none)]
+fn list_frames<W: Write>(scan: &mut Scan, piece: &mut [u8], output: &mut Output<W>) -> usize
+    requires { length piece.old ≤ room_of scan.old }
+    ensures taken { IsBytes piece.old → IsListedRun scan.old scan.new output.old output.new piece.old result }
+    ensures within { result ≤ length piece.old }
+    ensures kept { drop result piece.new ≡ drop result piece.old }
+    ensures room { room_of scan.new + result ≡ room_of scan.old }
+    ensures none { result ≡ 0 → scan.new ≡ scan.old }
+{
+    let mut at = 0;
+    while let Some((taken, head)) = scan.take_frame(&mut piece[at..]) {
+        at += taken;
+        print(output, &Notice::Head(head));
+    }
+    at
+}
+
+/// Prints the head that a notice reports, if it reports one and no write has failed.
 #[tactic(none)]
 fn print<W: Write>(output: &mut Output<W>, notice: &Notice)
     ensures { (before : Outgoing) (text : List ℕ) → IsWrittenUpToFailure before output.old text →

@@ -1,18 +1,18 @@
 use wsn_rules::{HeadInfo, Refusal};
 
-/// What a scan tells of the bytes that it took.
+/// What [`Scan::next`](crate::Scan::next) reports about the bytes that it consumes (RFC 6455 section 5.2).
 #[derive(Clone, Copy, Debug)]
 pub enum Notice {
-    /// Nothing yet.
+    /// There is nothing to report yet.
     More,
-    /// A head is whole.
+    /// A frame's head is complete.
     Head(HeadInfo),
-    /// These bytes are payload, unmasked now.
+    /// The bytes are payload, now unmasked.
     Payload,
-    /// The frame whose head came last is whole. With `event`, it is final and so ends an event.
+    /// The frame whose head came last is complete. `event` is true if the frame is final, and so ends an event.
     FrameEnd { event: bool },
-    /// These bytes stand behind a Close.
+    /// The bytes come after a Close.
     Closed,
-    /// The last of these bytes shows that the stream must be refused.
+    /// The stream is refused; the last byte that the scan consumed is the offending byte.
     Refused(Refusal),
 }

@@ -1,59 +1,61 @@
-ghost use Rattle.std.specs.Prelude.{◌≡◌, ℕ, ◌+◌, ◌-◌, ◌<◌, ◌≤◌, List, [], None, Ok, false, length};
+ghost use Rattle.std.specs.Prelude.{◌≡◌, ℕ, ◌+◌, ◌-◌, ◌<◌, ◌≤◌, List, [], None, Ok, true, false, length};
 ghost use Rattle.std.specs.List.{slice_range};
 ghost use Rattle.wsn_wire.specs.Frame.{Frame, IsBytes};
-ghost use Rattle.wsn_scan.specs.Scans.{Advances, Takes, room_of, refusal_in};
+ghost use Rattle.wsn_scan.specs.Refill.{chunk_size};
+ghost use Rattle.wsn_scan.specs.Scans.{Advances, ConsumesFromPiece, room_of, refusal_in};
+ghost use Rattle.wsn_scan.specs.EventFrames.{TakesEvents, IsIdle};
 ghost use Rattle.wsn_scan.specs.Reports.{refusal_in_notice};
 
-use crate::judging::{PIECE, read_piece};
 use crate::notice::Notice;
+use crate::refill::{CHUNK, refill};
 use crate::scan::Scan;
-use crate::stop::Stop;
 use std::io::Read;
+use wsn_io::Stop;
 use wsn_rules::{HeadInfo, Limits, Verdict};
 use wsn_wire::{Input, Role};
 
-/// What a reader of notices gives next.
+/// What [`NoticeReader::next`] returns.
 #[derive(Clone, Copy)]
 pub enum NextNotice {
-    /// A head is whole.
+    /// A frame's head is complete.
     Head(HeadInfo),
-    /// Some bytes of the payload came, unmasked: [`NoticeReader::payload`] has them.
+    /// Some bytes of the payload came: [`NoticeReader::payload`] returns them, unmasked.
     Payload,
-    /// The frame whose head came last is whole. With `event`, it is final and so ends an event.
+    /// The frame whose head came last is complete. `event` is true if the frame is final, and so ends an event.
     FrameEnd { event: bool },
-    /// The input's verdict: nothing more comes.
+    /// The input's verdict. Nothing comes after it.
     Done(Verdict),
 }
 
-/// Reads an input and tells of its frames as they come: each head, the bytes of the payload, the frame's end, and
-/// then the verdict (RFC 6455 section 5.2). It holds one piece of the input, at most [`PIECE`] bytes.
+/// Reads an input and reports its frames as they come: each head, the payload, each frame's end, and then the verdict
+/// (RFC 6455 section 5.2). It holds at most [`CHUNK`] bytes of the input.
 #[derive(Drop)]
 pub struct NoticeReader {
     scan: Scan,
-    buffer: [u8; PIECE],
-    /// Of the buffer, `from` to `at` was scanned last, and `at` to `end` isn't scanned yet.
+    buffer: [u8; CHUNK],
+    /// The scan consumed `from..at` of the buffer last; `at..end` isn't scanned yet.
     from: usize,
     at: usize,
     end: usize,
-    /// One byte more than the input limit came.
+    /// One byte past the input limit came.
     past: bool,
     ghost scanned: { from ≤ at },
     ghost left: { at ≤ end },
-    ghost held: { end ≤ 4096 },
-    ghost size: { length buffer ≡ 4096 },
+    ghost held: { end ≤ chunk_size },
+    ghost size: { length buffer ≡ chunk_size },
 }
 
 impl NoticeReader {
-    ghost use Rattle.wsn_scan.specs.Words.{Role, Position, BetweenFrames, HasTold, IsReading, left_of, payload_of, ReadsOn, IsNotice, Tells, Progresses, IsUsed, IsFilled};
+    ghost use Rattle.wsn_scan.specs.Words.{Role, Position, BetweenFrames, HasReported, IsReading, notices_left, held_payload, ReadsOn, IsNotice, ReportsStep, Progresses, IsUsed, IsFilled, ReportsEvents};
 
-    /// A reader that has read nothing. It takes no memory.
+    /// A reader that has read nothing. `role` is the endpoint that sent the stream. It allocates no memory.
     #[tactic(none)]
     pub fn new(role: Role, limits: Limits) -> NoticeReader
-        ensures { HasTold role limits result [] [] BetweenFrames }
+        ensures { HasReported role limits result [] [] BetweenFrames }
     {
         NoticeReader {
             scan: Scan::new(role, limits),
-            buffer: [0; PIECE],
+            buffer: [0; CHUNK],
             from: 0,
             at: 0,
             end: 0,
@@ -61,26 +63,28 @@ impl NoticeReader {
         }
     }
 
-    /// The bytes of the payload that the last `Payload` told of.
+    /// The bytes that the last [`NextNotice::Payload`] reported, unmasked (RFC 6455 section 5.3).
     #[tactic(none)]
     pub fn payload(&self) -> &[u8]
-        ensures { result.now ≡ payload_of self.now }
+        ensures { result.now ≡ held_payload self.now }
     {
         &self.buffer[self.from..self.at]
     }
 
-    /// Reads on from the input and tells what comes next of its frames, or the verdict once there is none: at the
-    /// input's end, or where a byte shows a refusal. `Read` if the reader fails, and `InputLimit` if more bytes come
-    /// than the input limit. Before each of these every head in the bytes that came was told, and each whole frame to
-    /// its end; of a frame that has begun, its payload may not be told. It is called no more behind these.
+    /// Reads on from the input and returns the next notice of its frames, or the verdict: at the input's end, or at the
+    /// offending byte of a refusal. Don't call it again after a verdict or an error.
+    ///
+    /// Errors: `Read` if the reader fails; `InputLimit` if a byte past the input limit comes. Before a verdict or an
+    /// error, each head in the bytes that came within the limit is reported, and each whole frame to its end. The
+    /// payload of a frame that has begun may not be reported in full.
     #[tactic(none)]
     pub fn next<R: Read>(&mut self, input: &mut Input<R>) -> Result<NextNotice, Stop>
         requires begun { IsReading self.old }
         requires readable { input.old.failed ≡ false }
         ensures next { (role : Role) (limits : _) (came : List ℕ) (done : List Frame) (at : Position) →
-            HasTold role limits self.old came done at →
+            HasReported role limits self.old came done at →
             ReadsOn role limits input.old input.new self.new came done at result }
-        ensures falls { IsNotice result → left_of self.new < left_of self.old }
+        ensures falls { IsNotice result → notices_left self.new < notices_left self.old }
     {
         loop {
             match self.step() {
@@ -97,12 +101,32 @@ impl NoticeReader {
         }
     }
 
+    /// Takes the frames that come next if each is whole in the buffer, ends an event and leaves no message open (RFC
+    /// 6455 section 5.4). Returns whether there is one. If so, [`payload`](NoticeReader::payload) returns the normal
+    /// form of their events; otherwise nothing changes. It reads nothing.
+    pub fn take_events(&mut self) -> bool
+        requires { IsReading self.old }
+        ensures taken { result ≡ true → (role : Role) (limits : _) (came : List ℕ) (done : List Frame) (at : Position) →
+            HasReported role limits self.old came done at → ReportsEvents role limits self.new came done at }
+        ensures none { result ≡ false → self.new ≡ self.old }
+        ensures left { notices_left self.new ≤ notices_left self.old }
+    {
+        let from = self.at;
+        let count = take_part(&mut self.scan, &mut self.buffer, from, self.end);
+        if count == 0 {
+            return false;
+        }
+        self.at += count;
+        self.from = from;
+        true
+    }
+
     /// Calls the scan once.
     fn step(&mut self) -> Notice
         requires begun { IsReading self.old }
-        ensures tells { (role : Role) (limits : _) (came : List ℕ) (done : List Frame) (at : Position) →
-            HasTold role limits self.old came done at →
-            Tells role limits self.new came done at result }
+        ensures reports { (role : Role) (limits : _) (came : List ℕ) (done : List Frame) (at : Position) →
+            HasReported role limits self.old came done at →
+            ReportsStep role limits self.new came done at result }
         ensures falls { Progresses self.old self.new result }
     {
         let from = self.at;
@@ -112,46 +136,57 @@ impl NoticeReader {
         notice
     }
 
-    /// Reads once, where all that came was scanned. It answers the verdict if the input has ended.
+    /// Reads once, after all bytes that came are scanned. Returns the verdict if the input has ended.
     #[tactic(none)]
     fn fill<R: Read>(&mut self, input: &mut Input<R>) -> Result<Option<Verdict>, Stop>
         requires readable { input.old.failed ≡ false }
         ensures filled { (role : Role) (limits : _) (came : List ℕ) (done : List Frame) (at : Position) →
             IsUsed role limits self.old came done at →
             IsFilled role limits input.old input.new self.new came done at result }
-        ensures left { left_of self.new ≡ left_of self.old }
+        ensures left { notices_left self.new ≡ notices_left self.old }
         ensures within { result ≡ Ok None → self.old.past ≡ false }
     {
         if self.past {
             return Err(Stop::InputLimit);
         }
-        let room = self.scan.room();
-        let Some(count) = read_piece(input, room, &mut self.buffer) else {
-            return Err(Stop::Read);
-        };
-        if count == 0 {
+        let Some(chunk) = refill(input, self.scan.room(), &mut self.buffer)? else {
             return Ok(Some(self.scan.finish()));
-        }
+        };
         self.from = 0;
         self.at = 0;
-        self.end = room.min(count as u64) as usize;
-        self.past = count > self.end;
+        self.end = chunk.len;
+        self.past = chunk.past_limit;
         Ok(None)
     }
 }
 
-/// Hands the part of the buffer from `at` to `end` to the scan. What stands behind the bytes taken stays as it is.
+/// Passes `buffer[at..end]` to the scan. The bytes after those consumed don't change.
 fn scan_part(scan: &mut Scan, buffer: &mut [u8], at: usize, end: usize) -> (usize, Notice)
     requires within { (at ≤ end) × (end ≤ length buffer.old) }
     requires fits { end ≤ room_of scan.old + at }
     ensures in_bytes { IsBytes (slice_range buffer.old at end) }
     ensures taken { Advances scan.old scan.new (slice_range buffer.old at end)
         (slice_range buffer.new at end) result.0 result.1 }
-    ensures takes { Takes scan.old (end - at) result.0 result.1 }
+    ensures consumes { ConsumesFromPiece scan.old (end - at) result.0 result.1 }
     ensures within { at + result.0 ≤ end }
     ensures kept { slice_range buffer.new (at + result.0) end ≡ slice_range buffer.old (at + result.0) end }
     ensures room { room_of scan.new + result.0 ≡ room_of scan.old }
     ensures reported { refusal_in scan.new ≡ refusal_in_notice result.1 }
 {
     scan.next(&mut buffer[at..end])
+}
+
+/// Passes `buffer[at..end]` to the scan, which takes events. The bytes after those consumed don't change.
+fn take_part(scan: &mut Scan, buffer: &mut [u8], at: usize, end: usize) -> usize
+    requires within { (at ≤ end) × (end ≤ length buffer.old) }
+    requires fits { end ≤ room_of scan.old + at }
+    ensures taken { 0 < result → IsIdle scan.old
+        × TakesEvents scan.old scan.new (slice_range buffer.old at end) (slice_range buffer.new at end) result }
+    ensures within { at + result ≤ end }
+    ensures kept { slice_range buffer.new (at + result) end ≡ slice_range buffer.old (at + result) end }
+    ensures room { room_of scan.new + result ≡ room_of scan.old }
+    ensures reported { refusal_in scan.old ≡ None → refusal_in scan.new ≡ None }
+    ensures none { result ≡ 0 → (scan.new ≡ scan.old) × (buffer.new ≡ buffer.old) }
+{
+    scan.take_events(&mut buffer[at..end])
 }

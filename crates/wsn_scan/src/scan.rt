@@ -1,3 +1,4 @@
+mod event_frames;
 mod feeding;
 mod stages;
 mod verdicts;
@@ -11,7 +12,8 @@ use wsn_frame::{Counts, FrameContext, PartialHead};
 use wsn_rules::{Limits, Refusal};
 use wsn_wire::Role;
 
-/// Reads a stream in pieces and keeps none of it: it tells the frames, and the verdict on all that it took.
+/// Scans a stream that comes in pieces: reports its frames, and gives the verdict on the bytes so far (RFC 6455 section
+/// 5). It keeps none of the bytes.
 #[derive(Drop)]
 pub struct Scan {
     context: FrameContext,
@@ -23,12 +25,12 @@ pub struct Scan {
 
 impl Scan {
     ghost use Rattle.std.specs.Prelude.{◌≡◌, ℕ, ◌+◌, ◌-◌, ◌<◌, ◌≤◌, List, [], length, drop, ◌≢◌, None};
-    ghost use Rattle.wsn_scan.specs.Words.{Frame, Takes, Stands, room_of, GetsOn, refusal_in, taken_of, Advances, Reported, nothing_reported, refusal_in_notice, Role};
+    ghost use Rattle.wsn_scan.specs.Words.{Frame, ConsumesFromPiece, HasScanned, room_of, MakesProgress, refusal_in, taken_of, IsAdvance, Reported, nothing_reported, refusal_in_notice, Role};
 
-    /// A scan that has taken nothing.
+    /// A scan that has consumed nothing. `role` is the endpoint that sent the stream.
     #[tactic(none)]
     pub fn new(role: Role, limits: Limits) -> Scan
-        ensures { Stands role limits result [] [] [] nothing_reported }
+        ensures { HasScanned role limits result [] [] [] nothing_reported }
     {
         Scan {
             room: limits.input(),
@@ -43,7 +45,7 @@ impl Scan {
         }
     }
 
-    /// How many bytes it may take yet: the input limit less those taken.
+    /// How many more bytes the scan accepts: the input limit less the bytes consumed.
     #[tactic(none)]
     pub fn room(&self) -> u64
         ensures { result ≡ room_of self.now }
@@ -51,7 +53,7 @@ impl Scan {
         self.room
     }
 
-    /// The refusal that it has reported.
+    /// The refusal that it has reported, if there is one.
     #[tactic(none)]
     pub(crate) fn refusal(&self) -> Option<Refusal>
         ensures { result ≡ refusal_in self.now }
@@ -62,7 +64,7 @@ impl Scan {
         }
     }
 
-    /// How many bytes it has taken.
+    /// How many bytes it has consumed.
     #[tactic(none)]
     fn taken(&self) -> u64
         ensures { result ≡ taken_of self.now }
@@ -70,22 +72,32 @@ impl Scan {
         self.context.limits.input().saturating_sub(self.room)
     }
 
-    /// Takes bytes from the front of the piece, which is no longer than `room`, and answers how many, and what
-    /// they are. Payload is unmasked in place; the bytes behind those taken stay as they were. A refusal is
-    /// answered by the call that takes the byte at its place, and again from then on.
+    /// Consumes bytes at the start of the piece, and returns how many and what they are. `piece` is at most
+    /// [`room`](Scan::room) bytes long. Payload is unmasked in place (RFC 6455 section 5.3); the bytes after those
+    /// consumed don't change. With a non-empty piece it always makes progress: it consumes a byte, reports a frame's
+    /// end, or refuses.
+    ///
+    /// A refusal is reported by the call that consumes the offending byte, and again by each later call.
     #[inline(always)]
     #[tactic(none)]
     pub fn next(&mut self, piece: &mut [u8]) -> (usize, Notice)
         requires { length piece.old ≤ room_of self.old }
-        ensures taken { Advances self.old self.new piece.old piece.new result.0 result.1 }
-        ensures takes { Takes self.old (length piece.old) result.0 result.1 }
+        ensures taken { IsAdvance (record {
+          before = self.old;
+          after = self.new;
+          piece = piece.old;
+          piece_after = piece.new;
+          taken = result.0;
+          notice = result.1;
+        }) }
+        ensures consumes { ConsumesFromPiece self.old (length piece.old) result.0 result.1 }
         ensures within { result.0 ≤ length piece.old }
         ensures kept { drop result.0 piece.new ≡ drop result.0 piece.old }
         ensures untouched { result.1 ≢ Notice.Payload → refusal_in_notice result.1 ≡ None → piece.new ≡ piece.old }
         ensures room { room_of self.new + result.0 ≡ room_of self.old }
-        ensures gets_on { (role : Role) (limits : _) (bytes rest : List ℕ) (fs : List Frame) (reported : Reported) →
-            Stands role limits self.old bytes fs rest reported →
-            0 < length piece.old → GetsOn self.old self.new result.0 result.1 }
+        ensures makes_progress { (role : Role) (limits : _) (bytes rest : List ℕ) (fs : List Frame) (reported : Reported) →
+            HasScanned role limits self.old bytes fs rest reported →
+            0 < length piece.old → MakesProgress self.old self.new result.0 result.1 }
         ensures reported { refusal_in self.new ≡ refusal_in_notice result.1 }
     {
         match &mut self.stage {
@@ -116,7 +128,7 @@ impl Scan {
     }
 }
 
-/// Its name alone: a scan's parts are its own.
+/// Prints only the type's name.
 impl Debug for Scan {
     fn fmt<W: fmt::Write>(&self, f: &mut Formatter<W>) -> fmt::Result {
         f.write_str("Scan { .. }")

@@ -5,16 +5,16 @@ ghost use Rattle.wsn_rules.specs.Accepted.{HasNoClose};
 use wsn_frame::{Head, PartialHead, PayloadCheck};
 use wsn_rules::Refusal;
 
-/// A frame whose payload comes.
+/// A frame whose payload is coming.
 #[derive(Clone, Copy)]
 pub struct Inside {
     pub head: Head,
     pub check: PayloadCheck,
-    /// How many bytes of the payload came; not all of them.
+    /// How many bytes of the payload came: fewer than all.
     pub done: u64,
 }
 
-/// Where a scan is in the stream.
+/// The part of the stream that a scan is in.
 #[derive(Drop)]
 pub enum Stage {
     /// Between frames.
@@ -23,22 +23,22 @@ pub enum Stage {
     Head(PartialHead),
     /// In a payload.
     Payload(Inside),
-    /// Behind a whole frame, no Close, whose end isn't reported: whether it is final.
+    /// After a whole frame that is no Close and whose end isn't reported yet: whether it is final.
     Ended(bool),
-    /// Behind a Close whose end isn't reported: its code.
+    /// After a Close whose end isn't reported yet: its code, if it has one.
     CloseEnded(Option<u16>),
-    /// Behind a Close whose end was reported: its code.
+    /// After a Close whose end is reported: its code, if it has one.
     Closed(Option<u16>),
-    /// Behind a byte that shows a refusal.
+    /// After the offending byte of a refusal.
     Refused(Refusal),
 }
 
 impl Stage {
-    ghost use Rattle.wsn_scan.specs.Words.{heads_of, IsAt, IsStageBehind, refusal_at, Reported};
+    ghost use Rattle.wsn_scan.specs.Words.{heads_of, IsAt, IsStageAfter, refusal_at, Reported};
 
-    /// Behind a whole frame.
-    pub fn behind(fin: bool, check: &PayloadCheck) -> Stage
-        ensures stands { IsStageBehind fin check.now result }
+    /// The stage after a whole frame.
+    pub fn following(fin: bool, check: &PayloadCheck) -> Stage
+        ensures has_scanned { IsStageAfter fin check.now result }
         ensures reported { refusal_at result ≡ None }
     {
         match check {
@@ -47,7 +47,7 @@ impl Stage {
         }
     }
 
-    /// Whether no byte of a frame came since the last one, which is no Close.
+    /// Whether the scan is between frames and no Close has come.
     #[inline(always)]
     #[tactic(none)]
     pub fn is_between(&self) -> bool

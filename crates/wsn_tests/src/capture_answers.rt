@@ -1,4 +1,4 @@
-//! What is answered of a capture's text, as text: the report's lines, or why there is none.
+//! The answers for a capture's text, as text: the report's lines, or the stop.
 
 use crate::expecting::{expect_line_of, shown};
 use std::alloc::Global;
@@ -7,13 +7,13 @@ use std::io::Read;
 use std::process::Abort;
 use wsn_capture::{Capture, LineFault, Report, judge_capture, put_report};
 use wsn_doubles::readers::Chopped;
-use wsn_doubles::rows::{GREATEST, Under, greatest, limits_under};
+use wsn_doubles::vectors::{GREATEST, Settings, greatest, limits_from};
 use wsn_scan::Limits;
 use wsn_wire::{Input, Output};
 
-/// The greatest message, and so many bytes of each side.
+/// The greatest limits, but for this input limit on each side.
 pub fn limits_of(rt: &impl Abort, input: u64) -> Limits {
-    limits_under(&Under { input, ..GREATEST }).expect(rt, "limits in range")
+    limits_from(&Settings { input, ..GREATEST }).expect(rt, "limits in range")
 }
 
 /// The lines that are printed of a report.
@@ -23,7 +23,7 @@ pub fn report_text(rt: &impl Abort, alloc: Global, report: &Report) -> String {
     String::from_utf8(text).expect(rt, "a report that is text")
 }
 
-/// What `judge_capture` answers of what the reader gives.
+/// The answer of `judge_capture`, as text.
 pub fn judged_text<R: Read + Drop>(
     rt: &impl Abort,
     alloc: Global,
@@ -36,36 +36,36 @@ pub fn judged_text<R: Read + Drop>(
     }
 }
 
-/// Fails unless `judge_capture` answers this of what the reader gives.
+/// Fails unless this is the answer of `judge_capture`.
 pub fn expect_judged<R: Read + Drop>(
     rt: &impl Abort,
     alloc: Global,
     reader: R,
     limits: Limits,
-    wanted: &str,
+    expected: &str,
     of: &impl Debug,
 ) {
-    let told = judged_text(rt, alloc, reader, limits);
-    expect_line_of(rt, told.as_str(), wanted, of);
+    let reported = judged_text(rt, alloc, reader, limits);
+    expect_line_of(rt, reported.as_str(), expected, of);
 }
 
-/// Fails unless `judge_capture` answers this of a text, read by each of these sizes.
+/// Fails unless this is the answer of `judge_capture`, with reads of each of these sizes.
 pub fn expect_judged_by(
     rt: &impl Abort,
     alloc: Global,
     sizes: &[usize],
     text: &[u8],
-    wanted: &str,
+    expected: &str,
     of: &impl Debug,
 ) {
-    for most in sizes.iter() {
-        let reader = Chopped::new(text, *most);
-        expect_judged(rt, alloc, reader, greatest(), wanted, &(of, *most));
+    for at_most in sizes.iter() {
+        let reader = Chopped::new(text, *at_most);
+        expect_judged(rt, alloc, reader, greatest(), expected, &(of, *at_most));
     }
 }
 
-/// A capture to which these lines were handed one by one, and the first fault, if there is one.
-pub fn handed(lines: &str, limits: Limits) -> (Capture, Option<LineFault>) {
+/// A capture that was given these lines one by one, and the first fault, if there is one.
+pub fn fed_line_by_line(lines: &str, limits: Limits) -> (Capture, Option<LineFault>) {
     let mut capture = Capture::new(limits);
     for line in lines.split('\n') {
         if let Err(fault) = capture.line(line.as_bytes()) {
@@ -75,13 +75,13 @@ pub fn handed(lines: &str, limits: Limits) -> (Capture, Option<LineFault>) {
     (capture, None)
 }
 
-/// Puts these bytes behind a text's.
+/// Appends these bytes to a text.
 pub fn put(rt: &impl Abort, text: &mut Vec<u8>, bytes: &[u8]) {
     text.extend_from_slice(bytes).expect(rt, "memory");
 }
 
-/// The same bytes of each side, a line for each of them.
-pub fn cut_small(rt: &impl Abort, alloc: Global, text: &str) -> Vec<u8> {
+/// The same bytes of each side, each byte in a line of its own.
+pub fn one_byte_lines(rt: &impl Abort, alloc: Global, text: &str) -> Vec<u8> {
     let mut small = Vec::new(alloc);
     for line in text.split('\n') {
         match line.split_once(' ') {
@@ -97,7 +97,7 @@ pub fn cut_small(rt: &impl Abort, alloc: Global, text: &str) -> Vec<u8> {
     small
 }
 
-/// Puts a line of this side for every two of its digits.
+/// Appends a line of this side for each pair of digits.
 fn put_pairs(rt: &impl Abort, small: &mut Vec<u8>, side: &str, digits: &str) {
     for pair in digits.as_bytes().chunks(2) {
         put(rt, small, side.as_bytes());

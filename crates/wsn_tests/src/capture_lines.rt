@@ -1,7 +1,7 @@
-//! The lines of a capture: which aren't taken, which of their faults is told, and the greatest that are.
+//! The lines of a capture: malformed ones, which of their faults is reported, and the longest that are allowed.
 
 use crate::capture_answers::{
-    expect_judged, expect_judged_by, handed, judged_text, limits_of, put,
+    expect_judged, expect_judged_by, fed_line_by_line, judged_text, limits_of, put,
 };
 use crate::expecting::{
     expect, expect_equal_of, expect_line_answer, expect_line_of, expect_of, expect_shown,
@@ -10,9 +10,9 @@ use std::alloc::Global;
 use std::process::Abort;
 use wsn_capture::{Capture, LineFault, Side};
 use wsn_doubles::readers::{Chopped, Endless, READS};
-use wsn_doubles::rows::{filled, greatest};
+use wsn_doubles::vectors::{filled, greatest};
 
-/// A text, what is printed of it, and the fault of its first line that isn't taken.
+/// A text, the printed line, and the fault of its first malformed line.
 static FAULTY: [(&str, &str, LineFault); 25] = [
     ("C 8", "line 1: bad-hex", LineFault::BadHex),
     ("C ", "line 1: bad-hex", LineFault::BadHex),
@@ -41,13 +41,13 @@ static FAULTY: [(&str, &str, LineFault); 25] = [
     ("C.\nC zz", "line 2: bad-hex", LineFault::BadHex),
 ];
 
-/// All of these. Tests ask for them here, since each function that names the table itself takes longer to prove.
+/// The whole table. Tests call this, since a function that names the table takes longer to prove.
 pub fn faulty() -> &'static [(&'static str, &'static str, LineFault)] {
     FAULTY.as_slice()
 }
 
 #[test]
-fn faulty_lines_are_told_by_reads_of_every_size(rt: HostRuntime) {
+fn bad_hex_bad_form_and_after_end_with_reads_of_every_size(rt: HostRuntime) {
     let alloc = rt.alloc();
     for (text, words, fault) in faulty() {
         let bytes = text.as_bytes();
@@ -56,15 +56,15 @@ fn faulty_lines_are_told_by_reads_of_every_size(rt: HostRuntime) {
     }
 }
 
-/// Fails unless this is the first fault of lines that are handed one by one.
-fn expect_fault(rt: &impl Abort, text: &str, wanted: LineFault) {
-    let (_capture, fault) = handed(text, greatest());
-    expect_equal_of(rt, &fault, &Some(wanted), &text);
+/// Fails unless this is the first fault of lines that are given one by one.
+fn expect_fault(rt: &impl Abort, text: &str, expected: LineFault) {
+    let (_capture, fault) = fed_line_by_line(text, greatest());
+    expect_equal_of(rt, &fault, &Some(expected), &text);
 }
 
-/// A line past the input limit is told as one, unless its side has ended.
+/// The input limit applies only to a side that has not ended.
 #[test]
-fn lines_past_the_limit(rt: HostRuntime) {
+fn input_limit_unless_after_end(rt: HostRuntime) {
     let alloc = rt.alloc();
     for (text, words) in [
         ("S 8100", "line 1: input-limit"),
@@ -77,7 +77,7 @@ fn lines_past_the_limit(rt: HostRuntime) {
 }
 
 #[test]
-fn words_of_a_fault(rt: HostRuntime) {
+fn words_of_a_line_fault(rt: HostRuntime) {
     for (fault, word) in [
         (LineFault::TooManyLines, "too-many-lines"),
         (LineFault::TooLong, "too-long"),
@@ -90,9 +90,9 @@ fn words_of_a_fault(rt: HostRuntime) {
     }
 }
 
-/// An LF that is handed with a line is a byte of it.
+/// An LF in a line that is passed to `line` is a byte of that line.
 #[test]
-fn an_lf_in_a_line_is_a_byte_like_any_other(rt: HostRuntime) {
+fn bad_form_and_bad_hex_of_lines_with_an_lf(rt: HostRuntime) {
     let mut capture = Capture::new(greatest());
     expect_line_answer(&rt, &mut capture, b"C.\n", Err(LineFault::BadForm));
     expect_line_answer(&rt, &mut capture, b"\n", Err(LineFault::BadForm));
@@ -111,7 +111,8 @@ const OPEN: &str = "client running\nserver running\nfirst -\necho -\n\
 const REFUSED: &str = "client running\nserver refused 0 nothing-to-continue 1002\nfirst -\necho -\n\
     client-sees 1006\nserver-sees -\noutcome failed\n";
 
-/// A line's first bytes, another byte and how often it stands behind them, and what is told, whatever the line's end.
+/// A line's first bytes, a byte that follows them and how many times, and the text of the answer, whatever the line's
+/// end.
 static LONGEST: [(&str, u8, usize, &str); 5] = [
     ("#", b'#', 8_193, OPEN),
     ("S ", b'0', 8_192, REFUSED),
@@ -120,7 +121,7 @@ static LONGEST: [(&str, u8, usize, &str); 5] = [
     ("S ", b'0', 8_194, "line 1: too-long"),
 ];
 
-/// The same of lines with an end of their own, which stands last.
+/// The same, with a line end of each row's own.
 static ENDED: [(&str, u8, usize, &str, &str); 4] = [
     ("#", b'#', 8_193, "line 1: too-long", "\r\r\n"),
     ("#\n#", b'#', 8_194, "line 2: too-long", "\n"),
@@ -128,10 +129,11 @@ static ENDED: [(&str, u8, usize, &str, &str); 4] = [
     ("", b'x', 8_194, "line 1: bad-form", "\n"),
 ];
 
-/// How long lines are read: by at most so many bytes a call.
+/// The maximum sizes of reads for long lines.
 const LONG_READS: [usize; 5] = [1, 4_095, 4_096, 8_195, usize::MAX];
 
-/// Fails unless a text is told so, read by each size: its first bytes, another so many times, and its end.
+/// Fails unless this is the answer, with reads of each size, for a text of these first bytes, the repeated byte and
+/// the line end.
 fn expect_long(
     rt: &impl Abort,
     alloc: Global,
@@ -139,7 +141,7 @@ fn expect_long(
     byte: u8,
     count: usize,
     end: &str,
-    wanted: &str,
+    expected: &str,
 ) {
     let mut text = filled(alloc, first.as_bytes(), byte, count).expect(rt, "memory");
     put(rt, &mut text, end.as_bytes());
@@ -149,50 +151,50 @@ fn expect_long(
         alloc,
         LONG_READS.as_slice(),
         text.as_slice(),
-        wanted,
+        expected,
         &of,
     );
 }
 
-/// A comment, and digits, of the greatest length and of a byte more.
+/// A comment, and digits, of the greatest length and of one byte more.
 #[test]
-fn the_longest_lines(rt: HostRuntime) {
+fn too_long_past_8_194_bytes(rt: HostRuntime) {
     let alloc = rt.alloc();
-    for (first, byte, count, wanted) in LONGEST.iter() {
+    for (first, byte, count, expected) in LONGEST.iter() {
         for end in ["", "\n", "\r", "\r\n"] {
-            expect_long(&rt, alloc, first, *byte, *count, end, wanted);
+            expect_long(&rt, alloc, first, *byte, *count, end, expected);
         }
     }
 }
 
-/// A CR inside a line is counted, and each line by itself. A line that is too long has no other fault.
+/// A CR inside a line counts, and each line counts by itself. `too-long` takes precedence over `bad-form`.
 #[test]
-fn long_lines_with_ends_of_their_own(rt: HostRuntime) {
+fn too_long_with_other_line_ends(rt: HostRuntime) {
     let alloc = rt.alloc();
-    for (first, byte, count, wanted, end) in ENDED.iter() {
-        expect_long(&rt, alloc, first, *byte, *count, end, wanted);
+    for (first, byte, count, expected, end) in ENDED.iter() {
+        expect_long(&rt, alloc, first, *byte, *count, end, expected);
     }
 }
 
-/// A million lines are taken, and whatever the next one is, it is one too many.
+/// A million lines are accepted, and any further line is one too many.
 #[test]
-fn the_most_lines(rt: HostRuntime) {
+fn too_many_lines_past_a_million(rt: HostRuntime) {
     let alloc = rt.alloc();
     let mut text = filled(alloc, b"", b'\n', 1_000_000).expect(&rt, "memory");
-    for (more, most, wanted) in [
+    for (more, at_most, expected) in [
         ("", usize::MAX, OPEN),
         ("X", usize::MAX, "line 1000001: too-many-lines"),
         ("\n\n", 4_095, "line 1000001: too-many-lines"),
     ] {
         put(&rt, &mut text, more.as_bytes());
-        let reader = Chopped::new(text.as_slice(), most);
-        expect_judged(&rt, alloc, reader, greatest(), wanted, &more);
+        let reader = Chopped::new(text.as_slice(), at_most);
+        expect_judged(&rt, alloc, reader, greatest(), expected, &more);
     }
 }
 
-/// Lines that aren't taken aren't counted.
+/// Only accepted lines count.
 #[test]
-fn faulty_lines_are_no_lines(rt: HostRuntime) {
+fn too_many_lines_does_not_count_faulty_lines(rt: HostRuntime) {
     let mut capture = Capture::new(greatest());
     for _ in 0..1_000_000 {
         expect_line_answer(&rt, &mut capture, b"X", Err(LineFault::BadForm));
@@ -204,10 +206,10 @@ fn faulty_lines_are_no_lines(rt: HostRuntime) {
     expect_line_answer(&rt, &mut capture, b"X", Err(LineFault::TooManyLines));
 }
 
-/// The fault of a line without an end is told once enough of it came.
+/// The fault of an endless reader is reported within a block of its evidence.
 #[test]
-fn endless_lines(rt: HostRuntime) {
-    for (first, again, wanted, most) in [
+fn too_long_and_too_many_lines_of_endless_readers(rt: HostRuntime) {
+    for (first, again, expected, at_most) in [
         (b"".as_slice(), b"#", "line 1: too-long", 8_196 + 4_095),
         (b"C ", b"0", "line 1: too-long", 8_196 + 4_095),
         (
@@ -217,13 +219,25 @@ fn endless_lines(rt: HostRuntime) {
             1_000_001 + 4_095,
         ),
     ] {
-        expect_endless(&rt, rt.alloc(), Endless::new(first, again), wanted, most);
+        expect_endless(
+            &rt,
+            rt.alloc(),
+            Endless::new(first, again),
+            expected,
+            at_most,
+        );
     }
 }
 
-/// Fails unless this is told of what a reader without an end gives, once it gave so many bytes at most.
-fn expect_endless(rt: &impl Abort, alloc: Global, mut reader: Endless, wanted: &str, most: usize) {
-    let told = judged_text(rt, alloc, &mut reader, greatest());
-    expect_line_of(rt, told.as_str(), wanted, &most);
-    expect_of(rt, reader.given <= most, &reader.given);
+/// Fails unless this is the answer for an endless reader, after at most this number of bytes.
+fn expect_endless(
+    rt: &impl Abort,
+    alloc: Global,
+    mut reader: Endless,
+    expected: &str,
+    at_most: usize,
+) {
+    let reported = judged_text(rt, alloc, &mut reader, greatest());
+    expect_line_of(rt, reported.as_str(), expected, &at_most);
+    expect_of(rt, reader.given <= at_most, &reader.given);
 }

@@ -1,4 +1,4 @@
-//! `put_event` and `is_lawful`: the examples of RFC 6455 section 5.7, each spelling of a length, a close, and a write
+//! `put_event` and `is_lawful`: the examples of RFC 6455 section 5.7, each encoding of a length, a Close, and a write
 //! that fails.
 
 use crate::expecting::{expect, expect_bytes, expect_of};
@@ -19,16 +19,16 @@ fn small(rt: &impl Abort, bytes: &[u8]) -> Small {
         .expect(rt, "no more than 125 bytes")
 }
 
-/// Fails unless an event is lawful, and written to these bytes.
-fn expect_put(rt: &impl Abort, alloc: Global, role: Role, event: &Event, wanted: &[u8]) {
+/// Fails unless an event is lawful, and is written as these bytes.
+fn expect_put(rt: &impl Abort, alloc: Global, role: Role, event: &Event, expected: &[u8]) {
     expect(rt, is_lawful(event));
     let mut writer = Narrow::wide(alloc);
     let put = put_event(&mut Output::new(&mut writer), role, event);
     expect(rt, put == Ok(()));
-    expect_bytes(rt, writer.taken.as_slice(), wanted);
+    expect_bytes(rt, writer.taken.as_slice(), expected);
 }
 
-/// A payload of so many bytes, of which none is like those beside it.
+/// A payload of `size` bytes in which neighbours differ.
 fn payload_of(rt: &impl Abort, alloc: Global, size: usize) -> Vec<u8> {
     let mut payload = Vec::new(alloc);
     for i in 0..size {
@@ -39,15 +39,15 @@ fn payload_of(rt: &impl Abort, alloc: Global, size: usize) -> Vec<u8> {
     payload
 }
 
-/// A server's binary message of so many bytes is this head and its payload.
+/// Fails unless a server's binary message of `size` bytes is this head and its payload.
 fn expect_binary(rt: &impl Abort, alloc: Global, size: usize, head: &[u8]) {
     let payload = payload_of(rt, alloc, size);
-    let mut wanted = head.to_vec(alloc).expect(rt, "memory");
-    wanted
+    let mut expected = head.to_vec(alloc).expect(rt, "memory");
+    expected
         .extend_from_slice(payload.as_slice())
         .expect(rt, "memory");
     let event = Event::Message(Kind::Binary, payload);
-    expect_put(rt, alloc, Role::Server, &event, wanted.as_slice());
+    expect_put(rt, alloc, Role::Server, &event, expected.as_slice());
 }
 
 #[test]
@@ -86,11 +86,11 @@ fn a_close_with_and_without_a_code(rt: HostRuntime) {
     let alloc = rt.alloc();
     expect_put(&rt, alloc, Role::Server, &Event::Close(None), &[0x88, 0]);
     let close = Event::Close(Some((1002, small(&rt, b"bye"))));
-    let wanted = b"\x88\x85\0\0\0\0\x03\xeabye";
-    expect_put(&rt, alloc, Role::Client, &close, wanted);
+    let expected = b"\x88\x85\0\0\0\0\x03\xeabye";
+    expect_put(&rt, alloc, Role::Client, &close, expected);
 }
 
-/// Part of a character.
+/// The first two bytes of a character of three.
 const CUT: [u8; 2] = [0xe2, 0x82];
 
 #[test]
@@ -101,14 +101,14 @@ fn a_text_is_lawful_only_if_it_is_utf8(rt: HostRuntime) {
     }
 }
 
-/// Fails unless a Close with this code and reason is lawful, or isn't.
+/// Fails unless a Close with this code and reason is lawful, or is not, as expected.
 fn expect_close(rt: &impl Abort, code: u16, reason: &[u8], lawful: bool) {
     let close: Event = Event::Close(Some((code, small(rt, reason))));
     expect_of(rt, is_lawful(&close) == lawful, &code);
 }
 
 #[test]
-fn which_closes_are_lawful(rt: HostRuntime) {
+fn close_code_and_close_reason_of_lawful_events(rt: HostRuntime) {
     expect_close(&rt, 1000, b"", true);
     expect_close(&rt, 1000, &CUT, false);
     expect_close(&rt, 1000, &[0x61; 123], true);
@@ -116,13 +116,13 @@ fn which_closes_are_lawful(rt: HostRuntime) {
     expect_close(&rt, 1005, b"", false);
 }
 
-/// Fails unless an event isn't written by a client where the writer has room for all but some of its bytes.
-fn expect_failed(rt: &impl Abort, alloc: Global, event: &Event, front: &[u8]) {
+/// Fails unless a client's event is not written where the writer has room only for this prefix.
+fn expect_failed(rt: &impl Abort, alloc: Global, event: &Event, prefix: &[u8]) {
     expect(rt, is_lawful(event));
-    let mut writer = Narrow::new(alloc, 1, front.len(), Full::TakesNothing);
+    let mut writer = Narrow::new(alloc, 1, prefix.len(), Full::TakesNothing);
     let put = put_event(&mut Output::new(&mut writer), Role::Client, event);
     expect(rt, put == Err(Stop::Write));
-    expect_bytes(rt, writer.taken.as_slice(), front);
+    expect_bytes(rt, writer.taken.as_slice(), prefix);
 }
 
 #[test]

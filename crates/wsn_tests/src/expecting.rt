@@ -1,4 +1,4 @@
-//! What is expected of lines and bytes that a stream is read to, of a capture's lines, and of a command's run.
+//! Assertions on lines, bytes, answers and runs. The context of a failure is its last argument.
 ghost use Rattle.std.specs.Prelude.{◌≡◌, true};
 ghost use Rattle.wsn_job.specs.Jobs.{MayRun};
 
@@ -7,10 +7,10 @@ use std::fmt::{Debug, Display};
 use std::process::Abort;
 use wsn_canon::{Next, Source};
 use wsn_capture::{Capture, LineFault};
-use wsn_doubles::lines::{answer_line, line_of, stop_line, verdict_line};
-use wsn_doubles::outcomes::{Outcome, outcome_on};
+use wsn_doubles::answer_lines::{answer_line, line_of, stop_line, verdict_line};
+use wsn_doubles::command_runs::{CommandRun, run_on};
 use wsn_doubles::readers::Chopped;
-use wsn_doubles::rows::Stream;
+use wsn_doubles::vectors::Stream;
 use wsn_doubles::writers::{FULL, Narrow};
 use wsn_job::Job;
 use wsn_scan::{Stop, Verdict};
@@ -23,42 +23,42 @@ pub fn expect(rt: &impl Abort, holds: bool)
     assert!(rt; holds);
 }
 
-/// Fails unless this holds of what is told.
+/// Fails unless this holds, and prints the context.
 pub fn expect_of(rt: &impl Abort, holds: bool, of: &impl Debug) {
     assert!(rt; holds, "{of:?}");
 }
 
-/// Fails unless this is the line, or the text, that is wanted.
-pub fn expect_line(rt: &impl Abort, line: &str, wanted: &str) {
-    assert_eq!(rt; line, wanted);
+/// Fails unless this is the expected line or text.
+pub fn expect_line(rt: &impl Abort, line: &str, expected: &str) {
+    assert_eq!(rt; line, expected);
 }
 
-/// Fails unless this is the line, or the text, that is wanted of what is told.
-pub fn expect_line_of(rt: &impl Abort, line: &str, wanted: &str, of: &impl Debug) {
-    assert_eq!(rt; line, wanted, "{of:?}");
+/// Fails unless this is the expected line or text, and prints the context.
+pub fn expect_line_of(rt: &impl Abort, line: &str, expected: &str, of: &impl Debug) {
+    assert_eq!(rt; line, expected, "{of:?}");
 }
 
-/// Fails unless these are the bytes that are wanted.
-pub fn expect_bytes(rt: &impl Abort, bytes: &[u8], wanted: &[u8]) {
-    assert_eq!(rt; bytes, wanted);
+/// Fails unless these are the expected bytes.
+pub fn expect_bytes(rt: &impl Abort, bytes: &[u8], expected: &[u8]) {
+    assert_eq!(rt; bytes, expected);
 }
 
-/// Fails unless these are the bytes that are wanted of what is told.
-pub fn expect_bytes_of(rt: &impl Abort, bytes: &[u8], wanted: &[u8], of: &impl Debug) {
-    assert_eq!(rt; bytes, wanted, "{of:?}");
+/// Fails unless these are the expected bytes, and prints the context.
+pub fn expect_bytes_of(rt: &impl Abort, bytes: &[u8], expected: &[u8], of: &impl Debug) {
+    assert_eq!(rt; bytes, expected, "{of:?}");
 }
 
-/// Fails unless a value is as it is wanted of what is told.
+/// Fails unless this is the expected value, and prints the context.
 pub fn expect_equal_of<T: PartialEq + Debug>(
     rt: &impl Abort,
     found: &T,
-    wanted: &T,
+    expected: &T,
     of: &impl Debug,
 ) {
-    assert_eq!(rt; found, wanted, "{of:?}");
+    assert_eq!(rt; found, expected, "{of:?}");
 }
 
-/// What is printed of a value: of a stop, or of a fault.
+/// The printed form of a value, such as a stop or a fault.
 pub fn shown(rt: &impl Abort, alloc: Global, value: &impl Display) -> String {
     format!(in alloc; "{value}").expect(rt, "memory")
 }
@@ -69,43 +69,48 @@ pub fn expect_shown<T: Debug + Display>(rt: &impl Abort, alloc: Global, value: &
     expect_line_of(rt, printed.as_str(), words, value);
 }
 
-/// The first bytes, so many. Fails where there are fewer.
-pub fn front_of<'a>(rt: &impl Abort, bytes: &'a [u8], count: usize) -> &'a [u8] {
-    bytes.get(..count).expect(rt, "as many bytes")
+/// The prefix of `count` bytes. Fails where there are fewer.
+pub fn prefix_of<'a>(rt: &impl Abort, bytes: &'a [u8], count: usize) -> &'a [u8] {
+    bytes.get(..count).expect(rt, "enough bytes")
 }
 
-/// Fails unless so many is how many are wanted.
-pub fn expect_count(rt: &impl Abort, count: usize, wanted: usize) {
-    assert_eq!(rt; count, wanted);
+/// Fails unless this is the expected count.
+pub fn expect_count(rt: &impl Abort, count: usize, expected: usize) {
+    assert_eq!(rt; count, expected);
 }
 
-/// Fails unless a command ended by this status, with these bytes on standard output, and on standard error this line,
-/// or nothing where it is empty.
-pub fn expect_outcome(rt: &impl Abort, done: &Outcome, status: u8, out: &[u8], line: &str) {
+/// Fails unless a command ended with this exit status, these bytes on standard output, and this line on standard
+/// error. An empty line means none.
+pub fn expect_run(rt: &impl Abort, done: &CommandRun, status: u8, out: &[u8], line: &str) {
     let end: &[u8] = if line.is_empty() { b"" } else { b"\n" };
-    let told = done.said.as_slice().strip_suffix(end);
+    let reported = done.err.as_slice().strip_suffix(end);
     expect_bytes_of(rt, done.out.as_slice(), out, &line);
-    expect_of(rt, told == Some(line.as_bytes()), &(line, &done.said));
+    expect_of(rt, reported == Some(line.as_bytes()), &(line, &done.err));
     expect_of(rt, done.status == status, &(line, done.status));
 }
 
-/// Fails unless a capture answers this of a line.
+/// Fails unless this is a capture's answer for a line.
 pub fn expect_line_answer(
     rt: &impl Abort,
     capture: &mut Capture,
     line: &[u8],
-    wanted: Result<(), LineFault>,
+    expected: Result<(), LineFault>,
 ) {
-    expect_equal_of(rt, &capture.line(line), &wanted, &line);
+    expect_equal_of(rt, &capture.line(line), &expected, &line);
 }
 
 /// Fails unless this is the line of the answer.
-pub fn expect_answer(rt: &impl Abort, alloc: Global, answer: &Result<Verdict, Stop>, wanted: &str) {
+pub fn expect_answer(
+    rt: &impl Abort,
+    alloc: Global,
+    answer: &Result<Verdict, Stop>,
+    expected: &str,
+) {
     let line = answer_line(alloc, answer).expect(rt, "memory");
-    expect_line(rt, line.as_str(), wanted);
+    expect_line(rt, line.as_str(), expected);
 }
 
-/// The line of what `next` answered: of a verdict, or of a stop.
+/// The line of an answer of `next`: of a verdict, or of a stop.
 pub fn last_line<A: Allocator>(
     rt: &impl Abort,
     alloc: Global,
@@ -118,18 +123,18 @@ pub fn last_line<A: Allocator>(
     }
 }
 
-/// Fails unless this is the line of what `next` answered.
+/// Fails unless this is the line of an answer of `next`.
 pub fn expect_last<A: Allocator>(
     rt: &impl Abort,
     alloc: Global,
     answer: &Result<Next<A>, Stop>,
-    wanted: &str,
+    expected: &str,
 ) {
     let line = last_line(rt, alloc, answer);
-    expect_line(rt, line.as_str(), wanted);
+    expect_line(rt, line.as_str(), expected);
 }
 
-/// Fails unless a source answers this without a read.
+/// Fails unless this is a source's answer, given without a read.
 fn expect_at_its_end<A: Allocator + Copy>(
     rt: &impl Abort,
     alloc: Global,
@@ -142,7 +147,7 @@ fn expect_at_its_end<A: Allocator + Copy>(
     expect_last(rt, alloc, &again, line);
 }
 
-/// Behind its end a source answers the same, and doesn't read.
+/// Fails unless a source repeats its last answer, without a read.
 pub fn expect_again<A: Allocator + Copy>(
     rt: &impl Abort,
     alloc: Global,
@@ -153,30 +158,29 @@ pub fn expect_again<A: Allocator + Copy>(
     expect_at_its_end(rt, alloc, source, line);
 }
 
-/// How a stream is read: its name, what is made of it, how many of its bytes are given, and how many at most by each
-/// call.
+/// A way of reading a stream: the stream's name, the engine, the number of bytes, and the maximum size of a read.
 #[derive(Clone, Copy, Debug)]
 pub struct Reading<'a> {
     pub name: &'a str,
     pub how: &'static str,
     pub count: usize,
-    pub most: usize,
+    pub at_most: usize,
 }
 
 impl<'a> Reading<'a> {
-    /// Of all of a stream's bytes, by at most so many a call.
-    pub fn whole(stream: &'a Stream, how: &'static str, most: usize) -> Self {
+    /// Reads all bytes of a stream, at most `at_most` per call.
+    pub fn whole(stream: &'a Stream, how: &'static str, at_most: usize) -> Self {
         Reading {
             name: stream.name,
             how,
             count: stream.bytes.len(),
-            most,
+            at_most,
         }
     }
 
-    /// Fails unless this is the line that is wanted.
-    pub fn expect_line(&self, rt: &impl Abort, line: &str, wanted: &str) {
-        expect_line_of(rt, line, wanted, self);
+    /// Fails unless this is the expected line.
+    pub fn expect_line(&self, rt: &impl Abort, line: &str, expected: &str) {
+        expect_line_of(rt, line, expected, self);
     }
 
     /// Fails unless this is the line of the answer.
@@ -185,29 +189,33 @@ impl<'a> Reading<'a> {
         rt: &impl Abort,
         alloc: Global,
         answer: &Result<Verdict, Stop>,
-        wanted: &str,
+        expected: &str,
     ) {
         let line = answer_line(alloc, answer).expect(rt, "memory");
-        self.expect_line(rt, line.as_str(), wanted);
+        self.expect_line(rt, line.as_str(), expected);
     }
 
     /// Fails unless this holds.
-    pub fn expect(&self, rt: &impl Abort, holds: bool, told: &str) {
-        expect_of(rt, holds, &(self, told));
+    pub fn expect(&self, rt: &impl Abort, holds: bool, problem: &str) {
+        expect_of(rt, holds, &(self, problem));
     }
 
-    /// Fails unless these are the bytes that are wanted.
-    pub fn expect_bytes(&self, rt: &impl Abort, bytes: &[u8], wanted: &[u8]) {
-        self.expect(rt, bytes == wanted, "other bytes than are wanted");
+    /// Fails unless these are the expected bytes.
+    pub fn expect_bytes(&self, rt: &impl Abort, bytes: &[u8], expected: &[u8]) {
+        self.expect(rt, bytes == expected, "other bytes than expected");
     }
 
-    /// Fails unless the first of the bytes are these.
-    pub fn expect_front(&self, rt: &impl Abort, front: &[u8], bytes: &[u8]) {
-        self.expect(rt, bytes.starts_with(front), "no front of what is wanted");
+    /// Fails unless the bytes begin with this prefix.
+    pub fn expect_prefix(&self, rt: &impl Abort, prefix: &[u8], bytes: &[u8]) {
+        self.expect(
+            rt,
+            bytes.starts_with(prefix),
+            "no prefix of what is expected",
+        );
     }
 }
 
-/// Fails unless a command tells in one line that its reader failed before the first byte.
+/// Fails unless a command reports in one line that its reader failed before the first byte.
 pub fn expect_failed_read<A: Allocator + Copy>(
     rt: &impl Abort,
     heap: A,
@@ -217,27 +225,27 @@ pub fn expect_failed_read<A: Allocator + Copy>(
     requires { MayRun job.now }
 {
     let reader = Chopped::breaking(&[], 1);
-    let done = outcome_on(heap, alloc, job, reader, Narrow::wide(alloc));
-    expect_outcome(rt, &done, 2, &[], "read failed");
+    let done = run_on(heap, alloc, job, reader, Narrow::wide(alloc));
+    expect_run(rt, &done, 2, &[], "read failed");
 }
 
-/// Fails unless a command of these bytes tells in one line that its writer, which takes at most so many a call, failed
-/// behind what is written out, in each way.
+/// Fails unless a command reports in one line that its writer, which accepts at most `at_most` bytes per call, failed
+/// after this output, for each behaviour of a full writer.
 pub fn expect_failed_writes<A: Allocator + Copy>(
     rt: &impl Abort,
     heap: A,
     alloc: Global,
     job: &Job<A>,
     bytes: &[u8],
-    most: usize,
+    at_most: usize,
     out: &[u8],
 )
     requires { MayRun job.now }
 {
     for full in FULL {
         let reader = Chopped::new(bytes, usize::MAX);
-        let writer = Narrow::new(alloc, most, out.len(), full);
-        let done = outcome_on(heap, alloc, job, reader, writer);
-        expect_outcome(rt, &done, 2, out, "write failed");
+        let writer = Narrow::new(alloc, at_most, out.len(), full);
+        let done = run_on(heap, alloc, job, reader, writer);
+        expect_run(rt, &done, 2, out, "write failed");
     }
 }

@@ -1,30 +1,30 @@
-//! Writers that fail, behind each byte that an engine writes.
+//! Writers that fail, after each byte of an engine's output.
 
 use crate::expecting::expect_of;
 use std::alloc::Global;
 use std::process::Abort;
+use wsn_doubles::answer_lines::listing;
 use wsn_doubles::engines::{listed, normalised};
-use wsn_doubles::lines::listing;
 use wsn_doubles::readers::Chopped;
-use wsn_doubles::rows::{Stream, filled, stream_named, streams};
+use wsn_doubles::vectors::{Stream, filled, stream_named, streams};
 use wsn_doubles::writers::{FULL, Full, Narrow};
 use wsn_scan::{Stop, Verdict};
 
-/// Fails unless an engine told that its writer failed, and that has taken these bytes.
+/// Fails unless an engine reported that its writer failed, and the writer holds this prefix.
 fn expect_full(
     rt: &impl Abort,
     name: &str,
     full: Full,
     answer: &Result<Verdict, Stop>,
     written: &[u8],
-    front: &[u8],
+    prefix: &[u8],
 ) {
-    let room = front.len();
-    let is_told = matches!(answer, Err(Stop::Write)) && written == front;
-    expect_of(rt, is_told, &(name, full, room));
+    let room = prefix.len();
+    let is_reported = matches!(answer, Err(Stop::Write)) && written == prefix;
+    expect_of(rt, is_reported, &(name, full, room));
 }
 
-/// Fails unless `list` tells that its writer fails behind each byte of the lines, where it is full in that way.
+/// Fails unless `list` reports that its writer fails after each byte of the lines.
 fn expect_full_list(rt: &impl Abort, alloc: Global, stream: &Stream, lines: &[u8], full: Full) {
     for room in 0..lines.len() {
         let mut writer = Narrow::new(alloc, 1, room, full);
@@ -41,7 +41,7 @@ fn expect_full_list(rt: &impl Abort, alloc: Global, stream: &Stream, lines: &[u8
     }
 }
 
-/// The same, in each way of being full.
+/// The same, for each behaviour of a full writer.
 fn expect_full_lists(rt: &impl Abort, alloc: Global, stream: &Stream) {
     let whole = listing(alloc, stream).expect(rt, "memory");
     for full in FULL {
@@ -50,14 +50,13 @@ fn expect_full_lists(rt: &impl Abort, alloc: Global, stream: &Stream) {
 }
 
 #[test]
-fn list_tells_a_failed_write(rt: HostRuntime) {
-    for stream in streams(rt.alloc()).expect(&rt, "every row").iter() {
+fn list_reports_a_failed_write(rt: HostRuntime) {
+    for stream in streams(rt.alloc()).expect(&rt, "every vector").iter() {
         expect_full_lists(&rt, rt.alloc(), stream);
     }
 }
 
-/// Fails unless `normalise` tells that its writer fails behind each of the first 200 bytes, where it is full in that
-/// way.
+/// Fails unless `normalise` reports that its writer fails after each of the first 200 bytes.
 fn expect_full_normal(rt: &impl Abort, alloc: Global, stream: &Stream, full: Full) {
     let normal = stream.normal.as_slice();
     for room in 0..normal.len().min(200) {
@@ -76,9 +75,9 @@ fn expect_full_normal(rt: &impl Abort, alloc: Global, stream: &Stream, full: Ful
 }
 
 #[test]
-fn normalise_tells_a_failed_write(rt: HostRuntime) {
+fn normalise_reports_a_failed_write(rt: HostRuntime) {
     let alloc = rt.alloc();
-    for stream in streams(alloc).expect(&rt, "every row").iter() {
+    for stream in streams(alloc).expect(&rt, "every vector").iter() {
         for full in FULL {
             expect_full_normal(&rt, alloc, stream, full);
         }
@@ -92,14 +91,14 @@ fn of_several_blocks(rt: &impl Abort, alloc: Global) -> Stream {
     bytes
         .extend_from_slice(rest.as_slice())
         .expect(rt, "memory");
-    let mut stream = stream_named(alloc, "an empty text").expect(rt, "a row of this name");
+    let mut stream = stream_named(alloc, "an empty text").expect(rt, "a vector of this name");
     stream.bytes = bytes;
     stream
 }
 
-/// An output of several blocks, which ends behind each of its bytes.
+/// The output fills several blocks, and the writer fails after each of its bytes.
 #[test]
-fn normalise_tells_a_failed_write_behind_each_byte(rt: HostRuntime) {
+fn normalise_reports_a_failed_write_after_each_byte(rt: HostRuntime) {
     let alloc = rt.alloc();
     let stream = of_several_blocks(&rt, alloc);
     let bytes = stream.bytes.as_slice();

@@ -1,4 +1,5 @@
-//! An input and an output over readers and writers that chop, fail and stall: each call of them, and none again.
+//! Inputs and outputs over readers and writers that fail or accept little: the calls that are made, and that none is
+//! retried.
 
 use crate::expecting::{expect, expect_bytes, expect_of};
 use arrayvec::ArrayVec;
@@ -6,7 +7,7 @@ use std::io::{self, Read, Write};
 use std::process::Abort;
 use wsn_wire::{Input, Output};
 
-/// Gives one byte, then an error, then nothing.
+/// Returns one byte, then an error, then the end.
 #[derive(Drop)]
 struct FailsOnce {
     calls: u8,
@@ -26,16 +27,16 @@ impl Read for FailsOnce {
     }
 }
 
-/// Fails unless a read by an input answers this, and behind it a read has failed, or hasn't.
+/// Fails unless this is the answer of a read, and whether a read has failed by then.
 fn expect_read(
     rt: &impl Abort,
     input: &mut Input<&mut FailsOnce>,
     into: &mut [u8; 4],
-    wanted: Option<usize>,
+    expected: Option<usize>,
     failed: bool,
 ) {
-    expect_of(rt, input.read(into) == wanted, &wanted);
-    expect_of(rt, input.failed() == failed, &wanted);
+    expect_of(rt, input.read(into) == expected, &expected);
+    expect_of(rt, input.failed() == failed, &expected);
 }
 
 #[test]
@@ -50,7 +51,7 @@ fn an_input_calls_its_reader_once(rt: HostRuntime) {
     expect(&rt, reader.calls == 3);
 }
 
-/// Takes at most three bytes a call, and fails at the call `bad`.
+/// Accepts at most three bytes per call, and fails at the call `bad`.
 #[derive(Drop)]
 struct Choppy {
     got: ArrayVec<u8, 16>,
@@ -72,7 +73,7 @@ impl Write for Choppy {
     }
 }
 
-/// Fails unless an output puts these bytes, or doesn't, and behind them a write has failed, or hasn't.
+/// Fails unless this is the answer of `put`, and whether a write has failed by then.
 fn expect_put<W: Write>(
     rt: &impl Abort,
     output: &mut Output<W>,
@@ -85,7 +86,7 @@ fn expect_put<W: Write>(
 }
 
 #[test]
-fn an_output_goes_on_after_a_short_write(rt: HostRuntime) {
+fn an_output_continues_after_a_short_write(rt: HostRuntime) {
     let mut writer = Choppy {
         got: ArrayVec::new(),
         calls: 0,
@@ -108,7 +109,7 @@ fn an_output_that_is_full_fails(rt: HostRuntime) {
     expect_bytes(&rt, full.as_slice(), b"abcd");
 }
 
-/// Takes nothing, or fails, at its first call, and would take all at the next.
+/// Accepts nothing or fails at its first call, and would accept everything at the next.
 #[derive(Drop)]
 struct Stalls {
     got: ArrayVec<u8, 16>,

@@ -1,45 +1,45 @@
-//! Readers that are interrupted or would block, and would go on at the next call: any error counts, and nothing is
-//! tried again.
+//! Readers that are interrupted or would block, and would succeed at the next call: every error counts, and no read
+//! is retried.
 
 use crate::expecting::{expect, expect_answer, expect_count, expect_line_of};
 use std::alloc::Global;
 use std::io::ErrorKind;
 use std::process::Abort;
+use wsn_doubles::answer_lines::{answer_line, compared_line, planned_line, recut_line};
 use wsn_doubles::engines::{
     Sizes, compared, judged, listed, normalised, planned, recut_by, recut_uniformly,
 };
-use wsn_doubles::lines::{answer_line, compared_line, planned_line, recut_line};
 use wsn_doubles::readers::Chopped;
-use wsn_doubles::rows::{Stream, line_behind, stream_named, streams};
+use wsn_doubles::vectors::{Stream, line_after, stream_named, streams};
 use wsn_plan::{Plan, RecutAnswer};
 use wsn_scan::{Stop, Verdict, judge};
 use wsn_wire::Input;
 
 const KINDS: [ErrorKind; 2] = [ErrorKind::Interrupted, ErrorKind::WouldBlock];
 
-/// A stream whose reader fails once behind its first bytes.
+/// A stream whose reader fails once, after `count` bytes.
 #[derive(Clone, Copy)]
 struct Stumble<'a> {
     stream: &'a Stream,
     count: usize,
     kind: ErrorKind,
-    /// What an engine tells.
-    wanted: &'static str,
+    /// The line of every engine's answer.
+    expected: &'static str,
 }
 
 impl<'a> Stumble<'a> {
-    fn reader(&self, most: usize) -> Chopped<'a> {
+    fn reader(&self, at_most: usize) -> Chopped<'a> {
         let bytes = self.stream.bytes.as_slice();
         Chopped::stumbling(
             bytes,
-            most,
+            at_most,
             bytes.len().saturating_sub(self.count),
             self.kind,
         )
     }
 
     fn expect(&self, rt: &impl Abort, line: &str) {
-        expect_line_of(rt, line, self.wanted, &(self.stream.name, self.count));
+        expect_line_of(rt, line, self.expected, &(self.stream.name, self.count));
     }
 
     fn expect_answer(&self, rt: &impl Abort, alloc: Global, answer: &Result<Verdict, Stop>) {
@@ -52,7 +52,7 @@ impl<'a> Stumble<'a> {
         self.expect(rt, line.as_str());
     }
 
-    /// Fails unless this is told of how two readers compare.
+    /// Fails unless this is the line of the comparison of two readers.
     fn expect_stopped(&self, rt: &impl Abort, alloc: Global, first: Chopped, second: Chopped) {
         let answer = compared(alloc, first, second, self.stream.role, self.stream.limits);
         let line = compared_line(alloc, &answer).expect(rt, "memory");
@@ -60,51 +60,65 @@ impl<'a> Stumble<'a> {
     }
 }
 
-/// What `judge`, `list` and `normalise` tell, by reads of at most so many bytes.
-fn expect_told(rt: &impl Abort, alloc: Global, stumble: &Stumble, most: usize) {
+/// Checks the answers of `judge`, `list` and `normalise`, with reads of at most `at_most` bytes.
+fn expect_reported(rt: &impl Abort, alloc: Global, stumble: &Stumble, at_most: usize) {
     let stream = stumble.stream;
     let mut out = Vec::new(alloc);
-    stumble.expect_answer(rt, alloc, &judged(stream, stumble.reader(most)));
-    let answer = listed(stream, stumble.reader(most), &mut out);
+    stumble.expect_answer(rt, alloc, &judged(stream, stumble.reader(at_most)));
+    let answer = listed(stream, stumble.reader(at_most), &mut out);
     stumble.expect_answer(rt, alloc, &answer);
-    let answer = normalised(alloc, stream, stumble.reader(most), &mut out);
+    let answer = normalised(alloc, stream, stumble.reader(at_most), &mut out);
     stumble.expect_answer(rt, alloc, &answer);
 }
 
-/// What planning tells, by reads of at most so many bytes.
-fn expect_planned(rt: &impl Abort, alloc: Global, stumble: &Stumble, most: usize) {
+/// Checks the answer of planning, with reads of at most `at_most` bytes.
+fn expect_planned(rt: &impl Abort, alloc: Global, stumble: &Stumble, at_most: usize) {
     let (role, limits) = (stumble.stream.role, stumble.stream.limits);
-    let answer = planned(alloc, role, limits, stumble.reader(most));
+    let answer = planned(alloc, role, limits, stumble.reader(at_most));
     let line = planned_line(alloc, &answer).expect(rt, "memory");
     stumble.expect(rt, line.as_str());
 }
 
-/// What a recut by a plan of no steps tells, by reads of at most so many bytes. It writes nothing.
-fn expect_recut_by_plan(rt: &impl Abort, alloc: Global, stumble: &Stumble, most: usize) {
+/// Checks the answer of a recut by a plan without steps. It writes nothing.
+fn expect_recut_by_plan(rt: &impl Abort, alloc: Global, stumble: &Stumble, at_most: usize) {
     let (role, limits) = (stumble.stream.role, stumble.stream.limits);
     let plan = Plan::new(alloc);
     let mut out = Vec::new(alloc);
-    let answer = recut_by(alloc, role, limits, &plan, stumble.reader(most), &mut out);
+    let answer = recut_by(
+        alloc,
+        role,
+        limits,
+        &plan,
+        stumble.reader(at_most),
+        &mut out,
+    );
     expect(rt, out.is_empty());
     stumble.expect_recut(rt, alloc, &answer);
 }
 
-/// What a recut by a size tells, by reads of at most so many bytes. It writes nothing.
-fn expect_recut_by_size(rt: &impl Abort, alloc: Global, stumble: &Stumble, most: usize) {
+/// Checks the answer of a recut by size. It writes nothing.
+fn expect_recut_by_size(rt: &impl Abort, alloc: Global, stumble: &Stumble, at_most: usize) {
     let (role, limits) = (stumble.stream.role, stumble.stream.limits);
     let sizes = Sizes {
         size: 2,
         weave: false,
     };
     let mut out = Vec::new(alloc);
-    let answer = recut_uniformly(alloc, role, limits, sizes, stumble.reader(most), &mut out);
+    let answer = recut_uniformly(
+        alloc,
+        role,
+        limits,
+        sizes,
+        stumble.reader(at_most),
+        &mut out,
+    );
     expect(rt, out.is_empty());
     stumble.expect_recut(rt, alloc, &answer);
 }
 
-/// What `same` tells of a failed read of either.
+/// Checks the answer of `same` where the first or the second reader fails.
 fn expect_compared(rt: &impl Abort, alloc: Global, stumble: &Stumble) {
-    if stumble.wanted == "read failed" {
+    if stumble.expected == "read failed" {
         let empty = Chopped::new(&[], 2);
         stumble.expect_stopped(rt, alloc, stumble.reader(2), empty);
         let empty = Chopped::new(&[], 2);
@@ -112,27 +126,27 @@ fn expect_compared(rt: &impl Abort, alloc: Global, stumble: &Stumble) {
     }
 }
 
-/// Each engine where a stream's reader fails once.
+/// Checks each engine where a stream's reader fails once.
 fn expect_each(rt: &impl Abort, alloc: Global, stumble: &Stumble) {
-    for most in [2, 4_096] {
-        expect_told(rt, alloc, stumble, most);
-        expect_planned(rt, alloc, stumble, most);
-        expect_recut_by_plan(rt, alloc, stumble, most);
-        expect_recut_by_size(rt, alloc, stumble, most);
+    for at_most in [2, 4_096] {
+        expect_reported(rt, alloc, stumble, at_most);
+        expect_planned(rt, alloc, stumble, at_most);
+        expect_recut_by_plan(rt, alloc, stumble, at_most);
+        expect_recut_by_size(rt, alloc, stumble, at_most);
     }
     expect_compared(rt, alloc, stumble);
 }
 
-/// Each engine at each place of a stream where its reader may fail.
+/// Checks each engine at each offset at which a stream's reader may fail.
 fn expect_ended(rt: &impl Abort, alloc: Global, stream: &Stream) {
-    for front in stream.fronts(alloc).expect(rt, "memory") {
-        let wanted = line_behind(stream, front);
+    for prefix in stream.prefixes(alloc).expect(rt, "memory") {
+        let expected = line_after(stream, prefix);
         for kind in KINDS {
             let stumble = Stumble {
                 stream,
-                count: front.len(),
+                count: prefix.len(),
                 kind,
-                wanted,
+                expected,
             };
             expect_each(rt, alloc, &stumble);
         }
@@ -141,12 +155,12 @@ fn expect_ended(rt: &impl Abort, alloc: Global, stream: &Stream) {
 
 #[test]
 fn any_error_of_a_reader_ends_the_work(rt: HostRuntime) {
-    for stream in streams(rt.alloc()).expect(&rt, "every row").iter() {
+    for stream in streams(rt.alloc()).expect(&rt, "every vector").iter() {
         expect_ended(&rt, rt.alloc(), stream);
     }
 }
 
-/// Fails unless `judge` reads nothing behind the place where its reader fails.
+/// Fails unless `judge` reads nothing after its reader fails.
 fn expect_left(rt: &impl Abort, alloc: Global, stream: &Stream, left: usize, kind: ErrorKind) {
     let mut reader = Chopped::stumbling(stream.bytes.as_slice(), 3, left, kind);
     let mut input = Input::new(&mut reader);
@@ -158,11 +172,11 @@ fn expect_left(rt: &impl Abort, alloc: Global, stream: &Stream, left: usize, kin
 
 /// The reader isn't called again.
 #[test]
-fn nothing_is_read_behind_an_error(rt: HostRuntime) {
+fn nothing_is_read_after_an_error(rt: HostRuntime) {
     let alloc = rt.alloc();
     let stream = stream_named(alloc, "Hello in two fragments, and a ping between them").expect(
         &rt,
-        "a row of this name",
+        "a vector of this name",
     );
     for left in 0..=stream.bytes.len() {
         for kind in KINDS {

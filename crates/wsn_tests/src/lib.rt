@@ -1,41 +1,37 @@
-//! Tests of streams and captures: what the scanner, the source and the commands `judge`, `frames`, `normal` and `same`
-//! make of streams, and `closing` of captures. Nothing here is a library.
+//! Tests of streams and captures. The readers, writers, heaps and vectors are those of `wsn_doubles`.
 //!
-//! `every_way` reads each stream that is written out in `wsn_doubles`, in every way, and `vectors` names short ones of
-//! every rule. Each command has a file: `judge`, `frames`, `normal`, `same`. `scanner`, `source`, `events` and `limits`
-//! are of what the commands are made of.
+//! A rule's test is found by its printed word: reasons of refusals (`text-bad`) in `head_bytes`, `refusal_reasons` and
+//! the names of vectors, faults of lines (`bad_hex`) and `input_limit` in `capture_lines`, outcomes in
+//! `capture_reports`, `close_code` in `close_codes`. `side_readers` tests one side of a capture as a reader.
 //!
-//! Hostile use: `endings` is of streams that are cut short, go on or never end; `stops`, `failed_writes` and
-//! `command_stops` of readers and writers that fail, `interruptions` of readers that would go on; `memory`,
-//! `memory_of_same` and `later_growths` of memory that is refused.
+//! `every_way` reads each vector in every way, and `conformance` gives some of them short names. Each command has a
+//! file: `judge_command`, `frames_command`, `normal_command`, `same_command`, `closing_command`. `scanner`, `source`,
+//! `events` and `limit_ranges` test what these are made of.
 //!
-//! What a stream is read and written by: `heads`, `masking` and `reasons` of a frame's parts, `utf8` and `close_codes`
-//! of payloads, `inputs_and_outputs` and `tied` of readers and writers.
+//! Hostile use: streams without an end in `stream_endings`; failing readers and writers in `stops`, `failed_writes`,
+//! `command_stops`, `capture_stops` and `interruptions`; failed allocations in `memory`, `memory_of_later_growths` and
+//! `memory_of_same`.
 //!
-//! Captures: `captures` is of what is reported of one, `capture_lines` of its lines, `capture_endings` of where its
-//! reader or a report's writer fails, and `capture_answers` says how both are run. `closing` is of the command.
-//!
-//! `expecting` asserts what is wanted of a value and of what is printed, of a source's last answer, of how a stream is
-//! read and of what a capture answers of a line, and that a command tells a failed read or write. The readers, writers
-//! and heaps are those of `wsn_doubles`.
+//! Parts: `head_bytes` and `masking` of frames, `utf8` and `close_codes` of payloads, `inputs_and_outputs` and
+//! `tied_streams` of input and output. `expecting` has the assertions, and `capture_answers` those on captures.
 #![tactic(auto)]
 
 #[cfg(test)]
 mod capture_answers;
 #[cfg(test)]
-mod capture_endings;
-#[cfg(test)]
 mod capture_lines;
 #[cfg(test)]
-mod captures;
+mod capture_reports;
+#[cfg(test)]
+mod capture_stops;
 #[cfg(test)]
 mod close_codes;
 #[cfg(test)]
-mod closing;
+mod closing_command;
 #[cfg(test)]
 mod command_stops;
 #[cfg(test)]
-mod endings;
+mod conformance;
 #[cfg(test)]
 mod events;
 #[cfg(test)]
@@ -45,40 +41,42 @@ mod expecting;
 #[cfg(test)]
 mod failed_writes;
 #[cfg(test)]
-mod frames;
+mod frames_command;
 #[cfg(test)]
-mod heads;
+mod head_bytes;
 #[cfg(test)]
 mod inputs_and_outputs;
 #[cfg(test)]
 mod interruptions;
 #[cfg(test)]
-mod judge;
+mod judge_command;
 #[cfg(test)]
-mod later_growths;
-#[cfg(test)]
-mod limits;
+mod limit_ranges;
 #[cfg(test)]
 mod masking;
 #[cfg(test)]
 mod memory;
 #[cfg(test)]
+mod memory_of_later_growths;
+#[cfg(test)]
 mod memory_of_same;
 #[cfg(test)]
-mod normal;
+mod normal_command;
 #[cfg(test)]
-mod reasons;
+mod refusal_reasons;
 #[cfg(test)]
-mod same;
+mod same_command;
 #[cfg(test)]
 mod scanner;
+#[cfg(test)]
+mod side_readers;
 #[cfg(test)]
 mod source;
 #[cfg(test)]
 mod stops;
 #[cfg(test)]
-mod tied;
+mod stream_endings;
+#[cfg(test)]
+mod tied_streams;
 #[cfg(test)]
 mod utf8;
-#[cfg(test)]
-mod vectors;

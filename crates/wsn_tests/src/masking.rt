@@ -1,4 +1,4 @@
-//! Masking, at any place in the key.
+//! Masking, at any offset in the key.
 
 use crate::expecting::{expect_bytes, expect_bytes_of};
 use wsn_wire::mask;
@@ -13,7 +13,7 @@ fn masking_at_an_offset(rt: HostRuntime) {
     expect_bytes(&rt, &bytes, &[3, 4, 1, 2, 3]);
 }
 
-/// Around each whole number of vectors, from each place in the key.
+/// For lengths around each multiple of a vector register's size, and from each offset in the key.
 #[test]
 fn masking_of_each_length(rt: HostRuntime) {
     let mut payload = [0; 131];
@@ -25,11 +25,11 @@ fn masking_of_each_length(rt: HostRuntime) {
         for len in 0..132usize {
             let mut masked = payload;
             mask(key, start as u64, &mut masked[..len]);
-            let mut wanted = payload;
+            let mut expected = payload;
             for i in 0..len.min(131) {
-                wanted[i] ^= key[(start + i) % 4];
+                expected[i] ^= key[(start + i) % 4];
             }
-            expect_bytes_of(&rt, &masked, &wanted, &(len, start));
+            expect_bytes_of(&rt, &masked, &expected, &(len, start));
         }
     }
 }

@@ -1,23 +1,22 @@
-//! Memory that is refused, one growth after another: each call then answers that, and nothing in its place. Where
-//! there is enough it answers what it does elsewhere.
+//! Failed allocations: the answer is then `out of memory`. With enough memory the answer is the usual one.
 
 use crate::expecting::{
-    expect, expect_again, expect_answer, expect_bytes, expect_last, expect_of, expect_outcome,
+    expect, expect_again, expect_answer, expect_bytes, expect_last, expect_of, expect_run,
 };
 use std::alloc::{Allocator, Global};
 use std::process::Abort;
 use wsn_canon::{Next, Source, normalise};
+use wsn_doubles::command_runs::run_on;
 use wsn_doubles::heaps::{BLOCK, heap_of};
-use wsn_doubles::outcomes::outcome_on;
 use wsn_doubles::readers::Chopped;
-use wsn_doubles::rows::{filled, greatest, stream_named};
+use wsn_doubles::vectors::{filled, greatest, stream_named};
 use wsn_doubles::writers::Narrow;
 use wsn_job::Job;
 use wsn_scan::Stop;
 use wsn_wire::{Input, Output, Role};
 
-/// A stream with one message, its verdict and its normal form. Memory is asked for where a byte of the message comes:
-/// `before` is the normal form of the events that end before it.
+/// A stream with one message, its verdict and its normal form. The message's payload needs memory; `before` is the
+/// normal form of the events that end before it.
 #[derive(Clone, Copy)]
 struct Growing {
     role: Role,
@@ -63,10 +62,10 @@ static GROWING: [Growing; 4] = [
     },
 ];
 
-/// For how many short messages there is memory.
+/// The numbers of short messages for which heaps have memory.
 pub const ROOMS: [usize; 3] = [0, 1, 2];
 
-/// What a source answers behind two events at most.
+/// The answer of a source after at most two events.
 fn last_of<A: Allocator + Copy>(
     rt: &impl Abort,
     source: &mut Source<A>,
@@ -82,7 +81,7 @@ fn last_of<A: Allocator + Copy>(
     panic!(rt; "no end")
 }
 
-/// Fails unless a source tells events and then the line, and that from then on.
+/// Fails unless this is the line of a source's answer, then and at each later call.
 fn expect_end<A: Allocator + Copy>(
     rt: &impl Abort,
     heap: A,
@@ -99,7 +98,7 @@ fn expect_end<A: Allocator + Copy>(
     expect_again(rt, alloc, &mut source, line);
 }
 
-/// What a source answers where there is memory for so many short messages.
+/// Checks the answers of sources that have memory for `room` short messages.
 fn expect_sources(rt: &impl Abort, alloc: Global, room: usize) {
     let heap = heap_of(alloc, room).expect(rt, "memory");
     for growing in GROWING.iter() {
@@ -112,13 +111,13 @@ fn expect_sources(rt: &impl Abort, alloc: Global, room: usize) {
 }
 
 #[test]
-fn a_source_answers_that_memory_is_refused(rt: HostRuntime) {
+fn a_source_answers_out_of_memory(rt: HostRuntime) {
     for room in ROOMS {
         expect_sources(&rt, rt.alloc(), room);
     }
 }
 
-/// Fails unless `normalise` writes these bytes, and its answer has this line.
+/// Fails unless `normalise` writes these bytes and answers this line.
 fn expect_normalised<A: Allocator + Copy>(
     rt: &impl Abort,
     heap: A,
@@ -140,7 +139,7 @@ fn expect_normalised<A: Allocator + Copy>(
     expect_answer(rt, alloc, &answer, line);
 }
 
-/// What `normalise` answers where there is memory for so many short messages.
+/// Checks the answers of `normalise` with memory for `room` short messages.
 fn expect_normal_forms(rt: &impl Abort, alloc: Global, room: usize) {
     let heap = heap_of(alloc, room).expect(rt, "memory");
     for growing in GROWING.iter() {
@@ -153,13 +152,13 @@ fn expect_normal_forms(rt: &impl Abort, alloc: Global, room: usize) {
 }
 
 #[test]
-fn normalise_answers_that_memory_is_refused(rt: HostRuntime) {
+fn normalise_answers_out_of_memory(rt: HostRuntime) {
     for room in ROOMS {
         expect_normal_forms(&rt, rt.alloc(), room);
     }
 }
 
-/// Fails unless the command writes what it does where memory is refused, or where there is enough.
+/// Fails unless the command writes the normal form where it has memory, and otherwise reports `out of memory`.
 fn expect_normal<A: Allocator + Copy>(
     rt: &impl Abort,
     heap: A,
@@ -169,16 +168,16 @@ fn expect_normal<A: Allocator + Copy>(
 ) {
     let job = Job::Normal(growing.role, greatest());
     let reader = Chopped::new(growing.bytes, 1);
-    let done = outcome_on(heap, alloc, &job, reader, Narrow::wide(alloc));
-    let (status, out, said) = if is_served {
+    let done = run_on(heap, alloc, &job, reader, Narrow::wide(alloc));
+    let (status, out, err) = if is_served {
         (0, growing.normal, "")
     } else {
         (2, growing.before, "out of memory")
     };
-    expect_outcome(rt, &done, status, out, said);
+    expect_run(rt, &done, status, out, err);
 }
 
-/// What `normal` says where there is memory for so many short messages.
+/// Checks the output of `normal` with memory for `room` short messages.
 fn expect_each_normal(rt: &impl Abort, alloc: Global, room: usize) {
     let heap = heap_of(alloc, room).expect(rt, "memory");
     for growing in GROWING.iter() {
@@ -187,31 +186,31 @@ fn expect_each_normal(rt: &impl Abort, alloc: Global, room: usize) {
 }
 
 #[test]
-fn normal_says_that_memory_is_refused(rt: HostRuntime) {
+fn normal_reports_out_of_memory(rt: HostRuntime) {
     for room in ROOMS {
         expect_each_normal(&rt, rt.alloc(), room);
     }
 }
 
-/// Whether the command has memory enough in a heap for a ping and a message, which come by 7 bytes. Fails unless it
-/// writes both then, and else the ping alone.
+/// Whether the heap has enough memory for a ping and a message, which come in chunks of 7 bytes. Fails unless the
+/// command writes both then, and otherwise only the ping.
 fn is_served<A: Allocator + Copy>(rt: &impl Abort, heap: A, alloc: Global, bytes: &[u8]) -> bool {
     let job = Job::Normal(Role::Server, greatest());
     let reader = Chopped::new(bytes, 7);
-    let done = outcome_on(heap, alloc, &job, reader, Narrow::wide(alloc));
+    let done = run_on(heap, alloc, &job, reader, Narrow::wide(alloc));
     let is_served = done.status == 0;
-    let (out, said) = if is_served {
+    let (out, err) = if is_served {
         (bytes, "")
     } else {
         (&bytes[..bytes.len().min(2)], "out of memory")
     };
-    expect_outcome(rt, &done, if is_served { 0 } else { 2 }, out, said);
+    expect_run(rt, &done, if is_served { 0 } else { 2 }, out, err);
     is_served
 }
 
-/// A ping, and a message of 60 bytes that comes by 7, which grows more than once. No heap of fewer bytes has room.
+/// A ping, and a message of 60 bytes in chunks of 7, which grows more than once. No heap of fewer bytes has room.
 #[test]
-fn a_later_growth_is_refused_alike(rt: HostRuntime) {
+fn normal_reports_out_of_memory_at_a_later_growth(rt: HostRuntime) {
     let alloc = rt.alloc();
     let bytes = filled(alloc, &[0x89, 0x00, 0x82, 0x3c], 0, 60).expect(&rt, "memory");
     let mut served = false;
@@ -223,20 +222,37 @@ fn a_later_growth_is_refused_alike(rt: HostRuntime) {
     expect(&rt, served);
 }
 
-/// Fails unless the command writes the normal form of the row of that name, with memory from this heap.
+/// Fails unless the command writes the normal form of this vector, with memory from this heap.
 fn expect_control<A: Allocator + Copy>(rt: &impl Abort, heap: A, alloc: Global, name: &str) {
-    let stream = stream_named(alloc, name).expect(rt, "a row of this name");
+    let stream = stream_named(alloc, name).expect(rt, "a vector of this name");
     let job = Job::Normal(stream.role, stream.limits);
     let reader = Chopped::new(stream.bytes.as_slice(), 4_096);
-    let done = outcome_on(heap, alloc, &job, reader, Narrow::wide(alloc));
-    expect_outcome(rt, &done, 0, stream.normal.as_slice(), "");
+    let done = run_on(heap, alloc, &job, reader, Narrow::wide(alloc));
+    expect_run(rt, &done, 0, stream.normal.as_slice(), "");
 }
 
-/// Only a message's payload asks for memory.
+/// Only a message's payload needs memory.
 #[test]
-fn controls_ask_for_none(rt: HostRuntime) {
+fn controls_need_no_memory(rt: HostRuntime) {
     let alloc = rt.alloc();
     let heap = heap_of(alloc, 0).expect(&rt, "memory");
     expect_control(&rt, &heap, alloc, "a ping of 125 bytes");
     expect_control(&rt, &heap, alloc, "a Close with a reason of 123 bytes");
+}
+
+/// Two hundred messages on a heap with room for two: nothing is kept of a message that has ended.
+#[test]
+fn many_messages_need_room_for_one(rt: HostRuntime) {
+    let alloc = rt.alloc();
+    let mut bytes = Vec::new(alloc);
+    for _ in 0..200 {
+        bytes
+            .extend_from_slice(b"\x81\x05Hello")
+            .expect(&rt, "memory");
+    }
+    let heap = heap_of(alloc, 2).expect(&rt, "memory");
+    let job = Job::Normal(Role::Server, greatest());
+    let reader = Chopped::new(bytes.as_slice(), 1);
+    let done = run_on(&heap, alloc, &job, reader, Narrow::wide(alloc));
+    expect_run(&rt, &done, 0, bytes.as_slice(), "");
 }

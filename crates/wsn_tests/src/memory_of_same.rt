@@ -1,37 +1,37 @@
-//! Memory that is refused to `same`, and to the comparison under it.
+//! Failed allocations in `same`, and in the comparison that it calls.
 
-use crate::expecting::{expect, expect_count, expect_line, expect_outcome};
-use crate::later_growths::{BLOCKS, CUT, frames_of, most_messages};
+use crate::expecting::{expect, expect_count, expect_line, expect_run};
 use crate::memory::ROOMS;
-use crate::same::{PAIRS, Pair, expect_printed};
+use crate::memory_of_later_growths::{BLOCKS, CUT, frames_of, max_messages};
+use crate::same_command::{PAIRS, Pair, expect_printed};
 use std::alloc::{Allocator, Global};
 use std::process::Abort;
+use wsn_doubles::answer_lines::compared_line;
+use wsn_doubles::command_runs::{CommandRun, run_same_on};
 use wsn_doubles::engines::compared;
 use wsn_doubles::heaps::heap_of;
-use wsn_doubles::lines::compared_line;
-use wsn_doubles::outcomes::{Outcome, compared_on};
 use wsn_doubles::readers::Chopped;
-use wsn_doubles::rows::greatest;
+use wsn_doubles::vectors::greatest;
 use wsn_doubles::writers::Narrow;
 use wsn_scan::Limits;
 use wsn_wire::Role;
 
-/// Fails unless this is the line of how a pair compares, with memory from this heap.
+/// Fails unless this is the line of the comparison of a pair, with memory from this heap.
 fn expect_compared<A: Allocator + Copy>(
     rt: &impl Abort,
     heap: A,
     alloc: Global,
     pair: &Pair,
-    wanted: &str,
+    expected: &str,
 ) {
     let limits = greatest();
     let (first, second) = (pair.first_reader(), pair.second_reader());
     let answer = compared(heap, first, second, Role::Server, limits);
     let line = compared_line(alloc, &answer).expect(rt, "memory");
-    expect_line(rt, line.as_str(), wanted);
+    expect_line(rt, line.as_str(), expected);
 }
 
-/// What comparing answers where there is memory for so many short messages.
+/// Checks comparisons with memory for `room` short messages.
 fn expect_pairs(rt: &impl Abort, alloc: Global, room: usize) {
     let heap = heap_of(alloc, room).expect(rt, "memory");
     for pair in PAIRS.iter() {
@@ -45,22 +45,22 @@ fn expect_pairs(rt: &impl Abort, alloc: Global, room: usize) {
 }
 
 #[test]
-fn comparing_answers_that_memory_is_refused(rt: HostRuntime) {
+fn comparing_answers_out_of_memory(rt: HostRuntime) {
     for room in ROOMS {
         expect_pairs(&rt, rt.alloc(), room);
     }
 }
 
-/// Fails unless the command says that a heap has no memory for a pair.
+/// Fails unless the command reports `out of memory` of a pair.
 fn expect_refused<A: Allocator + Copy>(rt: &impl Abort, heap: A, alloc: Global, pair: &Pair) {
     let limits = greatest();
     let (first, second) = (pair.first_reader(), pair.second_reader());
-    let done = compared_on(heap, alloc, limits, first, second, Narrow::wide(alloc));
-    expect_outcome(rt, &done, 2, &[], "out of memory");
+    let done = run_same_on(heap, alloc, limits, first, second, Narrow::wide(alloc));
+    expect_run(rt, &done, 2, &[], "out of memory");
 }
 
-/// What `same` says where there is memory for so many short messages.
-fn expect_said(rt: &impl Abort, alloc: Global, room: usize) {
+/// Checks the output of `same` with memory for `room` short messages.
+fn expect_error(rt: &impl Abort, alloc: Global, room: usize) {
     let heap = heap_of(alloc, room).expect(rt, "memory");
     for pair in PAIRS.iter() {
         if room < pair.messages {
@@ -72,13 +72,13 @@ fn expect_said(rt: &impl Abort, alloc: Global, room: usize) {
 }
 
 #[test]
-fn same_says_that_memory_is_refused(rt: HostRuntime) {
+fn same_reports_out_of_memory(rt: HostRuntime) {
     for room in ROOMS {
-        expect_said(&rt, rt.alloc(), room);
+        expect_error(&rt, rt.alloc(), room);
     }
 }
 
-/// The messages as they are cut, but for the first byte of the first.
+/// The same messages, but for the first byte of the first one.
 const OTHER: [(&[u8], usize); 4] = [
     (b"\x89\x00\x02\x1e\x2b", 29),
     (b"\x80\x1e", 30),
@@ -103,37 +103,37 @@ impl Differing {
         Chopped::new(self.second.as_slice(), 5)
     }
 
-    /// The line of how they compare, with memory from this heap.
+    /// The line of the comparison, with memory from this heap.
     fn line_on<A: Allocator + Copy>(&self, rt: &impl Abort, heap: A, alloc: Global) -> String {
         let (first, second) = (self.first_reader(), self.second_reader());
         let answer = compared(heap, first, second, Role::Server, self.limits);
         compared_line(alloc, &answer).expect(rt, "memory")
     }
 
-    /// What the command leaves, with memory from this heap.
-    fn outcome_on<A: Allocator + Copy>(&self, heap: A, alloc: Global) -> Outcome {
+    /// The result of the command, with memory from this heap.
+    fn run_on<A: Allocator + Copy>(&self, heap: A, alloc: Global) -> CommandRun {
         let (first, second) = (self.first_reader(), self.second_reader());
-        compared_on(heap, alloc, self.limits, first, second, Narrow::wide(alloc))
+        run_same_on(heap, alloc, self.limits, first, second, Narrow::wide(alloc))
     }
 
-    /// Whether there is memory enough in a heap of so many blocks. Fails unless the difference is answered then, and
-    /// else that memory is refused.
+    /// Whether a heap of `blocks` blocks has enough memory. Fails unless the answer is then the difference, and
+    /// otherwise `out of memory`.
     fn is_served(&self, rt: &impl Abort, alloc: Global, blocks: usize) -> bool {
         let heap = heap_of(alloc, blocks).expect(rt, "memory");
         let line = self.line_on(rt, &heap, alloc);
         let is_served = line.as_str() != "out of memory";
-        let done = self.outcome_on(&heap, alloc);
+        let done = self.run_on(&heap, alloc);
         if is_served {
             expect_line(rt, line.as_str(), "different 1");
-            expect_count(rt, most_messages(blocks), 2);
-            expect_outcome(rt, &done, 1, b"different 1\n", "");
+            expect_count(rt, max_messages(blocks), 2);
+            expect_run(rt, &done, 1, b"different 1\n", "");
         } else {
-            expect_outcome(rt, &done, 2, &[], "out of memory");
+            expect_run(rt, &done, 2, &[], "out of memory");
         }
         is_served
     }
 
-    /// Of how many heaps there is memory enough in.
+    /// The number of heaps with enough memory.
     fn count_served(&self, rt: &impl Abort, alloc: Global) -> usize {
         let mut served = 0usize;
         for blocks in 0..BLOCKS {
@@ -145,10 +145,10 @@ impl Differing {
     }
 }
 
-/// That two streams differ is known before the second message asks for memory, and still no difference is answered
-/// where it is refused, nor a verdict.
+/// The difference is known before the second message needs memory, and still the answer is `out of memory` where that
+/// allocation fails.
 #[test]
-fn comparing_answers_that_a_later_growth_is_refused(rt: HostRuntime) {
+fn comparing_answers_out_of_memory_at_a_later_growth(rt: HostRuntime) {
     let limits = greatest();
     let first = frames_of(&rt, rt.alloc(), &CUT);
     let second = frames_of(&rt, rt.alloc(), &OTHER);

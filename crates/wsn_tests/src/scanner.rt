@@ -1,23 +1,23 @@
-//! The scanner: what each call takes of a stream and tells of it, and all that it tells of a stream in pieces.
+//! The scanner: what each call consumes and reports, and all that it reports of a stream in chunks.
 
 use crate::expecting::{expect, expect_line_of, expect_of};
 use std::alloc::Global;
 use std::process::Abort;
-use wsn_doubles::lines::{frame_line, verdict_line};
-use wsn_doubles::rows::{Stream, greatest};
+use wsn_doubles::answer_lines::{frame_line, verdict_line};
+use wsn_doubles::vectors::{Stream, greatest};
 use wsn_scan::{Notice, Scan};
 use wsn_wire::Role;
 
-/// What a scanner told of a stream: the lines of its frames, its payload, and the line of its verdict.
+/// What a scanner reported of a stream: the lines of its frames, its payload, and the line of its verdict.
 #[derive(Drop)]
-pub struct Told {
+pub struct ScanReport {
     pub frames: Vec<u8>,
     pub payload: Vec<u8>,
     pub verdict: String,
 }
 
-impl Told {
-    /// Notes what a scanner told of the bytes that it took. Whether that is a refusal.
+impl ScanReport {
+    /// Notes a scanner's notice of the bytes that it consumed. Whether that is a refusal.
     fn note(&mut self, rt: &impl Abort, alloc: Global, notice: &Notice, taken: &[u8]) -> bool {
         match notice {
             Notice::Head(head) => {
@@ -32,14 +32,14 @@ impl Told {
         false
     }
 
-    /// Hands a piece to the scanner until all of it is taken. Whether it was refused.
-    fn take(&mut self, rt: &impl Abort, alloc: Global, scan: &mut Scan, piece: &[u8]) -> bool {
-        let mut bytes = piece.to_vec(alloc).expect(rt, "memory");
-        self.take_all(rt, alloc, scan, bytes.as_mut_slice())
+    /// Passes a chunk to the scanner until it is consumed. Whether it was refused.
+    fn feed(&mut self, rt: &impl Abort, alloc: Global, scan: &mut Scan, chunk: &[u8]) -> bool {
+        let mut bytes = chunk.to_vec(alloc).expect(rt, "memory");
+        self.feed_all(rt, alloc, scan, bytes.as_mut_slice())
     }
 
-    /// Hands bytes to the scanner until all of them are taken. Whether they were refused.
-    fn take_all(
+    /// Passes bytes to the scanner until they are consumed. Whether they were refused.
+    fn feed_all(
         &mut self,
         rt: &impl Abort,
         alloc: Global,
@@ -61,8 +61,8 @@ impl Told {
         false
     }
 
-    /// Hands a stream to the scanner, in pieces of so many bytes, until it is refused.
-    fn take_pieces(
+    /// Passes a stream to the scanner, in chunks of `size` bytes, until it is refused.
+    fn feed_chunks(
         &mut self,
         rt: &impl Abort,
         alloc: Global,
@@ -70,30 +70,30 @@ impl Told {
         bytes: &[u8],
         size: usize,
     ) {
-        for piece in bytes.chunks(size.max(1)) {
-            if self.take(rt, alloc, scan, piece) {
+        for chunk in bytes.chunks(size.max(1)) {
+            if self.feed(rt, alloc, scan, chunk) {
                 break;
             }
         }
     }
 }
 
-/// What a scanner tells of a stream, as far as an input may go, that comes in pieces of so many bytes.
-pub fn told_of(rt: &impl Abort, alloc: Global, stream: &Stream, size: usize) -> Told {
-    let mut told = Told {
+/// What a scanner reports of a stream in chunks of `size` bytes, up to the input limit.
+pub fn scanned(rt: &impl Abort, alloc: Global, stream: &Stream, size: usize) -> ScanReport {
+    let mut scanned = ScanReport {
         frames: Vec::new(alloc),
         payload: Vec::new(alloc),
         verdict: String::new(alloc),
     };
     let mut scan = Scan::new(stream.role, stream.limits);
     let within = scan.room().min(stream.bytes.len() as u64) as usize;
-    told.take_pieces(rt, alloc, &mut scan, &stream.bytes[..within], size);
-    told.verdict = verdict_line(alloc, &scan.finish()).expect(rt, "memory");
-    told
+    scanned.feed_chunks(rt, alloc, &mut scan, &stream.bytes[..within], size);
+    scanned.verdict = verdict_line(alloc, &scan.finish()).expect(rt, "memory");
+    scanned
 }
 
-/// A server's stream that comes in one piece, and the calls until it is taken or refused and one call behind
-/// them: how many bytes each takes, and what it tells.
+/// A server's stream in one chunk, the calls until it is consumed or refused, and one call more: the number of bytes
+/// that each call consumes, and its notice.
 #[derive(Clone, Copy)]
 struct Calls {
     name: &'static str,
@@ -120,7 +120,7 @@ static CALLS: [Calls; 8] = [
         ],
     },
     Calls {
-        name: "a Close and three bytes behind it",
+        name: "a Close and three bytes after it",
         bytes: &[0x88, 0x02, 0x03, 0xe8, 0x81, 0x01, 0x41],
         calls: &[
             (2, "head"),
@@ -136,12 +136,12 @@ static CALLS: [Calls; 8] = [
         calls: &[(3, "more"), (0, "more")],
     },
     Calls {
-        name: "a payload of five bytes that ends behind two",
+        name: "a payload of five bytes that ends after two",
         bytes: &[0x82, 0x05, 0x41, 0x42],
         calls: &[(2, "head"), (2, "payload"), (0, "more")],
     },
     Calls {
-        name: "a reserved bit behind a ping",
+        name: "a reserved bit after a ping",
         bytes: &[0x89, 0x00, 0xf0, 0x00],
         calls: &[
             (2, "head"),
@@ -190,8 +190,8 @@ fn word_of(notice: &Notice) -> &'static str {
     }
 }
 
-/// Hands the scanner what is left of a stream, and answers how many bytes it took. Fails unless these are as many as
-/// are wanted, and it tells what is wanted.
+/// Passes the rest of a stream to the scanner, and returns how many bytes it consumed. Fails unless the count and the
+/// notice are as expected.
 fn expect_call(
     rt: &impl Abort,
     scan: &mut Scan,
@@ -207,21 +207,21 @@ fn expect_call(
     taken
 }
 
-/// Fails unless a scanner's calls take and tell what is written out.
+/// Fails unless a scanner's calls consume and report what these rows list.
 fn expect_calls(rt: &impl Abort, alloc: Global, calls: &Calls) {
     let mut scan = Scan::new(Role::Server, greatest());
-    let mut piece = calls.bytes.to_vec(alloc).expect(rt, "memory");
+    let mut chunk = calls.bytes.to_vec(alloc).expect(rt, "memory");
     let mut at = 0usize;
     for (count, word) in calls.calls.iter() {
-        let from = at.min(piece.len());
-        let rest = &mut piece[from..];
+        let from = at.min(chunk.len());
+        let rest = &mut chunk[from..];
         let taken = expect_call(rt, &mut scan, rest, *count, word, calls.name);
         at = at.saturating_add(taken);
     }
 }
 
 #[test]
-fn each_call_takes_what_it_can(rt: HostRuntime) {
+fn each_call_consumes_what_it_can(rt: HostRuntime) {
     for calls in CALLS.iter() {
         expect_calls(&rt, rt.alloc(), calls);
     }

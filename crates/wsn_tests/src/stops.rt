@@ -1,13 +1,13 @@
-//! What ends an engine's work before its verdict: readers that fail, behind each byte; and a stop's words.
+//! What ends an engine's work before its verdict: readers that fail after each byte; and the words of a stop.
 
-use crate::expecting::{Reading, expect_line, front_of};
-use crate::same::{PAIRS, expect_compared};
+use crate::expecting::{Reading, expect_line, prefix_of};
+use crate::same_command::{PAIRS, expect_compared};
 use std::alloc::Global;
 use std::process::Abort;
+use wsn_doubles::answer_lines::{listing, stop_line};
 use wsn_doubles::engines::{judged, listed, normalised};
-use wsn_doubles::lines::{listing, stop_line};
 use wsn_doubles::readers::{Chopped, READS};
-use wsn_doubles::rows::{Stream, line_behind, stream_named, streams};
+use wsn_doubles::vectors::{Stream, line_after, stream_named, streams};
 use wsn_scan::Stop;
 
 #[test]
@@ -23,49 +23,51 @@ fn words_of_a_stop(rt: HostRuntime) {
     }
 }
 
-/// A stream whose reader fails behind its first bytes, by so many a call, and the line that an engine tells of it.
+/// A stream whose reader fails after a prefix, with reads of at most `at_most` bytes, and the line of an engine's
+/// answer.
 #[derive(Clone, Copy)]
 struct Broken<'a> {
     stream: &'a Stream,
-    front: &'a [u8],
-    most: usize,
-    wanted: &'static str,
+    prefix: &'a [u8],
+    at_most: usize,
+    expected: &'static str,
 }
 
 impl<'a> Broken<'a> {
     fn reader(&self) -> Chopped<'a> {
-        Chopped::breaking(self.front, self.most)
+        Chopped::breaking(self.prefix, self.at_most)
     }
 
     fn reading(&self, how: &'static str) -> Reading<'a> {
         Reading {
             name: self.stream.name,
             how,
-            count: self.front.len(),
-            most: self.most,
+            count: self.prefix.len(),
+            at_most: self.at_most,
         }
     }
 
-    /// Fails unless all that is due was written where the answer is the stream's verdict, and else a front of it.
+    /// Fails unless the whole output was written where the answer is the stream's verdict, and otherwise a prefix of
+    /// it.
     fn expect_written(
         &self,
         rt: &impl Abort,
         reading: &Reading,
         written: &[u8],
         whole: &[u8],
-        front_of: &[u8],
+        prefix_of: &[u8],
     ) {
-        if self.wanted == self.stream.verdict {
+        if self.expected == self.stream.verdict {
             reading.expect_bytes(rt, written, whole);
         } else {
-            reading.expect_front(rt, written, front_of);
+            reading.expect_prefix(rt, written, prefix_of);
         }
     }
 
     fn expect_judged(&self, rt: &impl Abort, alloc: Global) {
         let answer = judged(self.stream, self.reader());
         self.reading("judged")
-            .expect_answer(rt, alloc, &answer, self.wanted);
+            .expect_answer(rt, alloc, &answer, self.expected);
     }
 
     fn expect_listed(&self, rt: &impl Abort, alloc: Global, whole: &[u8]) {
@@ -74,7 +76,7 @@ impl<'a> Broken<'a> {
         let reading = self.reading("listed");
         let lines = self.stream.frames.as_bytes();
         self.expect_written(rt, &reading, text.as_slice(), whole, lines);
-        reading.expect_answer(rt, alloc, &answer, self.wanted);
+        reading.expect_answer(rt, alloc, &answer, self.expected);
     }
 
     fn expect_normalised(&self, rt: &impl Abort, alloc: Global) {
@@ -83,34 +85,34 @@ impl<'a> Broken<'a> {
         let normal = self.stream.normal.as_slice();
         let reading = self.reading("normalised");
         self.expect_written(rt, &reading, out.as_slice(), normal, normal);
-        reading.expect_answer(rt, alloc, &answer, self.wanted);
+        reading.expect_answer(rt, alloc, &answer, self.expected);
     }
 }
 
-/// Adds the ways in which a stream's reader may fail behind these bytes: by reads of each size.
+/// Adds a failure after this prefix, with reads of each size.
 fn push_breaks<'a>(
     rt: &impl Abort,
     breaks: &mut Vec<Broken<'a>>,
     stream: &'a Stream,
-    front: &'a [u8],
+    prefix: &'a [u8],
 ) {
-    let wanted = line_behind(stream, front);
-    for most in READS {
+    let expected = line_after(stream, prefix);
+    for at_most in READS {
         let broken = Broken {
             stream,
-            front,
-            most,
-            wanted,
+            prefix,
+            at_most,
+            expected,
         };
         breaks.push(broken).expect(rt, "memory");
     }
 }
 
-/// Every way in which a stream's reader may fail: behind each of its fronts, by reads of each size.
+/// Every failure of a stream's reader: after each prefix, with reads of each size.
 fn breaks<'a>(rt: &impl Abort, alloc: Global, stream: &'a Stream) -> Vec<Broken<'a>> {
     let mut breaks = Vec::new(alloc);
-    for front in stream.fronts(alloc).expect(rt, "memory").iter() {
-        push_breaks(rt, &mut breaks, stream, front);
+    for prefix in stream.prefixes(alloc).expect(rt, "memory").iter() {
+        push_breaks(rt, &mut breaks, stream, prefix);
     }
     breaks
 }
@@ -122,8 +124,8 @@ fn expect_judged_breaks(rt: &impl Abort, alloc: Global, stream: &Stream) {
 }
 
 #[test]
-fn judge_tells_a_failed_read_before_the_answer_shows(rt: HostRuntime) {
-    for stream in streams(rt.alloc()).expect(&rt, "every row").iter() {
+fn judge_reports_a_failed_read_unless_the_answer_is_decided(rt: HostRuntime) {
+    for stream in streams(rt.alloc()).expect(&rt, "every vector").iter() {
         expect_judged_breaks(&rt, rt.alloc(), stream);
     }
 }
@@ -136,8 +138,8 @@ fn expect_listed_breaks(rt: &impl Abort, alloc: Global, stream: &Stream) {
 }
 
 #[test]
-fn list_tells_a_failed_read_before_the_answer_shows(rt: HostRuntime) {
-    for stream in streams(rt.alloc()).expect(&rt, "every row").iter() {
+fn list_reports_a_failed_read_unless_the_answer_is_decided(rt: HostRuntime) {
+    for stream in streams(rt.alloc()).expect(&rt, "every vector").iter() {
         expect_listed_breaks(&rt, rt.alloc(), stream);
     }
 }
@@ -149,14 +151,13 @@ fn expect_normalised_breaks(rt: &impl Abort, alloc: Global, stream: &Stream) {
 }
 
 #[test]
-fn normalise_tells_a_failed_read_before_the_answer_shows(rt: HostRuntime) {
-    for stream in streams(rt.alloc()).expect(&rt, "every row").iter() {
+fn normalise_reports_a_failed_read_unless_the_answer_is_decided(rt: HostRuntime) {
+    for stream in streams(rt.alloc()).expect(&rt, "every vector").iter() {
         expect_normalised_breaks(&rt, rt.alloc(), stream);
     }
 }
 
-/// Behind how many bytes of a stream each line of its frames is due, and behind how many so many bytes of its normal
-/// form are.
+/// After how many bytes of a stream each frame's line is due, and after how many how much of its normal form.
 #[derive(Clone, Copy)]
 struct Due {
     name: &'static str,
@@ -171,30 +172,30 @@ static DUE: [Due; 2] = [
         normal: &[(7, 2), (11, 9)],
     },
     Due {
-        name: "a character in three fragments under three keys, and a ping among them",
+        name: "a character in three fragments with three keys, and a ping among them",
         lines: &[6, 13, 19, 26],
         normal: &[(13, 6), (27, 15)],
     },
 ];
 
 impl Due {
-    /// The lines that are due with so many bytes.
+    /// The lines that are due after `count` bytes.
     fn lines_of<'a>(&self, rt: &impl Abort, stream: &'a Stream, count: usize) -> &'a [u8] {
         let due = self.lines.iter().filter(|end| **end <= count).count();
         let lines = stream.frames.split_inclusive('\n').take(due);
         let size = lines.fold(0usize, |size, line| size.saturating_add(line.len()));
-        front_of(rt, stream.frames.as_bytes(), size)
+        prefix_of(rt, stream.frames.as_bytes(), size)
     }
 
-    /// What of the normal form is due with so many bytes.
+    /// The part of the normal form that is due after `count` bytes.
     fn normal_of<'a>(&self, rt: &impl Abort, stream: &'a Stream, count: usize) -> &'a [u8] {
         let ended = self.normal.iter().filter(|(end, _)| *end <= count);
         let size = ended.last().map_or(0, |(_, size)| *size);
-        front_of(rt, stream.normal.as_slice(), size)
+        prefix_of(rt, stream.normal.as_slice(), size)
     }
 }
 
-/// Fails unless `list` writes these lines before it tells that the reader fails behind these bytes.
+/// Fails unless `list` writes these lines, and then reports that its reader failed.
 fn expect_lines(rt: &impl Abort, alloc: Global, broken: &Broken, lines: &[u8]) {
     let mut text = Vec::new(alloc);
     let answer = listed(broken.stream, broken.reader(), &mut text);
@@ -205,7 +206,7 @@ fn expect_lines(rt: &impl Abort, alloc: Global, broken: &Broken, lines: &[u8]) {
 
 fn expect_due_lines(rt: &impl Abort, alloc: Global, due: &Due, stream: &Stream) {
     for broken in breaks(rt, alloc, stream).iter() {
-        let lines = due.lines_of(rt, stream, broken.front.len());
+        let lines = due.lines_of(rt, stream, broken.prefix.len());
         expect_lines(rt, alloc, broken, lines);
     }
 }
@@ -213,12 +214,12 @@ fn expect_due_lines(rt: &impl Abort, alloc: Global, due: &Due, stream: &Stream) 
 #[test]
 fn list_writes_the_lines_that_came_before_a_failed_read(rt: HostRuntime) {
     for due in DUE.iter() {
-        let stream = stream_named(rt.alloc(), due.name).expect(&rt, "a row of this name");
+        let stream = stream_named(rt.alloc(), due.name).expect(&rt, "a vector of this name");
         expect_due_lines(&rt, rt.alloc(), due, &stream);
     }
 }
 
-/// Fails unless `normalise` writes these bytes before it tells that the reader fails behind these bytes.
+/// Fails unless `normalise` writes these bytes, and then reports that its reader failed.
 fn expect_events(rt: &impl Abort, alloc: Global, broken: &Broken, normal: &[u8]) {
     let mut out = Vec::new(alloc);
     let answer = normalised(alloc, broken.stream, broken.reader(), &mut out);
@@ -229,7 +230,7 @@ fn expect_events(rt: &impl Abort, alloc: Global, broken: &Broken, normal: &[u8])
 
 fn expect_due_events(rt: &impl Abort, alloc: Global, due: &Due, stream: &Stream) {
     for broken in breaks(rt, alloc, stream).iter() {
-        let normal = due.normal_of(rt, stream, broken.front.len());
+        let normal = due.normal_of(rt, stream, broken.prefix.len());
         expect_events(rt, alloc, broken, normal);
     }
 }
@@ -237,19 +238,19 @@ fn expect_due_events(rt: &impl Abort, alloc: Global, due: &Due, stream: &Stream)
 #[test]
 fn normalise_writes_the_events_that_came_before_a_failed_read(rt: HostRuntime) {
     for due in DUE.iter() {
-        let stream = stream_named(rt.alloc(), due.name).expect(&rt, "a row of this name");
+        let stream = stream_named(rt.alloc(), due.name).expect(&rt, "a vector of this name");
         expect_due_events(&rt, rt.alloc(), due, &stream);
     }
 }
 
-/// The bytes but for the last.
+/// The bytes without the last.
 fn all_but_the_last(bytes: &[u8]) -> &[u8] {
     &bytes[..bytes.len().saturating_sub(1)]
 }
 
-/// A stop goes before any verdict or difference.
+/// A stop takes precedence over any verdict or difference.
 #[test]
-fn same_tells_a_failed_read_of_either(rt: HostRuntime) {
+fn same_reports_a_failed_read_of_either_stream(rt: HostRuntime) {
     let alloc = rt.alloc();
     for pair in PAIRS.iter() {
         let first = Chopped::breaking(all_but_the_last(pair.first), 1);

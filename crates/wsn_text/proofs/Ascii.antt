@@ -24,12 +24,12 @@ concat-singles (b ∷ bytes) = ap (λ (rest : List ℕ). b ∷ rest) (concat-sin
 pub ascii_text : (bytes : List ℕ) → AllByRecursion (λ b. b < 128) bytes → IsText bytes
 ascii_text bytes low = record { characters = singles bytes; each = each_single bytes low; whole = concat-singles bytes }
 
--- byte by byte, or index by index
+-- Byte by byte, or index by index.
 pub each_below : (bytes : List ℕ) → ((i : ℕ) → slice_index bytes i < 128) → AllByRecursion (λ b. b < 128) bytes
 each_below [] below = tt
 each_below (b ∷ bytes) below = (below 0, each_below bytes (λ i. below (suc i)))
 
--- what a look at each byte found
+-- The result of testing each byte.
 pub text_if_ascii : (Q : Type 0) (bytes : List ℕ) (result : Bool) → IsTrue result → MatchBool result ((i : ℕ) → slice_index bytes i < 128) Q → IsText bytes
 text_if_ascii Q bytes true low cases = ascii_text bytes (each_below bytes cases)
 text_if_ascii Q bytes false low cases = cc

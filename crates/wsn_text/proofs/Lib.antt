@@ -2,7 +2,7 @@ pub mod Ascii
 pub mod Rests
 pub mod Scalars
 pub mod Decide
-pub mod Fronts
+pub mod Prefixes
 pub mod Boundaries
 pub mod Taking
 pub mod States

@@ -1,4 +1,4 @@
--- Which of two numbers is less, and whether they are the same, as tests that compute.
+-- Comparisons of two numbers as tests that compute.
 use Rattle.std.proofs.Common.{◌≡◌, ℕ, ◌<◌, ◌≤◌, ◌⊎◌, true, false, ltb, eqb, inl, inr, refl}
 use Rattle.std.proofs.lemmas.Bool.{ltb-true, ltb-false, eqb-true, eqb-false}
 

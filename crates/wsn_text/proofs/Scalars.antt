@@ -1,4 +1,4 @@
--- The rows of the table are the encodings of the scalar values, so the table's text is std's.
+-- The rows of the table are the encodings of the scalar values, so text by the table is std's.
 use Rattle.std.proofs.Common.{◌≡◌, ℕ, ◌+◌, ◌-◌, ◌*◌, ◌/◌, ◌<◌, ◌≤◌, ◌⊎◌, ◌↔◌, true, List, [], ◌∷◌, ◌++◌, length, inl, inr, sym, ◌∙◌, subst, ap, arith, lt-ltb, le-ltb, le-leb}
 use Rattle.std.proofs.lemmas.Bool.{cases_lt, and_parts}
 use Rattle.std.proofs.lemmas.Str.{encode_ascii, IsUtf8-nil, length-encode, len_utf8_bounds}
@@ -9,7 +9,7 @@ use lib.Utf8.{scalar, scalars, encode, encodes, next, low_scalar, scalar_cases}
 use Rattle.wsn_text.specs.Utf8.{Range, ◌–◌, table, FitsRow, FitsSome, IsCharacter, IsText}
 use Rattle.wsn_text.proofs.Rests.{text-nil, text_push}
 
--- the bytes of a scalar value, by its size
+-- The bytes of a scalar value, by its size.
 
 encode_two : (c : ℕ) → 0x80 ≤ c → c < 0x800 → encode c ≡ (192 + c / 64) ∷ next c ∷ []
 unfolding encode
@@ -23,7 +23,7 @@ encode_four : (c : ℕ) → 0x1_0000 ≤ c → encode c ≡ (240 + c / 262144) �
 unfolding encode
 encode_four c low = rw (le-ltb c 0x80 (omega arith), le-ltb c 0x800 (omega arith), le-ltb c 0x1_0000 low)
 
--- from a scalar value to its row
+-- From a scalar value to its row.
 
 three_in_table : (c : ℕ) → 0x800 ≤ c → c < 0x1_0000 → (c < 0xD800) ⊎ ((0xE000 ≤ c) × (c < 0x11_0000)) → IsCharacter ((224 + c / 4096) ∷ next (c / 64) ∷ next c ∷ [])
 three_in_table c low high range =
@@ -68,7 +68,7 @@ text_of_scalars (c ∷ cs) ok =
     let both = and_parts (scalar c) (scalars cs) ok in
     text_push (encode c) (encodes cs) (in_table c both.0) (text_of_scalars cs both.1)
 
--- from a row to its scalar value
+-- From a row to its scalar value.
 
 record IsEncoded (bytes : List ℕ) : Type 0 where
   value : ℕ
@@ -112,7 +112,7 @@ row_of_one p [] fits low = absurd fits
 row_of_one p (x ∷ []) fits low = record { value = x; ok = low_scalar x (omega arith); encoded = encode_ascii x (omega arith) }
 row_of_one p (x ∷ y ∷ bytes) fits low = absurd fits.2
 
--- what a row of two, three or four places is known for
+-- The ranges of a row of two, three or four bytes.
 abbrev AllOfTwo : Range → Range → Type 0
 AllOfTwo p q = (x y : ℕ) → (p.low ≤ x) × (x ≤ p.high) → (q.low ≤ y) × (y ≤ q.high) → IsEncoded (x ∷ y ∷ [])
 
@@ -153,11 +153,11 @@ some_encoded : (rows : List (List Range)) → AllByRecursion IsEncodedRow rows �
 some_encoded [] each bytes fits = absurd fits
 some_encoded (row ∷ rows) each bytes fits = elim fits [ inl here ↦ each.0 bytes here | inr later ↦ some_encoded rows each.1 bytes later ]
 
--- no row of three spells a character that two bytes hold, nor a surrogate
+-- No row of three bytes encodes a character that fits in two bytes, or a surrogate.
 three_row : (p q : Range) → (0xE0 ≤ p.low) × (p.high ≤ 0xEF) × (0x80 ≤ q.low) × (q.high ≤ 0xBF) → (0xE1 ≤ p.low) ⊎ (0xA0 ≤ q.low) → (q.high ≤ 0x9F) ⊎ ((p.high ≤ 0xEC) ⊎ (0xEE ≤ p.low)) → IsEncodedRow (p ∷ q ∷ any ∷ [])
 three_row p q ranges long surrogate = row_of_three p q (λ x y z first second third. three_encoded x y z (omega arith) (omega arith) third (grind arith) (grind arith))
 
--- no row of four spells a character that three bytes hold, nor one above 0x10FFFF
+-- No row of four bytes encodes a character that fits in three bytes, or one above 0x10FFFF.
 four_row : (p q : Range) → (0xF0 ≤ p.low) × (p.high ≤ 0xF4) × (0x80 ≤ q.low) × (q.high ≤ 0xBF) → (0xF1 ≤ p.low) ⊎ (0x90 ≤ q.low) → (p.high ≤ 0xF3) ⊎ (q.high ≤ 0x8F) → IsEncodedRow (p ∷ q ∷ any ∷ any ∷ [])
 four_row p q ranges long large = row_of_four p q (λ x y z w first second third fourth. four_encoded x y z w (omega arith) (omega arith) third fourth (grind arith) (grind arith))
 

@@ -1,4 +1,4 @@
--- What taking bytes makes of the state: byte by byte, by skipping text, and one piece behind another.
+-- The state after more bytes: byte by byte, after text, and after one piece and another.
 use Rattle.std.proofs.Common.{◌≡◌, ℕ, ◌+◌, ◌<◌, ◌↔◌, List, [], ◌∷◌, ◌++◌, length, take, drop, get_or, Result, Ok, Err, Option, refl, sym, ◌∙◌, subst, ap, append_assoc, arith}
 use Rattle.std.proofs.Math.Seq.{take-append-add}
 use Rattle.std.proofs.lemmas.List.{take-append-drop, take_more, length-append}
@@ -7,13 +7,13 @@ use Rattle.wsn_text.specs.Utf8.{Range, IsText, BeginsText, IsFirstBad}
 use Rattle.wsn_text.specs.Rest.{Follows}
 use Rattle.wsn_text.specs.Validated.{HasValidated}
 use Rattle.wsn_text.specs.Piece.{Validates, Breaks}
-use Rattle.wsn_text.proofs.Boundaries.{text_behind}
-use Rattle.wsn_text.proofs.Fronts.{text-append, text_begins, begins_front, begins_shorter, first_bad-append}
+use Rattle.wsn_text.proofs.Boundaries.{text_after}
+use Rattle.wsn_text.proofs.Prefixes.{text-append, text_begins, begins_front, begins_shorter, first_bad-append}
 
 abbrev State : Type 0
 State = Option (List Range)
 
--- something may follow, or nothing may
+-- Bytes may follow, or none may.
 
 abbrev pub Live : State → Type 0
 Live state = (more : List ℕ) × Follows state more
@@ -34,7 +34,7 @@ stays_dead : (state : State) (taken back : List ℕ) → HasValidated state take
 stays_dead state taken back has dead =
     record { continues = λ more. (λ text. absurd (ends_dead state taken has dead (begins_front taken (back ++ more) (text_begins _ (subst IsText (append_assoc taken back more) text)))), λ follows. absurd (dead more follows)) }
 
--- one byte
+-- One byte.
 
 pushed : (old new : State) (b : ℕ) → ((more : List ℕ) → Follows old (b ∷ more) ↔ Follows new more) → (taken : List ℕ) → HasValidated old taken → HasValidated new (taken ++ b ∷ [])
 pushed old new b same taken has =
@@ -44,24 +44,24 @@ pushed old new b same taken has =
           (λ text. (same more).0 ((has.continues (b ∷ more)).0 (subst IsText e text)), λ follows. subst IsText (sym e) ((has.continues (b ∷ more)).1 ((same more).1 follows)));
     }
 
--- `new` has taken the first n of the bytes where `old` had taken none of them
+-- `new` is the state after the first n bytes, where `old` is the state before them.
 abbrev pub TakesFirst : State → State → List ℕ → ℕ → Type 0
 TakesFirst old new bytes n = (taken : List ℕ) → HasValidated old taken → HasValidated new (taken ++ take n bytes)
 
 pub takes_next : (old before new : State) (bytes : List ℕ) (i : ℕ) → i < length bytes → TakesFirst old before bytes i
     → ((more : List ℕ) → Follows before (get_or bytes i 0 ∷ more) ↔ Follows new more) → TakesFirst old new bytes (i + 1)
-takes_next old before new bytes i less takes same taken has =
+takes_next old before new bytes i less consumes same taken has =
     let e : (taken ++ take i bytes) ++ get_or bytes i 0 ∷ [] ≡ taken ++ take (i + 1) bytes = append_assoc taken (take i bytes) (get_or bytes i 0 ∷ []) ∙ ap (λ (front : List ℕ). taken ++ front) (sym (take_more bytes i 0 less)) in
-    subst (HasValidated new) e (pushed before new (get_or bytes i 0) same (taken ++ take i bytes) (takes taken has))
+    subst (HasValidated new) e (pushed before new (get_or bytes i 0) same (taken ++ take i bytes) (consumes taken has))
 
 pub breaks_at : (old before new : State) (bytes : List ℕ) (i : ℕ) → i < length bytes → TakesFirst old before bytes i → Live before
     → ((more : List ℕ) → Follows before (get_or bytes i 0 ∷ more) ↔ Follows new more) → Dead new → Breaks old new bytes i
-breaks_at old before new bytes i less takes live same dead =
-    let next : TakesFirst old new bytes (i + 1) = takes_next old before new bytes i less takes same in
+breaks_at old before new bytes i less consumes live same dead =
+    let next : TakesFirst old new bytes (i + 1) = takes_next old before new bytes i less consumes same in
     let front_of : (taken : List ℕ) (n : ℕ) → take (length taken + n) (taken ++ bytes) ≡ taken ++ take n bytes = λ taken n. take-append-add taken bytes n in
     let whole : (taken : List ℕ) → (taken ++ take (i + 1) bytes) ++ drop (i + 1) bytes ≡ taken ++ bytes =
     λ taken. append_assoc taken (take (i + 1) bytes) (drop (i + 1) bytes) ∙ ap (λ (piece : List ℕ). taken ++ piece) (take-append-drop (i + 1) bytes) in
-    let good : (taken : List ℕ) → HasValidated old taken → BeginsText (taken ++ take i bytes) = λ taken has. begins_live before (taken ++ take i bytes) (takes taken has) live in
+    let good : (taken : List ℕ) → HasValidated old taken → BeginsText (taken ++ take i bytes) = λ taken has. begins_live before (taken ++ take i bytes) (consumes taken has) live in
     let bad : (taken : List ℕ) → HasValidated old taken → ¬ (BeginsText (taken ++ take (i + 1) bytes)) = λ taken has. ends_dead new (taken ++ take (i + 1) bytes) (next taken has) dead in
     record {
       taken = λ taken has. subst (HasValidated new) (whole taken) (stays_dead new (taken ++ take (i + 1) bytes) (drop (i + 1) bytes) (next taken has) dead);
@@ -74,7 +74,7 @@ breaks_at old before new bytes i less takes live same dead =
       later = λ taken has ends. absurd (ends (begins_front taken (take i bytes) (good taken has)));
     }
 
--- a text, where text was taken
+-- Text, after text.
 
 pub takes_text : (state : State) (text : List ℕ) → ((taken : List ℕ) → HasValidated state taken → IsText taken) → IsText text → Validates state state text
 takes_text state text whole is_text =
@@ -82,14 +82,14 @@ takes_text state text whole is_text =
     record {
       taken = λ taken has. record {
         continues = λ more. (
-          λ joined. (has.continues more).0 (text-append taken more (whole taken has) (text_behind (taken ++ text) more (both taken has) joined)),
-          λ follows. text-append (taken ++ text) more (both taken has) (text_behind taken more (whole taken has) ((has.continues more).1 follows)),
+          λ joined. (has.continues more).0 (text-append taken more (whole taken has) (text_after (taken ++ text) more (both taken has) joined)),
+          λ follows. text-append (taken ++ text) more (both taken has) (text_after taken more (whole taken has) ((has.continues more).1 follows)),
         );
       };
       begins = λ taken has. text_begins (taken ++ text) (both taken has);
     }
 
--- one piece behind another
+-- One piece after another.
 
 pub takes_then_takes : (old mid new : State) (front back bytes : List ℕ) → bytes ≡ front ++ back → Validates old mid front → Validates mid new back → Validates old new bytes
 takes_then_takes old mid new front back bytes joined first second =
@@ -124,16 +124,16 @@ breaks_then old new front back bytes i joined first =
       later = first.later;
     }
 
--- the answer for the back, its place counted from where the front begins
+-- The result for the second piece, with its offset counted from the start of the first.
 
 abbrev pub Shifted : {T : Type 0} → Result T ℕ → Result T ℕ → ℕ → Type 0
 Shifted answer shifted n = MatchResult answer (λ x. shifted ≡ Ok x) (λ i. shifted ≡ Err (n + i))
 
-pub answers_behind : {T : Type 0} (old mid new : State) (front back bytes : List ℕ) (answer shifted : Result T ℕ) → bytes ≡ front ++ back → Validates old mid front → Shifted answer shifted (length front)
+pub answers_after : {T : Type 0} (old mid new : State) (front back bytes : List ℕ) (answer shifted : Result T ℕ) → bytes ≡ front ++ back → Validates old mid front → Shifted answer shifted (length front)
     → MatchResult answer (λ _. Validates mid new back) (Breaks mid new back) → MatchResult shifted (λ _. Validates old new bytes) (Breaks old new bytes)
-answers_behind old mid new front back bytes (Ok x) shifted joined first is second =
+answers_after old mid new front back bytes (Ok x) shifted joined first is second =
     subst (λ (r : Result _ ℕ). MatchResult r (λ _. Validates old new bytes) (Breaks old new bytes)) (sym is) (takes_then_takes old mid new front back bytes joined first second)
-answers_behind old mid new front back bytes (Err i) shifted joined first is second =
+answers_after old mid new front back bytes (Err i) shifted joined first is second =
     subst (λ (r : Result _ ℕ). MatchResult r (λ _. Validates old new bytes) (Breaks old new bytes)) (sym is) (takes_then_breaks old mid new front back bytes i joined first second)
 
 pub answers_before : {T : Type 0} (old new : State) (front back bytes : List ℕ) (answer : Result T ℕ) (i : ℕ) → bytes ≡ front ++ back → answer ≡ Err i → Breaks old new front i
@@ -141,24 +141,24 @@ pub answers_before : {T : Type 0} (old new : State) (front back bytes : List ℕ
 answers_before old new front back bytes answer i joined is first =
     subst (λ (r : Result _ ℕ). MatchResult r (λ _. Validates old new bytes) (Breaks old new bytes)) (sym is) (breaks_then old new front back bytes i joined first)
 
--- what `feed` says of its answer
+-- What `feed` says of its result.
 
 pub taken_of : {T : Type 0} (old new : State) (piece : List ℕ) (answer : Result T ℕ) → MatchResult answer (λ _. Validates old new piece) (Breaks old new piece)
     → (taken : List ℕ) → HasValidated old taken → HasValidated new (taken ++ piece)
-taken_of old new piece (Ok x) takes taken has = takes.taken taken has
+taken_of old new piece (Ok x) consumes taken has = consumes.taken taken has
 taken_of old new piece (Err i) breaks taken has = breaks.taken taken has
 
 pub ok_of : {T : Type 0} (old new : State) (piece : List ℕ) (answer : Result T ℕ) → MatchResult answer (λ _. Validates old new piece) (Breaks old new piece)
     → (taken : List ℕ) → HasValidated old taken → IsOk answer ↔ BeginsText (taken ++ piece)
-ok_of old new piece (Ok x) takes taken has = (λ ok. takes.begins taken has, λ begins. refl)
+ok_of old new piece (Ok x) consumes taken has = (λ ok. consumes.begins taken has, λ begins. refl)
 ok_of old new piece (Err i) breaks taken has = (λ ok. cc, λ begins. absurd (breaks.ends taken has begins))
 
 pub first_bad_of : {T : Type 0} (old new : State) (piece : List ℕ) (answer : Result T ℕ) → MatchResult answer (λ _. Validates old new piece) (Breaks old new piece)
     → (taken : List ℕ) → HasValidated old taken → BeginsText taken → IfErr answer (λ i. IsFirstBad (taken ++ piece) (length taken + i))
-first_bad_of old new piece (Ok x) takes taken has begins = tt
+first_bad_of old new piece (Ok x) consumes taken has begins = tt
 first_bad_of old new piece (Err i) breaks taken has begins = breaks.first taken has begins
 
 pub after_bad_of : {T : Type 0} (old new : State) (piece : List ℕ) (answer : Result T ℕ) → MatchResult answer (λ _. Validates old new piece) (Breaks old new piece)
     → (taken : List ℕ) → HasValidated old taken → ¬ (BeginsText taken) → answer ≡ Err 0
-after_bad_of old new piece (Ok x) takes taken has ends = absurd (ends (begins_front taken piece (takes.begins taken has)))
+after_bad_of old new piece (Ok x) consumes taken has ends = absurd (ends (begins_front taken piece (consumes.begins taken has)))
 after_bad_of old new piece (Err i) breaks taken has ends = ap (λ (n : ℕ). Err n) (breaks.later taken has ends)

@@ -1,9 +1,10 @@
--- The ranges of the bytes that each state of a `Utf8` expects.
+-- The states of a `Utf8`, and the ranges of the bytes that each state expects.
 use Rattle.std.specs.Prelude.{◌≡◌, ◌==◌, if◌then◌else◌, List, [], ◌∷◌, Option, Some, None, refl}
 use Rattle.wsn_text.specs.Utf8.{Range, ◌–◌}
-use Rattle.wsn_text.specs.declared.pieces.Expected.{Expected}
-use Rattle.wsn_text.specs.declared.pieces.Expected.TheVariants.{Character, One, Two, TwoFromA0, TwoUpTo9F, Three, ThreeFrom90, ThreeUpTo8F, Nothing}
+use Rattle.wsn_text.specs.declared.utf8_check.Expected.{Expected}
+use Rattle.wsn_text.specs.declared.utf8_check.Expected.TheVariants.{Character, One, Two, TwoFromA0, TwoUpTo9F, Three, ThreeFrom90, ThreeUpTo8F, Nothing}
 
+-- The ranges of the bytes that the last character still needs; none at all after a bad byte.
 abbrev pub awaited : Expected → Option (List Range)
 awaited Character = Some []
 awaited One = Some ((0x80 – 0xBF) ∷ [])
@@ -24,6 +25,7 @@ expecting (Some (r ∷ s ∷ [])) = if r.low == 0xA0 then TwoFromA0 else (if r.h
 expecting (Some (r ∷ s ∷ t ∷ row)) =
     if r.low == 0x90 then ThreeFrom90 else (if r.high == 0x8F then ThreeUpTo8F else Three)
 
+-- A state is the one that expects its ranges.
 pub expecting-awaited : (expected : Expected) → expecting (awaited expected) ≡ expected
 expecting-awaited Character = refl
 expecting-awaited One = refl

@@ -1,15 +1,15 @@
-//! UTF-8 that comes in pieces, and close codes (RFC 6455 sections 5.6, 7.4 and 8.1).
+//! UTF-8 in chunks, and close codes (RFC 6455 sections 5.6, 7.4 and 8.1).
 //!
-//! [`Utf8`] takes text piece by piece and names the first bad byte. [`code_allowed`] tells which codes a Close may
-//! carry.
+//! [`Utf8`] validates text chunk by chunk and returns the offset of the first bad byte. [`code_allowed`] decides
+//! whether a Close may have a code.
 //!
-//! `specs/Utf8.antt` defines text by the Unicode Standard's table, `specs/Validated.antt` what a `Utf8` knows of the
-//! bytes that it has taken, and `specs/CloseBody.antt` what a Close may hold. [`laws`] has facts of these definitions.
+//! `specs/Utf8.antt` defines text by the Unicode Standard's table, `specs/Validated.antt` the state of a `Utf8` after
+//! bytes, and `specs/CloseBody.antt` the body of a Close. [`laws`] states what follows from these definitions.
 #![tactic(auto)]
 
 mod codes;
 pub mod laws;
-mod pieces;
+mod utf8_check;
 
 pub use codes::code_allowed;
-pub use pieces::Utf8;
+pub use utf8_check::Utf8;

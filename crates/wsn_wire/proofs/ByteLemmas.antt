@@ -1,4 +1,4 @@
--- Bits of a byte that are tested by a mask, as the fields of a head.
+-- The fields of a head as bits of a byte under a mask.
 use Rattle.std.proofs.Common.{◌≡◌, ℕ, ◌<◌, refl, bit_and, nat_eq, not, sym, ◌∙◌, arith, inl, inr, ◌%◌}
 use Rattle.std.proofs.lemmas.Bool.{agree_below_at, eq-eqb, eqb-true, cases_eq}
 use Rattle.std.proofs.lemmas.Nat.{and_mask}
@@ -10,7 +10,7 @@ opcode_mask byte = and_mask byte 4
 pub length_mask : (byte : ℕ) → bit_and byte 127 ≡ byte % 128
 length_mask byte = and_mask byte 7
 
--- the highest bit is FIN, and MASK
+-- The highest bit is FIN, or MASK.
 pub top_mask : (byte : ℕ) → byte < 256 → not (nat_eq (bit_and byte 128) 0) ≡ fin_bit byte
 top_mask byte below = agree_below_at (λ b. not (nat_eq (bit_and b 128) 0)) fin_bit 256 byte refl below
 

@@ -1,4 +1,4 @@
--- A frame's bytes are read back as the frame.
+-- Reading a frame's bytes gives the frame.
 use Rattle.std.proofs.Common.{◌≡◌, ℕ, ◌+◌, ◌%◌, ◌<◌, ◌≤◌, ◌^◌, Bool, true, false, Option, Some, None, List, [], ◌∷◌, ◌++◌, length, refl, ap, sym, ◌∙◌, arith, zero-add, inl, inr, nat_lt, if◌then◌else◌}
 use Rattle.std.specs.Prelude.{is_some, ◌==◌, IfSome}
 use Rattle.std.proofs.lemmas.List.{append_assoc}
@@ -6,17 +6,17 @@ use Rattle.std.proofs.lemmas.Nat.{from_be_bytes-to_be_bytes_2, from_be_bytes-to_
 use Rattle.std.proofs.lemmas.Bool.{lt-ltb, le-ltb, lt-leb, le-leb, cases_lt}
 use Rattle.wsn_wire.specs.declared.opcode.Op.{Op}
 use Rattle.wsn_wire.specs.declared.opcode.Op.TheVariants.{Continue, Text, Binary, Close, Ping, Pong}
-use Rattle.wsn_wire.specs.declared.spelling.Form.{Form}
-use Rattle.wsn_wire.specs.declared.spelling.Form.TheVariants as form
-use Rattle.wsn_wire.specs.declared.spelling.LenForm.{LenForm}
-use Rattle.wsn_wire.specs.declared.spelling.LenForm.TheVariants as len_form
-use Rattle.wsn_wire.specs.Frame.{Frame, opcode, first_byte, second_byte, length_bytes, len_form_of, key_bytes, wire_payload, frame_bytes, IsBytes, IsKey, FormFits, IsSpellable}
-use Rattle.wsn_wire.specs.Layout.{fin_bit, reserved_bits, opcode_field, mask_bit, len_form_at, length_count, length_told, key_count, HasLayout}
+use Rattle.wsn_wire.specs.declared.length_forms.Form.{Form}
+use Rattle.wsn_wire.specs.declared.length_forms.Form.TheVariants as form
+use Rattle.wsn_wire.specs.declared.length_forms.LenForm.{LenForm}
+use Rattle.wsn_wire.specs.declared.length_forms.LenForm.TheVariants as len_form
+use Rattle.wsn_wire.specs.Frame.{Frame, opcode, first_byte, second_byte, length_bytes, len_form_of, key_bytes, wire_payload, frame_bytes, IsBytes, IsKey, FormFits, IsEncodable}
+use Rattle.wsn_wire.specs.Layout.{fin_bit, reserved_bits, opcode_field, mask_bit, len_form_at, length_count, encoded_length, key_count, HasLayout}
 use Rattle.wsn_wire.proofs.MaskLemmas.{masked-masked, length-masked, masked-bytes}
 
 -- ---- the first byte
 
--- its fields: no reserved bit is set
+-- The fields of the first byte: no reserved bit is set.
 pub record IsFirstByteOf (fin : Bool) (op : Op) (byte : ℕ) : Type 0 where
   pub fin_is : fin_bit byte ≡ fin
   pub unreserved : reserved_bits byte ≡ 0
@@ -37,7 +37,7 @@ first_byte_fields true Close = record { fin_is = refl; unreserved = refl; opcode
 first_byte_fields true Ping = record { fin_is = refl; unreserved = refl; opcode_is = refl; below = omega arith }
 first_byte_fields true Pong = record { fin_is = refl; unreserved = refl; opcode_is = refl; below = omega arith }
 
--- the opcode that a number is; for a reserved one any
+-- The opcode of a number that is not reserved.
 unfoldable pub op_at : ℕ → Op
 op_at n = if n == 0 then Continue else (if n == 1 then Text else (if n == 2 then Binary else (if n == 8 then Close else (if n == 9 then Ping else Pong))))
 
@@ -50,15 +50,15 @@ op_at-opcode Close = refl
 op_at-opcode Ping = refl
 op_at-opcode Pong = refl
 
--- ---- the second byte, and the length bytes
+-- ---- the second byte and the length bytes
 
--- The length form can spell the length.
+-- The length form can encode the length.
 abbrev pub Spells : LenForm → ℕ → Type 0
 Spells (len_form.Short n) len = (n ≡ len) × (n < 126)
 Spells len_form.Two len = len < 65536
 Spells len_form.Eight len = len < 2 ^ 63
 
--- its fields
+-- The fields of the second byte.
 pub record IsSecondByteOf (key : Option (List ℕ)) (f : LenForm) (byte : ℕ) : Type 0 where
   pub mask_is : mask_bit byte ≡ is_some key
   pub field_is : len_form_at byte ≡ f
@@ -85,22 +85,22 @@ second_byte_fields (Some key) len_form.Two len spells = record { mask_is = refl;
 second_byte_fields None len_form.Eight len spells = record { mask_is = refl; field_is = refl; below = omega arith }
 second_byte_fields (Some key) len_form.Eight len spells = record { mask_is = refl; field_is = refl; below = omega arith }
 
--- the length bytes: as many as the length field asks for, and they tell the length
+-- The length bytes have the number that the length field gives, and they encode the length.
 pub record AreLengthBytesOf (f : LenForm) (len : ℕ) (bytes : List ℕ) : Type 0 where
   pub count : length bytes ≡ length_count f
-  pub told : length_told f bytes ≡ len
+  pub decoded : encoded_length f bytes ≡ len
   pub all : IsBytes bytes
 
 pub length_bytes_fields : (f : LenForm) (len : ℕ) → Spells f len → AreLengthBytesOf f len (length_bytes f len)
-length_bytes_fields (len_form.Short n) len spells = record { count = refl; told = spells.0; all = tt }
-length_bytes_fields len_form.Two len spells = record { count = refl; told = from_be_bytes-to_be_bytes_2 len spells; all = (omega arith, (omega arith, tt)) }
+length_bytes_fields (len_form.Short n) len spells = record { count = refl; decoded = spells.0; all = tt }
+length_bytes_fields len_form.Two len spells = record { count = refl; decoded = from_be_bytes-to_be_bytes_2 len spells; all = (omega arith, (omega arith, tt)) }
 length_bytes_fields len_form.Eight len spells = record {
   count = refl;
-  told = from_be_bytes-to_be_bytes_8 len (omega arith);
+  decoded = from_be_bytes-to_be_bytes_8 len (omega arith);
   all = (omega arith, (omega arith, (omega arith, (omega arith, (omega arith, (omega arith, (omega arith, (omega arith, tt))))))));
 }
 
--- what the shortest form is, by the length
+-- The shortest form of each length.
 pub short-len_form_of : (len : ℕ) → len < 126 → len_form_of form.Shortest len ≡ len_form.Short len
 short-len_form_of len small = rw (lt-ltb len 126 small) refl
 
@@ -122,7 +122,7 @@ spells-len_form_of form.Shortest len fits below =
 spells-len_form_of form.Two len fits below = omega arith
 spells-len_form_of form.Eight len fits below = below
 
--- the form in which a length form spells a length
+-- The form in which a length form encodes a length.
 unfoldable pub form_at : LenForm → ℕ → Form
 form_at (len_form.Short n) len = form.Shortest
 form_at len_form.Two len = if nat_lt len 126 then form.Two else form.Shortest
@@ -155,7 +155,7 @@ pub IsBytes-right : (xs ys : List ℕ) → IsBytes (xs ++ ys) → IsBytes ys
 IsBytes-right [] ys all = all
 IsBytes-right (x ∷ xs) ys all = IsBytes-right xs ys all.1
 
--- two lists with fronts of one length
+-- Two equal lists with prefixes of equal length.
 pub fronts_agree : (xs ys us vs : List ℕ) → length xs ≡ length ys → xs ++ us ≡ ys ++ vs → (xs ≡ ys) × (us ≡ vs)
 fronts_agree [] [] us vs same e = (refl, e)
 fronts_agree [] (y ∷ ys) us vs same e = absurd (omega (arith, same))
@@ -188,7 +188,7 @@ pub wire_payload_twice : (key : Option (List ℕ)) (payload : List ℕ) → wire
 wire_payload_twice None payload = refl
 wire_payload_twice (Some key) payload = masked-masked key 0 payload
 
--- the key that the bytes after the length are, where MASK says that there is one
+-- The key, if MASK is set: the bytes after the length.
 unfoldable pub key_at : Bool → List ℕ → Option (List ℕ)
 key_at mask bytes = if mask then Some bytes else None
 
@@ -199,7 +199,7 @@ key_at-key_bytes (Some key) = refl
 
 -- ---- a frame from a layout, and back
 
--- the frame that the parts of a layout spell, where its opcode is a known one
+-- The frame of a layout's parts, if its opcode is not reserved.
 unfoldable pub frame_at : ℕ → ℕ → List ℕ → List ℕ → Frame
 frame_at first second key payload = record {
   fin = fin_bit first;
@@ -209,16 +209,16 @@ frame_at first second key payload = record {
   payload = wire_payload (key_at (mask_bit second) key) payload;
 }
 
--- the bytes of a frame have the layout
-unfoldable pub layout_of_frame : (f : Frame) → IsSpellable f → HasLayout (frame_bytes f)
-layout_of_frame f spellable =
-    let spells = spells-len_form_of f.form (length f.payload) spellable.form spellable.size in
+-- The bytes of a frame have the layout.
+unfoldable pub layout_of_frame : (f : Frame) → IsEncodable f → HasLayout (frame_bytes f)
+layout_of_frame f encodable =
+    let spells = spells-len_form_of f.form (length f.payload) encodable.form encodable.size in
     let of_first = first_byte_fields f.fin f.op in
     let of_second = second_byte_fields f.key (len_form_of f.form (length f.payload)) (length f.payload) spells in
     let of_length = length_bytes_fields (len_form_of f.form (length f.payload)) (length f.payload) spells in
     let len_bytes = length_bytes (len_form_of f.form (length f.payload)) (length f.payload) in
-    let of_key = key_bytes_all f.key spellable.key in
-    let of_payload = wire_payload_bytes f.key f.payload spellable.key spellable.payload in
+    let of_key = key_bytes_all f.key encodable.key in
+    let of_payload = wire_payload_bytes f.key f.payload encodable.key encodable.payload in
     record {
       first = first_byte f.fin f.op;
       second = second_byte f.key (len_form_of f.form (length f.payload));
@@ -230,19 +230,19 @@ layout_of_frame f spellable =
           (append_assoc (length_bytes (len_form_of f.form (length f.payload)) (length f.payload)) (key_bytes f.key) (wire_payload f.key f.payload));
       in_bytes = (of_first.below, (of_second.below, IsBytes-append _ _ (IsBytes-append _ _ of_length.all of_key) of_payload));
       len_count = of_length.count ∙ ap length_count (sym of_second.field_is);
-      key_counted = key_bytes_count f.key spellable.key ∙ ap (λ mask. if mask then 4 else 0) (sym of_second.mask_is);
-      payload_count = length-wire_payload f.key f.payload ∙ (sym of_length.told ∙ ap (λ g. length_told g len_bytes) (sym of_second.field_is));
+      key_counted = key_bytes_count f.key encodable.key ∙ ap (λ mask. if mask then 4 else 0) (sym of_second.mask_is);
+      payload_count = length-wire_payload f.key f.payload ∙ (sym of_length.decoded ∙ ap (λ g. encoded_length g len_bytes) (sym of_second.field_is));
     }
 
 pub frames_equal : (f g : Frame) → f.fin ≡ g.fin → f.op ≡ g.op → f.key ≡ g.key → f.form ≡ g.form → f.payload ≡ g.payload → f ≡ g
 frames_equal f g fin op key form payload = λ i. record { fin = fin i; op = op i; key = key i; form = form i; payload = payload i }
 
--- what is read from a frame's bytes is the frame
-pub frame_at-frame_bytes : (f : Frame) → IsSpellable f →
+-- Reading a frame's bytes gives the frame.
+pub frame_at-frame_bytes : (f : Frame) → IsEncodable f →
     frame_at (first_byte f.fin f.op) (second_byte f.key (len_form_of f.form (length f.payload))) (key_bytes f.key) (wire_payload f.key f.payload) ≡ f
 unfolding frame_at
-frame_at-frame_bytes f spellable =
-    let spells = spells-len_form_of f.form (length f.payload) spellable.form spellable.size in
+frame_at-frame_bytes f encodable =
+    let spells = spells-len_form_of f.form (length f.payload) encodable.form encodable.size in
     let of_first = first_byte_fields f.fin f.op in
     let of_second = second_byte_fields f.key (len_form_of f.form (length f.payload)) (length f.payload) spells in
     let wire = wire_payload f.key f.payload in
@@ -251,10 +251,10 @@ frame_at-frame_bytes f spellable =
     of_first.fin_is
     (ap op_at of_first.opcode_is ∙ op_at-opcode f.op)
     key_is
-    (ap (λ g. form_at g (length wire)) of_second.field_is ∙ (ap (λ n. form_at (len_form_of f.form (length f.payload)) n) (length-wire_payload f.key f.payload) ∙ form_at-len_form_of f.form (length f.payload) spellable.form))
+    (ap (λ g. form_at g (length wire)) of_second.field_is ∙ (ap (λ n. form_at (len_form_of f.form (length f.payload)) n) (length-wire_payload f.key f.payload) ∙ form_at-len_form_of f.form (length f.payload) encodable.form))
     (ap (λ key. wire_payload key wire) key_is ∙ wire_payload_twice f.key f.payload)
 
--- Two whole layouts with anything behind them, where the bytes are the same, have the same parts.
+-- If two complete layouts with bytes after them are the same bytes, their parts are equal.
 pub record SameLayout {xs ys : List ℕ} (a : HasLayout xs) (b : HasLayout ys) : Type 0 where
   pub first : a.first ≡ b.first
   pub second : a.second ≡ b.second
@@ -262,7 +262,7 @@ pub record SameLayout {xs ys : List ℕ} (a : HasLayout xs) (b : HasLayout ys) :
   pub key : a.key ≡ b.key
   pub payload : a.payload ≡ b.payload
 
--- a layout with more bytes behind it, part by part
+-- A layout with more bytes after it, part by part.
 layout_then : (xs us : List ℕ) (a : HasLayout xs) → xs ++ us ≡ a.first ∷ a.second ∷ (a.len ++ (a.key ++ (a.payload ++ us)))
 layout_then xs us a =
     ap (λ bytes. bytes ++ us) a.whole
@@ -270,21 +270,21 @@ layout_then xs us a =
 
 pub layouts_agree : (xs ys us vs : List ℕ) (a : HasLayout xs) (b : HasLayout ys) → xs ++ us ≡ ys ++ vs → SameLayout a b × (us ≡ vs)
 layouts_agree xs ys us vs a b same =
-    let behind_a = a.len ++ (a.key ++ (a.payload ++ us)) in
-    let behind_b = b.len ++ (b.key ++ (b.payload ++ vs)) in
-    let parts : a.first ∷ a.second ∷ behind_a ≡ b.first ∷ b.second ∷ behind_b = sym (layout_then xs us a) ∙ (same ∙ layout_then ys vs b) in
+    let after_a = a.len ++ (a.key ++ (a.payload ++ us)) in
+    let after_b = b.len ++ (b.key ++ (b.payload ++ vs)) in
+    let parts : a.first ∷ a.second ∷ after_a ≡ b.first ∷ b.second ∷ after_b = sym (layout_then xs us a) ∙ (same ∙ layout_then ys vs b) in
     let first : a.first ≡ b.first = cc in
     let second : a.second ≡ b.second = cc in
-    let behind : behind_a ≡ behind_b = cc in
-    let lens = fronts_agree a.len b.len (a.key ++ (a.payload ++ us)) (b.key ++ (b.payload ++ vs)) (a.len_count ∙ (ap (λ s. length_count (len_form_at s)) second ∙ sym b.len_count)) behind in
+    let following : after_a ≡ after_b = cc in
+    let lens = fronts_agree a.len b.len (a.key ++ (a.payload ++ us)) (b.key ++ (b.payload ++ vs)) (a.len_count ∙ (ap (λ s. length_count (len_form_at s)) second ∙ sym b.len_count)) following in
     let keys = fronts_agree a.key b.key (a.payload ++ us) (b.payload ++ vs) (a.key_counted ∙ (ap key_count second ∙ sym b.key_counted)) lens.1 in
-    let told : length_told (len_form_at a.second) a.len ≡ length_told (len_form_at b.second) b.len =
-    ap (λ s. length_told (len_form_at s) a.len) second ∙ ap (λ bytes. length_told (len_form_at b.second) bytes) lens.0 in
-    let payloads = fronts_agree a.payload b.payload us vs (a.payload_count ∙ (told ∙ sym b.payload_count)) keys.1 in
+    let decoded : encoded_length (len_form_at a.second) a.len ≡ encoded_length (len_form_at b.second) b.len =
+    ap (λ s. encoded_length (len_form_at s) a.len) second ∙ ap (λ bytes. encoded_length (len_form_at b.second) bytes) lens.0 in
+    let payloads = fronts_agree a.payload b.payload us vs (a.payload_count ∙ (decoded ∙ sym b.payload_count)) keys.1 in
     (record { first = first; second = second; len = lens.0; key = keys.0; payload = payloads.0 }, payloads.1)
 
--- The bytes of a frame, followed by anything, determine the frame.
-pub frame_bytes_determine : (f g : Frame) (xs ys : List ℕ) → IsSpellable f → IsSpellable g → frame_bytes f ++ xs ≡ frame_bytes g ++ ys → (f ≡ g) × (xs ≡ ys)
+-- The bytes of a frame, with any bytes after them, determine the frame.
+pub frame_bytes_determine : (f g : Frame) (xs ys : List ℕ) → IsEncodable f → IsEncodable g → frame_bytes f ++ xs ≡ frame_bytes g ++ ys → (f ≡ g) × (xs ≡ ys)
 unfolding layout_of_frame
 frame_bytes_determine f g xs ys of_f of_g same =
     let agree = layouts_agree (frame_bytes f) (frame_bytes g) xs ys (layout_of_frame f of_f) (layout_of_frame g of_g) same in

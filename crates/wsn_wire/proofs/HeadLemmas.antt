@@ -1,4 +1,4 @@
--- From a whole layout whose head shows no refusal, the frame that it spells; and a frame's head shows none.
+-- The frame of a complete layout whose head is evidence for no refusal; and no frame's head is evidence for one.
 use Rattle.std.proofs.Common.{◌≡◌, ℕ, ◌%◌, ◌<◌, ◌≤◌, ◌^◌, Bool, true, false, Option, List, ◌∷◌, ◌++◌, length, refl, ap, sym, ◌∙◌, arith, inl, inr, if◌then◌else◌, subst}
 use Rattle.std.specs.Prelude.{is_some, ◌↔◌, IfSome}
 use Rattle.std.specs.Int.{from_be_bytes, w16, w64}
@@ -9,20 +9,20 @@ use Rattle.wsn_wire.specs.declared.opcode.Op.{Op}
 use Rattle.wsn_wire.specs.declared.opcode.Op.TheVariants.{Continue, Text, Binary, Close, Ping, Pong}
 use Rattle.wsn_wire.specs.declared.endpoint.Role.{Role}
 use Rattle.wsn_wire.specs.declared.endpoint.Role.TheVariants.{Client, Server}
-use Rattle.wsn_wire.specs.declared.spelling.Form.TheVariants as form
-use Rattle.wsn_wire.specs.declared.spelling.Lengths.{Lengths}
-use Rattle.wsn_wire.specs.declared.spelling.LenForm.{LenForm}
-use Rattle.wsn_wire.specs.declared.spelling.LenForm.TheVariants as len_form
+use Rattle.wsn_wire.specs.declared.length_forms.Form.TheVariants as form
+use Rattle.wsn_wire.specs.declared.length_forms.Lengths.{Lengths}
+use Rattle.wsn_wire.specs.declared.length_forms.LenForm.{LenForm}
+use Rattle.wsn_wire.specs.declared.length_forms.LenForm.TheVariants as len_form
 use Rattle.wsn_wire.specs.declared.refusal.Reason.{Reason}
 use Rattle.wsn_wire.specs.declared.refusal.Reason.TheVariants.{ReservedBits, ReservedOpcode, ControlNotFinal, MaskMissing, MaskPresent, ControlTooLong, CloseOneByte, LengthTopBit, LengthNotMinimal}
 use Rattle.wsn_wire.specs.Frame.{Frame, opcode, is_control, first_byte, second_byte, length_field, length_bytes, len_form_of, key_bytes, wire_payload, frame_bytes, masked, IsBytes, IsKey, FormFits}
-use Rattle.wsn_wire.specs.Layout.{fin_bit, reserved_bits, opcode_field, mask_bit, len_form_at, length_count, length_told, HasLayout}
-use Rattle.wsn_wire.specs.Rows.{IsReserved, IsControlOpcode, ShownByFirst, ShownBySecond, ShownByLength, HasTopBit, IsNotMinimal, IsLong}
-use Rattle.wsn_wire.specs.Sender.{IsSpelledFor, ShowsNothing}
+use Rattle.wsn_wire.specs.Layout.{fin_bit, reserved_bits, opcode_field, mask_bit, len_form_at, length_count, encoded_length, HasLayout}
+use Rattle.wsn_wire.specs.Rows.{IsReserved, IsControlOpcode, EvidentInFirst, EvidentInSecond, EvidentInLength, HasTopBit, IsNotMinimal, IsLong}
+use Rattle.wsn_wire.specs.Sender.{IsEncodedFor, HeadHasNoEvidence}
 use Rattle.wsn_wire.proofs.MaskLemmas.{at-All}
 use Rattle.wsn_wire.proofs.FrameLemmas.{op_at, form_at, key_at, frame_at, Spells, short-len_form_of, two-len_form_of, eight-len_form_of, IsBytes-left, IsBytes-right, length-wire_payload, wire_payload_bytes, wire_payload_twice, IsFirstByteOf, first_byte_fields, second_byte_fields, length_bytes_fields, spells-len_form_of}
 
--- ---- the fields, put together again
+-- ---- bytes from their fields
 
 ten_left : (n : ℕ) → n < 16 → (IsReserved n → ⊥) → (n ≡ 0 → ⊥) → (n ≡ 1 → ⊥) → (n ≡ 2 → ⊥) → (n ≡ 8 → ⊥) → (n ≡ 9 → ⊥) → n ≡ 10
 ten_left n low known no0 no1 no2 no8 no9 =
@@ -79,11 +79,9 @@ second_byte-fields second key byte keyed =
       | inr more ↦ rw (keyed, le-leb 128 second more, field) (omega arith)
     ]
 
--- the opcode is one of six
+-- ---- the length bytes, read and written again
 
--- ---- the length bytes, told and written again
-
--- a length in the second byte is at most 125
+-- A length in the second byte is at most 125.
 abbrev pub IsField : LenForm → Type 0
 IsField (len_form.Short n) = n < 126
 IsField len_form.Two = Unit {0}
@@ -99,10 +97,10 @@ len_form_at_field second =
       ]
     ]
 
-pub length_bytes-length_told : (f : LenForm) (bytes : List ℕ) → IsBytes bytes → length bytes ≡ length_count f → length_bytes f (length_told f bytes) ≡ bytes
-length_bytes-length_told (len_form.Short n) bytes all count = sym (nil_from_length bytes count)
-length_bytes-length_told len_form.Two bytes all count = be_bytes_2 bytes _ count (at-All (λ b. b < 256) (omega arith) bytes all) refl
-length_bytes-length_told len_form.Eight bytes all count = be_bytes_8 bytes _ count (at-All (λ b. b < 256) (omega arith) bytes all) refl
+pub length_bytes-encoded_length : (f : LenForm) (bytes : List ℕ) → IsBytes bytes → length bytes ≡ length_count f → length_bytes f (encoded_length f bytes) ≡ bytes
+length_bytes-encoded_length (len_form.Short n) bytes all count = sym (nil_from_length bytes count)
+length_bytes-encoded_length len_form.Two bytes all count = be_bytes_2 bytes _ count (at-All (λ b. b < 256) (omega arith) bytes all) refl
+length_bytes-encoded_length len_form.Eight bytes all count = be_bytes_8 bytes _ count (at-All (λ b. b < 256) (omega arith) bytes all) refl
 
 two_bytes_below : (bytes : List ℕ) → IsBytes bytes → from_be_bytes w16 bytes < 65536
 two_bytes_below bytes all =
@@ -110,13 +108,13 @@ two_bytes_below bytes all =
     let low = at-All (λ b. b < 256) (omega arith) bytes all 1 in
     omega (arith, high, low)
 
-pub spells-length_told : (f : LenForm) (bytes : List ℕ) → IsField f → IsBytes bytes → (HasTopBit f (length_told f bytes) → ⊥) → Spells f (length_told f bytes)
-spells-length_told (len_form.Short n) bytes field all no_top = (refl, field)
-spells-length_told len_form.Two bytes field all no_top = two_bytes_below bytes all
-spells-length_told len_form.Eight bytes field all no_top =
+pub spells-encoded_length : (f : LenForm) (bytes : List ℕ) → IsField f → IsBytes bytes → (HasTopBit f (encoded_length f bytes) → ⊥) → Spells f (encoded_length f bytes)
+spells-encoded_length (len_form.Short n) bytes field all no_top = (refl, field)
+spells-encoded_length len_form.Two bytes field all no_top = two_bytes_below bytes all
+spells-encoded_length len_form.Eight bytes field all no_top =
     elim (cases_lt (from_be_bytes w64 bytes) (2 ^ 63)) [ inl below ↦ below | inr above ↦ absurd (no_top above) ]
 
--- the form that a length form has is the one that spells so, and may
+-- The form of a length form encodes the length in it, and fits the length.
 pub len_form_of-form_at : (f : LenForm) (len : ℕ) → Spells f len → (len_form_of (form_at f len) len ≡ f) × FormFits (form_at f len) len × (len < 2 ^ 63)
 unfolding form_at
 len_form_of-form_at (len_form.Short n) len spells = (rw (short-len_form_of len (omega arith), spells.0) refl, tt, omega arith)
@@ -134,7 +132,7 @@ len_form_of-form_at len_form.Eight len spells =
 not_below : (n most : ℕ) → (n < most → ⊥) → most ≤ n
 not_below n most not = elim (cases_lt n most) [ inl below ↦ absurd (not below) | inr above ↦ above ]
 
--- ---- what a head that shows no refusal says of its frame
+-- ---- the frame of a head that is evidence for no refusal
 
 form_at_minimal : (f : LenForm) (len : ℕ) → (IsNotMinimal f len → ⊥) → form_at f len ≡ form.Shortest
 unfolding form_at
@@ -161,7 +159,7 @@ control_opcode Close control = (omega arith, omega arith)
 control_opcode Ping control = (omega arith, omega arith)
 control_opcode Pong control = (omega arith, omega arith)
 
--- the key of the frame is there exactly if MASK is set, and is the bytes of the layout
+-- The frame has a key exactly if MASK is set, and it is the layout's key bytes.
 key_at_parts : (mask : Bool) (key : List ℕ) → length key ≡ (if mask then 4 else 0) → IsBytes key →
     (is_some (key_at mask key) ≡ mask) × (key_bytes (key_at mask key) ≡ key) × IfSome (key_at mask key) IsKey
 unfolding key_at
@@ -173,7 +171,7 @@ unfolding key_at
 wire_payload-key_at true key payload = refl
 wire_payload-key_at false key payload = refl
 
--- FIN is set on a control frame
+-- FIN is set on a control frame.
 final_control : (fin : Bool) → (fin ≡ false → ⊥) → fin ≡ true
 final_control true set = refl
 final_control false set = absurd (set refl)
@@ -184,19 +182,19 @@ masked_for Client false present absent = absurd (present (refl, refl))
 masked_for Server true present absent = absurd (absent (refl, refl))
 masked_for Server false present absent = ((λ is. absurd (false≢true is)), (λ is. cc))
 
--- The frame that a layout spells: it is as its sender must spell it, and its bytes are the layout's.
+-- The frame of a layout: it is encoded as its sender must, and its bytes are the layout's.
 pub record IsSpelledBy (role : Role) (lengths : Lengths) {bytes : List ℕ} (l : HasLayout bytes) (f : Frame) : Type 0 where
-  pub owed : IsSpelledFor role lengths f
+  pub owed : IsEncodedFor role lengths f
   pub bytes_are : frame_bytes f ≡ bytes
   pub fin_is : f.fin ≡ fin_bit l.first
   pub opcode_is : opcode f.op ≡ opcode_field l.first
   pub key_is : is_some f.key ≡ mask_bit l.second
   pub key_bytes_are : key_bytes f.key ≡ l.key
   pub payload_is : f.payload ≡ (if mask_bit l.second then masked l.key 0 l.payload else l.payload)
-  pub length_is : length f.payload ≡ length_told (len_form_at l.second) l.len
+  pub length_is : length f.payload ≡ encoded_length (len_form_at l.second) l.len
 
--- A whole layout whose head shows no row is the bytes of a frame.
-pub frame_of_layout : (role : Role) (lengths : Lengths) (bytes : List ℕ) (l : HasLayout bytes) → ShowsNothing role lengths l.first l.second l.len →
+-- A complete layout whose head is evidence for no refusal is the bytes of a frame.
+pub frame_of_layout : (role : Role) (lengths : Lengths) (bytes : List ℕ) (l : HasLayout bytes) → HeadHasNoEvidence role lengths l.first l.second l.len →
     IsSpelledBy role lengths l (frame_at l.first l.second l.key l.payload)
 unfolding frame_at
 frame_of_layout role lengths bytes l shows =
@@ -206,9 +204,9 @@ frame_of_layout role lengths bytes l shows =
     let all_payload = IsBytes-right l.key l.payload (IsBytes-right l.len (l.key ++ l.payload) all.1.1) in
     let count = length l.payload in
     let field = len_form_at l.second in
-    let told = spells-length_told (len_form_at l.second) l.len (len_form_at_field l.second) all_len (shows.by_length LengthTopBit) in
-    let spells : Spells (len_form_at l.second) (length l.payload) = subst (λ n. Spells (len_form_at l.second) n) (sym l.payload_count) told in
-    let spelled = len_form_of-form_at (len_form_at l.second) (length l.payload) spells in
+    let decoded = spells-encoded_length (len_form_at l.second) l.len (len_form_at_field l.second) all_len (shows.by_length LengthTopBit) in
+    let spells : Spells (len_form_at l.second) (length l.payload) = subst (λ n. Spells (len_form_at l.second) n) (sym l.payload_count) decoded in
+    let encoded = len_form_of-form_at (len_form_at l.second) (length l.payload) spells in
     let form_is = form_at (len_form_at l.second) (length l.payload) in
     let key = key_at (mask_bit l.second) l.key in
     let keyed = key_at_parts (mask_bit l.second) l.key l.key_counted all_key in
@@ -223,21 +221,21 @@ frame_of_layout role lengths bytes l shows =
     let first_is = first_byte-fields l.first all.0 unreserved (shows.by_first ReservedOpcode) in
     let second_is : second_byte key (len_form_of form_is (length payload)) ≡ l.second =
     ap (λ n. second_byte key (len_form_of form_is n)) size
-    ∙ (ap (λ g. second_byte key g) spelled.0 ∙ second_byte-fields l.second key all.1.0 keyed.0) in
+    ∙ (ap (λ g. second_byte key g) encoded.0 ∙ second_byte-fields l.second key all.1.0 keyed.0) in
     let len_is : length_bytes (len_form_of form_is (length payload)) (length payload) ≡ l.len =
     ap (λ n. length_bytes (len_form_of form_is n) n) size
-    ∙ (ap (λ g. length_bytes g count) spelled.0
-    ∙ (ap (λ n. length_bytes field n) l.payload_count ∙ length_bytes-length_told field l.len all_len l.len_count)) in
+    ∙ (ap (λ g. length_bytes g count) encoded.0
+    ∙ (ap (λ n. length_bytes field n) l.payload_count ∙ length_bytes-encoded_length field l.len all_len l.len_count)) in
     let payload_is = wire_payload_twice key l.payload in
     let parts : frame_bytes (frame_at l.first l.second l.key l.payload) ≡ l.first ∷ l.second ∷ (l.len ++ l.key ++ l.payload) =
     λ i. first_is i ∷ second_is i ∷ (len_is i ++ keyed.1 i ++ payload_is i) in
     record {
       owed = record {
-        spellable = record {
+        encodable = record {
           key = keyed.2;
           payload = wire_payload_bytes key l.payload keyed.2 all_payload;
-          size = rw size spelled.2;
-          form = subst (λ n. FormFits form_is n) (sym size) spelled.1;
+          size = rw size encoded.2;
+          form = subst (λ n. FormFits form_is n) (sym size) encoded.1;
         };
         masked = subst (λ some. (some ≡ true) ↔ (role ≡ Client)) (sym keyed.0) (masked_for role (mask_bit l.second) (shows.by_second MaskMissing) (shows.by_second MaskPresent));
         shortest = λ only. form_at_minimal field count (λ not. shows.by_length LengthNotMinimal (only, subst (λ n. IsNotMinimal field n) l.payload_count not));
@@ -257,7 +255,7 @@ frame_of_layout role lengths bytes l shows =
       length_is = size ∙ l.payload_count;
     }
 
--- ---- a frame that is spelled as its sender must spell it shows no row by its head
+-- ---- a frame that is encoded as its sender must: its head is evidence for no refusal
 
 unreserved_opcode : (op : Op) → IsReserved (opcode op) → ⊥
 unreserved_opcode Continue (inl is) = omega (arith, is)
@@ -307,44 +305,44 @@ below_top (len_form.Short n) len below top = top
 below_top len_form.Two len below top = top
 below_top len_form.Eight len below top = omega arith
 
-pub first_shows_nothing : (fin : Bool) (op : Op) (first : ℕ) → IsFirstByteOf fin op first → (is_control op ≡ true → fin ≡ true) → (r : Reason) → ShownByFirst r first → ⊥
-first_shows_nothing fin op first fields final ReservedBits shown = omega (arith, shown, fields.unreserved)
-first_shows_nothing fin op first fields final ReservedOpcode shown = unreserved_opcode op (subst IsReserved fields.opcode_is shown)
-first_shows_nothing fin op first fields final ControlNotFinal shown =
-    let is_final : fin ≡ true = final (control_from_opcode op (subst IsControlOpcode fields.opcode_is shown.0)) in
-    false≢true (sym shown.1 ∙ (fields.fin_is ∙ is_final))
-first_shows_nothing fin op first fields final _ shown = shown
+pub first_shows_nothing : (fin : Bool) (op : Op) (first : ℕ) → IsFirstByteOf fin op first → (is_control op ≡ true → fin ≡ true) → (r : Reason) → EvidentInFirst r first → ⊥
+first_shows_nothing fin op first fields final ReservedBits is_evident = omega (arith, is_evident, fields.unreserved)
+first_shows_nothing fin op first fields final ReservedOpcode is_evident = unreserved_opcode op (subst IsReserved fields.opcode_is is_evident)
+first_shows_nothing fin op first fields final ControlNotFinal is_evident =
+    let is_final : fin ≡ true = final (control_from_opcode op (subst IsControlOpcode fields.opcode_is is_evident.0)) in
+    false≢true (sym is_evident.1 ∙ (fields.fin_is ∙ is_final))
+first_shows_nothing fin op first fields final _ is_evident = is_evident
 
-pub second_shows_nothing : (role : Role) (lengths : Lengths) (f : Frame) → IsSpelledFor role lengths f → (first second : ℕ) →
+pub second_shows_nothing : (role : Role) (lengths : Lengths) (f : Frame) → IsEncodedFor role lengths f → (first second : ℕ) →
     opcode_field first ≡ opcode f.op → mask_bit second ≡ is_some f.key → len_form_at second ≡ len_form_of f.form (length f.payload) →
-    (r : Reason) → ShownBySecond role r first second → ⊥
-second_shows_nothing role lengths f owed first second op mask field MaskMissing shown = false≢true (sym shown.1 ∙ (mask ∙ owed.masked.1 shown.0))
-second_shows_nothing role lengths f owed first second op mask field MaskPresent shown =
-    let client : role ≡ Client = owed.masked.0 (sym mask ∙ shown.1) in
-    let server : role ≡ Server = shown.0 in
+    (r : Reason) → EvidentInSecond role r first second → ⊥
+second_shows_nothing role lengths f owed first second op mask field MaskMissing is_evident = false≢true (sym is_evident.1 ∙ (mask ∙ owed.masked.1 is_evident.0))
+second_shows_nothing role lengths f owed first second op mask field MaskPresent is_evident =
+    let client : role ≡ Client = owed.masked.0 (sym mask ∙ is_evident.1) in
+    let server : role ≡ Server = is_evident.0 in
     cc
-second_shows_nothing role lengths f owed first second op mask field ControlTooLong shown =
-    let law = owed.control (control_from_opcode f.op (subst IsControlOpcode op shown.0)) in
-    let spelled : len_form_at second ≡ len_form_of form.Shortest (length f.payload) = field ∙ ap (λ g. len_form_of g (length f.payload)) law.shortest in
-    (short_is (length f.payload) law.short).0 (subst IsLong spelled shown.1)
-second_shows_nothing role lengths f owed first second op mask field CloseOneByte shown =
-    let is_close = close_from_opcode f.op (sym op ∙ shown.0) in
+second_shows_nothing role lengths f owed first second op mask field ControlTooLong is_evident =
+    let law = owed.control (control_from_opcode f.op (subst IsControlOpcode op is_evident.0)) in
+    let encoded : len_form_at second ≡ len_form_of form.Shortest (length f.payload) = field ∙ ap (λ g. len_form_of g (length f.payload)) law.shortest in
+    (short_is (length f.payload) law.short).0 (subst IsLong encoded is_evident.1)
+second_shows_nothing role lengths f owed first second op mask field CloseOneByte is_evident =
+    let is_close = close_from_opcode f.op (sym op ∙ is_evident.0) in
     let law = owed.control (ap is_control is_close) in
-    let spelled : len_form_at second ≡ len_form_of form.Shortest (length f.payload) = field ∙ ap (λ g. len_form_of g (length f.payload)) law.shortest in
-    owed.close is_close ((short_is (length f.payload) law.short).1 1 (sym spelled ∙ shown.1))
-second_shows_nothing role lengths f owed first second op mask field _ shown = shown
+    let encoded : len_form_at second ≡ len_form_of form.Shortest (length f.payload) = field ∙ ap (λ g. len_form_of g (length f.payload)) law.shortest in
+    owed.close is_close ((short_is (length f.payload) law.short).1 1 (sym encoded ∙ is_evident.1))
+second_shows_nothing role lengths f owed first second op mask field _ is_evident = is_evident
 
-pub length_shows_nothing : (role : Role) (lengths : Lengths) (f : Frame) → IsSpelledFor role lengths f → (g : LenForm) (bytes : List ℕ) →
-    g ≡ len_form_of f.form (length f.payload) → length_told g bytes ≡ length f.payload →
-    (r : Reason) → ShownByLength lengths r g bytes → ⊥
-length_shows_nothing role lengths f owed g bytes field told LengthTopBit shown = below_top g (length f.payload) owed.spellable.size (subst (λ n. HasTopBit g n) told shown)
-length_shows_nothing role lengths f owed g bytes field told LengthNotMinimal shown =
-    let spelled : g ≡ len_form_of form.Shortest (length f.payload) = field ∙ ap (λ h. len_form_of h (length f.payload)) (owed.shortest shown.0) in
-    minimal_is (length f.payload) (subst (λ h. IsNotMinimal h (length f.payload)) spelled (subst (λ n. IsNotMinimal g n) told shown.1))
-length_shows_nothing role lengths f owed g bytes field told _ shown = shown
+pub length_shows_nothing : (role : Role) (lengths : Lengths) (f : Frame) → IsEncodedFor role lengths f → (g : LenForm) (bytes : List ℕ) →
+    g ≡ len_form_of f.form (length f.payload) → encoded_length g bytes ≡ length f.payload →
+    (r : Reason) → EvidentInLength lengths r g bytes → ⊥
+length_shows_nothing role lengths f owed g bytes field decoded LengthTopBit is_evident = below_top g (length f.payload) owed.encodable.size (subst (λ n. HasTopBit g n) decoded is_evident)
+length_shows_nothing role lengths f owed g bytes field decoded LengthNotMinimal is_evident =
+    let encoded : g ≡ len_form_of form.Shortest (length f.payload) = field ∙ ap (λ h. len_form_of h (length f.payload)) (owed.shortest is_evident.0) in
+    minimal_is (length f.payload) (subst (λ h. IsNotMinimal h (length f.payload)) encoded (subst (λ n. IsNotMinimal g n) decoded is_evident.1))
+length_shows_nothing role lengths f owed g bytes field decoded _ is_evident = is_evident
 
-pub frame_shows_nothing : (role : Role) (lengths : Lengths) (f : Frame) → IsSpelledFor role lengths f →
-    ShowsNothing role lengths
+pub frame_shows_nothing : (role : Role) (lengths : Lengths) (f : Frame) → IsEncodedFor role lengths f →
+    HeadHasNoEvidence role lengths
     (first_byte f.fin f.op)
     (second_byte f.key (len_form_of f.form (length f.payload)))
     (length_bytes (len_form_of f.form (length f.payload)) (length f.payload))
@@ -352,17 +350,17 @@ frame_shows_nothing role lengths f owed =
     let first = first_byte f.fin f.op in
     let second = second_byte f.key (len_form_of f.form (length f.payload)) in
     let bytes = length_bytes (len_form_of f.form (length f.payload)) (length f.payload) in
-    let spells = spells-len_form_of f.form (length f.payload) owed.spellable.form owed.spellable.size in
+    let spells = spells-len_form_of f.form (length f.payload) owed.encodable.form owed.encodable.size in
     let of_first = first_byte_fields f.fin f.op in
     let of_second = second_byte_fields f.key (len_form_of f.form (length f.payload)) (length f.payload) spells in
     let of_length = length_bytes_fields (len_form_of f.form (length f.payload)) (length f.payload) spells in
     record {
       by_first = first_shows_nothing f.fin f.op first of_first (λ control. (owed.control control).final);
       by_second = second_shows_nothing role lengths f owed first second of_first.opcode_is of_second.mask_is of_second.field_is;
-      by_length = length_shows_nothing role lengths f owed (len_form_at second) bytes of_second.field_is (ap (λ g. length_told g bytes) of_second.field_is ∙ of_length.told);
+      by_length = length_shows_nothing role lengths f owed (len_form_at second) bytes of_second.field_is (ap (λ g. encoded_length g bytes) of_second.field_is ∙ of_length.decoded);
     }
 
--- a byte is what its fields are put together to
+-- A byte, from its fields.
 pub first_byte-parts : (fin : Bool) (op : Op) (byte : ℕ) → IsFirstByteOf fin op byte → byte ≡ first_byte fin op
 first_byte-parts false op byte fields = let low : byte < 128 = leb-false 128 byte fields.fin_is in omega (arith, fields.unreserved, fields.opcode_is)
 first_byte-parts true op byte fields = let high : 128 ≤ byte = leb-true 128 byte fields.fin_is in omega (arith, fields.unreserved, fields.opcode_is, fields.below)

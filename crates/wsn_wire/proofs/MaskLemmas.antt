@@ -1,4 +1,4 @@
--- Masking: of joined bytes, twice, by a key of zeros, and what it keeps.
+-- Masking: in parts, twice, with a key of zeros, and what it leaves as it was.
 use Rattle.std.proofs.Common.{◌≡◌, ℕ, zero, suc, ◌+◌, ◌%◌, ◌<◌, List, [], ◌∷◌, ◌++◌, length, refl, ap, arith, get_or, add-zero, ◌-◌, ◌∙◌, sym, take, drop, ◌≤◌, slice_set, replicate, ◌*◌, ◌/◌}
 use Rattle.std.proofs.lemmas.List.{length-take-le, drop_more, get_or_at, set_at, append_assoc, drop_at, take_at, drop-drop, length-drop, length-append, take_rest, drop_all, take-append-drop, append-nil}
 use borrow.Rule.Slice.PartMut.{put_mid}
@@ -14,7 +14,7 @@ pub length-masked : (key : List ℕ) (start : ℕ) (bytes : List ℕ) → length
 length-masked key start [] = refl
 length-masked key start (b ∷ bs) = ap suc (length-masked key (start + 1) bs)
 
--- the second of two pieces is masked from where the first ends
+-- The second part is masked from the offset where the first ends.
 pub masked-append : (key : List ℕ) (start : ℕ) (xs ys : List ℕ) → masked key start (xs ++ ys) ≡ masked key start xs ++ masked key (start + length xs) ys
 masked-append key start [] ys = rw add-zero refl
 masked-append key start (x ∷ xs) ys =
@@ -22,20 +22,20 @@ masked-append key start (x ∷ xs) ys =
     let rest = masked-append key (start + 1) xs ys in
     rw (← next) (ap (λ bytes. bit_xor x (slice_index key (start % 4)) ∷ bytes) rest)
 
--- masking by one key from one place is its own inverse
+-- Masking with one key from one offset is its own inverse.
 pub masked-masked : (key : List ℕ) (start : ℕ) (bytes : List ℕ) → masked key start (masked key start bytes) ≡ bytes
 masked-masked key start [] = refl
 masked-masked key start (b ∷ bs) =
     let rest = masked-masked key (start + 1) bs in
     rw (xor_assoc, xor_self, xor_zero_r) (ap (λ bytes. b ∷ bytes) rest)
 
--- what holds of each number of a list, and of 0, holds at every index
+-- What holds of each number of a list, and of 0, holds at every index.
 pub at-All : (P : ℕ → Type 0) → P 0 → (xs : List ℕ) → AllByRecursion P xs → (i : ℕ) → P (get_or xs i 0)
 at-All P past [] all i = past
 at-All P past (x ∷ xs) all zero = all.0
 at-All P past (x ∷ xs) all (suc i) = at-All P past xs all.1 i
 
--- a key of zeros leaves the bytes as they are
+-- A key of zeros changes nothing.
 pub masked-zero : (start : ℕ) (bytes : List ℕ) → masked (0 ∷ 0 ∷ 0 ∷ 0 ∷ []) start bytes ≡ bytes
 masked-zero start [] = refl
 masked-zero start (b ∷ bs) =
@@ -43,14 +43,14 @@ masked-zero start (b ∷ bs) =
     let rest = masked-zero (start + 1) bs in
     rw (none, xor_zero_r) (ap (λ bytes. b ∷ bytes) rest)
 
--- bytes are masked to bytes
+-- Masked bytes are bytes.
 pub masked-bytes : (key : List ℕ) (start : ℕ) (bytes : List ℕ) → IsBytes key → IsBytes bytes → IsBytes (masked key start bytes)
 masked-bytes key start [] of_key all = all
 masked-bytes key start (b ∷ bs) of_key all =
     let part : get_or key (start % 4) 0 < 256 = at-All (λ n. n < 256) (omega arith) key of_key (start % 4) in
     (xor_of_8 b (get_or key (start % 4) 0) all.0 part, masked-bytes key (start + 1) bs of_key all.1)
 
--- ---- in place: the bytes at the front are masked, the others are as they were
+-- ---- in place: a prefix is masked, the other bytes are unchanged
 
 abbrev pub masked_front : List ℕ → ℕ → List ℕ → ℕ → List ℕ
 masked_front key start bytes count = masked key start (take count bytes) ++ drop count bytes
@@ -58,7 +58,7 @@ masked_front key start bytes count = masked key start (take count bytes) ++ drop
 length-front : (key : List ℕ) (start : ℕ) (bytes : List ℕ) (count : ℕ) → count ≤ length bytes → length (masked key start (take count bytes)) ≡ count
 length-front key start bytes count within = length-masked key start (take count bytes) ∙ length-take-le count bytes within
 
--- some bytes more, whatever they are
+-- A longer prefix, whatever its bytes.
 masked_front-append : (key : List ℕ) (start : ℕ) (bytes : List ℕ) (at count : ℕ) → at ≤ length bytes →
     masked_front key start bytes (at + count) ≡ masked key start (take at bytes) ++ (masked key (start + at) (take count (drop at bytes)) ++ drop (at + count) bytes)
 masked_front-append key start bytes at count within =
@@ -69,7 +69,7 @@ masked_front-append key start bytes at count within =
     ap (λ bs. masked key start bs) (take-add at count bytes) ∙ (masked-append key start front more ∙ ap (λ n. masked key start front ++ masked key n more) place) in
     ap (λ bs. bs ++ drop (at + count) bytes) joined ∙ append_assoc (masked key start front) (masked key (start + at) more) (drop (at + count) bytes)
 
--- one byte more
+-- A prefix longer by one byte.
 pub masked_front-set : (key : List ℕ) (start : ℕ) (bytes : List ℕ) (i : ℕ) → i < length bytes →
     slice_set (masked_front key start bytes i) i (bit_xor (get_or (masked_front key start bytes i) i 0) (get_or key ((start + i) % 4) 0)) ≡ masked_front key start bytes (i + 1)
 masked_front-set key start bytes i within =
@@ -88,7 +88,7 @@ masked_front-set key start bytes i within =
 
 -- ---- by vectors
 
--- four bytes on, the key is the same
+-- After four bytes the key repeats.
 pub masked-round : (key : List ℕ) (start at : ℕ) (bytes : List ℕ) → at % 4 ≡ 0 → masked key (start + at) bytes ≡ masked key start bytes
 masked-round key start at [] round = refl
 masked-round key start at (b ∷ bs) round =
@@ -96,12 +96,12 @@ masked-round key start at (b ∷ bs) round =
     let next : start + at + 1 ≡ start + 1 + at = omega arith in
     rw (same, next) (ap (λ bytes. bit_xor b (get_or key (start % 4) 0) ∷ bytes) (masked-round key (start + 1) at bs round))
 
--- zeros, masked, are the key bytes that mask
+-- Masked zeros are the key bytes to XOR with.
 pub zip2-masked : (key : List ℕ) (start : ℕ) (bytes : List ℕ) → zip2 bit_xor bytes (masked key start (replicate (length bytes) 0)) ≡ masked key start bytes
 zip2-masked key start [] = refl
 zip2-masked key start (b ∷ bs) = rw (xor_zero_l (get_or key (start % 4) 0)) (ap (λ bytes. bit_xor b (get_or key (start % 4) 0) ∷ bytes) (zip2-masked key (start + 1) bs))
 
--- a block more
+-- A prefix longer by a block.
 pub masked_front-put_chunk : (key : List ℕ) (start : ℕ) (bytes : List ℕ) (at : ℕ) → at + 32 ≤ length bytes → at % 4 ≡ 0 →
     put_chunk at (masked_front key start bytes at) (zip2 bit_xor (chunk at 32 (masked_front key start bytes at)) (masked key start (replicate 32 0)))
     ≡ masked_front key start bytes (at + 32)
@@ -111,29 +111,29 @@ masked_front-put_chunk key start bytes at within round =
     let now = masked_front key start bytes at in
     let block = take 32 (drop at bytes) in
     let block_length : length block ≡ 32 = length-take-le 32 (drop at bytes) (rw length-drop (omega arith)) in
-    let behind : drop at now ≡ drop at bytes = drop_at front (drop at bytes) at front_length in
+    let following : drop at now ≡ drop at bytes = drop_at front (drop at bytes) at front_length in
     let masked_block : zip2 bit_xor (chunk at 32 now) (masked key start (replicate 32 0)) ≡ masked key start block =
-    ap (λ bs. zip2 bit_xor (take 32 bs) (masked key start (replicate 32 0))) behind
+    ap (λ bs. zip2 bit_xor (take 32 bs) (masked key start (replicate 32 0))) following
     ∙ (ap (λ n. zip2 bit_xor block (masked key start (replicate n 0))) (sym block_length) ∙ zip2-masked key start block) in
     let masked_length : length (masked key start block) ≡ 32 = length-masked key start block ∙ block_length in
     let now_length : length now ≡ length bytes = omega (arith, length-append front (drop at bytes), length-drop at bytes, front_length) in
     let written : put_chunk at now (masked key start block) ≡ front ++ (masked key start block ++ drop (at + 32) bytes) =
     put_chunk_is at now (masked key start block) (omega (arith, now_length, masked_length))
-    ∙ (λ i. take_at front (drop at bytes) at front_length i ++ (masked key start block ++ drop (masked_length i) (behind i)))
+    ∙ (λ i. take_at front (drop at bytes) at front_length i ++ (masked key start block ++ drop (masked_length i) (following i)))
     ∙ ap (λ bs. front ++ (masked key start block ++ bs)) (drop-drop 32 at bytes) in
     ap (λ bs. put_chunk at now bs) masked_block
     ∙ (written ∙ sym (masked_front-append key start bytes at 32 (omega arith) ∙ ap (λ bs. front ++ (bs ++ drop (at + 32) bytes)) (masked-round key start at block round)))
 
--- all that is left
+-- All remaining bytes.
 pub masked_front-rest : (key : List ℕ) (start : ℕ) (bytes now rest : List ℕ) (at : ℕ) → at ≤ length bytes → now ≡ masked_front key start bytes at →
     rest ≡ masked key (start + at) (take (length now - at) (drop at now)) → put_mid at (length now - at) now rest ≡ masked key start bytes
 masked_front-rest key start bytes now rest at within is rest_is =
     let front = masked key start (take at bytes) in
     let front_length = length-front key start bytes at within in
-    let behind : drop at now ≡ drop at bytes = ap (λ bs. drop at bs) is ∙ drop_at front (drop at bytes) at front_length in
+    let following : drop at now ≡ drop at bytes = ap (λ bs. drop at bs) is ∙ drop_at front (drop at bytes) at front_length in
     let before : take at now ≡ front = ap (λ bs. take at bs) is ∙ take_at front (drop at bytes) at front_length in
     let rest_all : rest ≡ masked key (start + at) (drop at bytes) =
-    rest_is ∙ ap (λ bs. masked key (start + at) bs) (take_rest now at ∙ behind) in
+    rest_is ∙ ap (λ bs. masked key (start + at) bs) (take_rest now at ∙ following) in
     let nothing : drop (length now - at) (drop at now) ≡ [] = drop_all (length now - at) (drop at now) (rw length-drop (omega arith)) in
     let place : start + length (take at bytes) ≡ start + at = ap (λ n. start + n) (length-take-le at bytes within) in
     let whole : masked key start bytes ≡ front ++ masked key (start + at) (drop at bytes) =
@@ -141,13 +141,13 @@ masked_front-rest key start bytes now rest at within is rest_is =
     ∙ (masked-append key start (take at bytes) (drop at bytes) ∙ ap (λ n. front ++ masked key n (drop at bytes)) place) in
     (λ i. before i ++ (rest_all i ++ nothing i)) ∙ (ap (λ bs. front ++ bs) (append-nil (masked key (start + at) (drop at bytes))) ∙ sym whole)
 
--- one round of the key in a word of four bytes, the lowest first, and zeros masked
+-- One round of the key in a word of four bytes, the lowest first: the bytes of masked zeros.
 pub word-masked : (key : List ℕ) (start word rest count : ℕ) (zeros : List ℕ) →
     get_or key (start % 4) 0 < 256 → get_or key ((start % 4 + 1) % 4) 0 < 256 → get_or key ((start % 4 + 2) % 4) 0 < 256 → get_or key ((start % 4 + 3) % 4) 0 < 256 →
     word ≡ get_or key (start % 4) 0 + get_or key ((start % 4 + 1) % 4) 0 * 256 + get_or key ((start % 4 + 2) % 4) 0 * 65536 + get_or key ((start % 4 + 3) % 4) 0 * 16777216 →
     digits_l 256 count rest ≡ masked key start zeros →
     digits_l 256 (suc (suc (suc (suc count)))) (word + 4294967296 * rest) ≡ masked key start (0 ∷ 0 ∷ 0 ∷ 0 ∷ zeros)
-word-masked key start word rest count zeros first second third fourth is_word behind =
+word-masked key start word rest count zeros first second third fourth is_word following =
     let number = word + 4294967296 * rest in
     let byte0 : number % 256 ≡ bit_xor 0 (get_or key (start % 4) 0) = rw (xor_zero_l (get_or key (start % 4) 0)) (omega arith) in
     let byte1 : number / 256 % 256 ≡ bit_xor 0 (get_or key ((start + 1) % 4) 0) = let turn : (start + 1) % 4 ≡ (start % 4 + 1) % 4 = omega arith in rw (turn, xor_zero_l (get_or key ((start % 4 + 1) % 4) 0)) (omega arith) in
@@ -157,10 +157,10 @@ word-masked key start word rest count zeros first second third fourth is_word be
     let place : start + 1 + 1 + 1 + 1 ≡ start + 4 = omega arith in
     let round = masked-round key start 4 zeros refl in
     let after : digits_l 256 count (number / 256 / 256 / 256 / 256) ≡ masked key (start + 1 + 1 + 1 + 1) zeros =
-    ap (λ n. digits_l 256 count n) left ∙ (behind ∙ (sym round ∙ ap (λ n. masked key n zeros) (sym place))) in
+    ap (λ n. digits_l 256 count n) left ∙ (following ∙ (sym round ∙ ap (λ n. masked key n zeros) (sym place))) in
     λ i. byte0 i ∷ byte1 i ∷ byte2 i ∷ byte3 i ∷ after i
 
--- rounds of zeros, as many words in one number, and as many bytes
+-- Zeros, four for each round.
 abbrev pub zero_rounds : ℕ → List ℕ
 zero_rounds zero = []
 zero_rounds (suc n) = 0 ∷ 0 ∷ 0 ∷ 0 ∷ zero_rounds n
@@ -173,7 +173,7 @@ abbrev pub round_bytes : ℕ → ℕ
 round_bytes zero = 0
 round_bytes (suc n) = suc (suc (suc (suc (round_bytes n))))
 
--- a word of the key, repeated, has the bytes of zeros masked
+-- A repeated word of the key has the bytes of masked zeros.
 pub words-masked : (key : List ℕ) (start word : ℕ) →
     get_or key (start % 4) 0 < 256 → get_or key ((start % 4 + 1) % 4) 0 < 256 → get_or key ((start % 4 + 2) % 4) 0 < 256 → get_or key ((start % 4 + 3) % 4) 0 < 256 →
     word ≡ get_or key (start % 4) 0 + get_or key ((start % 4 + 1) % 4) 0 * 256 + get_or key ((start % 4 + 2) % 4) 0 * 65536 + get_or key ((start % 4 + 3) % 4) 0 * 16777216 →

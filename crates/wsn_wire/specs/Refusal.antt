@@ -1,9 +1,9 @@
--- The table of refusals: each reason's number, which orders the reasons at one place, its word, and the close
--- code that an endpoint answers (RFC 6455 section 7.4.1).
-use Rattle.std.specs.Prelude.{ℕ, ◌≤◌, List, codes}
+-- The table of refusals: the number, the word and the close code of each reason (RFC 6455 section 7.4.1).
+use Rattle.std.specs.Prelude.{ℕ, ◌≤◌, List, Option, MatchOption, codes}
 use Rattle.wsn_wire.specs.declared.refusal.Reason.{Reason}
 use Rattle.wsn_wire.specs.declared.refusal.Reason.TheVariants.{ReservedBits, ReservedOpcode, ControlNotFinal, NothingToContinue, MessageOpen, MaskMissing, MaskPresent, ControlTooLong, CloseOneByte, LengthTopBit, LengthNotMinimal, MessageTooBig, CloseCode, CloseReason, TextBad, TextCut, TooManyFrames}
 
+-- The reason's number. At one offset, the least number has precedence.
 abbrev pub number_of : Reason → ℕ
 number_of ReservedBits = 1
 number_of ReservedOpcode = 2
@@ -23,6 +23,7 @@ number_of TextBad = 15
 number_of TextCut = 16
 number_of TooManyFrames = 17
 
+-- The word that is printed for a reason.
 abbrev pub word_of : Reason → List ℕ
 word_of ReservedBits = codes "reserved-bits"
 word_of ReservedOpcode = codes "reserved-opcode"
@@ -42,7 +43,7 @@ word_of TextBad = codes "text-bad"
 word_of TextCut = codes "text-cut"
 word_of TooManyFrames = codes "too-many-frames"
 
--- 1002 protocol error, 1007 data that don't fit their type, 1008 a policy, 1009 a message too big
+-- The close code: 1002 protocol error, 1007 payload data that don't fit their type, 1008 policy, 1009 message too big.
 abbrev pub code_of : Reason → ℕ
 code_of ReservedBits = 1002
 code_of ReservedOpcode = 1002
@@ -62,7 +63,12 @@ code_of TextBad = 1007
 code_of TextCut = 1007
 code_of TooManyFrames = 1008
 
--- Of the reasons that are shown, this is the one with the least number.
-pub record IsFirstShown (Shown : Reason → Type 0) (reason : Reason) : Type 0 where
-  pub shown : Shown reason
-  pub least : (other : Reason) → Shown other → number_of reason ≤ number_of other
+-- Of the reasons with evidence, this one has the least number.
+pub record IsFirstEvident (IsEvident : Reason → Type 0) (reason : Reason) : Type 0 where
+  pub is_evident : IsEvident reason
+  pub least : (other : Reason) → IsEvident other → number_of reason ≤ number_of other
+
+-- The answer of a check: the first of the reasons with evidence, or none if there is no evidence.
+abbrev pub IsFirstOrNone : (Reason → Type 0) → Option Reason → Type 0
+IsFirstOrNone IsEvident answer =
+    MatchOption answer ((reason : Reason) → ¬ (IsEvident reason)) (λ reason. IsFirstEvident IsEvident reason)

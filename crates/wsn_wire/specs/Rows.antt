@@ -1,62 +1,64 @@
--- The refusals that a frame's head shows by itself, whatever came before it: one line a row, by the byte
--- that shows it. RFC 6455 sections 5.1, 5.2 and 5.5.
+-- The refusals for which a frame's head alone is evidence. RFC 6455 sections 5.1, 5.2 and 5.5.
 use Rattle.std.specs.Prelude.{◌≡◌, ℕ, ◌^◌, ◌<◌, ◌≤◌, ◌⊎◌, false, true, List}
 use Rattle.wsn_wire.specs.declared.endpoint.Role.{Role}
 use Rattle.wsn_wire.specs.declared.endpoint.Role.TheVariants.{Client, Server}
-use Rattle.wsn_wire.specs.declared.spelling.Lengths.{Lengths}
-use Rattle.wsn_wire.specs.declared.spelling.Lengths.TheVariants.{Shortest}
-use Rattle.wsn_wire.specs.declared.spelling.LenForm.{LenForm}
-use Rattle.wsn_wire.specs.declared.spelling.LenForm.TheVariants.{Short, Two, Eight}
+use Rattle.wsn_wire.specs.declared.length_forms.Lengths.{Lengths}
+use Rattle.wsn_wire.specs.declared.length_forms.Lengths.TheVariants.{Shortest}
+use Rattle.wsn_wire.specs.declared.length_forms.LenForm.{LenForm}
+use Rattle.wsn_wire.specs.declared.length_forms.LenForm.TheVariants.{Short, Two, Eight}
 use Rattle.wsn_wire.specs.declared.refusal.Reason.{Reason}
 use Rattle.wsn_wire.specs.declared.refusal.Reason.TheVariants.{ReservedBits, ReservedOpcode, ControlNotFinal, MaskMissing, MaskPresent, ControlTooLong, CloseOneByte, LengthTopBit, LengthNotMinimal}
-use Rattle.wsn_wire.specs.Layout.{fin_bit, reserved_bits, opcode_field, mask_bit, len_form_at, length_told}
+use Rattle.wsn_wire.specs.Layout.{fin_bit, reserved_bits, opcode_field, mask_bit, len_form_at, encoded_length}
 
--- [5.2] opcodes 3 to 7 and 11 to 15
+-- [5.2] The opcodes 3 to 7 and 11 to 15 are reserved.
 abbrev pub IsReserved : ℕ → Type 0
 IsReserved n = ((3 ≤ n) × (n ≤ 7)) ⊎ ((11 ≤ n) × (n ≤ 15))
 
--- [5.5] opcodes 8, 9 and 10
+-- [5.5] The opcodes 8, 9 and 10 are those of control frames.
 abbrev pub IsControlOpcode : ℕ → Type 0
 IsControlOpcode n = (8 ≤ n) × (n ≤ 10)
 
--- ---- shown by the first byte
+-- ---- evidence in the first byte
 
-abbrev pub ShownByFirst : Reason → ℕ → Type 0
-ShownByFirst ReservedBits first = 0 < reserved_bits first
-ShownByFirst ReservedOpcode first = IsReserved (opcode_field first)
-ShownByFirst ControlNotFinal first = IsControlOpcode (opcode_field first) × (fin_bit first ≡ false)
-ShownByFirst _ first = ⊥
+-- The first byte is evidence for the reason.
+abbrev pub EvidentInFirst : Reason → ℕ → Type 0
+EvidentInFirst ReservedBits first = 0 < reserved_bits first
+EvidentInFirst ReservedOpcode first = IsReserved (opcode_field first)
+EvidentInFirst ControlNotFinal first = IsControlOpcode (opcode_field first) × (fin_bit first ≡ false)
+EvidentInFirst _ first = ⊥
 
--- ---- shown by the second byte behind the first
+-- ---- evidence in the second byte
 
--- the length field asks for length bytes
+-- Length bytes follow the second byte.
 abbrev pub IsLong : LenForm → Type 0
 IsLong (Short _) = ⊥
 IsLong Two = Unit {0}
 IsLong Eight = Unit {0}
 
-abbrev pub ShownBySecond : Role → Reason → ℕ → ℕ → Type 0
-ShownBySecond role MaskMissing first second = (role ≡ Client) × (mask_bit second ≡ false)
-ShownBySecond role MaskPresent first second = (role ≡ Server) × (mask_bit second ≡ true)
-ShownBySecond role ControlTooLong first second = IsControlOpcode (opcode_field first) × IsLong (len_form_at second)
-ShownBySecond role CloseOneByte first second = (opcode_field first ≡ 8) × (len_form_at second ≡ Short 1)
-ShownBySecond role _ first second = ⊥
+-- The second byte, after this first one, is evidence for the reason.
+abbrev pub EvidentInSecond : Role → Reason → ℕ → ℕ → Type 0
+EvidentInSecond role MaskMissing first second = (role ≡ Client) × (mask_bit second ≡ false)
+EvidentInSecond role MaskPresent first second = (role ≡ Server) × (mask_bit second ≡ true)
+EvidentInSecond role ControlTooLong first second = IsControlOpcode (opcode_field first) × IsLong (len_form_at second)
+EvidentInSecond role CloseOneByte first second = (opcode_field first ≡ 8) × (len_form_at second ≡ Short 1)
+EvidentInSecond role _ first second = ⊥
 
--- ---- shown by the last of the length bytes
+-- ---- evidence in the length bytes
 
--- A length that fewer bytes would hold.
+-- Fewer bytes could hold the length.
 abbrev pub IsNotMinimal : LenForm → ℕ → Type 0
 IsNotMinimal (Short _) len = ⊥
 IsNotMinimal Two len = len < 126
 IsNotMinimal Eight len = len < 65536
 
--- The length that eight bytes say is 2^63 or more.
+-- A length in eight bytes is 2^63 or more.
 abbrev pub HasTopBit : LenForm → ℕ → Type 0
 HasTopBit (Short _) len = ⊥
 HasTopBit Two len = ⊥
 HasTopBit Eight len = 2 ^ 63 ≤ len
 
-abbrev pub ShownByLength : Lengths → Reason → LenForm → List ℕ → Type 0
-ShownByLength lengths LengthTopBit f bytes = HasTopBit f (length_told f bytes)
-ShownByLength lengths LengthNotMinimal f bytes = (lengths ≡ Shortest) × IsNotMinimal f (length_told f bytes)
-ShownByLength lengths _ f bytes = ⊥
+-- The length bytes are evidence for the reason.
+abbrev pub EvidentInLength : Lengths → Reason → LenForm → List ℕ → Type 0
+EvidentInLength lengths LengthTopBit f bytes = HasTopBit f (encoded_length f bytes)
+EvidentInLength lengths LengthNotMinimal f bytes = (lengths ≡ Shortest) × IsNotMinimal f (encoded_length f bytes)
+EvidentInLength lengths _ f bytes = ⊥

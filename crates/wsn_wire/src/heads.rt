@@ -1,33 +1,33 @@
-ghost use Rattle.std.specs.Prelude.{◌≡◌, ℕ, ◌↔◌, ◌<◌, ◌≤◌, ◌^◌, true, List, Option, IfOk, IfErr, IsSome, is_some};
+ghost use Rattle.std.specs.Prelude.{◌≡◌, ℕ, ◌<◌, ◌≤◌, ◌^◌, true, List, Option, IfOk, IfErr, is_some};
 ghost use Rattle.wsn_wire.specs.declared.refusal.Reason.{Reason};
-ghost use Rattle.wsn_wire.specs.Frame.{is_control, first_byte, second_byte, len_form_of, length_bytes, head_bytes, FormFits};
-ghost use Rattle.wsn_wire.specs.Layout.{len_form_at, length_told};
-ghost use Rattle.wsn_wire.specs.Refusal.{IsFirstShown};
-ghost use Rattle.wsn_wire.specs.Rows.{ShownByFirst, ShownBySecond, ShownByLength};
+ghost use Rattle.wsn_wire.specs.Frame.{is_control, first_byte, second_byte, IsSecondByteFor, len_form_of, length_bytes, head_bytes, FormFits};
+ghost use Rattle.wsn_wire.specs.Layout.{len_form_at, encoded_length};
+ghost use Rattle.wsn_wire.specs.Refusal.{IsFirstEvident};
+ghost use Rattle.wsn_wire.specs.Rows.{EvidentInFirst, EvidentInSecond, EvidentInLength};
 
 use crate::endpoint::Role;
+use crate::length_forms::{Form, LenForm, Lengths};
 use crate::opcode::Op;
 use crate::refusal::Reason;
-use crate::spelling::{Form, LenForm, Lengths};
 use arrayvec::ArrayVec;
 
-/// The fields of a frame's first byte (RFC 6455 section 5.2). A control frame is final (section 5.5).
+/// The fields of a frame's first byte (RFC 6455 section 5.2). A control frame always has FIN (section 5.5).
 #[derive(Clone, Copy, Debug, PartialEq, Eq)]
 pub struct FirstByte {
-    /// FIN: the frame is the last of its message.
+    /// FIN: the frame is the last one of its message.
     pub fin: bool,
     /// The opcode.
     pub op: Op,
     pub ghost control_is_final: { is_control op ≡ true → fin ≡ true },
 }
 
-/// Reads a frame's first byte (RFC 6455 sections 5.2 and 5.5). `ReservedBits`, `ReservedOpcode` or
-/// `ControlNotFinal`, the first of these that the byte shows.
+/// Reads a frame's first byte (RFC 6455 sections 5.2 and 5.5). An error is the first of `ReservedBits`,
+/// `ReservedOpcode` and `ControlNotFinal` for which the byte is evidence.
 #[tactic(none)]
 pub fn first(b: u8) -> Result<FirstByte, Reason>
     ensures read { IfOk result (λ f. b ≡ first_byte f.fin f.op) }
-    ensures nothing_shown { IfOk result (λ _. (reason : Reason) → ¬ (ShownByFirst reason b)) }
-    ensures refused { IfErr result (IsFirstShown (λ reason. ShownByFirst reason b)) }
+    ensures nothing_evident { IfOk result (λ _. (reason : Reason) → ¬ (EvidentInFirst reason b)) }
+    ensures refused { IfErr result (IsFirstEvident (λ reason. EvidentInFirst reason b)) }
 {
     if b & 0x70 != 0 {
         return Err(Reason::ReservedBits);
@@ -42,18 +42,17 @@ pub fn first(b: u8) -> Result<FirstByte, Reason>
     Ok(FirstByte { fin, op })
 }
 
-/// Reads a frame's second byte, which stands behind the first byte `f` (RFC 6455 sections 5.1, 5.2 and 5.5).
-/// `MaskMissing`, `MaskPresent`, `ControlTooLong` or `CloseOneByte`, the first of these that the byte shows.
+/// Reads a frame's second byte; `f` is the first one (RFC 6455 sections 5.1, 5.2 and 5.5). An error is the first of
+/// `MaskMissing`, `MaskPresent`, `ControlTooLong` and `CloseOneByte` for which the byte is evidence.
 #[tactic(none)]
 pub fn second(f: FirstByte, role: Role, b: u8) -> Result<LenForm, Reason>
-    ensures read { IfOk result (λ form. (key : Option (List ℕ)) → (IsSome key ↔ (role ≡ Role.Client)) →
-        b ≡ second_byte key form) }
+    ensures read { IfOk result (IsSecondByteFor role b) }
     ensures field { IfOk result (λ form. form ≡ len_form_at b) }
     ensures short { (len : ℕ) → result ≡ Ok (LenForm.Short len) → len ≤ 125 }
-    ensures nothing_shown { IfOk result (λ _. (reason : Reason) →
-        ¬ (ShownBySecond role reason (first_byte f.fin f.op) b)) }
-    ensures refused { IfErr result (IsFirstShown (λ reason.
-        ShownBySecond role reason (first_byte f.fin f.op) b)) }
+    ensures nothing_evident { IfOk result (λ _. (reason : Reason) →
+        ¬ (EvidentInSecond role reason (first_byte f.fin f.op) b)) }
+    ensures refused { IfErr result (IsFirstEvident (λ reason.
+        EvidentInSecond role reason (first_byte f.fin f.op) b)) }
 {
     let masked = b & 0x80 != 0;
     match role {
@@ -69,7 +68,7 @@ pub fn second(f: FirstByte, role: Role, b: u8) -> Result<LenForm, Reason>
     }
 }
 
-// The low seven bits of a second byte say where the length stands.
+// The length form that the low seven bits of a second byte give.
 fn len_form_at(b: u8) -> LenForm
     ensures { result ≡ len_form_at b }
 {
@@ -80,14 +79,14 @@ fn len_form_at(b: u8) -> LenForm
     }
 }
 
-/// Reads a length in two bytes (RFC 6455 section 5.2). `LengthNotMinimal` for one below 126, if only the
-/// shortest spelling is taken.
+/// Reads a length in two bytes (RFC 6455 section 5.2). `LengthNotMinimal` for a length below 126, if only the shortest
+/// encoding is accepted.
 #[tactic(none)]
 pub fn two(b: [u8; 2], lengths: Lengths) -> Result<u64, Reason>
     ensures read { IfOk result (λ len. b ≡ length_bytes LenForm.Two len) }
-    ensures told { IfOk result (λ len. len ≡ length_told LenForm.Two b) }
-    ensures nothing_shown { IfOk result (λ _. (reason : Reason) → ¬ (ShownByLength lengths reason LenForm.Two b)) }
-    ensures refused { IfErr result (IsFirstShown (λ reason. ShownByLength lengths reason LenForm.Two b)) }
+    ensures decoded { IfOk result (λ len. len ≡ encoded_length LenForm.Two b) }
+    ensures nothing_evident { IfOk result (λ _. (reason : Reason) → ¬ (EvidentInLength lengths reason LenForm.Two b)) }
+    ensures refused { IfErr result (IsFirstEvident (λ reason. EvidentInLength lengths reason LenForm.Two b)) }
 {
     let len = u64::from(u16::from_be_bytes(b));
     if lengths == Lengths::Shortest && len < 126 {
@@ -96,14 +95,14 @@ pub fn two(b: [u8; 2], lengths: Lengths) -> Result<u64, Reason>
     Ok(len)
 }
 
-/// Reads a length in eight bytes (RFC 6455 section 5.2). `LengthTopBit` for one of 2^63 or more; else
-/// `LengthNotMinimal` for one below 65,536, if only the shortest spelling is taken.
+/// Reads a length in eight bytes (RFC 6455 section 5.2). `LengthTopBit` for a length of 2^63 or more; otherwise
+/// `LengthNotMinimal` for one below 65,536, if only the shortest encoding is accepted.
 #[tactic(none)]
 pub fn eight(b: [u8; 8], lengths: Lengths) -> Result<u64, Reason>
     ensures read { IfOk result (λ len. b ≡ length_bytes LenForm.Eight len) }
-    ensures told { IfOk result (λ len. len ≡ length_told LenForm.Eight b) }
-    ensures nothing_shown { IfOk result (λ _. (reason : Reason) → ¬ (ShownByLength lengths reason LenForm.Eight b)) }
-    ensures refused { IfErr result (IsFirstShown (λ reason. ShownByLength lengths reason LenForm.Eight b)) }
+    ensures decoded { IfOk result (λ len. len ≡ encoded_length LenForm.Eight b) }
+    ensures nothing_evident { IfOk result (λ _. (reason : Reason) → ¬ (EvidentInLength lengths reason LenForm.Eight b)) }
+    ensures refused { IfErr result (IsFirstEvident (λ reason. EvidentInLength lengths reason LenForm.Eight b)) }
 {
     let len = u64::from_be_bytes(b);
     if len >= 1 << 63 {
@@ -115,7 +114,8 @@ pub fn eight(b: [u8; 8], lengths: Lengths) -> Result<u64, Reason>
     Ok(len)
 }
 
-/// The head of a frame in its shortest spelling, for a payload of `len` bytes (RFC 6455 section 5.2).
+/// Writes the head of a frame whose payload has `len` bytes, with the shortest encoding of the length (RFC 6455 section
+/// 5.2).
 pub fn head(fin: bool, op: Op, key: Option<[u8; 4]>, len: u64) -> ArrayVec<u8, 14>
     requires size { len < 2 ^ 63 }
     requires control { is_control op ≡ true → (fin ≡ true) × (len ≤ 125) }
@@ -124,7 +124,8 @@ pub fn head(fin: bool, op: Op, key: Option<[u8; 4]>, len: u64) -> ArrayVec<u8, 1
     head_as(fin, op, key, len, Form::Shortest)
 }
 
-/// The head of a frame, its length spelled as `form` says (RFC 6455 section 5.2).
+/// Writes the head of a frame whose payload has `len` bytes, with the length encoded in the given form (RFC 6455
+/// section 5.2).
 #[tactic(none)]
 pub fn head_as(fin: bool, op: Op, key: Option<[u8; 4]>, len: u64, form: Form) -> ArrayVec<u8, 14>
     requires size { len < 2 ^ 63 }

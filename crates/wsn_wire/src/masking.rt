@@ -3,11 +3,11 @@ ghost use Rattle.wsn_wire.specs.Frame.{masked};
 
 use std::simd::prelude::*;
 
-// The bytes of a vector.
+// The number of bytes in a vector.
 const BLOCK: usize = 32;
 
-/// Masks a piece of a payload, or unmasks it: byte i XOR key byte `(start + i) % 4` (RFC 6455 section 5.3).
-/// `start` is the piece's offset in the payload.
+/// Masks or unmasks part of a payload in place: byte i XOR key byte `(start + i) % 4` (RFC 6455 section 5.3). `start`
+/// is the offset of the part in the payload, from 0.
 #[tactic(none)]
 pub fn mask(key: [u8; 4], start: u64, bytes: &mut [u8])
     requires { start + length bytes.old < 2 ^ 64 }
@@ -27,7 +27,7 @@ pub fn mask(key: [u8; 4], start: u64, bytes: &mut [u8])
     mask_each(key, start + at as u64, &mut bytes[at..]);
 }
 
-// The key bytes for a block of bytes that begins at `start`.
+// The key bytes for a block whose offset in the payload is `start`.
 fn key_lanes(key: [u8; 4], start: u64) -> u8x32
     ensures { result ≡ masked key start (replicate BLOCK 0) }
 {
@@ -41,7 +41,7 @@ fn key_lanes(key: [u8; 4], start: u64) -> u8x32
     u32x8::splat(round).to_le_bytes()
 }
 
-// The same as `mask`, byte by byte.
+// Like `mask`, but byte by byte.
 #[tactic(none)]
 pub(crate) fn mask_each(key: [u8; 4], start: u64, bytes: &mut [u8])
     requires { start + length bytes.old < 2 ^ 64 }

@@ -2,7 +2,7 @@ ghost use Rattle.std.specs.Prelude.{◌≡◌, ◌<◌, IfNone, IfSome};
 ghost use Rattle.wsn_wire.specs.Frame.{opcode, is_control};
 ghost use Rattle.wsn_wire.specs.Rows.{IsReserved};
 
-/// What a frame is, by its opcode (RFC 6455 section 5.2). The opcodes 3 to 7 and 11 to 15 are reserved.
+/// A frame's opcode (RFC 6455 section 5.2). The opcodes 3 to 7 and 11 to 15 are reserved.
 #[derive(Clone, Copy, Debug, PartialEq, Eq)]
 pub enum Op {
     Continue = 0,
@@ -14,7 +14,7 @@ pub enum Op {
 }
 
 impl Op {
-    // `None` for the reserved opcodes.
+    // The opcode of a number below 16; `None` for a reserved one.
     pub(crate) fn from_opcode(n: u8) -> Option<Op>
         requires { n < 16 }
         ensures known { IfSome result (λ op. opcode op ≡ n) }
@@ -31,7 +31,7 @@ impl Op {
         }
     }
 
-    /// Whether it is of a control frame: Close, Ping or Pong (RFC 6455 section 5.5).
+    /// Whether the opcode is that of a control frame: Close, Ping or Pong (RFC 6455 section 5.5).
     pub fn is_control(self) -> bool
         ensures { result ≡ is_control self }
     {
@@ -42,7 +42,7 @@ impl Op {
     }
 }
 
-/// What a message holds (RFC 6455 section 5.6).
+/// Whether a message is text or binary (RFC 6455 section 5.6).
 #[derive(Clone, Copy, Debug, PartialEq, Eq)]
 pub enum Kind {
     Text,

@@ -1,7 +1,7 @@
 ghost use Rattle.std.specs.Prelude.{◌≡◌};
 ghost use Rattle.wsn_wire.specs.Refusal.{number_of, code_of, word_of};
 
-/// Why a stream is refused, in the order in which reasons at one place go (RFC 6455 sections 5 and 7.4).
+/// Why a stream is refused, in order of precedence at one offset (RFC 6455 sections 5 and 7.4).
 #[derive(Clone, Copy, Debug, PartialEq, Eq)]
 pub enum Reason {
     /// A reserved bit of the first byte is set.
@@ -24,24 +24,25 @@ pub enum Reason {
     CloseOneByte,
     /// A length in eight bytes is 2^63 or more.
     LengthTopBit,
-    /// A length is not spelled in the shortest way, where only that is taken.
+    /// A length is not in its shortest encoding, and only that is accepted.
     LengthNotMinimal,
-    /// The message passes the limit on its bytes.
+    /// The message is longer than the limit on its bytes.
     MessageTooBig,
-    /// A Close's code is not one that may be sent.
+    /// A Close has a code that may not be sent.
     CloseCode,
     /// A Close's reason is not UTF-8.
     CloseReason,
-    /// A text message has a byte that no UTF-8 text has there.
+    /// A text message has a byte that cannot occur there in UTF-8.
     TextBad,
     /// A text message ends inside a character.
     TextCut,
-    /// The message passes the limit on its frames.
+    /// The message has more frames than the limit.
     TooManyFrames,
 }
 
 impl Reason {
-    /// Its number in the table of refusals, 1 to 17. Of the reasons that show at one place, the least counts.
+    /// The reason's number in the table of refusals, 1 to 17. If there is evidence for more than one reason at one
+    /// offset, the one with the least number is reported.
     pub fn number(&self) -> u8
         ensures { result ≡ number_of self.now }
     {
@@ -66,7 +67,7 @@ impl Reason {
         }
     }
 
-    /// The status code to close with (RFC 6455 section 7.4.1): 1002, 1007, 1008 or 1009.
+    /// The close code for the refusal (RFC 6455 section 7.4.1): 1002, 1007, 1008 or 1009.
     #[tactic(none)]
     pub fn code(&self) -> u16
         ensures { result ≡ code_of self.now }
@@ -79,7 +80,7 @@ impl Reason {
         }
     }
 
-    /// The word that is printed for it, such as `reserved-bits`: lower-case letters and hyphens.
+    /// The word that is printed for the reason, such as `reserved-bits`: lower-case letters and hyphens.
     pub fn word(&self) -> &'static str
         ensures { result.now ≡ word_of self.now }
     {

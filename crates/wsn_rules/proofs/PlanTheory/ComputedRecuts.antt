@@ -14,7 +14,7 @@ use Rattle.wsn_rules.specs.Verdict.{IsVerdict}
 use Rattle.wsn_rules.specs.Recut.{recut_bytes, plan_of}
 use Rattle.wsn_rules.specs.PlanExamples.{HasPlan, RecutsTo}
 use Rattle.wsn_rules.proofs.Computed.{all_bytes, bytes_by_test, in_range, range_by_test, found}
-use Rattle.wsn_rules.proofs.PlanTheory.ComputedFaults.{told, tells_fits, does_fit}
+use Rattle.wsn_rules.proofs.PlanTheory.ComputedFaults.{decoded, reports_fits, does_fit}
 
 abbrev pub is_accepted : Verdict → Bool
 is_accepted (Accepted summary) = true
@@ -26,7 +26,7 @@ accepted_by_test role limits bytes fs (Cut summary) is test = absurd (false≢tr
 accepted_by_test role limits bytes fs (Refused refusal) is test = absurd (false≢true test)
 
 module _ (role : Role) (limits : Limits) (bytes : List ℕ) (plan : List Step) where
-  -- the frames that are found in the input
+  -- The frames of the input.
   abbrev pub frames_of : in_range limits ≡ true → all_bytes bytes ≡ true → List Frame
   frames_of range in_bytes = (found role limits (range_by_test limits range) bytes (bytes_by_test bytes in_bytes)).frames
 
@@ -42,7 +42,7 @@ module _ (role : Role) (limits : Limits) (bytes : List ℕ) (plan : List Step) w
   has_plan range in_bytes test finished is = record { frames = frames_of range in_bytes; accepted = accepted_frames range in_bytes test; finished = finished; is = is }
 
   pub recuts_to : (others : List ℕ) (range : in_range limits ≡ true) (in_bytes : all_bytes bytes ≡ true) → is_accepted (verdict_of range in_bytes) ≡ true
-      → tells_fits role limits (meaning (frames_of range in_bytes)) (told role limits (meaning (frames_of range in_bytes)) plan range) ≡ true → recut_bytes plan (meaning (frames_of range in_bytes)) ≡ others
+      → reports_fits role limits (meaning (frames_of range in_bytes)) (decoded role limits (meaning (frames_of range in_bytes)) plan range) ≡ true → recut_bytes plan (meaning (frames_of range in_bytes)) ≡ others
       → RecutsTo role limits bytes plan others
   recuts_to others range in_bytes test fits is = record {
     frames = frames_of range in_bytes;

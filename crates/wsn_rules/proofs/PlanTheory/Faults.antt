@@ -9,7 +9,7 @@ use Rattle.wsn_rules.specs.Limits.{Limits, InRange}
 use Rattle.wsn_rules.specs.Meaning.{MeantEvent}
 use Rattle.wsn_rules.specs.Plan.{pending, total, events_left}
 use Rattle.wsn_rules.specs.Fitting.{BeginsToFit, Fits}
-use Rattle.wsn_rules.specs.Fault.{HoldsBehind, IsWhy, IsFault}
+use Rattle.wsn_rules.specs.Fault.{HoldsAfter, IsWhy, IsFault}
 use Rattle.wsn_rules.proofs.Prefixes.{push-append, same_front}
 use Rattle.wsn_rules.proofs.PlanTheory.FirstReason.{first_or_none, one_first}
 use Rattle.wsn_rules.proofs.PlanTheory.RowsDecided.{no_event, row_decided}
@@ -17,17 +17,17 @@ use Rattle.wsn_rules.proofs.PlanTheory.FitsFromTheFront.{begins_nil}
 use Rattle.wsn_rules.proofs.PlanTheory.Walked.{goes_on, fault_at, events_left_at}
 
 module _ (role : Role) (limits : Limits) (events : List MeantEvent) where
-  -- ---- some
+  -- ---- a fault, or none
 
   abbrev pub FitsOrFault : List Step → Type 0
   FitsOrFault plan = Fits role limits plan events ⊎ ((step : ℕ) × (why : Why) × IsFault role limits plan events step why)
 
-  -- of the same plan, written otherwise
+  -- Equal plans.
   unfoldable pub moved : {plan other : List Step} → plan ≡ other → FitsOrFault plan → FitsOrFault other
   moved is (inl fits) = inl (subst (λ (plan : List Step). Fits role limits plan events) is fits)
   moved is (inr fault) = inr (fault.0, fault.1, subst (λ (plan : List Step). IsFault role limits plan events fault.0 fault.1) is fault.2)
 
-  -- as far as it goes from a front that begins to fit
+  -- A plan after steps that begin to fit.
   unfoldable pub walked_on : (plan : List Step) (range : InRange limits) (before : List Step) → BeginsToFit role limits before events → FitsOrFault (before ++ plan)
   walked_on [] range before begins =
       elim (no_event (events_left events before)) [
@@ -35,7 +35,7 @@ module _ (role : Role) (limits : Limits) (events : List MeantEvent) where
         | inr some ↦ moved (sym (append-nil before)) (inr (length before, EventsLeft, events_left_at role limits events before begins some))
       ]
   walked_on (step ∷ plan) range before begins =
-      elim (first_or_none (HoldsBehind role limits before events step) (row_decided role limits (length (pending before)) (total (pending before)) (events_left events before) step)) [
+      elim (first_or_none (HoldsAfter role limits before events step) (row_decided role limits (length (pending before)) (total (pending before)) (events_left events before) step)) [
         | inl found ↦ inr (length before, found.0, fault_at role limits events before plan step found.0 begins found.1)
         | inr none ↦ moved (push-append before step plan) (walked_on plan range (before ++ step ∷ []) (goes_on role limits events before step range begins none))
       ]
@@ -55,11 +55,11 @@ module _ (role : Role) (limits : Limits) (events : List MeantEvent) where
       fits_or_faulty plan fault.fitting fault.rest why fault.longest.whole fits
       (fault.longest.longest plan [] (sym (append-nil plan)) fits.begins) fault.is_why
 
-  -- ---- one
+  -- ---- at most one
 
   one_why : (fitting rest : List Step) (why other : Why) → IsWhy role limits events fitting rest why → IsWhy role limits events fitting rest other → why ≡ other
   one_why fitting [] why other is also = is.0 ∙ sym also.0
-  one_why fitting (step ∷ rest) why other is also = one_first (HoldsBehind role limits fitting events step) why other is also
+  one_why fitting (step ∷ rest) why other is also = one_first (HoldsAfter role limits fitting events step) why other is also
 
   pub one_fault : (plan : List Step) (step also : ℕ) (why other : Why) → IsFault role limits plan events step why → IsFault role limits plan events also other → (step ≡ also) × (why ≡ other)
   one_fault plan step also why other fault second =

@@ -1,13 +1,13 @@
--- Of reasons that are each decided, the first that holds; there is one at most.
+-- Of reasons that are each decided, the first that holds. There is at most one.
 use Rattle.std.proofs.Common.{◌≡◌, ℕ, zero, suc, ◌<◌, ◌≤◌, ◌⊎◌, refl, sym, ap, ◌∙◌, subst, inl, inr, arith}
 use Rattle.wsn_text.proofs.Numbers.{less_or_not}
 use Rattle.wsn_rules.specs.declared.why.Why.{Why}
 use Rattle.wsn_rules.specs.declared.why.Why.TheVariants.{KeyMismatch, StepsLeft, NoMessage, PieceTooLong, TooManyPieces, NotAControl, NotAMessage, WrongForm, EventsLeft}
 use Rattle.wsn_rules.specs.Fault.{order_of, IsFirstWhy}
 use Rattle.wsn_rules.proofs.DecidedRows.{Decided}
-use Rattle.wsn_rules.proofs.LeastShown.{LeastBelow, least_or_none}
+use Rattle.wsn_rules.proofs.LeastEvident.{LeastBelow, least_or_none}
 
--- ---- the reason at a place of their order
+-- ---- the reason with a number in the order
 
 unfoldable pub why_at : ℕ → Why
 why_at zero = KeyMismatch
@@ -55,7 +55,7 @@ order_at (suc (suc (suc (suc (suc (suc zero)))))) = omega arith
 order_at (suc (suc (suc (suc (suc (suc (suc zero))))))) = omega arith
 order_at (suc (suc (suc (suc (suc (suc (suc (suc n)))))))) = omega arith
 
--- a reason is one by its place
+-- A number in the order has one reason.
 pub same_order : (why other : Why) → order_of why ≡ order_of other → why ≡ other
 same_order why other e = sym (why_at-order_of why) ∙ ap why_at e ∙ why_at-order_of other
 

@@ -1,8 +1,8 @@
--- Whether a plan begins to fit can be told from the front, one step after the other.
+-- Whether a plan begins to fit is decided step by step.
 use Rattle.std.proofs.Common.{◌≡◌, ◌≢◌, ℕ, ◌-◌, ◌↔◌, true, List, [], ◌∷◌, ◌++◌, Some, length, drop, refl, sym, ap, ◌∙◌, subst, inl, inr, append-nil, append_assoc}
 use Rattle.std.proofs.lemmas.List.Elements.{filter-append}
 use Rattle.wsn_wire.specs.declared.endpoint.Role.{Role}
-use Rattle.wsn_wire.specs.declared.spelling.Form.{Form}
+use Rattle.wsn_wire.specs.declared.length_forms.Form.{Form}
 use Rattle.wsn_wire.specs.declared.opcode.Kind.{Kind}
 use Rattle.wsn_wire.specs.declared.opcode.Op.{Op}
 use Rattle.wsn_rules.specs.declared.step.Step.{Step}
@@ -12,32 +12,32 @@ use Rattle.wsn_rules.specs.Meaning.{MeantEvent}
 use Rattle.wsn_rules.specs.Meaning as meant
 use Rattle.wsn_rules.specs.Plan.{piece_length, is_end, is_last, form_of, pending, total, events_left, next_text}
 use Rattle.wsn_rules.specs.Plan as plans
-use Rattle.wsn_rules.specs.Fitting.{HasKeyOf, StandsFor, StandForFirst, PiecesFit, IsAllowedForm, BeginsToFit, Fits}
+use Rattle.wsn_rules.specs.Fitting.{HasKeyOf, IsEndOf, AreEndsOfFirst, PiecesFit, IsAllowedForm, BeginsToFit, Fits}
 use Rattle.wsn_rules.proofs.Prefixes.{nil-cons, nil-push, head_same, push-append, split_push}
-use Rattle.wsn_rules.proofs.PlanTheory.FromTheFront.{pieces_after, left_after, left_behind, MayStand, StepLaw, BeginsToFitFrom}
+use Rattle.wsn_rules.proofs.PlanTheory.FromTheFront.{pieces_after, left_after, left_following, MayStand, StepLaw, BeginsToFitFrom}
 use Rattle.wsn_rules.proofs.PlanTheory.PiecesInARow.{pieces_fit_front}
 use Rattle.wsn_rules.proofs.PlanTheory.Context.{pending_push, left_push, events_left_are}
 
--- ---- the ends stand for the first events: one end more
+-- ---- the ends are for the first events: one more end
 
-pub stand_front : (steps : List Step) (step : Step) (events : List MeantEvent) → StandForFirst (steps ++ step ∷ []) events → StandForFirst steps events
+pub stand_front : (steps : List Step) (step : Step) (events : List MeantEvent) → AreEndsOfFirst (steps ++ step ∷ []) events → AreEndsOfFirst steps events
 stand_front [] step events stand = tt
 stand_front (s ∷ steps) step [] stand = stand
 stand_front (s ∷ steps) step (e ∷ events) stand = (stand.0, stand_front steps step events stand.1)
 
--- the event that a step stands for, with those behind it
+-- The event that a step is for, and the events after it.
 abbrev pub StandsForNext : Step → List MeantEvent → Type 0
-StandsForNext step left = (event : MeantEvent) × (later : List MeantEvent) × (left ≡ event ∷ later) × StandsFor step event
+StandsForNext step left = (event : MeantEvent) × (later : List MeantEvent) × (left ≡ event ∷ later) × IsEndOf step event
 
-pub stand_last : (steps : List Step) (step : Step) (events : List MeantEvent) → StandForFirst (steps ++ step ∷ []) events → StandsForNext step (drop (length steps) events)
+pub stand_last : (steps : List Step) (step : Step) (events : List MeantEvent) → AreEndsOfFirst (steps ++ step ∷ []) events → StandsForNext step (drop (length steps) events)
 stand_last [] step [] stand = absurd stand
 stand_last [] step (e ∷ events) stand = (e, events, refl, stand.0)
 stand_last (s ∷ steps) step [] stand = absurd stand
 stand_last (s ∷ steps) step (e ∷ events) stand = stand_last steps step events stand.1
 
-pub stand_push : (steps : List Step) (step : Step) (events : List MeantEvent) → StandForFirst steps events → StandsForNext step (drop (length steps) events) → StandForFirst (steps ++ step ∷ []) events
+pub stand_push : (steps : List Step) (step : Step) (events : List MeantEvent) → AreEndsOfFirst steps events → StandsForNext step (drop (length steps) events) → AreEndsOfFirst (steps ++ step ∷ []) events
 stand_push [] step [] stand next = absurd (nil-cons next.0 next.1 next.2)
-stand_push [] step (e ∷ events) stand next = (subst (StandsFor step) (sym (head_same e next.0 events next.1 next.2)) next.3, tt)
+stand_push [] step (e ∷ events) stand next = (subst (IsEndOf step) (sym (head_same e next.0 events next.1 next.2)) next.3, tt)
 stand_push (s ∷ steps) step [] stand next = stand
 stand_push (s ∷ steps) step (e ∷ events) stand next = (stand.0, stand_push steps step events stand.1 next)
 
@@ -49,32 +49,32 @@ ends_push plan (Control key) is = filter-append is_end plan (Control key ∷ [])
 ends_piece : (plan : List Step) (len : ℕ) (key : _) (form : Form) → plans.ends (plan ++ Piece len key form ∷ []) ≡ plans.ends plan
 ends_piece plan len key form = filter-append is_end plan (Piece len key form ∷ []) ∙ append-nil (plans.ends plan)
 
--- ---- one step more: what may stand, and what goes on
+-- ---- one more step: what is allowed, and what follows
 
 -- The Pieces fit the next message.
 abbrev pub FitNext : Limits → List Step → List MeantEvent → Type 0
 FitNext limits pieces left = (text : List ℕ) × (next_text left ≡ Some text) × PiecesFit limits pieces text
 
--- what a Last and a Control stand for
+-- The event that a Last or a Control is for.
 abbrev BeginsWith : Step → List MeantEvent → Type 0
 BeginsWith (Piece len key form) left = ⊥
 BeginsWith (Last key form) left = (kind : Kind) × (text : List ℕ) × (later : List MeantEvent) × (left ≡ meant.Message kind text ∷ later)
 BeginsWith (Control key) left = (op : Op) × (body : List ℕ) × (later : List MeantEvent) × (left ≡ meant.Control op body ∷ later)
 
-begins_with : (step : Step) (left : List MeantEvent) (event : MeantEvent) (later : List MeantEvent) → left ≡ event ∷ later → StandsFor step event → BeginsWith step left
-begins_with (Piece len key form) left event later is stands = stands
-begins_with (Last key form) left (meant.Message kind text) later is stands = (kind, text, later, is)
-begins_with (Last key form) left (meant.Control op body) later is stands = absurd stands
-begins_with (Control key) left (meant.Message kind text) later is stands = absurd stands
-begins_with (Control key) left (meant.Control op body) later is stands = (op, body, later, is)
+begins_with : (step : Step) (left : List MeantEvent) (event : MeantEvent) (later : List MeantEvent) → left ≡ event ∷ later → IsEndOf step event → BeginsWith step left
+begins_with (Piece len key form) left event later is has_scanned = has_scanned
+begins_with (Last key form) left (meant.Message kind text) later is has_scanned = (kind, text, later, is)
+begins_with (Last key form) left (meant.Control op body) later is has_scanned = absurd has_scanned
+begins_with (Control key) left (meant.Message kind text) later is has_scanned = absurd has_scanned
+begins_with (Control key) left (meant.Control op body) later is has_scanned = (op, body, later, is)
 
-next_end : (plan : List Step) (step : Step) (events : List MeantEvent) → is_end step ≡ true → StandForFirst (plans.ends (plan ++ step ∷ [])) events → BeginsWith step (events_left events plan)
+next_end : (plan : List Step) (step : Step) (events : List MeantEvent) → is_end step ≡ true → AreEndsOfFirst (plans.ends (plan ++ step ∷ [])) events → BeginsWith step (events_left events plan)
 next_end plan step events is stand =
-    let next = stand_last (plans.ends plan) step events (subst (λ (steps : List Step). StandForFirst steps events) (ends_push plan step is) stand) in
+    let next = stand_last (plans.ends plan) step events (subst (λ (steps : List Step). AreEndsOfFirst steps events) (ends_push plan step is) stand) in
     begins_with step (events_left events plan) next.0 next.1 next.2 next.3
 
 module _ (role : Role) (limits : Limits) (events : List MeantEvent) where
-  -- a Piece makes the message unended
+  -- A Piece makes its message unfinished.
   unended_piece : (plan : List Step) (len : ℕ) (key : _) (form : Form) → BeginsToFit role limits (plan ++ Piece len key form ∷ []) events
       → FitNext limits (pending plan ++ Piece len key form ∷ []) (events_left events plan)
   unended_piece plan len key form begins =
@@ -92,7 +92,7 @@ module _ (role : Role) (limits : Limits) (events : List MeantEvent) where
       (next.0, next.1, next.2, next.3, fit.0, fit.1)
   may_stand plan (Control key) begins = next_end plan (Control key) events refl begins.ends
 
-  -- the Pieces in front of the step fit the next message
+  -- The Pieces before the step fit the next message.
   unended_front : (plan : List Step) (step : Step) → BeginsToFit role limits (plan ++ step ∷ []) events → pending plan ≢ [] → FitNext limits (pending plan) (events_left events plan)
   unended_front plan (Piece len key form) begins some =
       let fit = unended_piece plan len key form begins in
@@ -109,12 +109,12 @@ module _ (role : Role) (limits : Limits) (events : List MeantEvent) where
         subst (λ (pieces : List Step). PiecesFit limits pieces fit.0) (pending_push plan (Control key)) fit.2,
       )
 
-  ends_front : (plan : List Step) (step : Step) → StandForFirst (plans.ends (plan ++ step ∷ [])) events → StandForFirst (plans.ends plan) events
-  ends_front plan (Piece len key form) stand = subst (λ (steps : List Step). StandForFirst steps events) (ends_piece plan len key form) stand
+  ends_front : (plan : List Step) (step : Step) → AreEndsOfFirst (plans.ends (plan ++ step ∷ [])) events → AreEndsOfFirst (plans.ends plan) events
+  ends_front plan (Piece len key form) stand = subst (λ (steps : List Step). AreEndsOfFirst steps events) (ends_piece plan len key form) stand
   ends_front plan (Last key form) stand =
-      stand_front (plans.ends plan) (Last key form) events (subst (λ (steps : List Step). StandForFirst steps events) (ends_push plan (Last key form) refl) stand)
+      stand_front (plans.ends plan) (Last key form) events (subst (λ (steps : List Step). AreEndsOfFirst steps events) (ends_push plan (Last key form) refl) stand)
   ends_front plan (Control key) stand =
-      stand_front (plans.ends plan) (Control key) events (subst (λ (steps : List Step). StandForFirst steps events) (ends_push plan (Control key) refl) stand)
+      stand_front (plans.ends plan) (Control key) events (subst (λ (steps : List Step). AreEndsOfFirst steps events) (ends_push plan (Control key) refl) stand)
 
   split_longer : (plan : List Step) (last : Step) (before : List Step) (step : Step) (after : List Step) → plan ≡ before ++ step ∷ after → plan ++ last ∷ [] ≡ before ++ step ∷ (after ++ last ∷ [])
   split_longer plan last before step after is = ap (λ (steps : List Step). steps ++ last ∷ []) is ∙ append_assoc before (step ∷ after) (last ∷ [])
@@ -133,13 +133,13 @@ module _ (role : Role) (limits : Limits) (events : List MeantEvent) where
   pub step_law : (plan : List Step) (step : Step) → BeginsToFit role limits (plan ++ step ∷ []) events → StepLaw role limits (pending plan) (events_left events plan) step
   step_law plan step begins = (begins.keys plan [] step refl, may_stand plan step begins)
 
-  ends_more : (plan : List Step) (step : Step) → StandForFirst (plans.ends plan) events → MayStand limits (pending plan) (events_left events plan) step → StandForFirst (plans.ends (plan ++ step ∷ [])) events
-  ends_more plan (Piece len key form) stand law = subst (λ (steps : List Step). StandForFirst steps events) (sym (ends_piece plan len key form)) stand
+  ends_more : (plan : List Step) (step : Step) → AreEndsOfFirst (plans.ends plan) events → MayStand limits (pending plan) (events_left events plan) step → AreEndsOfFirst (plans.ends (plan ++ step ∷ [])) events
+  ends_more plan (Piece len key form) stand law = subst (λ (steps : List Step). AreEndsOfFirst steps events) (sym (ends_piece plan len key form)) stand
   ends_more plan (Last key form) stand law =
-      subst (λ (steps : List Step). StandForFirst steps events) (sym (ends_push plan (Last key form) refl))
+      subst (λ (steps : List Step). AreEndsOfFirst steps events) (sym (ends_push plan (Last key form) refl))
       (stand_push (plans.ends plan) (Last key form) events stand (meant.Message law.0 law.1, law.2, law.3, tt))
   ends_more plan (Control key) stand law =
-      subst (λ (steps : List Step). StandForFirst steps events) (sym (ends_push plan (Control key) refl))
+      subst (λ (steps : List Step). AreEndsOfFirst steps events) (sym (ends_push plan (Control key) refl))
       (stand_push (plans.ends plan) (Control key) events stand (meant.Control law.0 law.1, law.2, law.3, tt))
 
   unended_more : (plan : List Step) (step : Step) → BeginsToFit role limits plan events → MayStand limits (pending plan) (events_left events plan) step → pending (plan ++ step ∷ []) ≢ []
@@ -159,7 +159,7 @@ module _ (role : Role) (limits : Limits) (events : List MeantEvent) where
         subst (λ (pieces : List Step). PiecesFit limits pieces fit.0) (sym (pending_push plan (Control key))) fit.2,
       )
 
-  -- what a Last's law says of the message that it ends
+  -- The rule that a Last sets for the message that it ends.
   last_law : (pieces : List Step) (left : List MeantEvent) (step : Step) (kind : Kind) (text : List ℕ) (later : List MeantEvent) → MayStand limits pieces left step → is_last step ≡ true
       → left ≡ meant.Message kind text ∷ later → PiecesFit limits pieces text × IsAllowedForm limits.lengths (form_of step) (length text - total pieces)
   last_law pieces left (Piece len key form) kind text later law is left_is = cc
@@ -188,7 +188,7 @@ module _ (role : Role) (limits : Limits) (events : List MeantEvent) where
     ];
   }
 
-  -- ---- a whole plan, behind steps that begin to fit
+  -- ---- a whole plan, after steps that begin to fit
 
   pub begins_nil : BeginsToFit role limits [] events
   begins_nil = record {
@@ -204,7 +204,7 @@ module _ (role : Role) (limits : Limits) (events : List MeantEvent) where
   begins_prefix before (step ∷ plan) begins =
       begins_front before step (begins_prefix (before ++ step ∷ []) plan (subst (λ (steps : List Step). BeginsToFit role limits steps events) (sym (push-append before step plan)) begins))
 
-  -- the law of the steps behind a step, by the context behind the step and by the definitions
+  -- The rule for the steps after a step, by the context after the step and by the definitions.
   context_moved : (before : List Step) (step : Step) (plan : List Step) →
       BeginsToFitFrom role limits (pending (before ++ step ∷ [])) (events_left events (before ++ step ∷ [])) plan
       ≡ BeginsToFitFrom role limits (pieces_after (pending before) step) (left_after (events_left events before) step) plan
@@ -212,11 +212,11 @@ module _ (role : Role) (limits : Limits) (events : List MeantEvent) where
       ap (λ (pieces : List Step). BeginsToFitFrom role limits pieces (events_left events (before ++ step ∷ [])) plan) (pending_push before step)
       ∙ ap (λ (left : List MeantEvent). BeginsToFitFrom role limits (pieces_after (pending before) step) left plan) (left_push before step events)
 
-  pub begins_behind : (before plan : List Step) → BeginsToFit role limits before events → BeginsToFitFrom role limits (pending before) (events_left events before) plan → BeginsToFit role limits (before ++ plan) events
-  begins_behind before [] begins behind = subst (λ (steps : List Step). BeginsToFit role limits steps events) (sym (append-nil before)) begins
-  begins_behind before (step ∷ plan) begins behind =
+  pub begins_after : (before plan : List Step) → BeginsToFit role limits before events → BeginsToFitFrom role limits (pending before) (events_left events before) plan → BeginsToFit role limits (before ++ plan) events
+  begins_after before [] begins following = subst (λ (steps : List Step). BeginsToFit role limits steps events) (sym (append-nil before)) begins
+  begins_after before (step ∷ plan) begins following =
       subst (λ (steps : List Step). BeginsToFit role limits steps events) (push-append before step plan)
-      (begins_behind (before ++ step ∷ []) plan (begins_push before step begins behind.0) (subst (λ (A : Type 0). A) (sym (context_moved before step plan)) behind.1))
+      (begins_after (before ++ step ∷ []) plan (begins_push before step begins following.0) (subst (λ (A : Type 0). A) (sym (context_moved before step plan)) following.1))
 
   pub begins_from : (before plan : List Step) → BeginsToFit role limits (before ++ plan) events → BeginsToFitFrom role limits (pending before) (events_left events before) plan
   begins_from before [] begins = tt
@@ -229,10 +229,10 @@ module _ (role : Role) (limits : Limits) (events : List MeantEvent) where
   -- ---- from the start
 
   pub begins_iff : (plan : List Step) → BeginsToFit role limits plan events ↔ BeginsToFitFrom role limits [] events plan
-  begins_iff plan = (λ begins. begins_from [] plan begins, λ behind. begins_behind [] plan begins_nil behind)
+  begins_iff plan = (λ begins. begins_from [] plan begins, λ following. begins_after [] plan begins_nil following)
 
-  pub fits_iff : (plan : List Step) → Fits role limits plan events ↔ (BeginsToFitFrom role limits [] events plan × (left_behind events plan ≡ []))
+  pub fits_iff : (plan : List Step) → Fits role limits plan events ↔ (BeginsToFitFrom role limits [] events plan × (left_following events plan ≡ []))
   fits_iff plan = (
     λ fits. (begins_from [] plan fits.begins, sym (events_left_are plan events) ∙ fits.all),
-    λ both. record { begins = begins_behind [] plan begins_nil both.0; all = events_left_are plan events ∙ both.1 },
+    λ both. record { begins = begins_after [] plan begins_nil both.0; all = events_left_are plan events ∙ both.1 },
   )

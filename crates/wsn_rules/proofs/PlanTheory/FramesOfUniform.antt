@@ -1,4 +1,4 @@
--- Frames whose plan is the uniform plan of what they mean are uniform.
+-- Frames whose plan is the uniform plan of their meaning are uniform.
 use Rattle.std.proofs.Common.{◌≡◌, ℕ, zero, suc, ◌+◌, ◌-◌, ◌*◌, ◌/◌, ◌≤◌, ◌∷◌, ◌++◌, [], true, false, not, List, Option, length, replicate, refl, sym, ap, ◌∙◌, subst, inl, inr, arith, append_assoc, append-nil, true≢false}
 use Rattle.std.specs.List.{AllByRecursion}
 use Rattle.std.proofs.lemmas.Bool.{cases_Bool}
@@ -6,26 +6,26 @@ use Rattle.std.proofs.lemmas.List.{map-append}
 use Rattle.std.proofs.Math.Nat.{div-mul-le_self, lt-div-mul-add}
 use Rattle.wsn_text.proofs.Numbers.{less_or_not}
 use Rattle.wsn_wire.specs.declared.endpoint.Role.{Role}
-use Rattle.wsn_wire.specs.declared.spelling.Form.{Form}
-use Rattle.wsn_wire.specs.declared.spelling.Form.TheVariants.{Shortest}
+use Rattle.wsn_wire.specs.declared.length_forms.Form.{Form}
+use Rattle.wsn_wire.specs.declared.length_forms.Form.TheVariants.{Shortest}
 use Rattle.wsn_wire.specs.Frame.{Frame, is_control}
 use Rattle.wsn_rules.specs.declared.step.Step.{Step}
 use Rattle.wsn_rules.specs.declared.step.Step.TheVariants.{Piece, Last, Control}
 use Rattle.wsn_rules.specs.Limits.{Limits}
-use Rattle.wsn_rules.specs.Group.{is_data, unfinished, text_of}
+use Rattle.wsn_rules.specs.Group.{is_data, unfinished, payload_of}
 use Rattle.wsn_rules.specs.Lawful.{IsLawful}
-use Rattle.wsn_rules.specs.Meaning.{MeantEvent, events_behind, meaning}
+use Rattle.wsn_rules.specs.Meaning.{MeantEvent, events_after, meaning}
 use Rattle.wsn_rules.specs.Meaning as meant
 use Rattle.wsn_rules.specs.Plan.{is_piece}
 use Rattle.wsn_rules.specs.Recut.{plan_of}
-use Rattle.wsn_rules.specs.UniformPlan.{piece_count, uniform_behind, uniform_plan}
+use Rattle.wsn_rules.specs.UniformPlan.{piece_count, uniform_after, uniform_plan}
 use Rattle.wsn_rules.specs.UniformFrames.{HoldsTheRest, IsUniformAt, AreUniform}
 use Rattle.wsn_rules.proofs.Prefixes.{push-append, nil-push, head_same, tail_same}
 use Rattle.wsn_rules.proofs.LawfulLists.{law_at_split}
 use Rattle.wsn_rules.proofs.Groups.{unfinished_control, unfinished_final, unfinished_more}
-use Rattle.wsn_rules.proofs.PlanTheory.UniformOfFrames.{step_of_control, step_of_last, step_of_piece, text_of_push, full, uniform, pieces_of, IsFull, empty_is_full, full_push, control_behind, last_behind, piece_behind}
+use Rattle.wsn_rules.proofs.PlanTheory.UniformOfFrames.{step_of_control, step_of_last, step_of_piece, text_of_push, full, uniform, pieces_of, IsFull, empty_is_full, full_push, control_after, last_after, piece_after}
 
--- ---- how long a rest is, where so many pieces stand in front of it
+-- ---- the length of a rest after the given number of Pieces
 
 rest_of_count : (size n rest : ℕ) → 1 ≤ size → 1 ≤ n * size + rest → piece_count size (n * size + rest) ≡ n → (1 ≤ rest) × (rest ≤ size)
 rest_of_count size n rest some bytes is =
@@ -39,7 +39,7 @@ nothing_of_none [] none = refl
 nothing_of_none (b ∷ bytes) none = absurd (omega arith)
 
 module _ (size : ℕ) (key : Option (List ℕ)) (some : 1 ≤ size) where
-  -- ---- each Piece of a uniform plan is a full one
+  -- ---- every Piece of a uniform plan is a full one
 
   abbrev AreFull : List Step → Type 0
   AreFull = AllByRecursion (λ step. is_piece step ≡ true → step ≡ full size key)
@@ -56,7 +56,7 @@ module _ (size : ℕ) (key : Option (List ℕ)) (some : 1 ≤ size) where
   all_full zero = tt
   all_full (suc n) = (λ _. refl, all_full n)
 
-  uniform_is_full : (run : List Step) (events : List MeantEvent) → AreFull run → AreFull (uniform_behind size false key run events)
+  uniform_is_full : (run : List Step) (events : List MeantEvent) → AreFull run → AreFull (uniform_after size false key run events)
   uniform_is_full run [] all = all
   uniform_is_full run (meant.Control op body ∷ events) all =
       uniform_is_full (run ++ Control key ∷ []) events (full_join run (Control key ∷ []) all (λ is. absurd (true≢false (sym is)), tt))
@@ -99,17 +99,17 @@ module _ (size : ℕ) (key : Option (List ℕ)) (some : 1 ≤ size) where
 
   -- ---- the rest
 
-  rest_here : (earlier : List Frame) (f : Frame) → IsFull size key earlier → piece_count size (length (text_of (earlier ++ f ∷ []))) ≡ length earlier → HoldsTheRest size earlier f
+  rest_here : (earlier : List Frame) (f : Frame) → IsFull size key earlier → piece_count size (length (payload_of (earlier ++ f ∷ []))) ≡ length earlier → HoldsTheRest size earlier f
   unfolding IsFull
   rest_here earlier f filled is =
       let bytes = text_of_push earlier f in
-      let sum_is : length (text_of (earlier ++ f ∷ [])) ≡ length earlier * size + length f.payload = omega arith in
-      elim (less_or_not 0 (length (text_of (earlier ++ f ∷ [])))) [
+      let sum_is : length (payload_of (earlier ++ f ∷ [])) ≡ length earlier * size + length f.payload = omega arith in
+      elim (less_or_not 0 (length (payload_of (earlier ++ f ∷ [])))) [
         | inl held ↦ inl (rest_of_count size (length earlier) (length f.payload) some (omega arith) (ap (piece_count size) (sym sum_is) ∙ is))
-        | inr none ↦ inr (nothing_of_none (text_of (earlier ++ f ∷ [])) (omega arith))
+        | inr none ↦ inr (nothing_of_none (payload_of (earlier ++ f ∷ [])) (omega arith))
       ]
 
-  -- ---- from the front
+  -- ---- frame by frame
 
   abbrev AreUniformBehind : List Frame → List Frame → Type 0
   AreUniformBehind before [] = Unit {0}
@@ -127,17 +127,17 @@ module _ (size : ℕ) (key : Option (List ℕ)) (some : 1 ≤ size) where
   not_data : (f : Frame) → is_control f.op ≡ true → is_data f ≡ true → ⊥
   not_data f control data_is = true≢false (sym data_is ∙ ap not control)
 
-  -- the steps of these frames and those behind them are the rest of the uniform plan
+  -- The steps of these frames, and those after them, are the rest of the uniform plan.
   GoOn : List Frame → List Frame → Type 0
-  GoOn before fs = pieces_of size key (unfinished before) ++ plan_of fs ≡ uniform size key (events_behind before fs)
+  GoOn before fs = pieces_of size key (unfinished before) ++ plan_of fs ≡ uniform size key (events_after before fs)
 
-  -- a frame that is uniform, behind which the rest goes on
+  -- The frame is uniform, and the rest continues after it.
   record GoesOn (before : List Frame) (f : Frame) (fs : List Frame) : Type 0 where
     here : IsUniformAt size key before f
     filled : IsFull size key (unfinished (before ++ f ∷ []))
     later : GoOn (before ++ f ∷ []) fs
 
-  on_without_group : (before fs : List Frame) (group : List Frame) → unfinished before ≡ group → group ≡ [] → plan_of fs ≡ uniform size key (events_behind before fs) → GoOn before fs
+  on_without_group : (before fs : List Frame) (group : List Frame) → unfinished before ≡ group → group ≡ [] → plan_of fs ≡ uniform size key (events_after before fs) → GoOn before fs
   unfolding GoOn
   on_without_group before fs group is none rest = ap (λ (earlier : List Frame). pieces_of size key earlier ++ plan_of fs) (is ∙ none) ∙ rest
 
@@ -145,8 +145,8 @@ module _ (size : ℕ) (key : Option (List ℕ)) (some : 1 ≤ size) where
   unfolding GoOn
   on_control before f fs control final shortest goes =
       let group = unfinished before in
-      let same = control_here group f.key (plan_of fs) (uniform size key (events_behind (before ++ f ∷ []) fs))
-      (ap (λ (step : Step). pieces_of size key group ++ step ∷ plan_of fs) (sym (step_of_control f control)) ∙ goes ∙ control_behind size key before f fs control final) in
+      let same = control_here group f.key (plan_of fs) (uniform size key (events_after (before ++ f ∷ []) fs))
+      (ap (λ (step : Step). pieces_of size key group ++ step ∷ plan_of fs) (sym (step_of_control f control)) ∙ goes ∙ control_after size key before f fs control final) in
       let still = unfinished_control before f (ap not control) in
       record {
         here = record {
@@ -164,9 +164,9 @@ module _ (size : ℕ) (key : Option (List ℕ)) (some : 1 ≤ size) where
   unfolding GoOn
   on_last before f fs other final filled goes =
       let group = unfinished before in
-      let n = piece_count size (length (text_of (group ++ f ∷ []))) in
-      let same = last_here n group f.key f.form (plan_of fs) (uniform size key (events_behind (before ++ f ∷ []) fs))
-      (ap (λ (step : Step). pieces_of size key group ++ step ∷ plan_of fs) (sym (step_of_last f other final)) ∙ goes ∙ last_behind size key before f fs other final) in
+      let n = piece_count size (length (payload_of (group ++ f ∷ []))) in
+      let same = last_here n group f.key f.form (plan_of fs) (uniform size key (events_after (before ++ f ∷ []) fs))
+      (ap (λ (step : Step). pieces_of size key group ++ step ∷ plan_of fs) (sym (step_of_last f other final)) ∙ goes ∙ last_after size key before f fs other final) in
       let ended = unfinished_final before f (ap not other) final in
       record {
         here = record {
@@ -184,11 +184,11 @@ module _ (size : ℕ) (key : Option (List ℕ)) (some : 1 ≤ size) where
   unfolding GoOn
   on_piece before f fs other more filled goes =
       let group = unfinished before in
-      let later = events_behind (before ++ f ∷ []) fs in
+      let later = events_after (before ++ f ∷ []) fs in
       let own = Piece (length f.payload) f.key f.form in
-      let whole = goes ∙ piece_behind size key before f fs more in
-      let stands : pieces_of size key group ++ own ∷ plan_of fs ≡ uniform size key later = ap (λ (step : Step). pieces_of size key group ++ step ∷ plan_of fs) (sym (step_of_piece f other more)) ∙ whole in
-      let same : own ≡ full size key = full_at (pieces_of size key group) own (plan_of fs) (subst AreFull (sym stands) (uniform_is_full [] later tt)) refl in
+      let whole = goes ∙ piece_after size key before f fs more in
+      let has_scanned : pieces_of size key group ++ own ∷ plan_of fs ≡ uniform size key later = ap (λ (step : Step). pieces_of size key group ++ step ∷ plan_of fs) (sym (step_of_piece f other more)) ∙ whole in
+      let same : own ≡ full size key = full_at (pieces_of size key group) own (plan_of fs) (subst AreFull (sym has_scanned) (uniform_is_full [] later tt)) refl in
       let size_is : length f.payload ≡ size = cc in
       let key_is : f.key ≡ key = cc in
       let form_is : f.form ≡ Shortest = cc in
@@ -207,7 +207,7 @@ module _ (size : ℕ) (key : Option (List ℕ)) (some : 1 ≤ size) where
             ∙ ap (λ (steps : List Step). steps ++ plan_of fs) (map-append (λ (g : Frame). full size key) group (f ∷ []))
             ∙ append_assoc (pieces_of size key group) (full size key ∷ []) (plan_of fs)
             ∙ ap (λ (step : Step). pieces_of size key group ++ step ∷ plan_of fs) (sym same)
-            ∙ stands;
+            ∙ has_scanned;
       }
 
   module _ (role : Role) (limits : Limits) where
@@ -215,19 +215,19 @@ module _ (size : ℕ) (key : Option (List ℕ)) (some : 1 ≤ size) where
     one_more before f fs lawful filled goes =
         let law = law_at_split role limits before f fs lawful in
         elim (cases_Bool (is_control f.op)) [
-          | inl control ↦ on_control before f fs control (law.frame.spelled.control control).final (law.frame.spelled.control control).shortest goes
+          | inl control ↦ on_control before f fs control (law.frame.encoded.control control).final (law.frame.encoded.control control).shortest goes
           | inr other ↦ elim (cases_Bool f.fin) [
             | inl final ↦ on_last before f fs other final filled goes
             | inr more ↦ on_piece before f fs other more filled goes
           ]
         ]
 
-    behind : (before fs : List Frame) → IsLawful role limits (before ++ fs) → IsFull size key (unfinished before) → GoOn before fs → AreUniformBehind before fs
-    behind before [] lawful filled goes = tt
-    behind before (f ∷ fs) lawful filled goes =
+    following : (before fs : List Frame) → IsLawful role limits (before ++ fs) → IsFull size key (unfinished before) → GoOn before fs → AreUniformBehind before fs
+    following before [] lawful filled goes = tt
+    following before (f ∷ fs) lawful filled goes =
         let on = one_more before f fs lawful filled goes in
-        (on.here, behind (before ++ f ∷ []) fs (subst (IsLawful role limits) (sym (push-append before f fs)) lawful) on.filled on.later)
+        (on.here, following (before ++ f ∷ []) fs (subst (IsLawful role limits) (sym (push-append before f fs)) lawful) on.filled on.later)
 
     pub uniform_by_plan : (fs : List Frame) → IsLawful role limits fs → uniform_plan size false key (meaning fs) ≡ plan_of fs → AreUniform size key fs
     unfolding GoOn
-    uniform_by_plan fs lawful is before after f split = uniform_at [] fs before after f (behind [] fs lawful (empty_is_full size key [] refl) (sym is)) split
+    uniform_by_plan fs lawful is before after f split = uniform_at [] fs before after f (following [] fs lawful (empty_is_full size key [] refl) (sym is)) split

@@ -1,4 +1,4 @@
--- Plans from the front, with a context: the Pieces of the message that is not ended yet, and the events that have no end.
+-- Plans step by step, with a context: the Pieces of the unfinished message, and the events without an end.
 use Rattle.std.proofs.Common.{◌≡◌, ℕ, ◌-◌, List, [], ◌∷◌, ◌++◌, Some, length, drop}
 use Rattle.wsn_wire.specs.declared.endpoint.Role.{Role}
 use Rattle.wsn_rules.specs.declared.step.Step.{Step}
@@ -11,7 +11,7 @@ use Rattle.wsn_rules.specs.Plan.{total, next_text}
 use Rattle.wsn_rules.specs.Fitting.{HasKeyOf, PiecesFit, IsAllowedForm}
 use Rattle.wsn_rules.specs.Recut.{step_frame}
 
--- ---- the context behind a step
+-- ---- the context after a step
 
 abbrev pub pieces_after : List Step → Step → List Step
 pieces_after pieces (Piece len key form) = pieces ++ Piece len key form ∷ []
@@ -22,9 +22,9 @@ abbrev pub left_after : List MeantEvent → Step → List MeantEvent
 left_after left (Piece len key form) = left
 left_after left step = drop 1 left
 
--- ---- the law of one step
+-- ---- the rule for one step
 
--- The step may stand there: behind these Pieces of the next message, where these events are left.
+-- The step is allowed after these Pieces of the next message, with these events left.
 abbrev pub MayStand : Limits → List Step → List MeantEvent → Step → Type 0
 MayStand limits pieces left (Piece len key form) =
     ((text : List ℕ) × (next_text left ≡ Some text) × PiecesFit limits (pieces ++ Piece len key form ∷ []) text) × IsAllowedForm limits.lengths form len
@@ -36,20 +36,20 @@ MayStand limits pieces left (Control key) =
 abbrev pub StepLaw : Role → Limits → List Step → List MeantEvent → Step → Type 0
 StepLaw role limits pieces left step = HasKeyOf role step × MayStand limits pieces left step
 
--- Each step may stand where it stands.
+-- Each step is allowed in its context.
 abbrev pub BeginsToFitFrom : Role → Limits → List Step → List MeantEvent → List Step → Type 0
 BeginsToFitFrom role limits pieces left [] = Unit {0}
 BeginsToFitFrom role limits pieces left (step ∷ plan) =
     StepLaw role limits pieces left step × BeginsToFitFrom role limits (pieces_after pieces step) (left_after left step) plan
 
--- the events that are left behind a plan, and its Pieces that are pending
-abbrev pub left_behind : List MeantEvent → List Step → List MeantEvent
-left_behind left [] = left
-left_behind left (step ∷ plan) = left_behind (left_after left step) plan
+-- The events left after a plan, and its pending Pieces.
+abbrev pub left_following : List MeantEvent → List Step → List MeantEvent
+left_following left [] = left
+left_following left (step ∷ plan) = left_following (left_after left step) plan
 
-abbrev pub pieces_behind : List Step → List Step → List Step
-pieces_behind pieces [] = pieces
-pieces_behind pieces (step ∷ plan) = pieces_behind (pieces_after pieces step) plan
+abbrev pub pieces_following : List Step → List Step → List Step
+pieces_following pieces [] = pieces
+pieces_following pieces (step ∷ plan) = pieces_following (pieces_after pieces step) plan
 
 -- ---- recuts
 

@@ -1,4 +1,4 @@
--- Pieces in a row: how many they are, how many bytes they hold, and that their front fits where they do.
+-- Pieces in a row: their number, their bytes, and that a prefix of them fits where they do.
 use Rattle.std.proofs.Common.{◌≡◌, ℕ, ◌+◌, ◌≤◌, List, [], ◌∷◌, ◌++◌, length, sum_by, sym, ap, ◌∙◌, arith}
 use Rattle.std.proofs.lemmas.List.{length-append}
 use Rattle.std.proofs.lemmas.List.Sums.{sum-map, sum_by-append}

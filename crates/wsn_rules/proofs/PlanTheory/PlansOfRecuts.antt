@@ -11,12 +11,12 @@ use Rattle.wsn_rules.specs.LawfulEvents.{AreLawful}
 use Rattle.wsn_rules.specs.Plan.{IsPlan, total}
 use Rattle.wsn_rules.specs.Fitting.{Fits}
 use Rattle.wsn_rules.specs.Recut.{next_message, recut, recut_bytes, step_of, plan_of}
-use Rattle.wsn_rules.specs.Spellings.{Spell, AreRecut}
+use Rattle.wsn_rules.specs.Encodings.{Encode, AreRecut}
 use Rattle.wsn_rules.proofs.OneVerdict.{same_bytes}
 use Rattle.wsn_rules.proofs.PlanTheory.FromTheFront.{pieces_after, left_after, StepLaw, BeginsToFitFrom, frame_from, recut_from}
 use Rattle.wsn_rules.proofs.PlanTheory.Context.{recut_is}
 use Rattle.wsn_rules.proofs.PlanTheory.FitsFromTheFront.{begins_from}
-use Rattle.wsn_rules.proofs.PlanTheory.MessageFrames.{op_behind_is_data, piece_frame, last_frame, control_frame, length_of_piece}
+use Rattle.wsn_rules.proofs.PlanTheory.MessageFrames.{op_after_is_data, piece_frame, last_frame, control_frame, length_of_piece}
 use Rattle.wsn_rules.proofs.PlanTheory.RecutSteps.{next_is}
 use Rattle.wsn_rules.proofs.PlanTheory.RecutFrames.{lawful_after, recut_is_lawful, recut_is_finished, recut_means, recut_is_accepted}
 use Rattle.wsn_rules.proofs.PlanTheory.PlansOfFrames.{step_of_control, step_of_last, step_of_piece, plan_of_is_plan, plan_of_fits, plan_of_restores}
@@ -30,9 +30,9 @@ step_of_frame role limits pieces left (Piece len key form) lawful law =
     let message = next_message left in
     let text_is = next_is left fit.0 fit.1 in
     let size = length_of_piece pieces message.1 len key form (subst (λ (text : List ℕ). total (pieces ++ Piece len key form ∷ []) ≤ length text) (sym text_is) fit.2.size) in
-    step_of_piece (piece_frame pieces len key form message) (op_behind_is_data (length pieces) message.0) refl ∙ ap (λ (n : ℕ). Piece n key form) size
+    step_of_piece (piece_frame pieces len key form message) (op_after_is_data (length pieces) message.0) refl ∙ ap (λ (n : ℕ). Piece n key form) size
 step_of_frame role limits pieces left (Last key form) lawful law =
-    step_of_last (last_frame pieces key form (next_message left)) (op_behind_is_data (length pieces) (next_message left).0) refl
+    step_of_last (last_frame pieces key form (next_message left)) (op_after_is_data (length pieces) (next_message left).0) refl
 step_of_frame role limits pieces left (Control key) lawful law =
     let next = law.1 in
     subst (λ (events : List MeantEvent). step_of (frame_from pieces events (Control key)) ≡ Control key) (sym next.3)
@@ -55,10 +55,10 @@ module _ (role : Role) (limits : Limits) (events : List MeantEvent) (lawful : Ar
       (recut_is_lawful role limits events plan lawful is_plan fits) (recut_is_lawful role limits events other lawful also too) same in
       sym (plan_of_recut plan fits) ∙ ap plan_of frames ∙ plan_of_recut other too
 
-  -- ---- what spells these events is a recut of them
+  -- ---- an input that encodes these events is a recut of them
 
-  recut_of_spelling : (bytes : List ℕ) → Spell role limits events bytes → AreRecut role limits events bytes
-  recut_of_spelling bytes spell =
+  recut_of_encoding : (bytes : List ℕ) → Encode role limits events bytes → AreRecut role limits events bytes
+  recut_of_encoding bytes spell =
       let lawful_frames = spell.1.lawful in (
         plan_of spell.0,
         plan_of_is_plan role limits spell.0 lawful_frames,
@@ -66,8 +66,8 @@ module _ (role : Role) (limits : Limits) (events : List MeantEvent) (lawful : Ar
         spell.3 ∙ ap stream (sym (plan_of_restores role limits spell.0 lawful_frames spell.2)) ∙ ap (recut_bytes (plan_of spell.0)) spell.4,
       )
 
-  spelling_of_recut : (bytes : List ℕ) → AreRecut role limits events bytes → Spell role limits events bytes
-  spelling_of_recut bytes cut = (
+  encoding_of_recut : (bytes : List ℕ) → AreRecut role limits events bytes → Encode role limits events bytes
+  encoding_of_recut bytes cut = (
     recut cut.0 events,
     subst (λ (whole : List ℕ). IsAccepted role limits whole (recut cut.0 events)) (sym cut.3) (recut_is_accepted role limits events cut.0 lawful cut.1 cut.2),
     recut_is_finished role limits events cut.0 lawful cut.1 cut.2,
@@ -75,5 +75,5 @@ module _ (role : Role) (limits : Limits) (events : List MeantEvent) (lawful : Ar
     recut_means role limits events cut.0 lawful cut.1 cut.2,
   )
 
-  pub spell_iff_recut : (bytes : List ℕ) → Spell role limits events bytes ↔ AreRecut role limits events bytes
-  spell_iff_recut bytes = (recut_of_spelling bytes, spelling_of_recut bytes)
+  pub spell_iff_recut : (bytes : List ℕ) → Encode role limits events bytes ↔ AreRecut role limits events bytes
+  spell_iff_recut bytes = (recut_of_encoding bytes, encoding_of_recut bytes)

@@ -3,10 +3,10 @@ use Rattle.std.proofs.Common.{◌≡◌, ℕ, ◌+◌, ◌-◌, ◌<◌, ◌≤�
 use Rattle.std.proofs.lemmas.Option.{same_Some}
 use Rattle.wsn_wire.specs.declared.endpoint.Role.{Role}
 use Rattle.wsn_wire.specs.declared.endpoint.Role.TheVariants.{Client, Server}
-use Rattle.wsn_wire.specs.declared.spelling.Form.{Form}
-use Rattle.wsn_wire.specs.declared.spelling.Form.TheVariants as form
-use Rattle.wsn_wire.specs.declared.spelling.Lengths.{Lengths}
-use Rattle.wsn_wire.specs.declared.spelling.Lengths.TheVariants as spellings
+use Rattle.wsn_wire.specs.declared.length_forms.Form.{Form}
+use Rattle.wsn_wire.specs.declared.length_forms.Form.TheVariants as form
+use Rattle.wsn_wire.specs.declared.length_forms.Lengths.{Lengths}
+use Rattle.wsn_wire.specs.declared.length_forms.Lengths.TheVariants as encodings
 use Rattle.wsn_rules.specs.declared.step.Step.{Step}
 use Rattle.wsn_rules.specs.declared.step.Step.TheVariants.{Piece, Last, Control}
 use Rattle.wsn_rules.specs.declared.why.Why.{Why}
@@ -20,9 +20,9 @@ use Rattle.wsn_rules.specs.Fault.{IsOfMessage, BeginsWithMessage, BeginsWithCont
 use Rattle.wsn_rules.proofs.Prefixes.{nil-cons}
 use Rattle.wsn_rules.proofs.DecidedRows.{Decided, both, denied, less, at_most}
 
--- ---- of parts
+-- ---- parts of rows
 
--- a value of an option for which P holds
+-- An option has a value for which P holds.
 module _ {A : Type 0} (P : A → Type 0) (decided : (a : A) → Decided (P a)) where
   abbrev pub SomeWith : Option A → Type 0
   SomeWith o = (a : A) × (o ≡ Some a) × P a
@@ -41,12 +41,12 @@ key_given None Client = inr (λ iff. true≢false (sym (iff.1 refl)))
 key_given (Some key) Server = inr (λ iff. let is : Server ≡ Client = iff.0 refl in cc)
 key_given None Server = inl (λ is. absurd (true≢false (sym is)), λ is. (cc))
 
-unfoldable pub allowed_form : (lengths : Lengths) (spelled : Form) (size : ℕ) → Decided (IsAllowedForm lengths spelled size)
+unfoldable pub allowed_form : (lengths : Lengths) (encoded : Form) (size : ℕ) → Decided (IsAllowedForm lengths encoded size)
 allowed_form lengths form.Shortest size = inl (λ _. refl, tt)
-allowed_form spellings.Shortest form.Two size = inr (λ allowed. let is : form.Two ≡ form.Shortest = allowed.0 refl in cc)
-allowed_form spellings.Shortest form.Eight size = inr (λ allowed. let is : form.Eight ≡ form.Shortest = allowed.0 refl in cc)
-allowed_form spellings.Any form.Two size = both (spellings.Any ≡ spellings.Shortest → form.Two ≡ form.Shortest) (size ≤ 125) (inl (λ is. (cc))) (at_most size 125)
-allowed_form spellings.Any form.Eight size = both (spellings.Any ≡ spellings.Shortest → form.Eight ≡ form.Shortest) (size ≤ 65535) (inl (λ is. (cc))) (at_most size 65535)
+allowed_form encodings.Shortest form.Two size = inr (λ allowed. let is : form.Two ≡ form.Shortest = allowed.0 refl in cc)
+allowed_form encodings.Shortest form.Eight size = inr (λ allowed. let is : form.Eight ≡ form.Shortest = allowed.0 refl in cc)
+allowed_form encodings.Any form.Two size = both (encodings.Any ≡ encodings.Shortest → form.Two ≡ form.Shortest) (size ≤ 125) (inl (λ is. (cc))) (at_most size 125)
+allowed_form encodings.Any form.Eight size = both (encodings.Any ≡ encodings.Shortest → form.Eight ≡ form.Shortest) (size ≤ 65535) (inl (λ is. (cc))) (at_most size 65535)
 
 unfoldable pub no_event : (left : List MeantEvent) → Decided (left ≡ [])
 no_event [] = inl refl
@@ -71,7 +71,7 @@ with_control [] = inr (λ begins. nil-cons (meant.Control begins.0 begins.1) beg
 with_control (meant.Message kind text ∷ later) = inr (λ begins. let is : meant.Message kind text ∷ later ≡ meant.Control begins.0 begins.1 ∷ begins.2 = begins.3 in cc)
 with_control (meant.Control op body ∷ later) = inl (op, body, later, refl)
 
--- ---- the rows
+-- ---- rows
 
 unfoldable pub too_long : (held : ℕ) (left : List MeantEvent) (step : Step) → Decided (IsTooLong held left step)
 too_long held left (Piece len key form) = some_with (λ text. length text < held + len) (λ text. less (length text) (held + len)) (next_text left)

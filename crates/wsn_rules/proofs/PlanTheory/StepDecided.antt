@@ -1,9 +1,9 @@
--- A step has its law where it stands, or a first reason against it, and never both.
+-- A step is allowed in its context, or there is a first reason against it; never both.
 use Rattle.std.proofs.Common.{◌≡◌, ◌≢◌, ℕ, ◌+◌, ◌-◌, ◌⊎◌, ◌∷◌, ◌++◌, [], List, Option, Some, None, length, refl, sym, ap, ◌∙◌, subst, inl, inr, arith}
 use Rattle.std.proofs.lemmas.Option.{same_Some}
 use Rattle.wsn_text.proofs.Numbers.{less_or_not}
 use Rattle.wsn_wire.specs.declared.endpoint.Role.{Role}
-use Rattle.wsn_wire.specs.declared.spelling.Form.{Form}
+use Rattle.wsn_wire.specs.declared.length_forms.Form.{Form}
 use Rattle.wsn_rules.specs.declared.step.Step.{Step}
 use Rattle.wsn_rules.specs.declared.step.Step.TheVariants.{Piece, Last, Control}
 use Rattle.wsn_rules.specs.declared.why.Why.{Why}
@@ -21,7 +21,7 @@ use Rattle.wsn_rules.proofs.PlanTheory.PiecesInARow.{length_push, total_push}
 use Rattle.wsn_rules.proofs.PlanTheory.FirstReason.{first_or_none}
 use Rattle.wsn_rules.proofs.PlanTheory.RowsDecided.{key_given, allowed_form, row_decided}
 
--- The Pieces that pend belong to the first message that is left, and leave room for its Last.
+-- The pending Pieces belong to the first message left, and leave a frame for its Last.
 abbrev pub PendingFits : Limits → List Step → List MeantEvent → Type 0
 PendingFits limits pieces left = pieces ≢ [] → (text : List ℕ) × (next_text left ≡ Some text) × PiecesFit limits pieces text
 
@@ -33,7 +33,7 @@ affirmed : (P : Type 0) → Decided P → ((P → ⊥) → ⊥) → P
 affirmed P (inl holds) not_not = holds
 affirmed P (inr not) not_not = absurd (not_not not)
 
--- no Pieces leave room for a Last, since a limit on frames is at least 1
+-- No Pieces leave a frame for a Last, since a limit on frames is at least 1.
 none_fit : (limits : Limits) (text : List ℕ) → InRange limits → PiecesFit limits [] text
 none_fit limits text range = record {
   size = omega arith;
@@ -54,7 +54,7 @@ none_pending limits [] left fits none = refl
 none_pending limits (piece ∷ pieces) left fits none =
     let some = fits (λ empty. nil-cons piece pieces (sym empty)) in absurd (not_both_texts (next_text left) some.0 some.1 none)
 
--- ---- a step against which there is no reason
+-- ---- a step with no reason against it
 
 module _ (role : Role) (limits : Limits) (range : InRange limits) (pieces : List Step) (left : List MeantEvent) where
   key_fits : (step : Step) → ((why : Why) → Holds role limits (length pieces) (total pieces) left step why → ⊥) → HasKeyOf role step

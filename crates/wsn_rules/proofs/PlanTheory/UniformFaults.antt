@@ -1,8 +1,8 @@
--- A uniform plan is a plan, and where messages may have only so many frames, its only fault is that one has too many.
+-- A uniform plan is a plan; if the frames of a message are limited, its only fault is too many Pieces.
 use Rattle.std.proofs.Common.{◌≡◌, ℕ, zero, suc, ◌⊎◌, ◌↔◌, ◌∷◌, ◌++◌, [], Bool, List, Option, None, IsSome, IfSome, length, take, drop, replicate, refl, sym, ap, ◌∙◌, subst, inl, inr, append-nil}
 use Rattle.wsn_wire.specs.declared.endpoint.Role.{Role}
 use Rattle.wsn_wire.specs.declared.endpoint.Role.TheVariants.{Client}
-use Rattle.wsn_wire.specs.declared.spelling.Form.TheVariants.{Shortest}
+use Rattle.wsn_wire.specs.declared.length_forms.Form.TheVariants.{Shortest}
 use Rattle.wsn_wire.specs.Frame.{IsKey}
 use Rattle.wsn_rules.specs.declared.step.Step.{Step}
 use Rattle.wsn_rules.specs.declared.step.Step.TheVariants.{Piece, Last, Control}
@@ -14,7 +14,7 @@ use Rattle.wsn_rules.specs.Meaning as meant
 use Rattle.wsn_rules.specs.Plan.{IsPlan, pending, total, events_left}
 use Rattle.wsn_rules.specs.Fitting.{BeginsToFit, Fits}
 use Rattle.wsn_rules.specs.Fault.{Holds, IsWhy, IsFault}
-use Rattle.wsn_rules.specs.UniformPlan.{piece_count, ahead, uniform_pieces, uniform_behind, uniform_plan}
+use Rattle.wsn_rules.specs.UniformPlan.{piece_count, ahead, uniform_pieces, uniform_after, uniform_plan}
 use Rattle.wsn_rules.proofs.Prefixes.{push-append}
 use Rattle.wsn_rules.proofs.PlanTheory.FitsFromTheFront.{begins_prefix}
 use Rattle.wsn_rules.proofs.PlanTheory.Walked.{stops}
@@ -42,27 +42,27 @@ module _ (size : ℕ) (weave : Bool) (key : Option (List ℕ)) (is_key : IfSome 
   pieces_have_keys zero = tt
   pieces_have_keys (suc n) = (is_key, pieces_have_keys n)
 
-  uniform_has_keys : (run : List Step) (events : List MeantEvent) → IsPlan run → IsPlan (uniform_behind size weave key run events)
+  uniform_has_keys : (run : List Step) (events : List MeantEvent) → IsPlan run → IsPlan (uniform_after size weave key run events)
   uniform_has_keys run [] all = all
   uniform_has_keys run (meant.Control op body ∷ events) all = uniform_has_keys (run ++ Control key ∷ []) events (all_keys_join run (Control key ∷ []) all (is_key, tt))
   uniform_has_keys run (meant.Message kind text ∷ events) all =
       let pieces = uniform_pieces size key text in
       let have_keys = pieces_have_keys (piece_count size (length text)) in
       let later = uniform_has_keys [] events tt in
-      let behind = all_keys_join (drop (ahead weave) pieces) (Last key Shortest ∷ uniform_behind size weave key [] events) (all_keys_drop (ahead weave) pieces have_keys) (is_key, later) in
-      all_keys_join (take (ahead weave) pieces) (run ++ (drop (ahead weave) pieces ++ (Last key Shortest ∷ uniform_behind size weave key [] events))) (all_keys_take (ahead weave) pieces have_keys)
-      (all_keys_join run (drop (ahead weave) pieces ++ (Last key Shortest ∷ uniform_behind size weave key [] events)) all behind)
+      let following = all_keys_join (drop (ahead weave) pieces) (Last key Shortest ∷ uniform_after size weave key [] events) (all_keys_drop (ahead weave) pieces have_keys) (is_key, later) in
+      all_keys_join (take (ahead weave) pieces) (run ++ (drop (ahead weave) pieces ++ (Last key Shortest ∷ uniform_after size weave key [] events))) (all_keys_take (ahead weave) pieces have_keys)
+      (all_keys_join run (drop (ahead weave) pieces ++ (Last key Shortest ∷ uniform_after size weave key [] events)) all following)
 
   pub uniform_is_plan : (events : List MeantEvent) → IsPlan (uniform_plan size weave key events)
   uniform_is_plan events = uniform_has_keys [] events tt
 
--- ---- where frames are bounded
+-- ---- with a limit on frames
 
--- these limits, with any number of frames
+-- The same limits, with any number of frames.
 abbrev unbounded : Limits → Limits
 unbounded limits = record limits { frames = None }
 
--- a reason holds under both, but for the number of Pieces
+-- A reason other than the number of Pieces holds under both limits.
 too_many_or_both : (role : Role) (limits : Limits) (count held : ℕ) (left : List MeantEvent) (step : Step) (why : Why)
     → (why ≡ TooManyPieces) ⊎ (Holds role limits count held left step why → Holds role (unbounded limits) count held left step why)
 too_many_or_both role limits count held left step KeyMismatch = inr (λ holds. holds)
@@ -82,7 +82,7 @@ too_many_or_both role limits count held left (Control key) WrongForm = inr (λ h
 too_many_or_both role limits count held left step EventsLeft = inr (λ holds. holds)
 
 module _ (role : Role) (limits : Limits) (events : List MeantEvent) where
-  -- of a plan that fits under any number of frames
+  -- The fault of a plan that fits with any number of frames.
   too_many : (plan fitting rest : List Step) (why : Why) → plan ≡ fitting ++ rest → Fits role (unbounded limits) plan events → IsWhy role limits events fitting rest why → why ≡ TooManyPieces
   too_many plan fitting [] why whole fits is = absurd (is.1 (ap (events_left events) (sym (whole ∙ append-nil fitting)) ∙ fits.all))
   too_many plan fitting (step ∷ rest) why whole fits is =

@@ -1,10 +1,10 @@
--- A plan walked from the front: one step more against which there is no reason, and the fault at the first against
--- which there is one.
+-- A plan step by step: one more step that no reason is against, and the fault at the first step that a reason is
+-- against.
 use Rattle.std.proofs.Common.{◌≡◌, ◌≢◌, ℕ, ◌+◌, ◌≤◌, ◌⊎◌, ◌∷◌, ◌++◌, [], List, Option, Some, None, length, drop, refl, sym, ap, ◌∙◌, subst, inl, inr, arith, append-nil}
 use Rattle.std.specs.Option.{ForSome}
 use Rattle.std.proofs.lemmas.List.{length-append}
 use Rattle.wsn_wire.specs.declared.endpoint.Role.{Role}
-use Rattle.wsn_wire.specs.declared.spelling.Form.{Form}
+use Rattle.wsn_wire.specs.declared.length_forms.Form.{Form}
 use Rattle.wsn_rules.specs.declared.step.Step.{Step}
 use Rattle.wsn_rules.specs.declared.step.Step.TheVariants.{Piece, Last, Control}
 use Rattle.wsn_rules.specs.declared.why.Why.{Why}
@@ -13,7 +13,7 @@ use Rattle.wsn_rules.specs.Limits.{Limits, InRange}
 use Rattle.wsn_rules.specs.Meaning.{MeantEvent}
 use Rattle.wsn_rules.specs.Plan.{pending, total, events_left, next_text}
 use Rattle.wsn_rules.specs.Fitting.{BeginsToFit, Fits}
-use Rattle.wsn_rules.specs.Fault.{Holds, HoldsBehind, IsFirstWhy, IsFault}
+use Rattle.wsn_rules.specs.Fault.{Holds, HoldsAfter, IsFirstWhy, IsFault}
 use Rattle.wsn_rules.specs.WalkedPlan.{HasWalked}
 use Rattle.wsn_rules.proofs.Prefixes.{two_fronts, push-append, head_same}
 use Rattle.wsn_rules.proofs.PlanTheory.Context.{pending_push, left_push}
@@ -23,28 +23,28 @@ use Rattle.wsn_rules.proofs.PlanTheory.StepDecided.{pending_fit, none_pending, s
 use Rattle.wsn_rules.proofs.PlanTheory.PiecesInARow.{length_push, total_push}
 
 module _ (role : Role) (limits : Limits) (events : List MeantEvent) where
-  -- ---- a plan goes on exactly by a step against which there is no reason
+  -- ---- a plan continues exactly with a step that no reason is against
 
-  pub goes_on : (plan : List Step) (step : Step) → InRange limits → BeginsToFit role limits plan events → ((why : Why) → HoldsBehind role limits plan events step why → ⊥)
+  pub goes_on : (plan : List Step) (step : Step) → InRange limits → BeginsToFit role limits plan events → ((why : Why) → HoldsAfter role limits plan events step why → ⊥)
       → BeginsToFit role limits (plan ++ step ∷ []) events
   goes_on plan step range begins none =
       begins_push role limits events plan step begins (step_law role limits range (pending plan) (events_left events plan) step begins.unended none)
 
-  pub stops : (plan : List Step) (step : Step) (why : Why) → BeginsToFit role limits (plan ++ step ∷ []) events → HoldsBehind role limits plan events step why → ⊥
+  pub stops : (plan : List Step) (step : Step) (why : Why) → BeginsToFit role limits (plan ++ step ∷ []) events → HoldsAfter role limits plan events step why → ⊥
   stops plan step why begins holds =
       no_why role limits (pending plan) (events_left events plan) step (bridge.step_law role limits events plan step begins) why holds
 
   -- ---- the fault
 
-  -- no longer front begins to fit than one behind which a step is refused
-  longest_before : (plan rest : List Step) (step : Step) (why : Why) → HoldsBehind role limits plan events step why
+  -- No longer prefix begins to fit than one after which a step has a reason against it.
+  longest_before : (plan rest : List Step) (step : Step) (why : Why) → HoldsAfter role limits plan events step why
       → (others later : List Step) → plan ++ step ∷ rest ≡ others ++ later → BeginsToFit role limits others events → length others ≤ length plan
   longest_before plan rest step why holds others later is begins = longest_of (two_fronts plan others (step ∷ rest) later is)
     where
       with_step : (more : List Step) → others ≡ plan ++ more → step ∷ rest ≡ more ++ later → length others ≤ length plan
-      with_step [] longer behind = omega (arith, ap length (longer ∙ append-nil plan))
-      with_step (s ∷ more) longer behind =
-          let same = head_same step s rest (more ++ later) behind in
+      with_step [] longer following = omega (arith, ap length (longer ∙ append-nil plan))
+      with_step (s ∷ more) longer following =
+          let same = head_same step s rest (more ++ later) following in
           let whole : others ≡ (plan ++ step ∷ []) ++ more =
           longer ∙ ap (λ (first : Step). plan ++ first ∷ more) (sym same) ∙ sym (push-append plan step more) in
           absurd (stops plan step why (begins_prefix role limits events (plan ++ step ∷ []) more (subst (λ (steps : List Step). BeginsToFit role limits steps events) whole begins)) holds)
@@ -53,7 +53,7 @@ module _ (role : Role) (limits : Limits) (events : List MeantEvent) where
       longest_of (inl p) = with_step p.0 p.1 p.2
       longest_of (inr p) = omega (arith, ap length p.1, length-append others p.0)
 
-  pub fault_at : (plan rest : List Step) (step : Step) (why : Why) → BeginsToFit role limits plan events → IsFirstWhy (HoldsBehind role limits plan events step) why
+  pub fault_at : (plan rest : List Step) (step : Step) (why : Why) → BeginsToFit role limits plan events → IsFirstWhy (HoldsAfter role limits plan events step) why
       → IsFault role limits (plan ++ step ∷ rest) events (length plan) why
   fault_at plan rest step why begins is = record {
     fitting = plan;
@@ -81,9 +81,9 @@ module _ (role : Role) (limits : Limits) (events : List MeantEvent) where
   pub walked_start : HasWalked role limits events [] 0 0 events
   walked_start = record { begins = begins_nil role limits events; counted = refl; summed = refl; remaining = refl }
 
-  -- the rows are those by the numbers
+  -- The rows in numbers are the rows of the definitions.
   rows_are : (plan : List Step) (count held : ℕ) (left : List MeantEvent) (step : Step) → HasWalked role limits events plan count held left
-      → Holds role limits count held left step ≡ HoldsBehind role limits plan events step
+      → Holds role limits count held left step ≡ HoldsAfter role limits plan events step
   rows_are plan count held left step walked =
       ap (λ (n : ℕ). Holds role limits n held left step) walked.counted
       ∙ ap (λ (n : ℕ). Holds role limits (length (pending plan)) n left step) walked.summed
@@ -138,7 +138,7 @@ module _ (role : Role) (limits : Limits) (events : List MeantEvent) where
     pub walked_fits : left ≡ [] → Fits role limits plan events
     walked_fits none = record { begins = walked.begins; all = sym walked.remaining ∙ none }
 
-    -- ---- what pends fits the next message
+    -- ---- the pending Pieces fit the next message
 
     pub walked_pending : InRange limits → (text : List ℕ) → next_text left ≡ Some text → (held ≤ length text) × ForSome limits.frames (λ most. count + 1 ≤ most)
     walked_pending range text is =

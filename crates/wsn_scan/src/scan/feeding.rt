@@ -1,4 +1,4 @@
-//! Pieces that are taken without a word of what they are.
+//! Feeding pieces to a scan without reading its notices.
 
 use super::Scan;
 use wsn_rules::Refusal;
@@ -7,8 +7,9 @@ impl Scan {
     ghost use Rattle.std.specs.Prelude.{◌≤◌, length};
     ghost use Rattle.wsn_scan.specs.Words.{room_of, IsRunning, HasFed};
 
-    /// Takes the piece, which is no longer than `room`: all of it, or up to a refusal, which it answers, and again from
-    /// then on. It unmasks payload in place.
+    /// Consumes the piece, all of it or the bytes up to a refusal, and returns the refusal, if there is one. `piece` is
+    /// at most [`room`](Scan::room) bytes long. Once a scan has refused, each call returns the same refusal. Payload is
+    /// unmasked in place (RFC 6455 section 5.3).
     #[tactic(none)]
     pub fn feed(&mut self, piece: &mut [u8]) -> Option<Refusal>
         requires begun { IsRunning self.old }

@@ -1,4 +1,4 @@
-//! What a scan takes at each stage of a frame.
+//! How a scan consumes bytes at each stage of a frame.
 
 use super::Scan;
 use crate::notice::Notice;
@@ -9,14 +9,14 @@ use wsn_wire::Reason;
 
 impl Scan {
     ghost use Rattle.std.specs.Prelude.{◌≡◌, ◌+◌, ◌-◌, ◌<◌, ◌≤◌, ◌⊎◌, None, length, drop};
-    ghost use Rattle.wsn_scan.specs.Words.{TakesAt, room_of, refusal_in, AdvancesFrom, BeginsFrame, EndsWithPayload, refusal_of, IsHeadNotice, IsRefusal, refusal_in_notice};
+    ghost use Rattle.wsn_scan.specs.Words.{ConsumesAtStage, room_of, refusal_in, AdvancesFrom, BeginsFrame, EndsWithPayload, refusal_of, IsHeadNotice, IsRefusal, refusal_in_notice};
 
-    /// Before the first byte of a frame.
+    /// Consumes bytes from a frame's first byte on.
     #[inline(always)]
     pub(super) fn next_frame(&mut self, piece: &[u8]) -> (usize, Notice)
         requires { length piece.now ≤ room_of self.old }
         ensures taken { AdvancesFrom Stage.Between self.old self.new piece.now piece.now result.0 result.1 }
-        ensures takes { TakesAt Stage.Between (length piece.now) result.0 result.1 }
+        ensures consumes { ConsumesAtStage Stage.Between (length piece.now) result.0 result.1 }
         ensures within { result.0 ≤ length piece.now }
         ensures room { room_of self.new + result.0 ≡ room_of self.old }
         ensures some { 0 < length piece.now → 0 < result.0 }
@@ -28,12 +28,12 @@ impl Scan {
         }
     }
 
-    /// In a head, or before its first byte.
+    /// Consumes bytes in a head, or from its first byte on.
     #[inline(always)]
     pub(super) fn next_head(&mut self, mut part: PartialHead, piece: &[u8]) -> (usize, Notice)
         requires { length piece.now ≤ room_of self.old }
         ensures taken { AdvancesFrom (Stage.Head part) self.old self.new piece.now piece.now result.0 result.1 }
-        ensures takes { TakesAt (Stage.Head part) (length piece.now) result.0 result.1 }
+        ensures consumes { ConsumesAtStage (Stage.Head part) (length piece.now) result.0 result.1 }
         ensures within { result.0 ≤ length piece.now }
         ensures room { room_of self.new + result.0 ≡ room_of self.old }
         ensures some { 0 < length piece.now → 0 < result.0 }
@@ -51,13 +51,13 @@ impl Scan {
         (piece.len(), Notice::More)
     }
 
-    /// In a payload.
+    /// Consumes bytes in a payload.
     #[inline(always)]
     #[tactic(none)]
     pub(super) fn next_payload(&mut self, inside: Inside, piece: &mut [u8]) -> (usize, Notice)
         requires { length piece.old ≤ room_of self.old }
         ensures taken { AdvancesFrom (Stage.Payload inside) self.old self.new piece.old piece.new result.0 result.1 }
-        ensures takes { TakesAt (Stage.Payload inside) (length piece.old) result.0 result.1 }
+        ensures consumes { ConsumesAtStage (Stage.Payload inside) (length piece.old) result.0 result.1 }
         ensures within { result.0 ≤ length piece.old }
         ensures kept { drop result.0 piece.new ≡ drop result.0 piece.old }
         ensures room { room_of self.new + result.0 ≡ room_of self.old }
@@ -101,7 +101,7 @@ impl Scan {
         }
     }
 
-    /// The last of these bytes shows the reason.
+    /// Refuses the stream: the last of these `count` bytes is the offending byte.
     #[inline(always)]
     fn refuse(&mut self, count: usize, reason: Reason) -> Notice
         requires { count ≤ room_of self.old }
@@ -121,13 +121,13 @@ impl Scan {
         Notice::Refused(refusal)
     }
 
-    /// The last of these bytes ends a head.
+    /// Begins a frame: the last of these `count` bytes ends its head. An empty frame also ends here, or is refused.
     #[inline(always)]
     #[tactic(none)]
     fn begin(&mut self, count: usize, head: Head) -> Notice
         requires { count ≤ room_of self.old }
         ensures taken { BeginsFrame self.old self.new count head result }
-        ensures takes { IsHeadNotice result ⊎ IsRefusal result }
+        ensures consumes { IsHeadNotice result ⊎ IsRefusal result }
         ensures room { room_of self.new + count ≡ room_of self.old }
         ensures reported { refusal_in self.new ≡ refusal_in_notice result }
     {
@@ -150,7 +150,7 @@ impl Scan {
         Notice::Head(info)
     }
 
-    /// All of a frame came.
+    /// Ends a frame: all of its payload came.
     #[tactic(none)]
     pub(super) fn end(&mut self, head: &Head, check: &PayloadCheck)
         ensures taken { EndsWithPayload self.old self.new head.now check.now }
@@ -160,6 +160,6 @@ impl Scan {
         self.used = self.taken();
         self.counts = self.counts.with(head.first.fin, head.first.op);
         self.context.message = message_after(self.context.message, head, check);
-        self.stage = Stage::behind(head.first.fin, check);
+        self.stage = Stage::following(head.first.fin, check);
     }
 }

@@ -1,4 +1,4 @@
-//! What a scan says of all that it has taken.
+//! The verdict on the bytes that a scan has consumed.
 
 use super::Scan;
 use crate::stage::Stage;
@@ -6,15 +6,15 @@ use wsn_rules::{Summary, Verdict};
 
 impl Scan {
     ghost use Rattle.std.specs.Prelude.{◌≡◌, ℕ, ◌-◌, ◌<◌, List, Some};
-    ghost use Rattle.wsn_scan.specs.Words.{Frame, AreHeads, Stands, refusal_in, taken_of, summary_of, verdict_between, Reported, refusal_judged, unfinished, IsVerdict};
+    ghost use Rattle.wsn_scan.specs.Words.{Frame, AreHeads, HasScanned, refusal_in, taken_of, summary_of, verdict_between, Reported, refusal_judged, unfinished, IsVerdict};
 
-    /// The verdict on the bytes taken, as the whole input.
-    #[tactic(auto, using(crate::proofs::HeadsSoFar::heads_told))]
+    /// The verdict on the bytes consumed so far, as if the input ended here (RFC 6455 sections 5 and 7).
+    #[tactic(auto, using(crate::proofs::HeadsSoFar::heads_reported))]
     pub fn finish(&self) -> Verdict
         ensures verdict { (role : _) (limits : _) (bytes rest : List ℕ) (fs : List Frame) (reported : Reported) →
-            Stands role limits self.now bytes fs rest reported → IsVerdict role limits bytes fs result }
+            HasScanned role limits self.now bytes fs rest reported → IsVerdict role limits bytes fs result }
         ensures heads { (role : _) (limits : _) (bytes rest : List ℕ) (fs : List Frame) (reported : Reported) →
-            Stands role limits self.now bytes fs rest reported → AreHeads role limits bytes fs reported.heads }
+            HasScanned role limits self.now bytes fs rest reported → AreHeads role limits bytes fs reported.heads }
         ensures reported { refusal_judged result ≡ refusal_in self.now }
     {
         match &self.stage {
@@ -34,7 +34,7 @@ impl Scan {
         }
     }
 
-    /// Behind a Close: what follows it is the tail.
+    /// After a Close: the bytes after it are the tail.
     #[tactic(none)]
     fn closed(&self, code: Option<u16>) -> Verdict
         ensures { result ≡ Verdict.Accepted (summary_of self.now self.now.used (taken_of self.now - self.now.used)
@@ -44,7 +44,7 @@ impl Scan {
         Verdict::Accepted(self.summary(self.used, tail, Some(code)))
     }
 
-    /// Between frames: nothing is missing unless a message is open.
+    /// Between frames: accepted, or cut if a message is unfinished.
     #[tactic(none)]
     fn between(&self) -> Verdict
         ensures { result ≡ verdict_between self.now self.now.context.message }
@@ -56,7 +56,7 @@ impl Scan {
         }
     }
 
-    /// Within a frame.
+    /// Within a frame: cut.
     fn cut(&self) -> Verdict
         ensures { result ≡ Verdict.Cut (summary_of self.now (taken_of self.now) 0 None) }
     {

@@ -1,19 +1,20 @@
-//! Frames that a piece holds whole, taken at once.
+//! Frames that are whole in a piece, each consumed in one step.
 
 use super::Scan;
 use wsn_frame::{PayloadCheck, unmask, whole_head};
+use wsn_rules::HeadInfo;
 
 impl Scan {
-    ghost use Rattle.std.specs.Prelude.{◌≡◌, ◌+◌, ◌-◌, ◌<◌, ◌≤◌, List, None, length, drop, IfSome, IfNone};
-    ghost use Rattle.wsn_scan.specs.Words.{HeadInfo, TakesFront, IsBytes, Takes, room_of, refusal_in};
+    ghost use Rattle.std.specs.Prelude.{◌≡◌, ◌+◌, ◌-◌, ◌<◌, ◌≤◌, List, [], ◌∷◌, None, length, drop, IfSome, IfNone};
+    ghost use Rattle.wsn_scan.specs.Words.{HeadInfo, ConsumesPrefix, IsBytes, ConsumesFromPiece, room_of, refusal_in};
 
-    /// Takes frames from the front of the piece, up to the first that [`Scan::take_frame`] leaves, and answers how
-    /// many bytes. It tells nothing: `next` is for a caller that reads notices.
+    /// Consumes frames at the start of the piece, up to the first that [`Scan::take_frame`] leaves, and returns the
+    /// number of bytes. It reports nothing; a caller that reads notices uses `next`.
     #[inline(never)]
     pub(crate) fn take_frames(&mut self, piece: &mut [u8]) -> usize
         requires { length piece.old ≤ room_of self.old }
         ensures taken { IsBytes piece.old → (heads : List HeadInfo)
-            × TakesFront self.old self.new piece.old result heads }
+            × ConsumesPrefix self.old self.new piece.old result heads }
         ensures within { result ≤ length piece.old }
         ensures kept { drop result piece.new ≡ drop result piece.old }
         ensures room { room_of self.new + result ≡ room_of self.old }
@@ -21,23 +22,24 @@ impl Scan {
         ensures none { result ≡ 0 → self.new ≡ self.old }
     {
         let mut at = 0;
-        while let Some(taken) = self.take_frame(&mut piece[at..]) {
+        while let Some((taken, _head)) = self.take_frame(&mut piece[at..]) {
             at += taken;
         }
         at
     }
 
-    /// Takes the frame at the front of the piece at once and answers its size, where no other frame is begun, all of
-    /// it lies in the piece, and it has a payload and shows nothing. Else nothing changes.
+    /// Consumes the frame at the start of the piece in one step and returns its size in bytes and its head. It does so
+    /// if the scan is between frames, the piece has the whole frame, the payload isn't empty and the frame is valid.
+    /// Otherwise it returns `None`, and nothing changes.
     #[inline(always)]
     #[tactic(none)]
-    fn take_frame(&mut self, piece: &mut [u8]) -> Option<usize>
+    pub(crate) fn take_frame(&mut self, piece: &mut [u8]) -> Option<(usize, HeadInfo)>
         requires { length piece.old ≤ room_of self.old }
-        ensures taken { IfSome result (λ n. IsBytes piece.old → (heads : List HeadInfo)
-            × TakesFront self.old self.new piece.old n heads) }
-        ensures within { IfSome result (λ n. (0 < n) × (n ≤ length piece.old)) }
-        ensures kept { IfSome result (λ n. drop n piece.new ≡ drop n piece.old) }
-        ensures room { IfSome result (λ n. room_of self.new + n ≡ room_of self.old) }
+        ensures taken { IfSome result (λ found. IsBytes piece.old →
+            ConsumesPrefix self.old self.new piece.old found.0 (found.1 ∷ [])) }
+        ensures within { IfSome result (λ found. (0 < found.0) × (found.0 ≤ length piece.old)) }
+        ensures kept { IfSome result (λ found. drop found.0 piece.new ≡ drop found.0 piece.old) }
+        ensures room { IfSome result (λ found. room_of self.new + found.0 ≡ room_of self.old) }
         ensures reported { IfSome result (λ _. refusal_in self.new ≡ None) }
         ensures none { IfNone result ((self.new ≡ self.old) × (piece.new ≡ piece.old)) }
     {
@@ -54,9 +56,10 @@ impl Scan {
         unmask(head.key, 0, &mut piece[start..end]);
         match check.feed(&piece[start..end], head.first.fin, true) {
             Ok(check) => {
+                let info = head.info(self.used);
                 self.room -= end as u64;
                 self.end(&head, &check);
-                Some(end)
+                Some((end, info))
             }
             Err(_) => {
                 unmask(head.key, 0, &mut piece[start..end]);

@@ -1,10 +1,11 @@
-use Rattle.std.proofs.Common.{◌≡◌, ◌≤◌, ℕ, Result, Err, length, take, sym, ◌∙◌, subst, rules, arith, length-take-le, ap}
+use Rattle.std.proofs.Common.{◌≡◌, ◌≤◌, ℕ, Result, Err, length, take, refl, sym, ◌∙◌, subst, rules, arith, length-take-le, ap}
 use Rattle.std.proofs.lemmas.Result.{err_from_is_err_and}
-use Rattle.std.specs.Io.KnownBytes.{Consumes}
-use Rattle.wsn_capture.specs.declared.report.Report.{Report}
+use Rattle.wsn_io.specs.Transfer.{IsConsumed}
+use Rattle.wsn_io.proofs.Received.{consumed_read}
+use Rattle.wsn_rules.specs.declared.report.Report.{Report}
 use Rattle.wsn_capture.specs.declared.capture_stop.CaptureStop.{CaptureStop}
 use Rattle.wsn_capture.specs.CaptureAnswers.{IsCaptureJudged}
-use Rattle.wsn_capture.proofs.JudgedCaptures.{stopped, ended, goes_on, faulty, failed_by, whole_answer}
+use Rattle.wsn_capture.proofs.JudgedCaptures.{begins, stopped, ended, goes_on, faulty, failed_by, whole_answer}
 use Rattle.wsn_capture.proofs.judging.judge_capture.Goals as goal
 
 pub returns-in_default-clause-judged : goal.returns-in_default-clause-judged
@@ -14,7 +15,8 @@ returns-in_default-clause-judged g c =
 pub returns-then-count-eq0-clause-judged : goal.returns-then-count-eq0-clause-judged
 returns-then-count-eq0-clause-judged g c =
     let read = c.loop-count.invariant.read in
-    let nothing = subst (λ (n : ℕ). Consumes c.loop-count.input.remaining c.read.new.self.remaining (take n c.read.new.into)) c.if-count-eq0.true c.in-Some.ensures.bytes in
+    let came = consumed_read c.loop-count.input c.read.new.self c.read.new.into c.in-Some.count c.in-Some.ensures.within c.in-Some.ensures.bytes c.in-Some.ensures.counted in
+    let nothing = subst (λ (n : ℕ). IsConsumed c.loop-count.input c.read.new.self (take n c.read.new.into)) c.if-count-eq0.true came in
     ended c.args.limits c.args.input.now c.loop-count.input c.read.new.self c.loop-count.lines read c.loop-count.invariant.few c.finish.result nothing
     (c.in-Some.ensures.end c.if-count-eq0.true) (c.in-Some.ensures.some ∙ c.loop-count.invariant.unfailed) (c.finish.ensures c.args.limits read.came read.split)
 
@@ -30,7 +32,7 @@ loop-count-preserved g c =
     let read = c.loop-count.invariant.read in
     record {
       read = goes_on c.args.limits c.args.input.now c.loop-count.input c.read.new.self c.loop-count.lines read c.loop-count.invariant.few (take c.in-Some.count c.read.new.into) c.take.new.self
-          c.in-Some.ensures.bytes (c.in_ok-take.ensures.split c.args.limits read.came read.split);
+          (consumed_read c.loop-count.input c.read.new.self c.read.new.into c.in-Some.count c.in-Some.ensures.within c.in-Some.ensures.bytes c.in-Some.ensures.counted) (c.in_ok-take.ensures.split c.args.limits read.came read.split);
       unfailed = c.in-Some.ensures.some ∙ c.loop-count.invariant.unfailed;
       few = c.in_ok-take.ensures.few;
       short = c.in_ok-take.ensures.short;
@@ -45,7 +47,7 @@ returns-in_err-take-clause-judged g c =
     let size : length (take c.in-Some.count c.read.new.into) ≤ 4096 = omega (arith, length-take-le c.in-Some.count c.read.new.into c.in-Some.ensures.within, c.in-Some.ensures.within, c.read.auto.into) in
     subst (λ (r : Result Report CaptureStop). IsCaptureJudged c.args.limits c.args.input.now c.read.new.self r) (sym is)
     (faulty c.args.limits c.args.input.now c.loop-count.input c.read.new.self c.loop-count.lines read c.loop-count.invariant.few (take c.in-Some.count c.read.new.into) c.in_err-take.field-0.0
-    c.in-Some.ensures.bytes size (c.in-Some.ensures.some ∙ c.loop-count.invariant.unfailed) (c.in_err-take.ensures.stop c.args.limits read.came read.split))
+    (consumed_read c.loop-count.input c.read.new.self c.read.new.into c.in-Some.count c.in-Some.ensures.within c.in-Some.ensures.bytes c.in-Some.ensures.counted) size (c.in-Some.ensures.some ∙ c.loop-count.invariant.unfailed) (c.in_err-take.ensures.stop c.args.limits read.came read.split))
 
 pub returns-in_err-take-clause-whole : goal.returns-in_err-take-clause-whole
 returns-in_err-take-clause-whole g c all known unfailed =
@@ -55,7 +57,13 @@ pub returns-in_err-take-clause-failed : goal.returns-in_err-take-clause-failed
 returns-in_err-take-clause-failed g c = failed_by c.args.limits c.args.input.now c.read.new.self c.from_residual.result (returns-in_err-take-clause-judged g c)
 
 pub loop-count-init : goal.loop-count-init
-loop-count-init g c = search rules
+loop-count-init g c = record {
+  read = begins c.args.limits c.args.input.now c.new-lines.result c.new-lines.ensures.split;
+  unfailed = c.requires;
+  few = c.new-lines.ensures.few;
+  short = c.new-lines.ensures.short;
+  size = refl;
+}
 
 pub slice_bounds-read-end : goal.slice_bounds-read-end
 slice_bounds-read-end g c = search rules

@@ -1,10 +1,10 @@
 use Rattle.std.proofs.Common.{◌≡◌, ◌≤◌, ◌<◌, false, length}
 use Rattle.wsn_capture.specs.Captures.{count_of}
-use Rattle.wsn_capture.specs.LineSplitters.{left_of}
+use Rattle.wsn_capture.specs.LineSplitters.{bytes_left}
 use Rattle.wsn_capture.proofs.JudgedCaptures.{HasRead}
 use Rattle.wsn_capture.proofs.judging.judge_capture.Given as goal
 
--- all that came was taken, and no read has failed
+-- all bytes that came are consumed, and no read has failed
 abbrev pub invariant-loop-count : goal.invariant-loop-count
 invariant-loop-count g l = record {
   read : HasRead l.fn.limits l.fn.input l.input l.lines;
@@ -15,4 +15,4 @@ invariant-loop-count g l = record {
 }
 
 abbrev pub decreases-loop-count : goal.decreases-loop-count
-decreases-loop-count g l = left_of l.lines
+decreases-loop-count g l = bytes_left l.lines

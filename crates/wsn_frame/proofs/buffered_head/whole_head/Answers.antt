@@ -12,17 +12,17 @@ returns-in-Client c =
     let limits = c.args.context.now.limits in
     let piece = c.args.piece.now in
     let first = c.in-Some.first in
-    let length = c.in-Some-length_at_front.length in
-    let within = c.in-Some-length_at_front.ensures.within in (
+    let length = c.in-Some-length_at_start.length in
+    let within = c.in-Some-length_at_start.ensures.within in (
       omega arith,
       omega (arith, within.1, c.if-piece-lt-HEAD_MAX.false),
       λ group is_open.
           let part = subst (λ (bs : List ℕ). IsInHead role limits group (First first) bs) (front_one piece (omega (arith, c.if-piece-lt-HEAD_MAX.false))) (c.in-Some.ensures role group is_open) in
-          let has = c.in-Some-length_at_front.ensures.reported group part in
-          let key = key_follows role limits group first length.spelled length.len (take length.end piece) has (record { items = [] })
+          let has = c.in-Some-length_at_start.ensures.reported group part in
+          let key = key_follows role limits group first length.encoded length.len (take length.end piece) has (record { items = [] })
           (λ big. false≢true ((c.if-is_too_big.ensures group is_open).1 big)) c.in-Client.is refl in
-          subst (λ (bytes : List ℕ). IsHead role limits group (record { first = first; spelled = length.spelled; len = length.len; key = Some bytes }) (take (length.end + 4) piece)) (sym c.key_at.ensures)
-          (key_at_once role limits group first length.spelled length.len (record { items = [] }) piece length.end refl (omega (arith, within.1, c.if-piece-lt-HEAD_MAX.false))
+          subst (λ (bytes : List ℕ). IsHead role limits group (record { first = first; encoded = length.encoded; len = length.len; key = Some bytes }) (take (length.end + 4) piece)) (sym c.key_at.ensures)
+          (key_at_once role limits group first length.encoded length.len (record { items = [] }) piece length.end refl (omega (arith, within.1, c.if-piece-lt-HEAD_MAX.false))
           (λ i. let below = c.type_inv.piece i in omega (arith, below)) key),
     )
 
@@ -32,21 +32,21 @@ returns-in-Server c =
     let limits = c.args.context.now.limits in
     let piece = c.args.piece.now in
     let first = c.in-Some.first in
-    let length = c.in-Some-length_at_front.length in
-    let within = c.in-Some-length_at_front.ensures.within in (
+    let length = c.in-Some-length_at_start.length in
+    let within = c.in-Some-length_at_start.ensures.within in (
       within.0,
       omega (arith, within.1, c.if-piece-lt-HEAD_MAX.false),
       λ group is_open.
           let part = subst (λ (bs : List ℕ). IsInHead role limits group (First first) bs) (front_one piece (omega (arith, c.if-piece-lt-HEAD_MAX.false))) (c.in-Some.ensures role group is_open) in
-          no_key_follows role limits group first length.spelled length.len (take length.end piece) (c.in-Some-length_at_front.ensures.reported group part)
+          no_key_follows role limits group first length.encoded length.len (take length.end piece) (c.in-Some-length_at_start.ensures.reported group part)
           (λ big. false≢true ((c.if-is_too_big.ensures group is_open).1 big)) c.in-Server.is,
     )
 
 pub bounds-piece-0 : goal.bounds-piece-0
 bounds-piece-0 c = search rules
 
-pub length_at_front-requires : goal.length_at_front-requires
-length_at_front-requires c = search rules
+pub length_at_start-requires : goal.length_at_start-requires
+length_at_start-requires c = search rules
 
 pub overflow_add-size : goal.overflow_add-size
 overflow_add-size c = search rules

@@ -1,43 +1,43 @@
--- A byte of a length in two bytes leaves a part of a head, or ends the length, which may be refused.
+-- After a byte of a length in two bytes, the length is incomplete, or refused, or complete.
 use Rattle.std.proofs.Common.{length, refl, ap, ◌∙◌, subst, arith, rules}
 use Rattle.std.proofs.lemmas.Bool.{false≢true}
-use Rattle.wsn_wire.specs.declared.spelling.LenForm.TheVariants.{Two}
-use Rattle.wsn_wire.specs.Refusal.{IsFirstShown}
-use Rattle.wsn_wire.specs.Rows.{ShownByLength}
-use Rattle.wsn_frame.proofs.HeadSteps.{pushed, not_full, of_two, in_two, length_goes_on, length_told_by, length_refused}
+use Rattle.wsn_wire.specs.declared.length_forms.LenForm.TheVariants.{Two}
+use Rattle.wsn_wire.specs.Refusal.{IsFirstEvident}
+use Rattle.wsn_wire.specs.Rows.{EvidentInLength}
+use Rattle.wsn_frame.proofs.HeadSteps.{pushed, not_full, of_two, in_two, length_goes_on, length_reported_by, length_refused}
 use Rattle.wsn_frame.proofs.partial_head.with_two.Goals as goal
 
 pub returns-in-Err : goal.returns-in-Err
 returns-in-Err c group bytes is_open part =
     let within = of_two c.args.context.now.role c.args.context.now.limits group c.args.first c.args.came bytes part in
-    let push = pushed c.try_push-fits.result c.args.came.items c.try_push-fits.new.self.items c.args.byte 2 c.try_push-fits.ensures.variant c.try_push-fits.ensures.ok within.stands_for.short in
+    let push = pushed c.try_push-fits.result c.args.came.items c.try_push-fits.new.self.items c.args.byte 2 c.try_push-fits.ensures.variant c.try_push-fits.ensures.ok within.has_bytes.short in
     let same = ap (λ v. v.items) c.in-Err.ensures.err in
     in_two c.args.context.now.role c.args.context.now.limits group c.args.first c.in-Err.came _
     (length_goes_on c.args.context.now.role c.args.context.now.limits group c.args.first Two c.args.came.items bytes c.args.byte within c.in-Err.came.items
     (same ∙ push)
     (omega arith)
-    (not_full c.args.came.items c.try_push-fits.new.self.items c.in-Err.came.items c.args.byte 2 within.stands_for.short push same (λ full. false≢true (c.in-Err.ensures.variant.1 full))))
+    (not_full c.args.came.items c.try_push-fits.new.self.items c.in-Err.came.items c.args.byte 2 within.has_bytes.short push same (λ full. false≢true (c.in-Err.ensures.variant.1 full))))
 
 pub returns-in-Ok-two : goal.returns-in-Ok-two
 returns-in-Ok-two c group bytes is_open part =
     let within = of_two c.args.context.now.role c.args.context.now.limits group c.args.first c.args.came bytes part in
-    let push = pushed c.try_push-fits.result c.args.came.items c.try_push-fits.new.self.items c.args.byte 2 c.try_push-fits.ensures.variant c.try_push-fits.ensures.ok within.stands_for.short in
+    let push = pushed c.try_push-fits.result c.args.came.items c.try_push-fits.new.self.items c.args.byte 2 c.try_push-fits.ensures.variant c.try_push-fits.ensures.ok within.has_bytes.short in
     c.after_length.ensures group _ is_open
-    (length_told_by c.args.context.now.role c.args.context.now.limits group c.args.first Two c.args.came.items bytes c.args.byte within c.in-Ok.whole c.in-Ok-two.len
+    (length_reported_by c.args.context.now.role c.args.context.now.limits group c.args.first Two c.args.came.items bytes c.args.byte within c.in-Ok.whole c.in-Ok-two.len
     (c.in-Ok.ensures.ok ∙ push)
     (omega arith)
     (ap length c.in-Ok.ensures.ok ∙ c.in-Ok.ensures.variant.0 refl)
-    c.in-Ok-two.ensures.told
-    (λ r. subst (λ lengths. ShownByLength lengths r Two c.in-Ok.whole → ⊥) c.lengths.ensures (c.in-Ok-two.ensures.nothing_shown r)))
+    c.in-Ok-two.ensures.decoded
+    (λ r. subst (λ lengths. EvidentInLength lengths r Two c.in-Ok.whole → ⊥) c.lengths.ensures (c.in-Ok-two.ensures.nothing_evident r)))
 
 pub returns-in-Err-two : goal.returns-in-Err-two
 returns-in-Err-two c group bytes is_open part =
     let within = of_two c.args.context.now.role c.args.context.now.limits group c.args.first c.args.came bytes part in
-    let push = pushed c.try_push-fits.result c.args.came.items c.try_push-fits.new.self.items c.args.byte 2 c.try_push-fits.ensures.variant c.try_push-fits.ensures.ok within.stands_for.short in
+    let push = pushed c.try_push-fits.result c.args.came.items c.try_push-fits.new.self.items c.args.byte 2 c.try_push-fits.ensures.variant c.try_push-fits.ensures.ok within.has_bytes.short in
     length_refused c.args.context.now.role c.args.context.now.limits group c.args.first Two c.args.came.items bytes c.args.byte within c.in-Ok.whole c.in-Err-two.reason
     (c.in-Ok.ensures.ok ∙ push)
     (ap length c.in-Ok.ensures.ok ∙ c.in-Ok.ensures.variant.0 refl)
-    (subst (λ lengths. IsFirstShown (λ r. ShownByLength lengths r Two c.in-Ok.whole) c.in-Err-two.reason) c.lengths.ensures c.in-Err-two.ensures.refused)
+    (subst (λ lengths. IsFirstEvident (λ r. EvidentInLength lengths r Two c.in-Ok.whole) c.in-Err-two.reason) c.lengths.ensures c.in-Err-two.ensures.refused)
 
 pub try_push-fits-requires : goal.try_push-fits-requires
 try_push-fits-requires c = search rules

@@ -1,7 +1,7 @@
--- The code is spelled by its two bytes; the reason behind it is a text of its own.
+-- The code is in its two bytes; the reason after it is a text of its own.
 use Rattle.std.proofs.Common.{[], rules, arith}
 use Rattle.std.proofs.lemmas.Grind.{common_steps}
-use Rattle.wsn_text.proofs.Fronts.{begins-nil}
+use Rattle.wsn_text.proofs.Prefixes.{begins-nil}
 use Rattle.wsn_frame.proofs.PayloadRows.{coded_by_two_bytes, code_checked, code_refused}
 use Rattle.wsn_frame.proofs.payload_check.feed_code.Goals as goal
 

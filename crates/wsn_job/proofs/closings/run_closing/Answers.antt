@@ -10,9 +10,6 @@ print_report-done-requires-clause-readable g c = search rules
 pub print_report-done-requires-clause-writable : goal.print_report-done-requires-clause-writable
 print_report-done-requires-clause-writable g c = search rules
 
-pub bytes-requires : goal.bytes-requires
-bytes-requires g c = search rules
-
 pub returns-clause-read : goal.returns-clause-read
 returns-clause-read g c = search rules
 

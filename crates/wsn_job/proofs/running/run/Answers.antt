@@ -34,8 +34,8 @@ run_recut-requires-clause-readable g c = search rules
 pub run_recut-requires-clause-writable : goal.run_recut-requires-clause-writable
 run_recut-requires-clause-writable g c = search rules
 
-pub run_recut-requires-clause-may_cut : goal.run_recut-requires-clause-may_cut
-run_recut-requires-clause-may_cut g c = search rules
+pub run_recut-requires-clause-may_recut : goal.run_recut-requires-clause-may_recut
+run_recut-requires-clause-may_recut g c = search rules
 
 pub run_closing-requires-clause-readable : goal.run_closing-requires-clause-readable
 run_closing-requires-clause-readable g c = search rules

@@ -1,6 +1,6 @@
-use Rattle.std.proofs.Common.{◌≡◌, ◌∷◌, ◌++◌, [], Err, refl, rules, ap, ◌∙◌}
+use Rattle.std.proofs.Common.{◌≡◌, Err, refl, rules, ap, ◌∙◌}
 use Rattle.std.proofs.lemmas.Result.{err_from_is_err_and}
-use Rattle.wsn_scan.specs.declared.stop.Stop.TheVariants as stop
+use Rattle.wsn_io.specs.declared.stop.Stop.TheVariants as stop
 use Rattle.wsn_plan.proofs.GatheredEvents.{begins, is_done, is_stopped, goes_on, no_memory}
 use Rattle.wsn_plan.proofs.gathering.gather.Goals as goal
 
@@ -19,14 +19,13 @@ returns-in_err-event g c =
 pub loop-events-preserved : goal.loop-events-preserved
 loop-events-preserved g c =
     let gathered = c.loop-events.invariant in
-    let kept : c.push.new.self.items ≡ c.loop-events.events.items ++ c.in-Event.event ∷ [] = search rules in
     goes_on c.args.role c.args.limits c.args.input.now c.loop-events.input c.next.new.input c.loop-events.source c.next.new.self c.loop-events.events.items gathered
-    c.in_ok-event.field-0 c.in-Event.event c.in-Event.is (c.in_ok-event.ensures.next c.args.role c.args.limits gathered.came _ gathered.has) _ kept
+    c.in_ok-event.field-0 c.in-Event.event c.in-Event.is (c.in_ok-event.ensures.next c.args.role c.args.limits gathered.came _ gathered.has) _ c.in_ok-keep-in-Event.ensures.kept
 
-pub returns-in_err-map_err-in-Event : goal.returns-in_err-map_err-in-Event
-returns-in_err-map_err-in-Event g c =
+pub returns-in_err-keep-in-Event : goal.returns-in_err-keep-in-Event
+returns-in_err-keep-in-Event g c =
     let gathered = c.loop-events.invariant in
-    let is : c.from_residual-in_err-map_err-in-Event.result ≡ Err stop.Memory = search rules in
+    let is : c.from_residual-in_err-keep-in-Event.result ≡ Err stop.Memory = search rules in
     rw is (no_memory c.args.role c.args.limits c.args.input.now c.loop-events.input c.next.new.input c.loop-events.source c.next.new.self c.loop-events.events.items gathered
     c.in_ok-event.field-0 c.in-Event.event c.in-Event.is (c.in_ok-event.ensures.next c.args.role c.args.limits gathered.came _ gathered.has))
 

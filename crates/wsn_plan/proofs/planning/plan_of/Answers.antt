@@ -1,6 +1,6 @@
 use Rattle.std.proofs.Common.{◌≡◌, Ok, Err, rules, ap, ◌∙◌}
 use Rattle.std.proofs.lemmas.Result.{err_from_is_err_and}
-use Rattle.wsn_scan.specs.declared.stop.Stop.TheVariants as stop
+use Rattle.wsn_io.specs.declared.stop.Stop.TheVariants as stop
 use Rattle.wsn_plan.proofs.PlannedFrames.{begins, head, payload, has_begun, goes_on, no_memory, is_done, is_stopped, whole_plan}
 use Rattle.wsn_plan.proofs.planning.plan_of.Goals as goal
 
@@ -13,7 +13,7 @@ returns-in_err-head-clause-planned g c =
     let out = err_from_is_err_and c.from_residual.result c.from_residual.ensures.1 in
     let is : c.from_residual.result ≡ Err c.in_err-head.field-0.0 = out.1 ∙ ap Err out.2 in
     rw is (is_stopped c.args.role c.args.limits c.args.input.now c.loop-plan.input c.next.new.input c.loop-plan.reader c.next.new.self c.loop-plan.plan c.loop-plan.begun planned
-    c.in_err-head.field-0.0 (c.in_err-head.ensures.next c.args.role c.args.limits planned.came planned.done planned.at planned.told))
+    c.in_err-head.field-0.0 (c.in_err-head.ensures.next c.args.role c.args.limits planned.came planned.done planned.at planned.has_reported))
 
 pub returns-in_err-head-clause-whole : goal.returns-in_err-head-clause-whole
 returns-in_err-head-clause-whole g c =
@@ -22,32 +22,32 @@ returns-in_err-head-clause-whole g c =
     let is : c.from_residual.result ≡ Err c.in_err-head.field-0.0 = out.1 ∙ ap Err out.2 in
     rw is (λ all known. whole_plan {A = g.row.A.Denot} c.args.role c.args.limits c.args.input.now c.next.new.input (Err c.in_err-head.field-0.0) all
     (is_stopped c.args.role c.args.limits c.args.input.now c.loop-plan.input c.next.new.input c.loop-plan.reader c.next.new.self c.loop-plan.plan c.loop-plan.begun planned
-    c.in_err-head.field-0.0 (c.in_err-head.ensures.next c.args.role c.args.limits planned.came planned.done planned.at planned.told)) known)
+    c.in_err-head.field-0.0 (c.in_err-head.ensures.next c.args.role c.args.limits planned.came planned.done planned.at planned.has_reported)) known)
 
 pub loop-plan-preserved-in-Head : goal.loop-plan-preserved-in-Head
 loop-plan-preserved-in-Head g c =
     let planned = c.loop-plan.invariant in
     rw c.step_of.ensures (head c.args.role c.args.limits c.args.input.now c.loop-plan.input c.next.new.input c.loop-plan.reader c.next.new.self c.loop-plan.plan c.loop-plan.begun planned
-    c.in_ok-head.field-0 c.in-Head.head c.in-Head.is (c.in_ok-head.ensures.next c.args.role c.args.limits planned.came planned.done planned.at planned.told))
+    c.in_ok-head.field-0 c.in-Head.head c.in-Head.is (c.in_ok-head.ensures.next c.args.role c.args.limits planned.came planned.done planned.at planned.has_reported))
 
 pub loop-plan-preserved-in-Payload : goal.loop-plan-preserved-in-Payload
 loop-plan-preserved-in-Payload g c =
     let planned = c.loop-plan.invariant in
     payload c.args.role c.args.limits c.args.input.now c.loop-plan.input c.next.new.input c.loop-plan.reader c.next.new.self c.loop-plan.plan c.loop-plan.begun planned
-    c.in_ok-head.field-0 c.in-Payload.is (c.in_ok-head.ensures.next c.args.role c.args.limits planned.came planned.done planned.at planned.told)
+    c.in_ok-head.field-0 c.in-Payload.is (c.in_ok-head.ensures.next c.args.role c.args.limits planned.came planned.done planned.at planned.has_reported)
 
 pub unreachable-requires : goal.unreachable-requires
 unreachable-requires g c =
     let planned = c.loop-plan.invariant in
     absurd (has_begun c.args.role c.args.limits c.args.input.now c.loop-plan.input c.next.new.input c.loop-plan.reader c.next.new.self c.loop-plan.plan c.loop-plan.begun planned
-    c.in_ok-head.field-0 c.in-FrameEnd.event c.in-FrameEnd.is (c.in_ok-head.ensures.next c.args.role c.args.limits planned.came planned.done planned.at planned.told)
+    c.in_ok-head.field-0 c.in-FrameEnd.event c.in-FrameEnd.is (c.in_ok-head.ensures.next c.args.role c.args.limits planned.came planned.done planned.at planned.has_reported)
     c.in_default.is)
 
 pub loop-plan-preserved : goal.loop-plan-preserved
 loop-plan-preserved g c =
     let planned = c.loop-plan.invariant in
     rw (← c.in-Some.is) (goes_on c.args.role c.args.limits c.args.input.now c.loop-plan.input c.next.new.input c.loop-plan.reader c.next.new.self c.loop-plan.plan c.loop-plan.begun planned
-    c.in_ok-head.field-0 c.in-FrameEnd.event c.in-FrameEnd.is (c.in_ok-head.ensures.next c.args.role c.args.limits planned.came planned.done planned.at planned.told)
+    c.in_ok-head.field-0 c.in-FrameEnd.event c.in-FrameEnd.is (c.in_ok-head.ensures.next c.args.role c.args.limits planned.came planned.done planned.at planned.has_reported)
     c.in-Some.step c.push.new.self c.in-Some.is c.in_ok-push-in-FrameEnd.ensures.pushed)
 
 pub returns-in_err-push-in-FrameEnd-clause-planned : goal.returns-in_err-push-in-FrameEnd-clause-planned
@@ -56,20 +56,20 @@ returns-in_err-push-in-FrameEnd-clause-planned g c =
     let out = err_from_is_err_and c.from_residual-in_err-push-in-FrameEnd.result c.from_residual-in_err-push-in-FrameEnd.ensures.1 in
     let is : c.from_residual-in_err-push-in-FrameEnd.result ≡ Err stop.Memory = out.1 ∙ ap Err (out.2 ∙ c.in_err-push-in-FrameEnd.ensures.refused.0) in
     rw is (no_memory c.args.role c.args.limits c.args.input.now c.loop-plan.input c.next.new.input c.loop-plan.reader c.next.new.self c.loop-plan.plan c.loop-plan.begun planned
-    c.in_ok-head.field-0 c.in-FrameEnd.event c.in-FrameEnd.is (c.in_ok-head.ensures.next c.args.role c.args.limits planned.came planned.done planned.at planned.told))
+    c.in_ok-head.field-0 c.in-FrameEnd.event c.in-FrameEnd.is (c.in_ok-head.ensures.next c.args.role c.args.limits planned.came planned.done planned.at planned.has_reported))
 
 pub returns-in-Done-clause-planned : goal.returns-in-Done-clause-planned
 returns-in-Done-clause-planned g c =
     let planned = c.loop-plan.invariant in
     is_done c.args.role c.args.limits c.args.input.now c.loop-plan.input c.next.new.input c.loop-plan.reader c.next.new.self c.loop-plan.plan c.loop-plan.begun planned
-    c.in_ok-head.field-0 c.in-Done.verdict c.answer_of.result c.in-Done.is (c.in_ok-head.ensures.next c.args.role c.args.limits planned.came planned.done planned.at planned.told) c.answer_of.ensures
+    c.in_ok-head.field-0 c.in-Done.verdict c.answer_of.result c.in-Done.is (c.in_ok-head.ensures.next c.args.role c.args.limits planned.came planned.done planned.at planned.has_reported) c.answer_of.ensures
 
 pub returns-in-Done-clause-whole : goal.returns-in-Done-clause-whole
 returns-in-Done-clause-whole g c =
     let planned = c.loop-plan.invariant in
     λ all known. whole_plan c.args.role c.args.limits c.args.input.now c.next.new.input (Ok c.answer_of.result) all
     (is_done c.args.role c.args.limits c.args.input.now c.loop-plan.input c.next.new.input c.loop-plan.reader c.next.new.self c.loop-plan.plan c.loop-plan.begun planned
-    c.in_ok-head.field-0 c.in-Done.verdict c.answer_of.result c.in-Done.is (c.in_ok-head.ensures.next c.args.role c.args.limits planned.came planned.done planned.at planned.told) c.answer_of.ensures) known
+    c.in_ok-head.field-0 c.in-Done.verdict c.answer_of.result c.in-Done.is (c.in_ok-head.ensures.next c.args.role c.args.limits planned.came planned.done planned.at planned.has_reported) c.answer_of.ensures) known
 
 pub next-requires-clause-begun : goal.next-requires-clause-begun
 next-requires-clause-begun g c = search rules

@@ -1,9 +1,9 @@
 use Rattle.std.proofs.Common.{◌≡◌, Err, List, map, subst, ap, ◌∙◌}
 use Rattle.std.proofs.lemmas.Result.{err_from_is_err_and}
 use Rattle.wsn_rules.specs.declared.step.Step.{Step}
-use Rattle.wsn_canon.specs.declared.event.Event.{Event}
-use Rattle.wsn_canon.specs.EventsMeant.{meant}
-use Rattle.wsn_plan.specs.Recutting.{IsCutAgain}
+use Rattle.wsn_plan.specs.declared.kept.Kept.{Kept}
+use Rattle.wsn_plan.specs.KeptEvents.{kept_meant}
+use Rattle.wsn_plan.specs.Recutting.{IsRefragmented}
 use Rattle.wsn_plan.proofs.Recuts.{stopped_before, isnt_accepted, are_lawful, cut, whole_recut}
 use Rattle.wsn_plan.proofs.recutting.recut.Goals as goal
 
@@ -16,25 +16,25 @@ returns-in_err-verdict-clause-whole g c =
 
 pub returns-in_default : goal.returns-in_default
 returns-in_default g c =
-    let told = isnt_accepted c.args.role c.args.limits (λ _. c.args.plan.now) c.args.input.now c.gather.new.input c.args.output.now c.in_ok-verdict.field-0 c.in_ok-verdict.ensures (λ s is. c.in_default.not-Accepted s is) in
+    let has_reported = isnt_accepted c.args.role c.args.limits (λ _. c.args.plan.now) c.args.input.now c.gather.new.input c.args.output.now c.in_ok-verdict.field-0 c.in_ok-verdict.ensures (λ s is. c.in_default.not-Accepted s is) in
     record {
-      recut = told;
-      whole = λ all known. whole_recut c.args.role c.args.limits (λ _. c.args.plan.now) c.args.input.now c.gather.new.input c.args.output.now c.args.output.now _ all told known;
+      recut = has_reported;
+      whole = λ all known. whole_recut c.args.role c.args.limits (λ _. c.args.plan.now) c.args.input.now c.gather.new.input c.args.output.now c.args.output.now _ all has_reported known;
     }
 
-pub cut_again-requires-clause-lawful : goal.cut_again-requires-clause-lawful
-cut_again-requires-clause-lawful g c = rw c.deref_mut.ensures.value (are_lawful c.args.role c.args.limits (λ _. c.args.plan.now) c.args.input.now c.gather.new.input c.args.output.now c.in_ok-verdict.field-0 c.in_ok-verdict.ensures c.in-Accepted.field-0 c.in-Accepted.is)
+pub refragment-requires-clause-lawful : goal.refragment-requires-clause-lawful
+refragment-requires-clause-lawful g c = rw c.deref_mut.ensures.value (are_lawful c.args.role c.args.limits (λ _. c.args.plan.now) c.args.input.now c.gather.new.input c.args.output.now c.in_ok-verdict.field-0 c.in_ok-verdict.ensures c.in-Accepted.field-0 c.in-Accepted.is)
 
 pub returns-clause-recut : goal.returns-clause-recut
 returns-clause-recut g c =
-    let steps = subst (λ (steps : List Step). IsCutAgain c.args.role c.args.limits steps (map meant c.deref_mut.result.now) c.args.output.now c.cut_again.new.output c.cut_again.result) c.steps.ensures.steps c.cut_again.ensures in
-    let did = subst (λ (es : List (Event _)). IsCutAgain c.args.role c.args.limits c.args.plan.now (map meant es) c.args.output.now c.cut_again.new.output c.cut_again.result) c.deref_mut.ensures.value steps in
-    let told = cut c.args.role c.args.limits (λ _. c.args.plan.now) c.args.input.now c.gather.new.input c.args.output.now c.in_ok-verdict.field-0 c.in_ok-verdict.ensures c.in-Accepted.field-0 c.in-Accepted.is c.cut_again.new.output c.cut_again.result did in
-    told
+    let steps = subst (λ (steps : List Step). IsRefragmented c.args.role c.args.limits steps (map kept_meant c.deref_mut.result.now) c.args.output.now c.refragment.new.output c.refragment.result) c.steps.ensures.steps c.refragment.ensures in
+    let did = subst (λ (es : List (Kept _)). IsRefragmented c.args.role c.args.limits c.args.plan.now (map kept_meant es) c.args.output.now c.refragment.new.output c.refragment.result) c.deref_mut.ensures.value steps in
+    let has_reported = cut c.args.role c.args.limits (λ _. c.args.plan.now) c.args.input.now c.gather.new.input c.args.output.now c.in_ok-verdict.field-0 c.in_ok-verdict.ensures c.in-Accepted.field-0 c.in-Accepted.is c.refragment.new.output c.refragment.result did in
+    has_reported
 
 pub returns-clause-whole : goal.returns-clause-whole
 returns-clause-whole g c =
-    let steps = subst (λ (steps : List Step). IsCutAgain c.args.role c.args.limits steps (map meant c.deref_mut.result.now) c.args.output.now c.cut_again.new.output c.cut_again.result) c.steps.ensures.steps c.cut_again.ensures in
-    let did = subst (λ (es : List (Event _)). IsCutAgain c.args.role c.args.limits c.args.plan.now (map meant es) c.args.output.now c.cut_again.new.output c.cut_again.result) c.deref_mut.ensures.value steps in
-    let told = cut c.args.role c.args.limits (λ _. c.args.plan.now) c.args.input.now c.gather.new.input c.args.output.now c.in_ok-verdict.field-0 c.in_ok-verdict.ensures c.in-Accepted.field-0 c.in-Accepted.is c.cut_again.new.output c.cut_again.result did in
-    λ all known. whole_recut c.args.role c.args.limits (λ _. c.args.plan.now) c.args.input.now c.gather.new.input c.args.output.now c.cut_again.new.output c.cut_again.result all told known
+    let steps = subst (λ (steps : List Step). IsRefragmented c.args.role c.args.limits steps (map kept_meant c.deref_mut.result.now) c.args.output.now c.refragment.new.output c.refragment.result) c.steps.ensures.steps c.refragment.ensures in
+    let did = subst (λ (es : List (Kept _)). IsRefragmented c.args.role c.args.limits c.args.plan.now (map kept_meant es) c.args.output.now c.refragment.new.output c.refragment.result) c.deref_mut.ensures.value steps in
+    let has_reported = cut c.args.role c.args.limits (λ _. c.args.plan.now) c.args.input.now c.gather.new.input c.args.output.now c.in_ok-verdict.field-0 c.in_ok-verdict.ensures c.in-Accepted.field-0 c.in-Accepted.is c.refragment.new.output c.refragment.result did in
+    λ all known. whole_recut c.args.role c.args.limits (λ _. c.args.plan.now) c.args.input.now c.gather.new.input c.args.output.now c.refragment.new.output c.refragment.result all has_reported known

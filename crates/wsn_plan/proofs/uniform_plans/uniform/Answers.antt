@@ -1,9 +1,9 @@
 use Rattle.std.proofs.Common.{◌≡◌, ◌+◌, ◌++◌, ◌∷◌, List, map, drop, ap, ◌∙◌, arith}
 use Rattle.wsn_rules.specs.Meaning.{MeantEvent}
 use Rattle.wsn_rules.specs.UniformPlan.{uniform_plan}
-use Rattle.wsn_canon.specs.EventsMeant.{meant}
-use Rattle.wsn_plan.proofs.EventsAhead.{stands_at}
-use Rattle.wsn_plan.proofs.UniformSteps.{plan_behind, counts_control, ends_message}
+use Rattle.wsn_events.specs.EventsMeant.{meant}
+use Rattle.wsn_plan.proofs.EventsAhead.{stands_for}
+use Rattle.wsn_plan.proofs.UniformSteps.{plan_after, counts_control, ends_message}
 use Rattle.wsn_plan.proofs.uniform_plans.uniform.Goals as goal
 use Rattle.wsn_plan.proofs.uniform_plans.uniform.Goals.{in-Some+in_ok-push_message, in_default}
 
@@ -14,10 +14,10 @@ loop-event-preserved g c =
     let plan = c.loop-event.plan in
     let event = meant c.event-item.result in
     let later = drop (c.loop-event.event-index + 1) events in
-    let so_far : whole ≡ plan ++ plan_behind c.args.size c.args.weave c.args.key c.loop-event.controls (event ∷ later) =
+    let so_far : whole ≡ plan ++ plan_after c.args.size c.args.weave c.args.key c.loop-event.controls (event ∷ later) =
     c.loop-event.invariant.plan
-    ∙ ap (λ (left : List MeantEvent). plan ++ plan_behind c.args.size c.args.weave c.args.key c.loop-event.controls left) (stands_at c.args.events.now c.loop-event.event-index c.event-item.result c.loop-event-test.true c.event-item.is) in
-    elim c.match-message_len.branch [
+    ∙ ap (λ (left : List MeantEvent). plan ++ plan_after c.args.size c.args.weave c.args.key c.loop-event.controls left) (stands_for meant c.args.events.now c.loop-event.event-index c.event-item.result c.loop-event-test.true c.event-item.is) in
+    elim c.match-event_len.branch [
       | in-Some+in_ok-push_message w ↦ rw (w.plan-is, w.controls-is) (record {
         few = omega arith;
         plan = ends_message c.args.size c.args.weave c.args.key plan w.push_message.new.plan whole c.loop-event.controls w.in-Some.bytes event later w.in-Some.ensures so_far w.in_ok-push_message.ensures.pushed;

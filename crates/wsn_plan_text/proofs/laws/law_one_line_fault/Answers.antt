@@ -1,4 +1,4 @@
-use Rattle.wsn_plan_text.proofs.SpelledLines.{one_step}
+use Rattle.wsn_plan_text.proofs.EncodedLines.{one_step}
 use Rattle.wsn_plan_text.proofs.LineFaults.{one_line_fault, not_step_and_fault}
 use Rattle.wsn_plan_text.proofs.DecidedLines.{step_or_fault}
 use Rattle.wsn_plan_text.proofs.TextFaults.{plan_or_fault, one_first_fault, not_plan_and_fault}

@@ -1,8 +1,10 @@
-use Rattle.std.proofs.Common.{◌≡◌, Err, length, take, arith, length-take-le, rules, ap, ◌∙◌}
+use Rattle.std.proofs.Common.{◌≡◌, ℕ, Err, List, ◌++◌, length, take, arith, length-take-le, rules, sym, ap, subst, ◌∙◌}
 use Rattle.std.proofs.lemmas.Result.{err_from_is_err_and}
 use Rattle.std.proofs.lemmas.Grind.{common_steps}
 use Rattle.wsn_plan_text.specs.declared.plan_fault.PlanFault.TheVariants.{Memory}
 use Rattle.wsn_plan_text.specs.declared.plan_files.PlanFileFault.TheVariants.{Faulty}
+use Rattle.wsn_io.specs.Transfer.{IsConsumed}
+use Rattle.wsn_io.proofs.Received.{consumed_read, consumed_on}
 use Rattle.wsn_plan_text.proofs.PlanFiles.{no_memory}
 use Rattle.wsn_plan_text.proofs.plan_files.read_text.Goals as goal
 
@@ -13,7 +15,9 @@ returns-in_err-extend_from_slice-clause-fault g c =
     let size : length (take c.min-wanted.result c.loop-piece.piece) ≡ c.min-wanted.result =
     length-take-le c.min-wanted.result c.loop-piece.piece (omega arith) in
     rw is (no_memory c.args.file.now c.loop-piece.file c.read.new.self c.loop-piece.text.items c.read.new.into
-    c.in-Some.count c.loop-piece.invariant.consumed c.in-Some.ensures.bytes c.in-Some.ensures.within
+    c.in-Some.count c.loop-piece.invariant.consumed
+    (consumed_read c.loop-piece.file c.read.new.self c.read.new.into c.in-Some.count c.in-Some.ensures.within c.in-Some.ensures.bytes c.in-Some.ensures.counted)
+    c.in-Some.ensures.within
     (omega (arith, c.in-Some.ensures.within, c.read.auto.into)) (omega arith) (search rules))
 
 pub returns-clause-fault : goal.returns-clause-fault
@@ -59,7 +63,17 @@ pub loop-piece-smaller : goal.loop-piece-smaller
 loop-piece-smaller g c = search rules
 
 pub loop-piece-preserved : goal.loop-piece-preserved
-loop-piece-preserved g c = grind (arith, common_steps)
+loop-piece-preserved g c =
+    let piece = take c.in-Some.count c.read.new.into in
+    let came = consumed_read c.loop-piece.file c.read.new.self c.read.new.into c.in-Some.count c.in-Some.ensures.within c.in-Some.ensures.bytes c.in-Some.ensures.counted in
+    let all : c.extend_from_slice.new.self.items ≡ c.loop-piece.text.items ++ piece = grind (arith, common_steps) in
+    record {
+      consumed = subst (λ (bs : List ℕ). IsConsumed c.args.file.now c.read.new.self bs) (sym all)
+          (consumed_on c.args.file.now c.loop-piece.file c.read.new.self c.loop-piece.text.items piece c.loop-piece.invariant.consumed came);
+      few = grind (arith, common_steps);
+      unfailed = c.in-Some.ensures.some ∙ c.loop-piece.invariant.unfailed;
+      size = grind (arith, common_steps);
+    }
 
 pub returns-in_err-extend_from_slice-clause-text : goal.returns-in_err-extend_from_slice-clause-text
 returns-in_err-extend_from_slice-clause-text g c = search rules

@@ -1,6 +1,6 @@
 use Rattle.std.proofs.Common.{arith, subst, sym, ◌+◌, length, ◌<◌, rules}
 use Rattle.std.proofs.lemmas.Grind.{common_steps}
-use Rattle.wsn_plan_text.proofs.CutLines.{empty_text}
+use Rattle.wsn_plan_text.proofs.SplitLines.{empty_text}
 use Rattle.wsn_plan_text.proofs.ReadPlans.{HasReadPlan, all_read, begins_read, fault_read, one_more_read, shorter}
 use Rattle.wsn_plan_text.proofs.reading_plans.read_plan.Goals as goal
 

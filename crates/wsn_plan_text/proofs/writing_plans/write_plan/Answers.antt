@@ -1,6 +1,6 @@
 use Rattle.std.proofs.Common.{None, rules, arith}
 use Rattle.std.proofs.lemmas.Grind.{common_steps}
-use Rattle.wsn_wire.specs.declared.spelling.Form.TheVariants.{Shortest}
+use Rattle.wsn_wire.specs.declared.length_forms.Form.TheVariants.{Shortest}
 use Rattle.wsn_rules.specs.declared.step.Step.TheVariants.{Piece}
 use Rattle.wsn_plan_text.proofs.WrittenPlans.{plan_stopped}
 use Rattle.wsn_plan_text.proofs.writing_plans.write_plan.Goals as goal
@@ -9,7 +9,7 @@ pub returns-in_err-put_line : goal.returns-in_err-put_line
 returns-in_err-put_line g c =
     rw (← c.steps-step-items.ensures.steps)
     (plan_stopped c.args.output.now c.loop-step.output c.put_line.new.to c.steps-step-items.result.now c.loop-step.step-index (Piece 0 None Shortest)
-    c.in_err-put_line.field-0.0 c.from_residual.result c.loop-step-test.true c.loop-step.invariant (rw (← c.line_of.ensures) c.in_err-put_line.ensures)
+    c.in_err-put_line.field-0.0 c.from_residual.result c.loop-step-test.true c.loop-step.invariant (rw (← c.line_of.ensures) rw (← c.bytes.ensures) c.in_err-put_line.ensures)
     c.from_residual.ensures.1)
 
 pub loop-step-init : goal.loop-step-init
@@ -26,3 +26,6 @@ loop-step-preserved g c = grind (arith, common_steps)
 
 pub returns : goal.returns
 returns g c = grind (arith, common_steps)
+
+pub bytes-requires : goal.bytes-requires
+bytes-requires g c = search rules

@@ -1,8 +1,8 @@
 use Rattle.std.proofs.Common.{take}
-use Rattle.wsn_wire.specs.Transfer.{IsWritten}
+use Rattle.wsn_io.specs.Transfer.{IsWritten}
 use Rattle.wsn_plan_text.specs.PlanText.{plan_text}
 use Rattle.wsn_plan_text.proofs.writing_plans.write_plan.Given as goal
 
--- the lines of the steps so far are written
+-- The lines of the steps so far are written.
 abbrev pub invariant-loop-step : goal.invariant-loop-step
 invariant-loop-step g l = IsWritten l.fn.output l.output (plan_text (take l.step-index l.step-items))

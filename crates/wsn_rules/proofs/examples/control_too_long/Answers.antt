@@ -1,6 +1,6 @@
 use Rattle.std.proofs.Common.{refl, [], ◌∷◌}
 use Rattle.wsn_wire.specs.declared.endpoint.Role.TheVariants.{Server}
-use Rattle.wsn_wire.specs.declared.spelling.Lengths.TheVariants.{Any}
+use Rattle.wsn_wire.specs.declared.length_forms.Lengths.TheVariants.{Any}
 use Rattle.wsn_wire.specs.declared.refusal.Reason.TheVariants.{ControlTooLong}
 use Rattle.wsn_rules.specs.Examples.{greatest, RefusedAt, CutAt}
 use Rattle.wsn_rules.proofs.Computed.{found, judged}

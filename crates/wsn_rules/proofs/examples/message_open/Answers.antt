@@ -13,9 +13,9 @@ pub returns-clause-binary : goal.returns-clause-binary
 unfolding found
 returns-clause-binary c = judged Server greatest (0x01 ∷ 0x00 ∷ 0x82 ∷ []) (RefusedAt 2 MessageOpen) refl refl refl
 
-pub returns-clause-behind_a_ping : goal.returns-clause-behind_a_ping
+pub returns-clause-after_a_ping : goal.returns-clause-after_a_ping
 unfolding found
-returns-clause-behind_a_ping c = judged Server greatest (0x01 ∷ 0x00 ∷ 0x89 ∷ 0x00 ∷ 0x01 ∷ []) (RefusedAt 4 MessageOpen) refl refl refl
+returns-clause-after_a_ping c = judged Server greatest (0x01 ∷ 0x00 ∷ 0x89 ∷ 0x00 ∷ 0x01 ∷ []) (RefusedAt 4 MessageOpen) refl refl refl
 
 pub returns-clause-near_finished : goal.returns-clause-near_finished
 unfolding found

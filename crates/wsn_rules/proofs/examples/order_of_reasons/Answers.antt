@@ -5,45 +5,45 @@ use Rattle.wsn_rules.specs.Examples.{greatest, RefusedAt}
 use Rattle.wsn_rules.proofs.Computed.{found, judged}
 use Rattle.wsn_rules.proofs.examples.order_of_reasons.Goals as goal
 
-pub returns-clause-opcode_behind_bits : goal.returns-clause-opcode_behind_bits
+pub returns-clause-opcode_after_bits : goal.returns-clause-opcode_after_bits
 unfolding found
-returns-clause-opcode_behind_bits c = judged Server greatest (0xc3 ∷ []) (RefusedAt 0 ReservedBits) refl refl refl
+returns-clause-opcode_after_bits c = judged Server greatest (0xc3 ∷ []) (RefusedAt 0 ReservedBits) refl refl refl
 
-pub returns-clause-control_behind_bits : goal.returns-clause-control_behind_bits
+pub returns-clause-control_after_bits : goal.returns-clause-control_after_bits
 unfolding found
-returns-clause-control_behind_bits c = judged Server greatest (0x49 ∷ []) (RefusedAt 0 ReservedBits) refl refl refl
+returns-clause-control_after_bits c = judged Server greatest (0x49 ∷ []) (RefusedAt 0 ReservedBits) refl refl refl
 
-pub returns-clause-continue_behind_bits : goal.returns-clause-continue_behind_bits
+pub returns-clause-continue_after_bits : goal.returns-clause-continue_after_bits
 unfolding found
-returns-clause-continue_behind_bits c = judged Server greatest (0xc0 ∷ []) (RefusedAt 0 ReservedBits) refl refl refl
+returns-clause-continue_after_bits c = judged Server greatest (0xc0 ∷ []) (RefusedAt 0 ReservedBits) refl refl refl
 
-pub returns-clause-open_behind_bits : goal.returns-clause-open_behind_bits
+pub returns-clause-open_after_bits : goal.returns-clause-open_after_bits
 unfolding found
-returns-clause-open_behind_bits c = judged Server greatest (0x01 ∷ 0x00 ∷ 0xc1 ∷ []) (RefusedAt 2 ReservedBits) refl refl refl
+returns-clause-open_after_bits c = judged Server greatest (0x01 ∷ 0x00 ∷ 0xc1 ∷ []) (RefusedAt 2 ReservedBits) refl refl refl
 
-pub returns-clause-long_behind_mask : goal.returns-clause-long_behind_mask
+pub returns-clause-long_after_mask : goal.returns-clause-long_after_mask
 unfolding found
-returns-clause-long_behind_mask c = judged Client greatest (0x89 ∷ 0x7e ∷ []) (RefusedAt 1 MaskMissing) refl refl refl
+returns-clause-long_after_mask c = judged Client greatest (0x89 ∷ 0x7e ∷ []) (RefusedAt 1 MaskMissing) refl refl refl
 
-pub returns-clause-big_behind_mask : goal.returns-clause-big_behind_mask
+pub returns-clause-big_after_mask : goal.returns-clause-big_after_mask
 unfolding found
-returns-clause-big_behind_mask c = judged Client (record greatest { message = 0 }) (0x81 ∷ 0x01 ∷ []) (RefusedAt 1 MaskMissing) refl refl refl
+returns-clause-big_after_mask c = judged Client (record greatest { message = 0 }) (0x81 ∷ 0x01 ∷ []) (RefusedAt 1 MaskMissing) refl refl refl
 
-pub returns-clause-long_behind_no_mask : goal.returns-clause-long_behind_no_mask
+pub returns-clause-long_after_no_mask : goal.returns-clause-long_after_no_mask
 unfolding found
-returns-clause-long_behind_no_mask c = judged Server greatest (0x89 ∷ 0xfe ∷ []) (RefusedAt 1 MaskPresent) refl refl refl
+returns-clause-long_after_no_mask c = judged Server greatest (0x89 ∷ 0xfe ∷ []) (RefusedAt 1 MaskPresent) refl refl refl
 
-pub returns-clause-one_byte_behind_no_mask : goal.returns-clause-one_byte_behind_no_mask
+pub returns-clause-one_byte_after_no_mask : goal.returns-clause-one_byte_after_no_mask
 unfolding found
-returns-clause-one_byte_behind_no_mask c = judged Server greatest (0x88 ∷ 0x81 ∷ []) (RefusedAt 1 MaskPresent) refl refl refl
+returns-clause-one_byte_after_no_mask c = judged Server greatest (0x88 ∷ 0x81 ∷ []) (RefusedAt 1 MaskPresent) refl refl refl
 
-pub returns-clause-big_behind_no_mask : goal.returns-clause-big_behind_no_mask
+pub returns-clause-big_after_no_mask : goal.returns-clause-big_after_no_mask
 unfolding found
-returns-clause-big_behind_no_mask c = judged Server (record greatest { message = 0 }) (0x81 ∷ 0x81 ∷ []) (RefusedAt 1 MaskPresent) refl refl refl
+returns-clause-big_after_no_mask c = judged Server (record greatest { message = 0 }) (0x81 ∷ 0x81 ∷ []) (RefusedAt 1 MaskPresent) refl refl refl
 
-pub returns-clause-big_behind_not_minimal : goal.returns-clause-big_behind_not_minimal
+pub returns-clause-big_after_not_minimal : goal.returns-clause-big_after_not_minimal
 unfolding found
-returns-clause-big_behind_not_minimal c = judged Server (record greatest { message = 0 }) (0x82 ∷ 0x7e ∷ 0x00 ∷ 0x7d ∷ []) (RefusedAt 3 LengthNotMinimal) refl refl refl
+returns-clause-big_after_not_minimal c = judged Server (record greatest { message = 0 }) (0x82 ∷ 0x7e ∷ 0x00 ∷ 0x7d ∷ []) (RefusedAt 3 LengthNotMinimal) refl refl refl
 
 pub returns-clause-mask_at_a_later_place : goal.returns-clause-mask_at_a_later_place
 unfolding found

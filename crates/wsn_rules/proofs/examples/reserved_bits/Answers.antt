@@ -17,9 +17,9 @@ pub returns-clause-rsv3 : goal.returns-clause-rsv3
 unfolding found
 returns-clause-rsv3 c = judged Server greatest (0x91 ∷ []) (RefusedAt 0 ReservedBits) refl refl refl
 
-pub returns-clause-behind_a_frame : goal.returns-clause-behind_a_frame
+pub returns-clause-after_a_frame : goal.returns-clause-after_a_frame
 unfolding found
-returns-clause-behind_a_frame c = judged Server greatest (0x89 ∷ 0x00 ∷ 0xf0 ∷ []) (RefusedAt 2 ReservedBits) refl refl refl
+returns-clause-after_a_frame c = judged Server greatest (0x89 ∷ 0x00 ∷ 0xf0 ∷ []) (RefusedAt 2 ReservedBits) refl refl refl
 
 pub returns-clause-near : goal.returns-clause-near
 unfolding found

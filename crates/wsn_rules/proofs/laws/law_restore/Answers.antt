@@ -15,5 +15,5 @@ pub returns-clause-differ : goal.returns-clause-differ
 returns-clause-differ c = λ role limits events plan other lawful is_plan also fits too different same.
     different (same_plan role limits events lawful plan other is_plan also fits too same)
 
-pub returns-clause-spellings : goal.returns-clause-spellings
-returns-clause-spellings c = λ role limits events bytes lawful. spell_iff_recut role limits events lawful bytes
+pub returns-clause-encodings : goal.returns-clause-encodings
+returns-clause-encodings c = λ role limits events bytes lawful. spell_iff_recut role limits events lawful bytes

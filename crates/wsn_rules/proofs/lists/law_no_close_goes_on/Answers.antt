@@ -7,5 +7,5 @@ returns-clause-none c = no_close_nil
 pub returns-clause-one_more : goal.returns-clause-one_more
 returns-clause-one_more c = no_close_push
 
-pub returns-clause-front : goal.returns-clause-front
-returns-clause-front c = no_close_front
+pub returns-clause-prefix : goal.returns-clause-prefix
+returns-clause-prefix c = no_close_front

@@ -1,18 +1,19 @@
 use Rattle.std.proofs.Common.{◌≡◌, ℕ, false, List, length}
 use Rattle.std.specs.Io.KnownBytes.{Appends}
 use Rattle.wsn_rules.specs.declared.head_info.HeadInfo.{HeadInfo}
-use Rattle.wsn_rules.specs.Lines.{head_lines}
+use Rattle.wsn_print.specs.HeadText.{head_lines}
+use Rattle.wsn_scan.specs.Refill.{chunk_size}
 use Rattle.wsn_scan.proofs.JudgedInputs.{HasRead}
 use Rattle.wsn_scan.proofs.listing.list.Given as goal
 
--- all that came was taken by the scan, which has not refused, and the heads that it reported went out
-abbrev pub invariant-loop-count : goal.invariant-loop-count
-invariant-loop-count g l = record {
+-- the scan has consumed all that came, has not refused, and the heads that it reported were written
+abbrev pub invariant-loop-chunk : goal.invariant-loop-chunk
+invariant-loop-chunk g l = record {
   read : (came : List ℕ) × (heads : List HeadInfo) × HasRead l.fn.role l.fn.limits l.fn.input l.input l.scan came heads
       × Appends l.fn.output.written l.output.written (head_lines heads);
   unfailed : l.output.failed ≡ false;
-  size : length l.buffer ≡ 4096;
+  size : length l.buffer ≡ chunk_size;
 }
 
-abbrev pub decreases-loop-count : goal.decreases-loop-count
-decreases-loop-count g l = l.scan.room
+abbrev pub decreases-loop-chunk : goal.decreases-loop-chunk
+decreases-loop-chunk g l = l.scan.room

@@ -1,10 +1,10 @@
 use Rattle.std.proofs.Common.{◌≡◌, ◌∙◌, ◌++◌, List, ℕ, sym, ap, append-nil, subst, rules}
 use Rattle.wsn_scan.specs.declared.notice.Notice.{Notice}
 use Rattle.wsn_scan.specs.Feeding.{heads_in}
-use Rattle.wsn_rules.specs.Lines.{head_line, head_lines}
-use Rattle.wsn_scan.proofs.Printing.{prints_on, prints_no_more, went_out}
+use Rattle.wsn_print.specs.HeadText.{head_line, head_lines}
+use Rattle.wsn_io.proofs.PutTexts.{prints_on, prints_no_more, went_out}
 use Rattle.wsn_scan.proofs.listing.print.Goals as goal
-use Rattle.wsn_wire.specs.Transfer.{IsWrittenUpToFailure}
+use Rattle.wsn_io.specs.Transfer.{IsWrittenUpToFailure}
 
 pub returns-then-not-failed : goal.returns-then-not-failed
 returns-then-not-failed g c before text printed =

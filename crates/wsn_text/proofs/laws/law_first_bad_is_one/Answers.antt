@@ -1,4 +1,4 @@
-use Rattle.wsn_text.proofs.Fronts.{first_bad_unique}
+use Rattle.wsn_text.proofs.Prefixes.{first_bad_unique}
 use Rattle.wsn_text.proofs.laws.law_first_bad_is_one.Goals as goal
 
 pub returns : goal.returns

@@ -1,4 +1,4 @@
-use Rattle.wsn_text.proofs.Fronts.{first_bad-append}
+use Rattle.wsn_text.proofs.Prefixes.{first_bad-append}
 use Rattle.wsn_text.proofs.laws.law_first_bad_stays.Goals as goal
 
 pub returns : goal.returns

@@ -11,8 +11,8 @@ returns-then-len-lt65536-clause-refused c = search rules
 pub returns-then-len-clause-refused : goal.returns-then-len-clause-refused
 returns-then-len-clause-refused c = search rules
 
-pub returns-clause-told : goal.returns-clause-told
-returns-clause-told c = search rules
+pub returns-clause-decoded : goal.returns-clause-decoded
+returns-clause-decoded c = search rules
 
-pub returns-clause-nothing_shown : goal.returns-clause-nothing_shown
-returns-clause-nothing_shown c = search rules
+pub returns-clause-nothing_evident : goal.returns-clause-nothing_evident
+returns-clause-nothing_evident c = search rules

@@ -44,10 +44,10 @@ returns-in_default-form-3-clause-field c = search rules
 pub returns-in_default-form-3-clause-short : goal.returns-in_default-form-3-clause-short
 returns-in_default-form-3-clause-short c = search rules
 
-pub returns-in_default-form-2-clause-nothing_shown :
-    goal.returns-in_default-form-2-clause-nothing_shown
-returns-in_default-form-2-clause-nothing_shown c = search rules
+pub returns-in_default-form-2-clause-nothing_evident :
+    goal.returns-in_default-form-2-clause-nothing_evident
+returns-in_default-form-2-clause-nothing_evident c = search rules
 
-pub returns-in_default-form-3-clause-nothing_shown :
-    goal.returns-in_default-form-3-clause-nothing_shown
-returns-in_default-form-3-clause-nothing_shown c = grind (arith, common_steps)
+pub returns-in_default-form-3-clause-nothing_evident :
+    goal.returns-in_default-form-3-clause-nothing_evident
+returns-in_default-form-3-clause-nothing_evident c = grind (arith, common_steps)

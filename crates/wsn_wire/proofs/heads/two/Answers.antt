@@ -2,8 +2,8 @@ use Rattle.std.proofs.lemmas.Grind.{common_steps}
 use Rattle.std.proofs.Common.{rules, arith}
 use Rattle.wsn_wire.proofs.heads.two.Goals as goal
 
-pub returns-clause-nothing_shown : goal.returns-clause-nothing_shown
-returns-clause-nothing_shown c = search rules
+pub returns-clause-nothing_evident : goal.returns-clause-nothing_evident
+returns-clause-nothing_evident c = search rules
 
 pub returns-then-len-lt126-clause-refused : goal.returns-then-len-lt126-clause-refused
 returns-then-len-lt126-clause-refused c = search rules
@@ -11,5 +11,5 @@ returns-then-len-lt126-clause-refused c = search rules
 pub returns-clause-read : goal.returns-clause-read
 returns-clause-read c = grind (arith, common_steps)
 
-pub returns-clause-told : goal.returns-clause-told
-returns-clause-told c = search rules
+pub returns-clause-decoded : goal.returns-clause-decoded
+returns-clause-decoded c = search rules

@@ -2,7 +2,7 @@ use Rattle.std.proofs.Common.{◌≡◌, ◌≤◌, ◌%◌, ◌-◌, length}
 use Rattle.wsn_wire.proofs.MaskLemmas.{masked_front}
 use Rattle.wsn_wire.proofs.masking.mask.Given as goal
 
--- the bytes before `at` are masked, the others are as they were
+-- The bytes before `at` are masked, the others are unchanged.
 abbrev pub invariant-loop-bytes : goal.invariant-loop-bytes
 invariant-loop-bytes l = record {
   within : l.at ≤ length l.bytes;

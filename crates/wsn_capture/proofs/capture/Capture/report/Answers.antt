@@ -1,9 +1,9 @@
 use Rattle.std.proofs.Common.{Bool, Option, [], sym, ap, ◌∙◌, subst, ℕ}
 use Rattle.wsn_wire.specs.declared.endpoint.Role.TheVariants.{Client, Server}
-use Rattle.wsn_capture.specs.Reports.{IsFirst, IsOutcome}
+use Rattle.wsn_rules.specs.Reports.{IsFirst, IsOutcome}
 use Rattle.wsn_capture.specs.CloseLines.{earlier_of}
-use Rattle.wsn_capture.specs.Sides.{has_ended}
-use Rattle.wsn_capture.proofs.TakenTexts.{taken_given}
+use Rattle.wsn_rules.specs.Sides.{has_ended}
+use Rattle.wsn_capture.proofs.AcceptedTexts.{taken_given}
 use Rattle.wsn_capture.proofs.ReportedLines.{first_by_lines}
 use Rattle.wsn_capture.proofs.capture.Capture.report.Goals as goal
 

@@ -3,9 +3,9 @@ use Rattle.std.proofs.lemmas.Result.{err_from_is_err_and}
 use Rattle.std.specs.Prelude.{IfErr}
 use Rattle.wsn_rules.specs.Limits.{Limits}
 use Rattle.wsn_capture.specs.declared.line_fault.LineFault.{LineFault}
-use Rattle.wsn_capture.specs.LineFaults.{IsFaultBehind}
-use Rattle.wsn_capture.specs.Captures.{IsFirstOwnFault, TakesText, HasTaken}
-use Rattle.wsn_capture.proofs.TakenTexts.{too_many, too_long, own_fault, line_taken, count_given}
+use Rattle.wsn_capture.specs.LineFaults.{IsFaultAfter}
+use Rattle.wsn_capture.specs.Captures.{IsFirstOwnFault, AcceptsText, HasAcceptedLines}
+use Rattle.wsn_capture.proofs.AcceptedTexts.{too_many, too_long, own_fault, line_taken, count_given}
 use Rattle.wsn_capture.proofs.capture.Capture.take_line.Goals as goal
 
 pub returns-then-self-ge-LINES_MAX-clause-fault : goal.returns-then-self-ge-LINES_MAX-clause-fault
@@ -21,7 +21,7 @@ returns-in_err-take-clause-fault c =
     let out = err_from_is_err_and c.from_residual.result c.from_residual.ensures.1 in
     let is : c.from_residual.result ≡ Err c.in_err-take.field-0.0 = out.1 ∙ ap Err out.2 in
     let size = ap (λ (bs : List ℕ). length bs) c.strip_cr-text.ensures in
-    subst (λ (r : Result Unit LineFault). IfErr r (λ fault. (limits : Limits) (lines : List (List ℕ)) → HasTaken limits c.args.self.now lines → IsFaultBehind limits lines c.args.text.now fault)) (sym is)
+    subst (λ (r : Result Unit LineFault). IfErr r (λ fault. (limits : Limits) (lines : List (List ℕ)) → HasAcceptedLines limits c.args.self.now lines → IsFaultAfter limits lines c.args.text.now fault)) (sym is)
     (λ limits lines has. own_fault limits c.args.self.now lines c.args.text.now has c.in_err-take.field-0.0 c.if-self-ge-LINES_MAX.false (omega (arith, size, c.if-text-gt-LINE_MAX.false))
     (subst (λ (bs : List ℕ). IsFirstOwnFault limits has.entries bs c.in_err-take.field-0.0) c.strip_cr-text.ensures (c.in_err-take.ensures.fault limits has.entries has.sides)))
 
@@ -29,7 +29,7 @@ pub returns-clause-taken : goal.returns-clause-taken
 returns-clause-taken c limits lines has =
     let size = ap (λ (bs : List ℕ). length bs) c.strip_cr-text.ensures in
     line_taken limits c.args.self.now lines c.args.text.now has c.take.new.self c.if-self-ge-LINES_MAX.false (omega (arith, size, c.if-text-gt-LINE_MAX.false))
-    (subst (λ (bs : List ℕ). TakesText limits c.take.new.self has.entries bs) c.strip_cr-text.ensures
+    (subst (λ (bs : List ℕ). AcceptsText limits c.take.new.self has.entries bs) c.strip_cr-text.ensures
     (c.in_ok-take.ensures.taken limits has.entries (count_given limits c.args.self.now lines c.args.text.now has) has.sides))
     c.in_ok-take.ensures.lines
 

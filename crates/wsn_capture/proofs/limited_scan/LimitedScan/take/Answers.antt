@@ -1,6 +1,6 @@
 use Rattle.std.proofs.Common.{◌≤◌, length, sym, ◌∙◌, subst, rules}
 use Rattle.wsn_capture.specs.LimitedScans.{Scanned, HasStreamed}
-use Rattle.wsn_capture.proofs.StreamSteps.{streamed_behind, streamed_on, sound_on, some_refusal, no_refusal}
+use Rattle.wsn_capture.proofs.StreamSteps.{streamed_after, streamed_on, sound_on, some_refusal, no_refusal}
 use Rattle.wsn_capture.proofs.limited_scan.LimitedScan.take.Goals as goal
 
 pub invariant_of-self-in-Accepted : goal.invariant_of-self-in-Accepted
@@ -10,7 +10,7 @@ invariant_of-self-in-Accepted c =
 
 pub returns-in-Refused : goal.returns-in-Refused
 returns-in-Refused c role limits came has =
-    streamed_behind role limits c.self.inside.scan c.self.inside.room came c.args.bytes.now
+    streamed_after role limits c.self.inside.scan c.self.inside.room came c.args.bytes.now
     (λ none. some_refusal c.finish.result c.in-Refused.field-0 c.in-Refused.is (c.finish.ensures.reported ∙ none))
     (subst (λ (s : Scanned). length c.args.bytes.now ≤ s.room) (sym c.self.view_is) c.requires)
     (subst (λ (s : Scanned). HasStreamed role limits s came) (sym c.self.view_is) has)

@@ -1,8 +1,8 @@
 use Rattle.std.proofs.Common.{◌≡◌, Result, Err, sym, ◌∙◌, subst, rules, ap}
 use Rattle.std.proofs.lemmas.Result.{err_from_is_err_and}
-use Rattle.wsn_capture.specs.declared.report.Report.{Report}
+use Rattle.wsn_rules.specs.declared.report.Report.{Report}
 use Rattle.wsn_capture.specs.declared.capture_stop.CaptureStop.{CaptureStop}
-use Rattle.wsn_capture.specs.CaptureAnswers.{IsAnswerOf}
+use Rattle.wsn_capture.specs.CaptureAnswers.{IsCaptureAnswerOf}
 use Rattle.wsn_capture.proofs.SplitLines.{reported_whole, reported_last, stop_last, empty_is, not_empty}
 use Rattle.wsn_capture.proofs.line_splitter.LineSplitter.finish.Goals as goal
 
@@ -14,7 +14,7 @@ pub returns-in_err-end_begun : goal.returns-in_err-end_begun
 returns-in_err-end_begun c limits came split =
     let out = err_from_is_err_and c.from_residual.result c.from_residual.ensures.1 in
     let is : c.from_residual.result ≡ Err c.in_err-end_begun.field-0.0 = out.1 ∙ ap Err out.2 in
-    subst (λ (r : Result Report CaptureStop). IsAnswerOf limits came r) (sym is)
+    subst (λ (r : Result Report CaptureStop). IsCaptureAnswerOf limits came r) (sym is)
     (stop_last limits c.args.self.capture c.args.self.begun.items came split c.in_err-end_begun.field-0.0 (not_empty c.args.self.begun.items (sym c.is_empty.ensures ∙ c.if-is_empty.false)) (c.in_err-end_begun.ensures.stop limits split.lines split.taken))
 
 pub returns : goal.returns

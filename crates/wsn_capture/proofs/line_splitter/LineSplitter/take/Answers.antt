@@ -4,7 +4,7 @@ use Rattle.std.specs.Prelude.{IfErr}
 use Rattle.wsn_rules.specs.Limits.{Limits}
 use Rattle.wsn_capture.specs.declared.capture_stop.CaptureStop.{CaptureStop}
 use Rattle.wsn_capture.specs.LineSplitters.{HasSplit, IsStopWithin}
-use Rattle.wsn_capture.proofs.PieceFronts.{rest_is, taken_more, stop_in_rest}
+use Rattle.wsn_capture.proofs.PiecePrefixes.{rest_is, taken_more, stop_in_rest}
 use Rattle.wsn_capture.proofs.line_splitter.LineSplitter.take.Goals as goal
 
 pub returns-in_err-taken-clause-stop : goal.returns-in_err-taken-clause-stop
@@ -25,7 +25,7 @@ loop-taken-preserved c =
       within = omega (arith, c.in_ok-taken.ensures.within.1, size, c.loop-taken-test.true);
       few = c.in_ok-taken.ensures.few;
       short = c.in_ok-taken.ensures.short;
-      split = λ limits came split. subst (HasSplit limits c.take_front.new.self) (taken_more came piece at count)
+      split = λ limits came split. subst (HasSplit limits c.take_prefix.new.self) (taken_more came piece at count)
           (c.in_ok-taken.ensures.split limits (came ++ take at piece) (c.loop-taken.invariant.split limits came split));
       left = omega (arith, c.loop-taken.invariant.left, c.in_ok-taken.ensures.left);
     }

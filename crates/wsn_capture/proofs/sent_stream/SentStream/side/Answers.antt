@@ -1,6 +1,6 @@
 use Rattle.std.proofs.Common.{Option, ap, sym, ◌∙◌, ℕ}
 use Rattle.wsn_rules.specs.declared.verdict.Verdict.{Verdict}
-use Rattle.wsn_capture.specs.Sides.{side_of, accepted_side}
+use Rattle.wsn_rules.specs.Sides.{side_of, accepted_side}
 use Rattle.wsn_capture.proofs.SentEntries.{side_by}
 use Rattle.wsn_capture.proofs.sent_stream.SentStream.side.Goals as goal
 

@@ -1,4 +1,4 @@
--- What the open message says of a frame that begins behind it.
+-- What the open message says of the next frame's opcode.
 use Rattle.std.proofs.Common.{◌≡◌, ◌≤◌, ◌⊎◌, Some, refl, sym, ap, ◌∙◌, subst}
 use Rattle.std.proofs.lemmas.Bool.{false≢true}
 use Rattle.wsn_wire.specs.Frame.{opcode}

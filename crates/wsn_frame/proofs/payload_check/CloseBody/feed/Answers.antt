@@ -1,4 +1,4 @@
--- A body goes on with its reason, or with its code.
+-- A body continues with its reason or with its code.
 use Rattle.std.proofs.lemmas.Result.{err_from_is_err_and}
 use Rattle.std.proofs.Common.{◌≡◌, Err, rules, arith, ap, ◌∙◌}
 use Rattle.std.proofs.lemmas.Grind.{common_steps}

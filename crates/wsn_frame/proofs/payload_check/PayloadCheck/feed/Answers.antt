@@ -1,4 +1,4 @@
--- The text goes on, or the Close's body.
+-- A text continues, or a Close's body.
 use Rattle.std.proofs.lemmas.Result.{err_from_is_err_and}
 use Rattle.std.proofs.Common.{◌≡◌, Err, rules, ap, ◌∙◌}
 use Rattle.wsn_frame.proofs.PayloadRows.{EndsWith, text_checked, text_refused, body_goes_on}

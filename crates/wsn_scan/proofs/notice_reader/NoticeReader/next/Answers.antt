@@ -6,48 +6,48 @@ use Rattle.wsn_rules.specs.declared.verdict.Verdict.{Verdict}
 use Rattle.wsn_rules.specs.declared.verdict.Verdict.TheVariants.{Refused}
 use Rattle.wsn_scan.specs.declared.notice_reader.NextNotice.{NextNotice}
 use Rattle.wsn_scan.specs.declared.notice_reader.NextNotice.TheVariants as nexts
-use Rattle.wsn_scan.specs.declared.stop.Stop.{Stop}
-use Rattle.wsn_scan.specs.FramesTold.{Position}
-use Rattle.wsn_scan.specs.NoticeReaders.{HasTold, left_of}
+use Rattle.wsn_io.specs.declared.stop.Stop.{Stop}
+use Rattle.wsn_scan.specs.ReportedFrames.{Position}
+use Rattle.wsn_scan.specs.NoticeReaders.{HasReported, notices_left}
 use Rattle.wsn_scan.specs.ReadNotices.{ReadsOn}
 use Rattle.wsn_scan.specs.ReaderSteps.{IsFilled, idle_of}
-use Rattle.wsn_scan.proofs.ReaderCalls.{answers, refused_done, fills, ends, halts, reading_of, read_falls, used_by, used_falls}
+use Rattle.wsn_scan.proofs.ReaderCalls.{begins, answers, refused_done, fills, ends, halts, reading_of, read_falls, used_by, used_falls}
 use Rattle.wsn_scan.proofs.notice_reader.NoticeReader.next.Goals as goal
 
 pub step-requires : goal.step-requires
 step-requires g c =
     let b = c.requires.begun in
-    let read = c.loop-head.invariant.read b.role b.limits b.came b.done b.at b.told in
-    record { begun = reading_of b.role b.limits c.loop-head.self (b.came ++ read.more) b.done b.at read.told }
+    let read = c.loop-head.invariant.read b.role b.limits b.came b.done b.at b.has_reported in
+    record { begun = reading_of b.role b.limits c.loop-head.self (b.came ++ read.more) b.done b.at read.has_reported }
 
 pub returns-in-Head-clause-next : goal.returns-in-Head-clause-next
-returns-in-Head-clause-next g c role limits came done at told =
-    let read = c.loop-head.invariant.read role limits came done at told in
+returns-in-Head-clause-next g c role limits came done at has_reported =
+    let read = c.loop-head.invariant.read role limits came done at has_reported in
     answers role limits c.args.input.now came done at c.loop-head.input c.loop-head.self read c.step.new.self (Ok (nexts.Head c.in-Head.head))
-    (c.in-Head.ensures.tells role limits (came ++ read.more) done at read.told, c.loop-head.invariant.unfailed)
+    (c.in-Head.ensures.reports role limits (came ++ read.more) done at read.has_reported, c.loop-head.invariant.unfailed)
 
 pub returns-in-Payload-clause-next : goal.returns-in-Payload-clause-next
-returns-in-Payload-clause-next g c role limits came done at told =
-    let read = c.loop-head.invariant.read role limits came done at told in
+returns-in-Payload-clause-next g c role limits came done at has_reported =
+    let read = c.loop-head.invariant.read role limits came done at has_reported in
     answers role limits c.args.input.now came done at c.loop-head.input c.loop-head.self read c.step.new.self (Ok nexts.Payload)
-    (c.in-Payload.ensures.tells role limits (came ++ read.more) done at read.told, c.loop-head.invariant.unfailed)
+    (c.in-Payload.ensures.reports role limits (came ++ read.more) done at read.has_reported, c.loop-head.invariant.unfailed)
 
 pub returns-in-FrameEnd-clause-next : goal.returns-in-FrameEnd-clause-next
-returns-in-FrameEnd-clause-next g c role limits came done at told =
-    let read = c.loop-head.invariant.read role limits came done at told in
+returns-in-FrameEnd-clause-next g c role limits came done at has_reported =
+    let read = c.loop-head.invariant.read role limits came done at has_reported in
     answers role limits c.args.input.now came done at c.loop-head.input c.loop-head.self read c.step.new.self (Ok (nexts.FrameEnd c.in-FrameEnd.event))
-    (c.in-FrameEnd.ensures.tells role limits (came ++ read.more) done at read.told, c.loop-head.invariant.unfailed)
+    (c.in-FrameEnd.ensures.reports role limits (came ++ read.more) done at read.has_reported, c.loop-head.invariant.unfailed)
 
 pub returns-in-Refused-clause-next : goal.returns-in-Refused-clause-next
-returns-in-Refused-clause-next g c role limits came done at told =
-    let read = c.loop-head.invariant.read role limits came done at told in
+returns-in-Refused-clause-next g c role limits came done at has_reported =
+    let read = c.loop-head.invariant.read role limits came done at has_reported in
     answers role limits c.args.input.now came done at c.loop-head.input c.loop-head.self read c.step.new.self (Ok (nexts.Done (Refused c.in-Refused.refusal)))
-    (refused_done role limits c.args.input.now came done at c.loop-head.input c.loop-head.self read c.in-Refused.refusal (c.in-Refused.ensures.tells role limits (came ++ read.more) done at read.told) c.loop-head.invariant.unfailed)
+    (refused_done role limits c.args.input.now came done at c.loop-head.input c.loop-head.self read c.in-Refused.refusal (c.in-Refused.ensures.reports role limits (came ++ read.more) done at read.has_reported) c.loop-head.invariant.unfailed)
 
 pub returns-in_err-verdict-in-More-clause-next : goal.returns-in_err-verdict-in-More-clause-next
-returns-in_err-verdict-in-More-clause-next g c role limits came done at told =
-    let read = c.loop-head.invariant.read role limits came done at told in
-    let used = used_by role limits c.step.new.self (came ++ read.more) done at c.step.result c.in-More.is (c.step.ensures.tells role limits (came ++ read.more) done at read.told) in
+returns-in_err-verdict-in-More-clause-next g c role limits came done at has_reported =
+    let read = c.loop-head.invariant.read role limits came done at has_reported in
+    let used = used_by role limits c.step.new.self (came ++ read.more) done at c.step.result c.in-More.is (c.step.ensures.reports role limits (came ++ read.more) done at read.has_reported) in
     let halted = c.in_err-verdict-in-More.field-0.0 in
     let filled = c.in_err-verdict-in-More.ensures.filled role limits (came ++ read.more) done at used in
     let is : c.from_residual.result ≡ Err halted = search rules in
@@ -55,9 +55,9 @@ returns-in_err-verdict-in-More-clause-next g c role limits came done at told =
     (halts role limits c.args.input.now came done at c.loop-head.input c.loop-head.self read c.fill.new.input c.fill.new.self halted filled)
 
 pub returns-in-Some-clause-next : goal.returns-in-Some-clause-next
-returns-in-Some-clause-next g c role limits came done at told =
-    let read = c.loop-head.invariant.read role limits came done at told in
-    let used = used_by role limits c.step.new.self (came ++ read.more) done at c.step.result c.in-More.is (c.step.ensures.tells role limits (came ++ read.more) done at read.told) in
+returns-in-Some-clause-next g c role limits came done at has_reported =
+    let read = c.loop-head.invariant.read role limits came done at has_reported in
+    let used = used_by role limits c.step.new.self (came ++ read.more) done at c.step.result c.in-More.is (c.step.ensures.reports role limits (came ++ read.more) done at read.has_reported) in
     let filled = c.in_ok-verdict-in-More.ensures.filled role limits (came ++ read.more) done at used in
     ends role limits c.args.input.now came done at c.loop-head.input c.loop-head.self read c.fill.new.input c.fill.new.self c.in-Some.verdict
     (subst (λ (v : Option Verdict). IsFilled role limits c.loop-head.input c.fill.new.input c.fill.new.self (came ++ read.more) done at (Ok v)) c.in-Some.is filled)
@@ -65,37 +65,41 @@ returns-in-Some-clause-next g c role limits came done at told =
 pub loop-head-smaller : goal.loop-head-smaller
 loop-head-smaller g c =
     let b = c.requires.begun in
-    let read = c.loop-head.invariant.read b.role b.limits b.came b.done b.at b.told in
-    let used = used_by b.role b.limits c.step.new.self (b.came ++ read.more) b.done b.at c.step.result c.in-More.is (c.step.ensures.tells b.role b.limits (b.came ++ read.more) b.done b.at read.told) in
+    let read = c.loop-head.invariant.read b.role b.limits b.came b.done b.at b.has_reported in
+    let used = used_by b.role b.limits c.step.new.self (b.came ++ read.more) b.done b.at c.step.result c.in-More.is (c.step.ensures.reports b.role b.limits (b.came ++ read.more) b.done b.at read.has_reported) in
     let was : c.fill.result ≡ Ok None = c.in_ok-verdict-in-More.was ∙ ap (λ (v : Option Verdict). Ok v) c.in_default.is in
     let falls = used_falls c.loop-head.self c.step.new.self c.step.result c.in-More.is c.step.ensures.falls in
     let filled = subst (λ (r : Result (Option Verdict) Stop). IsFilled b.role b.limits c.loop-head.input c.fill.new.input c.fill.new.self (b.came ++ read.more) b.done b.at r) was
     (c.fill.ensures.filled b.role b.limits (b.came ++ read.more) b.done b.at used) in
-    read_falls c.loop-head.self.at c.loop-head.self.end (left_of c.loop-head.self) (left_of c.fill.new.self) (idle_of c.fill.new.self) c.loop-head.self.past c.loop-head.self.left
+    read_falls c.loop-head.self.at c.loop-head.self.end (notices_left c.loop-head.self) (notices_left c.fill.new.self) (idle_of c.fill.new.self) c.loop-head.self.past c.loop-head.self.left
     (sym falls.1 ∙ c.fill.ensures.within was) (omega (arith, falls.0, c.fill.ensures.left)) filled.next.1
 
 pub loop-head-preserved : goal.loop-head-preserved
 loop-head-preserved g c =
     let was : c.fill.result ≡ Ok None = c.in_ok-verdict-in-More.was ∙ ap (λ (v : Option Verdict). Ok v) c.in_default.is in
     let falls = used_falls c.loop-head.self c.step.new.self c.step.result c.in-More.is c.step.ensures.falls in
-    let filled_by : (role : Role) (limits : Limits) (came : List ℕ) (done : List Frame) (at : Position) (told : HasTold role limits c.args.self.now came done at)
-    → IsFilled role limits c.loop-head.input c.fill.new.input c.fill.new.self (came ++ (c.loop-head.invariant.read role limits came done at told).more) done at (Ok None) =
-    λ role limits came done at told.
-    let read = c.loop-head.invariant.read role limits came done at told in
+    let filled_by : (role : Role) (limits : Limits) (came : List ℕ) (done : List Frame) (at : Position) (has_reported : HasReported role limits c.args.self.now came done at)
+    → IsFilled role limits c.loop-head.input c.fill.new.input c.fill.new.self (came ++ (c.loop-head.invariant.read role limits came done at has_reported).more) done at (Ok None) =
+    λ role limits came done at has_reported.
+    let read = c.loop-head.invariant.read role limits came done at has_reported in
     subst (λ (r : Result (Option Verdict) Stop). IsFilled role limits c.loop-head.input c.fill.new.input c.fill.new.self (came ++ read.more) done at r) was
     (c.fill.ensures.filled role limits (came ++ read.more) done at
-    (used_by role limits c.step.new.self (came ++ read.more) done at c.step.result c.in-More.is (c.step.ensures.tells role limits (came ++ read.more) done at read.told))) in
+    (used_by role limits c.step.new.self (came ++ read.more) done at c.step.result c.in-More.is (c.step.ensures.reports role limits (came ++ read.more) done at read.has_reported))) in
     let b = c.requires.begun in
     record {
-      read = λ role limits came done at told.
-          fills role limits c.args.input.now came done at c.loop-head.input c.loop-head.self (c.loop-head.invariant.read role limits came done at told) c.fill.new.input c.fill.new.self
-          (filled_by role limits came done at told);
-      unfailed = (filled_by b.role b.limits b.came b.done b.at b.told).next.2;
+      read = λ role limits came done at has_reported.
+          fills role limits c.args.input.now came done at c.loop-head.input c.loop-head.self (c.loop-head.invariant.read role limits came done at has_reported) c.fill.new.input c.fill.new.self
+          (filled_by role limits came done at has_reported);
+      unfailed = (filled_by b.role b.limits b.came b.done b.at b.has_reported).next.2;
       left = omega (arith, falls.0, c.fill.ensures.left, c.loop-head.invariant.left);
     }
 
 pub loop-head-init : goal.loop-head-init
-loop-head-init g c = search rules
+loop-head-init g c = record {
+  read = λ role limits came done at has_reported. begins role limits c.args.input.now came done at c.args.self.now has_reported;
+  unfailed = c.requires.readable;
+  left = omega arith;
+}
 
 pub returns-in-Head-clause-falls : goal.returns-in-Head-clause-falls
 returns-in-Head-clause-falls g c = search rules

@@ -1,13 +1,13 @@
 use Rattle.std.proofs.Common.{◌+◌, refl, ◌∙◌, arith, rules}
 use Rattle.wsn_scan.specs.declared.notice_reader.NoticeReader.{NoticeReader}
-use Rattle.wsn_scan.proofs.ReaderSteps.{tells, progresses}
+use Rattle.wsn_scan.proofs.ReaderSteps.{reports, progresses}
 use Rattle.wsn_scan.proofs.notice_reader.NoticeReader.step.Goals as goal
 
-pub returns-clause-tells : goal.returns-clause-tells
-returns-clause-tells c role limits came done at h =
+pub returns-clause-reports : goal.returns-clause-reports
+returns-clause-reports c role limits came done at h =
     let e = c.scan_part-taken.ensures in
-    tells role limits c.args.self.now _ c.scan_part-taken.result.0 came done at h c.scan_part-taken.result.1
-    (record { in_bytes = e.in_bytes; advances = e.taken; takes = e.takes; kept = e.kept; room = e.room; reported = e.reported; from_is = refl; at_is = refl; end_is = refl; past_is = refl })
+    reports role limits c.args.self.now _ c.scan_part-taken.result.0 came done at h c.scan_part-taken.result.1
+    (record { in_bytes = e.in_bytes; advances = e.taken; consumes = e.consumes; kept = e.kept; room = e.room; reported = e.reported; from_is = refl; at_is = refl; end_is = refl; past_is = refl })
 
 pub returns-clause-falls : goal.returns-clause-falls
 returns-clause-falls c =
@@ -26,8 +26,8 @@ returns-clause-falls c =
       held = old.held;
       size = c.scan_part-taken.auto.buffer ∙ old.size;
     } in
-    progresses b.role b.limits old new c.scan_part-taken.result.0 b.came b.done b.at b.told c.scan_part-taken.result.1
-    (record { in_bytes = e.in_bytes; advances = e.taken; takes = e.takes; kept = e.kept; room = e.room; reported = e.reported; from_is = refl; at_is = refl; end_is = refl; past_is = refl })
+    progresses b.role b.limits old new c.scan_part-taken.result.0 b.came b.done b.at b.has_reported c.scan_part-taken.result.1
+    (record { in_bytes = e.in_bytes; advances = e.taken; consumes = e.consumes; kept = e.kept; room = e.room; reported = e.reported; from_is = refl; at_is = refl; end_is = refl; past_is = refl })
 
 pub slice_bounds-scan_part-end : goal.slice_bounds-scan_part-end
 slice_bounds-scan_part-end c = search rules

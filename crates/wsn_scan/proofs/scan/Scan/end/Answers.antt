@@ -12,7 +12,7 @@ returns-clause-taken c role limits bytes rest wire fs reported =
       used = c.taken-self.ensures;
       counts = c.with-self.ensures;
       message = c.message_after-self.ensures;
-      stage = c.behind-self.ensures.stands;
+      stage = c.following-self.ensures.has_scanned;
     })
 
 pub returns-clause-room : goal.returns-clause-room

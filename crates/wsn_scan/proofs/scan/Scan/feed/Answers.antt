@@ -1,7 +1,7 @@
 use Rattle.std.proofs.Common.{◌≡◌, ◌∙◌, ◌+◌, ◌-◌, ◌<◌, ℕ, List, [], ◌++◌, length, drop, refl, sym, arith, ap, length-drop, rules}
 use borrow.Rule.Slice.PartMut.{mid_of, put_mid}
 use Rattle.wsn_scan.specs.Feeding.{heads_in}
-use Rattle.wsn_scan.proofs.FedPieces.{IsFedTo, bytes_below, share_is, takes_none, takes_by, takes_on, fed_further, none_told, falls, falls_further}
+use Rattle.wsn_scan.proofs.FedPieces.{IsFedTo, bytes_below, share_is, takes_none, takes_by, takes_on, fed_further, none_reported, falls, falls_further}
 use Rattle.wsn_scan.proofs.scan.Scan.feed.Goals as goal
 
 pub loop-at-init : goal.loop-at-init
@@ -11,7 +11,7 @@ loop-at-init c = record {
   size = refl;
   kept = refl;
   room = omega arith;
-  takes = ([], takes_none c.args.self.now c.args.piece.now);
+  consumes = ([], takes_none c.args.self.now c.args.piece.now);
 }
 
 pub returns-in-Some : goal.returns-in-Some
@@ -24,10 +24,10 @@ returns-in-Some c =
       count = at + taken;
       within = omega (arith, length-drop at c.args.piece.now, ap (λ (bs : List ℕ). length bs) is, c.next-taken.ensures.within);
       room = omega (arith, c.next-taken.ensures.room);
-      heads = c.loop-at.invariant.takes.0 ++ heads_in c.next-taken.result.1;
-      takes = takes_on c.args.self.now c.loop-at.self c.next-taken.new.self c.next-taken.result.1 c.args.piece.now share c.next-taken.new.piece at taken c.loop-at.invariant.takes.0 c.loop-at.invariant.in_bytes is c.loop-at.invariant.takes.1 c.next-taken.ensures.taken;
+      heads = c.loop-at.invariant.consumes.0 ++ heads_in c.next-taken.result.1;
+      consumes = takes_on c.args.self.now c.loop-at.self c.next-taken.new.self c.next-taken.result.1 c.args.piece.now share c.next-taken.new.piece at taken c.loop-at.invariant.consumes.0 c.loop-at.invariant.in_bytes is c.loop-at.invariant.consumes.1 c.next-taken.ensures.taken;
       all = λ none. cc;
-      told = sym c.in-Some.is ∙ c.refusal.ensures;
+      answered = sym c.in-Some.is ∙ c.refusal.ensures;
     }
 
 pub loop-at-smaller : goal.loop-at-smaller
@@ -42,11 +42,11 @@ loop-at-smaller c =
     let is : share ≡ drop at piece = share_is at here ∙ known.kept in
     let size : length share ≡ length (drop at piece) = ap (λ (bs : List ℕ). length bs) is in
     let some : 0 < length share = omega (arith, length-drop at piece) in
-    let before = known.takes.1 c.requires.begun.role c.requires.begun.limits c.requires.begun.bytes c.requires.begun.heads c.requires.begun.taken in
+    let before = known.consumes.1 c.requires.begun.role c.requires.begun.limits c.requires.begun.bytes c.requires.begun.heads c.requires.begun.taken in
     let first = falls c.loop-at.self mid c.next-taken.result.1 at taken (length piece) (omega arith) (omega (arith, length-drop at piece, c.next-taken.ensures.within))
-    (none_told c.next-taken.result.1 (sym c.next-taken.ensures.reported ∙ sym c.refusal.ensures ∙ c.in_default.is))
-    (c.next-taken.ensures.gets_on c.requires.begun.role c.requires.begun.limits _ before.since before.frames _ before.stands some) in
-    let fed : IsFedTo c.args.self.now c.loop-at.self piece here at = record { in_bytes = known.in_bytes; within = known.within; size = known.size; kept = known.kept; room = known.room; takes = known.takes } in
+    (none_reported c.next-taken.result.1 (sym c.next-taken.ensures.reported ∙ sym c.refusal.ensures ∙ c.in_default.is))
+    (c.next-taken.ensures.makes_progress c.requires.begun.role c.requires.begun.limits _ before.since before.frames _ before.has_scanned some) in
+    let fed : IsFedTo c.args.self.now c.loop-at.self piece here at = record { in_bytes = known.in_bytes; within = known.within; size = known.size; kept = known.kept; room = known.room; consumes = known.consumes } in
     let there = put_mid at (length here - at) here c.next-taken.new.piece in
     let next = fed_further c.args.self.now c.loop-at.self mid piece here c.next-taken.new.piece at taken fed c.next-taken.ensures.within c.next-taken.auto.piece c.next-taken.ensures.kept c.next-taken.ensures.room
     (λ in_bytes. (heads_in c.next-taken.result.1, takes_by c.loop-at.self mid c.next-taken.result.1 share c.next-taken.new.piece taken c.next-taken.ensures.taken in_bytes)) in
@@ -63,7 +63,7 @@ loop-at-preserved c =
     let taken = c.next-taken.result.0 in
     let mid = c.next-taken.new.self in
     let share = mid_of at (length here - at) here in
-    let fed : IsFedTo c.args.self.now c.loop-at.self piece here at = record { in_bytes = known.in_bytes; within = known.within; size = known.size; kept = known.kept; room = known.room; takes = known.takes } in
+    let fed : IsFedTo c.args.self.now c.loop-at.self piece here at = record { in_bytes = known.in_bytes; within = known.within; size = known.size; kept = known.kept; room = known.room; consumes = known.consumes } in
     let there = put_mid at (length here - at) here c.next-taken.new.piece in
     let next = fed_further c.args.self.now c.loop-at.self mid piece here c.next-taken.new.piece at taken fed c.next-taken.ensures.within c.next-taken.auto.piece c.next-taken.ensures.kept c.next-taken.ensures.room
     (λ in_bytes. (heads_in c.next-taken.result.1, takes_by c.loop-at.self mid c.next-taken.result.1 share c.next-taken.new.piece taken c.next-taken.ensures.taken in_bytes)) in
@@ -75,7 +75,7 @@ loop-at-preserved c =
       size = last.size;
       kept = last.kept;
       room = last.room;
-      takes = last.takes;
+      consumes = last.consumes;
     }
 
 pub returns : goal.returns

@@ -2,10 +2,10 @@ use Rattle.std.proofs.Common.{◌≡◌, ◌+◌, ◌-◌, ◌*◌, ◌≤◌, L
 use Rattle.wsn_rules.specs.declared.head_info.HeadInfo.{HeadInfo}
 use Rattle.wsn_wire.specs.Frame.{IsBytes}
 use Rattle.wsn_scan.specs.Scans.{ends_pending}
-use Rattle.wsn_scan.specs.Feeding.{TakesFront}
+use Rattle.wsn_scan.specs.Feeding.{ConsumesPrefix}
 use Rattle.wsn_scan.proofs.scan.Scan.feed.Given as goal
 
--- the scan has taken the piece so far, and the rest of the piece is as it was
+-- The scan has consumed the piece so far, and the rest of the piece is unchanged.
 abbrev pub invariant-loop-at : goal.invariant-loop-at
 invariant-loop-at l = record {
   in_bytes : IsBytes l.fn.piece;
@@ -13,7 +13,7 @@ invariant-loop-at l = record {
   size : length l.piece ≡ length l.fn.piece;
   kept : drop l.at l.piece ≡ drop l.at l.fn.piece;
   room : l.self.room + l.at ≡ l.fn.self.room;
-  takes : (more : List HeadInfo) × TakesFront l.fn.self l.self l.fn.piece l.at more;
+  consumes : (more : List HeadInfo) × ConsumesPrefix l.fn.self l.self l.fn.piece l.at more;
 }
 
 abbrev pub decreases-loop-at : goal.decreases-loop-at

@@ -4,7 +4,7 @@ use Rattle.wsn_scan.proofs.scan.Scan.new.Goals as goal
 
 pub returns : goal.returns
 returns c = record {
-  knows = record {
+  has_consumed = record {
     sender = refl;
     under = refl;
     in_range = c.input.ensures.in_range;

@@ -2,11 +2,11 @@ use Rattle.std.proofs.Common.{rules, arith}
 use Rattle.std.proofs.lemmas.Grind.{common_steps}
 use Rattle.wsn_scan.proofs.scan.Scan.next.Goals as goal
 
-pub returns-in-Refused-clause-takes : goal.returns-in-Refused-clause-takes
-returns-in-Refused-clause-takes c = search rules
+pub returns-in-Refused-clause-consumes : goal.returns-in-Refused-clause-consumes
+returns-in-Refused-clause-consumes c = search rules
 
-pub returns-in-Refused-clause-gets_on : goal.returns-in-Refused-clause-gets_on
-returns-in-Refused-clause-gets_on c = search rules
+pub returns-in-Refused-clause-makes_progress : goal.returns-in-Refused-clause-makes_progress
+returns-in-Refused-clause-makes_progress c = search rules
 
 pub returns-in-Refused-clause-reported : goal.returns-in-Refused-clause-reported
 returns-in-Refused-clause-reported c = search rules
@@ -20,11 +20,11 @@ returns-in-Closed-clause-untouched c = search rules
 pub returns-in-Ended-clause-taken : goal.returns-in-Ended-clause-taken
 returns-in-Ended-clause-taken c = search rules
 
-pub returns-in-Ended-clause-gets_on : goal.returns-in-Ended-clause-gets_on
-returns-in-Ended-clause-gets_on c = search rules
+pub returns-in-Ended-clause-makes_progress : goal.returns-in-Ended-clause-makes_progress
+returns-in-Ended-clause-makes_progress c = search rules
 
-pub returns-in-Ended-clause-takes : goal.returns-in-Ended-clause-takes
-returns-in-Ended-clause-takes c = search rules
+pub returns-in-Ended-clause-consumes : goal.returns-in-Ended-clause-consumes
+returns-in-Ended-clause-consumes c = search rules
 
 pub next_frame-requires : goal.next_frame-requires
 next_frame-requires c = search rules
@@ -41,8 +41,8 @@ overflow_sub-self c = search rules
 pub returns-in-Between-clause-taken : goal.returns-in-Between-clause-taken
 returns-in-Between-clause-taken c = search rules
 
-pub returns-in-Between-clause-takes : goal.returns-in-Between-clause-takes
-returns-in-Between-clause-takes c = search rules
+pub returns-in-Between-clause-consumes : goal.returns-in-Between-clause-consumes
+returns-in-Between-clause-consumes c = search rules
 
 pub returns-in-Between-clause-within : goal.returns-in-Between-clause-within
 returns-in-Between-clause-within c = search rules
@@ -56,8 +56,8 @@ returns-in-Between-clause-untouched c = search rules
 pub returns-in-Between-clause-room : goal.returns-in-Between-clause-room
 returns-in-Between-clause-room c = search rules
 
-pub returns-in-Between-clause-gets_on : goal.returns-in-Between-clause-gets_on
-returns-in-Between-clause-gets_on c = search rules
+pub returns-in-Between-clause-makes_progress : goal.returns-in-Between-clause-makes_progress
+returns-in-Between-clause-makes_progress c = search rules
 
 pub returns-in-Between-clause-reported : goal.returns-in-Between-clause-reported
 returns-in-Between-clause-reported c = search rules
@@ -65,8 +65,8 @@ returns-in-Between-clause-reported c = search rules
 pub returns-in-Head-clause-taken : goal.returns-in-Head-clause-taken
 returns-in-Head-clause-taken c = search rules
 
-pub returns-in-Head-clause-takes : goal.returns-in-Head-clause-takes
-returns-in-Head-clause-takes c = search rules
+pub returns-in-Head-clause-consumes : goal.returns-in-Head-clause-consumes
+returns-in-Head-clause-consumes c = search rules
 
 pub returns-in-Head-clause-within : goal.returns-in-Head-clause-within
 returns-in-Head-clause-within c = search rules
@@ -80,8 +80,8 @@ returns-in-Head-clause-untouched c = search rules
 pub returns-in-Head-clause-room : goal.returns-in-Head-clause-room
 returns-in-Head-clause-room c = search rules
 
-pub returns-in-Head-clause-gets_on : goal.returns-in-Head-clause-gets_on
-returns-in-Head-clause-gets_on c = search rules
+pub returns-in-Head-clause-makes_progress : goal.returns-in-Head-clause-makes_progress
+returns-in-Head-clause-makes_progress c = search rules
 
 pub returns-in-Head-clause-reported : goal.returns-in-Head-clause-reported
 returns-in-Head-clause-reported c = search rules
@@ -89,8 +89,8 @@ returns-in-Head-clause-reported c = search rules
 pub returns-in-Payload-clause-taken : goal.returns-in-Payload-clause-taken
 returns-in-Payload-clause-taken c = search rules
 
-pub returns-in-Payload-clause-takes : goal.returns-in-Payload-clause-takes
-returns-in-Payload-clause-takes c = search rules
+pub returns-in-Payload-clause-consumes : goal.returns-in-Payload-clause-consumes
+returns-in-Payload-clause-consumes c = search rules
 
 pub returns-in-Payload-clause-within : goal.returns-in-Payload-clause-within
 returns-in-Payload-clause-within c = search rules
@@ -104,8 +104,8 @@ returns-in-Payload-clause-untouched c = search rules
 pub returns-in-Payload-clause-room : goal.returns-in-Payload-clause-room
 returns-in-Payload-clause-room c = search rules
 
-pub returns-in-Payload-clause-gets_on : goal.returns-in-Payload-clause-gets_on
-returns-in-Payload-clause-gets_on c = search rules
+pub returns-in-Payload-clause-makes_progress : goal.returns-in-Payload-clause-makes_progress
+returns-in-Payload-clause-makes_progress c = search rules
 
 pub returns-in-Payload-clause-reported : goal.returns-in-Payload-clause-reported
 returns-in-Payload-clause-reported c = search rules
@@ -125,8 +125,8 @@ returns-in-Ended-clause-room c = search rules
 pub returns-in-Ended-clause-reported : goal.returns-in-Ended-clause-reported
 returns-in-Ended-clause-reported c = search rules
 
-pub returns-in-CloseEnded-clause-takes : goal.returns-in-CloseEnded-clause-takes
-returns-in-CloseEnded-clause-takes c = search rules
+pub returns-in-CloseEnded-clause-consumes : goal.returns-in-CloseEnded-clause-consumes
+returns-in-CloseEnded-clause-consumes c = search rules
 
 pub returns-in-CloseEnded-clause-within : goal.returns-in-CloseEnded-clause-within
 returns-in-CloseEnded-clause-within c = search rules
@@ -140,8 +140,8 @@ returns-in-CloseEnded-clause-untouched c = search rules
 pub returns-in-CloseEnded-clause-room : goal.returns-in-CloseEnded-clause-room
 returns-in-CloseEnded-clause-room c = search rules
 
-pub returns-in-CloseEnded-clause-gets_on : goal.returns-in-CloseEnded-clause-gets_on
-returns-in-CloseEnded-clause-gets_on c = search rules
+pub returns-in-CloseEnded-clause-makes_progress : goal.returns-in-CloseEnded-clause-makes_progress
+returns-in-CloseEnded-clause-makes_progress c = search rules
 
 pub returns-in-CloseEnded-clause-reported : goal.returns-in-CloseEnded-clause-reported
 returns-in-CloseEnded-clause-reported c = search rules
@@ -149,8 +149,8 @@ returns-in-CloseEnded-clause-reported c = search rules
 pub returns-in-Closed-clause-taken : goal.returns-in-Closed-clause-taken
 returns-in-Closed-clause-taken c = grind (arith, common_steps)
 
-pub returns-in-Closed-clause-takes : goal.returns-in-Closed-clause-takes
-returns-in-Closed-clause-takes c = search rules
+pub returns-in-Closed-clause-consumes : goal.returns-in-Closed-clause-consumes
+returns-in-Closed-clause-consumes c = search rules
 
 pub returns-in-Closed-clause-within : goal.returns-in-Closed-clause-within
 returns-in-Closed-clause-within c = search rules
@@ -161,8 +161,8 @@ returns-in-Closed-clause-kept c = search rules
 pub returns-in-Closed-clause-room : goal.returns-in-Closed-clause-room
 returns-in-Closed-clause-room c = search rules
 
-pub returns-in-Closed-clause-gets_on : goal.returns-in-Closed-clause-gets_on
-returns-in-Closed-clause-gets_on c = search rules
+pub returns-in-Closed-clause-makes_progress : goal.returns-in-Closed-clause-makes_progress
+returns-in-Closed-clause-makes_progress c = search rules
 
 pub returns-in-Closed-clause-reported : goal.returns-in-Closed-clause-reported
 returns-in-Closed-clause-reported c = search rules

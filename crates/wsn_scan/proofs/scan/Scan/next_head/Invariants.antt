@@ -5,14 +5,14 @@ use Rattle.wsn_scan.specs.declared.stage.Stage.TheVariants as stages
 use Rattle.wsn_rules.specs.Limits.{Limits}
 use Rattle.wsn_rules.specs.Group.{unfinished}
 use Rattle.wsn_frame.specs.PartialHeads.{IsInHead}
-use Rattle.wsn_scan.specs.Scans.{StandsAt}
+use Rattle.wsn_scan.specs.Scans.{HasScannedAt}
 use Rattle.wsn_scan.specs.Reports.{Reported}
 use Rattle.wsn_scan.proofs.scan.Scan.next_head.Given as goal
 
--- the bytes so far are part of a head, which shows nothing
+-- The bytes so far are part of a head and valid so far.
 abbrev pub invariant-loop-i : goal.invariant-loop-i
 invariant-loop-i l = record {
   same : l.self ≡ l.fn.self;
-  in_head : (role : Role) (limits : Limits) (bytes rest : List ℕ) (fs : List Frame) (reported : Reported) → IsBytes l.piece → StandsAt role limits l.fn.self (stages.Head l.fn.part) bytes fs rest reported
+  in_head : (role : Role) (limits : Limits) (bytes rest : List ℕ) (fs : List Frame) (reported : Reported) → IsBytes l.piece → HasScannedAt role limits l.fn.self (stages.Head l.fn.part) bytes fs rest reported
       → IsInHead role limits (unfinished fs) l.part (rest ++ take l.i l.piece);
 }

@@ -11,55 +11,52 @@ use Rattle.wsn_frame.specs.PayloadChecks.{IsChecked}
 use Rattle.wsn_frame.specs.Payloads.{unmasked_by}
 use Rattle.wsn_scan.specs.Reports.{Reported, ends_of}
 use Rattle.wsn_frame.proofs.FrameStarts.{goes_on, begins}
-use Rattle.wsn_frame.proofs.FramesAtOnce.{kept_behind_frame, payload_after, masked_back, head_and_payload, fed_at_once, holds_at_once}
+use Rattle.wsn_frame.proofs.FramesAtOnce.{kept_after_frame, payload_after, masked_back, head_and_payload, fed_at_once, holds_at_once}
 use Rattle.wsn_scan.proofs.HeadBytes.{bytes_taken}
 use Rattle.wsn_scan.proofs.HeadsReported.{heads_with}
 use Rattle.wsn_scan.proofs.MoreBytes.{knows_more}
 use Rattle.wsn_scan.proofs.scan.Scan.take_frame.Goals as goal
 
 pub returns-in-Ok-clause-taken : goal.returns-in-Ok-clause-taken
-returns-in-Ok-clause-taken c in_piece = (
-  info_at c.args.self.now.used c.in_ok-start.head ∷ [],
-  λ role limits bytes heads taken.
-      let head = c.in_ok-start.head in
-      let start = c.in_ok-start.start in
-      let end = start + head.len in
-      let piece = c.args.piece.now in
-      let fs = taken.frames in
-      let group = unfinished fs in
-      let knows = taken.stands.knows in
-      let found = c.in_ok-start.ensures in
-      let between = c.is_between.ensures.between c.if-not-is_between.false role limits bytes taken.since fs _ taken.stands.at in
-      let head_bytes = take start piece in
-      let wire = mid_of start (end - start) piece in
-      let came = take end piece in
-      let within : end ≤ length piece = omega (arith, found.1, c.if-head-room.false) in
-      let size : length wire ≡ head.len = mid_len start end piece within ∙ omega arith in
-      let parts : came ≡ head_bytes ++ wire = head_and_payload start end piece (omega arith) in
-      let in_came : IsBytes came = bytes_taken end piece in_piece in
-      let in_wire : IsBytes wire = IsBytes-right head_bytes wire (subst IsBytes parts in_came) in
-      let of_role = subst (λ (r : Role). IsHead r c.args.self.now.context.limits group head head_bytes) knows.sender (found.2 group knows.message) in
-      let is_head = subst (λ (b : Limits). IsHead role b group head head_bytes) knows.under of_role in
-      let checked = c.new-check.ensures group knows.message (goes_on role limits group head head_bytes is_head) (begins role limits group head head_bytes is_head) in
-      let fed_is = payload_after head.key start end piece c.unmask.new.bytes (omega arith) within c.unmask.ensures in
-      let all : IsChecked group (first_byte head.first.fin head.first.op) head.len [] (unmasked_by head.key 0 wire) (Ok c.in-Ok.check) =
-      fed_at_once group (first_byte head.first.fin head.first.op) head.len head.key wire _ (Ok c.in-Ok.check) fed_is size
-      (c.in-Ok.ensures.checked group (first_byte head.first.fin head.first.op) head.len [] checked (first_byte_fields head.first.fin head.first.op).fin_is) in
-      let rest_is : taken.since ++ came ≡ head_bytes ++ wire = ap (λ (bs : List ℕ). bs ++ came) between.1 ∙ parts in
-      let holds = holds_at_once role limits group head c.new-check.result c.in-Ok.check head_bytes wire (taken.since ++ came) rest_is in_wire is_head checked (omega (arith, c.if-head-eq0.false)) size all in
-      let reported : Reported = record { heads = heads ++ info_at c.args.self.now.used head ∷ []; payload = unmasked_by head.key 0 wire; ends = ends_of fs } in
-      let size_came : length came ≡ end = length-take-le end piece within in
-      let ends = c.end.ensures.taken role limits (bytes ++ came) (taken.since ++ came) wire fs reported
-      (knows_more role limits c.args.self.now _ bytes taken.since came fs (record { sender = refl; under = refl; room = omega (arith, c.requires, within, size_came); used = refl; counts = refl; message = refl }) in_came knows)
-      between.0 holds size (heads_with head fs heads c.args.self.now.used (info_at c.args.self.now.used head) between.2 knows.used refl) refl refl in
-      record { frames = fs ++ ends.frame ∷ []; since = []; payload = reported.payload; ends = reported.ends; stands = ends.stands },
-)
+returns-in-Ok-clause-taken c in_piece role limits bytes heads taken =
+    let head = c.in_ok-start.head in
+    let start = c.in_ok-start.start in
+    let end = start + head.len in
+    let piece = c.args.piece.now in
+    let fs = taken.frames in
+    let group = unfinished fs in
+    let has_consumed = taken.has_scanned.has_consumed in
+    let found = c.in_ok-start.ensures in
+    let between = c.is_between.ensures.between c.if-not-is_between.false role limits bytes taken.since fs _ taken.has_scanned.at in
+    let head_bytes = take start piece in
+    let wire = mid_of start (end - start) piece in
+    let came = take end piece in
+    let within : end ≤ length piece = omega (arith, found.1, c.if-head-room.false) in
+    let size : length wire ≡ head.len = mid_len start end piece within ∙ omega arith in
+    let parts : came ≡ head_bytes ++ wire = head_and_payload start end piece (omega arith) in
+    let in_came : IsBytes came = bytes_taken end piece in_piece in
+    let in_wire : IsBytes wire = IsBytes-right head_bytes wire (subst IsBytes parts in_came) in
+    let of_role = subst (λ (r : Role). IsHead r c.args.self.now.context.limits group head head_bytes) has_consumed.sender (found.2 group has_consumed.message) in
+    let is_head = subst (λ (b : Limits). IsHead role b group head head_bytes) has_consumed.under of_role in
+    let checked = c.new-check.ensures group has_consumed.message (goes_on role limits group head head_bytes is_head) (begins role limits group head head_bytes is_head) in
+    let fed_is = payload_after head.key start end piece c.unmask.new.bytes (omega arith) within c.unmask.ensures in
+    let all : IsChecked group (first_byte head.first.fin head.first.op) head.len [] (unmasked_by head.key 0 wire) (Ok c.in-Ok.check) =
+    fed_at_once group (first_byte head.first.fin head.first.op) head.len head.key wire _ (Ok c.in-Ok.check) fed_is size
+    (c.in-Ok.ensures.checked group (first_byte head.first.fin head.first.op) head.len [] checked (first_byte_fields head.first.fin head.first.op).fin_is) in
+    let rest_is : taken.since ++ came ≡ head_bytes ++ wire = ap (λ (bs : List ℕ). bs ++ came) between.1 ∙ parts in
+    let holds = holds_at_once role limits group head c.new-check.result c.in-Ok.check head_bytes wire (taken.since ++ came) rest_is in_wire is_head checked (omega (arith, c.if-head-eq0.false)) size all in
+    let reported : Reported = record { heads = heads ++ c.info-info.result ∷ []; payload = unmasked_by head.key 0 wire; ends = ends_of fs } in
+    let size_came : length came ≡ end = length-take-le end piece within in
+    let ends = c.end.ensures.taken role limits (bytes ++ came) (taken.since ++ came) wire fs reported
+    (knows_more role limits c.args.self.now _ bytes taken.since came fs (record { sender = refl; under = refl; room = omega (arith, c.requires, within, size_came); used = refl; counts = refl; message = refl }) in_came has_consumed)
+    between.0 holds size (heads_with head fs heads c.args.self.now.used c.info-info.result between.2 has_consumed.used c.info-info.ensures) refl refl in
+    record { frames = fs ++ ends.frame ∷ []; since = []; payload = reported.payload; ends = reported.ends; has_scanned = ends.has_scanned }
 
 pub returns-in-Ok-clause-kept : goal.returns-in-Ok-clause-kept
 returns-in-Ok-clause-kept c =
     let start = c.in_ok-start.start in
     let end = start + c.in_ok-start.head.len in
-    kept_behind_frame c.in_ok-start.head.key start end c.args.piece.now c.unmask.new.bytes (omega arith) (omega (arith, c.in_ok-start.ensures.1, c.if-head-room.false)) c.unmask.ensures
+    kept_after_frame c.in_ok-start.head.key start end c.args.piece.now c.unmask.new.bytes (omega arith) (omega (arith, c.in_ok-start.ensures.1, c.if-head-room.false)) c.unmask.ensures
 
 pub returns-in-Err-clause-none : goal.returns-in-Err-clause-none
 returns-in-Err-clause-none c =

@@ -1,9 +1,9 @@
-use Rattle.std.proofs.Common.{◌≡◌, ◌-◌, List, ℕ, [], ◌++◌, length, drop, refl, sym, ap, ◌∙◌, subst, arith, length-drop}
+use Rattle.std.proofs.Common.{◌≡◌, ◌-◌, List, ℕ, [], ◌∷◌, ◌++◌, length, drop, refl, sym, ap, ◌∙◌, subst, arith, length-drop}
 use borrow.Rule.Slice.PartMut.{mid_of, same_len_mid}
 use Rattle.wsn_wire.specs.Frame.{IsBytes}
 use Rattle.wsn_scan.specs.declared.scan.Scan.{Scan}
-use Rattle.wsn_scan.specs.Feeding.{TakesFront}
-use Rattle.wsn_scan.proofs.FedPieces.{bytes_below, bytes_behind, share_is, kept_behind, same_further, takes_none, takes_further}
+use Rattle.wsn_scan.specs.Feeding.{ConsumesPrefix}
+use Rattle.wsn_scan.proofs.FedPieces.{bytes_below, bytes_after, share_is, kept_after, same_further, takes_none, takes_further}
 use Rattle.wsn_scan.proofs.scan.Scan.take_frames.Goals as goal
 
 pub loop-taken-init : goal.loop-taken-init
@@ -13,7 +13,7 @@ loop-taken-init c = record {
   size = refl;
   kept = refl;
   room = omega arith;
-  takes = ([], takes_none c.args.self.now c.args.piece.now);
+  consumes = ([], takes_none c.args.self.now c.args.piece.now);
   reported = λ none. none;
   none = λ zero. refl;
 }
@@ -30,15 +30,15 @@ loop-taken-preserved c =
     let is : share ≡ drop at piece = share_is at here ∙ known.kept in
     let size : length share ≡ length (drop at piece) = ap (λ (bs : List ℕ). length bs) is in
     let same_size : length c.take_frame.new.piece ≡ length share = c.take_frame.auto.piece in
-    let more = found.taken (subst IsBytes (sym is) (bytes_behind at piece known.in_bytes)) in
+    let more = found.taken (subst IsBytes (sym is) (bytes_after at piece known.in_bytes)) in
     record {
       in_bytes = known.in_bytes;
       within = omega (arith, length-drop at piece, size, found.within.1);
       size = same_len_mid at (length here - at) here c.take_frame.new.piece same_size ∙ known.size;
-      kept = kept_behind at (length here - at) taken here c.take_frame.new.piece (omega (arith, known.within, known.size)) found.within.1 same_size found.kept
+      kept = kept_after at (length here - at) taken here c.take_frame.new.piece (omega (arith, known.within, known.size)) found.within.1 same_size found.kept
           ∙ same_further at taken here piece (omega (arith, known.within, known.size)) known.within known.kept;
       room = omega (arith, found.room, known.room);
-      takes = (known.takes.0 ++ more.0, takes_further c.args.self.now c.loop-taken.self c.take_frame.new.self piece share at taken known.takes.0 more.0 is known.takes.1 more.1);
+      consumes = (known.consumes.0 ++ c.in-Some._head ∷ [], takes_further c.args.self.now c.loop-taken.self c.take_frame.new.self piece share at taken known.consumes.0 (c.in-Some._head ∷ []) is known.consumes.1 more);
       reported = λ none. found.reported;
       none = λ zero. absurd (omega (arith, found.within.0, zero));
     }
@@ -46,4 +46,4 @@ loop-taken-preserved c =
 pub returns-clause-taken : goal.returns-clause-taken
 returns-clause-taken c in_bytes =
     let known = c.loop-taken.invariant in
-    (known.takes.0, subst (λ (scan : Scan). TakesFront c.args.self.now scan c.args.piece.now c.loop-taken.at known.takes.0) (sym c.in_default.ensures.none.0) known.takes.1)
+    (known.consumes.0, subst (λ (scan : Scan). ConsumesPrefix c.args.self.now scan c.args.piece.now c.loop-taken.at known.consumes.0) (sym c.in_default.ensures.none.0) known.consumes.1)

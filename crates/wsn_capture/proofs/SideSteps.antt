@@ -1,0 +1,110 @@
+-- The lines of a side as they are taken.
+use Rattle.std.proofs.Common.{◌≡◌, ℕ, ◌+◌, ◌-◌, ◌<◌, ◌≤◌, false, Option, None, List, [], ◌∷◌, ◌++◌, length, take, drop, slice_range, get_or, slice_index, ◌==◌, true, length-append, inl, inr, refl, sym, ap, ◌∙◌, subst, append_assoc, append-nil, suc, take-append-drop, drop-drop, arith}
+use Rattle.std.proofs.lemmas.Bool.{cases_lt, eqb-true}
+use Rattle.std.proofs.lemmas.List.{drop-take, take_at, drop_at, length-take-le}
+use Rattle.wsn_wire.specs.declared.endpoint.Role.{Role}
+use Rattle.wsn_wire.specs.declared.endpoint.Role.TheVariants.{Client, Server}
+use Rattle.wsn_rules.specs.TextLines.{IsLine, lines_of}
+use Rattle.wsn_rules.proofs.TextLines.{line_first, one_line, front_first}
+use Rattle.wsn_rules.specs.Entries.{without_cr, end_mark}
+use Rattle.wsn_rules.specs.Entries.Entry.{Mark}
+use Rattle.wsn_rules.specs.Sides.{bytes_in}
+use Rattle.wsn_capture.specs.declared.line_fault.LineFault.TheVariants.{TooManyLines, TooLong}
+use Rattle.wsn_capture.specs.declared.lines_before.LinesBefore.{LinesBefore}
+use Rattle.wsn_capture.specs.LineFaults.{line_most, lines_most}
+use Rattle.wsn_capture.specs.SideTexts.{text_entry, ended_before, entry_unless_ended, with_entry, sent_in_lines}
+use Rattle.wsn_capture.specs.declared.side_bytes.FaultyLine.{FaultyLine}
+use Rattle.wsn_capture.specs.declared.side_bytes.SideBytes.{SideBytes}
+use Rattle.wsn_capture.specs.SideStates.{TextGivesBytes, unless_faulty, side_left}
+use Rattle.wsn_capture.proofs.SideEntries.{mark_text, mark_going, too_many_lines, too_long_line}
+use Rattle.wsn_capture.proofs.SideLaws.{side-fault}
+use Rattle.wsn_capture.proofs.SplitLines.{too_long}
+use Rattle.wsn_capture.proofs.PiecePrefixes.{parted}
+
+no_bytes : (role other : Role) → [] ≡ bytes_in role (Mark other)
+no_bytes Client other = refl
+no_bytes Server other = refl
+
+pub mark_given : (role sender : Role) (old new : LinesBefore) (text : List ℕ) → text ≡ end_mark sender → ended_before sender old ≡ false → record new { count = new.count + 1 } ≡ with_entry old (Mark sender)
+    → TextGivesBytes role old new text []
+mark_given role sender old new text is going ended = record {
+  entry = Mark sender;
+  is = ap (λ (bs : List ℕ). entry_unless_ended old (text_entry bs)) is ∙ ap (entry_unless_ended old) (mark_text sender) ∙ mark_going old sender going;
+  adds = ended;
+  gives = no_bytes role sender;
+}
+
+-- ---- bytes that are given out
+
+-- the bytes held, in two parts
+parts : (bytes : List ℕ) (start end count : ℕ) → start + count ≤ end → slice_range bytes start end ≡ take count (slice_range bytes start end) ++ slice_range bytes (start + count) end
+parts bytes start end count within =
+    let held = slice_range bytes start end in
+    let rest : drop count held ≡ slice_range bytes (start + count) end =
+    ap (λ n. drop count (take n (drop start bytes))) {y = count + (end - (start + count))} (omega arith)
+    ∙ (drop-take count (end - (start + count)) (drop start bytes) ∙ ap (take (end - (start + count))) (drop-drop count start bytes)) in
+    sym (take-append-drop count held) ∙ ap (λ bs. take count held ++ bs) rest
+
+pub given_out : (fault : Option FaultyLine) (bytes copied into later : List ℕ) (start end count : ℕ) → fault ≡ None → start + count ≤ end → length copied ≡ count → copied ≡ take count (slice_range bytes start end)
+    → unless_faulty fault (slice_range bytes start end ++ later) ≡ take count (copied ++ drop count into) ++ unless_faulty fault (slice_range bytes (start + count) end ++ later)
+given_out fault bytes copied into later start end count none within size copy =
+    let held = slice_range bytes start end in
+    let rest = slice_range bytes (start + count) end in
+    subst (λ (f : Option FaultyLine). unless_faulty f (held ++ later) ≡ take count (copied ++ drop count into) ++ unless_faulty f (rest ++ later)) (sym none)
+    (ap (λ (bs : List ℕ). bs ++ later) (parts bytes start end count within) ∙ append_assoc (take count held) rest later
+    ∙ ap (λ (bs : List ℕ). bs ++ (rest ++ later)) (sym (take_at copied (drop count into) count size ∙ copy)))
+
+-- ---- a line that is too long whatever follows
+
+long_after : (role : Role) (before : LinesBefore) (line more : List ℕ) (lines others : List (List ℕ)) → 8196 ≤ length line → sent_in_lines role before (line ∷ lines) ≡ sent_in_lines role before ((line ++ more) ∷ others)
+long_after role before line more lines others long =
+    elim (cases_lt before.count lines_most) [
+      | inl few ↦
+          let here : line_most < length (without_cr line) = subst (λ (bs : List ℕ). line_most < length (without_cr bs)) (append-nil line) (too_long line [] long) in
+          side-fault role before line lines TooLong (too_long_line before line few here)
+          ∙ sym (side-fault role before (line ++ more) others TooLong (too_long_line before (line ++ more) few (too_long line more long)))
+      | inr many ↦
+          let enough : lines_most ≤ before.count = omega (arith, many) in
+          side-fault role before line lines TooManyLines (too_many_lines before line enough)
+          ∙ sym (side-fault role before (line ++ more) others TooManyLines (too_many_lines before (line ++ more) enough))
+    ]
+
+long_left : (side : SideBytes) (line more : List ℕ) (lines others : List (List ℕ)) → 8196 ≤ length line → side_left side (line ∷ lines) ≡ side_left side ((line ++ more) ∷ others)
+long_left side line more lines others long =
+    ap (λ (bs : List ℕ). unless_faulty side.fault (slice_range side.bytes side.start side.end ++ bs)) (long_after side.role side.before line more lines others long)
+
+-- the first line of a text begins with these bytes
+first_of : (front later : List ℕ) → IsLine front → 0 < length front → (more : List ℕ) × (rest : List (List ℕ)) × (lines_of (front ++ later) ≡ (front ++ more) ∷ rest)
+first_of [] later is some = absurd (omega (arith, some))
+first_of (b ∷ front) later is some = front_first b front later is
+
+pub long_text : (side : SideBytes) (line later : List ℕ) (lines : List (List ℕ)) → IsLine line → 8196 ≤ length line → side_left side (line ∷ lines) ≡ side_left side (lines_of (line ++ later))
+long_text side line later lines is long =
+    let first = first_of line later is (omega (arith, long)) in
+    long_left side line first.0 lines first.1 long ∙ ap (side_left side) (sym first.2)
+
+-- ---- lines in a text
+
+-- a line, its LF, and what follows
+pub line_text : (side : SideBytes) (begun bytes later : List ℕ) → IsLine (begun ++ bytes) → side_left side ((begun ++ bytes) ∷ lines_of later) ≡ side_left side (lines_of (begun ++ (bytes ++ 10 ∷ later)))
+line_text side begun bytes later is =
+    ap (side_left side) (sym (line_first (begun ++ bytes) later is) ∙ ap lines_of (append_assoc begun bytes (10 ∷ later)))
+
+-- the last line, without LF
+pub last_text : (side : SideBytes) (begun : List ℕ) → IsLine begun → (begun ≡ [] → ⊥) → side_left side (begun ∷ []) ≡ side_left side (lines_of (begun ++ []))
+last_text side begun is some = ap (side_left side) (sym (ap lines_of (append-nil begun) ∙ one_line begun is some))
+
+-- a chunk up to its first LF
+pub chunk_at : (chunk : List ℕ) (most end : ℕ) → end < length (take most chunk) → (slice_index (take most chunk) end == 10) ≡ true → chunk ≡ take end (take most chunk) ++ 10 ∷ drop (end + 1) chunk
+chunk_at chunk most end within lf =
+    let front = take most chunk in
+    let bytes = take end front in
+    let ahead = drop (suc end) front ++ drop most chunk in
+    let is_lf : get_or front end 0 ≡ 10 = eqb-true (slice_index front end) 10 lf in
+    let whole : chunk ≡ bytes ++ 10 ∷ ahead =
+    sym (take-append-drop most chunk)
+    ∙ ap (λ (bs : List ℕ). bs ++ drop most chunk) (parted front end within ∙ ap (λ (b : ℕ). bytes ++ b ∷ drop (suc end) front) is_lf)
+    ∙ append_assoc bytes (10 ∷ drop (suc end) front) (drop most chunk) in
+    let size : length (bytes ++ 10 ∷ []) ≡ end + 1 = omega (arith, length-append bytes (10 ∷ []), length-take-le end front (omega (arith, within))) in
+    let rest : drop (end + 1) chunk ≡ ahead = ap (drop (end + 1)) (whole ∙ sym (append_assoc bytes (10 ∷ []) ahead)) ∙ drop_at (bytes ++ 10 ∷ []) ahead (end + 1) size in
+    whole ∙ ap (λ (bs : List ℕ). bytes ++ 10 ∷ bs) (sym rest)

@@ -1,0 +1,76 @@
+//! The lines on standard error of a command that has no answer; its status is 2.
+use super::Entry;
+
+static ERRORS: [Entry; 6] = [
+    Entry {
+        words: &["usage"],
+        text: "\
+usage: the words of the command line don't go together, or one isn't UTF-8.
+Usual causes, at recut: neither or both of --plan and --size; --weave or --key
+with --plan; --key with --role server; a key that isn't 8 hexadecimal digits.
+At any command: a file name with bytes that aren't UTF-8.
+Next: 'wsn help recut' has an example of each form. A file of any name can be
+given by its descriptor: wsn same --role R /dev/fd/3 b.bin 3< \"$file\"
+",
+    },
+    Entry {
+        words: &["read failed"],
+        text: "\
+read failed: the system reported an error while wsn read its input; what was
+printed before is right for the bytes that came.
+Usual causes: standard input is closed (<&-) or a directory; a network file
+system or a disk that fails; a terminal that went away.
+Next: try cat FILE > /dev/null, which names the system's error. A pipe whose
+writer ends is no failure, but the end of the input.
+",
+    },
+    Entry {
+        words: &["write failed"],
+        text: "\
+write failed: the system accepted no more of the output, which is incomplete.
+Usual causes: a full disk or quota; standard output is closed (>&-); a reader in
+the pipeline that ended, such as head, where signals are ignored (otherwise wsn
+just ends, by SIGPIPE).
+Next: df -h . for the disk. Don't use the output: run the command again.
+",
+    },
+    Entry {
+        words: &["input limit"],
+        text: "\
+input limit: the input has more than 2^40 bytes (1 TiB), and wsn reads no more.
+Usual causes: an endless input, such as a device; a pipeline that repeats
+itself.
+Next: judge a part: head -c 1000000000 FILE | wsn judge --role R. A part that
+begins with a message can be judged alone; 'wsn frames' prints the offsets.
+",
+    },
+    Entry {
+        words: &["out of memory"],
+        text: "\
+out of memory: the system refused to give wsn memory.
+judge, frames and closing need little, whatever the input. normal and same hold
+one message, at most --limit bytes. plan holds a step for each frame; recut
+holds the whole meaning of the stream, and its plan.
+Usual causes: a limit on the process (ulimit -v, a container's); a recut of a
+very large stream.
+Next: raise the limit, or lower --limit for normal and same. For recut, cut the
+stream between two messages, where 'wsn frames' prints offsets.
+",
+    },
+    Entry {
+        words: &["cannot read"],
+        text: "\
+cannot read FILE: the file can't be opened, or its reading fails (a plan file;
+of the files of 'wsn same' that is 'read failed').
+Usual causes: a misspelt name; the file is in another folder; missing rights; a
+directory; - for standard input, which is /dev/stdin.
+Next: ls -l FILE. In the printed name, \\x1b and the like are control characters,
+\\u202e and the like are characters that change how a terminal shows text.
+",
+    },
+];
+
+/// The lines of a command that has no answer.
+pub fn error_entries() -> &'static [Entry] {
+    &ERRORS
+}

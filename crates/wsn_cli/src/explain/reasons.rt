@@ -1,0 +1,241 @@
+//! The reasons of a refusal, in their order.
+use super::Entry;
+
+static REASONS: [Entry; 17] = [
+    Entry {
+        words: &["reserved-bits"],
+        text: "\
+reserved-bits, code 1002: a reserved bit (hex 40, 20 or 10) is set in the byte
+where a frame should begin.
+RFC 6455, 5.2: these bits are 0 unless an agreed extension gives them a meaning.
+Usual causes: compression (permessage-deflate sets 40; RFC 7692). At offset 0,
+the file is no stream of frames: ASCII text (an HTTP head, a capture, hex
+digits), a pcap, TLS and gzip all look like this. Later on, an earlier length is
+wrong, bytes are missing, or a program wrote text into the socket.
+Next: xxd -s OFFSET -l 32 FILE shows what it is. Compression: record again with
+recipes/record --plain. A pcap: recipes/pcap2wsn. A capture: sed -n 's/^S //p'
+FILE | xxd -r -p. An HTTP head: LC_ALL=C sed '1,/^\\r$/d' FILE.
+",
+    },
+    Entry {
+        words: &["reserved-opcode"],
+        text: "\
+reserved-opcode, code 1002: the opcode, the low four bits of a frame's first
+byte, is 3 to 7 or 11 to 15.
+RFC 6455, 5.2: these have no meaning yet; a receiver must fail the connection.
+Usual causes: no frame begins here, because an earlier length is wrong, bytes
+are missing, or two threads wrote at once; a line end (0d 0a) after a frame,
+from a program that writes lines. Real uses of these opcodes are rare.
+Next: 'wsn frames' lists the frame before this one. Is its length what the
+sender meant? See the bytes around: xxd -s OFFSET -l 32 FILE.
+",
+    },
+    Entry {
+        words: &["control-not-final"],
+        text: "\
+control-not-final, code 1002: a Close, ping or pong (opcode 8, 9 or 10) without
+FIN, so its first byte is hex 08, 09 or 0a.
+RFC 6455, 5.5: a control frame must not be fragmented.
+Usual causes: a sender or proxy that fragments every frame; a home-made sender
+that forgets FIN (hex 80). Or no frame begins here: 0a is a line feed, so an
+empty line in the stream looks like this, and so does a pcapng file at offset 0.
+Next: look: xxd -s OFFSET -l 32 FILE. If it is text, a program writes to the
+socket past its WebSocket library. For a pcapng file, run recipes/pcap2wsn.
+",
+    },
+    Entry {
+        words: &["nothing-to-continue"],
+        text: "\
+nothing-to-continue, code 1002: a continuation (opcode 0), but no message is
+open.
+RFC 6455, 5.4: the first frame of a message has opcode 1 or 2, the others have
+opcode 0, and only the last has FIN.
+Usual causes: a sender that sets FIN on the first fragment already; two threads
+that send at once; a first fragment that a proxy or the recording lost; zeros,
+which some tools write for missing bytes.
+Next: 'wsn frames' lists the frame before this one. If it is 'fin text' or 'fin
+binary' and its payload goes on here, its FIN is wrong.
+",
+    },
+    Entry {
+        words: &["message-open"],
+        text: "\
+message-open, code 1002: a text or binary frame begins a message, but the
+message before it has no final frame yet.
+RFC 6455, 5.4: only control frames may come between the fragments of a message.
+Usual causes: two threads or tasks send on one connection without a lock; a
+message was given up halfway (an exception, a timeout) and the next one sent; a
+sender that repeats the opcode in each fragment, where the later ones need 0.
+Next: 'wsn frames' lists the open message: the lines from its 'more text' or
+'more binary' on. If this frame continues it, the opcode is wrong; if it belongs
+to something else, the lock is missing.
+",
+    },
+    Entry {
+        words: &["mask-missing"],
+        text: "\
+mask-missing, code 1002: a client's frame without a masking key: the top bit of
+its second byte is 0.
+RFC 6455, 5.1: a client masks every frame; a server must close the connection on
+one that isn't masked.
+Usual causes: --role names the wrong side (then OFFSET is 1); a whole capture
+that went through xxd -r -p, which reads C as a digit; a home-made client, or a
+server's library used as a client; a tool that recorded unmasked frames.
+Next: --role is the endpoint that sent the bytes: try --role server. If the
+client did send them, it is at fault, even if some servers tolerate it.
+",
+    },
+    Entry {
+        words: &["mask-present"],
+        text: "\
+mask-present, code 1002: a server's frame with a masking key: the top bit of its
+second byte is 1.
+RFC 6455, 5.1: a server masks no frame; a client must close the connection on a
+masked one.
+Usual causes: --role names the wrong side (then OFFSET is 1); a relay that
+passes on a client's frames unchanged; a client's library used in a server.
+Next: --role is the endpoint that sent the bytes: try --role client. If the
+server did send them, list both sides with 'wsn frames --role client': keys that
+are in both lists are those of frames that were passed on.
+",
+    },
+    Entry {
+        words: &["control-too-long"],
+        text: "\
+control-too-long, code 1002: a Close, ping or pong whose length field, the low
+seven bits of its second byte, is 126 or 127.
+RFC 6455, 5.5: the payload of a control frame has at most 125 bytes.
+Usual causes: a Close with a whole error message as its reason, which may have
+123 bytes; a ping that carries data. Or no frame begins here: bytes are missing,
+an earlier length is wrong, or two threads wrote at once.
+Next: the byte before OFFSET says which frame it is: 88 a Close, 89 a ping, 8a a
+pong. Shorten the reason at the sender: count bytes, cut between characters.
+",
+    },
+    Entry {
+        words: &["close-one-byte"],
+        text: "\
+close-one-byte, code 1002: a Close with a payload of one byte.
+RFC 6455, 5.5.1: the payload is empty, or begins with a code in two bytes.
+Usual causes: the code was written as one byte (1000 is hex 03e8, which leaves
+e8); a reason of one character without a code; a payload that was truncated.
+Next: find where the sender builds its Close: the code's high byte, its low
+byte, then the reason in UTF-8. For no code, send no payload at all; the other
+application then sees 1005.
+",
+    },
+    Entry {
+        words: &["length-top-bit"],
+        text: "\
+length-top-bit, code 1002: a length in eight bytes has its highest bit set, so
+it is 2^63 or more. OFFSET is the last of the eight bytes.
+RFC 6455, 5.2: that bit must be 0.
+Usual causes: no frame begins here, because bytes are missing, an earlier length
+is wrong, or two threads wrote at once; a negative number at the sender (ff ff
+..); a length that was written lowest byte first.
+Next: see the eight bytes: xxd -s $((OFFSET - 7)) -l 8 FILE. If they make sense
+when read backwards, it is the byte order. If not, look at the frame before this
+one in 'wsn frames'.
+",
+    },
+    Entry {
+        words: &["length-not-minimal"],
+        text: "\
+length-not-minimal, code 1002: a length is encoded in two or eight bytes and
+fits in fewer. OFFSET is its last byte.
+RFC 6455, 5.2: a length must be encoded in the fewest bytes.
+Usual causes: a small or embedded sender that leaves room for a head of fixed
+size before it knows the length; a proxy that rewrites heads. Many receivers
+accept it; Chromium refuses it.
+Next: 'wsn frames --lengths any' reads on, marks such frames 'two' or 'eight',
+and finds what else is wrong. Correct the sender: up to 125 use one byte, up to
+65535 the field 126 and two bytes.
+",
+    },
+    Entry {
+        words: &["message-too-big"],
+        text: "\
+message-too-big, code 1009: with this frame's length the message exceeds the
+limit. OFFSET is the last byte of the length. The limit is wsn's own: --limit
+BYTES, by default 16777216, which is the maximum.
+RFC 6455, 10.4: an endpoint should limit the size of its messages; 7.4.1: 1009
+is the code for one that is too big.
+Usual causes: an upload or a whole table in one message; a wrong length, which
+shows as an absurd number.
+Next: set --limit to your receiver's limit to find the message that it refuses.
+Fragments don't help, since they count together: send several messages.
+",
+    },
+    Entry {
+        words: &["close-code"],
+        text: "\
+close-code, code 1002: a Close has a code that may not be sent. OFFSET is the
+code's second byte.
+RFC 6455, 7.4: 1000 to 1003, 1007 to 1011 and 3000 to 4999 may be sent, and by
+IANA's registry 1012 to 1014. 1005, 1006 and 1015 are for logs alone.
+Usual causes: a relay that closes with the 1005 or 1006 that it was given; 0, or
+an HTTP status such as 500; the low byte first (e803 is 59395); no code before
+the reason, so that its first two letters are read as one.
+Next: see the code: xxd -s $((OFFSET - 1)) -l 2 FILE (a client's is masked). In
+a relay, send no code for 1005, and 1001 or 1011 for 1006.
+",
+    },
+    Entry {
+        words: &["close-reason"],
+        text: "\
+close-reason, code 1007: the reason in a Close isn't UTF-8. OFFSET is its first
+bad byte, or the frame's last byte if the reason ends inside a character.
+RFC 6455, 5.5.1: what follows the code is text in UTF-8.
+Usual causes: a reason that was cut to 123 bytes inside a character; an error
+message of the system in another encoding (Latin-1, GBK, Shift JIS).
+Next: at the sender, convert the reason to UTF-8 first, then shorten it between
+two characters. A short reason in ASCII is the safest.
+",
+    },
+    Entry {
+        words: &["text-bad"],
+        text: "\
+text-bad, code 1007: the byte at OFFSET can't come there in UTF-8, and the
+message is text.
+RFC 6455, 5.6: the payload of a text message is UTF-8; 8.1: if it isn't, the
+receiver must fail the connection.
+Usual causes: text in Latin-1 or Windows-1252 (fc is u-umlaut, 92 an
+apostrophe); binary data sent as text (gzip begins with 1f 8b); surrogates one
+by one (ed a0 ..) or c0 80, from CESU-8 or Java's modified UTF-8.
+Next: see the text before: xxd -s $((OFFSET - 16)) -l 32 FILE (a client's is
+masked). Convert it to UTF-8 where it is made, or send it as binary.
+",
+    },
+    Entry {
+        words: &["text-cut"],
+        text: "\
+text-cut, code 1007: a text message ends inside a character. OFFSET is the last
+byte of its last frame.
+RFC 6455, 5.6 and 8.1: a fragment may end inside a character, a message may not.
+Usual causes: text that is read in blocks (of a file, a process, a socket) and
+sent block by block as messages; a buffer that truncates; a length in characters
+where bytes are meant.
+Next: if the next message begins with a byte from 80 to bf, both are one text.
+Send the blocks as fragments of one message, keep the incomplete character for
+the next block, or send binary.
+",
+    },
+    Entry {
+        words: &["too-many-frames"],
+        text: "\
+too-many-frames, code 1008: a continuation, but its message already has as many
+frames as --frames allows. Without --frames there is no maximum.
+RFC 6455, 10.4: a long stream of small fragments can be an attack, and a
+receiver should set limits. The RFC names no code for it; wsn takes 1008, policy
+(7.4.1).
+Usual causes: a sender that makes a frame of each small write; such an attack.
+Next: 'wsn frames' without --frames lists all the fragments. To try a receiver
+with the same messages in large frames: wsn recut --role R --size 65536 < FILE.
+",
+    },
+];
+
+/// The reasons of a refusal, in their order.
+pub fn reason_entries() -> &'static [Entry] {
+    &REASONS
+}

@@ -1,0 +1,126 @@
+//! Verdicts and comparisons.
+use super::Entry;
+
+static VERDICTS: [Entry; 5] = [
+    Entry {
+        words: &["accepted"],
+        text: "\
+accepted USED tail TAIL unfinished SIZE: every frame keeps the rules, up to the
+end of the input or to a Close. USED is the bytes up to the end of the last
+frame, TAIL the bytes after a Close, and SIZE the bytes of a message that the
+Close interrupts (- if there is none).
+RFC 6455, 5.5.1: after its Close an endpoint sends no more data. wsn accepts a
+stream without one, too; 'wsn closing' says which side sent one.
+'accepted 0' is an empty input: nothing was recorded, or sed or tshark, before
+wsn in the pipeline, let nothing through.
+Next: if the session failed all the same, judge the other side's bytes, and run
+'wsn closing' on a capture of both sides.
+",
+    },
+    Entry {
+        words: &["cut"],
+        text: "\
+cut USED: valid so far, but incomplete. The input, of USED bytes, ends inside a
+frame or between the fragments of a message. In a report: the side's direction
+of the connection ended there.
+RFC 6455, 5.2 and 5.4: the length says where a frame ends, FIN where a message.
+Usual causes: the recording stopped or lost packets; the sender died while it
+sent; a length is wrong, so that all that follows counts as payload, and a real
+receiver waits forever.
+Next: the last line of 'wsn frames' before 'cut' is the last frame whose head is
+complete. Is its length what the sender meant? After 'more' a fragment is due.
+",
+    },
+    Entry {
+        words: &["refused"],
+        text: "\
+refused OFFSET REASON CODE: the stream breaks a rule. The byte at OFFSET,
+counted from 0, is the first that proves it; no later byte can repair it.
+RFC 6455, 7.1.7: the receiver must fail the connection and should send a Close;
+CODE is the one that fits (7.4.1). Real receivers often send another or none:
+Chromium closes with 1002 for bad text, too.
+Usual causes: those of REASON. A refusal at offset 0 or 1 is mostly a matter of
+the recording: compression, an HTTP head left on, the wrong --role.
+Next: 'wsn explain REASON', for instance 'wsn explain reserved-bits'.
+",
+    },
+    Entry {
+        words: &["tail"],
+        text: "\
+tail TAIL: the number of bytes after the Close. wsn counts them and doesn't read
+them.
+RFC 6455, 5.5.1: an endpoint sends no data frame after its Close; 1.4: the peer
+discards what comes after it.
+Usual causes: one task goes on sending while another closes; a handler answers a
+message that it had read before; two places in a program each send a Close.
+Next: to see the bytes: tail -c TAIL FILE | xxd. They harm no correct receiver,
+but their messages are lost: stop or drain the senders before the Close.
+",
+    },
+    Entry {
+        words: &["unfinished"],
+        text: "\
+unfinished SIZE, in a verdict: the Close interrupts a message, of which SIZE
+bytes had come; - says that no message was open.
+unfinished, alone, from 'wsn plan': there is no plan, because the Close
+interrupts a message, and a plan has no step for that.
+RFC 6455, 5.5.1: an endpoint may send the rest of its message before its Close;
+it needn't. The receiver drops the fragments.
+Usual causes: a program that streams a message and is stopped halfway; a task
+that sends a Close while another sends fragments.
+Next: 'wsn frames' lists the fragments: 'more', and no 'fin cont' after it.
+",
+    },
+];
+
+static COMPARISONS: [Entry; 3] = [
+    Entry {
+        words: &["equal"],
+        text: "\
+equal: both streams are accepted and mean the same: the same messages, pings,
+pongs and Closes, in the same order, with the same payloads.
+RFC 6455, 5.4: frames have no meaning of their own, and a proxy may split or
+join them if no extension is in use; 5.3: masking keys are random. So fragments,
+keys, encodings of lengths and the bytes after a Close don't count.
+Next: to compare how they are framed, run diff on the output of 'wsn plan' (or
+'wsn frames') for each.
+",
+    },
+    Entry {
+        words: &["different"],
+        text: "\
+different K: both streams are accepted, and event K is the first that differs.
+An event is a message, a ping, a pong or a Close; K counts from 0. One stream
+may also have ended before event K.
+Usual causes: a keepalive that came earlier or later in one run; a timestamp or
+an identifier in a message; another close code or reason.
+Next: in a normal form, frame K is event K. For each of the two streams:
+  wsn normal --role R < a.bin | tee a.normal | wsn frames --role R > a.frames
+Then run diff on the two lists; line K + 1 has the event's offset and length in
+the normal form, and xxd shows its bytes there.
+",
+    },
+    Entry {
+        words: &["first", "second"],
+        text: "\
+first VERDICT, second VERDICT, from 'wsn same': that stream isn't accepted, so
+there is nothing to compare. 'second' says that the first one is accepted.
+first V, from 'wsn closing': whose Close came first, client or server; - if no
+Close came. It is the order of the capture's lines: with a proxy or a pcap in
+between, two Closes that crossed on the network may come in either order.
+RFC 6455, 5.5.1: either side may begin; the other answers with a Close.
+Next: explain the verdict's first word, such as 'wsn explain cut'. In a report:
+the side that closed first has the reason, so read its log.
+",
+    },
+];
+
+/// The words of verdicts.
+pub fn verdict_entries() -> &'static [Entry] {
+    &VERDICTS
+}
+
+/// The words of comparisons.
+pub fn comparison_entries() -> &'static [Entry] {
+    &COMPARISONS
+}

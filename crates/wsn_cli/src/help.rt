@@ -1,0 +1,221 @@
+//! Help texts, at most 80 columns wide.
+
+/// What `--version` prints after the program's name: the version, and what it was proved with.
+pub const VERSION: &str = "0.1.0\nproved with rattle-kit-13f logic dac8208d650f15bf";
+
+pub const PROGRAM: &str = "\
+Read what one endpoint of a WebSocket connection sent (RFC 6455)";
+
+/// What a stream is and where it is read from.
+pub const PROGRAM_DETAILS: &str = "\
+A stream is the bytes that one endpoint sent after the opening handshake, with
+no extension in use, so without compression. Commands read it from standard
+input; same reads two streams from files, and closing a capture of both sides.
+
+'wsn help COMMAND' lists a command's options, explains its output and gives an
+example. 'wsn explain WORD' explains a printed word, such as reserved-bits: what
+usually causes it, and what to do next.";
+
+pub const JUDGE: &str = "\
+Report whether a stream is accepted, cut or refused, where and why";
+
+pub const JUDGE_DETAILS: &str = "\
+Reads a stream from standard input and prints its verdict in one line.
+
+Example: a server's frame with a masking key
+  $ printf '\\201\\205' | wsn judge --role server
+  refused 1 mask-present 1002";
+
+pub const FRAMES: &str = "\
+List a stream's frames, then its verdict";
+
+pub const FRAMES_DETAILS: &str = "\
+Reads a stream from standard input. Prints a line for each frame whose head is
+complete and valid, then the verdict:
+  OFFSET fin OPCODE KEY LENGTH     'more' instead of 'fin' if FIN isn't set
+    OFFSET  the offset of the frame's first byte, from 0
+    OPCODE  cont, text, binary, close, ping or pong
+    KEY     the masking key in hexadecimal, or - if there is none
+    LENGTH  the bytes of the payload; then 'two' or 'eight' if the length is
+            encoded in two or eight bytes and needs fewer
+
+Example: a server's message in two fragments, and a ping between them
+  $ printf '\\001\\003Hel\\211\\000\\200\\002lo' | wsn frames --role server
+  0 more text - 3
+  5 fin ping - 0
+  7 fin cont - 2
+  accepted 11 tail 0 unfinished -";
+
+pub const NORMAL: &str = "\
+Write a stream's normal form: one frame for each message or control";
+
+pub const NORMAL_DETAILS: &str = "\
+Reads a stream from standard input and writes its normal form, as bytes: for
+each message, ping, pong and Close one final frame, its length encoded in the
+fewest bytes, with a key of zeros for a client and none for a server. Each is
+written as soon as the frame that ends it has come. The bytes after a Close and
+a message that a Close interrupts are left out. If the stream isn't accepted,
+the verdict's line goes to standard error.
+
+Example: a client's \"Hello\"
+  $ printf '\\201\\205\\067\\372\\041\\075\\177\\237\\115\\121\\130' |
+      wsn normal --role client | od -An -tx1
+   81 85 00 00 00 00 48 65 6c 6c 6f";
+
+pub const SAME: &str = "\
+Report whether two streams mean the same, however framed and masked";
+
+pub const SAME_DETAILS: &str = "\
+Reads two streams from files, both sent by endpoints of the given role, and
+prints one line:
+  equal           both are accepted and mean the same
+  different K     both are accepted, and event K (a message, ping, pong or
+                  Close), counted from 0, is the first that differs
+  first VERDICT   the first isn't accepted
+  second VERDICT  the second isn't accepted, and the first is
+A file named - is a file of that name; standard input is /dev/stdin.
+
+Example: one frame, and the same message in two
+  $ printf '\\201\\002Hi' > one; printf '\\001\\001H\\200\\001i' > two
+  $ wsn same --role server one two
+  equal";
+
+pub const PLAN: &str = "\
+Print how a stream is split into frames, as a plan for recut";
+
+pub const PLAN_DETAILS: &str = "\
+Reads a stream from standard input and prints its plan, a line for each frame:
+  piece N KEY     a message's frame without FIN, with N bytes of payload
+  last KEY        a message's frame with FIN, with the rest of the message
+  control KEY     a ping, pong or Close
+    KEY     the masking key in hexadecimal, or - for a server; then, for a
+            message's frame, 'two' or 'eight' if its length is encoded in two
+            or eight bytes and needs fewer
+Each line ends in a line feed alone. The normal form and the plan together hold
+all of a stream, up to the end of its Close: recut rebuilds the stream from
+them. If the stream isn't accepted, the verdict's line goes to standard error.
+If a Close interrupts a message, there is no plan, and the line 'unfinished'
+goes there. The status is 1 in both cases.
+
+Example: a server's message in two fragments, and a ping between them
+  $ printf '\\001\\003Hel\\211\\000\\200\\002lo' | wsn plan --role server
+  piece 3 -
+  control -
+  last -";
+
+pub const RECUT: &str = "\
+Write what a stream means, split into other frames";
+
+pub const RECUT_DETAILS: &str = "\
+Reads a stream from standard input and writes what it means in other frames:
+  wsn recut --role R --plan FILE                         by the plan in FILE
+  wsn recut --role R --size BYTES [--weave] [--key HEX]  in frames of one size
+Either --plan or --size is required. --weave and --key require --size, and
+--key requires --role client. 'wsn help plan' explains a plan's lines.
+
+Nothing is written until the stream and the plan are read to their ends. If the
+stream isn't accepted, the verdict's line goes to standard error. If the plan
+doesn't fit what the stream means, this line goes there:
+  fault STEP WORD
+    STEP    the plan's line, counted from 0, or the number of lines if there
+            are too few
+    WORD    key-mismatch, steps-left, no-message, piece-too-long,
+            too-many-pieces, not-a-control, not-a-message, wrong-form or
+            events-left
+A plan file that is unreadable or malformed gives status 2, and the stream isn't
+read: cannot read FILE, plan file too long (more than 64 MiB), or plan line N:
+WORD, with N from 1 and WORD bad-form, bad-number, bad-key or bad-length. Lines
+end in a line feed alone, which the last may lack; a carriage return before it
+is reported as bad-key, or as bad-length after 'two' or 'eight'.
+The plan of some five to ten million frames, as 'wsn plan' prints it, is too
+long. The bytes after a Close and a message that a Close interrupts are left out.
+
+Example: \"Hello\" in frames of two bytes; a stream rebuilt by its own plan
+  $ printf '\\201\\005Hello' | wsn recut --role server --size 2 | od -An -tx1
+   01 02 48 65 00 02 6c 6c 80 01 6f
+  $ printf '\\001\\003Hel\\211\\000\\200\\002lo' > stream
+  $ wsn normal --role server < stream > normal
+  $ wsn plan --role server < stream > plan
+  $ wsn recut --role server --plan plan < normal | cmp - stream && echo the same
+  the same";
+
+pub const CLOSING: &str = "\
+Report how a connection closed, from a capture of both sides";
+
+pub const CLOSING_DETAILS: &str = "\
+Reads a capture from standard input, lines in the order in which bytes passed:
+  C HEX     bytes that the client sent, at most 8192 digits
+  S HEX     bytes that the server sent
+  C.  S.    the client's or the server's direction ended (its FIN, or a reset)
+Empty lines and lines that begin with # are ignored. The limits apply to each
+side. Prints seven lines:
+  client V, server V
+            how the endpoint's stream ended: closed CODE, or closed - for a
+            Close without a code; refused OFFSET REASON CODE; ended, between
+            messages and without a Close; cut, inside a frame or message;
+            running, if more may come
+  first V   whose Close came first: client, server or -
+  echo V    whether both Closes have the same code: yes, no, or - unless both
+            sides sent one
+  client-sees V, server-sees V
+            the close code that each application is given: 1005 for a Close
+            without a code, 1006 if its stream is refused or ended without
+            a Close; - if more may come
+  outcome V the first of these that applies:
+            failed    a side is refused
+            clean     both sent a Close, and both directions ended
+            complete  both sent a Close
+            abnormal  a direction ended without a Close
+            half      one side sent a Close
+            open      none of these
+A malformed line gives status 2, and line N: WORD on standard error, with N
+from 1 and WORD too-many-lines, too-long, bad-form, bad-hex, after-end or
+input-limit.
+
+Example: the client closes with 1000, and the server echoes it
+  $ printf 'C 88820000000003e8\\nS 880203e8\\nS.\\nC.\\n' | wsn closing
+  client closed 1000
+  server closed 1000
+  first client
+  echo yes
+  client-sees 1000
+  server-sees 1000
+  outcome clean";
+
+pub const EXPLAIN: &str = "\
+Explain a word that wsn prints, or list the words";
+
+pub const EXPLAIN_DETAILS: &str = "\
+Prints what a word means: what was seen, what RFC 6455 says, usual causes and
+what to do next. Without a word it lists all words, in groups: the reasons of
+refusals, the other words of verdicts and reports, close codes, the faults of
+plans and captures, and errors, such as 'read failed'. The status is 2 for a
+word that wsn doesn't print.
+
+Example: why a plan doesn't fit
+  $ wsn explain no-message | head -n 2
+  no-message: this step is a 'piece' or 'last', which need a message, but only
+  control frames are left in the stream.";
+
+/// Appended to the help of every command.
+pub const SHARED: &str = "
+The verdict's line:
+  accepted USED tail TAIL unfinished SIZE
+    USED    the bytes up to the end of the last frame
+    TAIL    the bytes after a Close
+    SIZE    the bytes so far of the message that a Close interrupts, or -
+  cut USED  valid so far; the input, of USED bytes, ends inside a frame or a
+            message
+  refused OFFSET REASON CODE
+    OFFSET  the offset of the offending byte, from 0
+    REASON  the rule that is broken, such as mask-missing: 'wsn explain REASON'
+    CODE    the close code that an endpoint would send
+
+Exit status:
+  0  accepted; for same, equal; for plan, there is one; for recut, done; for
+     closing, clean or complete
+  1  any other verdict, answer or outcome
+  2  no answer; a line on standard error says why: read failed, write failed,
+     input limit (more than 2^40 bytes came), out of memory, cannot read FILE,
+     usage; or several lines, if the command line is wrong
+";

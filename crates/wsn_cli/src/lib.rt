@@ -1,0 +1,21 @@
+//! The library part of the program: what the words of a command line ask for.
+//!
+//! [`asked`] reads the words, with clap, and returns a [`Request`], or a [`Usage`] that says why there is none. A
+//! request to run holds a [`Job`], which [`run`] does over any reader and writers; [`run_same`] compares two streams.
+//! [`Escaped`] prints a word from outside so that a terminal isn't changed by it. `specs/Requests.antt` defines which
+//! requests can be carried out.
+#![tactic(auto)]
+
+mod command_line;
+mod error_words;
+mod escaped;
+mod explain;
+mod help;
+mod options;
+mod recut_options;
+mod request;
+
+pub use command_line::asked;
+pub use escaped::Escaped;
+pub use request::{Request, Usage};
+pub use wsn_job::{How, Job, run, run_same};

@@ -1,0 +1,105 @@
+ghost use Rattle.std.specs.Prelude.{◌≡◌, ◌↔◌, None, Some, IfSome, codes};
+ghost use Rattle.clap.specs.Words.{found_of, first_value, one_text};
+ghost use Rattle.wsn_wire.specs.declared.endpoint.Role.TheVariants.{Server};
+ghost use Rattle.wsn_wire.specs.declared.length_forms.Lengths.TheVariants.{Any};
+ghost use Rattle.wsn_cli.specs.Requests.{AreAskedLimits};
+
+use crate::request::Usage;
+use clap::builder::ValueParser;
+use clap::{Arg, ArgAction, ArgMatches, Command, value_parser};
+use std::alloc::{AllocError, Global};
+use wsn_rules::{INPUT_MAX, Limits, MESSAGE_MAX};
+use wsn_wire::{Lengths, Role};
+
+static ROLES: [&str; 2] = ["client", "server"];
+
+static ENCODINGS: [&str; 2] = ["shortest", "any"];
+
+/// An option that takes a value.
+pub fn option<'a>(alloc: Global, name: &'a str, value: &'a str, help: &'a str) -> Arg<'a> {
+    Arg::new(alloc, name)
+        .long(name)
+        .action(ArgAction::Set)
+        .value_name(value)
+        .help(help)
+}
+
+/// Adds `--role`, which every command over streams requires.
+pub fn with_role<'a>(alloc: Global, command: Command<'a>) -> Result<Command<'a>, AllocError> {
+    let help = "The endpoint that sent the stream";
+    let role = option(alloc, "role", "client|server", help).required(true);
+    command.arg(one_of(role, &ROLES))
+}
+
+/// An option whose value is one of these words, which its value's name lists.
+fn one_of<'a>(option: Arg<'a>, words: &'a [&'a str]) -> Arg<'a> {
+    option.value_parser(words).hide_possible_values(true)
+}
+
+/// Adds `--limit`, `--frames` and `--lengths`, which every command has.
+pub fn with_limits<'a>(alloc: Global, command: Command<'a>) -> Result<Command<'a>, AllocError> {
+    let command = with_message_limits(alloc, command)?;
+    let help = "Which encodings of a length are accepted\n[default: shortest]";
+    let lengths = option(alloc, "lengths", "shortest|any", help);
+    let lengths = one_of(lengths, &ENCODINGS).default_value("shortest");
+    command.arg(lengths.hide_default_value(true))
+}
+
+/// Adds `--limit` and `--frames`.
+fn with_message_limits<'a>(alloc: Global, command: Command<'a>) -> Result<Command<'a>, AllocError> {
+    let help = "Maximum bytes of a message, 0 to 16777216\n[default: 16777216]";
+    let limit = option(alloc, "limit", "BYTES", help);
+    let command = command.arg(limit.value_parser(value_parser!(u32).range(0..16_777_217)))?;
+    let help = "Maximum frames of a message, 1 to 4294967295\n[default: no maximum]";
+    let frames = option(alloc, "frames", "COUNT", help);
+    command.arg(frames.value_parser(value_parser!(u32).range(1..)))
+}
+
+/// The endpoint that sent the stream, from `--role`.
+pub fn role_of(matches: &ArgMatches<'_>) -> Role
+    ensures { result ≡ Server ↔ (first_value (found_of matches.now) (codes "role") ≡ Some (codes "server")) }
+{
+    match matches.get_str("role") {
+        Some("server") => Role::Server,
+        _ => Role::Client,
+    }
+}
+
+fn lengths_of(matches: &ArgMatches<'_>) -> Lengths
+    ensures { result ≡ Any ↔ (first_value (found_of matches.now) (codes "lengths") ≡ Some (codes "any")) }
+{
+    match matches.get_str("lengths") {
+        Some("any") => Lengths::Any,
+        _ => Lengths::Shortest,
+    }
+}
+
+/// The limits for reading a stream, from `--limit`, `--frames` and `--lengths`; `None` if a number is out of range. The
+/// input limit is its maximum.
+pub fn limits_of(matches: &ArgMatches<'_>) -> Option<Limits>
+    ensures asked { IfSome result AreAskedLimits }
+    ensures message { (one_text (found_of matches.now) (codes "limit") ≡ None)
+        → IfSome result (λ limits. limits.message ≡ 16777216) }
+    ensures frames { (one_text (found_of matches.now) (codes "frames") ≡ None)
+        → IfSome result (λ limits. limits.frames ≡ None) }
+    ensures lengths { IfSome result (λ limits. limits.lengths ≡ Any
+        ↔ (first_value (found_of matches.now) (codes "lengths") ≡ Some (codes "any"))) }
+{
+    let message = matches.get_one::<u32>("limit").unwrap_or(MESSAGE_MAX);
+    let limits = Limits::new(message, INPUT_MAX)?.with_lengths(lengths_of(matches));
+    match matches.get_one::<u32>("frames") {
+        Some(frames) => limits.with_frames(frames),
+        None => Some(limits),
+    }
+}
+
+/// Refuses a number with any character but digits, such as `+5`, which clap accepts.
+pub fn check_digits(matches: &ArgMatches<'_>) -> Result<(), Usage> {
+    for option in ["limit", "frames", "size"] {
+        let value = matches.get_str(option).unwrap_or("");
+        if !value.bytes().all(|byte| byte.is_ascii_digit()) {
+            return Err(Usage::Own);
+        }
+    }
+    Ok(())
+}

@@ -1,0 +1,92 @@
+//! What `asked` answers, as a line: a command's name, the role, the limits (on messages, inputs and frames, and the
+//! accepted lengths), and its own options.
+
+use std::alloc::{AllocError, Global};
+use std::process::Abort;
+use wsn_cli::{How, Job, Request, Usage, asked};
+use wsn_rules::Limits;
+use wsn_wire::{Lengths, Role};
+
+/// Fails unless this is the answer to the words of a line, which single spaces separate.
+pub fn expect_answer(rt: &impl Abort, alloc: Global, words: &str, expected: &str) {
+    let answer = answer_to(alloc, words).expect(rt, "memory");
+    assert_eq!(rt; answer.as_str(), expected, "{words}");
+}
+
+fn answer_to(alloc: Global, line: &str) -> Result<String, AllocError> {
+    let mut words = Vec::new(alloc);
+    for word in line.split(' ') {
+        words.push(String::from_str(alloc, word)?)?;
+    }
+    match &asked(alloc, words.as_slice()) {
+        Ok(request) => request_line(alloc, request),
+        Err(Usage::Clap(_)) => String::from_str(alloc, "clap"),
+        Err(Usage::Own) => String::from_str(alloc, "own"),
+        Err(Usage::Memory) => String::from_str(alloc, "memory"),
+    }
+}
+
+fn request_line(alloc: Global, request: &Request) -> Result<String, AllocError> {
+    match request {
+        Request::Run(job) => job_line(alloc, job),
+        Request::RecutBy { role, limits, plan } => {
+            let stream = stream_line(alloc, "recut", *role, limits)?;
+            format!(in alloc; "{stream}, by {plan}")
+        }
+        Request::Same { role, limits, a, b } => {
+            let stream = stream_line(alloc, "same", *role, limits)?;
+            format!(in alloc; "{stream}, {a} and {b}")
+        }
+        Request::Help(_) => String::from_str(alloc, "help"),
+    }
+}
+
+fn job_line(alloc: Global, job: &Job) -> Result<String, AllocError> {
+    match job {
+        Job::Judge(role, limits) => stream_line(alloc, "judge", *role, limits),
+        Job::Frames(role, limits) => stream_line(alloc, "frames", *role, limits),
+        Job::Normal(role, limits) => stream_line(alloc, "normal", *role, limits),
+        Job::Plan(role, limits) => stream_line(alloc, "plan", *role, limits),
+        Job::Recut(role, limits, how) => recut_line(alloc, *role, limits, how),
+        Job::Closing(limits) => {
+            let limits = limits_line(alloc, limits)?;
+            format!(in alloc; "closing {limits}")
+        }
+    }
+}
+
+fn recut_line(alloc: Global, role: Role, limits: &Limits, how: &How) -> Result<String, AllocError> {
+    let stream = stream_line(alloc, "recut", role, limits)?;
+    match how {
+        How::ByPlan(_) => format!(in alloc; "{stream}, by a plan"),
+        How::BySize { size, weave, key } => {
+            format!(in alloc; "{stream}, size {size} weave {weave} key {key:?}")
+        }
+    }
+}
+
+fn stream_line(
+    alloc: Global,
+    command: &str,
+    role: Role,
+    limits: &Limits,
+) -> Result<String, AllocError> {
+    let role = match role {
+        Role::Client => "client",
+        Role::Server => "server",
+    };
+    let limits = limits_line(alloc, limits)?;
+    format!(in alloc; "{command} {role} {limits}")
+}
+
+fn limits_line(alloc: Global, limits: &Limits) -> Result<String, AllocError> {
+    let (message, input) = (limits.message(), limits.input());
+    let lengths = match limits.lengths() {
+        Lengths::Shortest => "shortest",
+        Lengths::Any => "any",
+    };
+    match limits.frames() {
+        Some(frames) => format!(in alloc; "{message} {input} {frames} {lengths}"),
+        None => format!(in alloc; "{message} {input} - {lengths}"),
+    }
+}

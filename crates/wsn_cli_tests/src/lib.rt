@@ -1,0 +1,10 @@
+//! Tests of `asked`: what the words of a command line ask for, in `requests`, and which are refused, in `refusals`.
+//! `answer_lines` puts an answer into a line.
+#![tactic(auto)]
+
+#[cfg(test)]
+mod answer_lines;
+#[cfg(test)]
+mod refusals;
+#[cfg(test)]
+mod requests;

@@ -1,0 +1,71 @@
+//! Words that ask for nothing: which rules are clap's, and which are the program's own.
+
+use crate::answer_lines::expect_answer;
+
+/// A missing or unknown word, and a role or number out of its range.
+static WRONG: [&str; 29] = [
+    "wsn",
+    "wsn other",
+    "wsn judge",
+    "wsn frames",
+    "wsn normal",
+    "wsn plan",
+    "wsn recut --size 3",
+    "wsn same a b",
+    "wsn judge --role both",
+    "wsn recut --role Client --size 3",
+    "wsn judge --role server --role server",
+    "wsn judge --role server file",
+    "wsn same --role client a",
+    "wsn same --role client a b c",
+    "wsn closing --role server",
+    "wsn plan --role server --size 2",
+    "wsn judge --role server --limit 16777217",
+    "wsn closing --limit 16777217",
+    "wsn judge --role server --limit -1",
+    "wsn judge --role server --limit 0x10",
+    "wsn judge --role server --limit ",
+    "wsn judge --role server --frames 0",
+    "wsn judge --role server --frames 4294967296",
+    "wsn judge --role server --lengths long",
+    "wsn recut --role server --size 0",
+    "wsn recut --role server --size 4294967296",
+    "wsn recut --role server --size 3 --weave=yes",
+    "wsn recut --role server --plan",
+    "wsn recut --role client --plan p --size 0",
+];
+
+#[test]
+fn clap_refuses_wrong_words(rt: HostRuntime) {
+    for words in WRONG.iter() {
+        expect_answer(&rt, rt.alloc(), words, "clap");
+    }
+}
+
+/// Options of `recut` that don't go together, a key that isn't eight digits, and a number with a sign.
+static REFUSED: [&str; 17] = [
+    "wsn recut --role server",
+    "wsn recut --role server --plan p --size 2",
+    "wsn recut --role server --plan p --weave",
+    "wsn recut --role client --plan p --key 00000000",
+    "wsn recut --role server --size 3 --key 00000000",
+    "wsn recut --role server --weave",
+    "wsn recut --role client --key 00000000",
+    "wsn recut --role client --size 2 --key 0102030",
+    "wsn recut --role client --size 2 --key 010203040",
+    "wsn recut --role client --size 2 --key 0102030g",
+    "wsn recut --role client --size 2 --key -",
+    "wsn recut --role client --size 2 --key ",
+    "wsn judge --role server --limit +5",
+    "wsn closing --limit=-0",
+    "wsn same --role client --frames +1 a b",
+    "wsn recut --role server --size +3",
+    "wsn recut --role server --plan p --limit +5",
+];
+
+#[test]
+fn the_program_refuses_what_clap_accepts(rt: HostRuntime) {
+    for words in REFUSED.iter() {
+        expect_answer(&rt, rt.alloc(), words, "own");
+    }
+}

@@ -1,0 +1,165 @@
+//! What words ask for.
+
+use crate::answer_lines::expect_answer;
+
+/// Without options each command has the greatest limits on bytes, no limit on frames, and the shortest lengths.
+static COMMANDS: [(&str, &str); 15] = [
+    (
+        "wsn judge --role server",
+        "judge server 16777216 1099511627776 - shortest",
+    ),
+    (
+        "wsn judge --role client",
+        "judge client 16777216 1099511627776 - shortest",
+    ),
+    (
+        "wsn frames --role server",
+        "frames server 16777216 1099511627776 - shortest",
+    ),
+    (
+        "wsn frames --role client",
+        "frames client 16777216 1099511627776 - shortest",
+    ),
+    (
+        "wsn normal --role client",
+        "normal client 16777216 1099511627776 - shortest",
+    ),
+    (
+        "wsn normal --role=server",
+        "normal server 16777216 1099511627776 - shortest",
+    ),
+    (
+        "wsn plan --role server",
+        "plan server 16777216 1099511627776 - shortest",
+    ),
+    (
+        "wsn plan --role client",
+        "plan client 16777216 1099511627776 - shortest",
+    ),
+    ("wsn closing", "closing 16777216 1099511627776 - shortest"),
+    (
+        "wsn same --role client a b",
+        "same client 16777216 1099511627776 - shortest, a and b",
+    ),
+    (
+        "wsn same first --role server second",
+        "same server 16777216 1099511627776 - shortest, first and second",
+    ),
+    (
+        "wsn recut --role client --plan file",
+        "recut client 16777216 1099511627776 - shortest, by file",
+    ),
+    (
+        "wsn recut --plan - --role server",
+        "recut server 16777216 1099511627776 - shortest, by -",
+    ),
+    (
+        "wsn recut --role server --size 3",
+        "recut server 16777216 1099511627776 - shortest, size 3 weave false key None",
+    ),
+    (
+        "wsn recut --role client --size 3",
+        "recut client 16777216 1099511627776 - shortest, size 3 weave false key Some([0, 0, 0, 0])",
+    ),
+];
+
+#[test]
+fn each_command_is_asked_for_by_its_words(rt: HostRuntime) {
+    for row in COMMANDS.iter() {
+        expect_answer(&rt, rt.alloc(), row.0, row.1);
+    }
+}
+
+static LIMITED: [(&str, &str); 11] = [
+    (
+        "wsn judge --role server --limit 5",
+        "judge server 5 1099511627776 - shortest",
+    ),
+    (
+        "wsn judge --frames 2 --role server",
+        "judge server 16777216 1099511627776 2 shortest",
+    ),
+    (
+        "wsn judge --lengths any --role server",
+        "judge server 16777216 1099511627776 - any",
+    ),
+    (
+        "wsn judge --role client --lengths=shortest",
+        "judge client 16777216 1099511627776 - shortest",
+    ),
+    (
+        "wsn frames --role server --limit=0 --lengths any",
+        "frames server 0 1099511627776 - any",
+    ),
+    (
+        "wsn normal --role client --limit 16777216 --frames 1",
+        "normal client 16777216 1099511627776 1 shortest",
+    ),
+    (
+        "wsn plan --role server --frames 4294967295 --limit 007",
+        "plan server 7 1099511627776 4294967295 shortest",
+    ),
+    (
+        "wsn closing --limit 125 --frames 3 --lengths any",
+        "closing 125 1099511627776 3 any",
+    ),
+    (
+        "wsn same --limit 1 --role client a b --frames 9 --lengths any",
+        "same client 1 1099511627776 9 any, a and b",
+    ),
+    (
+        "wsn recut --role server --plan p --frames 4 --limit 6 --lengths any",
+        "recut server 6 1099511627776 4 any, by p",
+    ),
+    (
+        "wsn recut --role server --size 4294967295 --weave --frames 4 --limit 6 --lengths any",
+        "recut server 6 1099511627776 4 any, size 4294967295 weave true key None",
+    ),
+];
+
+#[test]
+fn each_command_has_each_limit(rt: HostRuntime) {
+    for row in LIMITED.iter() {
+        expect_answer(&rt, rt.alloc(), row.0, row.1);
+    }
+}
+
+static KEYED: [(&str, &str); 3] = [
+    (
+        "wsn recut --role client --size 1 --key 01020304",
+        "recut client 16777216 1099511627776 - shortest, size 1 weave false key Some([1, 2, 3, 4])",
+    ),
+    (
+        "wsn recut --role client --weave --size 2 --key 00000000",
+        "recut client 16777216 1099511627776 - shortest, size 2 weave true key Some([0, 0, 0, 0])",
+    ),
+    (
+        "wsn recut --role client --size 125 --key 37Fa213D --weave",
+        "recut client 16777216 1099511627776 - shortest, size 125 weave true key Some([55, 250, 33, 61])",
+    ),
+];
+
+#[test]
+fn a_recut_by_size_has_a_key_and_may_weave(rt: HostRuntime) {
+    for row in KEYED.iter() {
+        expect_answer(&rt, rt.alloc(), row.0, row.1);
+    }
+}
+
+static HELP: [&str; 8] = [
+    "wsn --help",
+    "wsn -h",
+    "wsn help",
+    "wsn --version",
+    "wsn -V",
+    "wsn help judge",
+    "wsn judge --help",
+    "wsn recut -h --size 0x",
+];
+
+#[test]
+fn help_is_asked_for(rt: HostRuntime) {
+    for words in HELP.iter() {
+        expect_answer(&rt, rt.alloc(), words, "help");
+    }
+}

@@ -1,0 +1,68 @@
+//! Commands run with the readers and writers of the tests.
+ghost use Rattle.wsn_job.specs.Jobs.{MayRun};
+
+use crate::readers::Chopped;
+use crate::writers::Narrow;
+use std::alloc::{Allocator, Global};
+use wsn_job::{Job, run, run_same};
+use wsn_scan::Limits;
+use wsn_wire::{Input, Output, Role};
+
+/// A finished run: its exit status, and what it wrote to standard output and standard error.
+#[derive(Drop)]
+pub struct CommandRun {
+    pub status: u8,
+    pub out: Vec<u8>,
+    pub err: Vec<u8>,
+}
+
+/// Runs a command that allocates from this heap.
+pub fn run_on<A: Allocator + Copy>(
+    heap: A,
+    alloc: Global,
+    job: &Job<A>,
+    mut reader: Chopped,
+    mut writer: Narrow,
+) -> CommandRun
+    requires { MayRun job.now }
+{
+    let mut err = Vec::new(alloc);
+    let status = run(
+        heap,
+        job,
+        &mut Input::new(&mut reader),
+        &mut Output::new(&mut writer),
+        &mut Output::new(&mut err),
+    );
+    CommandRun {
+        status,
+        out: writer.taken,
+        err,
+    }
+}
+
+/// Runs `same` on two streams of a server. It allocates from this heap.
+pub fn run_same_on<A: Allocator + Copy>(
+    heap: A,
+    alloc: Global,
+    limits: Limits,
+    mut first: Chopped,
+    mut second: Chopped,
+    mut writer: Narrow,
+) -> CommandRun {
+    let mut err = Vec::new(alloc);
+    let status = run_same(
+        heap,
+        &mut Input::new(&mut first),
+        &mut Input::new(&mut second),
+        Role::Server,
+        limits,
+        &mut Output::new(&mut writer),
+        &mut Output::new(&mut err),
+    );
+    CommandRun {
+        status,
+        out: writer.taken,
+        err,
+    }
+}

@@ -1,0 +1,160 @@
+-- Two event sources in rounds: the events that each has given, and how far they are the same.
+use Rattle.std.proofs.Common.{◌≡◌, ℕ, ◌+◌, ◌^◌, ◌<◌, ◌≤◌, Option, None, Some, Result, Ok, List, [], ◌∷◌, ◌++◌, length, sym, ap, ◌∙◌, subst, append-nil, length-append, arith}
+use Rattle.std.specs.Option.{option_or}
+use Rattle.wsn_wire.specs.declared.endpoint.Role.{Role}
+use Rattle.wsn_io.specs.Transfer.{Incoming}
+use Rattle.wsn_rules.specs.declared.verdict.Verdict.{Verdict}
+use Rattle.wsn_io.specs.declared.stop.Stop.{Stop}
+use Rattle.wsn_rules.specs.Limits.{Limits}
+use Rattle.wsn_rules.specs.Meaning.{MeantEvent}
+use Rattle.wsn_scan.proofs.ReaderReports.{left_few}
+use Rattle.wsn_events.specs.declared.comparing.Round.TheVariants.{Alike, Unlike}
+use Rattle.wsn_events.specs.declared.event_reader.EventReader.{EventReader}
+use Rattle.wsn_events.specs.declared.source.Next.{Next}
+use Rattle.wsn_events.specs.declared.source.Next.TheVariants as nexts
+use Rattle.wsn_events.specs.EventsMeant.{meant}
+use Rattle.wsn_events.specs.EventReaders.{HasGiven, answered, readings_left}
+use Rattle.wsn_events.specs.Comparing.{DifferAt, IsRoundOf}
+use Rattle.wsn_events.proofs.ComparedEvents.{differ_sym, differ_more, differ_next, differ_end, differ_first}
+use Rattle.wsn_events.proofs.ComparedSources.{Gives, HasGivenNext}
+
+-- a bound on the rounds in which a source can still give an event or its verdict
+abbrev pub rounds_left : Option (Result Verdict Stop) → ℕ → ℕ
+rounds_left None left = left + 1
+rounds_left (Some answer) left = 0
+
+abbrev pub pending : {A : Type 0} → EventReader A → ℕ
+pending reading = rounds_left (answered reading) (readings_left reading)
+
+-- Without a difference, neither has ended, and they have given `index` events, the same. A difference stays the first.
+abbrev pub IsDifferenceSoFar : {A : Type 0} → EventReader A → EventReader A → ℕ → List MeantEvent → List MeantEvent → Option ℕ → Type 0
+IsDifferenceSoFar reading other index events others None =
+    (answered reading ≡ None) × (answered other ≡ None) × (events ≡ others) × (length events ≡ index)
+IsDifferenceSoFar reading other index events others (Some k) =
+    DifferAt k events others × (answered reading ≡ None → k < length events) × (answered other ≡ None → k < length others)
+
+module _ {A : Type 0} (role : Role) (limits : Limits) where
+  -- the first difference stays
+  differ_on : (new : Incoming) (before reading : EventReader A) (came : List ℕ) (given events others : List MeantEvent) (next : Next A) (k : ℕ)
+      → Gives role limits new before reading came given events next → (answered before ≡ None → k < length given) → DifferAt k given others
+      → DifferAt k events others × (answered reading ≡ None → k < length events)
+  differ_on new before reading came given events others (nexts.Event event) k gives within differ =
+      let more = differ_more k given others (meant event ∷ []) (within gives.1) differ in
+      (subst (λ (es : List MeantEvent). DifferAt k es others) (sym gives.0) more, λ going. omega (arith, within gives.1, ap (λ (es : List MeantEvent). length es) gives.0, length-append given (meant event ∷ [])))
+  differ_on new before reading came given events others (nexts.Done verdict) k gives within differ =
+      (subst (λ (es : List MeantEvent). DifferAt k es others) (sym gives.0) differ, λ going. let both : Some (Ok verdict) ≡ None = sym gives.1.0 ∙ going in absurd cc)
+
+  -- ---- rounds
+
+  pending_going : (reading : EventReader A) → answered reading ≡ None → pending reading ≡ readings_left reading + 1
+  pending_going reading going = ap (λ (a : Option (Result Verdict Stop)). rounds_left a (readings_left reading)) going
+
+  pending_done : (reading : EventReader A) (answer : Result Verdict Stop) → answered reading ≡ Some answer → pending reading ≡ 0
+  pending_done reading answer done = ap (λ (a : Option (Result Verdict Stop)). rounds_left a (readings_left reading)) done
+
+  -- at most two rounds for each byte of the input limit
+  pub few_rounds : (reading : EventReader A) → HasGiven role limits reading [] [] → pending reading ≤ 2 ^ 41 + 2
+  few_rounds reading has =
+      omega (arith, pending_going reading has.going, left_few role limits reading.reader [] has.done has.at has.has_reported, has.has_reported.has_scanned.has_consumed.in_range.input)
+
+  -- 1 for an event, 0 for a verdict
+  abbrev falls_by : Next A → ℕ
+  falls_by (nexts.Event event) = 1
+  falls_by (nexts.Done verdict) = 0
+
+  falls : (new : Incoming) (before reading : EventReader A) (came : List ℕ) (given events : List MeantEvent) (next : Next A)
+      → Gives role limits new before reading came given events next → pending reading + falls_by next ≤ pending before
+  falls new before reading came given events (nexts.Event event) gives = omega (arith, pending_going before gives.1, pending_going reading gives.2, gives.3)
+  falls new before reading came given events (nexts.Done verdict) gives = omega (arith, pending_done reading (Ok verdict) gives.1.0)
+
+  -- an event or two
+  some_alike : (next other : Next A) → IsRoundOf next other Alike → 0 < falls_by next + falls_by other
+  some_alike (nexts.Event event) (nexts.Event other) is = omega arith
+  some_alike (nexts.Event event) (nexts.Done verdict) is = omega arith
+  some_alike (nexts.Done verdict) (nexts.Event event) is = absurd is
+  some_alike (nexts.Done verdict) (nexts.Done other) is = absurd is
+
+  some_unlike : (next other : Next A) → IsRoundOf next other Unlike → 0 < falls_by next + falls_by other
+  some_unlike (nexts.Event event) other is = omega arith
+  some_unlike (nexts.Done verdict) (nexts.Event event) is = omega arith
+  some_unlike (nexts.Done verdict) (nexts.Done other) is = absurd is
+
+  -- ---- what comes after the same events, or after a difference
+
+  -- both sides of a first difference
+  differ_still : (new other_new : Incoming) (before reading other_before other : EventReader A) (came other_came : List ℕ) (given events other_given others : List MeantEvent) (next other_next : Next A) (k : ℕ)
+      → Gives role limits new before reading came given events next → Gives role limits other_new other_before other other_came other_given others other_next
+      → DifferAt k given other_given → (answered before ≡ None → k < length given) → (answered other_before ≡ None → k < length other_given)
+      → DifferAt k events others × (answered reading ≡ None → k < length events) × (answered other ≡ None → k < length others)
+  differ_still new other_new before reading other_before other came other_came given events other_given others next other_next k gives other_gives differ within other_within =
+      let one = differ_on new before reading came given events other_given next k gives within differ in
+      let two = differ_on other_new other_before other other_came other_given others events other_next k other_gives other_within (differ_sym k events other_given one.0) in
+      (differ_sym k others events two.0, one.1, two.1)
+
+  same_next : (new other_new : Incoming) (before reading other_before other : EventReader A) (came other_came : List ℕ) (given events other_given others : List MeantEvent) (next other_next : Next A) (index : ℕ)
+      → Gives role limits new before reading came given events next → Gives role limits other_new other_before other other_came other_given others other_next
+      → given ≡ other_given → length given ≡ index → IsRoundOf next other_next Alike → IsDifferenceSoFar reading other (index + 1) events others None
+  same_next new other_new before reading other_before other came other_came given events other_given others (nexts.Event event) (nexts.Event that) index gives other_gives same size is = (
+    gives.2,
+    other_gives.2,
+    gives.0 ∙ ap (λ (es : List MeantEvent). es ++ meant event ∷ []) same ∙ ap (λ (e : MeantEvent). other_given ++ e ∷ []) is ∙ sym other_gives.0,
+    omega (arith, ap (λ (es : List MeantEvent). length es) gives.0, length-append given (meant event ∷ [])),
+  )
+  same_next new other_new before reading other_before other came other_came given events other_given others (nexts.Event event) (nexts.Done verdict) index gives other_gives same size is = absurd is
+  same_next new other_new before reading other_before other came other_came given events other_given others (nexts.Done verdict) (nexts.Event that) index gives other_gives same size is = absurd is
+  same_next new other_new before reading other_before other came other_came given events other_given others (nexts.Done verdict) (nexts.Done that) index gives other_gives same size is = absurd is
+
+  unlike_next : (new other_new : Incoming) (before reading other_before other : EventReader A) (came other_came : List ℕ) (given events other_given others : List MeantEvent) (next other_next : Next A) (index : ℕ)
+      → Gives role limits new before reading came given events next → Gives role limits other_new other_before other other_came other_given others other_next
+      → given ≡ other_given → length given ≡ index → IsRoundOf next other_next Unlike → IsDifferenceSoFar reading other (index + 1) events others (Some index)
+  unlike_next new other_new before reading other_before other came other_came given events other_given others (nexts.Event event) (nexts.Event that) index gives other_gives same size is = (
+    differ_first given events other_given others (meant event ∷ []) (meant that ∷ []) index gives.0 other_gives.0 same size (differ_next given (meant event) (meant that) is),
+    λ going. omega (arith, ap (λ (es : List MeantEvent). length es) gives.0, length-append given (meant event ∷ [])),
+    λ going. omega (arith, ap (λ (es : List MeantEvent). length es) other_gives.0, length-append other_given (meant that ∷ []), ap (λ (es : List MeantEvent). length es) same),
+  )
+  unlike_next new other_new before reading other_before other came other_came given events other_given others (nexts.Event event) (nexts.Done verdict) index gives other_gives same size is = (
+    differ_first given events other_given others (meant event ∷ []) [] index gives.0 (other_gives.0 ∙ sym (append-nil other_given)) same size
+        (subst (λ (es : List MeantEvent). DifferAt (length given) (given ++ meant event ∷ []) es) (sym (append-nil given)) (differ_end given (meant event))),
+    λ going. omega (arith, ap (λ (es : List MeantEvent). length es) gives.0, length-append given (meant event ∷ [])),
+    λ going. let both : Some (Ok verdict) ≡ None = sym other_gives.1.0 ∙ going in absurd cc,
+  )
+  unlike_next new other_new before reading other_before other came other_came given events other_given others (nexts.Done verdict) (nexts.Event that) index gives other_gives same size is = (
+    differ_first given events other_given others [] (meant that ∷ []) index (gives.0 ∙ sym (append-nil given)) other_gives.0 same size
+        (subst (λ (es : List MeantEvent). DifferAt (length given) es (given ++ meant that ∷ [])) (sym (append-nil given)) (differ_sym (length given) (given ++ meant that ∷ []) given (differ_end given (meant that)))),
+    λ going. let both : Some (Ok verdict) ≡ None = sym gives.1.0 ∙ going in absurd cc,
+    λ going. omega (arith, ap (λ (es : List MeantEvent). length es) other_gives.0, length-append other_given (meant that ∷ []), ap (λ (es : List MeantEvent). length es) same),
+  )
+  unlike_next new other_new before reading other_before other came other_came given events other_given others (nexts.Done verdict) (nexts.Done that) index gives other_gives same size is = absurd is
+
+  -- ---- one round
+
+  module _ (old other_old new other_new : Incoming) (before reading other_before other : EventReader A) (given other_given : List MeantEvent) (next other_next : Next A)
+      (one : HasGivenNext role limits old new before reading given next) (two : HasGivenNext role limits other_old other_new other_before other other_given other_next) where
+    fewer : 0 < falls_by next + falls_by other_next → pending reading + pending other < pending before + pending other_before
+    fewer some = omega (arith, some, falls new before reading one.came given one.events next one.gives, falls other_new other_before other two.came other_given two.events other_next two.gives)
+
+    alike_on : (index : ℕ) (difference : Option ℕ) → IsDifferenceSoFar before other_before index given other_given difference → IsRoundOf next other_next Alike
+        → IsDifferenceSoFar reading other (index + 1) one.events two.events difference
+    alike_on index None so_far is = same_next new other_new before reading other_before other one.came two.came given one.events other_given two.events next other_next index one.gives two.gives so_far.2 so_far.3 is
+    alike_on index (Some k) so_far is = differ_still new other_new before reading other_before other one.came two.came given one.events other_given two.events next other_next k one.gives two.gives so_far.0 so_far.1 so_far.2
+
+    unlike_on : (index : ℕ) (difference : Option ℕ) → IsDifferenceSoFar before other_before index given other_given difference → IsRoundOf next other_next Unlike
+        → IsDifferenceSoFar reading other (index + 1) one.events two.events (option_or difference (Some index))
+    unlike_on index None so_far is = unlike_next new other_new before reading other_before other one.came two.came given one.events other_given two.events next other_next index one.gives two.gives so_far.2 so_far.3 is
+    unlike_on index (Some k) so_far is = differ_still new other_new before reading other_before other one.came two.came given one.events other_given two.events next other_next k one.gives two.gives so_far.0 so_far.1 so_far.2
+
+    -- the same event on both sides
+    pub on_alike : (index : ℕ) (difference now : Option ℕ) → IsDifferenceSoFar before other_before index given other_given difference → now ≡ difference → IsRoundOf next other_next Alike
+        → IsDifferenceSoFar reading other (index + 1) one.events two.events now × (pending reading + pending other < pending before + pending other_before)
+    on_alike index difference now so_far is round = (
+      subst (λ (d : Option ℕ). IsDifferenceSoFar reading other (index + 1) one.events two.events d) (sym is) (alike_on index difference so_far round),
+      fewer (some_alike next other_next round),
+    )
+
+    -- two events, or an event where the other side has none
+    pub on_unlike : (index : ℕ) (difference now : Option ℕ) → IsDifferenceSoFar before other_before index given other_given difference → now ≡ option_or difference (Some index)
+        → IsRoundOf next other_next Unlike → IsDifferenceSoFar reading other (index + 1) one.events two.events now × (pending reading + pending other < pending before + pending other_before)
+    on_unlike index difference now so_far is round = (
+      subst (λ (d : Option ℕ). IsDifferenceSoFar reading other (index + 1) one.events two.events d) (sym is) (unlike_on index difference so_far round),
+      fewer (some_unlike next other_next round),
+    )

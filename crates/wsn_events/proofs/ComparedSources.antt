@@ -1,0 +1,115 @@
+-- One event source in a comparison: what a call gives after the events that it has given.
+use Rattle.std.proofs.Common.{◌≡◌, ℕ, ◌+◌, ◌<◌, ◌⊎◌, false, None, Some, Result, Ok, Err, List, [], ◌∷◌, ◌++◌, inl, inr, refl, sym, ap, ◌∙◌, subst}
+use Rattle.wsn_io.proofs.Received.{received_none, received_on}
+use Rattle.wsn_wire.specs.declared.endpoint.Role.{Role}
+use Rattle.wsn_io.specs.Transfer.{Incoming, IsReceived}
+use Rattle.wsn_rules.specs.declared.verdict.Verdict.{Verdict}
+use Rattle.wsn_io.specs.declared.stop.Stop.{Stop}
+use Rattle.wsn_rules.specs.Limits.{Limits}
+use Rattle.wsn_rules.specs.Meaning.{MeantEvent}
+use Rattle.wsn_events.specs.declared.event_reader.EventReader.{EventReader}
+use Rattle.wsn_events.specs.declared.source.Next.{Next}
+use Rattle.wsn_events.specs.declared.source.Next.TheVariants as nexts
+use Rattle.wsn_events.specs.EventsMeant.{meant}
+use Rattle.wsn_events.specs.Sources.{IsLast}
+use Rattle.wsn_events.specs.EventReaders.{HasGiven, IsNextEvent, GoesOn, IsEvent, answered, readings_left, next_of}
+use Rattle.wsn_events.specs.Comparing.{HasStopped}
+
+-- A source has not ended, and its input hasn't failed.
+abbrev pub IsGoing : {A : Type 0} → Role → Limits → Incoming → EventReader A → List ℕ → List MeantEvent → Type 0
+IsGoing role limits now reading came given = HasGiven role limits reading came given × (now.failed ≡ false)
+
+-- It has ended with this verdict, after all of its events.
+abbrev pub IsDone : {A : Type 0} → Role → Limits → Incoming → EventReader A → List ℕ → List MeantEvent → Verdict → Type 0
+IsDone role limits now reading came given verdict = (answered reading ≡ Some (Ok verdict)) × IsLast role limits now came given (Ok verdict)
+
+-- A source, the bytes that came, and the events that it has given.
+pub record HasFollowed {A : Type 0} (role : Role) (limits : Limits) (old now : Incoming) (reading : EventReader A) (came : List ℕ) (given : List MeantEvent) : Type 0 where
+  pub received : IsReceived (limits.input + 1) old now came
+  pub state : IsGoing role limits now reading came given ⊎ ((verdict : Verdict) × IsDone role limits now reading came given verdict)
+
+-- What a source gave in a round, after the events that it had given.
+abbrev pub Gives : {A : Type 0} → Role → Limits → Incoming → EventReader A → EventReader A → List ℕ → List MeantEvent → List MeantEvent → Next A → Type 0
+Gives role limits new old reading came given events (nexts.Event event) =
+    (events ≡ given ++ meant event ∷ []) × (answered old ≡ None) × (answered reading ≡ None) × (readings_left reading < readings_left old)
+Gives role limits new old reading came given events (nexts.Done verdict) =
+    (events ≡ given) × IsDone role limits new reading came events verdict
+
+-- A round: the source has given its next event, or its verdict.
+pub record HasGivenNext {A : Type 0} (role : Role) (limits : Limits) (old new : Incoming) (before reading : EventReader A) (given : List MeantEvent) (next : Next A) : Type 0 where
+  pub came : List ℕ
+  pub events : List MeantEvent
+  pub followed : HasFollowed role limits old new reading came events
+  pub gives : Gives role limits new before reading came given events next
+
+module _ (role : Role) (limits : Limits) where
+  pub begins : {A : Type 0} (input : Incoming) (reading : EventReader A) → HasGiven role limits reading [] [] → input.failed ≡ false → HasFollowed role limits input input reading [] []
+  begins input reading has unfailed = record { received = received_none (limits.input + 1) input; state = inl (has, unfailed) }
+
+  -- One call of a source.
+  module _ {A : Type 0} (old mid new : Incoming) (before reading : EventReader A) (came : List ℕ) (given : List MeantEvent) (result : Result (Next A) Stop)
+      (followed : HasFollowed role limits old mid before came given)
+      (next : HasGiven role limits before came given → GoesOn role limits mid new reading came given result)
+      (falls : IsEvent result → readings_left reading < readings_left before)
+      (again : (answer : Result Verdict Stop) → answered before ≡ Some answer → (result ≡ next_of answer) × (reading ≡ before) × (new ≡ mid)) where
+    received : (went : GoesOn role limits mid new reading came given result) → IsReceived (limits.input + 1) old new (came ++ went.more)
+    received went = received_on (limits.input + 1) old mid new came went.more followed.received went.consumed went.few
+
+    goes_on : HasGiven role limits before came given → (n : Next A) → result ≡ Ok n → HasGivenNext role limits old new before reading given n
+    goes_on has (nexts.Event event) is =
+        let went = next has in
+        let now = subst (λ (r : Result (Next A) Stop). IsNextEvent role limits new reading (came ++ went.more) given r) is went.next in
+        record {
+          came = came ++ went.more;
+          events = given ++ meant event ∷ [];
+          followed = record { received = received went; state = inl (now.0, now.2) };
+          gives = (refl, has.going, now.0.going, falls (subst (λ (r : Result (Next A) Stop). IsEvent r) (sym is) tt));
+        }
+    goes_on has (nexts.Done verdict) is =
+        let went = next has in
+        let now = subst (λ (r : Result (Next A) Stop). IsNextEvent role limits new reading (came ++ went.more) given r) is went.next in
+        record {
+          came = came ++ went.more;
+          events = given;
+          followed = record { received = received went; state = inr (verdict, (now.1, now.0)) };
+          gives = (refl, (now.1, now.0));
+        }
+
+    -- a source that is done has read nothing
+    same_state : (at : EventReader A) (now : Incoming) → at ≡ before → now ≡ mid → HasFollowed role limits old now at came given
+    same_state at now is_at is_now =
+        subst (λ (i : Incoming). HasFollowed role limits old i at came given) (sym is_now) (subst (λ (r : EventReader A). HasFollowed role limits old mid r came given) (sym is_at) followed)
+
+    stays : (verdict : Verdict) → IsDone role limits mid before came given verdict → (n : Next A) → result ≡ Ok n → HasGivenNext role limits old new before reading given n
+    stays verdict done (nexts.Event event) is =
+        let reported = again (Ok verdict) done.0 in
+        let both : Ok (nexts.Event event) ≡ Ok (nexts.Done verdict) = sym is ∙ reported.0 in absurd cc
+    stays verdict done (nexts.Done v) is =
+        let reported = again (Ok verdict) done.0 in
+        let both : Ok (nexts.Done v) ≡ Ok (nexts.Done verdict) = sym is ∙ reported.0 in
+        let one : verdict ≡ v = cc in
+        let answer : answered reading ≡ Some (Ok v) = ap (λ (r : EventReader A). answered r) reported.1 ∙ done.0 ∙ ap (λ (w : Verdict). Some (Ok w)) one in
+        let last : IsLast role limits mid came given (Ok v) = subst (λ (w : Verdict). IsLast role limits mid came given (Ok w)) one done.1 in
+        record {
+          came = came;
+          events = given;
+          followed = same_state reading new reported.1 reported.2;
+          gives = (refl, (answer, subst (λ (i : Incoming). IsLast role limits i came given (Ok v)) (sym reported.2) last));
+        }
+
+    pub gives_next : (n : Next A) → result ≡ Ok n → HasGivenNext role limits old new before reading given n
+    gives_next n is = elim followed.state [ inl going ↦ goes_on going.0 n is | inr done ↦ stays done.0 done.1 n is ]
+
+    pub stops : (stop : Stop) → result ≡ Err stop → (all : List ℕ) × IsReceived (limits.input + 1) old new all × HasStopped role limits new all stop
+    stops stop is = elim followed.state [ inl going ↦ halts going.0 | inr done ↦ never done.0 done.1 ]
+      where
+        halts : HasGiven role limits before came given → (all : List ℕ) × IsReceived (limits.input + 1) old new all × HasStopped role limits new all stop
+        halts has =
+            let went = next has in
+            let now = subst (λ (r : Result (Next A) Stop). IsNextEvent role limits new reading (came ++ went.more) given r) is went.next in
+            (came ++ went.more, received went, (given, now.0))
+
+        never : (verdict : Verdict) → IsDone role limits mid before came given verdict → (all : List ℕ) × IsReceived (limits.input + 1) old new all × HasStopped role limits new all stop
+        never verdict done =
+            let reported = again (Ok verdict) done.0 in
+            let both : Err stop ≡ Ok (nexts.Done verdict) = sym is ∙ reported.0 in absurd cc

@@ -1,0 +1,123 @@
+-- What the comparison of two streams answers at each end of its rounds.
+use Rattle.std.proofs.Common.{◌≡◌, ℕ, ◌+◌, Option, None, Some, true, false, Ok, Err, List, inl, inr, refl, sym, subst}
+use Rattle.wsn_wire.specs.declared.endpoint.Role.{Role}
+use Rattle.wsn_io.specs.Transfer.{Incoming, IsReceived}
+use Rattle.wsn_rules.specs.declared.verdict.Summary.{Summary}
+use Rattle.wsn_rules.specs.declared.verdict.Verdict.{Verdict}
+use Rattle.wsn_rules.specs.declared.verdict.Verdict.TheVariants.{Accepted, Cut, Refused}
+use Rattle.wsn_io.specs.declared.stop.Stop.{Stop}
+use Rattle.wsn_rules.specs.Limits.{Limits}
+use Rattle.wsn_rules.specs.Meaning.{MeantEvent}
+use Rattle.wsn_rules.specs.declared.compared.Compared.{Compared}
+use Rattle.wsn_rules.specs.declared.compared.Compared.TheVariants.{Equal, Different, NotAccepted}
+use Rattle.wsn_events.specs.declared.comparing.Round.TheVariants.{Over}
+use Rattle.wsn_events.specs.declared.event_reader.EventReader.{EventReader}
+use Rattle.wsn_events.specs.declared.source.Next.{Next}
+use Rattle.wsn_events.specs.declared.source.Next.TheVariants as nexts
+use Rattle.wsn_events.specs.Sources.{IsLast}
+use Rattle.wsn_events.specs.Comparing.{IsFirstDifference, IsRoundOf, IsAnAccepted, HasStopped, IsComparison, IsCompared}
+use Rattle.wsn_events.proofs.ComparedSources.{HasFollowed, HasGivenNext}
+use Rattle.wsn_events.proofs.ComparedRounds.{IsDifferenceSoFar}
+
+-- What the answer must say for two verdicts and the first difference of the events before them.
+abbrev pub Compares : Verdict → Verdict → Option ℕ → Compared → Type 0
+Compares verdict other difference result =
+    (role : Role) (limits : Limits) (new : Incoming) (came : List ℕ) (events : List MeantEvent) (other_new : Incoming) (other_came : List ℕ) (others : List MeantEvent)
+    → IsLast role limits new came events (Ok verdict) → IsLast role limits other_new other_came others (Ok other)
+    → IsFirstDifference difference events others → IsComparison role limits new came other_new other_came (Ok result)
+
+first_difference : {A : Type 0} (reading other : EventReader A) (index : ℕ) (given other_given : List MeantEvent) (difference : Option ℕ)
+    → IsDifferenceSoFar reading other index given other_given difference → IsFirstDifference difference given other_given
+first_difference reading other index given other_given None so_far = so_far.2
+first_difference reading other index given other_given (Some k) so_far = so_far.0
+
+same_difference : (given events other_given others : List MeantEvent) (difference : Option ℕ) → events ≡ given → others ≡ other_given
+    → IsFirstDifference difference given other_given → IsFirstDifference difference events others
+same_difference given events other_given others difference is others_is first =
+    subst (λ (es : List MeantEvent). IsFirstDifference difference events es) (sym others_is) (subst (λ (es : List MeantEvent). IsFirstDifference difference es other_given) (sym is) first)
+
+module _ {A : Type 0} (role : Role) (limits : Limits) where
+  -- both have their verdicts
+  pub compares : (old other_old new other_new : Incoming) (before reading other_before other : EventReader A) (given other_given : List MeantEvent) (next other_next : Next A)
+      → HasGivenNext role limits old new before reading given next → HasGivenNext role limits other_old other_new other_before other other_given other_next
+      → (index : ℕ) (difference : Option ℕ) → IsDifferenceSoFar before other_before index given other_given difference
+      → (verdict other_verdict : Verdict) → IsRoundOf next other_next (Over verdict other_verdict)
+      → (result : Compared) → Compares verdict other_verdict difference result → IsCompared role limits old new other_old other_new (Ok result)
+  compares old other_old new other_new before reading other_before other given other_given (nexts.Done v) (nexts.Done w) one two index difference so_far verdict other_verdict is result reported =
+      let last = subst (λ (x : Verdict). IsLast role limits new one.came one.events (Ok x)) (sym is.0) one.gives.1.1 in
+      let other_last = subst (λ (x : Verdict). IsLast role limits other_new two.came two.events (Ok x)) (sym is.1) two.gives.1.1 in
+      let first = first_difference before other_before index given other_given difference so_far in
+      record {
+        came = one.came;
+        received = one.followed.received;
+        other_came = two.came;
+        other_received = two.followed.received;
+        answer = reported role limits new one.came one.events other_new two.came two.events last other_last (same_difference given one.events other_given two.events difference one.gives.0 two.gives.0 first);
+      }
+  compares old other_old new other_new before reading other_before other given other_given (nexts.Done v) (nexts.Event event) one two index difference so_far verdict other_verdict is result reported = absurd is
+  compares old other_old new other_new before reading other_before other given other_given (nexts.Event event) (nexts.Done w) one two index difference so_far verdict other_verdict is result reported = absurd is
+  compares old other_old new other_new before reading other_before other given other_given (nexts.Event event) (nexts.Event that) one two index difference so_far verdict other_verdict is result reported = absurd is
+
+  -- the first stream has stopped
+  pub first_stops : (old new other_old other_new : Incoming) (other : EventReader A) (other_came : List ℕ) (other_given : List MeantEvent) → HasFollowed role limits other_old other_new other other_came other_given
+      → (stop : Stop) → (all : List ℕ) × IsReceived (limits.input + 1) old new all × HasStopped role limits new all stop
+      → IsCompared role limits old new other_old other_new (Err stop)
+  first_stops old new other_old other_new other other_came other_given followed stop stops = record {
+    came = stops.0;
+    received = stops.1;
+    other_came = other_came;
+    other_received = followed.received;
+    answer = inl stops.2;
+  }
+
+  -- the second stream has stopped
+  pub second_stops : (old new other_old other_new : Incoming) (before reading : EventReader A) (given : List MeantEvent) (next : Next A) → HasGivenNext role limits old new before reading given next
+      → (stop : Stop) → (all : List ℕ) × IsReceived (limits.input + 1) other_old other_new all × HasStopped role limits other_new all stop
+      → IsCompared role limits old new other_old other_new (Err stop)
+  second_stops old new other_old other_new before reading given next one stop stops = record {
+    came = one.came;
+    received = one.followed.received;
+    other_came = stops.0;
+    other_received = stops.1;
+    answer = inr stops.2;
+  }
+
+-- ---- the answer, by the verdicts
+
+not_accepted : (verdict : Verdict) → ((summary : Summary) → verdict ≡ Accepted summary → ⊥) → IsAnAccepted verdict → ⊥
+not_accepted (Accepted summary) none is = none summary refl
+not_accepted (Cut summary) none is = is
+not_accepted (Refused refusal) none is = is
+
+accepted : (role : Role) (limits : Limits) (new : Incoming) (came : List ℕ) (events : List MeantEvent) (verdict : Verdict) (summary : Summary)
+    → verdict ≡ Accepted summary → IsLast role limits new came events (Ok verdict) → IsLast role limits new came events (Ok (Accepted summary))
+accepted role limits new came events verdict summary is last = subst (λ (v : Verdict). IsLast role limits new came events (Ok v)) is last
+
+pub first_not_accepted : (verdict other : Verdict) (difference : Option ℕ) → ((summary : Summary) → verdict ≡ Accepted summary → ⊥) → Compares verdict other difference (NotAccepted false verdict)
+first_not_accepted verdict other difference none role limits new came events other_new other_came others last other_last first =
+    ((events, last), not_accepted verdict none, (other, (others, other_last)))
+
+pub second_not_accepted : (verdict other : Verdict) (difference : Option ℕ) (summary : Summary) → verdict ≡ Accepted summary → ((s : Summary) → other ≡ Accepted s → ⊥)
+    → Compares verdict other difference (NotAccepted true other)
+second_not_accepted verdict other difference summary is none role limits new came events other_new other_came others last other_last first =
+    ((summary, (events, accepted role limits new came events verdict summary is last)), (others, other_last), not_accepted other none)
+
+pub are_equal : (verdict other : Verdict) (difference : Option ℕ) (summary other_summary : Summary) → verdict ≡ Accepted summary → other ≡ Accepted other_summary → difference ≡ None
+    → Compares verdict other difference Equal
+are_equal verdict other difference summary other_summary is other_is none role limits new came events other_new other_came others last other_last first = (
+  events,
+  others,
+  (summary, accepted role limits new came events verdict summary is last),
+  (other_summary, accepted role limits other_new other_came others other other_summary other_is other_last),
+  subst (λ (d : Option ℕ). IsFirstDifference d events others) none first,
+)
+
+pub are_different : (verdict other : Verdict) (difference : Option ℕ) (summary other_summary : Summary) (k : ℕ) → verdict ≡ Accepted summary → other ≡ Accepted other_summary → difference ≡ Some k
+    → Compares verdict other difference (Different k)
+are_different verdict other difference summary other_summary k is other_is some role limits new came events other_new other_came others last other_last first = (
+  events,
+  others,
+  (summary, accepted role limits new came events verdict summary is last),
+  (other_summary, accepted role limits other_new other_came others other other_summary other_is other_last),
+  subst (λ (d : Option ℕ). IsFirstDifference d events others) some first,
+)

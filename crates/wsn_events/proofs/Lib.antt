@@ -1,0 +1,13 @@
+pub mod CloseBodies
+pub mod NormalBytes
+pub mod ComparedEvents
+pub mod ComparedSources
+pub mod ComparedRounds
+pub mod Comparisons
+pub mod WholeComparisons
+pub mod ReassembledFrames
+pub mod GivenSoFar
+pub mod SourceCalls
+pub mod Normalising
+pub mod TakenEvents
+pub mod WholeNormalForms

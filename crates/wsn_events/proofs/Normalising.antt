@@ -1,0 +1,144 @@
+-- A stream's events, written one after the other: what was written at each answer.
+use Rattle.std.proofs.Common.{◌≡◌, ℕ, ◌+◌, Result, Ok, Err, false, List, [], ◌∷◌, ◌++◌, length, take, map, sym, ap, ◌∙◌, subst, append-nil}
+use Rattle.std.proofs.lemmas.List.{map-append}
+use Rattle.std.proofs.KnownBytes.{Appends-nil, Appends-trans}
+use Rattle.wsn_io.proofs.Received.{received_none, received_on}
+use Rattle.std.proofs.Math.Seq.{take-append-add}
+use Rattle.std.specs.Io.KnownBytes.{Appends}
+use Rattle.wsn_wire.specs.declared.endpoint.Role.{Role}
+use Rattle.wsn_wire.specs.Frame.{frame_bytes, stream}
+use Rattle.wsn_io.specs.Transfer.{Incoming, Outgoing, IsReceived, IsWritten, IsPartlyWritten}
+use Rattle.wsn_rules.specs.declared.verdict.Verdict.{Verdict}
+use Rattle.wsn_io.specs.declared.stop.Stop.{Stop}
+use Rattle.wsn_io.specs.declared.stop.Stop.TheVariants as stop
+use Rattle.wsn_rules.specs.Limits.{Limits}
+use Rattle.wsn_rules.specs.Meaning.{MeantEvent}
+use Rattle.wsn_io.proofs.PutTexts.{front_of_more}
+use Rattle.wsn_rules.proofs.Walk.{stream-append}
+use Rattle.wsn_events.specs.declared.event.Event.{Event}
+use Rattle.wsn_events.specs.declared.event_reader.EventReader.{EventReader}
+use Rattle.wsn_events.specs.declared.source.Next.{Next}
+use Rattle.wsn_events.specs.declared.source.Next.TheVariants as nexts
+use Rattle.wsn_rules.specs.LawfulEvents.{IsLawfulEvent}
+use Rattle.wsn_events.specs.EventsMeant.{meant}
+use Rattle.wsn_rules.specs.NormalForm.{normal_frame, normal_form}
+use Rattle.wsn_events.specs.Normalised.{IsNormalised, IsNormalFormWritten}
+use Rattle.wsn_events.specs.EventReaders.{HasGiven, GoesOn}
+use Rattle.wsn_events.specs.Sources.{AreFirstOf, IsLast}
+
+-- ---- the normal form of more events
+
+pub normal_form-append : (role : Role) (events more : List MeantEvent) → normal_form role (events ++ more) ≡ normal_form role events ++ normal_form role more
+normal_form-append role events more =
+    ap stream (map-append (normal_frame role) events more) ∙ stream-append (map (normal_frame role) events) (map (normal_frame role) more)
+
+pub normal_form_push : (role : Role) (events : List MeantEvent) (e : MeantEvent) → normal_form role (events ++ e ∷ []) ≡ normal_form role events ++ frame_bytes (normal_frame role e)
+normal_form_push role events e =
+    normal_form-append role events (e ∷ []) ∙ ap (λ (bs : List ℕ). normal_form role events ++ bs) (append-nil (frame_bytes (normal_frame role e)))
+
+-- The source has read all that came, and the normal form of the events that it gave was written.
+pub record HasWritten {A : Type 0} (role : Role) (limits : Limits) (old new : Incoming) (before after : Outgoing) (source : EventReader A) : Type 0 where
+  pub came : List ℕ
+  pub given : List MeantEvent
+  pub has : HasGiven role limits source came given
+  pub received : IsReceived (limits.input + 1) old new came
+  pub out : Appends before.written after.written (normal_form role given)
+  pub readable : new.failed ≡ false
+  pub writable : after.failed ≡ false
+
+module _ {A : Type 0} (role : Role) (limits : Limits) (old : Incoming) (before : Outgoing) where
+  -- nothing has come yet
+  pub begins : (source : EventReader A) → HasGiven role limits source [] [] → old.failed ≡ false → before.failed ≡ false → HasWritten role limits old old before before source
+  begins source has readable writable = record {
+    came = [];
+    given = [];
+    has = has;
+    received = received_none (limits.input + 1) old;
+    out = Appends-nil before.written;
+    readable = readable;
+    writable = writable;
+  }
+
+  -- the source's next answer
+  module _ (mid new : Incoming) (after : Outgoing) (source next : EventReader A) (written : HasWritten role limits old mid before after source) where
+    received : (result : Result (Next A) Stop) (on : GoesOn role limits mid new next written.came written.given result) → IsReceived (limits.input + 1) old new (written.came ++ on.more)
+    received result on = received_on (limits.input + 1) old mid new written.came on.more written.received on.consumed on.few
+
+    -- the verdict
+    pub is_done : (answer : Next A) (verdict : Verdict) → answer ≡ nexts.Done verdict → GoesOn role limits mid new next written.came written.given (Ok answer) → IsNormalised role limits old new before after (Ok verdict)
+    is_done answer verdict is goes = record {
+      came = written.came ++ on.more;
+      received = received (Ok (nexts.Done verdict)) on;
+      written = (written.given, on.next.0, (written.writable, written.out));
+    }
+      where
+        on : GoesOn role limits mid new next written.came written.given (Ok (nexts.Done verdict))
+        on = subst (λ (n : Next A). GoesOn role limits mid new next written.came written.given (Ok n)) is goes
+
+    -- a stop
+    pub is_stopped : (stopped : Stop) → GoesOn role limits mid new next written.came written.given (Err stopped) → IsNormalised role limits old new before after (Err stopped)
+    is_stopped stopped on = record {
+      came = written.came ++ on.more;
+      received = received (Err stopped) on;
+      written = of stopped on.next.0;
+    }
+      where
+        of : (s : Stop) → IsLast role limits new (written.came ++ on.more) written.given (Err s) → IsNormalFormWritten role limits new (written.came ++ on.more) before after (Err s)
+        of stop.Read last = (written.given, last, (written.writable, written.out))
+        of stop.InputLimit last = (written.given, last, (written.writable, written.out))
+        of stop.Memory last = (written.given, last, (written.writable, written.out))
+        of stop.Write last = absurd last.0
+
+    -- an event, which is written
+    module _ (answer : Next A) (event : Event A) (is : answer ≡ nexts.Event event) (goes : GoesOn role limits mid new next written.came written.given (Ok answer)) where
+      on : GoesOn role limits mid new next written.came written.given (Ok (nexts.Event event))
+      on = subst (λ (n : Next A). GoesOn role limits mid new next written.came written.given (Ok n)) is goes
+
+      pub is_lawful_event : IsLawfulEvent (meant event)
+      is_lawful_event = on.next.1.lawful
+
+      pub goes_on : (last : Outgoing) → IsWritten after last (frame_bytes (normal_frame role (meant event))) → HasWritten role limits old new before last next
+      goes_on last (writable, out) = record {
+        came = written.came ++ on.more;
+        given = written.given ++ meant event ∷ [];
+        has = on.next.0;
+        received = received (Ok (nexts.Event event)) on;
+        out = subst (λ (bs : List ℕ). Appends before.written last.written bs) (sym (normal_form_push role written.given (meant event)))
+            (Appends-trans before.written after.written last.written (normal_form role written.given) (frame_bytes (normal_frame role (meant event))) written.out out);
+        readable = on.next.2;
+        writable = writable;
+      }
+
+      -- or the write failed
+      pub write_failed : (last : Outgoing) → IsPartlyWritten after last (frame_bytes (normal_frame role (meant event)))
+          → IsNormalised role limits old new before last (Err stop.Write)
+      write_failed last (failed, (k, out)) = record {
+        came = written.came ++ on.more;
+        received = received (Ok (nexts.Event event)) on;
+        written = (on.next.2, (first.0, (written.given ++ meant event ∷ []) ++ first.1, first.2, (failed, (front.0, subst (λ (bs : List ℕ). Appends before.written last.written bs) same went))));
+      }
+        where
+          first : AreFirstOf role limits (take limits.input (written.came ++ on.more)) (written.given ++ meant event ∷ [])
+          first = on.next.1.first
+
+          frame : List ℕ
+          frame = frame_bytes (normal_frame role (meant event))
+
+          form : List ℕ
+          form = normal_form role written.given
+
+          with_event : List ℕ
+          with_event = normal_form role (written.given ++ meant event ∷ [])
+
+          went : Appends before.written last.written (form ++ take k frame)
+          went = Appends-trans before.written after.written last.written form (take k frame) written.out out
+
+          front : (j : ℕ) × (take j (with_event ++ normal_form role first.1) ≡ take (length form + k) with_event)
+          front = front_of_more (length form + k) with_event (normal_form role first.1)
+
+          same : form ++ take k frame ≡ take front.0 (normal_form role ((written.given ++ meant event ∷ []) ++ first.1))
+          same =
+              sym (take-append-add form frame k)
+              ∙ ap (λ (bs : List ℕ). take (length form + k) bs) (sym (normal_form_push role written.given (meant event)))
+              ∙ sym front.1
+              ∙ ap (λ (bs : List ℕ). take front.0 bs) (sym (normal_form-append role (written.given ++ meant event ∷ []) first.1))

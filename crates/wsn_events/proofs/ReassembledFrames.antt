@@ -1,0 +1,97 @@
+-- One whole frame more in the reassembly.
+use Rattle.std.proofs.Common.{◌≡◌, ◌≢◌, ℕ, Bool, true, false, not, List, [], ◌∷◌, ◌++◌, refl, sym, ap, ◌∙◌, subst}
+use Rattle.wsn_wire.specs.declared.endpoint.Role.{Role}
+use Rattle.wsn_wire.specs.declared.opcode.Op.{Op}
+use Rattle.wsn_wire.specs.declared.opcode.Op.TheVariants.{Continue, Text, Binary, Close, Ping, Pong}
+use Rattle.wsn_wire.specs.declared.opcode.Kind.{Kind}
+use Rattle.wsn_wire.specs.Frame.{Frame, is_control}
+use Rattle.wsn_rules.specs.Limits.{Limits}
+use Rattle.wsn_rules.specs.Group.{unfinished, kind_at, kind_of, payload_of}
+use Rattle.wsn_rules.specs.Lawful.{LawAt, IsLawful}
+use Rattle.wsn_rules.specs.Meaning.{Message, Control, event_at}
+use Rattle.wsn_rules.proofs.Groups.{unfinished_control, unfinished_final, unfinished_more}
+use Rattle.wsn_rules.proofs.LawfulLists.{law_at_split}
+use Rattle.wsn_rules.proofs.MessageText.{text_of_push}
+use Rattle.wsn_events.specs.declared.reassembly.Reassembly.{Reassembly}
+use Rattle.wsn_rules.specs.LawfulEvents.{IsLawfulControl}
+use Rattle.wsn_events.specs.Reassembly.{IsBetweenFrames, IsInFrame}
+use Rattle.wsn_rules.proofs.LawfulMeaning.{event_of_control, event_of_data}
+
+module _ {A : Type 0} (role : Role) (limits : Limits) (g : Reassembly A) (done : List Frame) (f : Frame) (lawful : IsLawful role limits (done ++ f ∷ [])) (within : IsInFrame g done f.op f.payload) where
+  law : LawAt role limits done f
+  law = law_at_split role limits done f [] lawful
+
+  -- a frame that isn't final is a data frame
+  pub of_data : f.fin ≡ false → is_control f.op ≡ false
+  of_data more = by (is_control f.op) refl
+    where
+      by : (control : Bool) → is_control f.op ≡ control → is_control f.op ≡ false
+      by false is = is
+      by true is = let final = (law.frame.encoded.control is).final in let both : true ≡ false = sym final ∙ more in absurd cc
+
+  -- a frame that begins a message has its kind
+  first_kind : (op : Op) → f.op ≡ op → is_control f.op ≡ false → (f.op ≡ Continue → ⊥) → g.kind ≡ kind_at f.op
+  first_kind Continue is plain begins = absurd (begins is)
+  first_kind Text is plain begins = within.text is ∙ sym (ap kind_at is)
+  first_kind Binary is plain begins = within.binary is ∙ sym (ap kind_at is)
+  first_kind Close is plain begins = let both : true ≡ false = sym (ap is_control is) ∙ plain in absurd cc
+  first_kind Ping is plain begins = let both : true ≡ false = sym (ap is_control is) ∙ plain in absurd cc
+  first_kind Pong is plain begins = let both : true ≡ false = sym (ap is_control is) ∙ plain in absurd cc
+
+  pub kind_is : is_control f.op ≡ false → g.kind ≡ kind_of (unfinished done ++ f ∷ [])
+  kind_is other = by (unfinished done) refl
+    where
+      by : (earlier : List Frame) → unfinished done ≡ earlier → g.kind ≡ kind_of (unfinished done ++ f ∷ [])
+      by [] none = first_kind f.op refl other (λ is. (law.group (ap not other)).continues.0 is none) ∙ ap (λ (gs : List Frame). kind_of (gs ++ f ∷ [])) (sym none)
+      by (h ∷ hs) some =
+          let unended : unfinished done ≢ [] = λ none. let both : h ∷ hs ≡ [] = sym some ∙ none in cc in
+          within.continued ((law.group (ap not other)).continues.1 unended) unended ∙ ap kind_of some ∙ ap (λ (gs : List Frame). kind_of (gs ++ f ∷ [])) (sym some)
+
+  -- a fragment is added to the open message
+  pub fragment : f.fin ≡ false → IsBetweenFrames g (done ++ f ∷ [])
+  fragment more =
+      let other = of_data more in
+      let on = unfinished_more done f (ap not other) more in
+      record {
+        message = within.message other ∙ sym (text_of_push (unfinished done) f) ∙ ap payload_of (sym on);
+        kind = λ some. kind_is other ∙ ap kind_of (sym on);
+      }
+
+  -- a control leaves the open message unchanged
+  pub control : is_control f.op ≡ true → IsBetweenFrames g (done ++ f ∷ [])
+  control is =
+      let same = unfinished_control done f (ap not is) in
+      let between = within.of_control is in
+      record {
+        message = between.message ∙ ap payload_of (sym same);
+        kind = λ some. between.kind (λ none. some (same ∙ none)) ∙ ap kind_of (sym same);
+      }
+
+  pub control_event : is_control f.op ≡ true → Control g.op g.body.items ≡ event_at done f
+  control_event is =
+      let short = (law.frame.encoded.control is).short in
+      ap (λ (op : Op). Control op g.body.items) within.op ∙ ap (λ (bs : List ℕ). Control f.op bs) (within.body is short) ∙ sym (event_of_control done f is)
+
+  pub message_event : is_control f.op ≡ false → Message g.kind g.message.items ≡ event_at done f
+  message_event other =
+      ap (λ (k : Kind). Message k g.message.items) (kind_is other)
+      ∙ ap (λ (bs : List ℕ). Message (kind_of (unfinished done ++ f ∷ [])) bs) (within.message other ∙ sym (text_of_push (unfinished done) f))
+      ∙ sym (event_of_data done f other)
+
+  -- a whole control's body is lawful
+  pub lawful_body : is_control g.op ≡ true → IsLawfulControl g.op g.body.items
+  lawful_body is =
+      let control = sym (ap is_control within.op) ∙ is in
+      let short = law.frame.encoded.control control in
+      subst (λ (op : Op). IsLawfulControl op g.body.items) (sym within.op)
+      (subst (λ (bs : List ℕ). IsLawfulControl f.op bs) (sym (within.body control short.short))
+      (record { control = control; in_bytes = law.frame.encoded.encodable.payload; size = short.short; close = law.frame.close }))
+
+-- after a final data frame no message is open
+pub message_ended : {A : Type 0} (g : Reassembly A) (done : List Frame) (f : Frame) → is_control f.op ≡ false → f.fin ≡ true → g.message.items ≡ [] → IsBetweenFrames g (done ++ f ∷ [])
+message_ended g done f other final none =
+    let nothing = unfinished_final done f (ap not other) final in
+    record {
+      message = none ∙ ap payload_of (sym nothing);
+      kind = λ some. absurd (some nothing);
+    }

@@ -1,0 +1,21 @@
+use Rattle.std.proofs.Common.{◌+◌, ◌^◌, ◌≤◌, ℕ, List}
+use Rattle.wsn_rules.specs.Meaning.{MeantEvent}
+use Rattle.wsn_events.proofs.ComparedSources.{HasFollowed}
+use Rattle.wsn_events.proofs.ComparedRounds.{IsDifferenceSoFar, pending}
+use Rattle.wsn_events.proofs.comparing.same.Given as goal
+
+-- The bytes that came of both streams, the events given, and their first difference, if there is one so far.
+abbrev pub invariant-loop-others : goal.invariant-loop-others
+invariant-loop-others g l = record {
+  came : List ℕ;
+  given : List MeantEvent;
+  followed : HasFollowed l.fn.role l.fn.limits l.fn.first l.first l.events came given;
+  other_came : List ℕ;
+  other_given : List MeantEvent;
+  other_followed : HasFollowed l.fn.role l.fn.limits l.fn.second l.second l.others other_came other_given;
+  difference : IsDifferenceSoFar l.events l.others l.index given other_given l.difference;
+  rounds : l.index + (pending l.events + pending l.others) ≤ 2 ^ 50;
+}
+
+abbrev pub decreases-loop-others : goal.decreases-loop-others
+decreases-loop-others g l = pending l.events + pending l.others

@@ -1,0 +1,5 @@
+use Rattle.wsn_events.proofs.WholeComparisons.{one_answer}
+use Rattle.wsn_events.proofs.laws.law_one_comparison.Goals as goal
+
+pub returns : goal.returns
+returns c = one_answer

@@ -1,0 +1,109 @@
+-- What comparing two streams of one role answers: whether both are accepted, and whether they mean the same.
+use Rattle.std.specs.Prelude.{◌≡◌, ◌≢◌, ℕ, ◌+◌, ◌⊎◌, true, false, Option, None, Some, Result, Ok, Err, List, take, slice_get, ⊤}
+use Rattle.wsn_wire.specs.declared.endpoint.Role.{Role}
+use Rattle.wsn_wire.specs.Frame.{Frame}
+use Rattle.wsn_io.specs.Transfer.{Incoming, IsReceived}
+use Rattle.wsn_rules.specs.declared.verdict.Summary.{Summary}
+use Rattle.wsn_rules.specs.declared.verdict.Verdict.{Verdict}
+use Rattle.wsn_rules.specs.declared.verdict.Verdict.TheVariants.{Accepted}
+use Rattle.wsn_io.specs.declared.stop.Stop.{Stop}
+use Rattle.wsn_rules.specs.Limits.{Limits}
+use Rattle.wsn_rules.specs.Accepted.{IsAccepted}
+use Rattle.wsn_rules.specs.Meaning.{MeantEvent, meaning}
+use Rattle.wsn_rules.specs.Verdict.{IsVerdict}
+use Rattle.wsn_rules.specs.declared.compared.Compared.{Compared}
+use Rattle.wsn_rules.specs.declared.compared.Compared.TheVariants.{Equal, Different, NotAccepted}
+use Rattle.wsn_events.specs.declared.comparing.Round.{Round}
+use Rattle.wsn_events.specs.declared.comparing.Round.TheVariants.{Alike, Unlike, Over}
+use Rattle.wsn_events.specs.declared.source.Next.{Next}
+use Rattle.wsn_events.specs.declared.source.Next.TheVariants as nexts
+use Rattle.wsn_events.specs.EventsMeant.{meant}
+use Rattle.wsn_events.specs.Sources.{IsLast, IsHalted}
+
+-- The first k events are the same, and then the lists differ: in the next event, or one list has ended.
+pub record DifferAt (k : ℕ) (events others : List MeantEvent) : Type 0 where
+  pub alike : take k events ≡ take k others
+  pub there : slice_get events k ≢ slice_get others k
+
+-- The index at which two lists differ first; none if they are equal.
+abbrev pub IsFirstDifference : Option ℕ → List MeantEvent → List MeantEvent → Type 0
+IsFirstDifference None events others = events ≡ others
+IsFirstDifference (Some k) events others = DifferAt k events others
+
+-- The round that two results make: the same event, two results that differ, or both verdicts.
+abbrev pub IsRoundOf : {A : Type 0} → Next A → Next A → Round → Type 0
+IsRoundOf (nexts.Event event) (nexts.Event other) Alike = meant event ≡ meant other
+IsRoundOf (nexts.Event event) (nexts.Event other) Unlike = meant event ≢ meant other
+IsRoundOf (nexts.Event event) (nexts.Done verdict) Unlike = ⊤
+IsRoundOf (nexts.Done verdict) (nexts.Event event) Unlike = ⊤
+IsRoundOf (nexts.Done verdict) (nexts.Done other) (Over v w) = (v ≡ verdict) × (w ≡ other)
+IsRoundOf next other round = ⊥
+
+-- The verdict is accepted.
+abbrev pub IsAnAccepted : Verdict → Type 0
+IsAnAccepted (Accepted summary) = ⊤
+IsAnAccepted verdict = ⊥
+
+-- The stream was read to its verdict, which accepts the bytes that came, and these are its events.
+abbrev pub IsAcceptedOf : Role → Limits → Incoming → List ℕ → List MeantEvent → Type 0
+IsAcceptedOf role limits new came events =
+    (summary : Summary) × IsLast role limits new came events (Ok (Accepted summary))
+
+-- The stream was read to this verdict.
+abbrev pub HasVerdict : Role → Limits → Incoming → List ℕ → Verdict → Type 0
+HasVerdict role limits new came verdict = (events : List MeantEvent) × IsLast role limits new came events (Ok verdict)
+
+-- The stream stopped before its verdict.
+abbrev pub HasStopped : Role → Limits → Incoming → List ℕ → Stop → Type 0
+HasStopped role limits new came stop = (events : List MeantEvent) × IsHalted role limits new came events stop
+
+-- The answer is right for the bytes that came of both streams. With a verdict on each, it is the first that isn't
+-- accepted, or else whether the events are equal or where they differ first. A stop is one of the streams'.
+abbrev pub IsComparison : Role → Limits → Incoming → List ℕ → Incoming → List ℕ → Result Compared Stop → Type 0
+IsComparison role limits new came other_new other_came (Ok Equal) =
+    (events : List MeantEvent) × (others : List MeantEvent)
+    × IsAcceptedOf role limits new came events × IsAcceptedOf role limits other_new other_came others
+    × (events ≡ others)
+IsComparison role limits new came other_new other_came (Ok (Different k)) =
+    (events : List MeantEvent) × (others : List MeantEvent)
+    × IsAcceptedOf role limits new came events × IsAcceptedOf role limits other_new other_came others
+    × DifferAt k events others
+IsComparison role limits new came other_new other_came (Ok (NotAccepted false verdict)) =
+    HasVerdict role limits new came verdict × (IsAnAccepted verdict → ⊥)
+    × ((other : Verdict) × HasVerdict role limits other_new other_came other)
+IsComparison role limits new came other_new other_came (Ok (NotAccepted true verdict)) =
+    ((summary : Summary) × HasVerdict role limits new came (Accepted summary))
+    × HasVerdict role limits other_new other_came verdict × (IsAnAccepted verdict → ⊥)
+IsComparison role limits new came other_new other_came (Err stop) =
+    HasStopped role limits new came stop ⊎ HasStopped role limits other_new other_came stop
+
+-- The answer is right for these verdicts and this first difference, whatever streams have them.
+abbrev pub IsComparisonOutcome : Verdict → Verdict → Option ℕ → Compared → Type 0
+IsComparisonOutcome verdict other difference answer =
+    (role : Role) (limits : Limits) (new : Incoming) (came : List ℕ) (events : List MeantEvent) (other_new : Incoming)
+    (other_came : List ℕ) (others : List MeantEvent) →
+    IsLast role limits new came events (Ok verdict) → IsLast role limits other_new other_came others (Ok other) →
+    IsFirstDifference difference events others → IsComparison role limits new came other_new other_came (Ok answer)
+
+-- These bytes came of each stream, at most one past its limit, and the answer is right for them.
+pub record IsCompared (role : Role) (limits : Limits) (old new other_old other_new : Incoming)
+    (result : Result Compared Stop) : Type 0 where
+  pub came : List ℕ
+  pub received : IsReceived (limits.input + 1) old new came
+  pub other_came : List ℕ
+  pub other_received : IsReceived (limits.input + 1) other_old other_new other_came
+  pub answer : IsComparison role limits new came other_new other_came result
+
+-- The answer is right for two streams with all of these bytes.
+abbrev pub IsComparisonOf : Role → Limits → List ℕ → List ℕ → Compared → Type 0
+IsComparisonOf role limits bytes others Equal =
+    (fs : List Frame) × (gs : List Frame) × IsAccepted role limits bytes fs × IsAccepted role limits others gs
+    × (meaning fs ≡ meaning gs)
+IsComparisonOf role limits bytes others (Different k) =
+    (fs : List Frame) × (gs : List Frame) × IsAccepted role limits bytes fs × IsAccepted role limits others gs
+    × DifferAt k (meaning fs) (meaning gs)
+IsComparisonOf role limits bytes others (NotAccepted false verdict) =
+    ((fs : List Frame) × IsVerdict role limits bytes fs verdict) × (IsAnAccepted verdict → ⊥)
+IsComparisonOf role limits bytes others (NotAccepted true verdict) =
+    ((fs : List Frame) × IsAccepted role limits bytes fs)
+    × ((gs : List Frame) × IsVerdict role limits others gs verdict) × (IsAnAccepted verdict → ⊥)

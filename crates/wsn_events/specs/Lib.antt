@@ -1,0 +1,10 @@
+-- for callers and private functions
+pub mod EventsMeant
+pub mod Reassembly
+pub mod Sources
+pub mod EventReaders
+pub mod TakenEvents
+pub mod Comparing
+pub mod Normalised
+-- for the clauses in src/
+pub mod Words

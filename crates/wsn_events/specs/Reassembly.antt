@@ -1,0 +1,43 @@
+-- What an event source keeps: the open message so far, and the frame that has begun.
+use Rattle.std.specs.Prelude.{◌≡◌, ◌≢◌, ℕ, ◌≤◌, true, false, Option, None, Some, List, [], ◌++◌, length}
+use Rattle.wsn_wire.specs.declared.opcode.Op.{Op}
+use Rattle.wsn_wire.specs.declared.opcode.Op.TheVariants as ops
+use Rattle.wsn_wire.specs.declared.opcode.Kind.{Kind}
+use Rattle.wsn_wire.specs.declared.opcode.Kind.TheVariants as kinds
+use Rattle.wsn_wire.specs.Frame.{Frame, is_control}
+use Rattle.wsn_scan.specs.ReportedFrames.{Position, BetweenFrames, InFrame}
+use Rattle.wsn_rules.specs.Group.{unfinished, kind_of, payload_of}
+use Rattle.wsn_rules.specs.Meaning.{event_at}
+use Rattle.wsn_events.specs.declared.event.Event.{Event}
+use Rattle.wsn_events.specs.declared.reassembly.Reassembly.{Reassembly}
+use Rattle.wsn_events.specs.EventsMeant.{meant}
+
+-- The kind is the open message's, if one is open.
+abbrev pub IsKindOf : Kind → List Frame → Type 0
+IsKindOf k group = group ≢ [] → k ≡ kind_of group
+
+-- Between frames, the open message is the joined payload of its frames so far.
+pub record IsBetweenFrames {A : Type 0} (g : Reassembly A) (done : List Frame) : Type 0 where
+  pub message : g.message.items ≡ payload_of (unfinished done)
+  pub kind : IsKindOf g.kind (unfinished done)
+
+-- In a frame with this opcode and this payload so far: a control's payload of at most 125 bytes is kept apart, and a
+-- data frame's is appended to the open message.
+pub record IsInFrame {A : Type 0} (g : Reassembly A) (done : List Frame) (o : Op) (payload : List ℕ) : Type 0 where
+  pub op : g.op ≡ o
+  pub of_control : is_control o ≡ true → IsBetweenFrames g done
+  pub body : is_control o ≡ true → length payload ≤ 125 → g.body.items ≡ payload
+  pub message : is_control o ≡ false → g.message.items ≡ payload_of (unfinished done) ++ payload
+  pub text : o ≡ ops.Text → g.kind ≡ kinds.Text
+  pub binary : o ≡ ops.Binary → g.kind ≡ kinds.Binary
+  pub continued : o ≡ ops.Continue → IsKindOf g.kind (unfinished done)
+
+-- After the frames that are done, at this position.
+abbrev pub IsReassembled : {A : Type 0} → Reassembly A → List Frame → Position → Type 0
+IsReassembled g done BetweenFrames = IsBetweenFrames g done
+IsReassembled g done (InFrame info payload) = IsInFrame g done info.op payload
+
+-- The event that the frame ends after those that are done; none if the frame isn't final.
+abbrev pub IsEventOf : {A : Type 0} → List Frame → Frame → Option (Event A) → Type 0
+IsEventOf done f None = f.fin ≡ false
+IsEventOf done f (Some event) = (f.fin ≡ true) × (meant event ≡ event_at done f)

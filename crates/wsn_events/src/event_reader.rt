@@ -1,0 +1,107 @@
+use crate::event::Event;
+use crate::reassembly::Reassembly;
+use crate::source::Next;
+use std::alloc::Allocator;
+use std::io::Read;
+use wsn_scan::{Limits, NextNotice, NoticeReader, Stop, Verdict};
+use wsn_wire::{Input, Role};
+
+/// The state of an event source: its reader, the open message so far, and the answer that it has ended with.
+#[derive(Drop)]
+pub struct EventReader<A: Allocator> {
+    reader: NoticeReader,
+    reassembly: Reassembly<A>,
+    answer: Option<Result<Verdict, Stop>>,
+}
+
+impl<A: Allocator + Copy> EventReader<A> {
+    ghost use Rattle.std.specs.Prelude.{◌≡◌, ℕ, ◌<◌, ◌≤◌, List, [], None, Some, true, false};
+    ghost use Rattle.wsn_events.specs.Words.{Role, MeantEvent, HasGiven, IsAtWork, GoesOn, IsEvent, answered, held_of, readings_left, next_of, TakesEventsAfter, held_bytes};
+
+    /// A source that has read nothing.
+    #[tactic(none)]
+    pub fn new(alloc: A, role: Role, limits: Limits) -> Self
+        ensures { HasGiven role limits result [] [] }
+    {
+        EventReader {
+            reader: NoticeReader::new(role, limits),
+            reassembly: Reassembly::new(alloc),
+            answer: None,
+        }
+    }
+
+    /// How many bytes of the open message it holds.
+    #[tactic(none)]
+    pub fn held(&self) -> usize
+        ensures { result ≡ held_of self.now }
+    {
+        self.reassembly.held()
+    }
+
+    /// The verdict or stop that it has ended with, if it has ended.
+    pub fn answer(&self) -> Option<Result<Verdict, Stop>>
+        ensures { result ≡ answered self.now }
+    {
+        self.answer
+    }
+
+    /// Reads on to the next event, or to the end.
+    #[tactic(none)]
+    pub fn next<R: Read>(&mut self, input: &mut Input<R>) -> Result<Next<A>, Stop>
+        requires begun { IsAtWork self.old }
+        requires readable { input.old.failed ≡ false }
+        ensures next { (role : Role) (limits : _) (came : List ℕ) (given : List MeantEvent) →
+            HasGiven role limits self.old came given →
+            GoesOn role limits input.old input.new self.new came given result }
+        ensures falls { IsEvent result → readings_left self.new < readings_left self.old }
+        ensures sound { answered self.new ≡ None → IsEvent result }
+    {
+        loop {
+            match self.reader.next(input) {
+                Ok(NextNotice::Head(head)) => self.reassembly.begin(head.op),
+                Ok(NextNotice::Payload) => {
+                    if !self.reassembly.take(self.reader.payload()) {
+                        return self.finish(Err(Stop::Memory));
+                    }
+                }
+                Ok(NextNotice::FrameEnd { event }) => {
+                    if let Some(event) = self.reassembly.end(event) {
+                        return Ok(Next::Event(event));
+                    }
+                }
+                Ok(NextNotice::Done(verdict)) => return self.finish(Ok(verdict)),
+                Err(stop) => return self.finish(Err(stop)),
+            }
+        }
+    }
+
+    /// Takes the events of the frames that come next, as [`NoticeReader::take_events`] does, and returns whether there
+    /// are any. [`EventReader::taken`] then returns their normal form.
+    pub fn take_events(&mut self) -> bool
+        requires { IsAtWork self.old }
+        ensures taken { result ≡ true → (role : Role) (limits : _) (came : List ℕ) (given : List MeantEvent) →
+            HasGiven role limits self.old came given → TakesEventsAfter role limits self.new came given }
+        ensures none { result ≡ false → self.new ≡ self.old }
+        ensures left { readings_left self.new ≤ readings_left self.old }
+    {
+        self.reader.take_events()
+    }
+
+    /// The normal form of the events that were taken last.
+    pub fn taken(&self) -> &[u8]
+        ensures { result.now ≡ held_bytes self.now }
+    {
+        self.reader.payload()
+    }
+
+    /// Ends the source with this answer, and frees the open message.
+    fn finish(&mut self, answer: Result<Verdict, Stop>) -> Result<Next<A>, Stop>
+        ensures answer { answered self.new ≡ Some answer }
+        ensures held { held_of self.new ≡ 0 }
+        ensures result { result ≡ next_of answer }
+    {
+        self.reassembly.release();
+        self.answer = Some(answer);
+        Ok(Next::Done(answer?))
+    }
+}

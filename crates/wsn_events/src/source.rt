@@ -1,0 +1,97 @@
+ghost use Rattle.std.specs.Prelude.{◌≡◌, ℕ, ◌<◌, ◌≤◌, List, [], None, Some, Result, true, false};
+ghost use Rattle.wsn_events.specs.declared.event_reader.EventReader.{EventReader};
+ghost use Rattle.wsn_events.specs.EventReaders.{HasBegunOrEnded};
+
+use crate::event::Event;
+use crate::event_reader::EventReader;
+use std::alloc::{Allocator, Global};
+use std::io::Read;
+use std::marker::Model;
+use wsn_scan::{Limits, Stop, Verdict};
+use wsn_wire::{Input, Role};
+
+/// What [`Source::next`] returns.
+#[derive(Drop)]
+pub enum Next<A: Allocator = Global> {
+    /// The next event.
+    Event(Event<A>),
+    /// The input's verdict. No event comes after it.
+    Done(Verdict),
+}
+
+/// Reads the events of a stream in order, each at the frame that ends it (RFC 6455 section 5.4), and then its verdict.
+/// It holds the open message and at most 4,096 bytes of the input, and nothing else of the stream.
+#[derive(Drop)]
+pub struct Source<A: Allocator = Global> {
+    reading: EventReader<A>,
+}
+
+impl<A: Allocator> Model for Source<A> {
+    ghost Value = { EventReader A };
+
+    ghost view = { λ s. s.reading };
+
+    ghost invariant = { λ s. HasBegunOrEnded s.reading };
+}
+
+impl<A: Allocator + Copy> Source<A> {
+    ghost use Rattle.wsn_events.specs.Words.{Role, MeantEvent, Verdict, Stop, HasGiven, GoesOn, IsEvent, answered, held_of, readings_left, next_of, TakesEventsAfter, held_bytes};
+
+    /// A source that has read nothing. `role` is the endpoint that sent the stream. It allocates no memory.
+    pub fn new(alloc: A, role: Role, limits: Limits) -> Self
+        ensures { HasGiven role limits result [] [] }
+    {
+        Source {
+            reading: EventReader::new(alloc, role, limits),
+        }
+    }
+
+    /// How many bytes of the open message it holds: at most the message limit.
+    pub fn held(&self) -> usize
+        ensures { result ≡ held_of self.now }
+    {
+        self.reading.held()
+    }
+
+    /// Reads on from the input and returns the next event, or the verdict if there is none.
+    ///
+    /// Errors: `Read` if the reader fails, and `InputLimit` if a byte past the input limit comes; either comes after
+    /// the events that end in the bytes within the limit. `Memory` if an allocation for a message fails. After a
+    /// verdict or an error, each call returns it again, reads nothing and changes nothing.
+    #[tactic(none)]
+    pub fn next<R: Read>(&mut self, input: &mut Input<R>) -> Result<Next<A>, Stop>
+        requires readable { answered self.old ≡ None → input.old.failed ≡ false }
+        ensures next { (role : Role) (limits : _) (came : List ℕ) (given : List MeantEvent) →
+            HasGiven role limits self.old came given →
+            GoesOn role limits input.old input.new self.new came given result }
+        ensures falls { IsEvent result → readings_left self.new < readings_left self.old }
+        ensures again { (answer : Result Verdict Stop) → answered self.old ≡ Some answer →
+            (result ≡ next_of answer) × (self.new ≡ self.old) × (input.new ≡ input.old) }
+        ensures sound { answered self.new ≡ None → IsEvent result }
+    {
+        match self.reading.answer() {
+            Some(answer) => Ok(Next::Done(answer?)),
+            None => self.reading.next(input),
+        }
+    }
+
+    /// Takes the events of the frames that come next and are whole in the chunk that was read last, up to the first
+    /// frame that isn't an event by itself or has no payload, and returns whether there are any. [`Source::taken`] then
+    /// returns their normal form. It reads nothing. The source must not have ended.
+    pub(crate) fn take_events(&mut self) -> bool
+        requires { answered self.old ≡ None }
+        ensures taken { result ≡ true → (role : Role) (limits : _) (came : List ℕ) (given : List MeantEvent) →
+            HasGiven role limits self.old came given → TakesEventsAfter role limits self.new came given }
+        ensures none { result ≡ false → self.new ≡ self.old }
+        ensures left { readings_left self.new ≤ readings_left self.old }
+    {
+        self.reading.take_events()
+    }
+
+    /// The normal form of the events that were taken last.
+    pub(crate) fn taken(&self) -> &[u8]
+        ensures { result.now ≡ held_bytes self.now }
+    {
+        self.reading.taken()
+    }
+}

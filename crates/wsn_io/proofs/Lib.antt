@@ -1,0 +1,3 @@
+mod Prefixes
+pub mod PutTexts
+pub mod Received

@@ -1,0 +1,47 @@
+-- The states of an input and of an output, and what it means that bytes were received or written.
+use Rattle.std.specs.Prelude.{◌≡◌, ℕ, ◌+◌, ◌≤◌, ◌⊎◌, Bool, true, false, List, Option, length, take}
+use Rattle.std.specs.Io.KnownBytes.{Appends, Consumes, Keeps}
+
+-- An input: the bytes that its reader will give, if they are known; how many bytes have come from the reader; and
+-- whether a read has failed.
+pub record Incoming : Type 0 where
+  pub remaining : Option (List ℕ)
+  pub count : ℕ
+  pub failed : Bool
+
+-- An output: the bytes that its writer holds, if they are known, and whether a write has failed.
+pub record Outgoing : Type 0 where
+  pub written : Option (List ℕ)
+  pub failed : Bool
+
+-- ---- received bytes
+
+-- These bytes came from the input. Whether its reader's bytes are known or not, it has counted them.
+pub record IsConsumed (old new : Incoming) (came : List ℕ) : Type 0 where
+  pub consumed : Consumes old.remaining new.remaining came
+  pub counted : new.count ≡ old.count + length came
+
+-- No byte came from the input.
+abbrev pub IsKept : Incoming → Incoming → Type 0
+IsKept old new = Keeps old.remaining new.remaining × (new.count ≡ old.count)
+
+-- These bytes came from the input, at most `most` of them.
+pub record IsReceived (most : ℕ) (old new : Incoming) (came : List ℕ) : Type 0 where
+  pub consumed : Consumes old.remaining new.remaining came
+  pub counted : new.count ≡ old.count + length came
+  pub few : length came ≤ most
+
+-- ---- written bytes
+
+-- All these bytes were written, and no write has failed.
+abbrev pub IsWritten : Outgoing → Outgoing → List ℕ → Type 0
+IsWritten before after bytes = (after.failed ≡ false) × Appends before.written after.written bytes
+
+-- A prefix of these bytes was written, and then a write failed.
+abbrev pub IsPartlyWritten : Outgoing → Outgoing → List ℕ → Type 0
+IsPartlyWritten before after bytes =
+    (after.failed ≡ true) × ((k : ℕ) × Appends before.written after.written (take k bytes))
+
+-- All these bytes were written, or a prefix of them before a write failed.
+abbrev pub IsWrittenUpToFailure : Outgoing → Outgoing → List ℕ → Type 0
+IsWrittenUpToFailure before after bytes = IsWritten before after bytes ⊎ IsPartlyWritten before after bytes

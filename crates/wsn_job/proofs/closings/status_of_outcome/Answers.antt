@@ -1,8 +1,0 @@
-use Rattle.std.proofs.Common.{rules}
-use Rattle.wsn_job.proofs.closings.status_of_outcome.Goals as goal
-
-pub returns-in-Clean : goal.returns-in-Clean
-returns-in-Clean c = search rules
-
-pub returns-in-Failed : goal.returns-in-Failed
-returns-in-Failed c = search rules

@@ -1,0 +1,20 @@
+use Rattle.std.proofs.Common.{rules}
+use Rattle.wsn_job.proofs.comparisons.print_comparison.Goals as goal
+
+pub returns : goal.returns
+returns g c = search rules
+
+pub same-requires-clause-first : goal.same-requires-clause-first
+same-requires-clause-first g c = search rules
+
+pub same-requires-clause-second : goal.same-requires-clause-second
+same-requires-clause-second g c = search rules
+
+pub returns-in_err-compared : goal.returns-in_err-compared
+returns-in_err-compared g c = search rules
+
+pub put_compared-requires : goal.put_compared-requires
+put_compared-requires g c = search rules
+
+pub returns-in_err-put_compared : goal.returns-in_err-put_compared
+returns-in_err-put_compared g c = search rules

@@ -1,0 +1,8 @@
+use Rattle.std.proofs.Common.{rules}
+use Rattle.wsn_job.proofs.diagnostics.diagnose.Goals as goal
+
+pub returns-then-not-failed : goal.returns-then-not-failed
+returns-then-not-failed g c = search rules
+
+pub returns-else-not-failed : goal.returns-else-not-failed
+returns-else-not-failed g c = search rules

@@ -1,0 +1,15 @@
+-- What is written to standard error.
+use Rattle.std.specs.Prelude.{◌≡◌, ℕ, true, false, Result, Ok, Err, List}
+use Rattle.wsn_io.specs.Transfer.{Outgoing, IsWrittenUpToFailure}
+use Rattle.wsn_io.specs.declared.stop.Stop.{Stop}
+use Rattle.wsn_print.specs.StopText.{stop_line}
+
+-- The line was written, or a prefix of it if a write failed; nothing was, if a write had failed before.
+pub record IsDiagnosed (old new : Outgoing) (line : List ℕ) : Type 0 where
+  pub works : old.failed ≡ false → IsWrittenUpToFailure old new line
+  pub failed : old.failed ≡ true → new ≡ old
+
+-- A stop is reported in its line; without a stop nothing is written.
+abbrev pub IsStopDiagnosed : {A : Type 0} → Result A Stop → Outgoing → Outgoing → Type 0
+IsStopDiagnosed (Ok done) old new = new ≡ old
+IsStopDiagnosed (Err stopped) old new = IsDiagnosed old new (stop_line stopped)

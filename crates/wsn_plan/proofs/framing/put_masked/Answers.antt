@@ -1,0 +1,29 @@
+use Rattle.std.proofs.Common.{ap, ◌∙◌, rules}
+use Rattle.wsn_frame.specs.Payloads.{unmasked_by}
+use Rattle.wsn_frame.proofs.PayloadMore.{unmasked_by-twice}
+use Rattle.wsn_plan.proofs.MaskedPayloads.{masked_is}
+use Rattle.wsn_plan.proofs.framing.put_masked.Goals as goal
+
+pub returns-clause-put : goal.returns-clause-put
+returns-clause-put g c = c.put_frame-done.ensures c.args.payload.now (c.unmask.ensures ∙ masked_is c.args.key c.args.payload.now)
+
+pub returns-clause-same : goal.returns-clause-same
+returns-clause-same g c = c.unmask-2.ensures ∙ ap (unmasked_by c.args.key 0) c.unmask.ensures ∙ unmasked_by-twice c.args.key 0 c.args.payload.now
+
+pub unmask-requires : goal.unmask-requires
+unmask-requires g c = search rules
+
+pub unmask-requires-2 : goal.unmask-requires-2
+unmask-requires-2 g c = search rules
+
+pub put_frame-done-requires-clause-unfailed : goal.put_frame-done-requires-clause-unfailed
+put_frame-done-requires-clause-unfailed g c = search rules
+
+pub put_frame-done-requires-clause-size : goal.put_frame-done-requires-clause-size
+put_frame-done-requires-clause-size g c = search rules
+
+pub put_frame-done-requires-clause-control : goal.put_frame-done-requires-clause-control
+put_frame-done-requires-clause-control g c = search rules
+
+pub put_frame-done-requires-clause-fits : goal.put_frame-done-requires-clause-fits
+put_frame-done-requires-clause-fits g c = search rules

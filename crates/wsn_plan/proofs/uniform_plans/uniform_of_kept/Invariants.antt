@@ -1,0 +1,12 @@
+use Rattle.std.proofs.Common.{◌≡◌, ◌≤◌, ◌++◌, map, drop}
+use Rattle.wsn_rules.specs.UniformPlan.{uniform_plan}
+use Rattle.wsn_plan.specs.KeptEvents.{kept_meant}
+use Rattle.wsn_plan.proofs.UniformSteps.{plan_after}
+use Rattle.wsn_plan.proofs.uniform_plans.uniform_of_kept.Given as goal
+
+-- The whole plan is the plan so far, and then that of the counted controls and the events that are left.
+abbrev pub invariant-loop-event : goal.invariant-loop-event
+invariant-loop-event g l = record {
+  few : l.controls ≤ l.event-index;
+  plan : uniform_plan l.size l.weave l.key (map kept_meant l.events) ≡ l.plan ++ plan_after l.size l.weave l.key l.controls (drop l.event-index (map kept_meant l.events));
+}

@@ -1,0 +1,49 @@
+ghost use Rattle.std.specs.Prelude.{◌≡◌, ◌++◌, IfSome};
+ghost use Rattle.std.specs.Int.{to_be_bytes, w16};
+ghost use Rattle.wsn_rules.specs.Meaning as meant_event;
+ghost use Rattle.wsn_events.specs.EventsMeant.{meant};
+ghost use Rattle.wsn_plan.specs.KeptEvents.{kept_meant};
+
+use std::alloc::Allocator;
+use wsn_events::Event;
+use wsn_wire::{Kind, Op};
+
+/// An event that is kept until the whole input is read: 32 bytes beside its payload, where an [`Event`] has room for the
+/// largest body of a control.
+#[derive(Drop)]
+pub(crate) enum Kept<A: Allocator> {
+    /// A message: its kind and its bytes.
+    Message(Kind, Vec<u8, A>),
+    /// A control: its opcode and its body.
+    Control(Op, Vec<u8, A>),
+}
+
+/// The event, to be kept; `None` if an allocation fails. An empty body needs no memory.
+pub(crate) fn to_keep<A: Allocator>(alloc: A, event: Event<A>) -> Option<Kept<A>>
+    ensures { IfSome result (λ kept. kept_meant kept ≡ meant event) }
+{
+    match event {
+        Event::Message(kind, text) => Some(Kept::Message(kind, text)),
+        Event::Ping(body) => control(alloc, Op::Ping, &body),
+        Event::Pong(body) => control(alloc, Op::Pong, &body),
+        Event::Close(None) => control(alloc, Op::Close, &[]),
+        Event::Close(Some((code, reason))) => close(alloc, code, &reason),
+    }
+}
+
+/// A control with this body.
+fn control<A: Allocator>(alloc: A, op: Op, body: &[u8]) -> Option<Kept<A>>
+    ensures { IfSome result (λ kept. kept_meant kept ≡ meant_event.Control op body.now) }
+{
+    let body = body.to_vec(alloc).ok()?;
+    Some(Kept::Control(op, body))
+}
+
+/// A Close with this code and this reason (RFC 6455 section 5.5.1).
+fn close<A: Allocator>(alloc: A, code: u16, reason: &[u8]) -> Option<Kept<A>>
+    ensures { IfSome result (λ kept. kept_meant kept ≡ meant_event.Control Op.Close (to_be_bytes w16 code ++ reason.now)) }
+{
+    let mut body = code.to_be_bytes().to_vec(alloc).ok()?;
+    body.extend_from_slice(reason).ok()?;
+    Some(Kept::Control(Op::Close, body))
+}

@@ -1,0 +1,2 @@
+pub mod ReportTexts
+pub mod ComputedHeads

@@ -1,0 +1,23 @@
+use Rattle.std.proofs.Common.{rules}
+use Rattle.wsn_print.proofs.faults.line_of_recut_fault.Goals as goal
+
+pub returns : goal.returns
+returns c = search rules
+
+pub new-line-requires : goal.new-line-requires
+new-line-requires c = search rules
+
+pub push-requires : goal.push-requires
+push-requires c = search rules
+
+pub push_number-requires : goal.push_number-requires
+push_number-requires c = search rules
+
+pub push-requires-2 : goal.push-requires-2
+push-requires-2 c = search rules
+
+pub push-requires-3 : goal.push-requires-3
+push-requires-3 c = search rules
+
+pub push-requires-4 : goal.push-requires-4
+push-requires-4 c = search rules

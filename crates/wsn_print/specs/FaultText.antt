@@ -1,0 +1,16 @@
+-- The lines of faults, each with its LF: of a plan that doesn't fit, of a stream without a plan, of a line of a text.
+use Rattle.std.specs.Prelude.{ℕ, List, ◌++◌, codes, decimal}
+use Rattle.wsn_rules.specs.declared.why.Why.{Why}
+use Rattle.wsn_rules.specs.Fault.{why_word}
+
+-- A recut's fault, where the plan doesn't fit: the number of the faulty step, from 0, and the reason.
+abbrev pub recut_fault_line : ℕ → Why → List ℕ
+recut_fault_line step why = codes "fault " ++ decimal step ++ codes " " ++ why_word why ++ codes "\n"
+
+-- There is no plan: the Close interrupts a message.
+abbrev pub unfinished_line : List ℕ
+unfinished_line = codes "unfinished\n"
+
+-- A faulty line of a text: its number, from 1, and the word of its fault.
+abbrev pub line_fault_line : ℕ → List ℕ → List ℕ
+line_fault_line number word = codes "line " ++ decimal number ++ codes ": " ++ word ++ codes "\n"

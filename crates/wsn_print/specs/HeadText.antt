@@ -1,0 +1,14 @@
+-- The line of a frame's head, with its LF.
+use Rattle.std.specs.Prelude.{ℕ, List, ◌++◌, flat_map, codes, decimal}
+use Rattle.wsn_rules.specs.declared.head_info.HeadInfo.{HeadInfo}
+use Rattle.wsn_print.specs.Fields.{fin_word, op_word, key_text, form_text}
+
+-- The frame's offset, FIN, the opcode, the key, and the payload's length with its form.
+abbrev pub head_line : HeadInfo → List ℕ
+head_line h =
+    decimal h.place ++ codes " " ++ fin_word h.fin ++ codes " " ++ op_word h.op ++ codes " " ++ key_text h.key
+    ++ codes " " ++ decimal h.len ++ form_text h.form ++ codes "\n"
+
+-- The lines of heads, in order.
+abbrev pub head_lines : List HeadInfo → List ℕ
+head_lines heads = flat_map head_line heads

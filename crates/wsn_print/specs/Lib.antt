@@ -1,0 +1,11 @@
+-- Definitions of printed lines and of exit statuses, in reading order.
+pub mod Fields
+pub mod VerdictText
+pub mod HeadText
+pub mod ReportText
+pub mod ComparisonText
+pub mod FaultText
+pub mod StopText
+pub mod Statuses
+-- for the examples
+pub mod Examples

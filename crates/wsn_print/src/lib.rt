@@ -1,0 +1,30 @@
+//! The lines of answers: verdicts, frames, comparisons, reports, faults and stops. Each has a definition in `specs/` and
+//! a function. (A plan's text is in `wsn_plan_text`.)
+//!
+//! [`put_verdict`] writes the line of a verdict, [`put_head`] the line of a frame, [`put_compared`] the line of a
+//! comparison, and [`put_report`] the seven lines of a report. The lines of faults and stops are built as a [`Line`], a
+//! text in a fixed array. The `status_of_..` functions return the exit status of an answer. Nothing here allocates.
+//!
+//! `specs/Fields.antt` defines the fields of lines; `VerdictText`, `HeadText`, `ReportText`, `ComparisonText`,
+//! `FaultText` and `StopText` define the lines, and `Statuses` the exit statuses. [`printed_lines`] has examples of
+//! printed lines, computed from the definitions.
+#![tactic(auto)]
+
+mod comparisons;
+mod faults;
+mod heads;
+mod line;
+pub mod printed_lines;
+mod reports;
+mod statuses;
+mod stops;
+mod verdicts;
+
+pub use comparisons::put_compared;
+pub use faults::{line_of_line_fault, line_of_recut_fault, line_of_unfinished};
+pub use heads::put_head;
+pub use line::Line;
+pub use reports::put_report;
+pub use statuses::{status_of_comparison, status_of_outcome, status_of_verdict};
+pub use stops::line_of_stop;
+pub use verdicts::put_verdict;

@@ -1,0 +1,120 @@
+ghost use Rattle.std.specs.Prelude.{◌≡◌, ℕ, ◌+◌, ◌≤◌, List, [], ◌++◌, length, decimal};
+ghost use Rattle.wsn_print.specs.Fields.{number_text, refusal_text, key_text, form_text};
+
+use arrayvec::ArrayVec;
+use itoa::Buffer;
+use std::marker::Model;
+use wsn_rules::Refusal;
+use wsn_wire::Form;
+
+/// A line that is being built: its bytes so far, at most `MAX`.
+#[derive(Drop)]
+pub struct Line<const MAX: usize> {
+    text: ArrayVec<u8, MAX>,
+}
+
+impl<const MAX: usize> Model for Line<MAX> {
+    ghost Value = { List ℕ };
+
+    ghost view = { λ line. line.text.items };
+}
+
+impl<const MAX: usize> Line<MAX> {
+    /// An empty line.
+    #[tactic(none)]
+    pub fn new() -> Self
+        ensures { result ≡ [] }
+    {
+        Line {
+            text: ArrayVec::new(),
+        }
+    }
+
+    /// The bytes so far.
+    #[tactic(none)]
+    pub fn bytes(&self) -> &[u8]
+        ensures { result.now ≡ self.now }
+    {
+        self.text.as_slice()
+    }
+
+    /// Appends a text.
+    #[tactic(none)]
+    pub fn push(&mut self, text: &str)
+        requires { length self.old + length text.now ≤ MAX }
+        ensures text { self.new ≡ self.old ++ text.now }
+        ensures len { length self.new ≡ length self.old + length text.now }
+    {
+        let _fits = self.text.try_extend_from_slice(text.as_bytes());
+    }
+
+    /// Appends a number in decimal digits, at most 20.
+    #[tactic(none)]
+    pub fn push_number(&mut self, n: u64)
+        requires { length self.old + 20 ≤ MAX }
+        ensures text { self.new ≡ self.old ++ decimal n }
+        ensures len { length self.new ≤ length self.old + 20 }
+    {
+        self.push(Buffer::new().format(n));
+    }
+
+    /// Appends a number in decimal digits, or a dash for `None`.
+    #[tactic(none)]
+    pub fn push_number_or_dash(&mut self, n: Option<u64>)
+        requires { length self.old + 20 ≤ MAX }
+        ensures text { self.new ≡ self.old ++ number_text n }
+        ensures len { length self.new ≤ length self.old + 20 }
+    {
+        match n {
+            Some(n) => self.push_number(n),
+            None => self.push("-"),
+        }
+    }
+
+    /// Appends a key's four bytes as eight lower-case hexadecimal digits, or a dash for `None`.
+    #[tactic(none)]
+    pub fn push_key(&mut self, key: Option<[u8; 4]>)
+        requires { length self.old + 8 ≤ MAX }
+        ensures text { self.new ≡ self.old ++ key_text key }
+        ensures len { length self.new ≤ length self.old + 8 }
+    {
+        let Some(key) = key else {
+            self.push("-");
+            return;
+        };
+        let mut digits = [0; 8];
+        let _fits = hex::encode_to_slice(key, &mut digits);
+        let _fits = self.text.try_extend_from_slice(&digits);
+    }
+
+    /// Appends ` two` or ` eight` for a length in a longer encoding, and nothing for the shortest (RFC 6455 section
+    /// 5.2).
+    #[tactic(none)]
+    pub fn push_form(&mut self, form: Form)
+        requires { length self.old + 6 ≤ MAX }
+        ensures text { self.new ≡ self.old ++ form_text form }
+        ensures len { length self.new ≤ length self.old + 6 }
+    {
+        match form {
+            Form::Shortest => {}
+            Form::Two => self.push(" two"),
+            Form::Eight => self.push(" eight"),
+        }
+    }
+
+    /// Appends a refusal: `refused`, the offset of the offending byte, the reason's word and the close code.
+    #[tactic(auto, using(crate::proofs::ReportTexts::word_short))]
+    pub fn push_refusal(&mut self, refusal: &Refusal)
+        requires { length self.old + 69 ≤ MAX }
+        ensures text { self.new ≡ self.old ++ refusal_text refusal.now }
+        ensures len { length self.new ≤ length self.old + 69 }
+    {
+        let reason = refusal.reason;
+        self.push("refused ");
+        self.push_number(refusal.place);
+        self.push(" ");
+        self.push(reason.word());
+        self.push(" ");
+        self.push_number(u64::from(reason.code()));
+    }
+}

@@ -1,0 +1,5 @@
+use Rattle.wsn_rules.proofs.ShownStreams.{shown_goes_on}
+use Rattle.wsn_rules.proofs.shown.law_shown_goes_on.Goals as goal
+
+pub returns : goal.returns
+returns c = shown_goes_on

@@ -1,0 +1,127 @@
+-- What is shown of a capture: with each of its lines, in order, what the line completes; then what is left over of both
+-- streams; then the report.
+use Rattle.std.specs.Prelude.{◌≡◌, ◌≢◌, ℕ, ◌≤◌, ◌⊎◌, true, false, nat_lt, Option, None, Some, List, [], ◌∷◌, ◌++◌, length, filter, map, codes}
+use Rattle.std.specs.List.{AllByRecursion, flat_map}
+use Rattle.wsn_wire.specs.declared.endpoint.Role.{Role}
+use Rattle.wsn_wire.specs.declared.endpoint.Role.TheVariants.{Client, Server}
+use Rattle.wsn_rules.specs.Limits.{Limits}
+use Rattle.wsn_rules.specs.Entries.{Entry, without_cr, AreEntries}
+use Rattle.wsn_rules.specs.Entries.Entry.{Nothing, Bytes, Mark}
+use Rattle.wsn_rules.specs.Sides.{sent, has_ended}
+use Rattle.wsn_rules.specs.Reports.{IsReportOf}
+use Rattle.wsn_rules.specs.declared.report.Report.{Report}
+use Rattle.wsn_rules.specs.ShownStream.{Item, Shown, IsShownStream, IsLeftOver}
+
+-- ---- times
+
+-- A decimal digit.
+abbrev pub IsDigit : ℕ → Type 0
+IsDigit b = (48 ≤ b) × (b ≤ 57)
+
+-- Seconds: digits without a leading zero, a point, and one to nine digits.
+pub record IsSeconds (text : List ℕ) : Type 0 where
+  pub whole : List ℕ
+  pub fraction : List ℕ
+  pub is : text ≡ whole ++ codes "." ++ fraction
+  pub whole_digits : AllByRecursion IsDigit whole
+  pub fraction_digits : AllByRecursion IsDigit fraction
+  pub some : 1 ≤ length whole
+  pub some_more : 1 ≤ length fraction
+  pub few : length fraction ≤ 9
+  pub no_leading_zero : (digit : ℕ) (following : List ℕ) → whole ≡ 48 ∷ digit ∷ following → ⊥
+
+-- The line is a comment that gives this time.
+abbrev pub IsTime : List ℕ → List ℕ → Type 0
+IsTime line seconds = (without_cr line ≡ codes "# " ++ seconds) × IsSeconds seconds
+
+-- The line gives no time.
+abbrev pub IsNoTime : List ℕ → Type 0
+IsNoTime line = (seconds : List ℕ) → IsTime line seconds → ⊥
+
+-- The time that holds after these lines: that of the last line that gives one; none if no line does.
+abbrev pub IsTimeAfter : List (List ℕ) → Option (List ℕ) → Type 0
+IsTimeAfter lines None = AllByRecursion IsNoTime lines
+IsTimeAfter lines (Some seconds) =
+    (before after : List (List ℕ)) × (line : List ℕ) × (lines ≡ before ++ line ∷ after) × IsTime line seconds
+    × AllByRecursion IsNoTime after
+
+-- ---- what a line shows
+
+-- What is shown of one line: an item of an endpoint's stream, the end of a stream with its number of bytes, or a comment.
+pub data LineItem : Type 0 where
+  OfStream : Role → Item → LineItem
+  End : Role → ℕ → LineItem
+  Comment : List ℕ → LineItem
+
+-- Items of an endpoint's stream.
+abbrev pub of_stream : Role → List Item → List LineItem
+of_stream role = map (OfStream role)
+
+-- The items that are shown with more than n bytes.
+abbrev pub beyond : ℕ → List Shown → List Item
+beyond n shown = map (λ s. s.item) (filter (λ s. nat_lt n s.after) shown)
+
+-- A comment is shown as it is; an empty line and a comment with a time aren't shown.
+abbrev pub IsShownNothing : List ℕ → List LineItem → Type 0
+IsShownNothing text items =
+    ((text ≢ []) × IsNoTime text × (items ≡ Comment text ∷ []))
+    ⊎ (((text ≡ []) ⊎ ((seconds : List ℕ) × IsTime text seconds)) × (items ≡ []))
+
+-- What a line shows whose text, without its CR, and whose entry are given, after lines with the entries `given`. Of the
+-- bytes of an endpoint, what is shown of its stream with these bytes and not without them.
+abbrev pub IsShownOfEntry : Limits → List Entry → List ℕ → Entry → List LineItem → Type 0
+IsShownOfEntry limits given text Nothing items = IsShownNothing text items
+IsShownOfEntry limits given text (Bytes role bytes) items = (shown : List Shown)
+    × IsShownStream role limits (sent role given ++ bytes) shown
+    × (items ≡ of_stream role (beyond (length (sent role given)) shown))
+IsShownOfEntry limits given text (Mark role) items = (left : List Item)
+    × IsLeftOver role limits (sent role given) left
+    × (items ≡ of_stream role left ++ End role (length (sent role given)) ∷ [])
+
+-- A line's items, and the time that holds for them.
+pub record ShownLine : Type 0 where
+  pub time : Option (List ℕ)
+  pub items : List LineItem
+
+-- After the lines `before`, which gave the entries `given`, these lines with these entries show this, one for each.
+abbrev pub AreShownAfter :
+    Limits → List (List ℕ) → List Entry → List (List ℕ) → List Entry → List ShownLine → Type 0
+AreShownAfter limits before given [] [] [] = Unit {0}
+AreShownAfter limits before given (line ∷ lines) (entry ∷ entries) (s ∷ shown) =
+    IsTimeAfter before s.time × IsShownOfEntry limits given (without_cr line) entry s.items
+    × AreShownAfter limits (before ++ line ∷ []) (given ++ entry ∷ []) lines entries shown
+AreShownAfter limits before given lines entries shown = ⊥
+
+-- The items of an endpoint's stream among those of a line.
+abbrev pub item_of : Role → LineItem → List Item
+item_of Client (OfStream Client item) = item ∷ []
+item_of Server (OfStream Server item) = item ∷ []
+item_of role item = []
+
+-- The items of an endpoint's stream in the lines with its bytes.
+abbrev pub items_with_bytes : Role → List Entry → List ShownLine → List Item
+items_with_bytes role (Bytes _ bytes ∷ entries) (s ∷ shown) =
+    flat_map (item_of role) s.items ++ items_with_bytes role entries shown
+items_with_bytes role (entry ∷ entries) (s ∷ shown) = items_with_bytes role entries shown
+items_with_bytes role entries shown = []
+
+-- ---- the whole capture
+
+-- What is left over of an endpoint's stream at the end of the capture; nothing after its end mark.
+abbrev pub IsLeftAtEnd : Role → Limits → List Entry → List Item → Type 0
+IsLeftAtEnd role limits entries items =
+    ((has_ended role entries ≡ true) × (items ≡ []))
+    ⊎ ((has_ended role entries ≡ false) × IsLeftOver role limits (sent role entries) items)
+
+-- What is shown of a capture with these lines: of each line; of what is left over, the client's first; and the report.
+pub record IsShownCapture (limits : Limits) (lines : List (List ℕ)) (shown : List ShownLine) (last : List LineItem)
+    (report : Report) : Type 0 where
+  pub entries : List Entry
+  pub given : AreEntries lines entries
+  pub each : AreShownAfter limits [] [] lines entries shown
+  pub client_left : List Item
+  pub server_left : List Item
+  pub of_client : IsLeftAtEnd Client limits entries client_left
+  pub of_server : IsLeftAtEnd Server limits entries server_left
+  pub left_over : last ≡ of_stream Client client_left ++ of_stream Server server_left
+  pub is_report : IsReportOf limits entries report

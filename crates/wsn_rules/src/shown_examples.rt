@@ -1,0 +1,50 @@
+//! Examples of what is shown of frames, computed from the definitions in `specs/`.
+
+ghost use Rattle.std.specs.Prelude.{◌≡◌, true, false, None, Some, [], ◌∷◌, codes};
+ghost use Rattle.wsn_wire.specs.declared.opcode.Kind.TheVariants as kind;
+ghost use Rattle.wsn_wire.specs.declared.opcode.Op.TheVariants.{Continue, Text, Binary, Close, Ping};
+ghost use Rattle.wsn_wire.specs.declared.length_forms.Form.TheVariants.{Shortest};
+ghost use Rattle.wsn_rules.specs.Meaning.{Message, Control};
+ghost use Rattle.wsn_rules.specs.ShownStream.{shown_of, items_of_part, items_of_head, items_of_bytes};
+ghost use Rattle.wsn_rules.specs.ShownStream.Item.{Event, Unfinished, UnfinishedHead, Tail};
+ghost use Rattle.wsn_rules.specs.ShownExamples.{server_frame};
+
+/// What frames show: each event with its last byte, at the offset of its first frame.
+pub fn of_frames()
+    ensures hello { shown_of [] (server_frame true Text (codes "Hello") ∷ [])
+        ≡ record { after = 7; item = Event 0 (Message kind.Text (codes "Hello")) 1 } ∷ [] }
+    ensures not_final { shown_of [] (server_frame false Text (codes "Hel") ∷ []) ≡ [] }
+    ensures ping_between { shown_of []
+        (server_frame false Text (codes "Hel") ∷ server_frame true Ping [] ∷ server_frame true Continue (codes "lo") ∷ [])
+        ≡ record { after = 7; item = Event 5 (Control Ping []) 1 }
+        ∷ record { after = 11; item = Event 0 (Message kind.Text (codes "Hello")) 2 } ∷ [] }
+    ensures second_message { shown_of []
+        (server_frame true Binary (1 ∷ []) ∷ server_frame true Ping [] ∷ server_frame false Text (codes "H") ∷ server_frame true Continue (codes "i") ∷ [])
+        ≡ record { after = 3; item = Event 0 (Message kind.Binary (1 ∷ [])) 1 }
+        ∷ record { after = 5; item = Event 3 (Control Ping []) 1 }
+        ∷ record { after = 11; item = Event 5 (Message kind.Text (codes "Hi")) 2 } ∷ [] }
+    ensures interrupted { shown_of [] (server_frame false Text (codes "A") ∷ server_frame true Close [] ∷ [])
+        ≡ record { after = 5; item = Unfinished 0 (Message kind.Text (codes "A")) 1 (Some 0) }
+        ∷ record { after = 5; item = Event 3 (Control Close []) 1 } ∷ [] }
+{}
+
+/// What is left over of a stream that ends inside a frame or a message.
+pub fn left_over()
+    ensures first_frame { items_of_part []
+        (record { place = 0; fin = true; op = Binary; key = None; form = Shortest; len = 200 }) (0 ∷ 255 ∷ [])
+        ≡ Unfinished 0 (Message kind.Binary (0 ∷ 255 ∷ [])) 1 (Some 198) ∷ [] }
+    ensures next_frame { items_of_part (server_frame false Text (codes "A") ∷ [])
+        (record { place = 3; fin = true; op = Continue; key = None; form = Shortest; len = 5 }) (codes "BC")
+        ≡ Unfinished 0 (Message kind.Text (codes "ABC")) 2 (Some 3) ∷ [] }
+    ensures control { items_of_part (server_frame false Text (codes "A") ∷ [])
+        (record { place = 3; fin = true; op = Ping; key = None; form = Shortest; len = 2 }) (codes "p")
+        ≡ Unfinished 0 (Message kind.Text (codes "A")) 1 (Some 0) ∷ Unfinished 3 (Control Ping (codes "p")) 1 (Some 1) ∷ [] }
+    ensures between_frames { items_of_head (server_frame false Text (codes "A") ∷ []) []
+        ≡ Unfinished 0 (Message kind.Text (codes "A")) 1 (Some 0) ∷ [] }
+    ensures part_of_next_head { items_of_head (server_frame false Text (codes "A") ∷ []) (128 ∷ [])
+        ≡ Unfinished 0 (Message kind.Text (codes "A")) 1 None ∷ [] }
+    ensures part_of_a_head { items_of_head (server_frame true Text (codes "A") ∷ []) (129 ∷ [])
+        ≡ UnfinishedHead 3 ∷ [] }
+    ensures tail { items_of_bytes Tail 2 (129 ∷ 0 ∷ []) ≡ Tail 2 (129 ∷ 0 ∷ []) ∷ [] }
+    ensures no_tail { items_of_bytes Tail 2 [] ≡ [] }
+{}

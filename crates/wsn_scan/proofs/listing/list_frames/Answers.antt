@@ -1,0 +1,96 @@
+use Rattle.std.proofs.Common.{◌≡◌, ◌+◌, ◌-◌, ◌≤◌, List, ℕ, [], ◌∷◌, ◌++◌, length, drop, refl, sym, ap, ◌∙◌, subst, arith, length-drop, append-nil, append_assoc, rules}
+use borrow.Rule.Slice.PartMut.{mid_of, put_mid, put_same, same_len_mid}
+use Rattle.wsn_wire.specs.Frame.{IsBytes}
+use Rattle.wsn_io.specs.Transfer.{IsWrittenUpToFailure}
+use Rattle.wsn_print.specs.HeadText.{head_lines}
+use Rattle.wsn_scan.specs.declared.scan.Scan.{Scan}
+use Rattle.wsn_scan.specs.Listing.{IsListedRun}
+use Rattle.wsn_scan.proofs.FedPieces.{bytes_below, bytes_after, share_is, kept_after, same_further, takes_none, takes_further}
+use Rattle.wsn_scan.proofs.Printing.{head_lines-append}
+use Rattle.wsn_scan.proofs.listing.list_frames.Goals as goal
+
+pub loop-taken-init : goal.loop-taken-init
+loop-taken-init g c = record {
+  in_bytes = bytes_below c.args.piece.now (λ i. let below = c.type_inv.piece i in omega (arith, below));
+  within = omega arith;
+  size = refl;
+  kept = refl;
+  room = omega arith;
+  run = record {
+    heads = [];
+    consumes = takes_none c.args.scan.now c.args.piece.now;
+    printed = λ first text printed. subst (λ (bs : List ℕ). IsWrittenUpToFailure first c.args.output.now bs) (sym (append-nil text)) printed;
+  };
+  none = λ zero. refl;
+}
+
+pub loop-taken-preserved : goal.loop-taken-preserved
+loop-taken-preserved g c =
+    let at = c.loop-taken.at in
+    let piece = c.args.piece.now in
+    let here = c.loop-taken.piece in
+    let taken = c.in-Some.taken in
+    let head = c.in-Some.head in
+    let share = mid_of at (length here - at) here in
+    let known = c.loop-taken.invariant in
+    let found = c.in-Some.ensures in
+    let is : share ≡ drop at piece = share_is at here ∙ known.kept in
+    let size : length share ≡ length (drop at piece) = ap (λ (bs : List ℕ). length bs) is in
+    let same_size : length c.take_frame.new.piece ≡ length share = c.take_frame.auto.piece in
+    let more = found.taken (subst IsBytes (sym is) (bytes_after at piece known.in_bytes)) in
+    let lines = head_lines known.run.heads in
+    record {
+      in_bytes = known.in_bytes;
+      within = omega (arith, length-drop at piece, size, found.within.1);
+      size = same_len_mid at (length here - at) here c.take_frame.new.piece same_size ∙ known.size;
+      kept = kept_after at (length here - at) taken here c.take_frame.new.piece (omega (arith, known.within, known.size)) found.within.1 same_size found.kept
+          ∙ same_further at taken here piece (omega (arith, known.within, known.size)) known.within known.kept;
+      room = omega (arith, found.room, known.room);
+      run = record {
+        heads = known.run.heads ++ head ∷ [];
+        consumes = takes_further c.args.scan.now c.loop-taken.scan c.take_frame.new.self piece share at taken known.run.heads (head ∷ []) is known.run.consumes more;
+        printed = λ first text printed.
+            subst (λ (bs : List ℕ). IsWrittenUpToFailure first c.print.new.output bs) (append_assoc text lines (head_lines (head ∷ [])) ∙ ap (λ (bs : List ℕ). text ++ bs) (sym (head_lines-append known.run.heads (head ∷ []))))
+            (c.print.ensures first (text ++ lines) (known.run.printed first text printed));
+      };
+      none = λ zero. absurd (omega (arith, found.within.0, zero));
+    }
+
+pub returns-clause-taken : goal.returns-clause-taken
+returns-clause-taken g c in_bytes =
+    subst (λ (scan : Scan). IsListedRun c.args.scan.now scan c.args.output.now c.loop-taken.output c.args.piece.now c.loop-taken.at) (sym c.in_default.ensures.none.0) c.loop-taken.invariant.run
+
+pub slice_bounds-take_frame-count : goal.slice_bounds-take_frame-count
+slice_bounds-take_frame-count g c = search rules
+
+pub slice_bounds-take_frame-start : goal.slice_bounds-take_frame-start
+slice_bounds-take_frame-start g c = search rules
+
+pub slice_bounds-take_frame-end : goal.slice_bounds-take_frame-end
+slice_bounds-take_frame-end g c = search rules
+
+pub take_frame-requires : goal.take_frame-requires
+take_frame-requires g c = search rules
+
+pub overflow_add-at : goal.overflow_add-at
+overflow_add-at g c = search rules
+
+pub loop-taken-smaller : goal.loop-taken-smaller
+loop-taken-smaller g c = search rules
+
+pub returns-clause-within : goal.returns-clause-within
+returns-clause-within g c = search rules
+
+pub returns-clause-kept : goal.returns-clause-kept
+returns-clause-kept g c =
+    let at = c.loop-taken.at in
+    let here = c.loop-taken.piece in
+    let back : put_mid at (length here - at) here c.take_frame.new.piece ≡ here =
+    ap (λ (ys : List ℕ). put_mid at (length here - at) here ys) c.in_default.ensures.none.1 ∙ put_same at (length here - at) here in
+    ap (λ (ps : List ℕ). drop at ps) back ∙ c.loop-taken.invariant.kept
+
+pub returns-clause-room : goal.returns-clause-room
+returns-clause-room g c = search rules
+
+pub returns-clause-none : goal.returns-clause-none
+returns-clause-none g c = search rules

@@ -1,0 +1,20 @@
+use Rattle.std.proofs.Common.{◌≡◌, ◌+◌, ◌-◌, ◌≤◌, length, drop}
+use Rattle.wsn_wire.specs.Frame.{IsBytes}
+use Rattle.wsn_scan.specs.Listing.{IsListedRun}
+use Rattle.wsn_scan.proofs.listing.list_frames.Given as goal
+
+-- The scan has consumed the piece so far, the heads that it reported were printed, and the rest of the piece is
+-- unchanged.
+abbrev pub invariant-loop-taken : goal.invariant-loop-taken
+invariant-loop-taken g l = record {
+  in_bytes : IsBytes l.fn.piece;
+  within : l.at ≤ length l.fn.piece;
+  size : length l.piece ≡ length l.fn.piece;
+  kept : drop l.at l.piece ≡ drop l.at l.fn.piece;
+  room : l.scan.room + l.at ≡ l.fn.scan.room;
+  run : IsListedRun l.fn.scan l.scan l.fn.output l.output l.fn.piece l.at;
+  none : l.at ≡ 0 → l.scan ≡ l.fn.scan;
+}
+
+abbrev pub decreases-loop-taken : goal.decreases-loop-taken
+decreases-loop-taken g l = length l.initial.piece - l.at

@@ -1,0 +1,146 @@
+use Rattle.std.proofs.Common.{◌≡◌, ◌+◌, ◌-◌, ◌≤◌, ℕ, Option, None, Ok, List, [], ◌++◌, length, take, drop, refl, sym, ap, ◌∙◌, subst, arith, rules, append-nil}
+use Rattle.std.proofs.lemmas.List.{length-take-le}
+use borrow.Rule.Slice.PartMut.{mid_of, put_mid, mid_len}
+use Rattle.wsn_wire.specs.Frame.{Frame, IsBytes, first_byte}
+use Rattle.wsn_wire.proofs.FrameLemmas.{first_byte_fields, IsBytes-right}
+use Rattle.wsn_frame.specs.declared.open_message.OpenMessage.{OpenMessage}
+use Rattle.wsn_rules.specs.Group.{unfinished}
+use Rattle.wsn_frame.specs.OpenMessages.{IsOpenMessage}
+use Rattle.wsn_frame.specs.PartialHeads.{IsHead}
+use Rattle.wsn_frame.specs.PayloadChecks.{IsChecked}
+use Rattle.wsn_frame.specs.Payloads.{unmasked_by}
+use Rattle.wsn_frame.proofs.FrameStarts.{goes_on, begins}
+use Rattle.wsn_frame.proofs.FramesAtOnce.{kept_after_frame, payload_after, masked_back, head_and_payload, fed_at_once, holds_at_once}
+use Rattle.wsn_scan.specs.EventFrames.{with_key_cleared}
+use Rattle.wsn_scan.proofs.EventFrames.{ends_event, key_fits, key_room, written_after, kept_before}
+use Rattle.wsn_scan.proofs.HeadBytes.{bytes_taken}
+use Rattle.wsn_scan.proofs.scan.event_frames.take_event.Goals as goal
+
+pub returns-in-Ok-clause-taken : goal.returns-in-Ok-clause-taken
+returns-in-Ok-clause-taken c in_piece =
+    let head = c.in_ok-start.head in
+    let role = c.args.context.now.role in
+    let limits = c.args.context.now.limits in
+    let start = c.in_ok-start.start in
+    let end = start + head.len in
+    let piece = c.args.piece.now in
+    let found = c.in_ok-start.ensures in
+    let plain = c.is_plain.ensures c.if-not-is_plain.false in
+    let front = take start piece in
+    let wire = mid_of start (end - start) piece in
+    let came = take end piece in
+    let within : end ≤ length piece = omega (arith, found.1, c.if-head-room.false) in
+    let ordered : start ≤ end = omega arith in
+    let size : length wire ≡ head.len = mid_len start end piece within ∙ omega arith in
+    let parts : came ≡ front ++ wire = head_and_payload start end piece ordered in
+    let in_came : IsBytes (front ++ wire) = subst IsBytes parts (bytes_taken end piece in_piece) in
+    let in_wire : IsBytes wire = IsBytes-right front wire in_came in
+    let fed_is = payload_after head.key start end piece c.unmask.new.bytes ordered within c.unmask.ensures in (
+      plain.1,
+      λ fs range lawful no_close none.
+          let group = unfinished fs in
+          let first = first_byte head.first.fin head.first.op in
+          let is_head : IsHead role limits group head front = found.2 group (subst (λ (m : Option OpenMessage). IsOpenMessage m group) (sym c.requires) none) in
+          let checked = c.new-check.ensures group none (goes_on role limits group head front is_head) (begins role limits group head front is_head) in
+          let all : IsChecked group first head.len [] (unmasked_by head.key 0 wire) (Ok c.in-Ok.field-0) =
+          fed_at_once group first head.len head.key wire _ (Ok c.in-Ok.field-0) fed_is size
+          (c.in-Ok.ensures.checked group first head.len [] checked ((first_byte_fields head.first.fin head.first.op).fin_is ∙ plain.0)) in
+          let holds = holds_at_once role limits group head c.new-check.result c.in-Ok.field-0 front wire (front ++ wire) refl in_wire is_head checked (omega (arith, c.if-head-eq0.false)) size all in
+          ends_event role limits fs head c.in-Ok.field-0 front wire range lawful none is_head holds size in_came plain.0 plain.2 piece _ end parts
+          (written_after head.key start end piece c.unmask.new.bytes ordered within c.unmask.ensures c.clear_key.new.head c.clear_key.ensures c.clear_key.auto.head),
+    )
+
+pub returns-in-Ok-clause-kept : goal.returns-in-Ok-clause-kept
+returns-in-Ok-clause-kept c =
+    let start = c.in_ok-start.start in
+    let end = start + c.in_ok-start.head.len in
+    let within : end ≤ length c.args.piece.now = omega (arith, c.in_ok-start.ensures.1, c.if-head-room.false) in
+    kept_before c.in_ok-start.head.key start end c.args.piece.now c.unmask.new.bytes (omega arith) within c.unmask.ensures c.clear_key.new.head c.clear_key.auto.head
+
+pub clear_key-requires : goal.clear_key-requires
+clear_key-requires c =
+    let head = c.in_ok-start.head in
+    let start = c.in_ok-start.start in
+    let end = start + head.len in
+    let piece = c.args.piece.now in
+    let within : end ≤ length piece = omega (arith, c.in_ok-start.ensures.1, c.if-head-room.false) in
+    let is_head = c.in_ok-start.ensures.2 [] (subst (λ (m : Option OpenMessage). IsOpenMessage m []) (sym c.requires) refl) in
+    key_room head.key start end piece c.unmask.new.bytes (omega arith) within c.unmask.ensures (key_fits c.args.context.now.role c.args.context.now.limits [] head (take start piece) is_head)
+
+pub returns-in-Err-clause-none : goal.returns-in-Err-clause-none
+returns-in-Err-clause-none c =
+    let start = c.in_ok-start.start in
+    let end = start + c.in_ok-start.head.len in
+    masked_back c.in_ok-start.head.key start end c.args.piece.now c.unmask.new.bytes (omega arith) (omega (arith, c.in_ok-start.ensures.1, c.if-head-room.false)) c.unmask.ensures c.unmask-in-Err.new.bytes c.unmask-in-Err.ensures
+
+pub returns-in_err-start-clause-taken : goal.returns-in_err-start-clause-taken
+returns-in_err-start-clause-taken c = search rules
+
+pub returns-in_err-start-clause-within : goal.returns-in_err-start-clause-within
+returns-in_err-start-clause-within c = search rules
+
+pub returns-in_err-start-clause-kept : goal.returns-in_err-start-clause-kept
+returns-in_err-start-clause-kept c = search rules
+
+pub returns-in_err-start-clause-none : goal.returns-in_err-start-clause-none
+returns-in_err-start-clause-none c = search rules
+
+pub overflow_sub-room : goal.overflow_sub-room
+overflow_sub-room c = search rules
+
+pub returns-then-head-eq0-clause-none : goal.returns-then-head-eq0-clause-none
+returns-then-head-eq0-clause-none c = search rules
+
+pub overflow_add-end : goal.overflow_add-end
+overflow_add-end c = search rules
+
+pub slice_bounds-unmask-count : goal.slice_bounds-unmask-count
+slice_bounds-unmask-count c = search rules
+
+pub slice_bounds-unmask-start : goal.slice_bounds-unmask-start
+slice_bounds-unmask-start c = search rules
+
+pub slice_bounds-unmask-end : goal.slice_bounds-unmask-end
+slice_bounds-unmask-end c = search rules
+
+pub unmask-requires : goal.unmask-requires
+unmask-requires c = search rules
+
+pub slice_bounds-feed-count : goal.slice_bounds-feed-count
+slice_bounds-feed-count c = search rules
+
+pub slice_bounds-feed-start : goal.slice_bounds-feed-start
+slice_bounds-feed-start c = search rules
+
+pub slice_bounds-feed-end : goal.slice_bounds-feed-end
+slice_bounds-feed-end c = search rules
+
+pub feed-requires : goal.feed-requires
+feed-requires c = search rules
+
+pub slice_bounds-clear_key-end : goal.slice_bounds-clear_key-end
+slice_bounds-clear_key-end c = search rules
+
+pub slice_bounds-clear_key-end-in-Ok : goal.slice_bounds-clear_key-end-in-Ok
+slice_bounds-clear_key-end-in-Ok c = search rules
+
+pub slice_bounds-unmask-count-in-Err : goal.slice_bounds-unmask-count-in-Err
+slice_bounds-unmask-count-in-Err c = search rules
+
+pub slice_bounds-unmask-start-in-Err : goal.slice_bounds-unmask-start-in-Err
+slice_bounds-unmask-start-in-Err c = search rules
+
+pub slice_bounds-unmask-end-in-Err : goal.slice_bounds-unmask-end-in-Err
+slice_bounds-unmask-end-in-Err c = search rules
+
+pub unmask-requires-in-Err : goal.unmask-requires-in-Err
+unmask-requires-in-Err c = search rules
+
+pub shape_of-piece-in-Ok : goal.shape_of-piece-in-Ok
+shape_of-piece-in-Ok c = search rules
+
+pub returns-in-Ok-clause-within : goal.returns-in-Ok-clause-within
+returns-in-Ok-clause-within c = search rules
+
+pub shape_of-piece-in-Err : goal.shape_of-piece-in-Err
+shape_of-piece-in-Err c = search rules

@@ -1,0 +1,70 @@
+-- Frames that are whole in a piece and each end an event, with the event's normal frame written in their place.
+use Rattle.std.specs.Prelude.{◌≡◌, ◌≢◌, ℕ, ◌-◌, true, Option, None, Some, List, [], ◌∷◌, ◌++◌, length, take}
+use Rattle.wsn_wire.specs.declared.endpoint.Role.{Role}
+use Rattle.wsn_wire.specs.declared.opcode.Op.{Op}
+use Rattle.wsn_wire.specs.declared.opcode.Op.TheVariants.{Close}
+use Rattle.wsn_wire.specs.Frame.{Frame, IsBytes, frame_bytes}
+use Rattle.wsn_rules.specs.Limits.{Limits, InRange}
+use Rattle.wsn_rules.specs.Group.{unfinished}
+use Rattle.wsn_rules.specs.Lawful.{LawAt, IsLawful}
+use Rattle.wsn_rules.specs.Accepted.{HasNoClose}
+use Rattle.wsn_rules.specs.Heads.{heads_of}
+use Rattle.wsn_rules.specs.Meaning.{MeantEvent, event_at, meaning}
+use Rattle.wsn_rules.specs.NormalForm.{normal_frame, normal_form}
+use Rattle.wsn_scan.specs.declared.scan.Scan.{Scan}
+use Rattle.wsn_scan.specs.declared.stage.Stage.TheVariants as stages
+use Rattle.wsn_scan.specs.Reports.{Reported, ends_of}
+use Rattle.wsn_scan.specs.Scans.{HasScanned}
+
+-- ---- one frame
+
+-- A head's bytes, with zeros in place of the key, if it has one.
+abbrev pub with_key_cleared : Option (List ℕ) → List ℕ → List ℕ
+with_key_cleared None head = head
+with_key_cleared (Some key) head = take (length head - 4) head ++ (0 ∷ 0 ∷ 0 ∷ 0 ∷ [])
+
+-- The first n bytes of the piece are a final frame with this opcode, which is lawful after these. `after` begins with
+-- the normal frame of the event that it ends.
+pub record EndsEventAt (role : Role) (limits : Limits) (fs : List Frame) (piece after : List ℕ) (op : Op) (n : ℕ)
+    : Type 0 where
+  pub frame : Frame
+  pub bytes_are : frame_bytes frame ≡ take n piece
+  pub law : LawAt role limits fs frame
+  pub final : frame.fin ≡ true
+  pub op_is : frame.op ≡ op
+  pub normal : take n after ≡ frame_bytes (normal_frame role (event_at fs frame))
+
+-- The same after any lawful frames without a Close that leave no message open. The frame is no Close.
+abbrev pub IsEventFrame : Role → Limits → List ℕ → List ℕ → Op → ℕ → Type 0
+IsEventFrame role limits piece after op n =
+    (op ≢ Close) × ((fs : List Frame) → InRange limits → IsLawful role limits fs → HasNoClose fs →
+    unfinished fs ≡ [] → EndsEventAt role limits fs piece after op n)
+
+-- ---- a run of frames
+
+-- Between frames, all heads and ends of these frames were reported.
+abbrev pub reported_of : List Frame → Reported
+reported_of fs = record { heads = heads_of fs; payload = []; ends = ends_of fs }
+
+-- After the frames fs the scan has consumed more whole frames, up to the end of these bytes, and reported them. They
+-- end the events whose normal form this is, and leave no message open.
+pub record ConsumesEvents (role : Role) (limits : Limits) (new : Scan) (bytes : List ℕ) (fs : List Frame)
+    (normal : List ℕ) : Type 0 where
+  pub frames : List Frame
+  pub events : List MeantEvent
+  pub has_scanned : HasScanned role limits new bytes frames [] (reported_of frames)
+  pub none_open : unfinished frames ≡ []
+  pub means : meaning frames ≡ meaning fs ++ events
+  pub normal_is : normal ≡ normal_form role events
+
+-- Whatever the scan has consumed and reported, it consumes the first n bytes of the piece, which are such frames, and
+-- their events' normal form is in their place.
+abbrev pub TakesEvents : Scan → Scan → List ℕ → List ℕ → ℕ → Type 0
+TakesEvents old new piece after n =
+    (role : Role) (limits : Limits) (bytes since : List ℕ) (fs : List Frame) (reported : Reported) →
+    HasScanned role limits old bytes fs since reported
+    → ConsumesEvents role limits new (bytes ++ take n piece) fs (take n after)
+
+-- The scan is between frames, all of which were reported to their ends, and no message is open.
+abbrev pub IsIdle : Scan → Type 0
+IsIdle scan = (scan.stage ≡ stages.Between) × (scan.context.message ≡ None)

@@ -1,0 +1,120 @@
+//! Frames that are whole in a piece and each end an event, with the event's normal frame written in their place.
+ghost use Rattle.std.specs.Prelude.{◌≡◌, ◌≢◌, ◌+◌, ◌<◌, ◌≤◌, true, None, length, drop, IsTrue, IfSome, IfNone};
+ghost use Rattle.wsn_wire.specs.Frame.{IsBytes};
+ghost use Rattle.wsn_frame.specs.PartialHeads.{encoded_form};
+ghost use Rattle.wsn_scan.specs.EventFrames.{IsEventFrame, TakesEvents, IsIdle, with_key_cleared};
+ghost use Rattle.wsn_scan.specs.Scans.{room_of, refusal_in};
+
+use super::Scan;
+use crate::stage::Stage;
+use wsn_frame::{FrameContext, Head, PayloadCheck, unmask, whole_head};
+use wsn_wire::{Form, Op};
+
+/// A frame that ends an event.
+#[derive(Clone, Copy)]
+struct EventFrame {
+    op: Op,
+    /// The number of the frame's bytes.
+    size: usize,
+}
+
+impl Scan {
+    /// Consumes frames at the start of the piece, up to the first that [`take_event`] leaves, and writes the normal
+    /// form of their events in their place (RFC 6455 section 5.4). Returns the number of bytes. It does so if the scan
+    /// is between frames, their ends are reported, and no message is open. With 0 nothing changes.
+    #[inline(never)]
+    #[tactic(none)]
+    pub(crate) fn take_events(&mut self, piece: &mut [u8]) -> usize
+        requires { length piece.old ≤ room_of self.old }
+        ensures taken { 0 < result → IsIdle self.old × TakesEvents self.old self.new piece.old piece.new result }
+        ensures within { result ≤ length piece.old }
+        ensures kept { drop result piece.new ≡ drop result piece.old }
+        ensures room { room_of self.new + result ≡ room_of self.old }
+        ensures reported { refusal_in self.old ≡ None → refusal_in self.new ≡ None }
+        ensures none { result ≡ 0 → (self.new ≡ self.old) × (piece.new ≡ piece.old) }
+    {
+        if !self.is_idle() {
+            return 0;
+        }
+        let mut counts = self.counts;
+        let mut at = 0;
+        while let Some(frame) = take_event(&self.context, &mut piece[at..]) {
+            counts = counts.with(true, frame.op);
+            at += frame.size;
+        }
+        if at == 0 {
+            return 0;
+        }
+        self.counts = counts;
+        self.room -= at as u64;
+        self.used = self.taken();
+        at
+    }
+
+    /// Whether it is between frames whose ends are reported, and no message is open.
+    #[inline(always)]
+    fn is_idle(&self) -> bool
+        ensures { IsTrue result → IsIdle self.now }
+    {
+        matches!((&self.stage, &self.context.message), (Stage::Between, None))
+    }
+}
+
+/// Writes the normal frame of an event in place of the frame that ends it, at the start of the piece, and returns that
+/// frame. It does so if no message is open, the piece has the whole frame, and the frame is valid, final and no Close,
+/// has payload, and encodes its length shortest. Otherwise it returns `None`, and nothing changes.
+#[inline(always)]
+#[tactic(none)]
+fn take_event(context: &FrameContext, piece: &mut [u8]) -> Option<EventFrame>
+    requires { context.now.message ≡ None }
+    ensures taken { IfSome result (λ frame. IsBytes piece.old →
+        IsEventFrame context.now.role context.now.limits piece.old piece.new frame.op frame.size) }
+    ensures within { IfSome result (λ frame. (0 < frame.size) × (frame.size ≤ length piece.old)) }
+    ensures kept { IfSome result (λ frame. drop frame.size piece.new ≡ drop frame.size piece.old) }
+    ensures none { IfNone result (piece.new ≡ piece.old) }
+{
+    let (start, head) = whole_head(piece, context)?;
+    let room = (piece.len() - start) as u64;
+    if head.len == 0 || head.len > room || !is_plain(&head) {
+        return None;
+    }
+    let end = start + head.len as usize;
+    let check = PayloadCheck::new(head.first, None);
+    unmask(head.key, 0, &mut piece[start..end]);
+    match check.feed(&piece[start..end], true, true) {
+        Ok(_) => {
+            clear_key(head.key, &mut piece[..start]);
+            Some(EventFrame {
+                op: head.first.op,
+                size: end,
+            })
+        }
+        Err(_) => {
+            unmask(head.key, 0, &mut piece[start..end]);
+            None
+        }
+    }
+}
+
+/// Whether the frame is final and no Close, and its length is in the shortest encoding (RFC 6455 section 5.2).
+#[inline(always)]
+#[tactic(none)]
+fn is_plain(head: &Head) -> bool
+    ensures { IsTrue result → (head.now.first.fin ≡ true) × (head.now.first.op ≢ Op.Close)
+        × (encoded_form head.now.encoded head.now.len ≡ Form.Shortest) }
+{
+    head.first.fin && head.first.op != Op::Close && matches!(head.info(0).form, Form::Shortest)
+}
+
+/// Writes zeros over the key at the end of a head, if it has one.
+#[inline(always)]
+fn clear_key(key: Option<[u8; 4]>, head: &mut [u8])
+    requires { IfSome key (λ _. 4 ≤ length head.old) }
+    ensures { head.new ≡ with_key_cleared key head.old }
+{
+    let Some(_) = key else {
+        return;
+    };
+    let at = head.len() - 4;
+    head[at..].copy_from_slice(&[0; 4]);
+}

@@ -1,0 +1,244 @@
+ghost use Rattle.std.specs.Prelude.{◌≡◌, ℕ, ◌+◌, ◌<◌, ◌≤◌, ◌⊎◌, ◌↔◌, List, [], ◌∷◌, ◌++◌, length, take, IsTrue, IsFalse, IsOk, IfSome, IfErr, MatchResult};
+ghost use Rattle.wsn_text.specs.Utf8.{IsText, BeginsText, IsFirstBad};
+ghost use Rattle.wsn_text.specs.Rest.{Follows};
+ghost use Rattle.wsn_text.specs.Validated.{HasValidated};
+ghost use Rattle.wsn_text.specs.Piece.{Validates, Breaks};
+ghost use Rattle.wsn_text.specs.Expected.{awaited};
+
+use simdutf8::compat::from_utf8;
+use std::marker::Model;
+
+/// What may come next.
+#[derive(Clone, Copy, Debug)]
+enum Expected {
+    /// A character.
+    Character,
+    /// The last byte of a character.
+    One,
+    /// The last two bytes of a character. In the next two states, the first of them is at least A0, or at most 9F.
+    Two,
+    TwoFromA0,
+    TwoUpTo9F,
+    /// The last three bytes of a character. In the next two states, the first of them is at least 90, or at most 8F.
+    Three,
+    ThreeFrom90,
+    ThreeUpTo8F,
+    /// Nothing: a bad byte has come.
+    Nothing,
+}
+
+impl Expected {
+    /// What may come after `byte`.
+    fn after(self, byte: u8) -> Expected
+        ensures { (more : List ℕ) → Follows (awaited self) (byte ∷ more) ↔ Follows (awaited result) more }
+    {
+        match self {
+            Expected::Character => Expected::after_first(byte),
+            Expected::One => Expected::Character.if_within(byte, 0x80, 0xBF),
+            Expected::Two => Expected::One.if_within(byte, 0x80, 0xBF),
+            Expected::TwoFromA0 => Expected::One.if_within(byte, 0xA0, 0xBF),
+            Expected::TwoUpTo9F => Expected::One.if_within(byte, 0x80, 0x9F),
+            Expected::Three => Expected::Two.if_within(byte, 0x80, 0xBF),
+            Expected::ThreeFrom90 => Expected::Two.if_within(byte, 0x90, 0xBF),
+            Expected::ThreeUpTo8F => Expected::Two.if_within(byte, 0x80, 0x8F),
+            Expected::Nothing => Expected::Nothing,
+        }
+    }
+
+    /// What may come after the first byte of a character.
+    #[tactic(none)]
+    fn after_first(byte: u8) -> Expected
+        ensures { (more : List ℕ) → IsText (byte ∷ more) ↔ Follows (awaited result) more }
+    {
+        match byte {
+            0x00..=0x7F => Expected::Character,
+            0x80..=0xC1 => Expected::Nothing,
+            0xC2..=0xDF => Expected::One,
+            0xE0 => Expected::TwoFromA0,
+            0xE1..=0xEC => Expected::Two,
+            0xED => Expected::TwoUpTo9F,
+            0xEE..=0xEF => Expected::Two,
+            0xF0 => Expected::ThreeFrom90,
+            0xF1..=0xF3 => Expected::Three,
+            0xF4 => Expected::ThreeUpTo8F,
+            0xF5..=0xFF => Expected::Nothing,
+        }
+    }
+
+    /// This state if `byte` is in `low..=high`, otherwise `Nothing`.
+    #[tactic(none)]
+    fn if_within(self, byte: u8, low: u8, high: u8) -> Expected
+        ensures { (more : List ℕ) → (low ≤ byte) × (byte ≤ high) × Follows (awaited self) more
+            ↔ Follows (awaited result) more }
+    {
+        if (low..=high).contains(&byte) {
+            self
+        } else {
+            Expected::Nothing
+        }
+    }
+
+    /// The number of bytes that the last character still needs.
+    fn missing(self) -> usize
+        ensures { IfSome (awaited self) (λ row. result ≡ length row) }
+    {
+        match self {
+            Expected::Character | Expected::Nothing => 0,
+            Expected::One => 1,
+            Expected::Two | Expected::TwoFromA0 | Expected::TwoUpTo9F => 2,
+            Expected::Three | Expected::ThreeFrom90 | Expected::ThreeUpTo8F => 3,
+        }
+    }
+}
+
+/// Validates UTF-8 that comes in chunks (Unicode Standard, Table 3-7; RFC 6455 sections 5.6 and 8.1). It keeps one byte
+/// of state, and no text.
+///
+/// ```
+/// let mut utf8 = Utf8::new();
+/// utf8.feed(b"5 \xE2\x82"); // Ok(()), and is_whole() is false
+/// utf8.feed(b"\xAC"); // Ok(()), and is_whole() is true
+/// utf8.feed(b"a\xFFb"); // Err(1)
+/// utf8.feed(b""); // Err(0)
+/// ```
+#[derive(Clone, Copy, Debug)]
+pub struct Utf8 {
+    expected: Expected,
+}
+
+impl Model for Utf8 {
+    ghost use Rattle.std.specs.Prelude.{List, Option};
+    ghost use Rattle.wsn_text.specs.Utf8.{Range};
+    ghost use Rattle.wsn_text.specs.Expected.{awaited, expecting, expecting-awaited};
+
+    ghost Value = { Option (List Range) };
+
+    ghost view = { λ u. awaited u.expected };
+
+    ghost inverse = { λ ranges. record { expected = expecting ranges } };
+
+    ghost inverse_ok = { λ u h i. record { expected = expecting-awaited u.expected i } };
+}
+
+impl Utf8 {
+    /// A validator to which no byte has been fed.
+    #[tactic(none)]
+    pub fn new() -> Self
+        ensures { HasValidated result [] }
+    {
+        Utf8 {
+            expected: Expected::Character,
+        }
+    }
+
+    /// Validates the next bytes. `piece` may be empty.
+    ///
+    /// # Errors
+    ///
+    /// The offset in `piece` of the first bad byte among all bytes fed so far. 0 for every call after a bad byte.
+    #[inline(always)]
+    #[tactic(none)]
+    pub fn feed(&mut self, piece: &[u8]) -> Result<(), usize>
+        ensures within { IfErr result (λ i. (i ≡ 0) ⊎ (i < length piece.now)) }
+
+        // Whatever was fed before:
+        ensures taken { (taken : List ℕ) → HasValidated self.old taken → HasValidated self.new (taken ++ piece.now) }
+        ensures ok { (taken : List ℕ) → HasValidated self.old taken → (IsOk result ↔ BeginsText (taken ++ piece.now)) }
+        ensures first_bad { (taken : List ℕ) → HasValidated self.old taken → BeginsText taken
+            → IfErr result (λ i. IsFirstBad (taken ++ piece.now) (length taken + i)) }
+        ensures after_bad { (taken : List ℕ) → HasValidated self.old taken → ¬ (BeginsText taken) → result ≡ Err 0 }
+    {
+        if self.goes_on_in_ascii(piece) {
+            return Ok(());
+        }
+        if self.is_bad() {
+            return Err(0);
+        }
+        let (begun, rest) = piece.split_at(self.expected.missing().min(piece.len()));
+        self.take_each(begun)?;
+        self.take_rest(rest).map_err(|i| begun.len() + i)
+    }
+
+    /// Whether all bytes fed so far are UTF-8. `false` forever after a bad byte.
+    #[tactic(none)]
+    pub fn is_whole(&self) -> bool
+        ensures { (taken : List ℕ) → HasValidated self.now taken → (IsTrue result ↔ IsText taken) }
+    {
+        matches!(self.expected, Expected::Character)
+    }
+
+    /// Whether no character is unfinished and the piece is ASCII. Only short pieces are examined.
+    #[inline(always)]
+    fn goes_on_in_ascii(&self, piece: &[u8]) -> bool
+        ensures { IsTrue result → Validates self.now self.now piece.now }
+    {
+        if !self.is_whole() {
+            return false;
+        }
+        piece.len() <= SHORT && piece.is_ascii()
+    }
+
+    /// Whether a bad byte has come.
+    fn is_bad(&self) -> bool
+        ensures bad { IsTrue result → (more : List ℕ) → ¬ (Follows self.now more) }
+        ensures good { IsFalse result → (more : List ℕ) × Follows self.now more }
+    {
+        matches!(self.expected, Expected::Nothing)
+    }
+
+    /// Validates bytes one by one.
+    fn take_each(&mut self, bytes: &[u8]) -> Result<(), usize>
+        requires { (more : List ℕ) × Follows self.old more }
+        ensures within { IfErr result (λ i. i < length bytes.now) }
+        ensures good { IsOk result → (more : List ℕ) × Follows self.new more }
+        ensures steps { MatchResult result (λ _. Validates self.old self.new bytes.now)
+            (Breaks self.old self.new bytes.now) }
+    {
+        for (i, &byte) in bytes.iter().enumerate() {
+            self.expected = self.expected.after(byte);
+            if self.is_bad() {
+                return Err(i);
+            }
+        }
+        Ok(())
+    }
+
+    /// Validates bytes; if no character is unfinished, a long prefix of them at once and the rest byte by byte.
+    #[tactic(none)]
+    fn take_rest(&mut self, bytes: &[u8]) -> Result<(), usize>
+        requires { (more : List ℕ) × Follows self.old more }
+        ensures within { IfErr result (λ i. i < length bytes.now) }
+        ensures steps { MatchResult result (λ _. Validates self.old self.new bytes.now)
+            (Breaks self.old self.new bytes.now) }
+    {
+        if !self.is_whole() {
+            return self.take_each(bytes);
+        }
+        let (text, rest) = bytes.split_at(text_prefix(bytes));
+        self.take_each(rest).map_err(|i| text.len() + i)
+    }
+}
+
+/// Up to this length in bytes, a test for ASCII is faster than simdutf8's first step.
+const SHORT: usize = 128;
+
+/// The length of a prefix that is text. If no byte is bad, only an unfinished last character is left out.
+#[tactic(none)]
+fn text_prefix(bytes: &[u8]) -> usize
+    ensures text { (result ≤ length bytes.now) × IsText (take result bytes.now) }
+    ensures most { result + 6 < length bytes.now → ¬ (BeginsText bytes.now) }
+{
+    match from_utf8(&bytes[..last_character(bytes)]) {
+        Ok(text) => text.len(),
+        Err(bad) => bad.valid_up_to(),
+    }
+}
+
+/// The offset of the last character if it may be unfinished, otherwise the length.
+fn last_character(bytes: &[u8]) -> usize
+    ensures { (result ≤ length bytes.now) × (length bytes.now ≤ result + 3) }
+{
+    let tail = bytes.len().saturating_sub(3);
+    let lead = bytes[tail..].iter().rposition(|&byte| byte >= 0xC0);
+    lead.map_or(bytes.len(), |i| tail + i)
+}

@@ -1,8 +1,0 @@
-use Rattle.wsn_wire.proofs.FrameLemmas.{frame_at}
-use Rattle.wsn_wire.proofs.HeadLemmas.{frame_of_layout}
-use Rattle.wsn_wire.proofs.laws.layouts_that_show_nothing_are_frames.Goals as goal
-
-pub returns : goal.returns
-returns c = λ role lengths bytes l shows.
-    let spelled = frame_of_layout role lengths bytes l shows in
-    (frame_at l.first l.second l.key l.payload, spelled.owed, spelled.bytes_are)

@@ -1,5 +1,0 @@
-use Rattle.wsn_wire.proofs.HeadLemmas.{frame_shows_nothing}
-use Rattle.wsn_wire.proofs.laws.owed_heads_show_nothing.Goals as goal
-
-pub returns : goal.returns
-returns c = frame_shows_nothing

@@ -1,8 +1,0 @@
-use Rattle.std.proofs.Common.{rules}
-use Rattle.wsn_wire.proofs.writing.Output.new.Goals as goal
-
-pub returns-clause-failed : goal.returns-clause-failed
-returns-clause-failed g c = search rules
-
-pub returns-clause-written : goal.returns-clause-written
-returns-clause-written c = search rules

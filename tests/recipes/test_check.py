@@ -1,0 +1,73 @@
+"""recipes/check: what it says of folders of captures, and its status."""
+
+import shutil
+
+from harness import SAMPLES, TOP, WSN, run, same, test, want
+
+
+def check(*words, status=0):
+    """What check prints, line by line, and what it says on standard error."""
+    out, said = run("env", f"WSN={WSN}", TOP / "recipes/check", *words, status=status)
+    return out.decode().splitlines(), said.decode()
+
+
+def kept(folder, *names):
+    """A folder with samples."""
+    folder.mkdir()
+    for name in names:
+        shutil.copy(SAMPLES / f"{name}.capture", folder / f"{name}.capture")
+    return folder
+
+
+@test
+def check_of_equal_folders(folder):
+    """Two recordings of one session, with other keys and another framing, are equal."""
+    one, two = kept(folder / "one", "basic", "abort"), kept(folder / "two", "basic", "abort")
+    shutil.copy(SAMPLES / "ipv6.capture", two / "basic.capture")
+    (two / "other").write_text("no capture\n")
+    lines, said = check(one, two)
+    wanted = ["abort.capture: equal", "basic.capture: equal", "2 captures: 2 equal, 0 different, 0 in error"]
+    same((lines, said), (wanted, ""), "the lines")
+    same(check(SAMPLES / "basic.capture", SAMPLES / "tls.capture")[0][0], "tls.capture: equal", "two files")
+
+
+@test
+def check_of_a_difference(folder):
+    """One side differs, or isn't accepted: status 1."""
+    one, two = kept(folder / "one", "basic", "abort", "latin"), kept(folder / "two", "basic", "abort", "latin")
+    (two / "abort.capture").write_text((two / "abort.capture").read_text().replace("S 81036f6e65", "S 81036f6e66"))
+    lines, _ = check(one, two, status=1)
+    same(lines[0], "abort.capture: client equal; server different 0", "a difference")
+    same(lines[1], "basic.capture: equal", "an equal one")
+    want(lines[2].startswith("latin.capture: client equal; server first refused 11 text-bad 1007"), lines[2])
+    same(lines[3], "3 captures: 1 equal, 2 different, 0 in error", "the summary")
+
+
+@test
+def check_of_what_cannot_be_compared(folder):
+    """Missing files, unreadable ones and those that are no captures: an error, status 2, never equal."""
+    one, two = kept(folder / "one", "basic", "abort", "latin"), kept(folder / "two", "basic", "abort", "ipv6")
+    for name, text in ("basic", ""), ("abort", "810548656c6c6f\n"):
+        for each in one, two:
+            (each / f"{name}.capture").write_text(text)
+    lines, _ = check(one, two, status=2)
+    for line, words in zip(lines, (
+        f"abort.capture: error: {one}/abort.capture is no capture: line 1: bad-form",
+        f"basic.capture: error: {one}/basic.capture is no capture: it has no line of a side",
+        f"ipv6.capture: error: can't read {one}/ipv6.capture: No such file",
+        f"latin.capture: error: can't read {two}/latin.capture: No such file",
+        "4 captures: 0 equal, 0 different, 4 in error",
+    )):  # fmt: skip
+        want(line.startswith(words), f"{line}, and not {words}")
+    same(len(lines), 5, "lines")
+    for words, wanted in (
+        ([folder / "no", folder / "none"], "no: No such file"),
+        ([one, two / "basic.capture"], "aren't both folders"),
+        ([folder, folder], "has a file *.capture"),
+        ([one], "check KEPT NEW"),
+        (["-x", one], "check KEPT NEW"),
+    ):
+        lines, said = check(*words, status=2)
+        want(wanted in said + "".join(lines), f"{words}: {said}")
+    lines, said = run("env", f"WSN={folder}/none", TOP / "recipes/check", one, two, status=2)
+    want(b"none" in said, "without the program")
