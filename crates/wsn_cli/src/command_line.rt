@@ -212,7 +212,7 @@ fn pair_of(alloc: Global, matches: &ArgMatches<'_>) -> Result<Request, Usage>
 
 /// The text of `explain`: the explanation of its words, or the list of all words that are explained.
 fn explained(alloc: Global, matches: &ArgMatches<'_>) -> Result<Request, Usage>
-    ensures { IfOk result MayDo }
+    ensures { IfOk result CanBeDone }
 {
     let Some(words) = matches.get_strs("words") else {
         return Ok(Request::Help(list_of_words(alloc)?));
