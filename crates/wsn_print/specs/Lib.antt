@@ -7,5 +7,6 @@ pub mod ComparisonText
 pub mod FaultText
 pub mod StopText
 pub mod Statuses
+pub mod ShownText
 -- for the examples
 pub mod Examples
