@@ -8,5 +8,6 @@ pub mod FaultText
 pub mod StopText
 pub mod Statuses
 pub mod ShownText
+pub mod ShownParts
 -- for the examples
 pub mod Examples

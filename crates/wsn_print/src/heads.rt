@@ -48,7 +48,8 @@ fn fin_word(fin: bool) -> &'static str
     if fin { "fin" } else { "more" }
 }
 
-fn op_word(op: Op) -> &'static str
+/// The word for an opcode.
+pub(crate) fn op_word(op: Op) -> &'static str
     ensures word { result.now ≡ op_word op }
     ensures short { length result.now ≤ 6 }
 {

@@ -11,20 +11,29 @@
 #![tactic(auto)]
 
 mod comparisons;
+mod entries;
 mod faults;
 mod heads;
 mod line;
 pub mod printed_lines;
+mod quoted;
 mod reports;
+mod shown;
 mod statuses;
 mod stops;
 mod verdicts;
+mod views;
 
 pub use comparisons::put_compared;
+pub use entries::{
+    put_end, put_event, put_refused, put_remainder, put_unfinished, put_unfinished_head,
+};
 pub use faults::{line_of_line_fault, line_of_recut_fault, line_of_unfinished};
 pub use heads::put_head;
 pub use line::Line;
+pub use quoted::put_comment;
 pub use reports::put_report;
+pub use shown::{Front, HeldBytes, Remainder, ShownEvent, VIEW_MAX, ViewLimit};
 pub use statuses::{status_of_comparison, status_of_outcome, status_of_verdict};
 pub use stops::line_of_stop;
 pub use verdicts::put_verdict;

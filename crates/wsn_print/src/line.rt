@@ -1,4 +1,5 @@
-ghost use Rattle.std.specs.Prelude.{◌≡◌, ℕ, ◌+◌, ◌≤◌, List, [], ◌++◌, length, decimal};
+ghost use Rattle.std.specs.Prelude.{◌≡◌, ℕ, ◌+◌, ◌*◌, ◌≤◌, List, [], ◌∷◌, ◌++◌, length, decimal};
+ghost use Rattle.hex.specs.Hex.{encode_lower};
 ghost use Rattle.wsn_print.specs.Fields.{number_text, refusal_text, key_text, form_text};
 
 use arrayvec::ArrayVec;
@@ -85,6 +86,28 @@ impl<const MAX: usize> Line<MAX> {
         let mut digits = [0; 8];
         let _fits = hex::encode_to_slice(key, &mut digits);
         let _fits = self.text.try_extend_from_slice(&digits);
+    }
+
+    /// Appends a byte as it is.
+    pub(crate) fn push_byte(&mut self, b: u8)
+        requires { length self.old + 1 ≤ MAX }
+        ensures text { self.new ≡ self.old ++ b ∷ [] }
+        ensures len { length self.new ≡ length self.old + 1 }
+    {
+        let _fits = self.text.try_extend_from_slice(&[b]);
+    }
+
+    /// Appends bytes, at most 32, as two lower-case hexadecimal digits each.
+    pub(crate) fn push_hex(&mut self, bytes: &[u8])
+        requires few { length bytes.now ≤ 32 }
+        requires room { length self.old + 2 * length bytes.now ≤ MAX }
+        ensures text { self.new ≡ self.old ++ encode_lower bytes.now }
+        ensures len { length self.new ≡ length self.old + 2 * length bytes.now }
+    {
+        let mut digits = [0; 64];
+        let digits = &mut digits[..2 * bytes.len()];
+        let _fits = hex::encode_to_slice(bytes, digits);
+        let _fits = self.text.try_extend_from_slice(digits);
     }
 
     /// Appends ` two` or ` eight` for a length in a longer encoding, and nothing for the shortest (RFC 6455 section

@@ -1,0 +1,69 @@
+-- What the arguments of the functions that write entries stand for: times, and bytes of which only a part is held.
+use Rattle.std.specs.Prelude.{◌≡◌, ℕ, ◌-◌, ◌≤◌, ◌⊎◌, ⊤, Option, option_copied, List, length, take, drop, codes}
+use Rattle.std.specs.Str.{IsUtf8}
+use Rattle.wsn_wire.specs.declared.opcode.Kind.TheVariants as kinds
+use Rattle.wsn_wire.specs.declared.opcode.Op.{Op}
+use Rattle.wsn_wire.specs.declared.opcode.Op.TheVariants as ops
+use Rattle.wsn_rules.specs.Meaning.{MeantEvent, Message, Control}
+use Rattle.wsn_rules.specs.ShownStream.{Item}
+use Rattle.wsn_rules.specs.ShownStream.Item.{Unread, Tail}
+use Rattle.wsn_print.specs.declared.shown.Front.{Front}
+use Rattle.wsn_print.specs.declared.shown.ShownEvent.{ShownEvent}
+use Rattle.wsn_print.specs.declared.shown.HeldBytes.{HeldBytes}
+use Rattle.wsn_print.specs.declared.shown.Remainder.{Remainder}
+use Rattle.wsn_print.specs.declared.shown.Remainder.TheVariants as remainders
+
+-- The time in front of an entry.
+abbrev pub time_of : Front → Option (List ℕ)
+time_of front = option_copied front.time
+
+-- The first bytes are held: all, or at least `least` of them.
+abbrev pub HoldsFirst : ℕ → List ℕ → List ℕ → Type 0
+HoldsFirst least all held =
+    (held ≡ take (length held) all) × ((least ≤ length held) ⊎ (length held ≡ length all))
+
+-- The last bytes are held: all, or at least `least` of them.
+abbrev pub HoldsLast : ℕ → List ℕ → List ℕ → Type 0
+HoldsLast least all held =
+    (held ≡ drop (length all - length held) all) × ((least ≤ length held) ⊎ (length held ≡ length all))
+
+-- These are the number and the first bytes of all these bytes, at least `least` of them.
+abbrev pub IsFrontOf : ℕ → List ℕ → HeldBytes → Type 0
+IsFrontOf least all bytes = (bytes.bytes ≡ length all) × HoldsFirst least all bytes.held.now
+
+-- These are the number and the last bytes of all these bytes, at least `least` of them.
+abbrev pub IsEndOf : ℕ → List ℕ → HeldBytes → Type 0
+IsEndOf least all bytes = (bytes.bytes ≡ length all) × HoldsLast least all bytes.held.now
+
+-- The event with this opcode and this payload. No event has the opcode of a continuation.
+abbrev pub event_of : Op → List ℕ → MeantEvent
+event_of ops.Text payload = Message kinds.Text payload
+event_of ops.Binary payload = Message kinds.Binary payload
+event_of op payload = Control op payload
+
+-- What is held of an event's payload for a view of n bytes: of a message the first bytes, of a control all.
+abbrev pub HoldsPayload : ℕ → MeantEvent → List ℕ → Type 0
+HoldsPayload n (Message kind payload) held = HoldsFirst n payload held
+HoldsPayload n (Control op body) held = held ≡ body
+
+-- For a view of n bytes this stands for the event.
+pub record Represents (n : ℕ) (shown : ShownEvent) (event : MeantEvent) : Type 0 where
+  pub payload : List ℕ
+  pub is : event ≡ event_of shown.op payload
+  pub size : shown.bytes ≡ length payload
+  pub holds : HoldsPayload n event shown.held.now
+
+-- If the event is a Close, its reason, which is after two bytes of code, is UTF-8.
+abbrev pub HasTextReason : MeantEvent → Type 0
+HasTextReason (Control ops.Close body) = IsUtf8 (drop 2 body)
+HasTextReason event = ⊤
+
+-- The word for bytes that belong to no frame.
+abbrev pub remainder_word : Remainder → List ℕ
+remainder_word remainders.Unread = codes "unread"
+remainder_word remainders.Tail = codes "tail"
+
+-- The item of bytes that belong to no frame.
+abbrev pub item_of_remainder : Remainder → ℕ → List ℕ → Item
+item_of_remainder remainders.Unread offset bytes = Unread offset bytes
+item_of_remainder remainders.Tail offset bytes = Tail offset bytes

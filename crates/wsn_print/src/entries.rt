@@ -1,0 +1,218 @@
+ghost use Rattle.std.specs.Prelude.{◌≡◌, ℕ, ◌+◌, ◌/◌, ◌≤◌, ◌++◌, false, List, codes, decimal, length};
+ghost use Rattle.wsn_io.specs.Stops.{IsWrittenOrStops};
+ghost use Rattle.wsn_rules.specs.Meaning.{MeantEvent};
+ghost use Rattle.wsn_rules.specs.ShownStream.Item.{Event, Unfinished, UnfinishedHead, RefusedFrame};
+ghost use Rattle.wsn_print.specs.Fields.{number_text, refusal_text};
+ghost use Rattle.wsn_print.specs.ShownText.{item_line, end_line, front_text, event_text, role_letter};
+ghost use Rattle.wsn_print.specs.ShownParts.{time_of, Represents, HasTextReason, IsFrontOf, IsEndOf, item_of_remainder, remainder_word};
+
+use crate::heads::op_word;
+use crate::line::Line;
+use crate::shown::{Front, HeldBytes, Remainder, ShownEvent, ViewLimit};
+use crate::views::{put_end_view, put_event_view, put_hex_view, put_unfinished_view};
+use std::io::Write;
+use wsn_io::{Output, Stop, put_line};
+use wsn_rules::Refusal;
+use wsn_wire::Role;
+
+/// Writes the line of a complete event, such as `C - 0 text 5 1 "Hello"`: its front, its word, its payload bytes, its
+/// frames, and what is shown of its payload. `Stop::Write` if the writer fails: a prefix of the line was written.
+pub fn put_event<W: Write>(
+    to: &mut Output<W>,
+    view: ViewLimit,
+    front: &Front<'_>,
+    event: &ShownEvent<'_>,
+) -> Result<(), Stop>
+    requires { to.old.failed ≡ false }
+    ensures { (e : MeantEvent) → Represents view event.now e → HasTextReason e →
+        IsWrittenOrStops to.old to.new (item_line view front.now.role (time_of front.now)
+        (Event front.now.offset e event.now.frames)) result }
+{
+    put_front(to, front)?;
+    put_line(to, line_of_event(event).bytes())?;
+    put_event_view(to, view, event)?;
+    put_line(to, b"\n")
+}
+
+/// Writes the line of an event that isn't complete, such as `S - 17 unfinished binary 56 1 lacks 144 00ff00ff ..`: as
+/// that of a complete one, and how many bytes its last frame lacks, `None` if only a part of the next head has come.
+/// `Stop::Write` if the writer fails: a prefix of the line was written.
+pub fn put_unfinished<W: Write>(
+    to: &mut Output<W>,
+    view: ViewLimit,
+    front: &Front<'_>,
+    event: &ShownEvent<'_>,
+    lacks: Option<u64>,
+) -> Result<(), Stop>
+    requires { to.old.failed ≡ false }
+    ensures { (e : MeantEvent) → Represents view event.now e →
+        IsWrittenOrStops to.old to.new (item_line view front.now.role (time_of front.now)
+        (Unfinished front.now.offset e event.now.frames lacks)) result }
+{
+    put_front(to, front)?;
+    put_line(to, line_of_unfinished_event(event, lacks).bytes())?;
+    put_unfinished_view(to, view, event)?;
+    put_line(to, b"\n")
+}
+
+/// Writes the line of a part of a head while no message is open. `Stop::Write` if the writer fails: a prefix of the
+/// line was written.
+pub fn put_unfinished_head<W: Write>(to: &mut Output<W>, front: &Front<'_>) -> Result<(), Stop>
+    requires { to.old.failed ≡ false }
+    ensures { (n : ℕ) → IsWrittenOrStops to.old to.new
+        (item_line n front.now.role (time_of front.now) (UnfinishedHead front.now.offset)) result }
+{
+    put_front(to, front)?;
+    put_line(to, b"unfinished head 0 0 lacks - -\n")
+}
+
+/// Writes the line of a refusal, such as `S - 7 refused 11 text-bad 1007 4772fc`: its front, the verdict, and the last
+/// bytes of its evidence, which ends with the offending byte. `Stop::Write` if the writer fails: a prefix of the line
+/// was written.
+pub fn put_refused<W: Write>(
+    to: &mut Output<W>,
+    view: ViewLimit,
+    front: &Front<'_>,
+    refusal: &Refusal,
+    evidence: &HeldBytes<'_>,
+) -> Result<(), Stop>
+    requires { to.old.failed ≡ false }
+    ensures { (all : List ℕ) → IsEndOf (view / 2) all evidence.now →
+        IsWrittenOrStops to.old to.new (item_line view front.now.role (time_of front.now)
+        (RefusedFrame front.now.offset refusal.now all)) result }
+{
+    put_front(to, front)?;
+    put_line(to, line_of_refusal(refusal).bytes())?;
+    put_end_view(to, view, evidence)?;
+    put_line(to, b"\n")
+}
+
+/// Writes the line of bytes that belong to no frame, such as `S - 12 unread 6 df65880203ef`: their front, their
+/// number, and the first of them. `Stop::Write` if the writer fails: a prefix of the line was written.
+pub fn put_remainder<W: Write>(
+    to: &mut Output<W>,
+    view: ViewLimit,
+    front: &Front<'_>,
+    which: Remainder,
+    bytes: &HeldBytes<'_>,
+) -> Result<(), Stop>
+    requires { to.old.failed ≡ false }
+    ensures { (all : List ℕ) → IsFrontOf (view / 2) all bytes.now →
+        IsWrittenOrStops to.old to.new (item_line view front.now.role (time_of front.now)
+        (item_of_remainder which front.now.offset all)) result }
+{
+    put_front(to, front)?;
+    put_line(to, line_of_remainder(which, bytes.bytes).bytes())?;
+    put_hex_view(to, view, bytes)?;
+    put_line(to, b"\n")
+}
+
+/// Writes the line of an endpoint's end mark, such as `C - 378 end`; the offset is the number of bytes that the
+/// endpoint sent. `Stop::Write` if the writer fails: a prefix of the line was written.
+pub fn put_end<W: Write>(to: &mut Output<W>, front: &Front<'_>) -> Result<(), Stop>
+    requires { to.old.failed ≡ false }
+    ensures { IsWrittenOrStops to.old to.new
+        (end_line front.now.role (time_of front.now) front.now.offset) result }
+{
+    put_front(to, front)?;
+    put_line(to, b"end\n")
+}
+
+/// Writes what is in front of an entry.
+fn put_front<W: Write>(to: &mut Output<W>, front: &Front<'_>) -> Result<(), Stop>
+    requires { to.old.failed ≡ false }
+    ensures { IsWrittenOrStops to.old to.new
+        (front_text front.now.role (time_of front.now) front.now.offset) result }
+{
+    put_line(to, role_letter(front.role).as_bytes())?;
+    put_line(to, b" ")?;
+    put_line(to, front.time.unwrap_or(b"-"))?;
+    put_line(to, line_of_offset(front.offset).bytes())
+}
+
+fn role_letter(role: Role) -> &'static str
+    ensures { result.now ≡ role_letter role }
+{
+    match role {
+        Role::Client => "C",
+        Role::Server => "S",
+    }
+}
+
+fn line_of_offset(offset: u64) -> Line<22>
+    ensures { result ≡ codes " " ++ decimal offset ++ codes " " }
+{
+    let mut line = Line::new();
+    line.push(" ");
+    line.push_number(offset);
+    line.push(" ");
+    line
+}
+
+/// The word, the payload bytes and the frames of an event.
+fn line_of_event(event: &ShownEvent<'_>) -> Line<49>
+    ensures { (n : ℕ) (e : MeantEvent) → Represents n event.now e →
+        result ≡ event_text e event.now.frames ++ codes " " }
+{
+    let mut line = Line::new();
+    push_event(&mut line, event);
+    line
+}
+
+fn line_of_unfinished_event(event: &ShownEvent<'_>, lacks: Option<u64>) -> Line<88>
+    ensures { (n : ℕ) (e : MeantEvent) → Represents n event.now e →
+        result ≡ codes "unfinished " ++ event_text e event.now.frames ++ codes " lacks " ++ number_text lacks
+        ++ codes " " }
+{
+    let mut line = Line::new();
+    line.push("unfinished ");
+    push_event(&mut line, event);
+    line.push("lacks ");
+    line.push_number_or_dash(lacks);
+    line.push(" ");
+    line
+}
+
+fn push_event<const MAX: usize>(line: &mut Line<MAX>, event: &ShownEvent<'_>)
+    requires { length line.old + 49 ≤ MAX }
+    ensures text { (n : ℕ) (e : MeantEvent) → Represents n event.now e →
+        line.new ≡ line.old ++ event_text e event.now.frames ++ codes " " }
+    ensures len { length line.new ≤ length line.old + 49 }
+{
+    line.push(op_word(event.op));
+    line.push(" ");
+    line.push_number(event.bytes);
+    line.push(" ");
+    line.push_number(event.frames);
+    line.push(" ");
+}
+
+fn line_of_refusal(refusal: &Refusal) -> Line<70>
+    ensures { result ≡ refusal_text refusal.now ++ codes " " }
+{
+    let mut line = Line::new();
+    line.push_refusal(refusal);
+    line.push(" ");
+    line
+}
+
+fn line_of_remainder(which: Remainder, bytes: u64) -> Line<28>
+    ensures { result ≡ remainder_word which ++ codes " " ++ decimal bytes ++ codes " " }
+{
+    let mut line = Line::new();
+    line.push(remainder_word(which));
+    line.push(" ");
+    line.push_number(bytes);
+    line.push(" ");
+    line
+}
+
+fn remainder_word(which: Remainder) -> &'static str
+    ensures word { result.now ≡ remainder_word which }
+    ensures short { length result.now ≤ 6 }
+{
+    match which {
+        Remainder::Unread => "unread",
+        Remainder::Tail => "tail",
+    }
+}

@@ -1,0 +1,139 @@
+ghost use Rattle.std.specs.Prelude.{◌≡◌, ◌++◌, ◌/◌, ◌%◌, [], ◌∷◌, ◌==◌, ◌<◌, ◌≤◌, false, length, if◌then◌else◌, flat_map};
+ghost use Rattle.std.specs.Str.{chars};
+ghost use Rattle.std.specs.Str.Lossy.{utf8_valid_len};
+ghost use Rattle.wsn_io.specs.Stops.{IsWrittenOrStops};
+ghost use Rattle.wsn_print.specs.ShownText.{is_hidden, unicode_escape, shown_character, quoted_character, quoted, shown_byte, comment_line};
+
+use crate::line::Line;
+use std::io::Write;
+use std::str;
+use wsn_io::{Output, Stop, put_line};
+
+/// The most bytes of a character that is shown: `\u` and four digits.
+const CHARACTER_MAX: usize = 6;
+
+/// Writes a comment of a capture in one line, with its hidden characters escaped as `\u` and four digits. Of a comment
+/// that isn't UTF-8, each byte that isn't printable ASCII is escaped as `\x` and two digits. `Stop::Write` if the writer
+/// fails: a prefix of the line was written.
+pub fn put_comment<W: Write>(to: &mut Output<W>, text: &[u8]) -> Result<(), Stop>
+    requires { to.old.failed ≡ false }
+    ensures { IsWrittenOrStops to.old to.new (comment_line text.now) result }
+{
+    match str::from_utf8(text) {
+        Ok(characters) => put_shown(to, characters)?,
+        Err(_) => put_shown_bytes(to, text)?,
+    }
+    put_line(to, b"\n")
+}
+
+/// Writes a text between quotation marks.
+pub(crate) fn put_quoted<W: Write>(to: &mut Output<W>, text: &str) -> Result<(), Stop>
+    requires { to.old.failed ≡ false }
+    ensures { IsWrittenOrStops to.old to.new (quoted text.now) result }
+{
+    put_line(to, b"\"")?;
+    put_quoted_characters(to, text)?;
+    put_line(to, b"\"")
+}
+
+#[inline(never)]
+fn put_quoted_characters<W: Write>(to: &mut Output<W>, text: &str) -> Result<(), Stop>
+    requires { to.old.failed ≡ false }
+    ensures { IsWrittenOrStops to.old to.new (flat_map quoted_character (chars text.now)) result }
+{
+    for c in text.chars() {
+        put_line(to, quoted_character(c).bytes())?;
+    }
+    Ok(())
+}
+
+#[inline(never)]
+fn put_shown<W: Write>(to: &mut Output<W>, text: &str) -> Result<(), Stop>
+    requires { to.old.failed ≡ false }
+    ensures { IsWrittenOrStops to.old to.new (flat_map shown_character (chars text.now)) result }
+{
+    for c in text.chars() {
+        put_line(to, shown_character(c).bytes())?;
+    }
+    Ok(())
+}
+
+#[inline(never)]
+fn put_shown_bytes<W: Write>(to: &mut Output<W>, bytes: &[u8]) -> Result<(), Stop>
+    requires { to.old.failed ≡ false }
+    ensures { IsWrittenOrStops to.old to.new (flat_map shown_byte bytes.now) result }
+{
+    for b in bytes {
+        put_line(to, shown_byte(*b).bytes())?;
+    }
+    Ok(())
+}
+
+fn quoted_character(c: char) -> Line<CHARACTER_MAX>
+    ensures { result ≡ quoted_character c }
+{
+    match c {
+        '"' => line_of("\\\""),
+        '\\' => line_of("\\\\"),
+        _ => shown_character(c),
+    }
+}
+
+fn line_of(text: &str) -> Line<CHARACTER_MAX>
+    requires { length text.now ≤ 6 }
+    ensures { result ≡ text.now }
+{
+    let mut line = Line::new();
+    line.push(text);
+    line
+}
+
+fn shown_character(c: char) -> Line<CHARACTER_MAX>
+    ensures { result ≡ shown_character c }
+{
+    if is_hidden(c) {
+        return unicode_escape(c);
+    }
+    line_of(c.encode_utf8(&mut [0; 4]))
+}
+
+/// `\u` and four digits.
+fn unicode_escape(c: char) -> Line<CHARACTER_MAX>
+    requires { c < 65536 }
+    ensures { result ≡ unicode_escape c }
+{
+    let code = u32::from(c);
+    let mut line = Line::new();
+    line.push("\\u");
+    line.push_hex(&[(code / 256) as u8, (code % 256) as u8]);
+    line
+}
+
+/// Whether a character moves a terminal's cursor, or changes how the text around it is shown.
+fn is_hidden(c: char) -> bool
+    ensures { result ≡ is_hidden c }
+{
+    matches!(
+        c,
+        '\0'..='\u{1f}'
+            | '\u{7f}'..='\u{9f}'
+            | '\u{61c}'
+            | '\u{200e}'..='\u{200f}'
+            | '\u{2028}'..='\u{202e}'
+            | '\u{2066}'..='\u{2069}'
+            | '\u{feff}'
+    )
+}
+
+fn shown_byte(b: u8) -> Line<4>
+    ensures { result ≡ shown_byte b }
+{
+    let mut line = Line::new();
+    if matches!(b, b' '..=b'~') {
+        line.push_byte(b);
+    } else {
+        line.push("\\x");
+        line.push_hex(&[b]);
+    }
+    line
+}

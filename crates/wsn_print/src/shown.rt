@@ -1,0 +1,88 @@
+use std::marker::Model;
+use wsn_wire::{Op, Role};
+
+/// The greatest limit on the bytes of a payload that an entry shows.
+pub const VIEW_MAX: u16 = 4_096;
+
+/// The most bytes of a payload that an entry shows: 0 to 4,096.
+#[derive(Clone, Copy)]
+pub struct ViewLimit {
+    bytes: u16,
+}
+
+impl Model for ViewLimit {
+    ghost use Rattle.std.specs.Prelude.{ℕ, ◌≤◌};
+
+    ghost Value = { ℕ };
+
+    ghost view = { λ v. v.bytes };
+
+    ghost invariant = { λ v. v.bytes ≤ 4096 };
+
+    ghost inverse = { λ n. record { bytes = n } };
+}
+
+impl ViewLimit {
+    ghost use Rattle.std.specs.Prelude.{◌≡◌, ◌≤◌, ◌↔◌, IfSome, IsSome};
+
+    /// A limit of `bytes` bytes. `None` exactly if that is over 4,096.
+    pub fn new(bytes: u16) -> Option<ViewLimit>
+        ensures in_range { IsSome result ↔ (bytes ≤ 4096) }
+        ensures value { IfSome result (λ view. view ≡ bytes) }
+    {
+        if bytes > VIEW_MAX {
+            return None;
+        }
+        Some(ViewLimit { bytes })
+    }
+
+    /// The number of bytes.
+    pub fn bytes(&self) -> usize
+        ensures is { result ≡ self.now }
+        ensures in_range { result ≤ 4096 }
+    {
+        usize::from(self.bytes)
+    }
+}
+
+/// What is in front of an entry.
+#[derive(Clone, Copy)]
+pub struct Front<'a> {
+    /// The endpoint that sent it.
+    pub role: Role,
+    /// The time that the capture gives, in seconds; `None` if it gives none.
+    pub time: Option<&'a [u8]>,
+    /// The offset in the endpoint's stream, from 0.
+    pub offset: u64,
+}
+
+/// An event to be shown, complete or not.
+#[derive(Clone, Copy)]
+pub struct ShownEvent<'a> {
+    /// Its opcode: of a message, that of its first frame.
+    pub op: Op,
+    /// The number of bytes of its payload.
+    pub bytes: u64,
+    /// The number of its frames.
+    pub frames: u64,
+    /// The first bytes of its payload: of a message at least as many as a view shows, of a control all.
+    pub held: &'a [u8],
+}
+
+/// Bytes of which only the first or only the last are held.
+#[derive(Clone, Copy)]
+pub struct HeldBytes<'a> {
+    /// The number of all the bytes.
+    pub bytes: u64,
+    /// The bytes that are held.
+    pub held: &'a [u8],
+}
+
+/// What bytes are that belong to no frame.
+#[derive(Clone, Copy)]
+pub enum Remainder {
+    /// Bytes after a refusal.
+    Unread,
+    /// Bytes after a Close.
+    Tail,
+}
