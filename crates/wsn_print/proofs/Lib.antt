@@ -1,2 +1,3 @@
 pub mod ReportTexts
 pub mod ComputedHeads
+pub mod Pieces

@@ -3,7 +3,7 @@ ghost use Rattle.wsn_io.specs.Stops.{IsWrittenOrStops};
 ghost use Rattle.wsn_rules.specs.Meaning.{MeantEvent};
 ghost use Rattle.wsn_rules.specs.ShownStream.Item.{Event, Unfinished, UnfinishedHead, RefusedFrame};
 ghost use Rattle.wsn_print.specs.Fields.{number_text, refusal_text};
-ghost use Rattle.wsn_print.specs.ShownText.{item_line, end_line, front_text, event_text, role_letter};
+ghost use Rattle.wsn_print.specs.ShownText.{item_line, end_line, front_text, event_text, role_letter, time_text};
 ghost use Rattle.wsn_print.specs.ShownParts.{time_of, Represents, HasTextReason, IsFrontOf, IsEndOf, item_of_remainder, remainder_word};
 
 use crate::heads::op_word;
@@ -124,18 +124,26 @@ fn put_front<W: Write>(to: &mut Output<W>, front: &Front<'_>) -> Result<(), Stop
     ensures { IsWrittenOrStops to.old to.new
         (front_text front.now.role (time_of front.now) front.now.offset) result }
 {
-    put_line(to, role_letter(front.role).as_bytes())?;
-    put_line(to, b" ")?;
-    put_line(to, front.time.unwrap_or(b"-"))?;
+    put_line(to, letter_of(front.role))?;
+    put_line(to, seconds_of(front))?;
     put_line(to, line_of_offset(front.offset).bytes())
 }
 
-fn role_letter(role: Role) -> &'static str
-    ensures { result.now ≡ role_letter role }
+fn letter_of(role: Role) -> &'static [u8]
+    ensures { result.now ≡ role_letter role ++ codes " " }
 {
     match role {
-        Role::Client => "C",
-        Role::Server => "S",
+        Role::Client => b"C ",
+        Role::Server => b"S ",
+    }
+}
+
+fn seconds_of<'a>(front: &Front<'a>) -> &'a [u8]
+    ensures { result.now ≡ time_text (time_of front.now) }
+{
+    match front.time {
+        Some(seconds) => seconds,
+        None => b"-",
     }
 }
 

@@ -37,6 +37,7 @@ pub(crate) fn put_quoted<W: Write>(to: &mut Output<W>, text: &str) -> Result<(),
 }
 
 #[inline(never)]
+#[tactic(none)]
 fn put_quoted_characters<W: Write>(to: &mut Output<W>, text: &str) -> Result<(), Stop>
     requires { to.old.failed ≡ false }
     ensures { IsWrittenOrStops to.old to.new (flat_map quoted_character (chars text.now)) result }
@@ -48,6 +49,7 @@ fn put_quoted_characters<W: Write>(to: &mut Output<W>, text: &str) -> Result<(),
 }
 
 #[inline(never)]
+#[tactic(none)]
 fn put_shown<W: Write>(to: &mut Output<W>, text: &str) -> Result<(), Stop>
     requires { to.old.failed ≡ false }
     ensures { IsWrittenOrStops to.old to.new (flat_map shown_character (chars text.now)) result }
@@ -59,6 +61,7 @@ fn put_shown<W: Write>(to: &mut Output<W>, text: &str) -> Result<(), Stop>
 }
 
 #[inline(never)]
+#[tactic(none)]
 fn put_shown_bytes<W: Write>(to: &mut Output<W>, bytes: &[u8]) -> Result<(), Stop>
     requires { to.old.failed ≡ false }
     ensures { IsWrittenOrStops to.old to.new (flat_map shown_byte bytes.now) result }

@@ -1,4 +1,4 @@
-ghost use Rattle.std.specs.Prelude.{◌≡◌, ℕ, ◌-◌, ◌/◌, ◌<◌, ◌≤◌, ◌++◌, false, List, take, drop, length, decimal, codes};
+ghost use Rattle.std.specs.Prelude.{◌≡◌, ℕ, ◌-◌, ◌/◌, ◌<◌, ◌≤◌, ◌++◌, false, List, IfOk, take, drop, length, decimal, codes};
 ghost use Rattle.std.specs.Str.{IsUtf8};
 ghost use Rattle.std.specs.Str.Lossy.{utf8_valid_len};
 ghost use Rattle.hex.specs.Hex.{encode_lower};
@@ -25,8 +25,9 @@ pub(crate) fn put_event_view<W: Write>(
     event: &ShownEvent<'_>,
 ) -> Result<(), Stop>
     requires { to.old.failed ≡ false }
-    ensures { (e : MeantEvent) → Represents view event.now e → HasTextReason e →
+    ensures text { (e : MeantEvent) → Represents view event.now e → HasTextReason e →
         IsWrittenOrStops to.old to.new (event_view view e) result }
+    ensures unfailed { IfOk result (λ done. to.new.failed ≡ false) }
 {
     match event.op {
         Op::Text => put_text_view(to, view, &payload_of(event)),
@@ -43,8 +44,9 @@ pub(crate) fn put_unfinished_view<W: Write>(
     event: &ShownEvent<'_>,
 ) -> Result<(), Stop>
     requires { to.old.failed ≡ false }
-    ensures { (e : MeantEvent) → Represents view event.now e →
+    ensures text { (e : MeantEvent) → Represents view event.now e →
         IsWrittenOrStops to.old to.new (unfinished_view view e) result }
+    ensures unfailed { IfOk result (λ done. to.new.failed ≡ false) }
 {
     match event.op {
         Op::Text => put_text_view(to, view, &payload_of(event)),
@@ -69,8 +71,9 @@ fn put_text_view<W: Write>(
     text: &HeldBytes<'_>,
 ) -> Result<(), Stop>
     requires { to.old.failed ≡ false }
-    ensures { (all : List ℕ) → IsFrontOf view all text.now →
+    ensures text { (all : List ℕ) → IsFrontOf view all text.now →
         IsWrittenOrStops to.old to.new (text_view view all) result }
+    ensures unfailed { IfOk result (λ done. to.new.failed ≡ false) }
 {
     if view.bytes() == 0 && text.bytes > 0 {
         return put_line(to, b"-");
@@ -87,8 +90,9 @@ pub(crate) fn put_hex_view<W: Write>(
     bytes: &HeldBytes<'_>,
 ) -> Result<(), Stop>
     requires { to.old.failed ≡ false }
-    ensures { (all : List ℕ) → IsFrontOf (view / 2) all bytes.now →
+    ensures text { (all : List ℕ) → IsFrontOf (view / 2) all bytes.now →
         IsWrittenOrStops to.old to.new (hex_view view all) result }
+    ensures unfailed { IfOk result (λ done. to.new.failed ≡ false) }
 {
     if view.bytes() == 0 {
         return put_line(to, b"-");
@@ -105,8 +109,9 @@ pub(crate) fn put_end_view<W: Write>(
     bytes: &HeldBytes<'_>,
 ) -> Result<(), Stop>
     requires { to.old.failed ≡ false }
-    ensures { (all : List ℕ) → IsEndOf (view / 2) all bytes.now →
+    ensures text { (all : List ℕ) → IsEndOf (view / 2) all bytes.now →
         IsWrittenOrStops to.old to.new (end_view view all) result }
+    ensures unfailed { IfOk result (λ done. to.new.failed ≡ false) }
 {
     if view.bytes() == 0 {
         return put_line(to, b"-");
@@ -137,7 +142,8 @@ fn put_body_view<W: Write>(to: &mut Output<W>, view: ViewLimit, body: &[u8]) -> 
 /// Writes a Close's code and reason; a dash for an empty body, and if the view is 0.
 fn put_close_view<W: Write>(to: &mut Output<W>, view: ViewLimit, body: &[u8]) -> Result<(), Stop>
     requires { to.old.failed ≡ false }
-    ensures { IsUtf8 (drop 2 body.now) → IsWrittenOrStops to.old to.new (close_view view body.now) result }
+    ensures text { IsUtf8 (drop 2 body.now) → IsWrittenOrStops to.old to.new (close_view view body.now) result }
+    ensures unfailed { IfOk result (λ done. to.new.failed ≡ false) }
 {
     if view.bytes() == 0 || body.len() < 2 {
         return put_line(to, b"-");
@@ -160,7 +166,8 @@ fn line_of_code(code: u16) -> Line<20>
 /// Writes a Close's reason after a space; nothing without one.
 fn put_reason<W: Write>(to: &mut Output<W>, reason: &[u8]) -> Result<(), Stop>
     requires { to.old.failed ≡ false }
-    ensures { IsUtf8 reason.now → IsWrittenOrStops to.old to.new (reason_text reason.now) result }
+    ensures text { IsUtf8 reason.now → IsWrittenOrStops to.old to.new (reason_text reason.now) result }
+    ensures unfailed { IfOk result (λ done. to.new.failed ≡ false) }
 {
     if reason.is_empty() {
         return Ok(());
