@@ -1,3 +1,4 @@
 pub mod ReportTexts
 pub mod ComputedHeads
 pub mod Pieces
+pub mod HeldViews

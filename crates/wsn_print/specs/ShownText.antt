@@ -1,5 +1,5 @@
 -- The lines of `show`, each with its LF: entries of what both sides sent, comments and the report.
-use Rattle.std.specs.Prelude.{ℕ, ◌+◌, ◌*◌, ◌-◌, ◌/◌, ◌%◌, ◌==◌, ◌&&◌, ◌||◌, nat_le, nat_lt, Bool, true, false, if◌then◌else◌, Option, None, Some, List, [], ◌∷◌, ◌++◌, length, take, drop, flat_map, codes, decimal}
+use Rattle.std.specs.Prelude.{ℕ, ◌+◌, ◌*◌, ◌-◌, ◌/◌, ◌%◌, ◌==◌, ◌&&◌, ◌||◌, nat_le, nat_lt, Bool, true, if◌then◌else◌, Option, None, Some, List, [], ◌∷◌, ◌++◌, length, take, drop, flat_map, codes, decimal}
 use Rattle.std.specs.Char.{encode_utf8}
 use Rattle.std.specs.Str.{chars}
 use Rattle.std.specs.Str.Lossy.{utf8_valid_len}
@@ -196,10 +196,13 @@ abbrev pub shown_byte : ℕ → List ℕ
 shown_byte b = if is_from 0x20 0x7e b then b ∷ [] else codes "\\x" ++ encode_lower (b ∷ [])
 
 -- A comment as it is, with its hidden characters escaped.
+abbrev pub comment_text : List ℕ → List ℕ
+comment_text text =
+    if utf8_valid_len text == length text then flat_map shown_character (chars text) else flat_map shown_byte text
+
+-- The line of a comment.
 abbrev pub comment_line : List ℕ → List ℕ
-comment_line text =
-    (if utf8_valid_len text == length text then flat_map shown_character (chars text) else flat_map shown_byte text)
-    ++ codes "\n"
+comment_line text = comment_text text ++ codes "\n"
 
 -- The line of an endpoint's end mark. The offset is the number of bytes that the endpoint sent.
 abbrev pub end_line : Role → Option (List ℕ) → ℕ → List ℕ

@@ -2,7 +2,7 @@ ghost use Rattle.std.specs.Prelude.{◌≡◌, ◌++◌, ◌/◌, ◌%◌, [], �
 ghost use Rattle.std.specs.Str.{chars};
 ghost use Rattle.std.specs.Str.Lossy.{utf8_valid_len};
 ghost use Rattle.wsn_io.specs.Stops.{IsWrittenOrStops};
-ghost use Rattle.wsn_print.specs.ShownText.{is_hidden, unicode_escape, shown_character, quoted_character, quoted, shown_byte, comment_line};
+ghost use Rattle.wsn_print.specs.ShownText.{is_hidden, unicode_escape, shown_character, quoted_character, quoted, shown_byte, comment_text, comment_line};
 
 use crate::line::Line;
 use std::io::Write;
@@ -19,11 +19,18 @@ pub fn put_comment<W: Write>(to: &mut Output<W>, text: &[u8]) -> Result<(), Stop
     requires { to.old.failed ≡ false }
     ensures { IsWrittenOrStops to.old to.new (comment_line text.now) result }
 {
-    match str::from_utf8(text) {
-        Ok(characters) => put_shown(to, characters)?,
-        Err(_) => put_shown_bytes(to, text)?,
-    }
+    put_comment_text(to, text)?;
     put_line(to, b"\n")
+}
+
+fn put_comment_text<W: Write>(to: &mut Output<W>, text: &[u8]) -> Result<(), Stop>
+    requires { to.old.failed ≡ false }
+    ensures { IsWrittenOrStops to.old to.new (comment_text text.now) result }
+{
+    match str::from_utf8(text) {
+        Ok(characters) => put_shown(to, characters),
+        Err(_) => put_shown_bytes(to, text),
+    }
 }
 
 /// Writes a text between quotation marks.

@@ -1,4 +1,4 @@
-ghost use Rattle.std.specs.Prelude.{◌≡◌, ℕ, ◌-◌, ◌/◌, ◌<◌, ◌≤◌, ◌++◌, false, List, IfOk, take, drop, length, decimal, codes};
+ghost use Rattle.std.specs.Prelude.{◌≡◌, ℕ, ◌-◌, ◌/◌, ◌<◌, ◌≤◌, [], ◌++◌, ◌==◌, ◌&&◌, nat_lt, if◌then◌else◌, false, List, IfOk, take, drop, length, decimal, codes};
 ghost use Rattle.std.specs.Str.{IsUtf8};
 ghost use Rattle.std.specs.Str.Lossy.{utf8_valid_len};
 ghost use Rattle.hex.specs.Hex.{encode_lower};
@@ -75,12 +75,19 @@ fn put_text_view<W: Write>(
         IsWrittenOrStops to.old to.new (text_view view all) result }
     ensures unfailed { IfOk result (λ done. to.new.failed ≡ false) }
 {
-    if view.bytes() == 0 && text.bytes > 0 {
+    if shows_nothing(view, text.bytes) {
         return put_line(to, b"-");
     }
     let shown = whole_characters(front_of(text.held, view.bytes()));
     put_quoted(to, shown)?;
     put_left_out(to, shown.len(), text.bytes)
+}
+
+/// Whether nothing is shown of a text that isn't empty.
+fn shows_nothing(view: ViewLimit, bytes: u64) -> bool
+    ensures { result ≡ (view == 0 && nat_lt 0 bytes) }
+{
+    view.bytes() == 0 && bytes > 0
 }
 
 /// Writes the first bytes in hexadecimal.
@@ -117,9 +124,7 @@ pub(crate) fn put_end_view<W: Write>(
         return put_line(to, b"-");
     }
     let most = view.bytes() / 2;
-    if (most as u64) < bytes.bytes {
-        put_line(to, b"..")?;
-    }
+    put_left_out_before(to, most, bytes.bytes)?;
     put_hex(to, end_of(bytes.held, most))
 }
 
@@ -145,13 +150,14 @@ fn put_close_view<W: Write>(to: &mut Output<W>, view: ViewLimit, body: &[u8]) ->
     ensures text { IsUtf8 (drop 2 body.now) → IsWrittenOrStops to.old to.new (close_view view body.now) result }
     ensures unfailed { IfOk result (λ done. to.new.failed ≡ false) }
 {
-    if view.bytes() == 0 || body.len() < 2 {
+    if view.bytes() == 0 {
         return put_line(to, b"-");
     }
-    put_line(
-        to,
-        line_of_code(u16::from_be_bytes([body[0], body[1]])).bytes(),
-    )?;
+    if body.len() < 2 {
+        return put_line(to, b"-");
+    }
+    let code = u16::from(body[0]) * 256 + u16::from(body[1]);
+    put_line(to, line_of_code(code).bytes())?;
     put_reason(to, &body[2..])
 }
 
@@ -189,7 +195,12 @@ fn whole_characters(bytes: &[u8]) -> &str
 fn is_printable(bytes: &[u8]) -> bool
     ensures { result ≡ is_printable bytes.now }
 {
-    bytes.iter().all(|b| matches!(*b, b' '..=b'~'))
+    for b in bytes {
+        if !matches!(b, b' '..=b'~') {
+            return false;
+        }
+    }
+    true
 }
 
 /// The first bytes, at most `most`.
@@ -221,6 +232,18 @@ fn put_left_out<W: Write>(to: &mut Output<W>, shown: usize, all: u64) -> Result<
 {
     if (shown as u64) < all {
         put_line(to, b" ..")
+    } else {
+        Ok(())
+    }
+}
+
+/// Writes `..` if fewer bytes are shown than there are.
+fn put_left_out_before<W: Write>(to: &mut Output<W>, shown: usize, all: u64) -> Result<(), Stop>
+    requires { to.old.failed ≡ false }
+    ensures { IsWrittenOrStops to.old to.new (if nat_lt shown all then codes ".." else []) result }
+{
+    if (shown as u64) < all {
+        put_line(to, b"..")
     } else {
         Ok(())
     }

@@ -1,4 +1,4 @@
-use Rattle.std.proofs.Common.{◌≡◌, ℕ, ◌+◌, List, ◌++◌, codes, decimal, append_assoc, ◌∙◌, subst, sym, rules}
+use Rattle.std.proofs.Common.{◌≡◌, ℕ, List, ◌++◌, codes, decimal, append_assoc, ◌∙◌, subst}
 use Rattle.wsn_io.specs.Transfer.{IsWritten, IsPartlyWritten}
 use Rattle.wsn_io.specs.declared.stop.Stop.TheVariants as stop
 use Rattle.wsn_io.specs.Stops.{IsWrittenOrStops}
@@ -9,7 +9,7 @@ use Rattle.wsn_print.proofs.entries.put_front.Goals as goal
 
 pub returns-in_err-put_line : goal.returns-in_err-put_line
 returns-in_err-put_line g c =
-    first_stops c.args.to.now c.put_line.new.to (role_letter c.args.front.now.role ++ codes " ") ((time_text (time_of c.args.front.now)) ++ (codes " " ++ decimal c.args.front.now.offset ++ codes " ")) (front_text c.args.front.now.role (time_of c.args.front.now) c.args.front.now.offset) c.in_err-put_line.field-0.0 c.from_residual.result (simp append_assoc)  (subst (λ (t : List ℕ). (c.in_err-put_line.field-0.0 ≡ stop.Write) × IsPartlyWritten c.args.to.now c.put_line.new.to t) (c.letter_of.ensures) c.in_err-put_line.ensures) c.from_residual.ensures.1
+    first_stops c.args.to.now c.put_line.new.to (role_letter c.args.front.now.role ++ codes " ") ((time_text (time_of c.args.front.now)) ++ (codes " " ++ decimal c.args.front.now.offset ++ codes " ")) (front_text c.args.front.now.role (time_of c.args.front.now) c.args.front.now.offset) c.in_err-put_line.field-0.0 c.from_residual.result (simp append_assoc) (subst (λ (t : List ℕ). (c.in_err-put_line.field-0.0 ≡ stop.Write) × IsPartlyWritten c.args.to.now c.put_line.new.to t) (c.letter_of.ensures) c.in_err-put_line.ensures) c.from_residual.ensures.1
 
 pub returns-in_err-put_line-2 : goal.returns-in_err-put_line-2
 returns-in_err-put_line-2 g c =

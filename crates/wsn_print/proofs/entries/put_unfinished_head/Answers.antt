@@ -1,7 +1,4 @@
-use Rattle.std.proofs.Common.{◌≡◌, ℕ, ◌+◌, List, ◌++◌, codes, decimal, append_assoc, ◌∙◌, subst, sym, rules}
-use Rattle.wsn_io.specs.Transfer.{IsWritten, IsPartlyWritten}
-use Rattle.wsn_io.specs.declared.stop.Stop.TheVariants as stop
-use Rattle.wsn_io.specs.Stops.{IsWrittenOrStops}
+use Rattle.std.proofs.Common.{codes, append_assoc}
 use Rattle.wsn_print.specs.ShownText.{front_text, item_line}
 use Rattle.wsn_print.specs.ShownParts.{time_of}
 use Rattle.wsn_rules.specs.ShownStream.Item.{UnfinishedHead}
@@ -10,7 +7,7 @@ use Rattle.wsn_print.proofs.entries.put_unfinished_head.Goals as goal
 
 pub returns-in_err-put_front : goal.returns-in_err-put_front
 returns-in_err-put_front g c = λ n.
-    first_stops c.args.to.now c.put_front.new.to (front_text c.args.front.now.role (time_of c.args.front.now) c.args.front.now.offset) (codes "unfinished head 0 0 lacks - -\n") (item_line n c.args.front.now.role (time_of c.args.front.now) (UnfinishedHead c.args.front.now.offset)) c.in_err-put_front.field-0.0 c.from_residual.result (simp append_assoc)  (c.in_err-put_front.ensures) c.from_residual.ensures.1
+    first_stops c.args.to.now c.put_front.new.to (front_text c.args.front.now.role (time_of c.args.front.now) c.args.front.now.offset) (codes "unfinished head 0 0 lacks - -\n") (item_line n c.args.front.now.role (time_of c.args.front.now) (UnfinishedHead c.args.front.now.offset)) c.in_err-put_front.field-0.0 c.from_residual.result (simp append_assoc) (c.in_err-put_front.ensures) c.from_residual.ensures.1
 
 pub returns : goal.returns
 returns g c = λ n.

@@ -1,7 +1,4 @@
-use Rattle.std.proofs.Common.{◌≡◌, ℕ, ◌+◌, List, ◌++◌, codes, decimal, append_assoc, ◌∙◌, subst, sym, rules}
-use Rattle.wsn_io.specs.Transfer.{IsWritten, IsPartlyWritten}
-use Rattle.wsn_io.specs.declared.stop.Stop.TheVariants as stop
-use Rattle.wsn_io.specs.Stops.{IsWrittenOrStops}
+use Rattle.std.proofs.Common.{◌++◌, codes, append_assoc}
 use Rattle.std.specs.Prelude.{flat_map}
 use Rattle.std.specs.Str.{chars}
 use Rattle.wsn_print.specs.ShownText.{quoted, quoted_character}
@@ -10,7 +7,7 @@ use Rattle.wsn_print.proofs.quoted.put_quoted.Goals as goal
 
 pub returns-in_err-put_line : goal.returns-in_err-put_line
 returns-in_err-put_line g c =
-    first_stops c.args.to.now c.put_line.new.to (codes "\"") ((flat_map quoted_character (chars c.args.text.now)) ++ (codes "\"")) (quoted c.args.text.now) c.in_err-put_line.field-0.0 c.from_residual.result (simp append_assoc)  (c.in_err-put_line.ensures) c.from_residual.ensures.1
+    first_stops c.args.to.now c.put_line.new.to (codes "\"") ((flat_map quoted_character (chars c.args.text.now)) ++ (codes "\"")) (quoted c.args.text.now) c.in_err-put_line.field-0.0 c.from_residual.result (simp append_assoc) (c.in_err-put_line.ensures) c.from_residual.ensures.1
 
 pub returns-in_err-put_quoted_characters : goal.returns-in_err-put_quoted_characters
 returns-in_err-put_quoted_characters g c =

@@ -1,4 +1,4 @@
-use Rattle.std.proofs.Common.{◌≡◌, ℕ, ◌+◌, ◌<◌, List, length, take, get_or, ◌∙◌, subst, refl, rules, arith}
+use Rattle.std.proofs.Common.{◌≡◌, ℕ, List, get_or, ◌∙◌, subst, refl, rules, arith}
 use Rattle.std.proofs.lemmas.Grind.{common_steps}
 use Rattle.wsn_io.specs.Transfer.{IsWritten, IsPartlyWritten}
 use Rattle.wsn_io.specs.declared.stop.Stop.TheVariants as stop
