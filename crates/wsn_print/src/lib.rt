@@ -15,6 +15,7 @@ mod entries;
 mod faults;
 mod heads;
 mod line;
+pub mod printed_entries;
 pub mod printed_lines;
 mod quoted;
 mod reports;

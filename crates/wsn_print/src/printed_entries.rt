@@ -1,0 +1,150 @@
+//! Examples of the printed lines of `show`, computed from the definitions in `specs/ShownText.antt`.
+
+ghost use Rattle.std.specs.Prelude.{◌≡◌, None, Some, [], ◌∷◌, ◌++◌, codes, replicate};
+ghost use Rattle.wsn_wire.specs.declared.endpoint.Role.TheVariants.{Client, Server};
+ghost use Rattle.wsn_wire.specs.declared.opcode.Kind.TheVariants as kind;
+ghost use Rattle.wsn_wire.specs.declared.opcode.Op.TheVariants.{Close, Ping, Pong};
+ghost use Rattle.wsn_wire.specs.declared.refusal.Reason.TheVariants.{TextBad};
+ghost use Rattle.wsn_rules.specs.declared.report.Outcome.TheVariants.{Failed};
+ghost use Rattle.wsn_rules.specs.declared.report.Side.TheVariants as side;
+ghost use Rattle.wsn_rules.specs.Meaning.{Message, Control};
+ghost use Rattle.wsn_rules.specs.ShownStream.Item.{Event, Unfinished, UnfinishedHead, RefusedFrame, Unread, Tail};
+ghost use Rattle.wsn_rules.specs.ShownCapture.LineItem.{OfStream, End, Comment};
+ghost use Rattle.wsn_print.specs.ShownText.{item_line, text_view, hex_view, body_view, quoted, comment_line, end_line, shown_text};
+
+/// The lines of complete events: their offset is that of the first frame.
+pub fn of_events()
+    ensures text { item_line 48 Server None (Event 0 (Message kind.Text (codes "Hello")) 1) ≡ codes "S - 0 text 5 1 \"Hello\"\n" }
+    ensures with_a_time { item_line 48 Client (Some (codes "0.001356")) (Event 11 (Message kind.Text (codes "Fragments of " ++ (0xe2 ∷ 0x82 ∷ 0xac ∷ []) ++ codes " a message")) 4) ≡ codes "C 0.001356 11 text 26 4 \"Fragments of " ++ (0xe2 ∷ 0x82 ∷ 0xac ∷ []) ++ codes " a message\"\n" }
+    ensures no_text { item_line 48 Client None (Event 7 (Message kind.Text []) 2) ≡ codes "C - 7 text 0 2 \"\"\n" }
+    ensures binary { item_line 48 Client None (Event 0 (Message kind.Binary ((0x00 ∷ 0xff ∷ []))) 1) ≡ codes "C - 0 binary 2 1 00ff\n" }
+    ensures no_bytes { item_line 48 Client None (Event 0 (Message kind.Binary []) 1) ≡ codes "C - 0 binary 0 1 -\n" }
+    ensures ping { item_line 48 Server None (Event 3 (Control Ping (codes "hi")) 1) ≡ codes "S - 3 ping 2 1 \"hi\"\n" }
+    ensures pong_in_hexadecimal { item_line 48 Server None (Event 3 (Control Pong (codes "h" ++ (0x00 ∷ []))) 1) ≡ codes "S - 3 pong 2 1 6800\n" }
+    ensures empty_ping { item_line 48 Server None (Event 3 (Control Ping []) 1) ≡ codes "S - 3 ping 0 1 \"\"\n" }
+    ensures close { item_line 48 Client None (Event 367 (Control Close ((0x03 ∷ 0xe8 ∷ []) ++ codes "bye")) 1) ≡ codes "C - 367 close 5 1 1000 \"bye\"\n" }
+    ensures close_without_reason { item_line 48 Client None (Event 0 (Control Close ((0x03 ∷ 0xef ∷ []))) 1) ≡ codes "C - 0 close 2 1 1007\n" }
+    ensures empty_close { item_line 48 Client None (Event 0 (Control Close []) 1) ≡ codes "C - 0 close 0 1 -\n" }
+    ensures reason_is_whole { item_line 2 Client None (Event 0 (Control Close ((0x03 ∷ 0xe8 ∷ []) ++ codes "bye")) 1) ≡ codes "C - 0 close 5 1 1000 \"bye\"\n" }
+    ensures closed_unseen { item_line 0 Client None (Event 0 (Control Close ((0x03 ∷ 0xe8 ∷ []) ++ codes "bye")) 1) ≡ codes "C - 0 close 5 1 -\n" }
+{}
+
+/// Views of 0 to 6 bytes, and of 48: characters are shown whole, and half as many bytes in hexadecimal as of a text.
+pub fn of_views()
+    ensures text_at_0 { text_view 0 (codes "Hello") ≡ codes "-" }
+    ensures text_at_1 { text_view 1 (codes "Hello") ≡ codes "\"H\" .." }
+    ensures text_at_2 { text_view 2 (codes "Hello") ≡ codes "\"He\" .." }
+    ensures text_at_3 { text_view 3 (codes "Hello") ≡ codes "\"Hel\" .." }
+    ensures text_at_4 { text_view 4 (codes "Hello") ≡ codes "\"Hell\" .." }
+    ensures text_at_5 { text_view 5 (codes "Hello") ≡ codes "\"Hello\"" }
+    ensures no_text_at_0 { text_view 0 [] ≡ codes "\"\"" }
+    ensures bytes_at_0 { hex_view 0 ((0xab ∷ 0xcd ∷ 0xef ∷ [])) ≡ codes "-" }
+    ensures bytes_at_1 { hex_view 1 ((0xab ∷ 0xcd ∷ 0xef ∷ [])) ≡ codes "- .." }
+    ensures bytes_at_2 { hex_view 2 ((0xab ∷ 0xcd ∷ 0xef ∷ [])) ≡ codes "ab .." }
+    ensures bytes_at_3 { hex_view 3 ((0xab ∷ 0xcd ∷ 0xef ∷ [])) ≡ codes "ab .." }
+    ensures bytes_at_4 { hex_view 4 ((0xab ∷ 0xcd ∷ 0xef ∷ [])) ≡ codes "abcd .." }
+    ensures bytes_at_6 { hex_view 6 ((0xab ∷ 0xcd ∷ 0xef ∷ [])) ≡ codes "abcdef" }
+    ensures no_bytes_at_0 { hex_view 0 [] ≡ codes "-" }
+    ensures exactly_48 { text_view 48 (replicate 48 120) ≡ codes "\"xxxxxxxxxxxxxxxxxxxxxxxxxxxxxxxxxxxxxxxxxxxxxxxx\"" }
+    ensures over_48 { text_view 48 (replicate 126 120) ≡ codes "\"xxxxxxxxxxxxxxxxxxxxxxxxxxxxxxxxxxxxxxxxxxxxxxxx\" .." }
+    ensures character_of_two_bytes_at_1 { text_view 1 ((0xc3 ∷ 0xa9 ∷ [])) ≡ codes "\"\" .." }
+    ensures character_of_two_bytes_at_2 { text_view 2 ((0xc3 ∷ 0xa9 ∷ [])) ≡ codes "\"" ++ (0xc3 ∷ 0xa9 ∷ []) ++ codes "\"" }
+    ensures character_of_three_bytes_at_1 { text_view 1 ((0xe2 ∷ 0x82 ∷ 0xac ∷ [])) ≡ codes "\"\" .." }
+    ensures character_of_three_bytes_at_2 { text_view 2 ((0xe2 ∷ 0x82 ∷ 0xac ∷ [])) ≡ codes "\"\" .." }
+    ensures character_of_three_bytes_at_3 { text_view 3 ((0xe2 ∷ 0x82 ∷ 0xac ∷ [])) ≡ codes "\"" ++ (0xe2 ∷ 0x82 ∷ 0xac ∷ []) ++ codes "\"" }
+    ensures character_of_four_bytes_at_1 { text_view 1 ((0xf0 ∷ 0x9f ∷ 0x98 ∷ 0x80 ∷ [])) ≡ codes "\"\" .." }
+    ensures character_of_four_bytes_at_2 { text_view 2 ((0xf0 ∷ 0x9f ∷ 0x98 ∷ 0x80 ∷ [])) ≡ codes "\"\" .." }
+    ensures character_of_four_bytes_at_3 { text_view 3 ((0xf0 ∷ 0x9f ∷ 0x98 ∷ 0x80 ∷ [])) ≡ codes "\"\" .." }
+    ensures character_of_four_bytes_at_4 { text_view 4 ((0xf0 ∷ 0x9f ∷ 0x98 ∷ 0x80 ∷ [])) ≡ codes "\"" ++ (0xf0 ∷ 0x9f ∷ 0x98 ∷ 0x80 ∷ []) ++ codes "\"" }
+    ensures after_a_character { text_view 4 ((0xc3 ∷ 0xa9 ∷ 0xe2 ∷ 0x82 ∷ 0xac ∷ [])) ≡ codes "\"" ++ (0xc3 ∷ 0xa9 ∷ []) ++ codes "\" .." }
+{}
+
+/// Quoted texts: what is escaped in them, and what is not.
+pub fn of_quoted_texts()
+    ensures quotation_mark { quoted (codes "\"") ≡ codes "\"\\\"\"" }
+    ensures backslash_last { quoted (codes "a\\") ≡ codes "\"a\\\\\"" }
+    ensures line_feed { quoted (codes "a\nb") ≡ codes "\"a\\u000ab\"" }
+    ensures escape_character { quoted (0x1b ∷ []) ≡ codes "\"\\u001b\"" }
+    ensures delete { quoted (0x7f ∷ []) ≡ codes "\"\\u007f\"" }
+    ensures u_009b { quoted ((0xc2 ∷ 0x9b ∷ [])) ≡ codes "\"\\u009b\"" }
+    ensures u_061c { quoted ((0xd8 ∷ 0x9c ∷ [])) ≡ codes "\"\\u061c\"" }
+    ensures u_200e { quoted ((0xe2 ∷ 0x80 ∷ 0x8e ∷ [])) ≡ codes "\"\\u200e\"" }
+    ensures u_200f { quoted ((0xe2 ∷ 0x80 ∷ 0x8f ∷ [])) ≡ codes "\"\\u200f\"" }
+    ensures u_2028 { quoted ((0xe2 ∷ 0x80 ∷ 0xa8 ∷ [])) ≡ codes "\"\\u2028\"" }
+    ensures u_202e { quoted ((0xe2 ∷ 0x80 ∷ 0xae ∷ [])) ≡ codes "\"\\u202e\"" }
+    ensures u_2066 { quoted ((0xe2 ∷ 0x81 ∷ 0xa6 ∷ [])) ≡ codes "\"\\u2066\"" }
+    ensures u_2069 { quoted ((0xe2 ∷ 0x81 ∷ 0xa9 ∷ [])) ≡ codes "\"\\u2069\"" }
+    ensures u_feff { quoted ((0xef ∷ 0xbb ∷ 0xbf ∷ [])) ≡ codes "\"\\ufeff\"" }
+    ensures u_00a0_as_it_is { quoted ((0xc2 ∷ 0xa0 ∷ [])) ≡ codes "\"" ++ (0xc2 ∷ 0xa0 ∷ []) ++ codes "\"" }
+    ensures u_200d_as_it_is { quoted ((0xe2 ∷ 0x80 ∷ 0x8d ∷ [])) ≡ codes "\"" ++ (0xe2 ∷ 0x80 ∷ 0x8d ∷ []) ++ codes "\"" }
+    ensures u_2010_as_it_is { quoted ((0xe2 ∷ 0x80 ∷ 0x90 ∷ [])) ≡ codes "\"" ++ (0xe2 ∷ 0x80 ∷ 0x90 ∷ []) ++ codes "\"" }
+    ensures u_2027_as_it_is { quoted ((0xe2 ∷ 0x80 ∷ 0xa7 ∷ [])) ≡ codes "\"" ++ (0xe2 ∷ 0x80 ∷ 0xa7 ∷ []) ++ codes "\"" }
+    ensures u_202f_as_it_is { quoted ((0xe2 ∷ 0x80 ∷ 0xaf ∷ [])) ≡ codes "\"" ++ (0xe2 ∷ 0x80 ∷ 0xaf ∷ []) ++ codes "\"" }
+    ensures u_2065_as_it_is { quoted ((0xe2 ∷ 0x81 ∷ 0xa5 ∷ [])) ≡ codes "\"" ++ (0xe2 ∷ 0x81 ∷ 0xa5 ∷ []) ++ codes "\"" }
+    ensures u_206a_as_it_is { quoted ((0xe2 ∷ 0x81 ∷ 0xaa ∷ [])) ≡ codes "\"" ++ (0xe2 ∷ 0x81 ∷ 0xaa ∷ []) ++ codes "\"" }
+    ensures u_1f600_as_it_is { quoted ((0xf0 ∷ 0x9f ∷ 0x98 ∷ 0x80 ∷ [])) ≡ codes "\"" ++ (0xf0 ∷ 0x9f ∷ 0x98 ∷ 0x80 ∷ []) ++ codes "\"" }
+{}
+
+/// Bodies of pings and pongs: as text only if each byte is printable ASCII.
+pub fn of_pings()
+    ensures tilde { body_view 48 (0x7e ∷ []) ≡ codes "\"~\"" }
+    ensures byte_0x7f { body_view 48 (0x7f ∷ []) ≡ codes "7f" }
+    ensures space { body_view 48 (0x20 ∷ []) ≡ codes "\" \"" }
+    ensures byte_0x1f { body_view 48 (0x1f ∷ []) ≡ codes "1f" }
+    ensures not_ascii { body_view 48 ((0xc3 ∷ 0xa9 ∷ [])) ≡ codes "c3a9" }
+    ensures later_byte { body_view 2 (0x61 ∷ 0x62 ∷ 0x0a ∷ []) ≡ codes "61 .." }
+{}
+
+/// The lines of what is unfinished: of a text its whole characters, of all else the bytes in hexadecimal.
+pub fn of_unfinished()
+    ensures binary { item_line 48 Server None (Unfinished 17 (Message kind.Binary (0x00 ∷ 0xff ∷ [])) 1 (Some 144)) ≡ codes "S - 17 unfinished binary 2 1 lacks 144 00ff\n" }
+    ensures text { item_line 48 Server None (Unfinished 0 (Message kind.Text (codes "a" ++ (0xe2 ∷ 0x82 ∷ []))) 2 (Some 0)) ≡ codes "S - 0 unfinished text 3 2 lacks 0 \"a\" ..\n" }
+    ensures part_of_next_head { item_line 48 Server None (Unfinished 0 (Message kind.Text (codes "A")) 1 None) ≡ codes "S - 0 unfinished text 1 1 lacks - \"A\"\n" }
+    ensures ping { item_line 48 Server None (Unfinished 3 (Control Ping (codes "p")) 1 (Some 1)) ≡ codes "S - 3 unfinished ping 1 1 lacks 1 70\n" }
+    ensures close { item_line 48 Server None (Unfinished 3 (Control Close ((0x03 ∷ []))) 1 (Some 4)) ≡ codes "S - 3 unfinished close 1 1 lacks 4 03\n" }
+    ensures nothing_yet { item_line 48 Server None (Unfinished 3 (Control Ping []) 1 (Some 4)) ≡ codes "S - 3 unfinished ping 0 1 lacks 4 -\n" }
+    ensures head { item_line 48 Client (Some (codes "1.5")) (UnfinishedHead 9) ≡ codes "C 1.5 9 unfinished head 0 0 lacks - -\n" }
+{}
+
+/// The lines of refusals and of the bytes behind them, of tails and of end marks.
+pub fn of_refusals()
+    ensures refused { item_line 48 Server None (RefusedFrame 7 (record { place = 11; reason = TextBad }) (codes "Gr" ++ (0xfc ∷ []))) ≡ codes "S - 7 refused 11 text-bad 1007 4772fc\n" }
+    ensures refused_at_6 { item_line 6 Server None (RefusedFrame 7 (record { place = 11; reason = TextBad }) (codes "Gr" ++ (0xfc ∷ []))) ≡ codes "S - 7 refused 11 text-bad 1007 4772fc\n" }
+    ensures refused_at_5 { item_line 5 Server None (RefusedFrame 7 (record { place = 11; reason = TextBad }) (codes "Gr" ++ (0xfc ∷ []))) ≡ codes "S - 7 refused 11 text-bad 1007 ..72fc\n" }
+    ensures refused_at_2 { item_line 2 Server None (RefusedFrame 7 (record { place = 11; reason = TextBad }) (codes "Gr" ++ (0xfc ∷ []))) ≡ codes "S - 7 refused 11 text-bad 1007 ..fc\n" }
+    ensures refused_at_1 { item_line 1 Server None (RefusedFrame 7 (record { place = 11; reason = TextBad }) (codes "Gr" ++ (0xfc ∷ []))) ≡ codes "S - 7 refused 11 text-bad 1007 ..\n" }
+    ensures refused_at_0 { item_line 0 Server None (RefusedFrame 7 (record { place = 11; reason = TextBad }) (codes "Gr" ++ (0xfc ∷ []))) ≡ codes "S - 7 refused 11 text-bad 1007 -\n" }
+    ensures unread { item_line 48 Server None (Unread 12 ((0xdf ∷ []) ++ codes "e" ++ (0x88 ∷ 0x02 ∷ 0x03 ∷ 0xef ∷ []))) ≡ codes "S - 12 unread 6 df65880203ef\n" }
+    ensures unread_at_4 { item_line 4 Server None (Unread 12 ((0xdf ∷ []) ++ codes "e" ++ (0x88 ∷ 0x02 ∷ 0x03 ∷ 0xef ∷ []))) ≡ codes "S - 12 unread 6 df65 ..\n" }
+    ensures tail { item_line 0 Client None (Tail 2 ((0x81 ∷ []))) ≡ codes "C - 2 tail 1 -\n" }
+    ensures end { end_line Server None 18 ≡ codes "S - 18 end\n" }
+{}
+
+/// The lines of comments: hidden characters are escaped; of what is not UTF-8, all bytes that are not printable ASCII.
+pub fn of_comments()
+    ensures as_it_is { comment_line (codes "# reset by \"the\" server \\") ≡ codes "# reset by \"the\" server \\\n" }
+    ensures not_ascii { comment_line (codes "#" ++ (0xc3 ∷ 0xa9 ∷ [])) ≡ codes "#" ++ (0xc3 ∷ 0xa9 ∷ []) ++ codes "\n" }
+    ensures tab { comment_line (0x23 ∷ 0x09 ∷ []) ≡ codes "#\\u0009\n" }
+    ensures u_009b { comment_line (0x23 ∷ 0xc2 ∷ 0x9b ∷ []) ≡ codes "#\\u009b\n" }
+    ensures u_202e { comment_line (0x23 ∷ 0xe2 ∷ 0x80 ∷ 0xae ∷ []) ≡ codes "#\\u202e\n" }
+    ensures not_utf_8 { comment_line (0x23 ∷ 0xe9 ∷ 0x09 ∷ []) ≡ codes "#\\xe9\\x09\n" }
+    ensures partly_utf_8 { comment_line (0x23 ∷ 0xc3 ∷ 0xa9 ∷ 0xe9 ∷ []) ≡ codes "#\\xc3\\xa9\\xe9\n" }
+{}
+
+/// What is printed of a whole capture: its lines, what is left over at its end, and the report.
+pub fn of_a_capture()
+    ensures { shown_text 48 ((record { time = None; items = OfStream Server (Event 0 (Message kind.Text (codes "Hello")) 1) ∷ OfStream Server (RefusedFrame 7 (record { place = 11; reason = TextBad }) (codes "Gr" ++ (0xfc ∷ []))) ∷ [] })
+        ∷ (record { time = Some (codes "0.5"); items = OfStream Client (Event 0 (Control Close ((0x03 ∷ 0xef ∷ []))) 1) ∷ [] })
+        ∷ (record { time = Some (codes "0.5"); items = End Client 8 ∷ [] })
+        ∷ (record { time = None; items = Comment (codes "# reset") ∷ [] }) ∷ [])
+        (OfStream Server (Unread 12 ((0xdf ∷ []))) ∷ [])
+        (record {
+          client = side.Closed (Some 1007);
+          server = side.Refused (record { place = 11; reason = TextBad });
+          first = Some Client;
+          echo = None;
+          client_sees = Some 1006;
+          server_sees = Some 1007;
+          outcome = Failed;
+        }) ≡ codes "S - 0 text 5 1 \"Hello\"\nS - 7 refused 11 text-bad 1007 4772fc\nC 0.5 0 close 2 1 1007\nC 0.5 8 end\n# reset\nS - 12 unread 1 df\nclient closed 1007\nserver refused 11 text-bad 1007\nfirst client\necho -\nclient-sees 1006\nserver-sees 1007\noutcome failed\n" }
+{}
