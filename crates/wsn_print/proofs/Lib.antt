@@ -2,3 +2,5 @@ pub mod ReportTexts
 pub mod ComputedHeads
 pub mod Pieces
 pub mod HeldViews
+pub mod JsonTexts
+pub mod VisibleTexts

@@ -9,5 +9,6 @@ pub mod StopText
 pub mod Statuses
 pub mod ShownText
 pub mod ShownParts
+pub mod QuotedTexts
 -- for the examples
 pub mod Examples

@@ -18,6 +18,7 @@ mod line;
 pub mod printed_entries;
 pub mod printed_lines;
 mod quoted;
+pub mod quoted_laws;
 mod reports;
 mod shown;
 mod statuses;

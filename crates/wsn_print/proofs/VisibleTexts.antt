@@ -1,0 +1,182 @@
+-- Nothing of a quoted text or of a comment is hidden.
+use Rattle.std.proofs.Common.{◌≡◌, ℕ, zero, suc, ◌/◌, ◌%◌, ◌<◌, ◌≤◌, inl, inr, Bool, true, false, ◌==◌, ◌&&◌, ◌||◌, if◌then◌else◌, List, [], ◌∷◌, ◌++◌, length, take, slice_index, codes, refl, sym, ap, ◌∙◌, subst, arith}
+use Rattle.std.specs.Prelude.{flat_map}
+use Rattle.std.proofs.Math.Seq.{take-length}
+use Rattle.std.proofs.lemmas.Bool.{cases_Bool, and_parts, or_cases, cases_lt}
+use Rattle.std.proofs.lemmas.Bool.Decides.{nat_tests}
+use Rattle.std.proofs.lemmas.List.{append-nil}
+use Rattle.std.proofs.lemmas.Str.{IsUtf8-nil, IsUtf8-append, IsUtf8-encode, IsUtf8-from_ascii, IsUtf8-from_is_utf8, chars-nil, chars-append, chars-encodes, chars-IsAscii, scalars-chars}
+use Rattle.std.proofs.lemmas.Str.Ascii.{IsAscii-nil, IsAscii-cons}
+use Rattle.std.specs.Char.{encode_utf8, IsScalar}
+use Rattle.std.specs.List.{AllByRecursion}
+use Rattle.std.specs.Str.{chars, IsAscii, IsUtf8, all_scalars, is_utf8}
+use Rattle.std.specs.Str.Lossy.{utf8_valid_len, valid_len_up_to}
+use Rattle.hex.specs.Hex.{encode_with, encode_lower, lower_digits}
+use Rattle.wsn_wire.specs.Frame.{IsBytes}
+use Rattle.wsn_print.specs.ShownText.{is_from, is_hidden, unicode_escape, shown_character, quoted_character, quoted, shown_byte, comment_text}
+use Rattle.wsn_print.specs.QuotedTexts.{IsAllVisible}
+use Rattle.wsn_print.proofs.JsonTexts.{hidden_fits}
+
+-- ---- texts one after another
+
+all_append : (xs ys : List ℕ) → AllByRecursion (λ c. is_hidden c ≡ false) xs → AllByRecursion (λ c. is_hidden c ≡ false) ys → AllByRecursion (λ c. is_hidden c ≡ false) (xs ++ ys)
+all_append [] ys one two = two
+all_append (x ∷ xs) ys one two = (one.0, all_append xs ys one.1 two)
+
+visible_append : (xs ys : List ℕ) → IsAllVisible xs → IsAllVisible ys → IsAllVisible (xs ++ ys)
+visible_append xs ys one two = (
+  IsUtf8-append xs ys one.0 two.0,
+  subst (AllByRecursion (λ c. is_hidden c ≡ false)) (sym (chars-append xs ys one.0)) (all_append (chars xs) (chars ys) one.1 two.1),
+)
+
+visible_none : IsAllVisible []
+visible_none = (IsUtf8-nil, subst (AllByRecursion (λ c. is_hidden c ≡ false)) (sym chars-nil) tt)
+
+visible_each : (f : ℕ → List ℕ) (xs : List ℕ) → AllByRecursion (λ x. IsAllVisible (f x)) xs → IsAllVisible (flat_map f xs)
+visible_each f [] each = visible_none
+visible_each f (x ∷ xs) each = visible_append (f x) (flat_map f xs) each.0 (visible_each f xs each.1)
+
+-- ---- printable ASCII
+
+abbrev IsPrintable : ℕ → Type 0
+IsPrintable b = (0x20 ≤ b) × (b ≤ 0x7e)
+
+printable_visible : (b : ℕ) → IsPrintable b → is_hidden b ≡ false
+printable_visible b range = grind (arith, nat_tests, range.0, range.1)
+
+printable_ascii : (bytes : List ℕ) → AllByRecursion IsPrintable bytes → IsAscii bytes
+printable_ascii [] each = IsAscii-nil
+printable_ascii (b ∷ bytes) each = IsAscii-cons b bytes (omega (arith, each.0.1)) (printable_ascii bytes each.1)
+
+printable_characters : (bytes : List ℕ) → AllByRecursion IsPrintable bytes → AllByRecursion (λ c. is_hidden c ≡ false) bytes
+printable_characters [] each = tt
+printable_characters (b ∷ bytes) each = (printable_visible b each.0, printable_characters bytes each.1)
+
+visible_ascii : (bytes : List ℕ) → AllByRecursion IsPrintable bytes → IsAllVisible bytes
+visible_ascii bytes each =
+    let ascii = printable_ascii bytes each in
+    (IsUtf8-from_ascii bytes ascii, subst (AllByRecursion (λ c. is_hidden c ≡ false)) (sym (chars-IsAscii bytes ascii)) (printable_characters bytes each))
+
+-- ---- hexadecimal digits
+
+abbrev all_printable : ℕ → Bool
+all_printable zero = true
+all_printable (suc n) = is_from 0x20 0x7e (slice_index lower_digits n) && all_printable n
+
+digit_passes : (n k : ℕ) → all_printable n ≡ true → k < n → is_from 0x20 0x7e (slice_index lower_digits k) ≡ true
+digit_passes zero k passes below = absurd (omega arith)
+digit_passes (suc n) k passes below =
+    let parts = and_parts (is_from 0x20 0x7e (slice_index lower_digits n)) (all_printable n) passes in
+    elim (cases_lt k n) [
+      | inl lower ↦ digit_passes n k parts.1 lower
+      | inr top ↦
+          let e : k ≡ n = omega arith in
+          rw e parts.0
+    ]
+
+from_test : (b : ℕ) → is_from 0x20 0x7e b ≡ true → IsPrintable b
+from_test b test = (grind (arith, nat_tests), grind (arith, nat_tests))
+
+digit : (k : ℕ) → k < 16 → IsPrintable (slice_index lower_digits k)
+digit k below = from_test (slice_index lower_digits k) (digit_passes 16 k refl below)
+
+digits_printable : (bytes : List ℕ) → IsBytes bytes → AllByRecursion IsPrintable (encode_lower bytes)
+unfolding encode_with
+digits_printable [] fits = tt
+digits_printable (b ∷ bytes) fits =
+    let fits_b : b < 256 = fits.0 in
+    (digit (b / 16) (omega arith), (digit (b % 16) (omega arith), digits_printable bytes fits.1))
+
+-- ---- characters
+
+escape_visible : (c : ℕ) → c < 65536 → IsAllVisible (unicode_escape c)
+escape_visible c fits =
+    visible_append (codes "\\u") (encode_lower (c / 256 ∷ c % 256 ∷ []))
+    (visible_ascii (codes "\\u") ((omega arith, omega arith), ((omega arith, omega arith), tt)))
+    (visible_ascii (encode_lower (c / 256 ∷ c % 256 ∷ [])) (digits_printable (c / 256 ∷ c % 256 ∷ []) (omega arith, (omega arith, tt))))
+
+plain_visible : (c : ℕ) → IsScalar c → is_hidden c ≡ false → IsAllVisible (encode_utf8 c)
+plain_visible c scalar visible =
+    let scalars : all_scalars (c ∷ []) ≡ true = rw scalar refl in
+    let is : chars (encode_utf8 c) ≡ c ∷ [] = ap chars (sym (append-nil (encode_utf8 c))) ∙ chars-encodes (c ∷ []) scalars in
+    (IsUtf8-encode c scalar, subst (AllByRecursion (λ c. is_hidden c ≡ false)) (sym is) (visible, tt))
+
+shown_visible : (c : ℕ) → IsScalar c → IsAllVisible (shown_character c)
+shown_visible c scalar = elim (cases_Bool (is_hidden c)) [
+  | inl hidden ↦
+      subst IsAllVisible (sym (ap (λ (b : Bool). if b then unicode_escape c else encode_utf8 c) hidden)) (escape_visible c (hidden_fits c hidden))
+  | inr visible ↦
+      subst IsAllVisible (sym (ap (λ (b : Bool). if b then unicode_escape c else encode_utf8 c) visible)) (plain_visible c scalar visible)
+]
+
+escaped_visible : (c : ℕ) → (c == 34 || c == 92) ≡ true → IsAllVisible (92 ∷ c ∷ [])
+escaped_visible c test = elim (or_cases (c == 34) (c == 92) test) [
+  | inl quote ↦
+      let is : c ≡ 34 = grind (arith, nat_tests) in
+      visible_ascii (92 ∷ c ∷ []) ((omega arith, omega arith), ((omega arith, omega arith), tt))
+  | inr backslash ↦
+      let is : c ≡ 92 = grind (arith, nat_tests) in
+      visible_ascii (92 ∷ c ∷ []) ((omega arith, omega arith), ((omega arith, omega arith), tt))
+]
+
+quoted_visible : (c : ℕ) → IsScalar c → IsAllVisible (quoted_character c)
+quoted_visible c scalar = elim (cases_Bool (c == 34 || c == 92)) [
+  | inl escaped ↦
+      subst IsAllVisible (sym (ap (λ (b : Bool). if b then 92 ∷ c ∷ [] else shown_character c) escaped)) (escaped_visible c escaped)
+  | inr plain ↦
+      subst IsAllVisible (sym (ap (λ (b : Bool). if b then 92 ∷ c ∷ [] else shown_character c) plain)) (shown_visible c scalar)
+]
+
+each_scalar : (f : ℕ → List ℕ) (visible : (c : ℕ) → IsScalar c → IsAllVisible (f c)) (cs : List ℕ) → all_scalars cs ≡ true → AllByRecursion (λ c. IsAllVisible (f c)) cs
+each_scalar f visible [] scalars = tt
+each_scalar f visible (c ∷ cs) scalars =
+    let parts = and_parts _ (all_scalars cs) scalars in
+    (visible c parts.0, each_scalar f visible cs parts.1)
+
+characters_visible : (f : ℕ → List ℕ) → ((c : ℕ) → IsScalar c → IsAllVisible (f c)) → (text : List ℕ) → IsUtf8 text → IsAllVisible (flat_map f (chars text))
+characters_visible f visible text utf8 =
+    visible_each f (chars text) (each_scalar f visible (chars text) (scalars-chars text utf8))
+
+pub quoted_text_visible : (text : List ℕ) → IsUtf8 text → IsAllVisible (quoted text)
+quoted_text_visible text utf8 =
+    let mark : IsAllVisible (codes "\"") = visible_ascii (codes "\"") ((omega arith, omega arith), tt) in
+    visible_append (codes "\"" ++ flat_map quoted_character (chars text)) (codes "\"")
+    (visible_append (codes "\"") (flat_map quoted_character (chars text)) mark (characters_visible quoted_character quoted_visible text utf8)) mark
+
+-- ---- comments
+
+byte_visible : (b : ℕ) → b < 256 → IsAllVisible (shown_byte b)
+byte_visible b fits = elim (cases_Bool (is_from 0x20 0x7e b)) [
+  | inl printable ↦
+      subst IsAllVisible (sym (ap (λ (p : Bool). if p then b ∷ [] else codes "\\x" ++ encode_lower (b ∷ [])) printable)) (visible_ascii (b ∷ []) (from_test b printable, tt))
+  | inr other ↦
+      subst IsAllVisible (sym (ap (λ (p : Bool). if p then b ∷ [] else codes "\\x" ++ encode_lower (b ∷ [])) other))
+      (visible_append (codes "\\x") (encode_lower (b ∷ [])) (visible_ascii (codes "\\x") ((omega arith, omega arith), ((omega arith, omega arith), tt))) (visible_ascii (encode_lower (b ∷ [])) (digits_printable (b ∷ []) (fits, tt))))
+]
+
+bytes_visible : (bytes : List ℕ) → IsBytes bytes → AllByRecursion (λ b. IsAllVisible (shown_byte b)) bytes
+bytes_visible [] fits = tt
+bytes_visible (b ∷ bytes) fits = (byte_visible b fits.0, bytes_visible bytes fits.1)
+
+front_is_utf8 : (bytes : List ℕ) (n : ℕ) → IsUtf8 (take (valid_len_up_to bytes n) bytes)
+front_is_utf8 bytes zero = IsUtf8-nil
+front_is_utf8 bytes (suc n) = elim (cases_Bool (is_utf8 (take (suc n) bytes))) [
+  | inl utf8 ↦ rw utf8 (IsUtf8-from_is_utf8 (take (suc n) bytes) utf8)
+  | inr other ↦ rw other (front_is_utf8 bytes n)
+]
+
+utf8_if_all : (text : List ℕ) → (utf8_valid_len text == length text) ≡ true → IsUtf8 text
+unfolding utf8_valid_len
+utf8_if_all text test =
+    let all : valid_len_up_to text (length text) ≡ length text = grind (arith, nat_tests) in
+    subst IsUtf8 (ap (λ (n : ℕ). take n text) all ∙ take-length text) (front_is_utf8 text (length text))
+
+pub comment_visible : (text : List ℕ) → IsBytes text → IsAllVisible (comment_text text)
+comment_visible text fits = elim (cases_Bool (utf8_valid_len text == length text)) [
+  | inl whole ↦
+      subst IsAllVisible (sym (ap (λ (b : Bool). if b then flat_map shown_character (chars text) else flat_map shown_byte text) whole))
+      (characters_visible shown_character shown_visible text (utf8_if_all text whole))
+  | inr other ↦
+      subst IsAllVisible (sym (ap (λ (b : Bool). if b then flat_map shown_character (chars text) else flat_map shown_byte text) other))
+      (visible_each shown_byte text (bytes_visible text fits))
+]

@@ -1,0 +1,57 @@
+-- What a quoted text is: a JSON string, of which nothing is hidden. RFC 8259 section 7.
+use Rattle.std.specs.Prelude.{◌≡◌, ◌≢◌, ℕ, ◌+◌, ◌*◌, ◌≤◌, ◌⊎◌, ◌==◌, ◌||◌, false, if◌then◌else◌, Option, None, Some, Ok, List, [], ◌∷◌, ◌++◌, codes}
+use Rattle.std.specs.Char.{encode_utf8}
+use Rattle.std.specs.List.{AllByRecursion}
+use Rattle.std.specs.Str.{chars, IsUtf8}
+use Rattle.hex.specs.Hex.{decode_of}
+use Rattle.wsn_print.specs.ShownText.{is_hidden}
+
+-- ---- JSON strings
+
+-- The character that an ASCII character behind a backslash stands for: `"`, `\` and `/` for themselves; b, f, n, r and
+-- t for U+0008, U+000C, U+000A, U+000D and U+0009.
+abbrev pub unescaped : ℕ → Option ℕ
+unescaped letter =
+    if letter == 34 || letter == 92 || letter == 47 then Some letter
+    else (if letter == 98 then Some 0x08
+    else (if letter == 102 then Some 0x0c
+    else (if letter == 110 then Some 0x0a
+    else (if letter == 114 then Some 0x0d
+    else (if letter == 116 then Some 0x09 else None)))))
+
+-- The character as it is: none below U+0020, no quotation mark, no backslash.
+abbrev pub IsPlain : ℕ → List ℕ → Type 0
+IsPlain c bytes = (0x20 ≤ c) × (c ≢ 34) × (c ≢ 92) × (bytes ≡ encode_utf8 c)
+
+-- A backslash and the character that stands for this one.
+abbrev pub IsShortEscape : ℕ → List ℕ → Type 0
+IsShortEscape c bytes = (letter : ℕ) × (unescaped letter ≡ Some c) × (bytes ≡ 92 ∷ letter ∷ [])
+
+-- `\u` and the character's number in four hexadecimal digits.
+abbrev pub IsUnicodeEscape : ℕ → List ℕ → Type 0
+IsUnicodeEscape c bytes =
+    (high : ℕ) × (low : ℕ) × (digits : List ℕ) × (decode_of digits ≡ Ok (high ∷ low ∷ [])) × (c ≡ high * 256 + low)
+    × (bytes ≡ 92 ∷ 117 ∷ digits)
+
+-- One character of a JSON string. (The escape of a character beyond U+FFFF as two surrogates is left out.)
+abbrev pub IsJsonCharacter : ℕ → List ℕ → Type 0
+IsJsonCharacter c bytes = IsPlain c bytes ⊎ (IsShortEscape c bytes ⊎ IsUnicodeEscape c bytes)
+
+-- The characters of a JSON string, one after another.
+abbrev pub AreJsonCharacters : List ℕ → List ℕ → Type 0
+AreJsonCharacters [] bytes = bytes ≡ []
+AreJsonCharacters (c ∷ cs) bytes =
+    (first : List ℕ) × (following : List ℕ) × (bytes ≡ first ++ following) × IsJsonCharacter c first
+    × AreJsonCharacters cs following
+
+-- The bytes are a JSON string of this text in UTF-8.
+pub record IsJsonString (text bytes : List ℕ) : Type 0 where
+  pub inner : List ℕ
+  pub between : bytes ≡ codes "\"" ++ inner ++ codes "\""
+  pub characters : AreJsonCharacters (chars text) inner
+
+-- ---- what a terminal shows
+
+-- The bytes are UTF-8, and none of their characters moves the cursor or changes how the text around it is shown.
+abbrev pub IsAllVisible : List ℕ → Type 0
+IsAllVisible bytes = IsUtf8 bytes × AllByRecursion (λ c. is_hidden c ≡ false) (chars bytes)
