@@ -4,3 +4,4 @@ pub mod Pieces
 pub mod HeldViews
 pub mod JsonTexts
 pub mod VisibleTexts
+pub mod PlainTexts

@@ -1,4 +1,4 @@
-ghost use Rattle.std.specs.Prelude.{◌≡◌, ◌++◌, ◌/◌, ◌%◌, [], ◌∷◌, ◌==◌, ◌<◌, ◌≤◌, false, length, if◌then◌else◌, flat_map};
+ghost use Rattle.std.specs.Prelude.{◌≡◌, ◌++◌, ◌/◌, ◌%◌, [], ◌∷◌, ◌==◌, ◌<◌, ◌≤◌, false, true, length, if◌then◌else◌, flat_map};
 ghost use Rattle.std.specs.Str.{chars};
 ghost use Rattle.std.specs.Str.Lossy.{utf8_valid_len};
 ghost use Rattle.wsn_io.specs.Stops.{IsWrittenOrStops};
@@ -43,9 +43,33 @@ pub(crate) fn put_quoted<W: Write>(to: &mut Output<W>, text: &str) -> Result<(),
     put_line(to, b"\"")
 }
 
+fn put_quoted_characters<W: Write>(to: &mut Output<W>, text: &str) -> Result<(), Stop>
+    requires { to.old.failed ≡ false }
+    ensures { IsWrittenOrStops to.old to.new (flat_map quoted_character (chars text.now)) result }
+{
+    if is_quoted_as_it_is(text.as_bytes()) {
+        put_line(to, text.as_bytes())
+    } else {
+        put_each_quoted(to, text)
+    }
+}
+
+/// Whether a text is ASCII and none of its characters is escaped in quotes.
+#[inline(never)]
+fn is_quoted_as_it_is(text: &[u8]) -> bool
+    ensures { result ≡ true → flat_map quoted_character (chars text.now) ≡ text.now }
+{
+    for b in text {
+        if !matches!(b, b' '..=b'!' | b'#'..=b'[' | b']'..=b'~') {
+            return false;
+        }
+    }
+    true
+}
+
 #[inline(never)]
 #[tactic(none)]
-fn put_quoted_characters<W: Write>(to: &mut Output<W>, text: &str) -> Result<(), Stop>
+fn put_each_quoted<W: Write>(to: &mut Output<W>, text: &str) -> Result<(), Stop>
     requires { to.old.failed ≡ false }
     ensures { IsWrittenOrStops to.old to.new (flat_map quoted_character (chars text.now)) result }
 {

@@ -9,7 +9,7 @@ use Rattle.wsn_io.specs.Transfer.{IsWritten, IsPartlyWritten}
 use Rattle.wsn_io.specs.declared.stop.Stop.TheVariants as stop
 use Rattle.wsn_print.specs.ShownText.{quoted_character}
 use Rattle.wsn_print.proofs.Pieces.{each_stopped, each_written}
-use Rattle.wsn_print.proofs.quoted.put_quoted_characters.Goals as goal
+use Rattle.wsn_print.proofs.quoted.put_each_quoted.Goals as goal
 
 pub loop-c-init : goal.loop-c-init
 loop-c-init g c = search rules

@@ -3,7 +3,7 @@ use Rattle.std.specs.Prelude.{flat_map}
 use Rattle.std.specs.Str.{chars}
 use Rattle.wsn_io.specs.Transfer.{IsWritten}
 use Rattle.wsn_print.specs.ShownText.{quoted_character}
-use Rattle.wsn_print.proofs.quoted.put_quoted_characters.Given as goal
+use Rattle.wsn_print.proofs.quoted.put_each_quoted.Given as goal
 
 -- The characters so far are written.
 abbrev pub invariant-loop-c : goal.invariant-loop-c
