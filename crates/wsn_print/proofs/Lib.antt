@@ -5,3 +5,4 @@ pub mod HeldViews
 pub mod JsonTexts
 pub mod VisibleTexts
 pub mod PlainTexts
+pub mod VisibleLines

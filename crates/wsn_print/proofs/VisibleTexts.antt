@@ -23,7 +23,7 @@ all_append : (xs ys : List ℕ) → AllByRecursion (λ c. is_hidden c ≡ false)
 all_append [] ys one two = two
 all_append (x ∷ xs) ys one two = (one.0, all_append xs ys one.1 two)
 
-visible_append : (xs ys : List ℕ) → IsAllVisible xs → IsAllVisible ys → IsAllVisible (xs ++ ys)
+pub visible_append : (xs ys : List ℕ) → IsAllVisible xs → IsAllVisible ys → IsAllVisible (xs ++ ys)
 visible_append xs ys one two = (
   IsUtf8-append xs ys one.0 two.0,
   subst (AllByRecursion (λ c. is_hidden c ≡ false)) (sym (chars-append xs ys one.0)) (all_append (chars xs) (chars ys) one.1 two.1),
@@ -38,7 +38,7 @@ visible_each f (x ∷ xs) each = visible_append (f x) (flat_map f xs) each.0 (vi
 
 -- ---- printable ASCII
 
-abbrev IsPrintable : ℕ → Type 0
+abbrev pub IsPrintable : ℕ → Type 0
 IsPrintable b = (0x20 ≤ b) × (b ≤ 0x7e)
 
 printable_visible : (b : ℕ) → IsPrintable b → is_hidden b ≡ false
@@ -52,7 +52,7 @@ printable_characters : (bytes : List ℕ) → AllByRecursion IsPrintable bytes �
 printable_characters [] each = tt
 printable_characters (b ∷ bytes) each = (printable_visible b each.0, printable_characters bytes each.1)
 
-visible_ascii : (bytes : List ℕ) → AllByRecursion IsPrintable bytes → IsAllVisible bytes
+pub visible_ascii : (bytes : List ℕ) → AllByRecursion IsPrintable bytes → IsAllVisible bytes
 visible_ascii bytes each =
     let ascii = printable_ascii bytes each in
     (IsUtf8-from_ascii bytes ascii, subst (AllByRecursion (λ c. is_hidden c ≡ false)) (sym (chars-IsAscii bytes ascii)) (printable_characters bytes each))
@@ -80,7 +80,7 @@ from_test b test = (grind (arith, nat_tests), grind (arith, nat_tests))
 digit : (k : ℕ) → k < 16 → IsPrintable (slice_index lower_digits k)
 digit k below = from_test (slice_index lower_digits k) (digit_passes 16 k refl below)
 
-digits_printable : (bytes : List ℕ) → IsBytes bytes → AllByRecursion IsPrintable (encode_lower bytes)
+pub digits_printable : (bytes : List ℕ) → IsBytes bytes → AllByRecursion IsPrintable (encode_lower bytes)
 unfolding encode_with
 digits_printable [] fits = tt
 digits_printable (b ∷ bytes) fits =
@@ -158,7 +158,7 @@ bytes_visible : (bytes : List ℕ) → IsBytes bytes → AllByRecursion (λ b. I
 bytes_visible [] fits = tt
 bytes_visible (b ∷ bytes) fits = (byte_visible b fits.0, bytes_visible bytes fits.1)
 
-front_is_utf8 : (bytes : List ℕ) (n : ℕ) → IsUtf8 (take (valid_len_up_to bytes n) bytes)
+pub front_is_utf8 : (bytes : List ℕ) (n : ℕ) → IsUtf8 (take (valid_len_up_to bytes n) bytes)
 front_is_utf8 bytes zero = IsUtf8-nil
 front_is_utf8 bytes (suc n) = elim (cases_Bool (is_utf8 (take (suc n) bytes))) [
   | inl utf8 ↦ rw utf8 (IsUtf8-from_is_utf8 (take (suc n) bytes) utf8)

@@ -1,10 +1,14 @@
 -- What a quoted text is: a JSON string, of which nothing is hidden. RFC 8259 section 7.
-use Rattle.std.specs.Prelude.{◌≡◌, ◌≢◌, ℕ, ◌+◌, ◌*◌, ◌≤◌, ◌⊎◌, ◌==◌, ◌||◌, false, if◌then◌else◌, Option, None, Some, Ok, List, [], ◌∷◌, ◌++◌, codes}
+use Rattle.std.specs.Prelude.{◌≡◌, ◌≢◌, ℕ, ◌+◌, ◌*◌, ◌≤◌, ◌⊎◌, ◌==◌, ◌||◌, false, if◌then◌else◌, Option, None, Some, Ok, List, [], ◌∷◌, ◌++◌, codes, ⊤}
 use Rattle.std.specs.Char.{encode_utf8}
 use Rattle.std.specs.List.{AllByRecursion}
 use Rattle.std.specs.Str.{chars, IsUtf8}
 use Rattle.hex.specs.Hex.{decode_of}
+use Rattle.wsn_rules.specs.Meaning.{MeantEvent, Message, Control}
+use Rattle.wsn_rules.specs.ShownStream.{Item}
+use Rattle.wsn_rules.specs.ShownStream.Item.{Event, Unfinished, UnfinishedHead, RefusedFrame, Unread, Tail}
 use Rattle.wsn_print.specs.ShownText.{is_hidden}
+use Rattle.wsn_print.specs.ShownParts.{HasTextReason}
 
 -- ---- JSON strings
 
@@ -55,3 +59,25 @@ pub record IsJsonString (text bytes : List ℕ) : Type 0 where
 -- The bytes are UTF-8, and none of their characters moves the cursor or changes how the text around it is shown.
 abbrev pub IsAllVisible : List ℕ → Type 0
 IsAllVisible bytes = IsUtf8 bytes × AllByRecursion (λ c. is_hidden c ≡ false) (chars bytes)
+
+-- The bytes of which an item shows a part.
+abbrev pub payload_in : MeantEvent → List ℕ
+payload_in (Message kind payload) = payload
+payload_in (Control op body) = body
+
+abbrev pub bytes_in : Item → List ℕ
+bytes_in (Event offset event frames) = payload_in event
+bytes_in (Unfinished offset event frames lacks) = payload_in event
+bytes_in (UnfinishedHead offset) = []
+bytes_in (RefusedFrame offset refusal evidence) = evidence
+bytes_in (Unread offset bytes) = bytes
+bytes_in (Tail offset bytes) = bytes
+
+-- If the item is a Close, its reason is UTF-8.
+abbrev pub ShowsTextReason : Item → Type 0
+ShowsTextReason (Event offset event frames) = HasTextReason event
+ShowsTextReason item = ⊤
+
+-- The text is a line that ends with the only character in it that is hidden, an LF.
+abbrev pub IsVisibleLine : List ℕ → Type 0
+IsVisibleLine line = (text : List ℕ) × (line ≡ text ++ codes "\n") × IsAllVisible text

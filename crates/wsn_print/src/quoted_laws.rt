@@ -1,10 +1,12 @@
 //! Laws of quoted texts and of comments. The functions do nothing when called; their contracts are proved.
 
-ghost use Rattle.std.specs.Prelude.{◌≡◌, ℕ, List};
+ghost use Rattle.std.specs.Prelude.{◌≡◌, ℕ, List, Option, IfSome};
 ghost use Rattle.std.specs.Str.{IsUtf8};
+ghost use Rattle.wsn_wire.specs.declared.endpoint.Role.{Role};
 ghost use Rattle.wsn_wire.specs.Frame.{IsBytes};
-ghost use Rattle.wsn_print.specs.ShownText.{quoted, comment_text};
-ghost use Rattle.wsn_print.specs.QuotedTexts.{IsJsonString, IsAllVisible};
+ghost use Rattle.wsn_rules.specs.ShownStream.{Item};
+ghost use Rattle.wsn_print.specs.ShownText.{quoted, item_line, end_line, comment_line};
+ghost use Rattle.wsn_print.specs.QuotedTexts.{IsJsonString, IsAllVisible, IsVisibleLine, bytes_in, ShowsTextReason};
 
 /// A quoted text is a JSON string of the text (RFC 8259 section 7), and a JSON string is one of one text alone. So a
 /// quoted text can be read back.
@@ -14,9 +16,19 @@ pub fn law_quoted_is_json()
         IsJsonString other bytes → text ≡ other }
 {}
 
-/// Nothing of a quoted text and of a comment, but the LF at its end, is hidden: no character moves a terminal's cursor or
-/// changes how the text around it is shown.
-pub fn law_all_is_visible()
-    ensures quoted { (text : List ℕ) → IsUtf8 text → IsAllVisible (quoted text) }
-    ensures comment { (text : List ℕ) → IsBytes text → IsAllVisible (comment_text text) }
+/// Nothing of a quoted text is hidden: none of its characters moves a terminal's cursor or changes how the text around it
+/// is shown.
+pub fn law_quoted_is_visible()
+    ensures { (text : List ℕ) → IsUtf8 text → IsAllVisible (quoted text) }
+{}
+
+/// Nothing of a line of `show` is hidden but the LF at its end: of an item, whatever its payload is, of an end mark and of
+/// a comment.
+pub fn law_lines_are_visible()
+    ensures item { (n : ℕ) (role : Role) (time : Option (List ℕ)) (item : Item) →
+        IfSome time IsAllVisible → IsBytes (bytes_in item) → ShowsTextReason item →
+        IsVisibleLine (item_line n role time item) }
+    ensures end_mark { (role : Role) (time : Option (List ℕ)) (sent : ℕ) → IfSome time IsAllVisible →
+        IsVisibleLine (end_line role time sent) }
+    ensures comment { (text : List ℕ) → IsBytes text → IsVisibleLine (comment_line text) }
 {}
