@@ -60,11 +60,12 @@ pub record IsJsonString (text bytes : List ℕ) : Type 0 where
 abbrev pub IsAllVisible : List ℕ → Type 0
 IsAllVisible bytes = IsUtf8 bytes × AllByRecursion (λ c. is_hidden c ≡ false) (chars bytes)
 
--- The bytes of which an item shows a part.
+-- The payload of an event.
 abbrev pub payload_in : MeantEvent → List ℕ
 payload_in (Message kind payload) = payload
 payload_in (Control op body) = body
 
+-- The bytes of which an item shows a part.
 abbrev pub bytes_in : Item → List ℕ
 bytes_in (Event offset event frames) = payload_in event
 bytes_in (Unfinished offset event frames lacks) = payload_in event

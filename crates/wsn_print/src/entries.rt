@@ -15,6 +15,21 @@ use wsn_io::{Output, Stop, put_line};
 use wsn_rules::Refusal;
 use wsn_wire::Role;
 
+/// The maximum length in bytes of an offset and two spaces, with a number of twenty digits.
+const OFFSET_MAX: usize = 22;
+
+/// The maximum length in bytes of the fields of an event, with two numbers of twenty digits.
+const EVENT_MAX: usize = 49;
+
+/// The maximum length in bytes of the fields of an event that isn't complete, with three numbers of twenty digits.
+const UNFINISHED_MAX: usize = 88;
+
+/// The maximum length in bytes of a refusal and a space.
+const REFUSAL_MAX: usize = 70;
+
+/// The maximum length in bytes of a word and a number of twenty digits.
+const REMAINDER_MAX: usize = 28;
+
 /// Writes the line of a complete event, such as `C - 0 text 5 1 "Hello"`: its front, its word, its payload bytes, its
 /// frames, and what is shown of its payload. `Stop::Write` if the writer fails: a prefix of the line was written.
 pub fn put_event<W: Write>(
@@ -147,7 +162,7 @@ fn seconds_of<'a>(front: &Front<'a>) -> &'a [u8]
     }
 }
 
-fn line_of_offset(offset: u64) -> Line<22>
+fn line_of_offset(offset: u64) -> Line<OFFSET_MAX>
     ensures { result ≡ codes " " ++ decimal offset ++ codes " " }
 {
     let mut line = Line::new();
@@ -158,7 +173,7 @@ fn line_of_offset(offset: u64) -> Line<22>
 }
 
 /// The word, the payload bytes and the frames of an event.
-fn line_of_event(event: &ShownEvent<'_>) -> Line<49>
+fn line_of_event(event: &ShownEvent<'_>) -> Line<EVENT_MAX>
     ensures { (n : ℕ) (e : MeantEvent) → Represents n event.now e →
         result ≡ event_text e event.now.frames ++ codes " " }
 {
@@ -167,7 +182,7 @@ fn line_of_event(event: &ShownEvent<'_>) -> Line<49>
     line
 }
 
-fn line_of_unfinished_event(event: &ShownEvent<'_>, lacks: Option<u64>) -> Line<88>
+fn line_of_unfinished_event(event: &ShownEvent<'_>, lacks: Option<u64>) -> Line<UNFINISHED_MAX>
     ensures { (n : ℕ) (e : MeantEvent) → Represents n event.now e →
         result ≡ codes "unfinished " ++ event_text e event.now.frames ++ codes " lacks " ++ number_text lacks
         ++ codes " " }
@@ -195,7 +210,7 @@ fn push_event<const MAX: usize>(line: &mut Line<MAX>, event: &ShownEvent<'_>)
     line.push(" ");
 }
 
-fn line_of_refusal(refusal: &Refusal) -> Line<70>
+fn line_of_refusal(refusal: &Refusal) -> Line<REFUSAL_MAX>
     ensures { result ≡ refusal_text refusal.now ++ codes " " }
 {
     let mut line = Line::new();
@@ -204,7 +219,7 @@ fn line_of_refusal(refusal: &Refusal) -> Line<70>
     line
 }
 
-fn line_of_remainder(which: Remainder, bytes: u64) -> Line<28>
+fn line_of_remainder(which: Remainder, bytes: u64) -> Line<REMAINDER_MAX>
     ensures { result ≡ remainder_word which ++ codes " " ++ decimal bytes ++ codes " " }
 {
     let mut line = Line::new();

@@ -12,6 +12,9 @@ use wsn_io::{Output, Stop, put_line};
 /// The most bytes of a character that is shown: `\u` and four digits.
 const CHARACTER_MAX: usize = 6;
 
+/// The most bytes of a byte that is shown: `\x` and two digits.
+const BYTE_MAX: usize = 4;
+
 /// Writes a comment of a capture in one line, with its hidden characters escaped as `\u` and four digits. Of a comment
 /// that isn't UTF-8, each byte that isn't printable ASCII is escaped as `\x` and two digits. `Stop::Write` if the writer
 /// fails: a prefix of the line was written.
@@ -159,7 +162,7 @@ fn is_hidden(c: char) -> bool
     )
 }
 
-fn shown_byte(b: u8) -> Line<4>
+fn shown_byte(b: u8) -> Line<BYTE_MAX>
     ensures { result ≡ shown_byte b }
 {
     let mut line = Line::new();

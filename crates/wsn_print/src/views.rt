@@ -18,6 +18,12 @@ use wsn_wire::Op;
 /// The most bytes that are encoded at once.
 const CHUNK: usize = 32;
 
+/// The number of their digits.
+const CHUNK_DIGITS: usize = 64;
+
+/// The space for a close code in bytes.
+const CODE_MAX: usize = 20;
+
 /// Writes what is shown of a complete event's payload.
 pub(crate) fn put_event_view<W: Write>(
     to: &mut Output<W>,
@@ -161,7 +167,7 @@ fn put_close_view<W: Write>(to: &mut Output<W>, view: ViewLimit, body: &[u8]) ->
     put_reason(to, &body[2..])
 }
 
-fn line_of_code(code: u16) -> Line<20>
+fn line_of_code(code: u16) -> Line<CODE_MAX>
     ensures { result ≡ decimal code }
 {
     let mut line = Line::new();
@@ -276,7 +282,7 @@ fn put_hex<W: Write>(to: &mut Output<W>, bytes: &[u8]) -> Result<(), Stop>
     Ok(())
 }
 
-fn hex_of(bytes: &[u8]) -> Line<64>
+fn hex_of(bytes: &[u8]) -> Line<CHUNK_DIGITS>
     requires { length bytes.now ≤ 32 }
     ensures { result ≡ encode_lower bytes.now }
 {
