@@ -38,6 +38,14 @@ impl<R: Read> Input<R> {
         }
     }
 
+    /// The reader, in the state in which the last read left it.
+    #[tactic(none)]
+    pub fn reader(&self) -> &R
+        ensures { R.remaining result.now ≡ self.now.remaining }
+    {
+        &self.reader
+    }
+
     /// Whether a read has failed. Once true, it stays true.
     #[tactic(none)]
     pub fn failed(&self) -> bool

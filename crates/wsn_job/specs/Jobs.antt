@@ -1,5 +1,6 @@
 -- What a job's run did.
-use Rattle.std.specs.Prelude.{ℕ}
+use Rattle.std.specs.Prelude.{ℕ, Option, None, Some}
+use Rattle.wsn_wire.specs.declared.endpoint.Role.{Role}
 use Rattle.wsn_job.specs.declared.job.Job.{Job}
 use Rattle.wsn_job.specs.declared.job.Job.TheVariants.{Judge, Frames, Normal, Plan, Recut, Closing}
 use Rattle.wsn_job.specs.Channels.{Channels}
@@ -12,6 +13,15 @@ use Rattle.wsn_job.specs.Closings.{IsClosingRun}
 abbrev pub MayRun : {A : Type 0} → Job A → Type 0
 MayRun (Recut role limits how) = MayRecut role how
 MayRun job = Unit {0}
+
+-- the endpoint whose stream the job reads; `closing` reads both streams
+abbrev pub job_role : {A : Type 0} → Job A → Option Role
+job_role (Judge role limits) = Some role
+job_role (Frames role limits) = Some role
+job_role (Normal role limits) = Some role
+job_role (Plan role limits) = Some role
+job_role (Recut role limits how) = Some role
+job_role (Closing limits) = None
 
 -- The job's run: its channels before and after, and the exit status, are of one answer.
 abbrev pub IsRun : {A : Type 0} → Job A → Channels → Channels → ℕ → Type 0

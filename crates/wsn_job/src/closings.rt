@@ -1,14 +1,12 @@
-ghost use Rattle.std.specs.Prelude.{◌≡◌, false, true};
-ghost use Rattle.wsn_job.specs.Closings.{IsClosingRun, IsReportPrinted, IsClosingDiagnosed, closing_status, closing_stop_line};
-ghost use Rattle.wsn_print.specs.Statuses.{outcome_status};
+ghost use Rattle.std.specs.Prelude.{◌≡◌, false};
+ghost use Rattle.wsn_job.specs.Closings.{IsReportPrinted, IsClosingDiagnosed, closing_status, closing_stop_line};
 ghost use Rattle.wsn_job.specs.Diagnostics.{IsDiagnosed};
-ghost use Rattle.wsn_job.specs.Channels.{channels};
 
-use crate::diagnostics::{diagnose, diagnose_stop};
+use crate::diagnostics::{diagnose_line_fault, diagnose_stop};
 use std::io::{Read, Write};
 use wsn_capture::{CaptureStop, Report, judge_capture};
 use wsn_io::{Input, Output, Stop};
-use wsn_print::{line_of_line_fault, put_report, status_of_outcome};
+use wsn_print::{put_report, status_of_outcome};
 use wsn_scan::Limits;
 
 /// Why a capture's report isn't printed.
@@ -20,31 +18,9 @@ pub(crate) enum ClosingStop {
     Write,
 }
 
-/// Prints the report of the capture on the input and returns the exit status. A stop is reported on `errors`.
-#[tactic(none)]
-pub(crate) fn run_closing<R: Read, W: Write, E: Write>(
-    input: &mut Input<R>,
-    limits: Limits,
-    output: &mut Output<W>,
-    errors: &mut Output<E>,
-) -> u8
-    requires readable { input.old.failed ≡ false }
-    requires writable { output.old.failed ≡ false }
-    ensures done { IsClosingRun limits (channels input.old output.old errors.old)
-        (channels input.new output.new errors.new) result }
-    ensures read { input.new.failed ≡ true → result ≡ 2 }
-    ensures write { output.new.failed ≡ true → result ≡ 2 }
-{
-    let done = print_report(input, limits, output);
-    if let Err(stop) = done {
-        diagnose_closing_stop(errors, stop);
-    }
-    status(done)
-}
-
 /// Prints the report of the capture on the input.
 #[tactic(none)]
-fn print_report<R: Read, W: Write>(
+pub(crate) fn print_report<R: Read, W: Write>(
     input: &mut Input<R>,
     limits: Limits,
     output: &mut Output<W>,
@@ -60,6 +36,16 @@ fn print_report<R: Read, W: Write>(
     }
 }
 
+/// Writes the line of a stop, if there is one, to `errors`.
+#[tactic(none)]
+pub(crate) fn diagnose_closing<E: Write>(done: Result<Report, ClosingStop>, errors: &mut Output<E>)
+    ensures { IsClosingDiagnosed done errors.old errors.new }
+{
+    if let Err(stop) = done {
+        diagnose_closing_stop(errors, stop);
+    }
+}
+
 /// Writes the line of a stop to `errors`.
 #[tactic(none)]
 fn diagnose_closing_stop<E: Write>(errors: &mut Output<E>, stop: ClosingStop)
@@ -68,14 +54,14 @@ fn diagnose_closing_stop<E: Write>(errors: &mut Output<E>, stop: ClosingStop)
     match stop {
         ClosingStop::Capture(CaptureStop::Read) => diagnose_stop(errors, Stop::Read),
         ClosingStop::Capture(CaptureStop::Line { number, fault }) => {
-            diagnose(errors, line_of_line_fault(number, fault.word()).bytes());
+            diagnose_line_fault(errors, number, fault);
         }
         ClosingStop::Write => diagnose_stop(errors, Stop::Write),
     }
 }
 
 /// The exit status for a report or a stop.
-fn status(done: Result<Report, ClosingStop>) -> u8
+pub(crate) fn status(done: Result<Report, ClosingStop>) -> u8
     ensures { result ≡ closing_status done }
 {
     match done {

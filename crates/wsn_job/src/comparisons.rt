@@ -47,7 +47,7 @@ pub fn run_same<A: Allocator + Copy, R: Read, S: Read, W: Write, E: Write>(
 
 /// Compares two streams and prints the answer.
 #[tactic(none)]
-fn print_comparison<A: Allocator + Copy, R: Read, S: Read, W: Write>(
+pub(crate) fn print_comparison<A: Allocator + Copy, R: Read, S: Read, W: Write>(
     alloc: A,
     first: &mut Input<R>,
     second: &mut Input<S>,

@@ -1,9 +1,10 @@
 ghost use Rattle.std.specs.Prelude.{◌≡◌, false};
-ghost use Rattle.wsn_job.specs.Words.{verdict_line, IsDiagnosed, IsStopDiagnosed, stop_line};
+ghost use Rattle.wsn_job.specs.Words.{verdict_line, IsDiagnosed, IsStopDiagnosed, stop_line, line_fault_line, fault_word};
 
 use std::io::Write;
+use wsn_capture::LineFault;
 use wsn_io::{Output, Stop};
-use wsn_print::{line_of_stop, put_verdict};
+use wsn_print::{line_of_line_fault, line_of_stop, put_verdict};
 use wsn_rules::Verdict;
 
 /// Writes a line to `errors`. What can't be written is dropped, and after a failed write nothing more is written.
@@ -31,6 +32,14 @@ pub fn diagnose_stop<E: Write>(errors: &mut Output<E>, stop: Stop)
     ensures { IsDiagnosed errors.old errors.new (stop_line stop) }
 {
     diagnose(errors, line_of_stop(stop).bytes());
+}
+
+/// Writes the line of a capture's faulty line in the same way: its number, counted from 1, and its fault.
+#[tactic(none)]
+pub fn diagnose_line_fault<E: Write>(errors: &mut Output<E>, number: u32, fault: LineFault)
+    ensures { IsDiagnosed errors.old errors.new (line_fault_line number (fault_word fault)) }
+{
+    diagnose(errors, line_of_line_fault(number, fault.word()).bytes());
 }
 
 /// Writes the line of a stop, if there is one, as [`diagnose`] does.

@@ -25,6 +25,25 @@ pub enum Job<A: Allocator = Global> {
     Closing(Limits),
 }
 
+impl<A: Allocator> Job<A> {
+    ghost use Rattle.wsn_job.specs.Jobs.{job_role};
+
+    /// The endpoint whose stream the job reads. `None` for `Closing`, which reads the streams of both.
+    #[tactic(none)]
+    pub fn role(&self) -> Option<Role>
+        ensures { result ≡ job_role self.now }
+    {
+        match self {
+            Job::Judge(role, _)
+            | Job::Frames(role, _)
+            | Job::Normal(role, _)
+            | Job::Plan(role, _)
+            | Job::Recut(role, _, _) => Some(*role),
+            Job::Closing(_) => None,
+        }
+    }
+}
+
 /// How a stream is recut.
 #[derive(Drop)]
 pub enum How<A: Allocator = Global> {

@@ -2,20 +2,24 @@
 //! standard error, and the exit status.
 //!
 //! [`run`] does a [`Job`], the work of a command that reads one input; [`run_same`] compares two inputs.
-//! `specs/Jobs.antt` defines what a run does, from the definitions of the single commands beside it. [`status_examples`]
-//! has exit statuses that are computed from them.
+//! [`run_on_side`] and [`run_same_on_sides`] do the same over one endpoint's side of a capture, and report a line that
+//! isn't accepted. `specs/Jobs.antt` defines what a run does, from the definitions of the single commands beside it, and
+//! `specs/Sides.antt` what a run over a side does. [`status_examples`] has exit statuses that are computed from them.
 #![tactic(auto)]
 
 mod closings;
 mod comparisons;
 mod diagnostics;
+mod done;
 mod job;
 mod plans;
 mod recuts;
 mod running;
+mod sides;
 pub mod status_examples;
 mod verdicts;
 
 pub use comparisons::run_same;
 pub use job::{How, Job};
 pub use running::run;
+pub use sides::{run_on_side, run_same_on_sides};

@@ -1,6 +1,5 @@
-ghost use Rattle.std.specs.Prelude.{◌≡◌, false, true};
-ghost use Rattle.wsn_job.specs.Plans.{IsPlanRun, IsPlanPrinted, IsPlanDiagnosed, plan_status};
-ghost use Rattle.wsn_job.specs.Channels.{channels};
+ghost use Rattle.std.specs.Prelude.{◌≡◌, false};
+ghost use Rattle.wsn_job.specs.Plans.{IsPlanPrinted, IsPlanDiagnosed, plan_status};
 
 use crate::diagnostics::{diagnose, diagnose_stop, diagnose_verdict};
 use std::alloc::Allocator;
@@ -10,31 +9,9 @@ use wsn_print::line_of_unfinished;
 use wsn_scan::{Limits, Stop};
 use wsn_wire::{Input, Output, Role};
 
-/// Prints the plan of the stream's own frames and returns the exit status. An answer without a plan, or a stop, is
-/// reported on `errors`.
-pub(crate) fn run_plan<A: Allocator + Copy, R: Read, W: Write, E: Write>(
-    alloc: A,
-    input: &mut Input<R>,
-    role: Role,
-    limits: Limits,
-    output: &mut Output<W>,
-    errors: &mut Output<E>,
-) -> u8
-    requires readable { input.old.failed ≡ false }
-    requires writable { output.old.failed ≡ false }
-    ensures done { IsPlanRun A role limits (channels input.old output.old errors.old)
-        (channels input.new output.new errors.new) result }
-    ensures read { input.new.failed ≡ true → result ≡ 2 }
-    ensures write { output.new.failed ≡ true → result ≡ 2 }
-{
-    let done = print_plan(alloc, input, role, limits, output);
-    diagnose_answer(&done, errors);
-    status(&done)
-}
-
-/// Prints the plan, if there is one.
+/// Prints the plan of the stream's own frames, if there is one.
 #[tactic(none)]
-fn print_plan<A: Allocator + Copy, R: Read, W: Write>(
+pub(crate) fn print_plan<A: Allocator + Copy, R: Read, W: Write>(
     alloc: A,
     input: &mut Input<R>,
     role: Role,
@@ -52,8 +29,9 @@ fn print_plan<A: Allocator + Copy, R: Read, W: Write>(
     Ok(answer)
 }
 
+/// Writes the line of an answer without a plan, or of a stop, to `errors`.
 #[tactic(none)]
-fn diagnose_answer<A: Allocator, E: Write>(
+pub(crate) fn diagnose_answer<A: Allocator, E: Write>(
     done: &Result<PlanAnswer<A>, Stop>,
     errors: &mut Output<E>,
 )
@@ -69,7 +47,7 @@ fn diagnose_answer<A: Allocator, E: Write>(
 
 /// The exit status for an answer or a stop.
 #[tactic(none)]
-fn status<A: Allocator>(done: &Result<PlanAnswer<A>, Stop>) -> u8
+pub(crate) fn status<A: Allocator>(done: &Result<PlanAnswer<A>, Stop>) -> u8
     ensures { result ≡ plan_status done.now }
 {
     match done {

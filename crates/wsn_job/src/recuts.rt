@@ -1,7 +1,5 @@
-ghost use Rattle.std.specs.Prelude.{◌≡◌, false, true};
-ghost use Rattle.wsn_job.specs.Words.{IsRecut, IsRecutRun, IsRecutDiagnosed, MayRecut, planned_by, recut_status};
-ghost use Rattle.wsn_job.specs.Diagnostics.{IsDiagnosed};
-ghost use Rattle.wsn_job.specs.Channels.{channels};
+ghost use Rattle.std.specs.Prelude.{◌≡◌, false};
+ghost use Rattle.wsn_job.specs.Words.{IsRecut, IsRecutDiagnosed, MayRecut, planned_by, recut_status};
 
 use crate::diagnostics::{diagnose, diagnose_stop, diagnose_verdict};
 use crate::job::How;
@@ -12,32 +10,8 @@ use wsn_print::line_of_recut_fault;
 use wsn_scan::{Limits, Stop};
 use wsn_wire::{Input, Output, Role};
 
-/// Writes the stream's meaning in other frames and returns the exit status. An answer without a recut, or a stop, is
-/// reported on `errors`.
-pub(crate) fn run_recut<A: Allocator + Copy, R: Read, W: Write, E: Write>(
-    alloc: A,
-    input: &mut Input<R>,
-    role: Role,
-    limits: Limits,
-    how: &How<A>,
-    output: &mut Output<W>,
-    errors: &mut Output<E>,
-) -> u8
-    requires readable { input.old.failed ≡ false }
-    requires writable { output.old.failed ≡ false }
-    requires may_recut { MayRecut role how.now }
-    ensures done { IsRecutRun role limits how.now (channels input.old output.old errors.old)
-        (channels input.new output.new errors.new) result }
-    ensures read { input.new.failed ≡ true → result ≡ 2 }
-    ensures write { output.new.failed ≡ true → result ≡ 2 }
-{
-    let done = recut_input(alloc, input, role, limits, how, output);
-    diagnose_answer(done, errors);
-    status(done)
-}
-
-/// Recuts the stream by a plan or by size.
-fn recut_input<A: Allocator + Copy, R: Read, W: Write>(
+/// Writes the stream's meaning in other frames, by a plan or by size.
+pub(crate) fn recut_input<A: Allocator + Copy, R: Read, W: Write>(
     alloc: A,
     input: &mut Input<R>,
     role: Role,
@@ -58,7 +32,8 @@ fn recut_input<A: Allocator + Copy, R: Read, W: Write>(
     }
 }
 
-fn diagnose_answer<E: Write>(done: Result<RecutAnswer, Stop>, errors: &mut Output<E>)
+/// Writes the line of an answer without a recut, or of a stop, to `errors`.
+pub(crate) fn diagnose_answer<E: Write>(done: Result<RecutAnswer, Stop>, errors: &mut Output<E>)
     ensures { IsRecutDiagnosed done errors.old errors.new }
 {
     match done {
@@ -74,7 +49,7 @@ fn diagnose_answer<E: Write>(done: Result<RecutAnswer, Stop>, errors: &mut Outpu
 
 /// The exit status for an answer or a stop.
 #[tactic(none)]
-fn status(done: Result<RecutAnswer, Stop>) -> u8
+pub(crate) fn status(done: Result<RecutAnswer, Stop>) -> u8
     ensures { result ≡ recut_status done }
 {
     match done {

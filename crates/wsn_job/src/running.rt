@@ -1,14 +1,18 @@
 ghost use Rattle.std.specs.Prelude.{◌≡◌, ◌⊎◌, false, true};
 ghost use Rattle.wsn_job.specs.Jobs.{IsRun, MayRun};
 ghost use Rattle.wsn_job.specs.Channels.{channels};
+ghost use Rattle.wsn_job.specs.Work.{IsDone, done_status};
 
-use crate::closings::run_closing;
+use crate::closings::print_report;
+use crate::done::Done;
 use crate::job::Job;
-use crate::plans::run_plan;
-use crate::recuts::run_recut;
-use crate::verdicts::{run_frames, run_judge, run_normal};
+use crate::plans::print_plan;
+use crate::recuts::recut_input;
+use crate::verdicts::print_verdict;
 use std::alloc::Allocator;
 use std::io::{Read, Write};
+use wsn_events::normalise;
+use wsn_scan::list;
 use wsn_wire::{Input, Output};
 
 /// Does a command's work and returns the program's exit status.
@@ -35,14 +39,37 @@ pub fn run<A: Allocator + Copy, R: Read, W: Write, E: Write>(
     ensures read { input.new.failed ≡ true → result ≡ 2 }
     ensures write { output.new.failed ≡ true → result ≡ 2 }
 {
+    let done = work(alloc, job, input, output);
+    done.diagnose(errors);
+    done.status()
+}
+
+/// Does a command's work, but for what it says on standard error.
+#[tactic(none)]
+pub(crate) fn work<A: Allocator + Copy, R: Read, W: Write>(
+    alloc: A,
+    job: &Job<A>,
+    input: &mut Input<R>,
+    output: &mut Output<W>,
+) -> Done<A>
+    requires readable { input.old.failed ≡ false }
+    requires writable { output.old.failed ≡ false }
+    requires may_run { MayRun job.now }
+    ensures done { IsDone job.now input.old input.new output.old output.new result }
+    ensures status { (done_status result ≡ 0) ⊎ (done_status result ≡ 1) ⊎ (done_status result ≡ 2) }
+    ensures read { input.new.failed ≡ true → done_status result ≡ 2 }
+    ensures write { output.new.failed ≡ true → done_status result ≡ 2 }
+{
     match job {
-        Job::Judge(role, limits) => run_judge(input, *role, *limits, output, errors),
-        Job::Frames(role, limits) => run_frames(input, *role, *limits, output, errors),
-        Job::Normal(role, limits) => run_normal(alloc, input, *role, *limits, output, errors),
-        Job::Plan(role, limits) => run_plan(alloc, input, *role, *limits, output, errors),
-        Job::Recut(role, limits, how) => {
-            run_recut(alloc, input, *role, *limits, how, output, errors)
+        Job::Judge(role, limits) => Done::Judge(print_verdict(input, *role, *limits, output)),
+        Job::Frames(role, limits) => Done::Frames(list(input, output, *role, *limits)),
+        Job::Normal(role, limits) => {
+            Done::Normal(normalise(alloc, input, output, *role, *limits))
         }
-        Job::Closing(limits) => run_closing(input, *limits, output, errors),
+        Job::Plan(role, limits) => Done::Plan(print_plan(alloc, input, *role, *limits, output)),
+        Job::Recut(role, limits, how) => {
+            Done::Recut(recut_input(alloc, input, *role, *limits, how, output))
+        }
+        Job::Closing(limits) => Done::Closing(print_report(input, *limits, output)),
     }
 }

@@ -1,84 +1,15 @@
-ghost use Rattle.std.specs.Prelude.{◌≡◌, false, true};
-ghost use Rattle.wsn_job.specs.Words.{IsVerdictPrinted, IsVerdictDiagnosed, IsJudgeRun, IsFramesRun, IsNormalRun, verdict_status, IsStopDiagnosed};
-ghost use Rattle.wsn_job.specs.Channels.{channels};
+ghost use Rattle.std.specs.Prelude.{◌≡◌, false};
+ghost use Rattle.wsn_job.specs.Words.{IsVerdictPrinted, IsVerdictDiagnosed};
 
-use crate::diagnostics::{diagnose_if_stopped, diagnose_stop, diagnose_verdict};
-use std::alloc::Allocator;
+use crate::diagnostics::{diagnose_stop, diagnose_verdict};
 use std::io::{Read, Write};
-use wsn_events::normalise;
-use wsn_print::{put_verdict, status_of_verdict};
-use wsn_scan::{Limits, Stop, Verdict, judge, list};
+use wsn_print::put_verdict;
+use wsn_scan::{Limits, Stop, Verdict, judge};
 use wsn_wire::{Input, Output, Role};
-
-/// Prints the line of the verdict on the input and returns the program's exit status: 0 for an accepted stream, 1 for
-/// any other verdict, 2 for a stop (`Read`, `InputLimit` or `Write`), which is reported in one line on `errors`.
-pub fn run_judge<R: Read, W: Write, E: Write>(
-    input: &mut Input<R>,
-    role: Role,
-    limits: Limits,
-    output: &mut Output<W>,
-    errors: &mut Output<E>,
-) -> u8
-    requires readable { input.old.failed ≡ false }
-    requires writable { output.old.failed ≡ false }
-    ensures done { IsJudgeRun role limits (channels input.old output.old errors.old)
-        (channels input.new output.new errors.new) result }
-    ensures read { input.new.failed ≡ true → result ≡ 2 }
-    ensures write { output.new.failed ≡ true → result ≡ 2 }
-{
-    let done = print_verdict(input, role, limits, output);
-    diagnose_if_stopped(done, errors);
-    status_of_verdict(done)
-}
-
-/// Prints a line for each frame of the input (RFC 6455 section 5.2), and then the verdict's line. The exit status and
-/// the stops are those of [`run_judge`].
-#[tactic(none)]
-pub fn run_frames<R: Read, W: Write, E: Write>(
-    input: &mut Input<R>,
-    role: Role,
-    limits: Limits,
-    output: &mut Output<W>,
-    errors: &mut Output<E>,
-) -> u8
-    requires readable { input.old.failed ≡ false }
-    requires writable { output.old.failed ≡ false }
-    ensures done { IsFramesRun role limits (channels input.old output.old errors.old)
-        (channels input.new output.new errors.new) result }
-    ensures read { input.new.failed ≡ true → result ≡ 2 }
-    ensures write { output.new.failed ≡ true → result ≡ 2 }
-{
-    let done = list(input, output, role, limits);
-    diagnose_if_stopped(done, errors);
-    status_of_verdict(done)
-}
-
-/// Writes the normal form of the input's meaning; a verdict that isn't accepted is reported on `errors`. The exit
-/// status is that of [`run_judge`]. A stop may also be `Memory`: an allocation for a message failed.
-#[tactic(none)]
-pub fn run_normal<A: Allocator + Copy, R: Read, W: Write, E: Write>(
-    alloc: A,
-    input: &mut Input<R>,
-    role: Role,
-    limits: Limits,
-    output: &mut Output<W>,
-    errors: &mut Output<E>,
-) -> u8
-    requires readable { input.old.failed ≡ false }
-    requires writable { output.old.failed ≡ false }
-    ensures done { IsNormalRun role limits (channels input.old output.old errors.old)
-        (channels input.new output.new errors.new) result }
-    ensures read { input.new.failed ≡ true → result ≡ 2 }
-    ensures write { output.new.failed ≡ true → result ≡ 2 }
-{
-    let done = normalise(alloc, input, output, role, limits);
-    diagnose_unless_accepted(done, errors);
-    status_of_verdict(done)
-}
 
 /// Prints the line of the verdict on the input.
 #[tactic(none)]
-fn print_verdict<R: Read, W: Write>(
+pub(crate) fn print_verdict<R: Read, W: Write>(
     input: &mut Input<R>,
     role: Role,
     limits: Limits,
@@ -93,8 +24,12 @@ fn print_verdict<R: Read, W: Write>(
     Ok(verdict)
 }
 
+/// Writes the line of a stop, or of a verdict that isn't accepted, to `errors`.
 #[tactic(none)]
-fn diagnose_unless_accepted<E: Write>(done: Result<Verdict, Stop>, errors: &mut Output<E>)
+pub(crate) fn diagnose_unless_accepted<E: Write>(
+    done: Result<Verdict, Stop>,
+    errors: &mut Output<E>,
+)
     ensures { IsVerdictDiagnosed done errors.old errors.new }
 {
     match done {

@@ -1,12 +1,6 @@
 use Rattle.std.proofs.Common.{rules}
 use Rattle.wsn_job.proofs.closings.diagnose_closing_stop.Goals as goal
 
-pub line_of_line_fault-requires : goal.line_of_line_fault-requires
-line_of_line_fault-requires g c = search rules
-
-pub bytes-requires : goal.bytes-requires
-bytes-requires g c = search rules
-
 pub returns-in-Capture-Read : goal.returns-in-Capture-Read
 returns-in-Capture-Read g c = search rules
 

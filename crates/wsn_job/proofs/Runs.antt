@@ -1,0 +1,20 @@
+-- A job's run is its work, and what it says of it on standard error.
+use Rattle.std.proofs.Common.{refl}
+use Rattle.wsn_job.specs.declared.job.Job.{Job}
+use Rattle.wsn_job.specs.declared.job.Job.TheVariants.{Judge, Frames, Normal, Plan, Recut, Closing}
+use Rattle.wsn_job.specs.declared.done.Done.{Done}
+use Rattle.wsn_job.specs.declared.done.Done.TheVariants as done
+use Rattle.wsn_job.specs.Channels.{Channels}
+use Rattle.wsn_job.specs.Jobs.{IsRun}
+use Rattle.wsn_job.specs.Work.{IsDone, IsDoneDiagnosed, done_status}
+
+pub run_of_done : {A : Type 0} (job : Job A) (before after : Channels) (d : Done A) →
+    IsDone job before.input after.input before.output after.output d → IsDoneDiagnosed d before.errors after.errors →
+    IsRun job before after (done_status d)
+run_of_done (Judge role limits) before after (done.Judge answer) is said = (answer, is, refl, said)
+run_of_done (Frames role limits) before after (done.Frames answer) is said = (answer, is, refl, said)
+run_of_done (Normal role limits) before after (done.Normal answer) is said = (answer, is, refl, said)
+run_of_done (Plan role limits) before after (done.Plan answer) is said = (answer, is, refl, said)
+run_of_done (Recut role limits how) before after (done.Recut answer) is said = (answer, is, refl, said)
+run_of_done (Closing limits) before after (done.Closing answer) is said = (answer, is, refl, said)
+run_of_done job before after d is said = absurd is

@@ -1,0 +1,146 @@
+-- A job on a side whose read failed ended with the stop `Read`.
+use Rattle.std.proofs.Common.{◌≡◌, ℕ, true, false, Result, Ok, Err, List, refl, sym, subst, inl, inr}
+use Rattle.wsn_wire.specs.declared.endpoint.Role.{Role}
+use Rattle.wsn_io.specs.Transfer.{Incoming, Outgoing}
+use Rattle.wsn_io.specs.declared.stop.Stop.{Stop}
+use Rattle.wsn_io.specs.declared.stop.Stop.TheVariants as stop
+use Rattle.wsn_rules.specs.Limits.{Limits}
+use Rattle.wsn_rules.specs.declared.verdict.Verdict.{Verdict}
+use Rattle.wsn_rules.specs.declared.verdict.Verdict.TheVariants.{Accepted, Cut, Refused}
+use Rattle.wsn_print.specs.FaultText.{line_fault_line}
+use Rattle.wsn_print.specs.StopText.{stop_line}
+use Rattle.wsn_capture.specs.declared.line_fault.LineFault.{LineFault}
+use Rattle.wsn_capture.specs.LineFaults.{fault_word}
+use Rattle.wsn_scan.specs.Judging.{IsReached, IsJudged}
+use Rattle.wsn_scan.specs.Listing.{IsListed}
+use Rattle.wsn_events.specs.Normalised.{IsNormalised}
+use Rattle.wsn_plan.specs.declared.planning.PlanAnswer.{PlanAnswer}
+use Rattle.wsn_plan.specs.declared.planning.PlanAnswer.TheVariants as plans
+use Rattle.wsn_plan.specs.declared.recutting.RecutAnswer.{RecutAnswer}
+use Rattle.wsn_plan.specs.Planning.{IsPlanned}
+use Rattle.wsn_plan.specs.Recutting.{Planner, IsRecut}
+use Rattle.wsn_job.specs.declared.job.Job.{Job}
+use Rattle.wsn_job.specs.declared.job.Job.TheVariants.{Judge, Frames, Normal, Plan, Recut, Closing}
+use Rattle.wsn_job.specs.declared.done.Done.{Done}
+use Rattle.wsn_job.specs.declared.done.Done.TheVariants as done
+use Rattle.wsn_job.specs.Channels.{Channels, channels}
+use Rattle.wsn_job.specs.Diagnostics.{IsDiagnosed, IsStopDiagnosed}
+use Rattle.wsn_job.specs.Jobs.{IsRun}
+use Rattle.wsn_job.specs.Plans.{IsPlanPrinted, IsPlanDiagnosed}
+use Rattle.wsn_job.specs.Recuts.{IsRecutDiagnosed, planned_by}
+use Rattle.wsn_job.specs.Sides.{MayRunOnSide, IsFaultySide, IsRunOnSide}
+use Rattle.wsn_job.specs.Verdicts.{IsVerdictPrinted, IsVerdictDiagnosed}
+use Rattle.wsn_job.specs.Work.{IsDone, IsDoneDiagnosed, done_status}
+use Rattle.wsn_job.proofs.Runs.{run_of_done}
+
+module _ (role : Role) (limits : Limits) (old new : Incoming) (failed : new.failed ≡ true) where
+  -- no read had failed when a verdict was reached
+  reached : {B : Type 0} (came : List ℕ) (verdict : Verdict) → IsReached role limits new came verdict → B
+  reached came (Accepted summary) is = let h : new.failed ≡ false = is.4 in absurd cc
+  reached came (Cut summary) is = let h : new.failed ≡ false = is.4 in absurd cc
+  reached came (Refused refusal) is = let h : new.failed ≡ false = is.4 in absurd cc
+
+  judged : (result : Result Verdict Stop) → IsJudged role limits old new result → result ≡ Err stop.Read
+  judged (Ok verdict) is = reached is.0 verdict is.1.answer
+  judged (Err stop.Read) is = refl
+  judged (Err stop.InputLimit) is = let h : new.failed ≡ false = is.1.answer.2 in absurd cc
+  judged (Err stop.Memory) is = absurd is.1.answer
+  judged (Err stop.Write) is = absurd is.1.answer
+
+  verdict_printed : (before after : Outgoing) (result : Result Verdict Stop) →
+      IsVerdictPrinted role limits old new before after result → result ≡ Err stop.Read
+  verdict_printed before after (Ok verdict) is = judged (Ok verdict) is.0
+  verdict_printed before after (Err stop.Read) is = refl
+  verdict_printed before after (Err stop.InputLimit) is = judged (Err stop.InputLimit) is.0
+  verdict_printed before after (Err stop.Memory) is = judged (Err stop.Memory) is.0
+  verdict_printed before after (Err stop.Write) is = reached is.1.0 is.0 is.1.1.answer
+
+  listed : (before after : Outgoing) (result : Result Verdict Stop) →
+      IsListed role limits old new before after result → result ≡ Err stop.Read
+  listed before after (Ok verdict) is = reached is.came verdict is.answer
+  listed before after (Err stop.Read) is = refl
+  listed before after (Err stop.InputLimit) is = let h : new.failed ≡ false = is.answer.2 in absurd cc
+  listed before after (Err stop.Memory) is = absurd is.answer
+  listed before after (Err stop.Write) is = let h : new.failed ≡ false = is.answer.0 in absurd cc
+
+  normalised : (before after : Outgoing) (result : Result Verdict Stop) →
+      IsNormalised role limits old new before after result → result ≡ Err stop.Read
+  normalised before after (Ok verdict) is = reached is.came verdict is.written.1.0
+  normalised before after (Err stop.Read) is = refl
+  normalised before after (Err stop.InputLimit) is = let h : new.failed ≡ false = is.written.1.0.2 in absurd cc
+  normalised before after (Err stop.Memory) is = let h : new.failed ≡ false = is.written.1.2 in absurd cc
+  normalised before after (Err stop.Write) is = let h : new.failed ≡ false = is.written.0 in absurd cc
+
+  planned : {A : Type 0} (result : Result (PlanAnswer A) Stop) → IsPlanned {A = A} role limits old new result →
+      result ≡ Err stop.Read
+  planned (Ok answer) is = reached is.came is.of_bytes.0 is.of_bytes.2
+  planned (Err stop.Read) is = refl
+  planned (Err stop.InputLimit) is = let h : new.failed ≡ false = is.of_bytes.2 in absurd cc
+  planned (Err stop.Memory) is = let h : new.failed ≡ false = is.of_bytes.1 in absurd cc
+  planned (Err stop.Write) is = absurd is.of_bytes
+
+  plan_printed : {A : Type 0} (before after : Outgoing) (result : Result (PlanAnswer A) Stop) →
+      IsPlanPrinted role limits old new before after result → result ≡ Err stop.Read
+  plan_printed before after (Ok (plans.Plan plan)) is = planned (Ok (plans.Plan plan)) is.0
+  plan_printed before after (Ok (plans.NotAccepted verdict)) is = planned (Ok (plans.NotAccepted verdict)) is.0
+  plan_printed before after (Ok plans.Unfinished) is = planned (Ok plans.Unfinished) is.0
+  plan_printed before after (Err stop.Read) is = refl
+  plan_printed before after (Err stop.InputLimit) is = planned (Err stop.InputLimit) is.0
+  plan_printed before after (Err stop.Memory) is = planned (Err stop.Memory) is.0
+  plan_printed before after (Err stop.Write) is = reached is.1.came is.1.of_bytes.0 is.1.of_bytes.2
+
+  recut : (planner : Planner) (before after : Outgoing) (result : Result RecutAnswer Stop) →
+      IsRecut role limits planner old new before after result → result ≡ Err stop.Read
+  recut planner before after (Ok answer) is = reached is.came is.of_bytes.0 is.of_bytes.2.0
+  recut planner before after (Err stop.Read) is = refl
+  recut planner before after (Err stop.InputLimit) is = let h : new.failed ≡ false = is.of_bytes.0.2 in absurd cc
+  recut planner before after (Err stop.Memory) is = let h : new.failed ≡ false = is.of_bytes.0.1 in absurd cc
+  recut planner before after (Err stop.Write) is = reached is.came is.of_bytes.0 is.of_bytes.2.0
+
+-- With `read failed` on standard error, the work is a run.
+pub run_of_failed_read : {A : Type 0} (job : Job A) (before after : Channels) (d : Done A) → MayRunOnSide job →
+    IsDone job before.input after.input before.output after.output d → after.input.failed ≡ true →
+    (errors : Outgoing) → IsDiagnosed before.errors errors (stop_line stop.Read) →
+    IsRun job before (record after { errors = errors }) (done_status d)
+run_of_failed_read (Judge role limits) before after (done.Judge answer) may is failed errors said =
+    let stopped = verdict_printed role limits before.input after.input failed before.output after.output answer is in
+    (answer, is, refl, subst (λ (a : Result Verdict Stop). IsStopDiagnosed a before.errors errors) (sym stopped) said)
+run_of_failed_read (Frames role limits) before after (done.Frames answer) may is failed errors said =
+    let stopped = listed role limits before.input after.input failed before.output after.output answer is in
+    (answer, is, refl, subst (λ (a : Result Verdict Stop). IsStopDiagnosed a before.errors errors) (sym stopped) said)
+run_of_failed_read (Normal role limits) before after (done.Normal answer) may is failed errors said =
+    let stopped = normalised role limits before.input after.input failed before.output after.output answer is in
+    (answer, is, refl, subst (λ (a : Result Verdict Stop). IsVerdictDiagnosed a before.errors errors) (sym stopped) said)
+run_of_failed_read {A} (Plan role limits) before after (done.Plan answer) may is failed errors said =
+    let stopped = plan_printed role limits before.input after.input failed before.output after.output answer is in
+    (answer, is, refl, subst (λ (a : Result (PlanAnswer A) Stop). IsPlanDiagnosed a before.errors errors) (sym stopped) said)
+run_of_failed_read (Recut role limits how) before after (done.Recut answer) may is failed errors said =
+    let stopped = recut role limits before.input after.input failed (planned_by how) before.output after.output answer is in
+    (answer, is, refl, subst (λ (a : Result RecutAnswer Stop). IsRecutDiagnosed a before.errors errors) (sym stopped) said)
+run_of_failed_read (Closing limits) before after d may is failed errors said = let h : false ≡ true = may.1 in absurd cc
+run_of_failed_read job before after d may is failed errors said = absurd is
+
+-- A run over a side that ended with no faulty line.
+pub side_run : {A : Type 0} (job : Job A) (old new : Incoming) (before after quiet said : Outgoing) (d : Done A) (status : ℕ) →
+    IsDone job old new before after d → IsDoneDiagnosed d quiet said → status ≡ done_status d →
+    IsRunOnSide job (channels old before quiet) (channels new after said) status
+side_run job old new before after quiet said d status is diagnosed ends =
+    let run = run_of_done job (channels old before quiet) (channels new after said) d is diagnosed in
+    inl (rw ends run)
+
+-- A run over a side that ended at a faulty line.
+pub side_run_to_line : {A : Type 0} (job : Job A) (old new : Incoming) (before after quiet said : Outgoing) (d : Done A)
+    (status number : ℕ) (fault : LineFault) → MayRunOnSide job → IsDone job old new before after d →
+    IsFaultySide new number fault → IsDiagnosed quiet said (line_fault_line number (fault_word fault)) →
+    status ≡ done_status d → IsRunOnSide job (channels old before quiet) (channels new after said) status
+side_run_to_line job old new before after quiet said d status number fault may is faulty diagnosed ends =
+    let run : (errors : Outgoing) → IsDiagnosed quiet errors (stop_line stop.Read) →
+    IsRun job (channels old before quiet) (channels new after errors) (done_status d) =
+    run_of_failed_read job (channels old before quiet) (channels new after said) d may is faulty.failed in
+    inr (record {
+      number = number;
+      fault = fault;
+      faulty = faulty;
+      said = diagnosed;
+      run = λ errors read. rw ends (run errors read);
+    })

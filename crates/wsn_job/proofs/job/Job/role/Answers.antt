@@ -1,0 +1,8 @@
+use Rattle.std.proofs.Common.{rules}
+use Rattle.wsn_job.proofs.job.Job.role.Goals as goal
+
+pub returns-in-Closing : goal.returns-in-Closing
+returns-in-Closing g c = search rules
+
+pub returns-in-Judge : goal.returns-in-Judge
+returns-in-Judge g c = search rules

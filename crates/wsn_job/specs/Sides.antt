@@ -1,0 +1,49 @@
+-- What a run does whose input is one endpoint's side of a capture.
+use Rattle.std.specs.Prelude.{◌≡◌, ◌⊎◌, ℕ, true, false, Result, Err, IfSome, IsSome, [], ◌∷◌}
+use Rattle.wsn_io.specs.Transfer.{Incoming, Outgoing}
+use Rattle.wsn_io.specs.declared.stop.Stop.{Stop}
+use Rattle.wsn_io.specs.declared.stop.Stop.TheVariants as stop
+use Rattle.wsn_rules.specs.declared.compared.Compared.{Compared}
+use Rattle.wsn_print.specs.FaultText.{line_fault_line}
+use Rattle.wsn_print.specs.StopText.{stop_line}
+use Rattle.wsn_capture.specs.declared.line_fault.LineFault.{LineFault}
+use Rattle.wsn_capture.specs.LineFaults.{fault_word}
+use Rattle.wsn_capture.specs.SideTexts.{sentinel}
+use Rattle.wsn_job.specs.declared.job.Job.{Job}
+use Rattle.wsn_job.specs.Channels.{Channels}
+use Rattle.wsn_job.specs.Diagnostics.{IsDiagnosed, IsStopDiagnosed}
+use Rattle.wsn_job.specs.Jobs.{IsRun, MayRun, job_role}
+
+-- The job may be run on a side: it reads one endpoint's stream. `closing` reads both.
+abbrev pub MayRunOnSide : {A : Type 0} → Job A → Type 0
+MayRunOnSide job = MayRun job × IsSome (job_role job)
+
+-- A read of the side failed, at the line with this number, which isn't accepted: it is all that is left of the side.
+pub record IsFaultySide (side : Incoming) (number : ℕ) (fault : LineFault) : Type 0 where
+  pub failed : side.failed ≡ true
+  pub left : IfSome side.remaining (λ left. left ≡ sentinel number fault ∷ [])
+
+-- The faulty line is reported. With `read failed` in its place, it is a run as over any input.
+pub record IsRunToFaultyLine {A : Type 0} (job : Job A) (before after : Channels) (status : ℕ) : Type 0 where
+  pub number : ℕ
+  pub fault : LineFault
+  pub faulty : IsFaultySide after.input number fault
+  pub said : IsDiagnosed before.errors after.errors (line_fault_line number (fault_word fault))
+  pub run : (errors : Outgoing) → IsDiagnosed before.errors errors (stop_line stop.Read) →
+      IsRun job before (record after { errors = errors }) status
+
+-- A run over a side: a run as over any input, or one that reports a faulty line.
+abbrev pub IsRunOnSide : {A : Type 0} → Job A → Channels → Channels → ℕ → Type 0
+IsRunOnSide job before after status = IsRun job before after status ⊎ IsRunToFaultyLine job before after status
+
+-- The faulty line is that of the first side that failed.
+abbrev pub IsFirstFaultySide : Incoming → Incoming → ℕ → LineFault → Type 0
+IsFirstFaultySide first second number fault =
+    IsFaultySide first number fault ⊎ ((first.failed ≡ false) × IsFaultySide second number fault)
+
+-- What a comparison of two sides reports: its stop, if there is one, or a faulty line in the place of `read failed`.
+abbrev pub IsSameDiagnosed : Incoming → Incoming → Result Compared Stop → Outgoing → Outgoing → Type 0
+IsSameDiagnosed first second done old new =
+    IsStopDiagnosed done old new
+    ⊎ ((number : ℕ) × (fault : LineFault) × IsFirstFaultySide first second number fault
+    × (done ≡ Err stop.Read) × IsDiagnosed old new (line_fault_line number (fault_word fault)))

@@ -1,0 +1,46 @@
+-- What a job's work came to, before standard error is written.
+use Rattle.std.specs.Prelude.{ℕ}
+use Rattle.wsn_io.specs.Transfer.{Incoming, Outgoing}
+use Rattle.wsn_print.specs.Statuses.{verdict_status}
+use Rattle.wsn_scan.specs.Listing.{IsListed}
+use Rattle.wsn_events.specs.Normalised.{IsNormalised}
+use Rattle.wsn_job.specs.declared.job.Job.{Job}
+use Rattle.wsn_job.specs.declared.job.Job.TheVariants.{Judge, Frames, Normal, Plan, Recut, Closing}
+use Rattle.wsn_job.specs.declared.done.Done.{Done}
+use Rattle.wsn_job.specs.declared.done.Done.TheVariants as done
+use Rattle.wsn_job.specs.Diagnostics.{IsStopDiagnosed}
+use Rattle.wsn_job.specs.Verdicts.{IsVerdictPrinted, IsVerdictDiagnosed}
+use Rattle.wsn_job.specs.Plans.{IsPlanPrinted, IsPlanDiagnosed, plan_status}
+use Rattle.wsn_plan.specs.Recutting.{IsRecut}
+use Rattle.wsn_job.specs.Recuts.{IsRecutDiagnosed, planned_by, recut_status}
+use Rattle.wsn_job.specs.Closings.{IsReportPrinted, IsClosingDiagnosed, closing_status}
+
+-- What came from the input and what was printed are of the job's answer or stop.
+abbrev pub IsDone : {A : Type 0} → Job A → Incoming → Incoming → Outgoing → Outgoing → Done A → Type 0
+IsDone (Judge role limits) old new before after (done.Judge answer) = IsVerdictPrinted role limits old new before after answer
+IsDone (Frames role limits) old new before after (done.Frames answer) = IsListed role limits old new before after answer
+IsDone (Normal role limits) old new before after (done.Normal answer) =
+    IsNormalised role limits old new before after answer
+IsDone (Plan role limits) old new before after (done.Plan answer) = IsPlanPrinted role limits old new before after answer
+IsDone (Recut role limits how) old new before after (done.Recut answer) =
+    IsRecut role limits (planned_by how) old new before after answer
+IsDone (Closing limits) old new before after (done.Closing answer) = IsReportPrinted limits old new before after answer
+IsDone job old new before after answer = ⊥
+
+-- the exit status
+abbrev pub done_status : {A : Type 0} → Done A → ℕ
+done_status (done.Judge answer) = verdict_status answer
+done_status (done.Frames answer) = verdict_status answer
+done_status (done.Normal answer) = verdict_status answer
+done_status (done.Plan answer) = plan_status answer
+done_status (done.Recut answer) = recut_status answer
+done_status (done.Closing answer) = closing_status answer
+
+-- What is written to standard error.
+abbrev pub IsDoneDiagnosed : {A : Type 0} → Done A → Outgoing → Outgoing → Type 0
+IsDoneDiagnosed (done.Judge answer) old new = IsStopDiagnosed answer old new
+IsDoneDiagnosed (done.Frames answer) old new = IsStopDiagnosed answer old new
+IsDoneDiagnosed (done.Normal answer) old new = IsVerdictDiagnosed answer old new
+IsDoneDiagnosed (done.Plan answer) old new = IsPlanDiagnosed answer old new
+IsDoneDiagnosed (done.Recut answer) old new = IsRecutDiagnosed answer old new
+IsDoneDiagnosed (done.Closing answer) old new = IsClosingDiagnosed answer old new

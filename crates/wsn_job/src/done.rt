@@ -1,0 +1,54 @@
+use crate::closings::{self, ClosingStop};
+use crate::diagnostics::diagnose_if_stopped;
+use crate::verdicts::diagnose_unless_accepted;
+use crate::{plans, recuts};
+use std::alloc::Allocator;
+use std::io::Write;
+use wsn_capture::Report;
+use wsn_io::{Output, Stop};
+use wsn_plan::{PlanAnswer, RecutAnswer};
+use wsn_print::status_of_verdict;
+use wsn_rules::Verdict;
+
+/// What a job's work came to: its answer, or the stop that ended it. Nothing of it is on standard error yet.
+#[derive(Drop)]
+pub(crate) enum Done<A: Allocator> {
+    Judge(Result<Verdict, Stop>),
+    Frames(Result<Verdict, Stop>),
+    Normal(Result<Verdict, Stop>),
+    Plan(Result<PlanAnswer<A>, Stop>),
+    Recut(Result<RecutAnswer, Stop>),
+    Closing(Result<Report, ClosingStop>),
+}
+
+impl<A: Allocator> Done<A> {
+    ghost use Rattle.std.specs.Prelude.{◌≡◌};
+    ghost use Rattle.wsn_job.specs.Work.{IsDoneDiagnosed, done_status};
+
+    /// Writes to `errors` what the job says there: a stop's line, or that of an answer that isn't on standard output.
+    #[tactic(none)]
+    pub fn diagnose<E: Write>(&self, errors: &mut Output<E>)
+        ensures { IsDoneDiagnosed self.now errors.old errors.new }
+    {
+        match self {
+            Done::Judge(done) | Done::Frames(done) => diagnose_if_stopped(*done, errors),
+            Done::Normal(done) => diagnose_unless_accepted(*done, errors),
+            Done::Plan(done) => plans::diagnose_answer(done, errors),
+            Done::Recut(done) => recuts::diagnose_answer(*done, errors),
+            Done::Closing(done) => closings::diagnose_closing(*done, errors),
+        }
+    }
+
+    /// The program's exit status.
+    #[tactic(none)]
+    pub fn status(&self) -> u8
+        ensures { result ≡ done_status self.now }
+    {
+        match self {
+            Done::Judge(done) | Done::Frames(done) | Done::Normal(done) => status_of_verdict(*done),
+            Done::Plan(done) => plans::status(done),
+            Done::Recut(done) => recuts::status(*done),
+            Done::Closing(done) => closings::status(*done),
+        }
+    }
+}
