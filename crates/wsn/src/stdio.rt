@@ -1,13 +1,17 @@
+ghost use Rattle.std.specs.Prelude.{◌≡◌, IfSome};
 ghost use Rattle.wsn_job.specs.Jobs.{MayRun};
+ghost use Rattle.wsn_cli.specs.Requests.{IsOwnSide};
 
 use crate::FAULT;
+use crate::source::Source;
 use arrayvec::ArrayVec;
 use std::alloc::Allocator;
 use std::cell::RefCell;
 use std::io::{self, Read, Write};
 use std::rt::Runtime;
 use std::{fs, str};
-use wsn_cli::{Escaped, How, Job, run, run_same};
+use wsn_capture::SideReader;
+use wsn_cli::{Escaped, How, Job, run, run_on_side, run_same, run_same_on_sides};
 use wsn_io::{BlockReader, BlockWriter, Input, Output, Stop, TiedReader, TiedWriter};
 use wsn_plan::{PlanFileFault, read_plan_file};
 use wsn_rules::Limits;
@@ -37,12 +41,47 @@ pub fn show<R: Print + Eprint>(rt: &R, text: &str) -> u8 {
     }
 }
 
-/// Does a command's work over the standard streams and returns the exit status.
-pub fn perform<R: Runtime + AllocGlobal>(rt: &R, job: &Job) -> u8
-    requires { MayRun job.now }
+/// Does a command's work over the file with this name, or over standard input, and returns the exit status. With a side,
+/// the input is a capture, and the work is over what this endpoint sent.
+pub fn perform<R: Runtime + AllocGlobal>(
+    rt: &R,
+    job: &Job,
+    file: &Option<String>,
+    side: Option<Role>,
+) -> u8
+    requires may_run { MayRun job.now }
+    requires own { IsOwnSide job.now side }
+{
+    match open(rt, file) {
+        Ok(input) => perform_on(rt, job, input, side),
+        Err(status) => status,
+    }
+}
+
+/// Opens an input: the file with this name, or standard input. The error is the exit status for a file that can't be
+/// opened, which is reported as `cannot read` with its name.
+fn open<R: Runtime>(rt: &R, file: &Option<String>) -> Result<Source<R::Reader, R::File>, u8> {
+    let Some(name) = file else {
+        return Ok(Source::StandardInput(rt.reader()));
+    };
+    match fs::open(rt, name) {
+        Ok(file) => Ok(Source::File(file)),
+        Err(_) => Err(diagnose_unread(rt, name.as_str())),
+    }
+}
+
+/// Does a command's work over an input and standard output, and returns the exit status.
+fn perform_on<R: Runtime + AllocGlobal, S: Read + Drop>(
+    rt: &R,
+    job: &Job,
+    input: S,
+    side: Option<Role>,
+) -> u8
+    requires may_run { MayRun job.now }
+    requires own { IsOwnSide job.now side }
 {
     let mut diagnosed = OneLine::new();
-    match work(rt.alloc(), job, rt.reader(), io::writer(rt), &mut diagnosed) {
+    match work(rt.alloc(), job, input, side, io::writer(rt), &mut diagnosed) {
         Some(status) => finish(rt, &diagnosed, status),
         None => diagnose_stop(rt, Stop::Write),
     }
@@ -54,78 +93,160 @@ fn work<A: Allocator + Copy, R: Read + Drop, W: Write + Drop>(
     alloc: A,
     job: &Job<A>,
     input: R,
+    side: Option<Role>,
     output: W,
     diagnosed: &mut OneLine,
 ) -> Option<u8>
-    requires { MayRun job.now }
+    requires may_run { MayRun job.now }
+    requires own { IsOwnSide job.now side }
 {
     let output = RefCell::new(BlockWriter::new(output));
     let mut reader = BlockReader::new(TiedReader::new(input, &output));
     let mut writer = TiedWriter::new(&output);
-    let status = run(
-        alloc,
-        job,
-        &mut Input::new(&mut reader),
-        &mut Output::new(&mut writer),
-        &mut Output::new(diagnosed),
-    );
+    let mut printed = Output::new(&mut writer);
+    let mut errors = Output::new(diagnosed);
+    let status = match side {
+        None => run(
+            alloc,
+            job,
+            &mut Input::new(&mut reader),
+            &mut printed,
+            &mut errors,
+        ),
+        Some(role) => {
+            let side = SideReader::new(&mut reader, role);
+            run_on_side(alloc, job, &mut Input::new(side), &mut printed, &mut errors)
+        }
+    };
     writer.flush().is_ok().then_some(status)
 }
 
-/// Recuts the stream on standard input by the plan in a file and returns the exit status. The file is read whole before
-/// standard input is read; a fault of the file is reported in one line on standard error.
+/// Recuts the stream in a file by the plan in another and returns the exit status. Both are opened before either is
+/// read, the plan first, and the plan is read whole before the stream; its fault is reported in one line on standard
+/// error.
 pub fn recut_by<R: Runtime + AllocGlobal>(
     rt: &R,
     role: Role,
     limits: Limits,
-    plan_file: &String,
-) -> u8 {
-    let Ok(file) = fs::open(rt, plan_file) else {
-        return diagnose_unread(rt, plan_file.as_str());
+    plan: &Option<String>,
+    file: &Option<String>,
+    side: Option<Role>,
+) -> u8
+    requires { IfSome side (λ own. own ≡ role) }
+{
+    let from = match open(rt, plan) {
+        Ok(from) => from,
+        Err(status) => return status,
     };
-    // the file is closed here, before standard input is read
-    let plan = read_plan_file(rt.alloc(), &mut Input::new(file));
-    match plan {
-        Ok(plan) => perform(rt, &Job::Recut(role, limits, How::ByPlan(plan))),
-        Err(PlanFileFault::Unread) => diagnose_unread(rt, plan_file.as_str()),
-        Err(PlanFileFault::TooLong) => diagnose(rt, "plan file too long\n"),
-        Err(PlanFileFault::Faulty(fault)) => {
+    let input = match open(rt, file) {
+        Ok(input) => input,
+        Err(status) => return status,
+    };
+    // the plan's file is closed here, before the stream is read
+    match read_plan_file(rt.alloc(), &mut Input::new(from)) {
+        Ok(plan) => {
+            perform_on(
+                rt,
+                &Job::Recut(role, limits, How::ByPlan(plan)),
+                input,
+                side,
+            )
+        }
+        Err(fault) => diagnose_plan(rt, plan, &fault),
+    }
+}
+
+/// Reports the fault of a plan's file and returns the exit status for a fault.
+fn diagnose_plan<R: Eprint>(rt: &R, plan: &Option<String>, fault: &PlanFileFault) -> u8 {
+    match fault {
+        PlanFileFault::Unread => diagnose_unread(rt, name_of(plan)),
+        PlanFileFault::TooLong => diagnose(rt, "plan file too long\n"),
+        PlanFileFault::Faulty(fault) => {
             let _ = eprintln!(rt; "{fault}");
             FAULT
         }
     }
 }
 
-/// Compares the streams in two files and returns the exit status. Both files are opened before either is read; if one
-/// can't be opened, the line `cannot read` with its name is printed on standard error.
+/// The name of an input: of a file, or `-`.
+fn name_of(file: &Option<String>) -> &str {
+    match file {
+        Some(name) => name.as_str(),
+        None => "-",
+    }
+}
+
+/// Compares the streams in two files and returns the exit status. Both are opened before either is read.
 pub fn compare<R: Runtime + AllocGlobal>(
     rt: &R,
     role: Role,
     limits: Limits,
-    a: &String,
-    b: &String,
+    first: &Option<String>,
+    second: &Option<String>,
+    side: Option<Role>,
 ) -> u8 {
-    let Ok(first) = fs::open(rt, a) else {
-        return diagnose_unread(rt, a.as_str());
+    let first = match open(rt, first) {
+        Ok(input) => input,
+        Err(status) => return status,
     };
-    let Ok(second) = fs::open(rt, b) else {
-        return diagnose_unread(rt, b.as_str());
+    let second = match open(rt, second) {
+        Ok(input) => input,
+        Err(status) => return status,
     };
     let mut answer = OneLine::new();
     let mut diagnosed = OneLine::new();
-    let status = run_same(
+    let status = compare_inputs(
         rt.alloc(),
-        &mut Input::new(&mut BlockReader::new(first)),
-        &mut Input::new(&mut BlockReader::new(second)),
+        first,
+        second,
         role,
         limits,
-        &mut Output::new(&mut answer),
-        &mut Output::new(&mut diagnosed),
+        side,
+        &mut answer,
+        &mut diagnosed,
     );
     if Print::write_all(rt, answer.as_slice()).is_err() {
         return diagnose_stop(rt, Stop::Write);
     }
     finish(rt, &diagnosed, status)
+}
+
+/// Compares the streams on two inputs, or one side of the captures on them. Puts the answer, and what is to be printed on
+/// standard error, into the given lines, and returns the exit status.
+fn compare_inputs<A: Allocator + Copy, R: Read + Drop, S: Read + Drop>(
+    alloc: A,
+    first: R,
+    second: S,
+    role: Role,
+    limits: Limits,
+    side: Option<Role>,
+    answer: &mut OneLine,
+    diagnosed: &mut OneLine,
+) -> u8 {
+    let mut first = BlockReader::new(first);
+    let mut second = BlockReader::new(second);
+    let mut printed = Output::new(answer);
+    let mut errors = Output::new(diagnosed);
+    match side {
+        None => run_same(
+            alloc,
+            &mut Input::new(&mut first),
+            &mut Input::new(&mut second),
+            role,
+            limits,
+            &mut printed,
+            &mut errors,
+        ),
+        Some(side) => run_same_on_sides(
+            alloc,
+            &mut Input::new(SideReader::new(&mut first, side)),
+            &mut Input::new(SideReader::new(&mut second, side)),
+            role,
+            limits,
+            &mut printed,
+            &mut errors,
+        ),
+    }
 }
 
 /// Reports a file that can't be read, and returns the exit status for a fault.

@@ -1,9 +1,11 @@
 -- The requests that a command line makes.
-use Rattle.std.specs.Prelude.{◌≡◌, ◌^◌}
+use Rattle.std.specs.Prelude.{◌≡◌, ◌^◌, Option, Some, IfSome}
+use Rattle.wsn_wire.specs.declared.endpoint.Role.{Role}
 use Rattle.wsn_rules.specs.Limits.{Limits, InRange}
-use Rattle.wsn_job.specs.Jobs.{MayRun}
+use Rattle.wsn_job.specs.Jobs.{MayRun, job_role}
 use Rattle.wsn_job.specs.declared.job.Job.{Job}
 use Rattle.wsn_job.specs.declared.job.Job.TheVariants.{Judge, Frames, Normal, Plan, Recut, Closing}
+use Rattle.wsn_cli.specs.Inputs.{AreApart}
 use Rattle.wsn_cli.specs.declared.request.Request.{Request}
 use Rattle.wsn_cli.specs.declared.request.Request.TheVariants.{Run, RecutBy, Same, Help}
 
@@ -21,9 +23,16 @@ job_limits (Plan role limits) = limits
 job_limits (Recut role limits how) = limits
 job_limits (Closing limits) = limits
 
--- The request can be carried out: its job may be run, and its limits are as above. Help reads no stream.
+-- The side of a capture that is read, if one is, is the stream that the job reads.
+abbrev pub IsOwnSide : {A : Type 0} → Job A → Option Role → Type 0
+IsOwnSide job side = IfSome side (λ role. job_role job ≡ Some role)
+
+-- The request can be carried out: its job may be run, its limits are as above, the side that is read is that of the
+-- endpoint whose stream it is, and at most one input is standard input. Help reads no stream.
 abbrev pub CanBeDone : Request → Type 0
-CanBeDone (Run job) = MayRun job × AreAskedLimits (job_limits job)
-CanBeDone (RecutBy role limits plan) = AreAskedLimits limits
-CanBeDone (Same role limits a b) = AreAskedLimits limits
+CanBeDone (Run job file side) = MayRun job × AreAskedLimits (job_limits job) × IsOwnSide job side
+CanBeDone (RecutBy role limits plan file side) =
+    AreAskedLimits limits × AreApart plan file × IfSome side (λ own. own ≡ role)
+CanBeDone (Same role limits first second side) =
+    AreAskedLimits limits × AreApart first second × IfSome side (λ own. own ≡ role)
 CanBeDone (Help text) = Unit {0}

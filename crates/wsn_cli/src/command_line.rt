@@ -6,7 +6,10 @@ use crate::error_words::shown_in_errors;
 use crate::escaped::Escaped;
 use crate::explain::{explanation, list_of_words};
 use crate::help;
-use crate::options::{check_digits, limits_of, role_of, with_limits, with_role};
+use crate::options::{
+    check_digits, file, file_of, limits_of, role_of, side_of, with_capture, with_file, with_limits,
+    with_role,
+};
 use crate::recut_options::{recut_of, with_recuts};
 use crate::request::{Request, Usage};
 use clap::error::ErrorKind;
@@ -24,13 +27,13 @@ struct Described {
 
 /// What a command reads; its options depend on that.
 enum Reads {
-    /// A stream on standard input.
+    /// A stream.
     Stream,
-    /// A stream on standard input, to be recut.
+    /// A stream, to be recut.
     StreamToCut,
-    /// The streams in two files, sent by endpoints of one role.
-    Files,
-    /// A capture of both sides, on standard input.
+    /// Two streams, sent by endpoints of one role.
+    Streams,
+    /// A capture of both sides.
     Capture,
     /// Nothing: its arguments are words to be explained.
     Words,
@@ -60,7 +63,7 @@ static COMMANDS: [Described; 8] = [
         name: "same",
         about: help::SAME,
         details: help::SAME_DETAILS,
-        reads: Reads::Files,
+        reads: Reads::Streams,
     },
     Described {
         name: "plan",
@@ -94,22 +97,28 @@ fn command<'a>(alloc: Global, described: &'a Described) -> Result<Command<'a>, A
         .about(described.about)
         .after_help(described.details);
     let command = match described.reads {
-        Reads::Stream => with_role(alloc, command),
+        Reads::Stream => with_stream(alloc, command),
         Reads::StreamToCut => with_recuts(alloc, command),
-        Reads::Files => with_files(alloc, command),
-        Reads::Capture => Ok(command),
+        Reads::Streams => with_streams(alloc, command),
+        Reads::Capture => with_file(alloc, command),
         Reads::Words => return with_words(alloc, command),
     };
     with_limits(alloc, command?)
 }
 
-/// Adds `--role` and the names of two files.
-fn with_files<'a>(alloc: Global, command: Command<'a>) -> Result<Command<'a>, AllocError> {
-    let command = with_role(alloc, command)?;
-    let first = file(alloc, "first", "FIRST", "The file with the first stream");
-    let command = command.arg(first)?;
-    let second = file(alloc, "second", "SECOND", "The file with the second stream");
-    command.arg(second)
+/// Adds `--role`, `--capture` and the name of a file.
+fn with_stream<'a>(alloc: Global, command: Command<'a>) -> Result<Command<'a>, AllocError> {
+    let command = with_capture(alloc, with_role(alloc, command)?)?;
+    with_file(alloc, command)
+}
+
+/// Adds `--role`, `--capture` and the names of two files.
+fn with_streams<'a>(alloc: Global, command: Command<'a>) -> Result<Command<'a>, AllocError> {
+    let command = with_capture(alloc, with_role(alloc, command)?)?;
+    let help = "The file with the first stream, or - for\nstandard input";
+    let command = command.arg(file(alloc, "first", "FIRST", help).required(true))?;
+    let help = "The file with the second stream, or - for\nstandard input";
+    command.arg(file(alloc, "second", "SECOND", help).required(true))
 }
 
 /// Adds the words to be explained.
@@ -120,15 +129,6 @@ fn with_words<'a>(alloc: Global, command: Command<'a>) -> Result<Command<'a>, Al
         .value_name("WORD")
         .help("A word that wsn prints, such as text-bad");
     command.arg(words)
-}
-
-/// The required name of a file.
-fn file<'a>(alloc: Global, name: &'a str, value: &'a str, help: &'a str) -> Arg<'a> {
-    Arg::new(alloc, name)
-        .required(true)
-        .action(ArgAction::Set)
-        .value_name(value)
-        .help(help)
 }
 
 fn program<'a>(alloc: Global) -> Result<Command<'a>, AllocError> {
@@ -174,7 +174,7 @@ fn refusal(alloc: Global, words: &[String]) -> Result<Usage, AllocError> {
     Ok(Usage::Clap(error.to_string(alloc)?))
 }
 
-/// The job that a command's name and arguments ask for, over the standard streams.
+/// The job that a command's name and arguments ask for.
 fn job_of(name: &str, matches: &ArgMatches<'_>) -> Option<Job>
     ensures may_run { IfSome result MayRun }
     ensures limits { IfSome result (λ job. AreAskedLimits (job_limits job)) }
@@ -191,23 +191,42 @@ fn job_of(name: &str, matches: &ArgMatches<'_>) -> Option<Job>
     }
 }
 
-/// The request of `same`: two files, and the role and the limits for reading them.
-fn pair_of(alloc: Global, matches: &ArgMatches<'_>) -> Result<Request, Usage>
+/// The request of a command that does one job over one input.
+fn run_of(alloc: Global, name: &str, matches: &ArgMatches<'_>) -> Result<Request, Usage>
     ensures { IfOk result CanBeDone }
 {
-    let (Some(limits), Some(first), Some(second)) = (
-        limits_of(matches),
-        matches.get_str("first"),
-        matches.get_str("second"),
-    ) else {
+    let Some(job) = job_of(name, matches) else {
         return Err(Usage::Own);
     };
-    Ok(Request::Same {
-        role: role_of(matches),
-        limits,
-        a: String::from_str(alloc, first)?,
-        b: String::from_str(alloc, second)?,
+    let side = match job.role() {
+        Some(role) => side_of(matches, role),
+        None => None,
+    };
+    Ok(Request::Run {
+        job,
+        file: file_of(alloc, matches, "file")?,
+        side,
     })
+}
+
+/// The request of `same`: two inputs, and the role and the limits for reading them. The error is `Own` if both are
+/// standard input.
+fn same_of(alloc: Global, matches: &ArgMatches<'_>) -> Result<Request, Usage>
+    ensures { IfOk result CanBeDone }
+{
+    let role = role_of(matches);
+    let first = file_of(alloc, matches, "first")?;
+    let second = file_of(alloc, matches, "second")?;
+    match limits_of(matches) {
+        Some(limits) if first.is_some() || second.is_some() => Ok(Request::Same {
+            role,
+            limits,
+            first,
+            second,
+            side: side_of(matches, role),
+        }),
+        _ => Err(Usage::Own),
+    }
 }
 
 /// The text of `explain`: the explanation of its words, or the list of all words that are explained.
@@ -249,11 +268,8 @@ pub fn asked(alloc: Global, words: &[String]) -> Result<Request, Usage>
     check_digits(command)?;
     match name {
         "explain" => explained(alloc, command),
-        "same" => pair_of(alloc, command),
+        "same" => same_of(alloc, command),
         "recut" => recut_of(alloc, command),
-        _ => match job_of(name, command) {
-            Some(job) => Ok(Request::Run(job)),
-            None => Err(Usage::Own),
-        },
+        _ => run_of(alloc, name, command),
     }
 }

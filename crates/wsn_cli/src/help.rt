@@ -6,11 +6,12 @@ pub const VERSION: &str = "0.1.0\nproved with rattle-kit-13f logic dac8208d650f1
 pub const PROGRAM: &str = "\
 Read what one endpoint of a WebSocket connection sent (RFC 6455)";
 
-/// What a stream is and where it is read from.
+/// What a stream is and where it comes from.
 pub const PROGRAM_DETAILS: &str = "\
 A stream is the bytes that one endpoint sent after the opening handshake, with
-no extension in use, so without compression. Commands read it from standard
-input; same reads two streams from files, and closing a capture of both sides.
+no extension in use, so without compression. A command reads it from FILE; from
+standard input if FILE is missing or -. With --capture the input is a capture of
+both sides, as closing reads it, and the stream is what --role's endpoint sent.
 
 'wsn help COMMAND' lists a command's options, explains its output and gives an
 example. 'wsn explain WORD' explains a printed word, such as reserved-bits: what
@@ -20,18 +21,20 @@ pub const JUDGE: &str = "\
 Report whether a stream is accepted, cut or refused, where and why";
 
 pub const JUDGE_DETAILS: &str = "\
-Reads a stream from standard input and prints its verdict in one line.
+Reads a stream and prints its verdict in one line.
 
-Example: a server's frame with a masking key
+Example: a server's frame with a masking key, and a client's from a capture
   $ printf '\\201\\205' | wsn judge --role server
-  refused 1 mask-present 1002";
+  refused 1 mask-present 1002
+  $ printf 'C 8180\\nS 8100\\nC 01020304\\n' > both
+  $ wsn judge --role client --capture both
+  accepted 6 tail 0 unfinished -";
 
 pub const FRAMES: &str = "\
 List a stream's frames, then its verdict";
 
 pub const FRAMES_DETAILS: &str = "\
-Reads a stream from standard input. Prints a line for each frame whose head is
-complete and valid, then the verdict:
+Prints a line for each frame whose head is complete and valid, then the verdict:
   OFFSET fin OPCODE KEY LENGTH     'more' instead of 'fin' if FIN isn't set
     OFFSET  the offset of the frame's first byte, from 0
     OPCODE  cont, text, binary, close, ping or pong
@@ -50,12 +53,12 @@ pub const NORMAL: &str = "\
 Write a stream's normal form: one frame for each message or control";
 
 pub const NORMAL_DETAILS: &str = "\
-Reads a stream from standard input and writes its normal form, as bytes: for
-each message, ping, pong and Close one final frame, its length encoded in the
-fewest bytes, with a key of zeros for a client and none for a server. Each is
-written as soon as the frame that ends it has come. The bytes after a Close and
-a message that a Close interrupts are left out. If the stream isn't accepted,
-the verdict's line goes to standard error.
+Reads a stream and writes its normal form, as bytes: for each message, ping,
+pong and Close one final frame, its length encoded in the fewest bytes, with a
+key of zeros for a client and none for a server. Each is written as soon as the
+frame that ends it has come. The bytes after a Close and a message that a Close
+interrupts are left out. If the stream isn't accepted, the verdict's line goes
+to standard error.
 
 Example: a client's \"Hello\"
   $ printf '\\201\\205\\067\\372\\041\\075\\177\\237\\115\\121\\130' |
@@ -66,14 +69,14 @@ pub const SAME: &str = "\
 Report whether two streams mean the same, however framed and masked";
 
 pub const SAME_DETAILS: &str = "\
-Reads two streams from files, both sent by endpoints of the given role, and
-prints one line:
+Reads two streams, both sent by endpoints of the given role, and prints one
+line:
   equal           both are accepted and mean the same
   different K     both are accepted, and event K (a message, ping, pong or
                   Close), counted from 0, is the first that differs
   first VERDICT   the first isn't accepted
   second VERDICT  the second isn't accepted, and the first is
-A file named - is a file of that name; standard input is /dev/stdin.
+Either FIRST or SECOND may be -, which is standard input; ./- is a file named -.
 
 Example: one frame, and the same message in two
   $ printf '\\201\\002Hi' > one; printf '\\001\\001H\\200\\001i' > two
@@ -84,7 +87,7 @@ pub const PLAN: &str = "\
 Print how a stream is split into frames, as a plan for recut";
 
 pub const PLAN_DETAILS: &str = "\
-Reads a stream from standard input and prints its plan, a line for each frame:
+Reads a stream and prints its plan, a line for each frame:
   piece N KEY     a message's frame without FIN, with N bytes of payload
   last KEY        a message's frame with FIN, with the rest of the message
   control KEY     a ping, pong or Close
@@ -107,11 +110,12 @@ pub const RECUT: &str = "\
 Write what a stream means, split into other frames";
 
 pub const RECUT_DETAILS: &str = "\
-Reads a stream from standard input and writes what it means in other frames:
-  wsn recut --role R --plan FILE                         by the plan in FILE
-  wsn recut --role R --size BYTES [--weave] [--key HEX]  in frames of one size
+Reads a stream and writes what it means in other frames, by a plan or by size:
+  wsn recut --role R --plan PLAN [FILE]
+  wsn recut --role R --size BYTES [--weave] [--key HEX] [FILE]
 Either --plan or --size is required. --weave and --key require --size, and
---key requires --role client. 'wsn help plan' explains a plan's lines.
+--key requires --role client. 'wsn help plan' explains a plan's lines. PLAN may
+be -, standard input, if FILE isn't.
 
 Nothing is written until the stream and the plan are read to their ends. If the
 stream isn't accepted, the verdict's line goes to standard error. If the plan
@@ -123,7 +127,7 @@ doesn't fit what the stream means, this line goes there:
             too-many-pieces, not-a-control, not-a-message, wrong-form or
             events-left
 A plan file that is unreadable or malformed gives status 2, and the stream isn't
-read: cannot read FILE, plan file too long (more than 64 MiB), or plan line N:
+read: cannot read PLAN, plan file too long (more than 64 MiB), or plan line N:
 WORD, with N from 1 and WORD bad-form, bad-number, bad-key or bad-length. Lines
 end in a line feed alone, which the last may lack; a carriage return before it
 is reported as bad-key, or as bad-length after 'two' or 'eight'.
@@ -143,7 +147,7 @@ pub const CLOSING: &str = "\
 Report how a connection closed, from a capture of both sides";
 
 pub const CLOSING_DETAILS: &str = "\
-Reads a capture from standard input, lines in the order in which bytes passed:
+Reads a capture, lines in the order in which bytes passed:
   C HEX     bytes that the client sent, at most 8192 digits
   S HEX     bytes that the server sent
   C.  S.    the client's or the server's direction ended (its FIN, or a reset)
@@ -217,5 +221,6 @@ Exit status:
   1  any other verdict, answer or outcome
   2  no answer; a line on standard error says why: read failed, write failed,
      input limit (more than 2^40 bytes came), out of memory, cannot read FILE,
-     usage; or several lines, if the command line is wrong
+     line N: WORD (a malformed line of a capture: 'wsn help closing'), usage;
+     or several lines, if the command line is wrong
 ";

@@ -18,4 +18,4 @@ mod request;
 pub use command_line::asked;
 pub use escaped::Escaped;
 pub use request::{Request, Usage};
-pub use wsn_job::{How, Job, run, run_same};
+pub use wsn_job::{How, Job, run, run_on_side, run_same, run_same_on_sides};

@@ -1,7 +1,8 @@
-ghost use Rattle.std.specs.Prelude.{◌≡◌, ◌↔◌, None, Some, IfSome, codes};
+ghost use Rattle.std.specs.Prelude.{◌≡◌, ◌↔◌, None, Some, IfOk, IfSome, codes};
 ghost use Rattle.clap.specs.Words.{found_of, first_value, one_text};
 ghost use Rattle.wsn_wire.specs.declared.endpoint.Role.TheVariants.{Server};
 ghost use Rattle.wsn_wire.specs.declared.length_forms.Lengths.TheVariants.{Any};
+ghost use Rattle.wsn_cli.specs.Inputs.{IsInputNamed};
 ghost use Rattle.wsn_cli.specs.Requests.{AreAskedLimits};
 
 use crate::request::Usage;
@@ -53,6 +54,52 @@ fn with_message_limits<'a>(alloc: Global, command: Command<'a>) -> Result<Comman
     let help = "Maximum frames of a message, 1 to 4294967295\n[default: no maximum]";
     let frames = option(alloc, "frames", "COUNT", help);
     command.arg(frames.value_parser(value_parser!(u32).range(1..)))
+}
+
+/// Adds `--capture`.
+pub fn with_capture<'a>(alloc: Global, command: Command<'a>) -> Result<Command<'a>, AllocError> {
+    let help = "The input is a capture: read what --role's\nendpoint sent in it";
+    let capture = Arg::new(alloc, "capture")
+        .long("capture")
+        .action(ArgAction::SetTrue);
+    command.arg(capture.help(help))
+}
+
+/// Adds the name of the file that is read in place of standard input.
+pub fn with_file<'a>(alloc: Global, command: Command<'a>) -> Result<Command<'a>, AllocError> {
+    let help = "The file to read; without it, or for -,\nstandard input";
+    command.arg(file(alloc, "file", "FILE", help))
+}
+
+/// The name of a file.
+pub fn file<'a>(alloc: Global, name: &'a str, value: &'a str, help: &'a str) -> Arg<'a> {
+    Arg::new(alloc, name)
+        .action(ArgAction::Set)
+        .value_name(value)
+        .help(help)
+}
+
+/// The name of the file to read, from the argument with this name; `None` is standard input: there is no such argument,
+/// or it is `-`.
+pub fn file_of(
+    alloc: Global,
+    matches: &ArgMatches<'_>,
+    name: &str,
+) -> Result<Option<String>, AllocError>
+    ensures { IfOk result (IsInputNamed (first_value (found_of matches.now) name.now)) }
+{
+    match matches.get_str(name) {
+        None | Some("-") => Ok(None),
+        Some(file) => Ok(Some(String::from_str(alloc, file)?)),
+    }
+}
+
+/// The side of a capture that is read, from `--capture`: that of the endpoint that sent the stream. `None` if the input
+/// is no capture.
+pub fn side_of(matches: &ArgMatches<'_>, role: Role) -> Option<Role>
+    ensures { IfSome result (λ side. side ≡ role) }
+{
+    matches.get_flag("capture").then_some(role)
 }
 
 /// The endpoint that sent the stream, from `--role`.

@@ -1,7 +1,9 @@
 ghost use Rattle.std.specs.Prelude.{IfOk};
 ghost use Rattle.wsn_cli.specs.Requests.{CanBeDone};
 
-use crate::options::{limits_of, option, role_of, with_role};
+use crate::options::{
+    file_of, limits_of, option, role_of, side_of, with_capture, with_file, with_role,
+};
 use crate::request::{Request, Usage};
 use clap::builder::ValueParser;
 use clap::{Arg, ArgAction, ArgMatches, Command, value_parser};
@@ -9,15 +11,21 @@ use hex::FromHex;
 use std::alloc::{AllocError, Global};
 use wsn_job::{How, Job};
 
-/// Adds `--role`, and the options for how the stream is recut.
+/// Adds `--role`, the options for how the stream is recut, `--capture` and the file.
 pub fn with_recuts<'a>(alloc: Global, command: Command<'a>) -> Result<Command<'a>, AllocError> {
     let command = with_sizes(alloc, with_role(alloc, command)?)?;
-    with_frames(alloc, command)
+    let command = with_frames(alloc, command)?;
+    with_file(alloc, with_capture(alloc, command)?)
 }
 
 /// Adds `--plan` and `--size`, of which exactly one is required.
 fn with_sizes<'a>(alloc: Global, command: Command<'a>) -> Result<Command<'a>, AllocError> {
-    let plan = option(alloc, "plan", "FILE", "Split by the plan in this file");
+    let plan = option(
+        alloc,
+        "plan",
+        "PLAN",
+        "Split by the plan in this file, or - for\nstandard input",
+    );
     let command = command.arg(plan)?;
     let help = "Split messages into frames of BYTES bytes,\n1 to 4294967295";
     let size = option(alloc, "size", "BYTES", help);
@@ -42,24 +50,54 @@ fn with_frames<'a>(alloc: Global, command: Command<'a>) -> Result<Command<'a>, A
 pub fn recut_of(alloc: Global, matches: &ArgMatches<'_>) -> Result<Request, Usage>
     ensures { IfOk result CanBeDone }
 {
-    let role = role_of(matches);
-    let Some(limits) = limits_of(matches) else {
-        return Err(Usage::Own);
-    };
     let weave = matches.get_flag("weave");
     let key = matches.get_str("key");
     match (matches.get_str("plan"), matches.get_one::<u32>("size")) {
-        (Some(plan), None) if !weave && key.is_none() => Ok(Request::RecutBy {
-            role,
-            limits,
-            plan: String::from_str(alloc, plan)?,
-        }),
-        (None, Some(size)) => match How::by_size(role, size, weave, key_of(key)?) {
-            Some(how) => Ok(Request::Run(Job::Recut(role, limits, how))),
-            None => Err(Usage::Own),
-        },
+        (Some(_), None) if !weave && key.is_none() => recut_by_plan(alloc, matches),
+        (None, Some(size)) => recut_by_size(alloc, matches, size, weave, key_of(key)?),
         _ => Err(Usage::Own),
     }
+}
+
+/// The request of `recut` by a plan. The error is `Own` if the plan and the stream are both on standard input.
+fn recut_by_plan(alloc: Global, matches: &ArgMatches<'_>) -> Result<Request, Usage>
+    ensures { IfOk result CanBeDone }
+{
+    let role = role_of(matches);
+    let plan = file_of(alloc, matches, "plan")?;
+    let file = file_of(alloc, matches, "file")?;
+    match limits_of(matches) {
+        Some(limits) if plan.is_some() || file.is_some() => Ok(Request::RecutBy {
+            role,
+            limits,
+            plan,
+            file,
+            side: side_of(matches, role),
+        }),
+        _ => Err(Usage::Own),
+    }
+}
+
+/// The request of `recut` by size. The error is `Own` for a key with a server.
+fn recut_by_size(
+    alloc: Global,
+    matches: &ArgMatches<'_>,
+    size: u32,
+    weave: bool,
+    key: Option<[u8; 4]>,
+) -> Result<Request, Usage>
+    ensures { IfOk result CanBeDone }
+{
+    let role = role_of(matches);
+    let (Some(limits), Some(how)) = (limits_of(matches), How::by_size(role, size, weave, key))
+    else {
+        return Err(Usage::Own);
+    };
+    Ok(Request::Run {
+        job: Job::Recut(role, limits, how),
+        file: file_of(alloc, matches, "file")?,
+        side: side_of(matches, role),
+    })
 }
 
 /// The key that these digits encode, if a key is asked for.

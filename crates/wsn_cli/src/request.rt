@@ -3,24 +3,31 @@ use wsn_job::Job;
 use wsn_rules::Limits;
 use wsn_wire::Role;
 
-/// What the words of a command line ask for.
+/// What the words of a command line ask for. An input is the file with this name, or standard input for `None`; of two
+/// inputs at most one is standard input. With a `side`, an input is a capture, and its stream is what this endpoint sent.
 #[derive(Drop)]
 pub enum Request {
-    /// Do this work over the standard streams.
-    Run(Job),
-    /// Recut the stream on standard input by the plan in the file named `plan`. `role` sent the stream, and it is read
-    /// under these limits.
+    /// Do this work over the file.
+    Run {
+        job: Job,
+        file: Option<String>,
+        side: Option<Role>,
+    },
+    /// Recut the stream in the file by the plan in another. `role` sent the stream, and it is read under these limits.
     RecutBy {
         role: Role,
         limits: Limits,
-        plan: String,
+        plan: Option<String>,
+        file: Option<String>,
+        side: Option<Role>,
     },
-    /// Compare the streams in the files named `a` and `b`, both sent by `role` and read under these limits.
+    /// Compare the streams in two files, both sent by `role` and read under these limits.
     Same {
         role: Role,
         limits: Limits,
-        a: String,
-        b: String,
+        first: Option<String>,
+        second: Option<String>,
+        side: Option<Role>,
     },
     /// Print this text: help or the version.
     Help(String),

@@ -18,8 +18,8 @@ given by its descriptor: wsn same --role R /dev/fd/3 b.bin 3< \"$file\"
         text: "\
 read failed: the system reported an error while wsn read its input; what was
 printed before is right for the bytes that came.
-Usual causes: standard input is closed (<&-) or a directory; a network file
-system or a disk that fails; a terminal that went away.
+Usual causes: the input is a directory, or standard input that is closed (<&-);
+a network file system or a disk that fails; a terminal that went away.
 Next: try cat FILE > /dev/null, which names the system's error. A pipe whose
 writer ends is no failure, but the end of the input.
 ",
@@ -60,10 +60,10 @@ stream between two messages, where 'wsn frames' prints offsets.
     Entry {
         words: &["cannot read"],
         text: "\
-cannot read FILE: the file can't be opened, or its reading fails (a plan file;
-of the files of 'wsn same' that is 'read failed').
+cannot read FILE: the file can't be opened; or it is a plan whose reading fails
+(of other files that is 'read failed').
 Usual causes: a misspelt name; the file is in another folder; missing rights; a
-directory; - for standard input, which is /dev/stdin.
+plan that is a directory.
 Next: ls -l FILE. In the printed name, \\x1b and the like are control characters,
 \\u202e and the like are characters that change how a terminal shows text.
 ",

@@ -13,8 +13,8 @@ the file is no stream of frames: ASCII text (an HTTP head, a capture, hex
 digits), a pcap, TLS and gzip all look like this. Later on, an earlier length is
 wrong, bytes are missing, or a program wrote text into the socket.
 Next: xxd -s OFFSET -l 32 FILE shows what it is. Compression: record again with
-recipes/record --plain. A pcap: recipes/pcap2wsn. A capture: sed -n 's/^S //p'
-FILE | xxd -r -p. An HTTP head: LC_ALL=C sed '1,/^\\r$/d' FILE.
+recipes/record --plain. A pcap: recipes/pcap2wsn. A capture: add --capture. An
+HTTP head: LC_ALL=C sed '1,/^\\r$/d' FILE.
 ",
     },
     Entry {

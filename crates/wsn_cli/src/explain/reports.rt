@@ -102,8 +102,8 @@ Usual causes: those of the reason. If both sides are refused early as
 reserved-bits, compression was on.
 Next: the line with 'refused' names side, offset and reason. 'wsn explain
 REASON', and list that side's frames:
-  sed -n 's/^S //p' FILE | xxd -r -p | wsn frames --role server
-(for the client: C and --role client).
+  wsn frames --role server --capture FILE
+(for the client: --role client).
 ",
     },
     Entry {

@@ -1,0 +1,12 @@
+-- The inputs that a command line names.
+use Rattle.std.specs.Prelude.{◌≡◌, ◌⊎◌, ℕ, Option, None, Some, IsSome, List, String, codes, string_bytes}
+
+-- The input that a word names: standard input without a word and for `-`, and for any other word the file of that name.
+abbrev pub IsInputNamed : {A : Type 0} → Option (List ℕ) → Option (String A) → Type 0
+IsInputNamed None input = input ≡ None
+IsInputNamed (Some word) None = word ≡ codes "-"
+IsInputNamed (Some word) (Some file) = (string_bytes file ≡ word) × ¬ (word ≡ codes "-")
+
+-- At most one of the two inputs is standard input.
+abbrev pub AreApart : {A : Type 0} → Option (String A) → Option (String A) → Type 0
+AreApart first second = IsSome first ⊎ IsSome second
