@@ -70,6 +70,12 @@ fn open<R: Runtime>(rt: &R, file: &Option<String>) -> Result<Source<R::Reader, R
     }
 }
 
+/// Keeps standard input that is closed from being read as a file that is opened: the system would give the file its
+/// descriptor, and now gives it to a folder, whose reading fails.
+fn hold_standard_input<R: Runtime>(rt: &R) -> io::Result<R::File> {
+    fs::open(rt, "/")
+}
+
 /// Does a command's work over an input and standard output, and returns the exit status.
 fn perform_on<R: Runtime + AllocGlobal, S: Read + Drop>(
     rt: &R,
@@ -134,6 +140,7 @@ pub fn recut_by<R: Runtime + AllocGlobal>(
 ) -> u8
     requires { IfSome side (λ own. own ≡ role) }
 {
+    let _held = hold_standard_input(rt);
     let from = match open(rt, plan) {
         Ok(from) => from,
         Err(status) => return status,
@@ -143,7 +150,8 @@ pub fn recut_by<R: Runtime + AllocGlobal>(
         Err(status) => return status,
     };
     // the plan's file is closed here, before the stream is read
-    match read_plan_file(rt.alloc(), &mut Input::new(from)) {
+    let steps = read_plan_file(rt.alloc(), &mut Input::new(from));
+    match steps {
         Ok(plan) => {
             perform_on(
                 rt,
@@ -185,6 +193,7 @@ pub fn compare<R: Runtime + AllocGlobal>(
     second: &Option<String>,
     side: Option<Role>,
 ) -> u8 {
+    let _held = hold_standard_input(rt);
     let first = match open(rt, first) {
         Ok(input) => input,
         Err(status) => return status,

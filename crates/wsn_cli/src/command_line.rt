@@ -115,9 +115,9 @@ fn with_stream<'a>(alloc: Global, command: Command<'a>) -> Result<Command<'a>, A
 /// Adds `--role`, `--capture` and the names of two files.
 fn with_streams<'a>(alloc: Global, command: Command<'a>) -> Result<Command<'a>, AllocError> {
     let command = with_capture(alloc, with_role(alloc, command)?)?;
-    let help = "The file with the first stream, or - for\nstandard input";
+    let help = "The file with the first stream, or - for standard input";
     let command = command.arg(file(alloc, "first", "FIRST", help).required(true))?;
-    let help = "The file with the second stream, or - for\nstandard input";
+    let help = "The file with the second stream, or - for standard input";
     command.arg(file(alloc, "second", "SECOND", help).required(true))
 }
 

@@ -132,7 +132,8 @@ WORD, with N from 1 and WORD bad-form, bad-number, bad-key or bad-length. Lines
 end in a line feed alone, which the last may lack; a carriage return before it
 is reported as bad-key, or as bad-length after 'two' or 'eight'.
 The plan of some five to ten million frames, as 'wsn plan' prints it, is too
-long. The bytes after a Close and a message that a Close interrupts are left out.
+long. The bytes after a Close and a message that a Close interrupts are left
+out.
 
 Example: \"Hello\" in frames of two bytes; a stream rebuilt by its own plan
   $ printf '\\201\\005Hello' | wsn recut --role server --size 2 | od -An -tx1

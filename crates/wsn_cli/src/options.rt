@@ -67,7 +67,7 @@ pub fn with_capture<'a>(alloc: Global, command: Command<'a>) -> Result<Command<'
 
 /// Adds the name of the file that is read in place of standard input.
 pub fn with_file<'a>(alloc: Global, command: Command<'a>) -> Result<Command<'a>, AllocError> {
-    let help = "The file to read; without it, or for -,\nstandard input";
+    let help = "The file to read, or - for standard input\n[default: -]";
     command.arg(file(alloc, "file", "FILE", help))
 }
 

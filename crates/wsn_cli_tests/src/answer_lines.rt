@@ -1,5 +1,5 @@
 //! What `asked` answers, as a line: a command's name, the role, the limits (on messages, inputs and frames, and the
-//! accepted lengths), and its own options.
+//! accepted lengths), its own options, and its inputs.
 
 use std::alloc::{AllocError, Global};
 use std::process::Abort;
@@ -28,16 +28,75 @@ fn answer_to(alloc: Global, line: &str) -> Result<String, AllocError> {
 
 fn request_line(alloc: Global, request: &Request) -> Result<String, AllocError> {
     match request {
-        Request::Run(job) => job_line(alloc, job),
-        Request::RecutBy { role, limits, plan } => {
-            let stream = stream_line(alloc, "recut", *role, limits)?;
-            format!(in alloc; "{stream}, by {plan}")
+        Request::Run { job, file, side } => {
+            let line = job_line(alloc, job)?;
+            with_input(alloc, &line, file, *side)
         }
-        Request::Same { role, limits, a, b } => {
+        Request::RecutBy {
+            role,
+            limits,
+            plan,
+            file,
+            side,
+        } => {
+            let stream = stream_line(alloc, "recut", *role, limits)?;
+            let plan = name_of(plan);
+            let line = format!(in alloc; "{stream}, by {plan}")?;
+            with_input(alloc, &line, file, *side)
+        }
+        Request::Same {
+            role,
+            limits,
+            first,
+            second,
+            side,
+        } => {
             let stream = stream_line(alloc, "same", *role, limits)?;
-            format!(in alloc; "{stream}, {a} and {b}")
+            let (first, second) = (name_of(first), name_of(second));
+            let line = format!(in alloc; "{stream}, {first} and {second}")?;
+            with_side(alloc, &line, *side)
         }
         Request::Help(_) => String::from_str(alloc, "help"),
+    }
+}
+
+/// Appends the name of the file that is read, if there is one, and the side.
+fn with_input(
+    alloc: Global,
+    line: &String,
+    file: &Option<String>,
+    side: Option<Role>,
+) -> Result<String, AllocError> {
+    let line = match file {
+        Some(file) => format!(in alloc; "{line}, from {file}")?,
+        None => format!(in alloc; "{line}")?,
+    };
+    with_side(alloc, &line, side)
+}
+
+/// Appends the side of a capture that is read, if one is.
+fn with_side(alloc: Global, line: &String, side: Option<Role>) -> Result<String, AllocError> {
+    match side {
+        Some(side) => {
+            let side = role_name(side);
+            format!(in alloc; "{line}, side {side}")
+        }
+        None => format!(in alloc; "{line}"),
+    }
+}
+
+/// The name of an input, or `<stdin>`.
+fn name_of(file: &Option<String>) -> &str {
+    match file {
+        Some(file) => file.as_str(),
+        None => "<stdin>",
+    }
+}
+
+fn role_name(role: Role) -> &'static str {
+    match role {
+        Role::Client => "client",
+        Role::Server => "server",
     }
 }
 
@@ -71,10 +130,7 @@ fn stream_line(
     role: Role,
     limits: &Limits,
 ) -> Result<String, AllocError> {
-    let role = match role {
-        Role::Client => "client",
-        Role::Server => "server",
-    };
+    let role = role_name(role);
     let limits = limits_line(alloc, limits)?;
     format!(in alloc; "{command} {role} {limits}")
 }

@@ -3,7 +3,7 @@
 use crate::answer_lines::expect_answer;
 
 /// A missing or unknown word, and a role or number out of its range.
-static WRONG: [&str; 29] = [
+static WRONG: [&str; 33] = [
     "wsn",
     "wsn other",
     "wsn judge",
@@ -15,7 +15,11 @@ static WRONG: [&str; 29] = [
     "wsn judge --role both",
     "wsn recut --role Client --size 3",
     "wsn judge --role server --role server",
-    "wsn judge --role server file",
+    "wsn judge --role server file other",
+    "wsn closing file other",
+    "wsn closing --capture",
+    "wsn explain --capture",
+    "wsn judge --role server --capture --capture",
     "wsn same --role client a",
     "wsn same --role client a b c",
     "wsn closing --role server",
@@ -42,8 +46,9 @@ fn clap_refuses_wrong_words(rt: HostRuntime) {
     }
 }
 
-/// Options of `recut` that don't go together, a key that isn't eight digits, and a number with a sign.
-static REFUSED: [&str; 17] = [
+/// Options of `recut` that don't go together, a key that isn't eight digits, a number with a sign, and two inputs that
+/// are both standard input.
+static REFUSED: [&str; 21] = [
     "wsn recut --role server",
     "wsn recut --role server --plan p --size 2",
     "wsn recut --role server --plan p --weave",
@@ -61,6 +66,10 @@ static REFUSED: [&str; 17] = [
     "wsn same --role client --frames +1 a b",
     "wsn recut --role server --size +3",
     "wsn recut --role server --plan p --limit +5",
+    "wsn same --role server - -",
+    "wsn same --role server --capture - -",
+    "wsn recut --role server --plan -",
+    "wsn recut --role server --plan - -",
 ];
 
 #[test]

@@ -50,8 +50,8 @@ static COMMANDS: [(&str, &str); 15] = [
         "recut client 16777216 1099511627776 - shortest, by file",
     ),
     (
-        "wsn recut --plan - --role server",
-        "recut server 16777216 1099511627776 - shortest, by -",
+        "wsn recut --plan=file --role server",
+        "recut server 16777216 1099511627776 - shortest, by file",
     ),
     (
         "wsn recut --role server --size 3",
@@ -142,6 +142,109 @@ static KEYED: [(&str, &str); 3] = [
 #[test]
 fn a_recut_by_size_has_a_key_and_may_weave(rt: HostRuntime) {
     for row in KEYED.iter() {
+        expect_answer(&rt, rt.alloc(), row.0, row.1);
+    }
+}
+
+/// Without a file, and for `-`, standard input is read; `./-` is a file's name.
+static INPUTS: [(&str, &str); 14] = [
+    (
+        "wsn judge --role server file",
+        "judge server 16777216 1099511627776 - shortest, from file",
+    ),
+    (
+        "wsn judge - --role server",
+        "judge server 16777216 1099511627776 - shortest",
+    ),
+    (
+        "wsn judge --role server ./-",
+        "judge server 16777216 1099511627776 - shortest, from ./-",
+    ),
+    (
+        "wsn frames file --role client",
+        "frames client 16777216 1099511627776 - shortest, from file",
+    ),
+    (
+        "wsn normal --role client file",
+        "normal client 16777216 1099511627776 - shortest, from file",
+    ),
+    (
+        "wsn plan --role client file",
+        "plan client 16777216 1099511627776 - shortest, from file",
+    ),
+    (
+        "wsn closing file",
+        "closing 16777216 1099511627776 - shortest, from file",
+    ),
+    ("wsn closing -", "closing 16777216 1099511627776 - shortest"),
+    (
+        "wsn recut --role server --size 3 file",
+        "recut server 16777216 1099511627776 - shortest, size 3 weave false key None, from file",
+    ),
+    (
+        "wsn recut --role server --plan plan file",
+        "recut server 16777216 1099511627776 - shortest, by plan, from file",
+    ),
+    (
+        "wsn recut --role server --plan - file",
+        "recut server 16777216 1099511627776 - shortest, by <stdin>, from file",
+    ),
+    (
+        "wsn recut --role server --plan plan -",
+        "recut server 16777216 1099511627776 - shortest, by plan",
+    ),
+    (
+        "wsn same --role server - file",
+        "same server 16777216 1099511627776 - shortest, <stdin> and file",
+    ),
+    (
+        "wsn same --role server file -",
+        "same server 16777216 1099511627776 - shortest, file and <stdin>",
+    ),
+];
+
+#[test]
+fn an_input_is_a_file_or_standard_input(rt: HostRuntime) {
+    for row in INPUTS.iter() {
+        expect_answer(&rt, rt.alloc(), row.0, row.1);
+    }
+}
+
+/// With `--capture` the side that is read is that of `--role`'s endpoint.
+static SIDES: [(&str, &str); 7] = [
+    (
+        "wsn judge --role server --capture file",
+        "judge server 16777216 1099511627776 - shortest, from file, side server",
+    ),
+    (
+        "wsn frames --capture --role client",
+        "frames client 16777216 1099511627776 - shortest, side client",
+    ),
+    (
+        "wsn normal --role server --capture -",
+        "normal server 16777216 1099511627776 - shortest, side server",
+    ),
+    (
+        "wsn plan --capture --role client file",
+        "plan client 16777216 1099511627776 - shortest, from file, side client",
+    ),
+    (
+        "wsn recut --role client --size 3 --capture file",
+        "recut client 16777216 1099511627776 - shortest, size 3 weave false key Some([0, 0, 0, 0]), from file, side client",
+    ),
+    (
+        "wsn recut --role server --plan plan --capture",
+        "recut server 16777216 1099511627776 - shortest, by plan, side server",
+    ),
+    (
+        "wsn same --capture --role client a b",
+        "same client 16777216 1099511627776 - shortest, a and b, side client",
+    ),
+];
+
+#[test]
+fn a_capture_is_read_for_the_side_that_sent_the_stream(rt: HostRuntime) {
+    for row in SIDES.iter() {
         expect_answer(&rt, rt.alloc(), row.0, row.1);
     }
 }
