@@ -25,7 +25,7 @@ pub struct Capture {
 
 impl Capture {
     ghost use Rattle.std.specs.Prelude.{◌≡◌, ◌+◌, ◌≤◌, ℕ, List, [], ◌∷◌, ◌++◌, length, OnOk, IfErr};
-    ghost use Rattle.wsn_capture.specs.Words.{Limits, Entry, bytes_prefix, end_mark, IsFaultAfter, IsReport, AreSent, AcceptsText, IsFirstOwnFault, HasAcceptedLines, count_of};
+    ghost use Rattle.wsn_capture.specs.Words.{Limits, Entry, bytes_prefix, end_mark, IsFaultAfter, IsReport, AreSent, AcceptsText, IsFirstOwnFault, HasAcceptedLines, count_of, has_ended};
 
     /// A capture that has accepted no line. The limits apply to each endpoint's stream separately.
     pub fn new(limits: Limits) -> Capture
@@ -47,6 +47,7 @@ impl Capture {
         ensures fault { IfErr result (λ fault. (limits : Limits) (lines : List (List ℕ)) →
             HasAcceptedLines limits self.old lines → IsFaultAfter limits lines text.now fault) }
         ensures unchanged { IfErr result (λ _. self.new ≡ self.old) }
+        ensures count { OnOk result ((count_of self.new ≡ count_of self.old + 1) × (count_of self.new ≤ LINES_MAX)) }
     {
         self.take_line(text)
     }
@@ -128,10 +129,22 @@ impl Capture {
     }
 
     /// The number of lines accepted.
-    pub(crate) fn count(&self) -> u32
+    pub fn count(&self) -> u32
         ensures { result ≡ count_of self.now }
     {
         self.lines
+    }
+
+    /// Whether an endpoint has sent its end mark.
+    #[tactic(none)]
+    pub fn has_ended(&self, role: Role) -> bool
+        ensures { (limits : Limits) (lines : List (List ℕ)) (has : HasAcceptedLines limits self.now lines) →
+            result ≡ has_ended role has.entries }
+    {
+        match role {
+            Role::Client => self.client.has_ended(),
+            Role::Server => self.server.has_ended(),
+        }
     }
 
     /// The report of the lines accepted so far (RFC 6455 section 7.1).

@@ -34,7 +34,7 @@ pub mod laws;
 mod limited_scan;
 mod line_fault;
 pub mod line_fault_examples;
-mod line_form;
+pub mod line_form;
 mod line_splitter;
 mod lines_before;
 mod sent_stream;

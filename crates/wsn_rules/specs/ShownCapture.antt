@@ -30,13 +30,21 @@ pub record IsSeconds (text : List ℕ) : Type 0 where
   pub few : length fraction ≤ 9
   pub no_leading_zero : (digit : ℕ) (following : List ℕ) → whole ≡ 48 ∷ digit ∷ following → ⊥
 
--- The line is a comment that gives this time.
+-- The text of a line, without its CR, is a comment that gives this time.
+abbrev pub GivesTime : List ℕ → List ℕ → Type 0
+GivesTime text seconds = (text ≡ codes "# " ++ seconds) × IsSeconds seconds
+
+-- The text gives no time.
+abbrev pub GivesNoTime : List ℕ → Type 0
+GivesNoTime text = (seconds : List ℕ) → GivesTime text seconds → ⊥
+
+-- The line gives this time.
 abbrev pub IsTime : List ℕ → List ℕ → Type 0
-IsTime line seconds = (without_cr line ≡ codes "# " ++ seconds) × IsSeconds seconds
+IsTime line seconds = GivesTime (without_cr line) seconds
 
 -- The line gives no time.
 abbrev pub IsNoTime : List ℕ → Type 0
-IsNoTime line = (seconds : List ℕ) → IsTime line seconds → ⊥
+IsNoTime line = GivesNoTime (without_cr line)
 
 -- The time that holds after these lines: that of the last line that gives one; none if no line does.
 abbrev pub IsTimeAfter : List (List ℕ) → Option (List ℕ) → Type 0
@@ -64,8 +72,8 @@ beyond n shown = map (λ s. s.item) (filter (λ s. nat_lt n s.after) shown)
 -- A comment is shown as it is; an empty line and a comment with a time aren't shown.
 abbrev pub IsShownNothing : List ℕ → List LineItem → Type 0
 IsShownNothing text items =
-    ((text ≢ []) × IsNoTime text × (items ≡ Comment text ∷ []))
-    ⊎ (((text ≡ []) ⊎ ((seconds : List ℕ) × IsTime text seconds)) × (items ≡ []))
+    ((text ≢ []) × GivesNoTime text × (items ≡ Comment text ∷ []))
+    ⊎ (((text ≡ []) ⊎ ((seconds : List ℕ) × GivesTime text seconds)) × (items ≡ []))
 
 -- What a line shows whose text, without its CR, and whose entry are given, after lines with the entries `given`. Of the
 -- bytes of an endpoint, what is shown of its stream with these bytes and not without them.
