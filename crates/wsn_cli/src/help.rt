@@ -1,7 +1,7 @@
 //! Help texts, at most 80 columns wide.
 
 /// What `--version` prints after the program's name: the version, and what it was proved with.
-pub const VERSION: &str = "0.1.0\nproved with rattle-kit-13f logic dac8208d650f15bf";
+pub const VERSION: &str = "0.1.0\nproved with rattle's logic dac8208d650f15bf";
 
 pub const PROGRAM: &str = "\
 Read what one endpoint of a WebSocket connection sent (RFC 6455)";
