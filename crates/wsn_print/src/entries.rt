@@ -72,6 +72,7 @@ pub fn put_unfinished<W: Write>(
 
 /// Writes the line of a part of a head while no message is open. `Stop::Write` if the writer fails: a prefix of the
 /// line was written.
+#[tactic(none)]
 pub fn put_unfinished_head<W: Write>(to: &mut Output<W>, front: &Front<'_>) -> Result<(), Stop>
     requires { to.old.failed ≡ false }
     ensures { (n : ℕ) → IsWrittenOrStops to.old to.new
@@ -124,6 +125,7 @@ pub fn put_remainder<W: Write>(
 
 /// Writes the line of an endpoint's end mark, such as `C - 378 end`; the offset is the number of bytes that the
 /// endpoint sent. `Stop::Write` if the writer fails: a prefix of the line was written.
+#[tactic(none)]
 pub fn put_end<W: Write>(to: &mut Output<W>, front: &Front<'_>) -> Result<(), Stop>
     requires { to.old.failed ≡ false }
     ensures { IsWrittenOrStops to.old to.new
@@ -144,6 +146,7 @@ fn put_front<W: Write>(to: &mut Output<W>, front: &Front<'_>) -> Result<(), Stop
     put_line(to, line_of_offset(front.offset).bytes())
 }
 
+#[tactic(none)]
 fn letter_of(role: Role) -> &'static [u8]
     ensures { result.now ≡ role_letter role ++ codes " " }
 {
@@ -153,6 +156,7 @@ fn letter_of(role: Role) -> &'static [u8]
     }
 }
 
+#[tactic(none)]
 fn seconds_of<'a>(front: &Front<'a>) -> &'a [u8]
     ensures { result.now ≡ time_text (time_of front.now) }
 {
@@ -182,6 +186,7 @@ fn line_of_event(event: &ShownEvent<'_>) -> Line<EVENT_MAX>
     line
 }
 
+#[tactic(none)]
 fn line_of_unfinished_event(event: &ShownEvent<'_>, lacks: Option<u64>) -> Line<UNFINISHED_MAX>
     ensures { (n : ℕ) (e : MeantEvent) → Represents n event.now e →
         result ≡ codes "unfinished " ++ event_text e event.now.frames ++ codes " lacks " ++ number_text lacks
@@ -196,6 +201,7 @@ fn line_of_unfinished_event(event: &ShownEvent<'_>, lacks: Option<u64>) -> Line<
     line
 }
 
+#[tactic(none)]
 fn push_event<const MAX: usize>(line: &mut Line<MAX>, event: &ShownEvent<'_>)
     requires { length line.old + 49 ≤ MAX }
     ensures text { (n : ℕ) (e : MeantEvent) → Represents n event.now e →
@@ -210,6 +216,7 @@ fn push_event<const MAX: usize>(line: &mut Line<MAX>, event: &ShownEvent<'_>)
     line.push(" ");
 }
 
+#[tactic(none)]
 fn line_of_refusal(refusal: &Refusal) -> Line<REFUSAL_MAX>
     ensures { result ≡ refusal_text refusal.now ++ codes " " }
 {
@@ -230,6 +237,7 @@ fn line_of_remainder(which: Remainder, bytes: u64) -> Line<REMAINDER_MAX>
     line
 }
 
+#[tactic(none)]
 fn remainder_word(which: Remainder) -> &'static str
     ensures word { result.now ≡ remainder_word which }
     ensures short { length result.now ≤ 6 }

@@ -98,6 +98,7 @@ impl<const MAX: usize> Line<MAX> {
     }
 
     /// Appends bytes, at most 32, as two lower-case hexadecimal digits each.
+    #[tactic(none)]
     pub(crate) fn push_hex(&mut self, bytes: &[u8])
         requires few { length bytes.now ≤ 32 }
         requires room { length self.old + 2 * length bytes.now ≤ MAX }

@@ -18,6 +18,7 @@ const BYTE_MAX: usize = 4;
 /// Writes a comment of a capture in one line, with its hidden characters escaped as `\u` and four digits. Of a comment
 /// that isn't UTF-8, each byte that isn't printable ASCII is escaped as `\x` and two digits. `Stop::Write` if the writer
 /// fails: a prefix of the line was written.
+#[tactic(none)]
 pub fn put_comment<W: Write>(to: &mut Output<W>, text: &[u8]) -> Result<(), Stop>
     requires { to.old.failed ≡ false }
     ensures { IsWrittenOrStops to.old to.new (comment_line text.now) result }
@@ -59,6 +60,7 @@ fn put_quoted_characters<W: Write>(to: &mut Output<W>, text: &str) -> Result<(),
 
 /// Whether a text is ASCII and none of its characters is escaped in quotes.
 #[inline(never)]
+#[tactic(none)]
 fn is_quoted_as_it_is(text: &[u8]) -> bool
     ensures { result ≡ true → flat_map quoted_character (chars text.now) ≡ text.now }
 {
@@ -106,6 +108,7 @@ fn put_shown_bytes<W: Write>(to: &mut Output<W>, bytes: &[u8]) -> Result<(), Sto
     Ok(())
 }
 
+#[tactic(none)]
 fn quoted_character(c: char) -> Line<CHARACTER_MAX>
     ensures { result ≡ quoted_character c }
 {
@@ -147,6 +150,7 @@ fn unicode_escape(c: char) -> Line<CHARACTER_MAX>
 }
 
 /// Whether a character moves a terminal's cursor, or changes how the text around it is shown.
+#[tactic(none)]
 fn is_hidden(c: char) -> bool
     ensures { result ≡ is_hidden c }
 {
@@ -162,6 +166,7 @@ fn is_hidden(c: char) -> bool
     )
 }
 
+#[tactic(none)]
 fn shown_byte(b: u8) -> Line<BYTE_MAX>
     ensures { result ≡ shown_byte b }
 {

@@ -26,6 +26,7 @@ impl ViewLimit {
     ghost use Rattle.std.specs.Prelude.{◌≡◌, ◌≤◌, ◌↔◌, IfSome, IsSome};
 
     /// A limit of `bytes` bytes. `None` exactly if that is over 4,096.
+    #[tactic(none)]
     pub fn new(bytes: u16) -> Option<ViewLimit>
         ensures in_range { IsSome result ↔ (bytes ≤ 4096) }
         ensures value { IfSome result (λ view. view ≡ bytes) }
@@ -37,6 +38,7 @@ impl ViewLimit {
     }
 
     /// The number of bytes.
+    #[tactic(none)]
     pub fn bytes(&self) -> usize
         ensures is { result ≡ self.now }
         ensures in_range { result ≤ 4096 }

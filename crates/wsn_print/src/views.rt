@@ -71,6 +71,7 @@ fn payload_of<'a>(event: &ShownEvent<'a>) -> HeldBytes<'a>
 }
 
 /// Writes a text's first bytes, quoted; a dash for a text that isn't empty if the view is 0.
+#[tactic(none)]
 fn put_text_view<W: Write>(
     to: &mut Output<W>,
     view: ViewLimit,
@@ -90,6 +91,7 @@ fn put_text_view<W: Write>(
 }
 
 /// Whether nothing is shown of a text that isn't empty.
+#[tactic(none)]
 fn shows_nothing(view: ViewLimit, bytes: u64) -> bool
     ensures { result ≡ (view == 0 && nat_lt 0 bytes) }
 {
@@ -97,6 +99,7 @@ fn shows_nothing(view: ViewLimit, bytes: u64) -> bool
 }
 
 /// Writes the first bytes in hexadecimal.
+#[tactic(none)]
 pub(crate) fn put_hex_view<W: Write>(
     to: &mut Output<W>,
     view: ViewLimit,
@@ -151,6 +154,7 @@ fn put_body_view<W: Write>(to: &mut Output<W>, view: ViewLimit, body: &[u8]) -> 
 }
 
 /// Writes a Close's code and reason; a dash for an empty body, and if the view is 0.
+#[tactic(none)]
 fn put_close_view<W: Write>(to: &mut Output<W>, view: ViewLimit, body: &[u8]) -> Result<(), Stop>
     requires { to.old.failed ≡ false }
     ensures text { IsUtf8 (drop 2 body.now) → IsWrittenOrStops to.old to.new (close_view view body.now) result }
@@ -176,6 +180,7 @@ fn line_of_code(code: u16) -> Line<CODE_MAX>
 }
 
 /// Writes a Close's reason after a space; nothing without one.
+#[tactic(none)]
 fn put_reason<W: Write>(to: &mut Output<W>, reason: &[u8]) -> Result<(), Stop>
     requires { to.old.failed ≡ false }
     ensures text { IsUtf8 reason.now → IsWrittenOrStops to.old to.new (reason_text reason.now) result }
@@ -189,6 +194,7 @@ fn put_reason<W: Write>(to: &mut Output<W>, reason: &[u8]) -> Result<(), Stop>
 }
 
 /// The whole characters at the front.
+#[tactic(none)]
 fn whole_characters(bytes: &[u8]) -> &str
     ensures { result.now ≡ take (utf8_valid_len bytes.now) bytes.now }
 {
@@ -198,6 +204,7 @@ fn whole_characters(bytes: &[u8]) -> &str
     }
 }
 
+#[tactic(none)]
 fn is_printable(bytes: &[u8]) -> bool
     ensures { result ≡ is_printable bytes.now }
 {
@@ -221,6 +228,7 @@ fn front_of(bytes: &[u8], most: usize) -> &[u8]
 }
 
 /// The last bytes, at most `most`.
+#[tactic(none)]
 fn end_of(bytes: &[u8], most: usize) -> &[u8]
     ensures { result.now ≡ drop (length bytes.now - most) bytes.now }
 {

@@ -1,4 +1,4 @@
-use Rattle.std.proofs.Common.{◌≡◌, List, [], ℕ, ◌++◌, codes, ap, ◌∙◌, append_assoc}
+use Rattle.std.proofs.Common.{◌≡◌, List, [], ℕ, ◌++◌, codes, ap, ◌∙◌, append_assoc, rules}
 use Rattle.wsn_print.specs.Fields.{number_text}
 use Rattle.wsn_print.specs.ShownText.{event_text}
 use Rattle.wsn_print.proofs.entries.line_of_unfinished_event.Goals as goal
@@ -17,3 +17,21 @@ pub returns : goal.returns
 returns c = λ n e shows.
     appended (event_text e c.args.event.now.frames) (number_text c.args.lacks) c.new-line.result c.push.new.self c.push_event.new.line c.push-2.new.self c.push_number_or_dash.new.self c.push-3.new.self
     c.new-line.ensures c.push.ensures.text (c.push_event.ensures.text n e shows) c.push-2.ensures.text c.push_number_or_dash.ensures.text c.push-3.ensures.text
+
+pub new-line-requires : goal.new-line-requires
+new-line-requires c = search rules
+
+pub push-requires : goal.push-requires
+push-requires c = search rules
+
+pub push_event-requires : goal.push_event-requires
+push_event-requires c = search rules
+
+pub push-requires-2 : goal.push-requires-2
+push-requires-2 c = search rules
+
+pub push_number_or_dash-requires : goal.push_number_or_dash-requires
+push_number_or_dash-requires c = search rules
+
+pub push-requires-3 : goal.push-requires-3
+push-requires-3 c = search rules

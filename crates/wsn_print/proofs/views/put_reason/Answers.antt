@@ -1,4 +1,4 @@
-use Rattle.std.proofs.Common.{ℕ, List, codes, ◌∙◌, subst, sym}
+use Rattle.std.proofs.Common.{ℕ, List, codes, ◌∙◌, subst, sym, rules}
 use Rattle.wsn_io.specs.Stops.{IsWrittenOrStops}
 use Rattle.std.proofs.Common.{ap}
 use Rattle.wsn_print.specs.ShownText.{quoted, reason_text}
@@ -13,3 +13,21 @@ returns-in_err-put_line-clause-text g c = λ utf8.
 pub returns-clause-text : goal.returns-clause-text
 returns-clause-text g c = λ utf8.
     two_pieces c.args.to.now c.put_line.new.to c.put_quoted.new.to (codes " ") (quoted c.args.reason.now) (reason_text c.args.reason.now) c.put_quoted.result (reason_is c.args.reason.now (sym c.is_empty.ensures ∙ c.if-is_empty.false)) (c.in_ok-put_line.ensures) (subst (λ (t : List ℕ). IsWrittenOrStops c.put_line.new.to c.put_quoted.new.to t c.put_quoted.result) (ap quoted (c.whole_characters.ensures ∙ whole_text c.args.reason.now utf8)) c.put_quoted.ensures)
+
+pub returns-then-is_empty-clause-text : goal.returns-then-is_empty-clause-text
+returns-then-is_empty-clause-text g c = search rules
+
+pub returns-then-is_empty-clause-unfailed : goal.returns-then-is_empty-clause-unfailed
+returns-then-is_empty-clause-unfailed g c = search rules
+
+pub put_line-requires : goal.put_line-requires
+put_line-requires g c = search rules
+
+pub returns-in_err-put_line-clause-unfailed : goal.returns-in_err-put_line-clause-unfailed
+returns-in_err-put_line-clause-unfailed g c = search rules
+
+pub put_quoted-requires : goal.put_quoted-requires
+put_quoted-requires g c = search rules
+
+pub returns-clause-unfailed : goal.returns-clause-unfailed
+returns-clause-unfailed g c = search rules

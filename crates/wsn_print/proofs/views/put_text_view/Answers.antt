@@ -1,4 +1,4 @@
-use Rattle.std.proofs.Common.{ℕ, List, ◌∙◌, sym}
+use Rattle.std.proofs.Common.{ℕ, List, ◌∙◌, sym, rules}
 use Rattle.std.proofs.Common.{length, ap, take}
 use Rattle.std.specs.Str.Lossy.{utf8_valid_len}
 use Rattle.wsn_print.specs.ShownText.{quoted, text_view, left_out}
@@ -21,3 +21,24 @@ returns-clause-text g c = λ all holds.
     let front = c.front_of.ensures ∙ ap (λ (n : ℕ). take n held) c.bytes.ensures.is in
     let is = c.whole_characters-shown.ensures ∙ ap (λ (bytes : List ℕ). take (utf8_valid_len bytes) bytes) front ∙ shown_part c.args.view all held holds.1 in
     two_pieces c.args.to.now c.put_quoted.new.to c.put_left_out.new.to (quoted shown) (left_out (length shown) c.args.text.now.bytes) (text_view c.args.view all) c.put_left_out.result (text_view_is c.args.view c.args.text.now.bytes all shown holds.0 is (sym c.shows_nothing.ensures ∙ c.if-shows_nothing.false)) (c.in_ok-put_quoted.ensures) (c.put_left_out.ensures)
+
+pub put_line-requires : goal.put_line-requires
+put_line-requires g c = search rules
+
+pub returns-then-shows_nothing-clause-text : goal.returns-then-shows_nothing-clause-text
+returns-then-shows_nothing-clause-text g c = search rules
+
+pub returns-then-shows_nothing-clause-unfailed : goal.returns-then-shows_nothing-clause-unfailed
+returns-then-shows_nothing-clause-unfailed g c = search rules
+
+pub put_quoted-requires : goal.put_quoted-requires
+put_quoted-requires g c = search rules
+
+pub returns-in_err-put_quoted-clause-unfailed : goal.returns-in_err-put_quoted-clause-unfailed
+returns-in_err-put_quoted-clause-unfailed g c = search rules
+
+pub put_left_out-requires : goal.put_left_out-requires
+put_left_out-requires g c = search rules
+
+pub returns-clause-unfailed : goal.returns-clause-unfailed
+returns-clause-unfailed g c = search rules
