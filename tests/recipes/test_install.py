@@ -129,6 +129,8 @@ TYPED = [
     ("wsn explain text-b\t\n", "GOT <explain> <text-bad>"),
     ("wsn ju\t--ro\tser\t--lengths a\t\n", "GOT <judge> <--role> <server> <--lengths> <any>"),
     ("wsn same --role cl\tthe\\ o\tthe\\ o\t\n", "GOT <same> <--role> <client> <the one> <the one>"),
+    ("wsn judge --role cl\t--cap\tthe\\ o\t\n", "GOT <judge> <--role> <client> <--capture> <the one>"),
+    ("wsn closing the\\ o\t\n", "GOT <closing> <the one>"),
 ]
 
 

@@ -183,7 +183,7 @@ def readme_says_what_its_lines_print(folder):
     (folder / "wsn").symlink_to(WSN)
     (folder / "recordings").mkdir()
     shutil.copy(SAMPLES / "latin.capture", folder / "recordings/0001.capture")
-    ((line, printed),) = indented("sed ")
+    ((line, printed),) = indented(r"\./wsn frames ")
     same(run("bash", "-c", line, status=None, cwd=folder), (printed.encode(), b""), line)
     ((line, _),) = indented("printf ")
     same(run("bash", "-c", line, cwd=folder), (b"81850000000048656c6c6f\n", b""), line)

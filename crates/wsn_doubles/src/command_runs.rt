@@ -1,10 +1,12 @@
 //! Commands run with the readers and writers of the tests.
 ghost use Rattle.wsn_job.specs.Jobs.{MayRun};
+ghost use Rattle.wsn_job.specs.Sides.{MayRunOnSide};
 
 use crate::readers::Chopped;
 use crate::writers::Narrow;
 use std::alloc::{Allocator, Global};
-use wsn_job::{Job, run, run_same};
+use wsn_capture::SideReader;
+use wsn_job::{Job, run, run_on_side, run_same, run_same_on_sides};
 use wsn_scan::Limits;
 use wsn_wire::{Input, Output, Role};
 
@@ -31,6 +33,57 @@ pub fn run_on<A: Allocator + Copy>(
         heap,
         job,
         &mut Input::new(&mut reader),
+        &mut Output::new(&mut writer),
+        &mut Output::new(&mut err),
+    );
+    CommandRun {
+        status,
+        out: writer.taken,
+        err,
+    }
+}
+
+/// Runs a command on the side of a capture that this endpoint sent. It allocates from this heap.
+pub fn run_on_side_on<A: Allocator + Copy>(
+    heap: A,
+    alloc: Global,
+    job: &Job<A>,
+    role: Role,
+    text: Chopped,
+    mut writer: Narrow,
+) -> CommandRun
+    requires { MayRunOnSide job.now }
+{
+    let mut err = Vec::new(alloc);
+    let status = run_on_side(
+        heap,
+        job,
+        &mut Input::new(SideReader::new(text, role)),
+        &mut Output::new(&mut writer),
+        &mut Output::new(&mut err),
+    );
+    CommandRun {
+        status,
+        out: writer.taken,
+        err,
+    }
+}
+
+/// Runs `same` on the server's sides of two captures.
+pub fn run_same_on_sides_on(
+    alloc: Global,
+    limits: Limits,
+    first: Chopped,
+    second: Chopped,
+    mut writer: Narrow,
+) -> CommandRun {
+    let mut err = Vec::new(alloc);
+    let status = run_same_on_sides(
+        alloc,
+        &mut Input::new(SideReader::new(first, Role::Server)),
+        &mut Input::new(SideReader::new(second, Role::Server)),
+        Role::Server,
+        limits,
         &mut Output::new(&mut writer),
         &mut Output::new(&mut err),
     );

@@ -2,7 +2,8 @@
 //!
 //! A rule's test is found by its printed word: reasons of refusals (`text-bad`) in `head_bytes`, `refusal_reasons` and
 //! the names of vectors, faults of lines (`bad_hex`) and `input_limit` in `capture_lines`, outcomes in
-//! `capture_reports`, `close_code` in `close_codes`. `side_readers` tests one side of a capture as a reader.
+//! `capture_reports`, `close_code` in `close_codes`. `side_readers` tests one side of a capture as a reader, and
+//! `side_commands` the commands on it.
 //!
 //! `every_way` reads each vector in every way, and `conformance` gives some of them short names. Each command has a
 //! file: `judge_command`, `frames_command`, `normal_command`, `same_command`, `closing_command`. `scanner`, `source`,
@@ -68,6 +69,8 @@ mod refusal_reasons;
 mod same_command;
 #[cfg(test)]
 mod scanner;
+#[cfg(test)]
+mod side_commands;
 #[cfg(test)]
 mod side_readers;
 #[cfg(test)]
