@@ -2,7 +2,8 @@
 //!
 //! [`asked`] reads the words, with clap, and returns a [`Request`], or a [`Usage`] that says why there is none. A
 //! request to run holds a [`Job`], which [`run`] does over any reader and writers; [`run_same`] compares two streams.
-//! [`Escaped`] prints a word from outside so that a terminal isn't changed by it. `specs/Requests.antt` defines which
+//! [`run_on_side`] and [`run_same_on_sides`] do so over one side of a capture. [`Escaped`] prints a word from outside so
+//! that a terminal isn't changed by it. `specs/Inputs.antt` defines which input a word names, `specs/Requests.antt` which
 //! requests can be carried out.
 #![tactic(auto)]
 
