@@ -1,0 +1,16 @@
+use Rattle.std.proofs.Common.{[], refl, sym, ◌∙◌}
+use Rattle.wsn_rules.specs.ShownStream.{frame_so_far}
+use Rattle.wsn_show.proofs.KeptParts.{is_control_head, begins_data, begins_control}
+use Rattle.wsn_wire.specs.Frame.{is_control}
+use Rattle.wsn_show.proofs.stream_parts.StreamParts.begin.Goals as goal
+
+pub returns-then-is_data : goal.returns-then-is_data
+returns-then-is_data c fs rest kept =
+    let frame = c.begin.ensures fs rest kept.frame in
+    let begins = c.begin-then-is_data in
+    begins_data c.args.self.now fs c.args.head begins.new.self c.begin.new.self rest (begins.ensures.kept fs [] kept.message) (begins.ensures.joined fs (frame_so_far c.args.head []) refl frame.offset kept.message) frame
+
+pub returns-else-is_data : goal.returns-else-is_data
+returns-else-is_data c fs rest kept =
+    let frame = c.begin.ensures fs rest kept.frame in
+    begins_control c.args.self.now fs c.args.head c.args.self.now.message c.begin.new.self rest (is_control_head (is_control c.args.head.op) (sym (c.is_data.ensures c.args.head frame.head) ∙ c.if-is_data.false)) kept.message frame

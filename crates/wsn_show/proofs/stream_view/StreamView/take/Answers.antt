@@ -1,0 +1,37 @@
+use Rattle.std.proofs.Common.{◌≤◌, ◌++◌, length, sym, subst, refl}
+use Rattle.wsn_show.specs.StreamViews.{Viewed, HasViewed}
+use Rattle.wsn_show.proofs.ViewedStreams.{small, viewed_more, shows_more}
+use Rattle.wsn_show.proofs.stream_view.StreamView.take.Goals as goal
+
+pub invariant_of-self : goal.invariant_of-self
+invariant_of-self g c =
+    let inside = c.self.inside in
+    let viewed : Viewed = record { role = inside.role; view = inside.view; input = inside.input; room = inside.room; scan = inside.stream.scan; parts = inside.stream.parts } in
+    let own = c.self.invariant in
+    let fits = subst (λ (v : Viewed). length c.args.bytes.now ≤ v.room) (sym c.self.view_is) c.requires.fits in
+    let s = c.take.ensures own.role own.limits own.came own.has.shown (small own.role own.limits own.view viewed own.came own.has c.args.bytes.now fits) own.has.has in
+    record {
+      role = own.role;
+      limits = own.limits;
+      view = own.view;
+      came = own.came ++ c.args.bytes.now;
+      has = viewed_more own.role own.limits own.view viewed own.came own.has c.args.bytes.now fits c.take.new.self.scan c.take.new.self.parts _ c.args.output.now c.take.new.output s;
+    }
+
+pub returns-clause-viewed : goal.returns-clause-viewed
+returns-clause-viewed g c role limits view came has =
+    let inside = c.self.inside in
+    let viewed : Viewed = record { role = inside.role; view = inside.view; input = inside.input; room = inside.room; scan = inside.stream.scan; parts = inside.stream.parts } in
+    let here = subst (λ (v : Viewed). HasViewed role limits view v came) (sym c.self.view_is) has in
+    let fits = subst (λ (v : Viewed). length c.args.bytes.now ≤ v.room) (sym c.self.view_is) c.requires.fits in
+    let s = c.take.ensures role limits came here.shown (small role limits view viewed came here c.args.bytes.now fits) here.has in
+    viewed_more role limits view viewed came here c.args.bytes.now fits c.take.new.self.scan c.take.new.self.parts _ c.args.output.now c.take.new.output s
+
+pub returns-clause-printed : goal.returns-clause-printed
+returns-clause-printed g c role limits view came has =
+    let inside = c.self.inside in
+    let viewed : Viewed = record { role = inside.role; view = inside.view; input = inside.input; room = inside.room; scan = inside.stream.scan; parts = inside.stream.parts } in
+    let here = subst (λ (v : Viewed). HasViewed role limits view v came) (sym c.self.view_is) has in
+    let fits = subst (λ (v : Viewed). length c.args.bytes.now ≤ v.room) (sym c.self.view_is) c.requires.fits in
+    let s = c.take.ensures role limits came here.shown (small role limits view viewed came here c.args.bytes.now fits) here.has in
+    shows_more role limits view viewed came here c.args.bytes.now fits c.take.new.self.scan c.take.new.self.parts _ c.args.output.now c.take.new.output s refl refl c.requires.writable

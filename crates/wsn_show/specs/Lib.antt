@@ -1,0 +1,12 @@
+-- Definitions of what `show` does: first of one stream, then of a capture.
+pub mod HeldParts
+pub mod StreamParts
+pub mod FollowedScans
+pub mod ShownItems
+pub mod ShownSoFar
+pub mod StreamViews
+pub mod Times
+pub mod SplitLines
+pub mod CaptureViews
+pub mod Showing
+pub mod PassedLines

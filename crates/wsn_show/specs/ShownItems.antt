@@ -1,0 +1,33 @@
+-- Items as they are held to be printed, and what it means that items were printed.
+use Rattle.std.specs.Prelude.{◌≡◌, ℕ, ◌/◌, Option, option_copied, List, ◌++◌}
+use Rattle.wsn_io.specs.Transfer.{Outgoing, IsWrittenUpToFailure}
+use Rattle.wsn_rules.specs.Meaning.{MeantEvent}
+use Rattle.wsn_rules.specs.ShownStream.{Item}
+use Rattle.wsn_rules.specs.ShownStream.Item.{Event, Unfinished, UnfinishedHead, RefusedFrame}
+use Rattle.wsn_print.specs.ShownText.{item_lines}
+use Rattle.wsn_print.specs.ShownParts.{Represents, HasTextReason, IsFrontOf, IsEndOf, item_of_remainder}
+use Rattle.wsn_show.specs.declared.entry_context.EntryContext.{EntryContext}
+use Rattle.wsn_show.specs.declared.shown_item.ShownItem.{ShownItem}
+use Rattle.wsn_show.specs.declared.shown_item.ShownItem.TheVariants as shown
+
+-- For views of n bytes, this is held of the item, which has this offset.
+abbrev pub IsItem : ℕ → ℕ → ShownItem → Item → Type 0
+IsItem n offset (shown.Event held) item = (event : MeantEvent) × Represents n held event × HasTextReason event
+    × (item ≡ Event offset event held.frames)
+IsItem n offset (shown.Unfinished held lacks) item = (event : MeantEvent) × Represents n held event
+    × (item ≡ Unfinished offset event held.frames lacks)
+IsItem n offset shown.UnfinishedHead item = item ≡ UnfinishedHead offset
+IsItem n offset (shown.Refused refusal evidence) item = (all : List ℕ) × IsEndOf (n / 2) all evidence
+    × (item ≡ RefusedFrame offset refusal all)
+IsItem n offset (shown.Remainder which bytes) item = (all : List ℕ) × IsFrontOf (n / 2) all bytes
+    × (item ≡ item_of_remainder which offset all)
+
+-- The time in front of each entry.
+abbrev pub time_in : EntryContext → Option (List ℕ)
+time_in context = option_copied context.time
+
+-- The lines of these items were printed after what was printed before, up to a failed write.
+abbrev pub Prints : EntryContext → Outgoing → Outgoing → List Item → Type 0
+Prints context old new items =
+    (before : Outgoing) (text : List ℕ) → IsWrittenUpToFailure before old text →
+    IsWrittenUpToFailure before new (text ++ item_lines context.view context.role (time_in context) items)

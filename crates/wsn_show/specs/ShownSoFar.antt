@@ -1,0 +1,100 @@
+-- What was shown of a stream whose bytes a scan consumes.
+use Rattle.std.specs.Prelude.{◌≡◌, ℕ, ◌+◌, ◌⊎◌, Some, List, [], ◌++◌, length, map}
+use Rattle.wsn_io.specs.Transfer.{Outgoing}
+use Rattle.wsn_wire.specs.declared.endpoint.Role.{Role}
+use Rattle.wsn_wire.specs.Frame.{Frame}
+use Rattle.wsn_rules.specs.declared.head_info.HeadInfo.{HeadInfo}
+use Rattle.wsn_rules.specs.declared.verdict.Refusal.{Refusal}
+use Rattle.wsn_rules.specs.Limits.{Limits}
+use Rattle.wsn_rules.specs.Verdict.{IsRefused}
+use Rattle.wsn_rules.specs.ShownStream.{Item, Shown, shown_of, IsShownRefusal, IsLeftOver}
+use Rattle.wsn_scan.specs.declared.scan.Scan.{Scan}
+use Rattle.wsn_scan.specs.Feeding.{HasScannedBytes}
+use Rattle.wsn_scan.specs.ReportedFrames.{Position}
+use Rattle.wsn_scan.specs.Scans.{refusal_in}
+use Rattle.wsn_show.specs.declared.entry_context.EntryContext.{EntryContext}
+use Rattle.wsn_show.specs.declared.stream_parts.StreamParts.{StreamParts}
+use Rattle.wsn_show.specs.HeldParts.{HasFirst}
+use Rattle.wsn_show.specs.StreamParts.{Keeps}
+use Rattle.wsn_show.specs.FollowedScans.{HasFollowed, IsSettled}
+use Rattle.wsn_show.specs.ShownItems.{Prints}
+
+-- The items, without the number of bytes with which they are shown.
+abbrev pub items_in : List Shown → List Item
+items_in = map (λ s. s.item)
+
+-- The bytes that came aren't refused, and this was shown of the frames that were reported to their ends.
+pub record HasShownFrames (role : Role) (limits : Limits) (scan : Scan) (parts : StreamParts) (came : List ℕ)
+    (shown : List Shown) : Type 0 where
+  pub done : List Frame
+  pub at : Position
+  pub rest : List ℕ
+  pub followed : HasFollowed role limits scan came done at rest
+  pub keeps : Keeps parts done at rest
+  pub is : shown ≡ shown_of [] done
+
+-- The bytes up to `read` are refused at the last one, whatever follows; this was shown of them and the refusal. The
+-- bytes `unread` came after them.
+pub record HasShownRefusal (role : Role) (limits : Limits) (scan : Scan) (parts : StreamParts) (came : List ℕ)
+    (shown : List Shown) : Type 0 where
+  pub done : List Frame
+  pub refusal : Refusal
+  pub read : List ℕ
+  pub unread : List ℕ
+  pub heads : List HeadInfo
+  pub whole : came ≡ read ++ unread
+  pub scanned : HasScannedBytes role limits scan read heads
+  pub reported : refusal_in scan ≡ Some refusal
+  pub refused : (later : List ℕ) → IsRefused role limits (read ++ later) done refusal.place refusal.reason
+  pub place : refusal.place + 1 ≡ length read
+  pub first : HasFirst parts.frame.first unread
+  pub of_refusal : List Shown
+  pub is_of_refusal : IsShownRefusal role limits read done refusal of_refusal
+  pub is : shown ≡ shown_of [] done ++ of_refusal
+
+-- This was shown of the bytes that came.
+abbrev pub HasShown : Role → Limits → Scan → StreamParts → List ℕ → List Shown → Type 0
+HasShown role limits scan parts came shown =
+    HasShownFrames role limits scan parts came shown ⊎ HasShownRefusal role limits scan parts came shown
+
+-- The same, and each whole frame was reported to its end.
+abbrev pub HasShownAll : Role → Limits → Scan → StreamParts → List ℕ → List Shown → Type 0
+HasShownAll role limits scan parts came shown =
+    ((frames : HasShownFrames role limits scan parts came shown) × IsSettled frames.followed)
+    ⊎ HasShownRefusal role limits scan parts came shown
+
+-- More bytes came, and more items were shown and printed. They are all if the call of the scan got no bytes: it reports
+-- a frame's end by a call of its own.
+pub record ShowsMore (role : Role) (limits : Limits) (scan : Scan) (parts : StreamParts) (context : EntryContext)
+    (old new : Outgoing) (size : ℕ) (came : List ℕ) (shown : List Shown) : Type 0 where
+  pub extra : List Shown
+  pub has : HasShown role limits scan parts came (shown ++ extra)
+  pub all : size ≡ 0 → HasShownAll role limits scan parts came (shown ++ extra)
+  pub printed : Prints context old new (items_in extra)
+
+-- All that is shown of the bytes with more of them was shown, and printed.
+pub record ShowsAll (role : Role) (limits : Limits) (scan : Scan) (parts : StreamParts) (context : EntryContext)
+    (old new : Outgoing) (came : List ℕ) (shown : List Shown) : Type 0 where
+  pub extra : List Shown
+  pub has : HasShownAll role limits scan parts came (shown ++ extra)
+  pub printed : Prints context old new (items_in extra)
+
+-- The scan has consumed some bytes, or none, and hasn't refused them.
+pub record IsShowing (scan : Scan) (parts : StreamParts) : Type 0 where
+  pub role : Role
+  pub limits : Limits
+  pub came : List ℕ
+  pub shown : List Shown
+  pub frames : HasShownFrames role limits scan parts came shown
+
+-- The bytes that came aren't refused, and more items were shown, and printed.
+pub record ShowsFrames (role : Role) (limits : Limits) (scan : Scan) (parts : StreamParts) (context : EntryContext)
+    (old new : Outgoing) (came : List ℕ) (shown : List Shown) : Type 0 where
+  pub extra : List Shown
+  pub frames : HasShownFrames role limits scan parts came (shown ++ extra)
+  pub printed : Prints context old new (items_in extra)
+
+-- What is left over of the bytes was printed.
+abbrev pub LeavesOver : Role → Limits → List ℕ → EntryContext → Outgoing → Outgoing → Type 0
+LeavesOver role limits came context old new =
+    (left : List Item) × IsLeftOver role limits came left × Prints context old new left

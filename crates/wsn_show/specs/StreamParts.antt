@@ -1,0 +1,93 @@
+-- What is kept of a stream: the open message, and the frame that has begun.
+use Rattle.std.specs.Prelude.{◌≡◌, ◌≢◌, ℕ, ◌+◌, ◌≤◌, ◌⊎◌, ⊤, true, false, Option, None, Some, List, [], ◌∷◌, ◌++◌, length, if◌then◌else◌}
+use Rattle.wsn_wire.specs.declared.opcode.Op.{Op}
+use Rattle.wsn_wire.specs.declared.opcode.Op.TheVariants.{Text, Binary}
+use Rattle.wsn_wire.specs.Frame.{Frame, is_control, wire_payload, stream}
+use Rattle.wsn_rules.specs.declared.head_info.HeadInfo.{HeadInfo}
+use Rattle.wsn_rules.specs.Group.{unfinished, first_op, payload_of}
+use Rattle.wsn_rules.specs.ShownStream.{Item, open_offset, frame_so_far, items_of_head, items_of_part}
+use Rattle.wsn_scan.specs.ReportedFrames.{Position, BetweenFrames, InFrame}
+use Rattle.wsn_show.specs.declared.message_so_far.MessageSoFar.{MessageSoFar}
+use Rattle.wsn_show.specs.declared.frame_so_far.FrameSoFar.{FrameSoFar}
+use Rattle.wsn_show.specs.declared.stream_parts.StreamParts.{StreamParts}
+use Rattle.wsn_show.specs.HeldParts.{HasFirst, HasLast}
+
+-- ---- the open message
+
+-- After the frames fs, this is kept of the open message: the number of its frames and of their payload bytes, the first
+-- bytes of their payload and of `part`, and if there is one its first frame's opcode and offset.
+pub record KeepsMessage (message : MessageSoFar) (fs : List Frame) (part : List ℕ) : Type 0 where
+  pub frames : message.frames ≡ length (unfinished fs)
+  pub bytes : message.bytes ≡ length (payload_of (unfinished fs))
+  pub payload : HasFirst message.payload (payload_of (unfinished fs) ++ part)
+  pub op : unfinished fs ≢ [] → message.op ≡ first_op (unfinished fs)
+  pub offset : unfinished fs ≢ [] → message.offset ≡ open_offset fs
+
+-- The message to which the data frame f belongs after the frames fs has this opcode and this offset.
+pub record HasJoined (message : MessageSoFar) (fs : List Frame) (f : Frame) : Type 0 where
+  pub op : message.op ≡ first_op (unfinished fs ++ f ∷ [])
+  pub offset : message.offset ≡ open_offset fs
+
+-- ---- the frame that has begun
+
+-- Its head, if it is complete.
+abbrev pub head_at : Position → Option HeadInfo
+head_at BetweenFrames = None
+head_at (InFrame head payload) = Some head
+
+-- Its payload so far.
+abbrev pub payload_at : Position → List ℕ
+payload_at BetweenFrames = []
+payload_at (InFrame head payload) = payload
+
+-- After the frames fs, this is kept of the next frame, whose bytes so far are `rest`.
+pub record KeepsFrame (frame : FrameSoFar) (fs : List Frame) (at : Position) (rest : List ℕ) : Type 0 where
+  pub offset : frame.offset ≡ length (stream fs)
+  pub head : frame.head ≡ head_at at
+  pub payload : HasFirst frame.payload (payload_at at)
+  pub first : HasFirst frame.first rest
+  pub last : HasLast frame.last rest
+
+-- ---- both
+
+-- The payload so far of the data frame that has begun; nothing of a control.
+abbrev pub data_part : Position → List ℕ
+data_part BetweenFrames = []
+data_part (InFrame head payload) = if is_control head.op then [] else payload
+
+-- If a data frame has begun, this is kept of the message to which it belongs.
+abbrev pub HasJoinedAt : MessageSoFar → List Frame → Position → Type 0
+HasJoinedAt message fs BetweenFrames = ⊤
+HasJoinedAt message fs (InFrame head payload) =
+    is_control head.op ≡ false → HasJoined message fs (frame_so_far head payload)
+
+-- After the frames fs, at this position in the next frame, whose bytes so far are `rest`.
+pub record Keeps (parts : StreamParts) (fs : List Frame) (at : Position) (rest : List ℕ) : Type 0 where
+  pub message : KeepsMessage parts.message fs (data_part at)
+  pub joined : HasJoinedAt parts.message fs at
+  pub frame : KeepsFrame parts.frame fs at rest
+
+-- ---- what is shown of it
+
+-- The opcode begins a message.
+abbrev pub HasKind : Op → Type 0
+HasKind op = (op ≡ Text) ⊎ (op ≡ Binary)
+
+-- The evidence in the frame whose bytes so far are `rest`, which end with the offending byte: its payload, unmasked, of
+-- which the last `count` bytes were not reported; or the head as it came.
+abbrev pub IsEvidenceAt : Position → ℕ → List ℕ → List ℕ → Type 0
+IsEvidenceAt BetweenFrames count rest evidence = evidence ≡ rest
+IsEvidenceAt (InFrame head payload) count rest evidence = (front : List ℕ) × (wire : List ℕ) × (rest ≡ front ++ wire)
+    × (length wire ≡ length payload + count) × (evidence ≡ wire_payload head.key wire)
+
+-- What is left over where the stream ends at this position.
+abbrev pub items_left : List Frame → Position → List ℕ → List Item
+items_left fs BetweenFrames rest = items_of_head fs rest
+items_left fs (InFrame head payload) rest = items_of_part fs head payload
+
+-- The frame that has begun can follow: a control has at most 125 bytes, and a data frame belongs to a message.
+abbrev pub IsSoundPart : List Frame → Position → Type 0
+IsSoundPart fs BetweenFrames = ⊤
+IsSoundPart fs (InFrame head payload) = (head.place ≡ length (stream fs))
+    × (is_control head.op ≡ true → length payload ≤ 125)
+    × (is_control head.op ≡ false → HasKind (first_op (unfinished fs ++ frame_so_far head payload ∷ [])))

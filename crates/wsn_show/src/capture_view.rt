@@ -1,0 +1,184 @@
+ghost use Rattle.std.specs.Prelude.{◌≡◌, ℕ, List, false};
+ghost use Rattle.wsn_rules.specs.Limits.{Limits};
+ghost use Rattle.wsn_rules.specs.Entries.{Entry};
+ghost use Rattle.wsn_rules.specs.Sides.{sent};
+ghost use Rattle.wsn_show.specs.StreamViews.{HasViewed};
+ghost use Rattle.wsn_show.specs.CaptureViews.{ShowsMark};
+
+use crate::stream_view::StreamView;
+use crate::times::{CurrentTime, LINE_MAX};
+use std::io::Write;
+use wsn_capture::line_form::{LineForm, decode, form_of, strip_cr};
+use wsn_capture::{Capture, LineFault, Report};
+use wsn_io::Output;
+use wsn_print::{Front, ViewLimit, put_comment, put_end};
+use wsn_rules::Limits;
+use wsn_wire::Role;
+
+/// The maximum number of bytes in a line.
+const BYTES_MAX: usize = 4096;
+
+/// Shows the lines of a capture one by one: prints what each completes. It keeps none of the lines.
+#[derive(Drop)]
+pub struct CaptureView {
+    capture: Capture,
+    client: StreamView,
+    server: StreamView,
+    time: CurrentTime,
+}
+
+impl CaptureView {
+    ghost use Rattle.std.specs.Prelude.{◌≡◌, ◌≤◌, ◌+◌, ℕ, List, [], ◌∷◌, ◌++◌, length, false, OnOk, IfErr};
+    ghost use Rattle.wsn_rules.specs.Limits.{Limits};
+    ghost use Rattle.wsn_rules.specs.Entries.{Entry, GivesEntry, bytes_prefix, end_mark};
+    ghost use Rattle.wsn_capture.specs.Captures.{count_of};
+    ghost use Rattle.wsn_capture.specs.LineFaults.{IsFaultAfter};
+    ghost use Rattle.wsn_rules.specs.Entries.Entry.{Nothing};
+    ghost use Rattle.wsn_show.specs.CaptureViews.{HasShownLines, IsShowingLines, CanShow, Shows, ShowsLine, LeavesAtEnd, Finishes};
+
+    /// A view that has shown no line. The limits apply to each endpoint's stream separately; `view` is the most bytes of
+    /// a payload that an entry shows.
+    pub fn new(limits: Limits, view: ViewLimit) -> CaptureView
+        ensures { HasShownLines limits view result [] [] }
+    {
+        CaptureView {
+            capture: Capture::new(limits),
+            client: StreamView::new(Role::Client, limits, view),
+            server: StreamView::new(Role::Server, limits, view),
+            time: CurrentTime::new(),
+        }
+    }
+
+    /// Accepts the next line, given without its LF, and prints what it shows.
+    ///
+    /// The error is the line's first fault. Nothing is printed then, and the view is unchanged.
+    pub fn line<W: Write>(&mut self, line: &[u8], output: &mut Output<W>) -> Result<(), LineFault>
+        requires showing { IsShowingLines self.old }
+        requires writable { output.old.failed ≡ false }
+        ensures shown { OnOk result ((limits : Limits) (n : ℕ) (lines : List (List ℕ)) (entries : List Entry) →
+            HasShownLines limits n self.old lines entries →
+            ShowsLine limits n self.new lines entries line.now output.old output.new) }
+        ensures fault { IfErr result (λ fault. (limits : Limits) (n : ℕ) (lines : List (List ℕ)) (entries : List Entry) →
+            HasShownLines limits n self.old lines entries → IsFaultAfter limits lines line.now fault) }
+        ensures unchanged { IfErr result (λ _. (self.new ≡ self.old) × (output.new ≡ output.old)) }
+        ensures count { OnOk result ((count_of self.new.capture ≡ count_of self.old.capture + 1)
+            × (count_of self.new.capture ≤ 1000000)) }
+    {
+        self.capture.line(line)?;
+        self.show(strip_cr(line), output);
+        Ok(())
+    }
+
+    /// The number of lines that it has shown.
+    pub fn count(&self) -> u32
+        ensures { result ≡ count_of self.now.capture }
+    {
+        self.capture.count()
+    }
+
+    /// Prints what is left over of both streams at the end of the capture, the client's first, and returns the report.
+    pub fn finish<W: Write>(&self, output: &mut Output<W>) -> Report
+        requires { output.old.failed ≡ false }
+        ensures { (limits : Limits) (n : ℕ) (lines : List (List ℕ)) (entries : List Entry) →
+            HasShownLines limits n self.now lines entries →
+            Finishes limits n lines entries output.old output.new result }
+    {
+        self.put_left_at_end(Role::Client, output);
+        self.put_left_at_end(Role::Server, output);
+        self.capture.report()
+    }
+
+    /// Prints what is left over of an endpoint's stream at the end of the capture: nothing after its end mark.
+    fn put_left_at_end<W: Write>(&self, role: Role, output: &mut Output<W>)
+        ensures { (limits : Limits) (n : ℕ) (lines : List (List ℕ)) (entries : List Entry) →
+            HasShownLines limits n self.now lines entries →
+            LeavesAtEnd role limits n entries output.old output.new }
+    {
+        if self.capture.has_ended(role) {
+            return;
+        }
+        match role {
+            Role::Client => self.client.put_left_over(None, output),
+            Role::Server => self.server.put_left_over(None, output),
+        }
+    }
+
+    /// Prints what the text of a line, without its CR, shows. The line is accepted.
+    fn show<W: Write>(&mut self, text: &[u8], output: &mut Output<W>)
+        requires writable { output.old.failed ≡ false }
+        requires can_show { CanShow self.old text.now }
+        requires short { length text.now ≤ LINE_MAX }
+        ensures shows { Shows self.old self.new text.now output.old output.new }
+        ensures capture { self.new.capture ≡ self.old.capture }
+    {
+        match form_of(text) {
+            Some(LineForm::Nothing) => self.show_nothing(text, output),
+            Some(LineForm::Bytes(role)) => self.show_bytes(role, &text[2..], output),
+            Some(LineForm::Mark(role)) => self.show_mark(role, output),
+            None => {}
+        }
+    }
+
+    /// Prints a comment; nothing for an empty line and for a comment that gives a time.
+    fn show_nothing<W: Write>(&mut self, text: &[u8], output: &mut Output<W>)
+        requires writable { output.old.failed ≡ false }
+        requires nothing { GivesEntry text.now Nothing }
+        requires short { length text.now ≤ LINE_MAX }
+        ensures shows { Shows self.old self.new text.now output.old output.new }
+        ensures capture { self.new.capture ≡ self.old.capture }
+    {
+        if text.is_empty() {
+            return;
+        }
+        if self.time.take(text) {
+            return;
+        }
+        let _stop = put_comment(output, text);
+    }
+
+    /// Prints what the bytes of an endpoint, which these digits encode, complete.
+    fn show_bytes<W: Write>(&mut self, role: Role, digits: &[u8], output: &mut Output<W>)
+        requires writable { output.old.failed ≡ false }
+        requires can_show { CanShow self.old (bytes_prefix role ++ digits.now) }
+        requires short { length digits.now ≤ 8192 }
+        ensures shows { Shows self.old self.new (bytes_prefix role ++ digits.now) output.old output.new }
+        ensures capture { self.new.capture ≡ self.old.capture }
+    {
+        let mut bytes = [0; BYTES_MAX];
+        let count = match decode(digits, &mut bytes) {
+            Ok(count) => count,
+            Err(_) => return,
+        };
+        let time = self.time.text();
+        match role {
+            Role::Client => self.client.take(&mut bytes[..count], time, output),
+            Role::Server => self.server.take(&mut bytes[..count], time, output),
+        }
+    }
+
+    /// Prints what an endpoint's stream leaves over, and its end.
+    fn show_mark<W: Write>(&mut self, role: Role, output: &mut Output<W>)
+        requires writable { output.old.failed ≡ false }
+        ensures shows { Shows self.old self.new (end_mark role) output.old output.new }
+        ensures capture { self.new.capture ≡ self.old.capture }
+    {
+        match role {
+            Role::Client => put_end_of(role, &self.client, &self.time, output),
+            Role::Server => put_end_of(role, &self.server, &self.time, output),
+        }
+    }
+}
+
+/// Prints what a stream leaves over, and its end.
+fn put_end_of<W: Write>(role: Role, stream: &StreamView, time: &CurrentTime, output: &mut Output<W>)
+    requires writable { output.old.failed ≡ false }
+    ensures { (limits : Limits) (n : ℕ) (given : List Entry) → HasViewed role limits n stream.now (sent role given) →
+        ShowsMark role limits n given time.now output.old output.new }
+{
+    let time = time.text();
+    stream.put_left_over(time, output);
+    if !output.failed() {
+        let offset = stream.sent();
+        let _stop = put_end(output, &Front { role, time, offset });
+    }
+}

@@ -1,0 +1,74 @@
+ghost use Rattle.std.specs.Prelude.{◌≡◌};
+
+use arrayvec::ArrayVec;
+use wsn_print::HeldBytes;
+
+/// The most bytes that a [`FirstBytes`] holds.
+pub(crate) const FIRST_MAX: usize = 4_096;
+
+/// The number of the bytes that came, and the first 4,096 of them.
+#[derive(Drop)]
+pub struct FirstBytes {
+    count: u64,
+    held: ArrayVec<u8, FIRST_MAX>,
+}
+
+impl FirstBytes {
+    ghost use Rattle.std.specs.Prelude.{ℕ, ◌+◌, ◌<◌, ◌^◌, List, [], ◌++◌, length};
+    ghost use Rattle.wsn_show.specs.HeldParts.{HasFirst};
+
+    /// No bytes.
+    pub fn new() -> FirstBytes
+        ensures { HasFirst result [] }
+    {
+        FirstBytes {
+            count: 0,
+            held: ArrayVec::new(),
+        }
+    }
+
+    /// Forgets the bytes that came.
+    pub fn clear(&mut self)
+        ensures { HasFirst self.new [] }
+    {
+        self.count = 0;
+        self.held.clear();
+    }
+
+    /// More bytes come.
+    pub fn add(&mut self, bytes: &[u8])
+        ensures { (came : List ℕ) → length came + length bytes.now < 2 ^ 64 → HasFirst self.old came →
+            HasFirst self.new (came ++ bytes.now) }
+    {
+        let room = self.held.remaining_capacity();
+        let _fits = self
+            .held
+            .try_extend_from_slice(&bytes[..room.min(bytes.len())]);
+        self.count = self.count.saturating_add(bytes.len() as u64);
+    }
+
+    /// The number of bytes that came.
+    pub fn count(&self) -> u64
+        ensures { result ≡ self.now.count }
+    {
+        self.count
+    }
+
+    /// As they are printed.
+    pub fn front(&self) -> HeldBytes<'_>
+        ensures bytes { result.bytes ≡ self.now.count }
+        ensures held { result.held.now ≡ self.now.held.items }
+    {
+        HeldBytes {
+            bytes: self.count,
+            held: self.held.as_slice(),
+        }
+    }
+
+    /// The first bytes that came.
+    pub fn held(&self) -> &[u8]
+        ensures { result.now ≡ self.now.held.items }
+    {
+        self.held.as_slice()
+    }
+}

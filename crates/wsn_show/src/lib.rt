@@ -1,0 +1,35 @@
+//! Shows what both sides of a WebSocket session said, in order (RFC 6455 sections 5 and 7): each event with its last
+//! byte, a refusal with the offending one, and what is left over where a stream ends.
+//!
+//! [`show`] reads a capture and prints what each of its lines completes, and then the report. A [`CaptureView`] does so
+//! line by line, a [`StreamView`] for the bytes of one endpoint. Nothing is allocated: at most one line is held, and of
+//! each stream the first bytes of its open message and of the frame that has begun.
+//!
+//! `wsn_rules/specs/ShownStream.antt` defines what is shown of a stream and what is left over, `ShownCapture.antt` what
+//! is shown of a capture, and `wsn_print/specs/ShownText.antt` how it is printed. Here, `specs/Showing.antt` defines
+//! what was printed at each answer, `specs/CaptureViews.antt` and `specs/StreamViews.antt` how a view's state is related
+//! to the lines or bytes that came, and `specs/StreamParts.antt` what is kept of the open message and of the frame that
+//! has begun.
+#![tactic(auto)]
+
+mod capture_view;
+mod entry_context;
+mod evidence;
+mod first_bytes;
+mod following;
+mod frame_so_far;
+mod last_bytes;
+mod lines;
+mod message_so_far;
+mod printing;
+mod scan_calls;
+mod showing;
+mod shown_item;
+mod shown_scan;
+mod stream_parts;
+mod stream_view;
+mod times;
+
+pub use capture_view::CaptureView;
+pub use showing::{ShowStop, show};
+pub use stream_view::StreamView;

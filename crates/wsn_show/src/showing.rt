@@ -1,0 +1,165 @@
+ghost use Rattle.std.specs.Prelude.{◌≡◌, ◌<◌, ◌≤◌, ◌+◌, ◌++◌, ℕ, List, false, length, OnOk, IfErr};
+ghost use Rattle.wsn_io.specs.Transfer.{Outgoing};
+ghost use Rattle.wsn_rules.specs.Limits.{Limits};
+ghost use Rattle.wsn_rules.specs.Entries.{Entry};
+ghost use Rattle.wsn_rules.specs.TextLines.{AreLines};
+ghost use Rattle.wsn_capture.specs.Captures.{count_of};
+ghost use Rattle.wsn_show.specs.CaptureViews.{HasShownLines, IsShowingLines, ShowsLine};
+ghost use Rattle.wsn_show.specs.Showing.{IsShown};
+ghost use Rattle.wsn_show.specs.PassedLines.{HasPrinted, HasPrintedLines, IsPrinting, StopsAtLine, StopsWithin, EndsShowing, bytes_ahead};
+
+use crate::capture_view::CaptureView;
+use crate::lines::{BEGUN_MAX, Lines};
+use std::io::{Read, Write};
+use wsn_capture::{CaptureStop, Report};
+use wsn_io::{Input, Output};
+use wsn_print::{ViewLimit, put_report};
+use wsn_rules::Limits;
+use wsn_scan::CHUNK;
+
+/// Why a capture isn't shown to its end.
+#[derive(Clone, Copy)]
+pub enum ShowStop {
+    /// The capture has no report.
+    Capture(CaptureStop),
+    /// A write failed.
+    Write,
+}
+
+/// Shows the capture on the input: prints what each line completes as soon as the line is whole, then what is left over
+/// of both streams, and the report, which it returns. It reads chunks of at most [`CHUNK`] bytes. The limits apply to
+/// each endpoint's stream separately; `view` is the most bytes of a payload that an entry shows.
+///
+/// The error `Line` is the first line that isn't accepted; what the lines before it show is printed. It is returned once
+/// the line has ended or is too long whatever follows, with at most 4,095 bytes read after that byte. `Read` is a read
+/// that failed; what every line shows that was complete by then is printed. `Write` is a write that failed: a prefix is
+/// printed of what would have been.
+#[tactic(none)]
+pub fn show<R: Read, W: Write>(
+    input: &mut Input<R>,
+    output: &mut Output<W>,
+    limits: Limits,
+    view: ViewLimit,
+) -> Result<Report, ShowStop>
+    requires readable { input.old.failed ≡ false }
+    requires writable { output.old.failed ≡ false }
+    ensures { IsShown limits view input.old input.new output.old output.new result }
+{
+    let mut capture = CaptureView::new(limits, view);
+    let mut lines = Lines::new();
+    let mut piece = [0; CHUNK];
+    loop {
+        let Some(count) = input.read(&mut piece) else {
+            return Err(ShowStop::Capture(CaptureStop::Read));
+        };
+        if count == 0 {
+            return end(&mut capture, lines.line(), output);
+        }
+        show_piece(&mut capture, &mut lines, &piece[..count], output)?;
+    }
+}
+
+/// Shows the next line.
+fn show_line<W: Write>(
+    view: &mut CaptureView,
+    line: &[u8],
+    output: &mut Output<W>,
+) -> Result<(), ShowStop>
+    requires showing { IsShowingLines view.old }
+    requires few { count_of view.old.capture ≤ 1000000 }
+    requires writable { output.old.failed ≡ false }
+    ensures shown { OnOk result ((limits : Limits) (n : ℕ) (lines : List (List ℕ)) (entries : List Entry) →
+        HasShownLines limits n view.old lines entries →
+        ShowsLine limits n view.new lines entries line.now output.old output.new) }
+    ensures writable { OnOk result (output.new.failed ≡ false) }
+    ensures stop { IfErr result (λ stop. (limits : Limits) (n : ℕ) (lines : List (List ℕ)) (entries : List Entry) →
+        HasShownLines limits n view.old lines entries →
+        StopsAtLine limits n view.new lines entries line.now output.old output.new stop) }
+    ensures count { OnOk result ((count_of view.new.capture ≡ count_of view.old.capture + 1)
+        × (count_of view.new.capture ≤ 1000000)) }
+{
+    let number = view.count() + 1;
+    if let Err(fault) = view.line(line, output) {
+        return Err(ShowStop::Capture(CaptureStop::Line { number, fault }));
+    }
+    if output.failed() {
+        return Err(ShowStop::Write);
+    }
+    Ok(())
+}
+
+/// Shows the lines that a piece of the text ends. The error `Line` is returned at the first byte at which a line isn't
+/// accepted, whatever follows.
+fn show_piece<W: Write>(
+    view: &mut CaptureView,
+    lines: &mut Lines,
+    piece: &[u8],
+    output: &mut Output<W>,
+) -> Result<(), ShowStop>
+    requires printing { IsPrinting view.old lines.old.begun.items output.old }
+    requires few { count_of view.old.capture ≤ 1000000 }
+    requires short { length lines.old.begun.items < BEGUN_MAX }
+    requires writable { output.old.failed ≡ false }
+    ensures printed { OnOk result ((limits : Limits) (n : ℕ) (first : Outgoing) (came : List ℕ) →
+        HasPrinted limits n first view.old lines.old.begun.items output.old came →
+        HasPrinted limits n first view.new lines.new.begun.items output.new (came ++ piece.now)) }
+    ensures stop { IfErr result (λ stop. (limits : Limits) (n : ℕ) (first : Outgoing) (came : List ℕ) →
+        HasPrinted limits n first view.old lines.old.begun.items output.old came →
+        StopsWithin limits n first output.new came piece.now stop) }
+    ensures few { OnOk result (count_of view.new.capture ≤ 1000000) }
+    ensures short { OnOk result (length lines.new.begun.items < BEGUN_MAX) }
+    ensures writable { OnOk result (output.new.failed ≡ false) }
+    ensures left { OnOk result (bytes_ahead view.new lines.new.begun.items + length piece.now
+        ≤ bytes_ahead view.old lines.old.begun.items) }
+{
+    let mut taken = 0;
+    while taken < piece.len() {
+        let (count, ended) = lines.take(&piece[taken..]);
+        taken += count;
+        if ended {
+            show_line(view, lines.line(), output)?;
+            lines.clear();
+        }
+    }
+    Ok(())
+}
+
+/// Shows the last line, unless it is empty, and then the end of the capture.
+fn end<W: Write>(
+    view: &mut CaptureView,
+    last: &[u8],
+    output: &mut Output<W>,
+) -> Result<Report, ShowStop>
+    requires printing { IsPrinting view.old last.now output.old }
+    requires few { count_of view.old.capture ≤ 1000000 }
+    requires writable { output.old.failed ≡ false }
+    ensures { (limits : Limits) (n : ℕ) (first : Outgoing) (came : List ℕ) →
+        HasPrinted limits n first view.old last.now output.old came →
+        EndsShowing limits n first output.new came result }
+{
+    if last.is_empty() {
+        return put_end_of_capture(view, output);
+    }
+    show_line(view, last, output)?;
+    put_end_of_capture(view, output)
+}
+
+/// Prints what is left over at the end of the capture, and the report.
+fn put_end_of_capture<W: Write>(
+    view: &CaptureView,
+    output: &mut Output<W>,
+) -> Result<Report, ShowStop>
+    requires writable { output.old.failed ≡ false }
+    ensures { (limits : Limits) (n : ℕ) (first : Outgoing) (came : List ℕ) (lines : List (List ℕ)) →
+        AreLines came lines → HasPrintedLines limits n first view.now lines output.old →
+        EndsShowing limits n first output.new came result }
+{
+    let report = view.finish(output);
+    if output.failed() {
+        return Err(ShowStop::Write);
+    }
+    match put_report(output, &report) {
+        Ok(()) => Ok(report),
+        Err(_) => Err(ShowStop::Write),
+    }
+}

@@ -1,0 +1,163 @@
+use crate::entry_context::EntryContext;
+use crate::scan_calls::next_bytes;
+use crate::stream_parts::StreamParts;
+use std::io::Write;
+use wsn_io::Output;
+use wsn_print::Remainder;
+use wsn_rules::{Limits, Refusal, Verdict};
+use wsn_scan::Scan;
+use wsn_wire::Role;
+
+/// A scan of a stream, and what is kept of the bytes that it has consumed.
+#[derive(Drop)]
+pub struct ShownScan {
+    pub scan: Scan,
+    pub parts: StreamParts,
+}
+
+impl ShownScan {
+    ghost use Rattle.std.specs.Prelude.{◌≡◌, ℕ, ◌+◌, ◌<◌, ◌≤◌, ◌^◌, ◌⊎◌, List, [], ◌++◌, length, take, drop, None, ◌≢◌};
+    ghost use Rattle.wsn_wire.specs.Frame.{Frame};
+    ghost use Rattle.wsn_wire.specs.declared.endpoint.Role.{Role};
+    ghost use Rattle.wsn_rules.specs.Limits.{Limits};
+    ghost use Rattle.wsn_rules.specs.ShownStream.{Shown};
+    ghost use Rattle.wsn_scan.specs.Scans.{HasScanned, room_of, refusal_in, ends_pending};
+    ghost use Rattle.wsn_scan.specs.Reports.{Reported};
+    ghost use Rattle.wsn_show.specs.ShownSoFar.{HasShown, HasShownAll, HasShownFrames, ShowsMore, ShowsAll, LeavesOver, IsShowing};
+    ghost use Rattle.wsn_rules.specs.Verdict.{IsVerdict};
+
+    /// A scan of no bytes.
+    #[tactic(none)]
+    pub fn new(role: Role, limits: Limits) -> ShownScan
+        ensures { HasShownAll role limits result.scan result.parts [] [] }
+    {
+        ShownScan {
+            scan: Scan::new(role, limits),
+            parts: StreamParts::new(),
+        }
+    }
+
+    /// The refusal, if the stream is refused.
+    pub fn refusal(&self) -> Option<Refusal>
+        ensures { result ≡ refusal_in self.now.scan }
+    {
+        match self.scan.finish() {
+            Verdict::Refused(refusal) => Some(refusal),
+            Verdict::Accepted(_) | Verdict::Cut(_) => None,
+        }
+    }
+
+    /// Calls the scan once, and prints what it completes. Returns the number of bytes that it consumed.
+    fn step<W: Write>(
+        &mut self,
+        piece: &mut [u8],
+        output: &mut Output<W>,
+        context: &EntryContext<'_>,
+    ) -> usize
+        requires { length piece.old ≤ room_of self.old.scan }
+        ensures within { result ≤ length piece.old }
+        ensures kept { drop result piece.new ≡ drop result piece.old }
+        ensures room { room_of self.new.scan + result ≡ room_of self.old.scan }
+        ensures shows { (role : Role) (limits : Limits) (came : List ℕ) (shown : List Shown) →
+            HasShownFrames role limits self.old.scan self.old.parts came shown →
+            ShowsMore role limits self.new.scan self.new.parts context.now output.old output.new (length piece.old)
+            (came ++ take result piece.old) shown }
+        ensures progress { (role : Role) (limits : Limits) (bytes rest : List ℕ) (fs : List Frame)
+            (reported : Reported) →
+            HasScanned role limits self.old.scan bytes fs rest reported → 0 < length piece.old →
+            (0 < result) ⊎ (ends_pending self.new.scan < ends_pending self.old.scan)
+            ⊎ (refusal_in self.new.scan ≢ None) }
+    {
+        let consumed = next_bytes(&mut self.scan, piece);
+        let count = consumed.bytes.len();
+        self.parts
+            .follow(&consumed, &piece[..count], output, context);
+        count
+    }
+
+    /// Consumes the piece, all of it or the bytes up to a refusal, and prints what it completes. Returns the number of
+    /// bytes that it consumed.
+    fn feed<W: Write>(
+        &mut self,
+        piece: &mut [u8],
+        output: &mut Output<W>,
+        context: &EntryContext<'_>,
+    ) -> usize
+        requires begun { IsShowing self.old.scan self.old.parts }
+        requires fits { length piece.old ≤ room_of self.old.scan }
+        ensures within { result ≤ length piece.old }
+        ensures kept { drop result piece.new ≡ drop result piece.old }
+        ensures shows { (role : Role) (limits : Limits) (came : List ℕ) (shown : List Shown) →
+            HasShownFrames role limits self.old.scan self.old.parts came shown →
+            ShowsAll role limits self.new.scan self.new.parts context.now output.old output.new
+            (came ++ take result piece.old) shown }
+        ensures all { refusal_in self.new.scan ≡ None → result ≡ length piece.old }
+    {
+        let mut at = 0;
+        while at < piece.len() {
+            at += self.step(&mut piece[at..], output, context);
+            if let Some(_) = self.refusal() {
+                return at;
+            }
+        }
+        // A frame's end is reported by a call of its own.
+        at + self.step(&mut piece[at..], output, context)
+    }
+
+    /// Consumes the piece and prints what it completes. Bytes after a refusal are kept, but not read.
+    pub fn take<W: Write>(
+        &mut self,
+        piece: &mut [u8],
+        output: &mut Output<W>,
+        context: &EntryContext<'_>,
+    )
+        requires begun { refusal_in self.old.scan ≡ None → IsShowing self.old.scan self.old.parts }
+        requires fits { refusal_in self.old.scan ≡ None → length piece.old ≤ room_of self.old.scan }
+        ensures { (role : Role) (limits : Limits) (came : List ℕ) (shown : List Shown) →
+            length came + length piece.old < 2 ^ 64 →
+            HasShownAll role limits self.old.scan self.old.parts came shown →
+            ShowsAll role limits self.new.scan self.new.parts context.now output.old output.new
+            (came ++ piece.old) shown }
+    {
+        match self.refusal() {
+            Some(_) => self.parts.frame.first.add(piece),
+            None => {
+                let read = self.feed(piece, output, context);
+                self.parts.frame.first.add(&piece[read..]);
+            }
+        }
+    }
+
+    /// The verdict on the bytes that came, as if the stream ended here (RFC 6455 sections 5 and 7).
+    #[tactic(none)]
+    pub fn verdict(&self) -> Verdict
+        ensures { (role : Role) (limits : Limits) (came : List ℕ) (shown : List Shown) →
+            HasShownAll role limits self.now.scan self.now.parts came shown →
+            (fs : List Frame) × IsVerdict role limits came fs result }
+    {
+        self.scan.finish()
+    }
+
+    /// Prints what is left over if the stream ends here: what isn't complete, the tail, or what wasn't read.
+    #[tactic(none)]
+    pub fn put_left_over<W: Write>(&self, output: &mut Output<W>, context: &EntryContext<'_>)
+        ensures { (role : Role) (limits : Limits) (came : List ℕ) (shown : List Shown) →
+            HasShownAll role limits self.now.scan self.now.parts came shown →
+            LeavesOver role limits came context.now output.old output.new }
+    {
+        let parts = &self.parts;
+        match self.scan.finish() {
+            Verdict::Refused(refusal) => {
+                let offset = refusal.place.saturating_add(1);
+                parts.put_remainder(output, context, Remainder::Unread, offset);
+            }
+            Verdict::Accepted(summary) => match summary.close {
+                Some(_) => {
+                    parts.put_remainder(output, context, Remainder::Tail, parts.frame.offset);
+                }
+                None => parts.put_left(output, context),
+            },
+            Verdict::Cut(_) => parts.put_left(output, context),
+        }
+    }
+}

@@ -1,0 +1,77 @@
+ghost use Rattle.std.specs.Prelude.{◌≡◌};
+
+use crate::frame_so_far::FrameSoFar;
+use crate::message_so_far::MessageSoFar;
+use wsn_rules::HeadInfo;
+
+/// What is kept of a stream, to show what comes next: the open message, and the frame that has begun.
+#[derive(Drop)]
+pub struct StreamParts {
+    pub message: MessageSoFar,
+    pub frame: FrameSoFar,
+}
+
+impl StreamParts {
+    ghost use Rattle.std.specs.Prelude.{ℕ, ◌+◌, ◌<◌, ◌^◌, List, [], ◌∷◌, ◌++◌, length};
+    ghost use Rattle.wsn_wire.specs.Frame.{Frame, stream};
+    ghost use Rattle.wsn_rules.specs.Group.{unfinished, payload_of};
+    ghost use Rattle.wsn_rules.specs.Heads.{info_of};
+    ghost use Rattle.wsn_scan.specs.ReportedFrames.{Position, BetweenFrames, InFrame};
+    ghost use Rattle.wsn_show.specs.StreamParts.{Keeps};
+
+    /// No byte has come.
+    pub fn new() -> StreamParts
+        ensures { Keeps result [] BetweenFrames [] }
+    {
+        StreamParts {
+            message: MessageSoFar::new(),
+            frame: FrameSoFar::new(),
+        }
+    }
+
+    /// More bytes of the frame come.
+    pub fn add_bytes(&mut self, bytes: &[u8])
+        ensures { (fs : List Frame) (at : Position) (rest : List ℕ) → length rest + length bytes.now < 2 ^ 64 →
+            Keeps self.old fs at rest → Keeps self.new fs at (rest ++ bytes.now) }
+    {
+        self.frame.add_bytes(bytes);
+    }
+
+    /// The frame's head is complete.
+    pub fn begin(&mut self, head: HeadInfo)
+        ensures { (fs : List Frame) (rest : List ℕ) → Keeps self.old fs BetweenFrames rest →
+            Keeps self.new fs (InFrame head []) rest }
+    {
+        self.frame.begin(head);
+        if self.frame.is_data() {
+            self.message.begin(head.op, self.frame.offset);
+        }
+    }
+
+    /// More of the frame's payload comes, unmasked.
+    pub fn add_payload(&mut self, payload: &[u8])
+        ensures { (fs : List Frame) (head : _) (part rest : List ℕ) →
+            length (payload_of (unfinished fs)) + length part + length payload.now < 2 ^ 64 →
+            Keeps self.old fs (InFrame head part) rest → Keeps self.new fs (InFrame head (part ++ payload.now)) rest }
+    {
+        self.frame.add_payload(payload);
+        if self.frame.is_data() {
+            self.message.add(payload);
+        }
+    }
+
+    /// The frame ends.
+    pub fn end(&mut self, final_frame: bool)
+        ensures { (fs : List Frame) (f : Frame) (rest : List ℕ) → f.fin ≡ final_frame →
+            length (stream (fs ++ f ∷ [])) ≡ length (stream fs) + length rest →
+            length (stream (fs ++ f ∷ [])) < 2 ^ 64 → length (unfinished fs) + 1 < 2 ^ 64 →
+            Keeps self.old fs (InFrame (info_of (length (stream fs)) f) f.payload) rest →
+            Keeps self.new (fs ++ f ∷ []) BetweenFrames [] }
+    {
+        let is_data = self.frame.is_data();
+        self.frame.end();
+        if is_data {
+            self.message.end(final_frame);
+        }
+    }
+}

@@ -1,0 +1,135 @@
+use crate::entry_context::EntryContext;
+use crate::shown_scan::ShownScan;
+use std::io::Write;
+use std::marker::Model;
+use wsn_io::Output;
+use wsn_print::ViewLimit;
+use wsn_rules::{Limits, Verdict};
+use wsn_wire::Role;
+
+/// Shows the stream that one endpoint sent, as its bytes come (RFC 6455 sections 5 and 7): prints each event with its
+/// last byte, and a refusal with the offending byte. It keeps the first bytes of the open message and of the frame that
+/// has begun, and allocates nothing.
+#[derive(Drop)]
+pub struct StreamView {
+    role: Role,
+    view: ViewLimit,
+    input: u64,
+    room: u64,
+    stream: ShownScan,
+}
+
+impl Model for StreamView {
+    ghost use Rattle.wsn_show.specs.StreamViews.{Viewed, IsViewing};
+
+    ghost Value = { Viewed };
+
+    ghost view = { λ v. record {
+      role = v.role;
+      view = v.view;
+      input = v.input;
+      room = v.room;
+      scan = v.stream.scan;
+      parts = v.stream.parts;
+    } };
+
+    ghost invariant = { λ v. IsViewing (record {
+      role = v.role;
+      view = v.view;
+      input = v.input;
+      room = v.room;
+      scan = v.stream.scan;
+      parts = v.stream.parts;
+    }) };
+}
+
+impl StreamView {
+    ghost use Rattle.std.specs.Prelude.{◌≡◌, ℕ, ◌+◌, ◌≤◌, List, [], ◌++◌, length, false, option_copied};
+    ghost use Rattle.wsn_io.specs.Transfer.{Outgoing, IsWrittenUpToFailure};
+    ghost use Rattle.wsn_wire.specs.Frame.{Frame};
+    ghost use Rattle.wsn_wire.specs.declared.endpoint.Role.{Role};
+    ghost use Rattle.wsn_rules.specs.Limits.{Limits};
+    ghost use Rattle.wsn_rules.specs.Verdict.{IsVerdict};
+    ghost use Rattle.wsn_rules.specs.ShownStream.{Item, Shown, IsShownStream, IsLeftOver};
+    ghost use Rattle.wsn_rules.specs.ShownCapture.{beyond};
+    ghost use Rattle.wsn_print.specs.ShownText.{item_lines};
+    ghost use Rattle.wsn_show.specs.StreamViews.{HasViewed};
+
+    /// A view of a stream of no bytes. `role` is the endpoint that sent the stream.
+    pub fn new(role: Role, limits: Limits, view: ViewLimit) -> StreamView
+        ensures { HasViewed role limits view result [] }
+    {
+        StreamView {
+            role,
+            view,
+            input: limits.input(),
+            room: limits.input(),
+            stream: ShownScan::new(role, limits),
+        }
+    }
+
+    /// The number of bytes that may still come: the input limit less those that came.
+    pub fn room(&self) -> u64
+        ensures { result ≡ self.now.room }
+    {
+        self.room
+    }
+
+    /// The number of bytes that came.
+    pub fn sent(&self) -> u64
+        ensures { (role : Role) (limits : Limits) (view : ℕ) (came : List ℕ) →
+            HasViewed role limits view self.now came → result ≡ length came }
+    {
+        self.input.saturating_sub(self.room)
+    }
+
+    /// The verdict on the bytes that came, as if the stream ended here (RFC 6455 sections 5 and 7).
+    #[tactic(none)]
+    pub fn verdict(&self) -> Verdict
+        ensures { (role : Role) (limits : Limits) (view : ℕ) (came : List ℕ) →
+            HasViewed role limits view self.now came → (fs : List Frame) × IsVerdict role limits came fs result }
+    {
+        self.stream.verdict()
+    }
+
+    /// Consumes bytes, at most `room` of them, and prints what they complete, up to a failed write. `time` is the time
+    /// that the capture gives, in seconds. Payload is unmasked in place. Bytes after a refusal are counted, and the
+    /// first of them kept, but they aren't read.
+    pub fn take<W: Write>(&mut self, bytes: &mut [u8], time: Option<&[u8]>, output: &mut Output<W>)
+        requires fits { length bytes.old ≤ self.old.room }
+        requires writable { output.old.failed ≡ false }
+        ensures viewed { (role : Role) (limits : Limits) (view : ℕ) (came : List ℕ) →
+            HasViewed role limits view self.old came → HasViewed role limits view self.new (came ++ bytes.old) }
+        ensures printed { (role : Role) (limits : Limits) (view : ℕ) (came : List ℕ) →
+            HasViewed role limits view self.old came → (shown : List Shown)
+            × IsShownStream role limits (came ++ bytes.old) shown
+            × IsWrittenUpToFailure output.old output.new
+            (item_lines view role (option_copied time.entry) (beyond (length came) shown)) }
+    {
+        self.room -= bytes.len() as u64;
+        let context = EntryContext {
+            role: self.role,
+            view: self.view,
+            time,
+        };
+        self.stream.take(bytes, output, &context);
+    }
+
+    /// Prints what is left over if the stream ends here, after what was printed before, up to a failed write: the open
+    /// message, the frame that has begun, the tail, or the bytes that weren't read. `time` is as for
+    /// [`take`](StreamView::take).
+    pub fn put_left_over<W: Write>(&self, time: Option<&[u8]>, output: &mut Output<W>)
+        ensures { (role : Role) (limits : Limits) (view : ℕ) (came : List ℕ) →
+            HasViewed role limits view self.now came → (left : List Item)
+            × IsLeftOver role limits came left
+            × ((before : Outgoing) (text : List ℕ) → IsWrittenUpToFailure before output.old text →
+            IsWrittenUpToFailure before output.new (text ++ item_lines view role (option_copied time.entry) left)) }
+    {
+        let context = EntryContext {
+            role: self.role,
+            view: self.view,
+            time,
+        };
+        self.stream.put_left_over(output, &context);
+    }
+}
