@@ -11,8 +11,11 @@ use std::io::{self, Read, Write};
 use std::rt::Runtime;
 use std::{fs, str};
 use wsn_capture::SideReader;
-use wsn_cli::{Escaped, How, Job, run, run_on_side, run_same, run_same_on_sides};
-use wsn_io::{BlockReader, BlockWriter, Input, Output, Stop, TiedReader, TiedWriter};
+use wsn_cli::{
+    Escaped, Hint, How, Job, hint_on_run, plan_hint_of, run, run_on_side, run_same,
+    run_same_on_sides,
+};
+use wsn_io::{BlockReader, BlockWriter, FirstBytes, Input, Output, Stop, TiedReader, TiedWriter};
 use wsn_plan::{PlanFileFault, read_plan_file};
 use wsn_rules::Limits;
 use wsn_wire::Role;
@@ -86,10 +89,25 @@ fn perform_on<R: Runtime + AllocGlobal, S: Read + Drop>(
     requires may_run { MayRun job.now }
     requires own { IsOwnSide job.now side }
 {
+    let mut first = FirstBytes::new(input);
     let mut diagnosed = OneLine::new();
-    match work(rt.alloc(), job, input, side, io::writer(rt), &mut diagnosed) {
-        Some(status) => finish(rt, &diagnosed, status),
+    let output = io::writer(rt);
+    match work(rt.alloc(), job, &mut first, side, output, &mut diagnosed) {
+        Some(status) => {
+            finish(rt, &diagnosed, status);
+            let said = diagnosed.as_slice();
+            give_hint(rt, hint_on_run(job, side, first.kept(), status, said));
+            status
+        }
         None => diagnose_stop(rt, Stop::Write),
+    }
+}
+
+/// Prints the hint on standard error, if there is one. What can't be written is dropped.
+fn give_hint<R: Eprint>(rt: &R, hint: Option<Hint>) {
+    if let Some(hint) = hint {
+        let line = hint.line();
+        let _ = eprintln!(rt; "{line}");
     }
 }
 
@@ -149,8 +167,11 @@ pub fn recut_by<R: Runtime + AllocGlobal>(
         Ok(input) => input,
         Err(status) => return status,
     };
+    let mut first = FirstBytes::new(from);
+    let steps = read_plan_file(rt.alloc(), &mut Input::new(&mut first));
+    let hint = plan_hint_of(first.kept());
     // the plan's file is closed here, before the stream is read
-    let steps = read_plan_file(rt.alloc(), &mut Input::new(from));
+    drop(first);
     match steps {
         Ok(plan) => {
             perform_on(
@@ -160,17 +181,23 @@ pub fn recut_by<R: Runtime + AllocGlobal>(
                 side,
             )
         }
-        Err(fault) => diagnose_plan(rt, plan, &fault),
+        Err(fault) => diagnose_plan(rt, plan, &fault, hint),
     }
 }
 
-/// Reports the fault of a plan's file and returns the exit status for a fault.
-fn diagnose_plan<R: Eprint>(rt: &R, plan: &Option<String>, fault: &PlanFileFault) -> u8 {
+/// Reports the fault of a plan's file, and the hint if it is a faulty line, and returns the exit status for a fault.
+fn diagnose_plan<R: Eprint>(
+    rt: &R,
+    plan: &Option<String>,
+    fault: &PlanFileFault,
+    hint: Option<Hint>,
+) -> u8 {
     match fault {
         PlanFileFault::Unread => diagnose_unread(rt, name_of(plan)),
         PlanFileFault::TooLong => diagnose(rt, "plan file too long\n"),
         PlanFileFault::Faulty(fault) => {
             let _ = eprintln!(rt; "{fault}");
+            give_hint(rt, hint);
             FAULT
         }
     }

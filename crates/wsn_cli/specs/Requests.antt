@@ -4,7 +4,7 @@ use Rattle.wsn_wire.specs.declared.endpoint.Role.{Role}
 use Rattle.wsn_rules.specs.Limits.{Limits, InRange}
 use Rattle.wsn_job.specs.Jobs.{MayRun, job_role}
 use Rattle.wsn_job.specs.declared.job.Job.{Job}
-use Rattle.wsn_job.specs.declared.job.Job.TheVariants.{Judge, Frames, Normal, Plan, Recut, Closing}
+use Rattle.wsn_job.specs.declared.job.Job.TheVariants.{Judge, Frames, Normal, Plan, Recut, ShowStream, Closing, Show}
 use Rattle.wsn_cli.specs.Inputs.{AreApart}
 use Rattle.wsn_cli.specs.declared.request.Request.{Request}
 use Rattle.wsn_cli.specs.declared.request.Request.TheVariants.{Run, RecutBy, Same, Help}
@@ -21,7 +21,9 @@ job_limits (Frames role limits) = limits
 job_limits (Normal role limits) = limits
 job_limits (Plan role limits) = limits
 job_limits (Recut role limits how) = limits
+job_limits (ShowStream role limits style) = limits
 job_limits (Closing limits) = limits
+job_limits (Show limits style) = limits
 
 -- The side of a capture that is read, if one is, is the stream that the job reads.
 abbrev pub IsOwnSide : {A : Type 0} → Job A → Option Role → Type 0

@@ -1,4 +1,4 @@
-ghost use Rattle.std.specs.Prelude.{IfOk, IfSome};
+ghost use Rattle.std.specs.Prelude.{◌≡◌, IfOk, IfSome};
 ghost use Rattle.wsn_job.specs.Jobs.{MayRun};
 ghost use Rattle.wsn_cli.specs.Requests.{AreAskedLimits, CanBeDone, job_limits};
 
@@ -7,8 +7,8 @@ use crate::escaped::Escaped;
 use crate::explain::{explanation, list_of_words};
 use crate::help;
 use crate::options::{
-    check_digits, file, file_of, limits_of, role_of, side_of, with_capture, with_file, with_limits,
-    with_role,
+    check_digits, file, file_of, limits_of, role, role_of, side_of, style_of, with_capture,
+    with_file, with_limits, with_role, with_view, with_wire,
 };
 use crate::recut_options::{recut_of, with_recuts};
 use crate::request::{Request, Usage};
@@ -16,6 +16,8 @@ use clap::error::ErrorKind;
 use clap::{Arg, ArgAction, ArgMatches, Command, Error};
 use std::alloc::{AllocError, Global};
 use wsn_job::Job;
+use wsn_rules::Limits;
+use wsn_show::Style;
 
 /// A command: its name, its help texts, and what it reads.
 struct Described {
@@ -35,12 +37,20 @@ enum Reads {
     Streams,
     /// A capture of both sides.
     Capture,
+    /// A capture of both sides, to be shown.
+    CaptureToShow,
     /// Nothing: its arguments are words to be explained.
     Words,
 }
 
 /// The commands, in the order in which help lists them.
-static COMMANDS: [Described; 8] = [
+static COMMANDS: [Described; 9] = [
+    Described {
+        name: "show",
+        about: help::SHOW,
+        details: help::SHOW_DETAILS,
+        reads: Reads::CaptureToShow,
+    },
     Described {
         name: "judge",
         about: help::JUDGE,
@@ -101,6 +111,7 @@ fn command<'a>(alloc: Global, described: &'a Described) -> Result<Command<'a>, A
         Reads::StreamToCut => with_recuts(alloc, command),
         Reads::Streams => with_streams(alloc, command),
         Reads::Capture => with_file(alloc, command),
+        Reads::CaptureToShow => with_shown(alloc, command),
         Reads::Words => return with_words(alloc, command),
     };
     with_limits(alloc, command?)
@@ -119,6 +130,13 @@ fn with_streams<'a>(alloc: Global, command: Command<'a>) -> Result<Command<'a>, 
     let command = command.arg(file(alloc, "first", "FIRST", help).required(true))?;
     let help = "The file with the second stream, or - for standard input";
     command.arg(file(alloc, "second", "SECOND", help).required(true))
+}
+
+/// Adds `--role`, which isn't required, `--view`, `--wire` and the name of a file.
+fn with_shown<'a>(alloc: Global, command: Command<'a>) -> Result<Command<'a>, AllocError> {
+    let help = "The input is no capture, but the stream that\nthis endpoint sent";
+    let command = command.arg(role(alloc, help))?;
+    with_file(alloc, with_wire(alloc, with_view(alloc, command)?)?)
 }
 
 /// Adds the words to be explained.
@@ -187,7 +205,19 @@ fn job_of(name: &str, matches: &ArgMatches<'_>) -> Option<Job>
         "normal" => Some(Job::Normal(role, limits)),
         "plan" => Some(Job::Plan(role, limits)),
         "closing" => Some(Job::Closing(limits)),
+        "show" => Some(show_of(matches, limits, style_of(matches)?)),
         _ => None,
+    }
+}
+
+/// The job of `show`: over a capture, or over the stream of the endpoint that `--role` names.
+fn show_of(matches: &ArgMatches<'_>, limits: Limits, style: Style) -> Job
+    ensures may_run { MayRun result }
+    ensures limits { job_limits result ≡ limits }
+{
+    match matches.get_str("role") {
+        Some(_) => Job::ShowStream(role_of(matches), limits, style),
+        None => Job::Show(limits, style),
     }
 }
 

@@ -7,6 +7,7 @@ mod lines;
 mod plans;
 mod reasons;
 mod reports;
+mod shown;
 mod verdicts;
 
 use std::alloc::{AllocError, Global};
@@ -28,11 +29,12 @@ struct Group {
 }
 
 /// All words, in the order in which they are listed.
-fn groups() -> [Group; 10] {
+fn groups() -> [Group; 11] {
     [
         Group::new("Verdicts", verdicts::verdict_entries()),
         Group::new("Reasons of a refusal", reasons::reason_entries()),
         Group::new("Lists of frames", frames::frame_entries()),
+        Group::new("What both sides said", shown::shown_entries()),
         Group::new("Comparisons", verdicts::comparison_entries()),
         Group::new(
             "Reports on how a connection closed",

@@ -144,6 +144,45 @@ Example: \"Hello\" in frames of two bytes; a stream rebuilt by its own plan
   $ wsn recut --role server --plan plan < normal | cmp - stream && echo the same
   the same";
 
+pub const SHOW: &str = "\
+Show what both sides of a capture said, in order, and how they closed";
+
+pub const SHOW_DETAILS: &str = "\
+Reads a capture, as closing does ('wsn help closing'), and prints what each line
+completes, as the lines come; then closing's report:
+  SIDE TIME OFFSET KIND BYTES FRAMES VIEW
+            an event, with its last byte; OFFSET is where its first frame
+            begins, KIND is text, binary, ping, pong or close, BYTES are those
+            of its payload, FRAMES the number of its frames
+  SIDE TIME OFFSET refused PLACE REASON CODE SEEN
+            a refused frame, with the offending byte, which is at offset PLACE
+            and the last of SEEN
+  SIDE TIME OFFSET unfinished KIND BYTES FRAMES lacks N VIEW
+            what has begun where the stream ends or where a Close or a refusal
+            interrupts it: its bytes so far; its last frame lacks N bytes, or -
+            if a part of the next frame's head came
+  SIDE TIME OFFSET unread N HEX
+            N bytes after a refusal
+  SIDE TIME OFFSET tail N HEX
+            N bytes after a Close
+  SIDE TIME OFFSET end
+            the direction ended after OFFSET bytes
+  # TEXT    a comment
+    SIDE    C for the client, S for the server
+    TIME    of the last comment '# SECONDS' before, such as # 0.001356; or -
+    OFFSET  in the stream of that side, from 0
+    VIEW    the first bytes of the payload: a quoted text, or hexadecimal
+            digits; of a Close its code and reason; - if there is nothing;
+            then .. if bytes are left out
+With --wire it prints frames, after SIDE and TIME as frames lists them, in place
+of events. With --role the input is one stream, without TIME; the verdict's line
+is last, and a refusal ends the reading.
+
+Example: a client says \"Hello\" in two frames, and sends half a ping
+  $ printf 'C 01830000000048656c\\nC 8082000000006c6f89\\n' | wsn show | head -n 2
+  C - 0 text 5 2 \"Hello\"
+  C - 17 unfinished head 0 0 lacks - -";
+
 pub const CLOSING: &str = "\
 Report how a connection closed, from a capture of both sides";
 
@@ -216,9 +255,12 @@ The verdict's line:
     REASON  the rule that is broken, such as mask-missing: 'wsn explain REASON'
     CODE    the close code that an endpoint would send
 
+A line 'hint: TEXT' on standard error says what an input looks like that isn't
+what the command reads, such as a pcap, and what to do. It changes no answer.
+
 Exit status:
   0  accepted; for same, equal; for plan, there is one; for recut, done; for
-     closing, clean or complete
+     closing and show, clean or complete
   1  any other verdict, answer or outcome
   2  no answer; a line on standard error says why: read failed, write failed,
      input limit (more than 2^40 bytes came), out of memory, cannot read FILE,

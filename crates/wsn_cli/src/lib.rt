@@ -3,7 +3,7 @@
 //! [`asked`] reads the words, with clap, and returns a [`Request`], or a [`Usage`] that says why there is none. A
 //! request to run holds a [`Job`], which [`run`] does over any reader and writers; [`run_same`] compares two streams.
 //! [`run_on_side`] and [`run_same_on_sides`] do so over one side of a capture. [`Escaped`] prints a word from outside so
-//! that a terminal isn't changed by it. `specs/Inputs.antt` defines which input a word names, `specs/Requests.antt` which
+//! that a terminal isn't changed by it. [`hint_on_run`] says which everyday mistake an input looks like. `specs/Inputs.antt` defines which input a word names, `specs/Requests.antt` which
 //! requests can be carried out.
 #![tactic(auto)]
 
@@ -12,11 +12,14 @@ mod error_words;
 mod escaped;
 mod explain;
 mod help;
+mod hints;
 mod options;
 mod recut_options;
 mod request;
 
 pub use command_line::asked;
 pub use escaped::Escaped;
+pub use hints::hint_on_run;
 pub use request::{Request, Usage};
+pub use wsn_hint::{Hint, capture_hint_of, hint_of, plan_hint_of};
 pub use wsn_job::{How, Job, run, run_on_side, run_same, run_same_on_sides};

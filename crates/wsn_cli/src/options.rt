@@ -2,6 +2,7 @@ ghost use Rattle.std.specs.Prelude.{◌≡◌, ◌↔◌, None, Some, IfOk, IfSo
 ghost use Rattle.clap.specs.Words.{found_of, first_value, one_text};
 ghost use Rattle.wsn_wire.specs.declared.endpoint.Role.TheVariants.{Server};
 ghost use Rattle.wsn_wire.specs.declared.length_forms.Lengths.TheVariants.{Any};
+ghost use Rattle.wsn_rules.specs.declared.detail.Detail.TheVariants.{Events};
 ghost use Rattle.wsn_cli.specs.Inputs.{IsInputNamed};
 ghost use Rattle.wsn_cli.specs.Requests.{AreAskedLimits};
 
@@ -9,12 +10,17 @@ use crate::request::Usage;
 use clap::builder::ValueParser;
 use clap::{Arg, ArgAction, ArgMatches, Command, value_parser};
 use std::alloc::{AllocError, Global};
-use wsn_rules::{INPUT_MAX, Limits, MESSAGE_MAX};
+use wsn_print::ViewLimit;
+use wsn_rules::{Detail, INPUT_MAX, Limits, MESSAGE_MAX};
+use wsn_show::Style;
 use wsn_wire::{Lengths, Role};
 
 static ROLES: [&str; 2] = ["client", "server"];
 
 static ENCODINGS: [&str; 2] = ["shortest", "any"];
+
+/// The most bytes of a payload that are shown without `--view`: so that lines fit 80 columns.
+const VIEW_DEFAULT: u16 = 48;
 
 /// An option that takes a value.
 pub fn option<'a>(alloc: Global, name: &'a str, value: &'a str, help: &'a str) -> Arg<'a> {
@@ -27,9 +33,12 @@ pub fn option<'a>(alloc: Global, name: &'a str, value: &'a str, help: &'a str) -
 
 /// Adds `--role`, which every command over streams requires.
 pub fn with_role<'a>(alloc: Global, command: Command<'a>) -> Result<Command<'a>, AllocError> {
-    let help = "The endpoint that sent the stream";
-    let role = option(alloc, "role", "client|server", help).required(true);
-    command.arg(one_of(role, &ROLES))
+    command.arg(role(alloc, "The endpoint that sent the stream").required(true))
+}
+
+/// The option `--role`, with this help.
+pub fn role<'a>(alloc: Global, help: &'a str) -> Arg<'a> {
+    one_of(option(alloc, "role", "client|server", help), &ROLES)
 }
 
 /// An option whose value is one of these words, which its value's name lists.
@@ -54,6 +63,21 @@ fn with_message_limits<'a>(alloc: Global, command: Command<'a>) -> Result<Comman
     let help = "Maximum frames of a message, 1 to 4294967295\n[default: no maximum]";
     let frames = option(alloc, "frames", "COUNT", help);
     command.arg(frames.value_parser(value_parser!(u32).range(1..)))
+}
+
+/// Adds `--view`.
+pub fn with_view<'a>(alloc: Global, command: Command<'a>) -> Result<Command<'a>, AllocError> {
+    let help = "Maximum bytes of a payload to show, 0 to 4096\n[default: 48]";
+    let view = option(alloc, "view", "BYTES", help);
+    command.arg(view.value_parser(value_parser!(u16).range(0..4_097)))
+}
+
+/// Adds `--wire`.
+pub fn with_wire<'a>(alloc: Global, command: Command<'a>) -> Result<Command<'a>, AllocError> {
+    let wire = Arg::new(alloc, "wire")
+        .long("wire")
+        .action(ArgAction::SetTrue);
+    command.arg(wire.help("Show frames, as frames lists them, in place of\nevents"))
 }
 
 /// Adds `--capture`.
@@ -140,9 +164,25 @@ pub fn limits_of(matches: &ArgMatches<'_>) -> Option<Limits>
     }
 }
 
+/// What is shown and how much of it, from `--view` and `--wire`; `None` if the number of bytes is out of range.
+pub fn style_of(matches: &ArgMatches<'_>) -> Option<Style>
+    ensures view { (one_text (found_of matches.now) (codes "view") ≡ None)
+        → IfSome result (λ style. style.view ≡ 48) }
+    ensures events { (one_text (found_of matches.now) (codes "wire") ≡ None)
+        → IfSome result (λ style. style.detail ≡ Events) }
+{
+    let view = ViewLimit::new(matches.get_one::<u16>("view").unwrap_or(VIEW_DEFAULT))?;
+    let detail = if matches.get_flag("wire") {
+        Detail::Frames
+    } else {
+        Detail::Events
+    };
+    Some(Style { view, detail })
+}
+
 /// Refuses a number with any character but digits, such as `+5`, which clap accepts.
 pub fn check_digits(matches: &ArgMatches<'_>) -> Result<(), Usage> {
-    for option in ["limit", "frames", "size"] {
+    for option in ["limit", "frames", "size", "view"] {
         let value = matches.get_str(option).unwrap_or("");
         if !value.bytes().all(|byte| byte.is_ascii_digit()) {
             return Err(Usage::Own);

@@ -4,7 +4,8 @@
 use std::alloc::{AllocError, Global};
 use std::process::Abort;
 use wsn_cli::{How, Job, Request, Usage, asked};
-use wsn_rules::Limits;
+use wsn_rules::{Detail, Limits};
+use wsn_show::Style;
 use wsn_wire::{Lengths, Role};
 
 /// Fails unless this is the answer to the words of a line, which single spaces separate.
@@ -111,7 +112,26 @@ fn job_line(alloc: Global, job: &Job) -> Result<String, AllocError> {
             let limits = limits_line(alloc, limits)?;
             format!(in alloc; "closing {limits}")
         }
+        Job::ShowStream(role, limits, style) => {
+            let stream = stream_line(alloc, "show", *role, limits)?;
+            let style = style_line(alloc, style)?;
+            format!(in alloc; "{stream}, {style}")
+        }
+        Job::Show(limits, style) => {
+            let limits = limits_line(alloc, limits)?;
+            let style = style_line(alloc, style)?;
+            format!(in alloc; "show {limits}, {style}")
+        }
     }
+}
+
+fn style_line(alloc: Global, style: &Style) -> Result<String, AllocError> {
+    let shown = match style.detail {
+        Detail::Events => "events",
+        Detail::Frames => "frames",
+    };
+    let view = style.view.bytes();
+    format!(in alloc; "{shown} view {view}")
 }
 
 fn recut_line(alloc: Global, role: Role, limits: &Limits, how: &How) -> Result<String, AllocError> {

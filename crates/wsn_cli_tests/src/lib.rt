@@ -5,6 +5,8 @@
 #[cfg(test)]
 mod answer_lines;
 #[cfg(test)]
+mod hints;
+#[cfg(test)]
 mod refusals;
 #[cfg(test)]
 mod requests;

@@ -3,7 +3,7 @@
 use crate::answer_lines::expect_answer;
 
 /// Without options each command has the greatest limits on bytes, no limit on frames, and the shortest lengths.
-static COMMANDS: [(&str, &str); 15] = [
+static COMMANDS: [(&str, &str); 16] = [
     (
         "wsn judge --role server",
         "judge server 16777216 1099511627776 - shortest",
@@ -38,6 +38,10 @@ static COMMANDS: [(&str, &str); 15] = [
     ),
     ("wsn closing", "closing 16777216 1099511627776 - shortest"),
     (
+        "wsn show",
+        "show 16777216 1099511627776 - shortest, events view 48",
+    ),
+    (
         "wsn same --role client a b",
         "same client 16777216 1099511627776 - shortest, a and b",
     ),
@@ -66,6 +70,45 @@ static COMMANDS: [(&str, &str); 15] = [
 #[test]
 fn each_command_is_asked_for_by_its_words(rt: HostRuntime) {
     for row in COMMANDS.iter() {
+        expect_answer(&rt, rt.alloc(), row.0, row.1);
+    }
+}
+
+/// The most bytes of a payload that are shown.
+static VIEWS: [(&str, &str); 7] = [
+    (
+        "wsn show --wire",
+        "show 16777216 1099511627776 - shortest, frames view 48",
+    ),
+    (
+        "wsn show --role client --wire --view 0",
+        "show client 16777216 1099511627776 - shortest, frames view 0",
+    ),
+    (
+        "wsn show --role server",
+        "show server 16777216 1099511627776 - shortest, events view 48",
+    ),
+    (
+        "wsn show --role client --view 7 file",
+        "show client 16777216 1099511627776 - shortest, events view 7, from file",
+    ),
+    (
+        "wsn show --view 0",
+        "show 16777216 1099511627776 - shortest, events view 0",
+    ),
+    (
+        "wsn show --view=4096 file",
+        "show 16777216 1099511627776 - shortest, events view 4096, from file",
+    ),
+    (
+        "wsn show --limit 5 --view 3 --lengths any -",
+        "show 5 1099511627776 - any, events view 3",
+    ),
+];
+
+#[test]
+fn views_are_asked_for(rt: HostRuntime) {
+    for row in VIEWS.iter() {
         expect_answer(&rt, rt.alloc(), row.0, row.1);
     }
 }

@@ -10,7 +10,7 @@ use Rattle.wsn_rules.proofs.EveryInput.{has_verdict}
 use Rattle.wsn_rules.proofs.Groups.{meaning-append}
 use Rattle.wsn_rules.proofs.OneVerdict.{all_of_verdict, all_go_on}
 use Rattle.wsn_scan.specs.ReportedFrames.{Position, InFrame, IsBegunBy, IsReportedOf}
-use Rattle.wsn_scan.proofs.HeadsReported.{begins_longer}
+use Rattle.wsn_rules.proofs.HeadsGoOn.{begins_longer}
 use Rattle.wsn_scan.proofs.ReaderReports.{payload_within}
 use Rattle.wsn_events.specs.declared.event_reader.EventReader.{EventReader}
 use Rattle.wsn_events.specs.EventReaders.{HasGiven, IsAtWork}

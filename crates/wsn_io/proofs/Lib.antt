@@ -1,3 +1,4 @@
+mod FirstReads
 mod Prefixes
 pub mod PutTexts
 pub mod Received

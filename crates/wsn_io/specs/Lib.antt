@@ -1,4 +1,5 @@
--- Definitions of what is received and written, of stops, and of block writers.
+-- Definitions of what is received and written, of stops, of block writers, and of the first bytes that are read.
 pub mod Transfer
 pub mod Stops
 pub mod Blocks
+pub mod FirstReads

@@ -1,7 +1,7 @@
 -- A job's run is its work, and what it says of it on standard error.
 use Rattle.std.proofs.Common.{refl}
 use Rattle.wsn_job.specs.declared.job.Job.{Job}
-use Rattle.wsn_job.specs.declared.job.Job.TheVariants.{Judge, Frames, Normal, Plan, Recut, Closing}
+use Rattle.wsn_job.specs.declared.job.Job.TheVariants.{Judge, Frames, Normal, Plan, Recut, ShowStream, Closing, Show}
 use Rattle.wsn_job.specs.declared.done.Done.{Done}
 use Rattle.wsn_job.specs.declared.done.Done.TheVariants as done
 use Rattle.wsn_job.specs.Channels.{Channels}
@@ -16,5 +16,7 @@ run_of_done (Frames role limits) before after (done.Frames answer) is said = (an
 run_of_done (Normal role limits) before after (done.Normal answer) is said = (answer, is, refl, said)
 run_of_done (Plan role limits) before after (done.Plan answer) is said = (answer, is, refl, said)
 run_of_done (Recut role limits how) before after (done.Recut answer) is said = (answer, is, refl, said)
+run_of_done (ShowStream role limits style) before after (done.ShowStream answer) is said = (answer, is, refl, said)
 run_of_done (Closing limits) before after (done.Closing answer) is said = (answer, is, refl, said)
+run_of_done (Show limits style) before after (done.Show answer) is said = (answer, is, refl, said)
 run_of_done job before after d is said = absurd is

@@ -14,13 +14,15 @@ use Rattle.wsn_capture.specs.LineFaults.{fault_word}
 use Rattle.wsn_scan.specs.Judging.{IsReached, IsJudged}
 use Rattle.wsn_scan.specs.Listing.{IsListed}
 use Rattle.wsn_events.specs.Normalised.{IsNormalised}
+use Rattle.wsn_show.specs.declared.style.Style.{Style}
+use Rattle.wsn_show.specs.StreamShows.{IsStreamShown}
 use Rattle.wsn_plan.specs.declared.planning.PlanAnswer.{PlanAnswer}
 use Rattle.wsn_plan.specs.declared.planning.PlanAnswer.TheVariants as plans
 use Rattle.wsn_plan.specs.declared.recutting.RecutAnswer.{RecutAnswer}
 use Rattle.wsn_plan.specs.Planning.{IsPlanned}
 use Rattle.wsn_plan.specs.Recutting.{Planner, IsRecut}
 use Rattle.wsn_job.specs.declared.job.Job.{Job}
-use Rattle.wsn_job.specs.declared.job.Job.TheVariants.{Judge, Frames, Normal, Plan, Recut, Closing}
+use Rattle.wsn_job.specs.declared.job.Job.TheVariants.{Judge, Frames, Normal, Plan, Recut, ShowStream, Closing, Show}
 use Rattle.wsn_job.specs.declared.done.Done.{Done}
 use Rattle.wsn_job.specs.declared.done.Done.TheVariants as done
 use Rattle.wsn_job.specs.Channels.{Channels, channels}
@@ -62,6 +64,14 @@ module _ (role : Role) (limits : Limits) (old new : Incoming) (failed : new.fail
   listed before after (Err stop.InputLimit) is = let h : new.failed ≡ false = is.answer.2 in absurd cc
   listed before after (Err stop.Memory) is = absurd is.answer
   listed before after (Err stop.Write) is = let h : new.failed ≡ false = is.answer.0 in absurd cc
+
+  stream_shown : (style : Style) (before after : Outgoing) (result : Result Verdict Stop) →
+      IsStreamShown role limits style old new before after result → result ≡ Err stop.Read
+  stream_shown style before after (Ok verdict) is = reached is.came verdict is.answer
+  stream_shown style before after (Err stop.Read) is = refl
+  stream_shown style before after (Err stop.InputLimit) is = let h : new.failed ≡ false = is.answer.2 in absurd cc
+  stream_shown style before after (Err stop.Memory) is = absurd is.answer
+  stream_shown style before after (Err stop.Write) is = let h : new.failed ≡ false = is.answer.0 in absurd cc
 
   normalised : (before after : Outgoing) (result : Result Verdict Stop) →
       IsNormalised role limits old new before after result → result ≡ Err stop.Read
@@ -117,7 +127,11 @@ run_of_failed_read {A} (Plan role limits) before after (done.Plan answer) may is
 run_of_failed_read (Recut role limits how) before after (done.Recut answer) may is failed errors said =
     let stopped = recut role limits before.input after.input failed (planned_by how) before.output after.output answer is in
     (answer, is, refl, subst (λ (a : Result RecutAnswer Stop). IsRecutDiagnosed a before.errors errors) (sym stopped) said)
+run_of_failed_read (ShowStream role limits style) before after (done.ShowStream answer) may is failed errors said =
+    let stopped = stream_shown role limits before.input after.input failed style before.output after.output answer is in
+    (answer, is, refl, subst (λ (a : Result Verdict Stop). IsStopDiagnosed a before.errors errors) (sym stopped) said)
 run_of_failed_read (Closing limits) before after d may is failed errors said = let h : false ≡ true = may.1 in absurd cc
+run_of_failed_read (Show limits style) before after d may is failed errors said = let h : false ≡ true = may.1 in absurd cc
 run_of_failed_read job before after d may is failed errors said = absurd is
 
 -- A run over a side that ended with no faulty line.

@@ -11,14 +11,14 @@ use Rattle.wsn_print.specs.FaultText.{line_fault_line}
 use Rattle.wsn_print.specs.ReportText.{report_lines}
 use Rattle.wsn_print.specs.Statuses.{outcome_status}
 use Rattle.wsn_print.specs.StopText.{stop_line}
-use Rattle.wsn_job.specs.declared.closings.ClosingStop.{ClosingStop}
-use Rattle.wsn_job.specs.declared.closings.ClosingStop.TheVariants.{Capture, Write}
+use Rattle.wsn_show.specs.declared.showing.ShowStop.{ShowStop}
+use Rattle.wsn_show.specs.declared.showing.ShowStop.TheVariants.{Capture, Write}
 use Rattle.wsn_job.specs.Channels.{Channels}
 use Rattle.wsn_job.specs.Diagnostics.{IsDiagnosed}
 
 -- The report's lines were printed; before a stop, nothing was. If a write failed, there is a report, and a prefix of
 -- its lines was printed.
-abbrev pub IsReportPrinted : Limits → Incoming → Incoming → Outgoing → Outgoing → Result Report ClosingStop → Type 0
+abbrev pub IsReportPrinted : Limits → Incoming → Incoming → Outgoing → Outgoing → Result Report ShowStop → Type 0
 IsReportPrinted limits old new before after (Ok report) =
     IsCaptureJudged limits old new (Ok report) × IsWritten before after (report_lines report)
 IsReportPrinted limits old new before after (Err (Capture stopped)) =
@@ -27,23 +27,23 @@ IsReportPrinted limits old new before after (Err Write) =
     (report : Report) × IsCaptureJudged limits old new (Ok report) × IsPartlyWritten before after (report_lines report)
 
 -- the exit status for a report or a stop: 2 for a stop
-abbrev pub closing_status : Result Report ClosingStop → ℕ
+abbrev pub closing_status : Result Report ShowStop → ℕ
 closing_status (Ok report) = outcome_status report.outcome
 closing_status (Err stopped) = 2
 
 -- the line for a stop; lines of the capture are counted from 1
-abbrev pub closing_stop_line : ClosingStop → List ℕ
+abbrev pub closing_stop_line : ShowStop → List ℕ
 closing_stop_line (Capture capture.Read) = stop_line stop.Read
 closing_stop_line (Capture (capture.Line number fault)) = line_fault_line number (fault_word fault)
 closing_stop_line Write = stop_line stop.Write
 
 -- A stop is reported in its line; for a report nothing is written to standard error.
-abbrev pub IsClosingDiagnosed : Result Report ClosingStop → Outgoing → Outgoing → Type 0
+abbrev pub IsClosingDiagnosed : Result Report ShowStop → Outgoing → Outgoing → Type 0
 IsClosingDiagnosed (Ok report) old new = new ≡ old
 IsClosingDiagnosed (Err stopped) old new = IsDiagnosed old new (closing_stop_line stopped)
 
 -- `closing`: its channels before and after, and the exit status, are of one answer.
 abbrev pub IsClosingRun : Limits → Channels → Channels → ℕ → Type 0
-IsClosingRun limits before after status = (done : Result Report ClosingStop)
+IsClosingRun limits before after status = (done : Result Report ShowStop)
     × IsReportPrinted limits before.input after.input before.output after.output done
     × (status ≡ closing_status done) × IsClosingDiagnosed done before.errors after.errors

@@ -2,26 +2,29 @@
 use Rattle.std.specs.Prelude.{ℕ, Option, None, Some}
 use Rattle.wsn_wire.specs.declared.endpoint.Role.{Role}
 use Rattle.wsn_job.specs.declared.job.Job.{Job}
-use Rattle.wsn_job.specs.declared.job.Job.TheVariants.{Judge, Frames, Normal, Plan, Recut, Closing}
+use Rattle.wsn_job.specs.declared.job.Job.TheVariants.{Judge, Frames, Normal, Plan, Recut, ShowStream, Closing, Show}
 use Rattle.wsn_job.specs.Channels.{Channels}
 use Rattle.wsn_job.specs.Verdicts.{IsJudgeRun, IsFramesRun, IsNormalRun}
 use Rattle.wsn_job.specs.Plans.{IsPlanRun}
 use Rattle.wsn_job.specs.Recuts.{IsRecutRun, MayRecut}
 use Rattle.wsn_job.specs.Closings.{IsClosingRun}
+use Rattle.wsn_job.specs.Shows.{IsShowRun, IsShowStreamRun}
 
 -- The job may be run: a recut's frames are as its role requires; other jobs have no condition.
 abbrev pub MayRun : {A : Type 0} → Job A → Type 0
 MayRun (Recut role limits how) = MayRecut role how
 MayRun job = Unit {0}
 
--- the endpoint whose stream the job reads; `closing` reads both streams
+-- the endpoint whose stream the job reads; `closing` and `show` read both streams
 abbrev pub job_role : {A : Type 0} → Job A → Option Role
 job_role (Judge role limits) = Some role
 job_role (Frames role limits) = Some role
 job_role (Normal role limits) = Some role
 job_role (Plan role limits) = Some role
 job_role (Recut role limits how) = Some role
+job_role (ShowStream role limits style) = Some role
 job_role (Closing limits) = None
+job_role (Show limits style) = None
 
 -- The job's run: its channels before and after, and the exit status, are of one answer.
 abbrev pub IsRun : {A : Type 0} → Job A → Channels → Channels → ℕ → Type 0
@@ -30,4 +33,6 @@ IsRun (Frames role limits) before after status = IsFramesRun role limits before 
 IsRun (Normal role limits) before after status = IsNormalRun role limits before after status
 IsRun {A} (Plan role limits) before after status = IsPlanRun A role limits before after status
 IsRun (Recut role limits how) before after status = IsRecutRun role limits how before after status
+IsRun (ShowStream role limits style) before after status = IsShowStreamRun role limits style before after status
 IsRun (Closing limits) before after status = IsClosingRun limits before after status
+IsRun (Show limits style) before after status = IsShowRun limits style before after status

@@ -5,7 +5,7 @@ use Rattle.wsn_print.specs.Statuses.{verdict_status}
 use Rattle.wsn_scan.specs.Listing.{IsListed}
 use Rattle.wsn_events.specs.Normalised.{IsNormalised}
 use Rattle.wsn_job.specs.declared.job.Job.{Job}
-use Rattle.wsn_job.specs.declared.job.Job.TheVariants.{Judge, Frames, Normal, Plan, Recut, Closing}
+use Rattle.wsn_job.specs.declared.job.Job.TheVariants.{Judge, Frames, Normal, Plan, Recut, ShowStream, Closing, Show}
 use Rattle.wsn_job.specs.declared.done.Done.{Done}
 use Rattle.wsn_job.specs.declared.done.Done.TheVariants as done
 use Rattle.wsn_job.specs.Diagnostics.{IsStopDiagnosed}
@@ -13,6 +13,8 @@ use Rattle.wsn_job.specs.Verdicts.{IsVerdictPrinted, IsVerdictDiagnosed}
 use Rattle.wsn_job.specs.Plans.{IsPlanPrinted, IsPlanDiagnosed, plan_status}
 use Rattle.wsn_plan.specs.Recutting.{IsRecut}
 use Rattle.wsn_job.specs.Recuts.{IsRecutDiagnosed, planned_by, recut_status}
+use Rattle.wsn_show.specs.Showing.{IsShown}
+use Rattle.wsn_show.specs.StreamShows.{IsStreamShown}
 use Rattle.wsn_job.specs.Closings.{IsReportPrinted, IsClosingDiagnosed, closing_status}
 
 -- What came from the input and what was printed are of the job's answer or stop.
@@ -24,7 +26,10 @@ IsDone (Normal role limits) old new before after (done.Normal answer) =
 IsDone (Plan role limits) old new before after (done.Plan answer) = IsPlanPrinted role limits old new before after answer
 IsDone (Recut role limits how) old new before after (done.Recut answer) =
     IsRecut role limits (planned_by how) old new before after answer
+IsDone (ShowStream role limits style) old new before after (done.ShowStream answer) =
+    IsStreamShown role limits style old new before after answer
 IsDone (Closing limits) old new before after (done.Closing answer) = IsReportPrinted limits old new before after answer
+IsDone (Show limits style) old new before after (done.Show answer) = IsShown limits style old new before after answer
 IsDone job old new before after answer = ⊥
 
 -- the exit status
@@ -34,7 +39,9 @@ done_status (done.Frames answer) = verdict_status answer
 done_status (done.Normal answer) = verdict_status answer
 done_status (done.Plan answer) = plan_status answer
 done_status (done.Recut answer) = recut_status answer
+done_status (done.ShowStream answer) = verdict_status answer
 done_status (done.Closing answer) = closing_status answer
+done_status (done.Show answer) = closing_status answer
 
 -- What is written to standard error.
 abbrev pub IsDoneDiagnosed : {A : Type 0} → Done A → Outgoing → Outgoing → Type 0
@@ -43,4 +50,6 @@ IsDoneDiagnosed (done.Frames answer) old new = IsStopDiagnosed answer old new
 IsDoneDiagnosed (done.Normal answer) old new = IsVerdictDiagnosed answer old new
 IsDoneDiagnosed (done.Plan answer) old new = IsPlanDiagnosed answer old new
 IsDoneDiagnosed (done.Recut answer) old new = IsRecutDiagnosed answer old new
+IsDoneDiagnosed (done.ShowStream answer) old new = IsStopDiagnosed answer old new
 IsDoneDiagnosed (done.Closing answer) old new = IsClosingDiagnosed answer old new
+IsDoneDiagnosed (done.Show answer) old new = IsClosingDiagnosed answer old new

@@ -8,15 +8,7 @@ use wsn_capture::{CaptureStop, Report, judge_capture};
 use wsn_io::{Input, Output, Stop};
 use wsn_print::{put_report, status_of_outcome};
 use wsn_scan::Limits;
-
-/// Why a capture's report isn't printed.
-#[derive(Clone, Copy)]
-pub(crate) enum ClosingStop {
-    /// The capture has no report.
-    Capture(CaptureStop),
-    /// A write failed.
-    Write,
-}
+use wsn_show::ShowStop;
 
 /// Prints the report of the capture on the input.
 #[tactic(none)]
@@ -24,21 +16,21 @@ pub(crate) fn print_report<R: Read, W: Write>(
     input: &mut Input<R>,
     limits: Limits,
     output: &mut Output<W>,
-) -> Result<Report, ClosingStop>
+) -> Result<Report, ShowStop>
     requires readable { input.old.failed ≡ false }
     requires writable { output.old.failed ≡ false }
     ensures { IsReportPrinted limits input.old input.new output.old output.new result }
 {
-    let report = judge_capture(input, limits).map_err(ClosingStop::Capture)?;
+    let report = judge_capture(input, limits).map_err(ShowStop::Capture)?;
     match put_report(output, &report) {
         Ok(()) => Ok(report),
-        Err(_) => Err(ClosingStop::Write),
+        Err(_) => Err(ShowStop::Write),
     }
 }
 
 /// Writes the line of a stop, if there is one, to `errors`.
 #[tactic(none)]
-pub(crate) fn diagnose_closing<E: Write>(done: Result<Report, ClosingStop>, errors: &mut Output<E>)
+pub(crate) fn diagnose_closing<E: Write>(done: Result<Report, ShowStop>, errors: &mut Output<E>)
     ensures { IsClosingDiagnosed done errors.old errors.new }
 {
     if let Err(stop) = done {
@@ -48,20 +40,20 @@ pub(crate) fn diagnose_closing<E: Write>(done: Result<Report, ClosingStop>, erro
 
 /// Writes the line of a stop to `errors`.
 #[tactic(none)]
-fn diagnose_closing_stop<E: Write>(errors: &mut Output<E>, stop: ClosingStop)
+fn diagnose_closing_stop<E: Write>(errors: &mut Output<E>, stop: ShowStop)
     ensures { IsDiagnosed errors.old errors.new (closing_stop_line stop) }
 {
     match stop {
-        ClosingStop::Capture(CaptureStop::Read) => diagnose_stop(errors, Stop::Read),
-        ClosingStop::Capture(CaptureStop::Line { number, fault }) => {
+        ShowStop::Capture(CaptureStop::Read) => diagnose_stop(errors, Stop::Read),
+        ShowStop::Capture(CaptureStop::Line { number, fault }) => {
             diagnose_line_fault(errors, number, fault);
         }
-        ClosingStop::Write => diagnose_stop(errors, Stop::Write),
+        ShowStop::Write => diagnose_stop(errors, Stop::Write),
     }
 }
 
 /// The exit status for a report or a stop.
-pub(crate) fn status(done: Result<Report, ClosingStop>) -> u8
+pub(crate) fn status(done: Result<Report, ShowStop>) -> u8
     ensures { result ≡ closing_status done }
 {
     match done {

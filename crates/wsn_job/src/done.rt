@@ -1,7 +1,6 @@
-use crate::closings::{self, ClosingStop};
 use crate::diagnostics::diagnose_if_stopped;
 use crate::verdicts::diagnose_unless_accepted;
-use crate::{plans, recuts};
+use crate::{closings, plans, recuts};
 use std::alloc::Allocator;
 use std::io::Write;
 use wsn_capture::Report;
@@ -9,6 +8,7 @@ use wsn_io::{Output, Stop};
 use wsn_plan::{PlanAnswer, RecutAnswer};
 use wsn_print::status_of_verdict;
 use wsn_rules::Verdict;
+use wsn_show::ShowStop;
 
 /// What a job's work came to: its answer, or the stop that ended it. Nothing of it is on standard error yet.
 #[derive(Drop)]
@@ -18,7 +18,9 @@ pub(crate) enum Done<A: Allocator> {
     Normal(Result<Verdict, Stop>),
     Plan(Result<PlanAnswer<A>, Stop>),
     Recut(Result<RecutAnswer, Stop>),
-    Closing(Result<Report, ClosingStop>),
+    ShowStream(Result<Verdict, Stop>),
+    Closing(Result<Report, ShowStop>),
+    Show(Result<Report, ShowStop>),
 }
 
 impl<A: Allocator> Done<A> {
@@ -31,11 +33,15 @@ impl<A: Allocator> Done<A> {
         ensures { IsDoneDiagnosed self.now errors.old errors.new }
     {
         match self {
-            Done::Judge(done) | Done::Frames(done) => diagnose_if_stopped(*done, errors),
+            Done::Judge(done) | Done::Frames(done) | Done::ShowStream(done) => {
+                diagnose_if_stopped(*done, errors);
+            }
             Done::Normal(done) => diagnose_unless_accepted(*done, errors),
             Done::Plan(done) => plans::diagnose_answer(done, errors),
             Done::Recut(done) => recuts::diagnose_answer(*done, errors),
-            Done::Closing(done) => closings::diagnose_closing(*done, errors),
+            Done::Closing(done) | Done::Show(done) => {
+                closings::diagnose_closing(*done, errors);
+            }
         }
     }
 
@@ -45,10 +51,11 @@ impl<A: Allocator> Done<A> {
         ensures { result ≡ done_status self.now }
     {
         match self {
-            Done::Judge(done) | Done::Frames(done) | Done::Normal(done) => status_of_verdict(*done),
+            Done::Judge(done) | Done::Frames(done) | Done::Normal(done) | Done::ShowStream(done) =>
+                status_of_verdict(*done),
             Done::Plan(done) => plans::status(done),
             Done::Recut(done) => recuts::status(*done),
-            Done::Closing(done) => closings::status(*done),
+            Done::Closing(done) | Done::Show(done) => closings::status(*done),
         }
     }
 }

@@ -6,6 +6,7 @@ ghost use Rattle.wsn_job.specs.declared.job.How.TheVariants.{BySize};
 use std::alloc::{Allocator, Global};
 use wsn_plan::Plan;
 use wsn_scan::Limits;
+use wsn_show::Style;
 use wsn_wire::Role;
 
 /// The work of one command over one input.
@@ -23,12 +24,16 @@ pub enum Job<A: Allocator = Global> {
     Recut(Role, Limits, How<A>),
     /// Print how the connection closed, from a capture of both sides.
     Closing(Limits),
+    /// Print what the stream that this endpoint sent says, in order and in this style, and then the verdict.
+    ShowStream(Role, Limits, Style),
+    /// Print what both sides of a capture said, in order and in this style, and how the connection closed.
+    Show(Limits, Style),
 }
 
 impl<A: Allocator> Job<A> {
     ghost use Rattle.wsn_job.specs.Jobs.{job_role};
 
-    /// The endpoint whose stream the job reads. `None` for `Closing`, which reads the streams of both.
+    /// The endpoint whose stream the job reads. `None` for `Closing` and `Show`, which read the streams of both.
     #[tactic(none)]
     pub fn role(&self) -> Option<Role>
         ensures { result ≡ job_role self.now }
@@ -38,8 +43,9 @@ impl<A: Allocator> Job<A> {
             | Job::Frames(role, _)
             | Job::Normal(role, _)
             | Job::Plan(role, _)
-            | Job::Recut(role, _, _) => Some(*role),
-            Job::Closing(_) => None,
+            | Job::Recut(role, _, _)
+            | Job::ShowStream(role, _, _) => Some(*role),
+            Job::Closing(_) | Job::Show(_, _) => None,
         }
     }
 }

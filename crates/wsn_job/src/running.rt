@@ -13,6 +13,7 @@ use std::alloc::Allocator;
 use std::io::{Read, Write};
 use wsn_events::normalise;
 use wsn_scan::list;
+use wsn_show::{show, show_stream};
 use wsn_wire::{Input, Output};
 
 /// Does a command's work and returns the program's exit status.
@@ -70,6 +71,10 @@ pub(crate) fn work<A: Allocator + Copy, R: Read, W: Write>(
         Job::Recut(role, limits, how) => {
             Done::Recut(recut_input(alloc, input, *role, *limits, how, output))
         }
+        Job::ShowStream(role, limits, style) => {
+            Done::ShowStream(show_stream(input, output, *role, *limits, *style))
+        }
         Job::Closing(limits) => Done::Closing(print_report(input, *limits, output)),
+        Job::Show(limits, style) => Done::Show(show(input, output, *limits, *style)),
     }
 }

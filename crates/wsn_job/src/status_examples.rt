@@ -13,8 +13,8 @@ ghost use Rattle.wsn_plan.specs.declared.planning.PlanAnswer.TheVariants as plan
 ghost use Rattle.wsn_plan.specs.declared.recutting.RecutAnswer.TheVariants.{Done, NotAccepted, Fault};
 ghost use Rattle.wsn_capture.specs.declared.line_fault.LineFault.TheVariants.{TooManyLines, AfterEnd};
 ghost use Rattle.wsn_capture.specs.declared.capture_stop.CaptureStop.TheVariants.{Read, Line};
-ghost use Rattle.wsn_job.specs.declared.closings.ClosingStop.{ClosingStop};
-ghost use Rattle.wsn_job.specs.declared.closings.ClosingStop.TheVariants.{Capture, Write};
+ghost use Rattle.wsn_show.specs.declared.showing.ShowStop.{ShowStop};
+ghost use Rattle.wsn_show.specs.declared.showing.ShowStop.TheVariants.{Capture, Write};
 ghost use Rattle.wsn_job.specs.Plans.{plan_status};
 ghost use Rattle.wsn_job.specs.Recuts.{recut_status};
 ghost use Rattle.wsn_job.specs.Closings.{closing_status, closing_stop_line};
@@ -43,7 +43,7 @@ pub fn of_closings()
     ensures abnormal { (r : Report) → closing_status (Ok (record r { outcome = Abnormal })) ≡ 1 }
     ensures half { (r : Report) → closing_status (Ok (record r { outcome = Half })) ≡ 1 }
     ensures open_streams { (r : Report) → closing_status (Ok (record r { outcome = Live })) ≡ 1 }
-    ensures stop { (stopped : ClosingStop) → closing_status (Err stopped) ≡ 2 }
+    ensures stop { (stopped : ShowStop) → closing_status (Err stopped) ≡ 2 }
 {}
 
 /// The lines of a capture's stops.

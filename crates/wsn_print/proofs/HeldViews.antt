@@ -43,7 +43,7 @@ shown_part n all held holds =
     let few : utf8_valid_len (take n all) ≤ n = omega (arith, utf8_valid_len_le (take n all), length-take n all) in
     ap (λ (bytes : List ℕ). take (utf8_valid_len bytes) bytes) (take_held n all held holds) ∙ take-take (utf8_valid_len (take n all)) n all few
 
-shown_size : (n : ℕ) (all : List ℕ) → length (take (text_part n all) all) ≡ text_part n all
+pub shown_size : (n : ℕ) (all : List ℕ) → length (take (text_part n all) all) ≡ text_part n all
 shown_size n all =
     let few : utf8_valid_len (take n all) ≤ length all = omega (arith, utf8_valid_len_le (take n all), length-take n all) in
     length-take-le (utf8_valid_len (take n all)) all few
@@ -96,7 +96,7 @@ all_digits bytes next done n is =
     ∙ sym (encode_append lower_digits (take (done + length next) bytes) (drop (done + length next) bytes))
     ∙ ap encode_lower (take-append-drop (done + length next) bytes)
 
-not_zero : (n : ℕ) → n ≢ 0 → (n == 0) ≡ false
+pub not_zero : (n : ℕ) → n ≢ 0 → (n == 0) ≡ false
 not_zero n some = grind (arith, nat_tests)
 
 pub hex_view_is : (n : ℕ) (all : List ℕ) → n ≢ 0 → hex_text (take (n / 2) all) ++ left_out (n / 2) (length all) ≡ hex_view n all

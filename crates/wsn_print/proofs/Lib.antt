@@ -6,3 +6,5 @@ pub mod JsonTexts
 pub mod VisibleTexts
 pub mod PlainTexts
 pub mod VisibleLines
+pub mod Appended
+pub mod ObjectPieces

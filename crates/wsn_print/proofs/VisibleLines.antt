@@ -17,13 +17,17 @@ use Rattle.wsn_wire.specs.declared.opcode.Op.{Op}
 use Rattle.wsn_wire.specs.declared.opcode.Op.TheVariants as ops
 use Rattle.wsn_wire.specs.declared.refusal.Reason.{Reason}
 use Rattle.wsn_wire.specs.declared.refusal.Reason.TheVariants as reasons
-use Rattle.wsn_wire.specs.Frame.{IsBytes}
+use Rattle.wsn_wire.specs.declared.length_forms.Form.{Form}
+use Rattle.wsn_wire.specs.declared.length_forms.Form.TheVariants as forms
+use Rattle.wsn_wire.specs.Frame.{IsBytes, key_bytes}
 use Rattle.wsn_wire.specs.Refusal.{word_of, code_of}
+use Rattle.wsn_rules.specs.declared.head_info.HeadInfo.{HeadInfo}
 use Rattle.wsn_rules.specs.declared.verdict.Refusal.{Refusal}
 use Rattle.wsn_rules.specs.Meaning.{MeantEvent, Message, Control}
 use Rattle.wsn_rules.specs.ShownStream.{Item}
-use Rattle.wsn_rules.specs.ShownStream.Item.{Event, Unfinished, UnfinishedHead, RefusedFrame, Unread, Tail}
-use Rattle.wsn_print.specs.Fields.{number_text, refusal_text, op_word}
+use Rattle.wsn_rules.specs.ShownStream.Item.{Event, Head, Unfinished, UnfinishedHead, RefusedFrame, Unread, Tail}
+use Rattle.wsn_print.specs.Fields.{number_text, refusal_text, fin_word, op_word, key_text, form_text}
+use Rattle.wsn_print.specs.HeadText.{head_fields}
 use Rattle.wsn_print.specs.ShownText.{is_from, quoted, left_out, text_part, text_view, hex_text, hex_view, end_view, is_printable, body_view, reason_text, close_view, event_view, unfinished_view, event_word, event_size, event_text, role_letter, time_text, front_text, offset_of, item_text, item_line, end_line, comment_line, comment_text}
 use Rattle.wsn_print.specs.ShownParts.{HasTextReason}
 use Rattle.wsn_print.specs.QuotedTexts.{IsAllVisible, bytes_in, payload_in, ShowsTextReason, IsVisibleLine}
@@ -212,8 +216,27 @@ unfinished_seen n (Control op body) fits = hex_seen n body fits
 fields : (event : MeantEvent) (frames : ℕ) → Seen (event_text event frames)
 fields event frames = seen_word event ⊕ space ⊕ number (event_size event) ⊕ space ⊕ number frames
 
+last_or_not : (fin : Bool) → Seen (fin_word fin)
+last_or_not true = word (codes "fin") refl
+last_or_not false = word (codes "more") refl
+
+key_seen : (key : Option (List ℕ)) → IsBytes (key_bytes key) → Seen (key_text key)
+key_seen None fits = word (codes "-") refl
+key_seen (Some key) fits = hex key fits
+
+form_seen : (form : Form) → Seen (form_text form)
+form_seen forms.Shortest = word [] refl
+form_seen forms.Two = word (codes " two") refl
+form_seen forms.Eight = word (codes " eight") refl
+
+head : (info : HeadInfo) → IsBytes (key_bytes info.key) → Seen (head_fields info)
+head info fits =
+    last_or_not info.fin ⊕ space ⊕ word (op_word info.op) (opcode_word info.op) ⊕ space ⊕ key_seen info.key fits ⊕ space ⊕ number info.len
+    ⊕ form_seen info.form
+
 item : (n : ℕ) (item : Item) → IsBytes (bytes_in item) → ShowsTextReason item → Seen (item_text n item)
 item n (Event offset event frames) fits reason = fields event frames ⊕ space ⊕ event_seen n event fits reason
+item n (Head info) fits reason = head info fits
 item n (Unfinished offset event frames lacks) fits reason =
     word (codes "unfinished ") refl ⊕ fields event frames ⊕ word (codes " lacks ") refl ⊕ number_or_dash lacks ⊕ space
     ⊕ unfinished_seen n event fits

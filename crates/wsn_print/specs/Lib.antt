@@ -7,8 +7,12 @@ pub mod ComparisonText
 pub mod FaultText
 pub mod StopText
 pub mod Statuses
+pub mod Json
+pub mod Objects
 pub mod ShownText
+pub mod ShownObjects
 pub mod ShownParts
+pub mod Formats
 pub mod QuotedTexts
 -- for the examples
 pub mod Examples

@@ -4,9 +4,10 @@ use Rattle.std.specs.Char.{encode_utf8}
 use Rattle.std.specs.List.{AllByRecursion}
 use Rattle.std.specs.Str.{chars, IsUtf8}
 use Rattle.hex.specs.Hex.{decode_of}
+use Rattle.wsn_wire.specs.Frame.{key_bytes}
 use Rattle.wsn_rules.specs.Meaning.{MeantEvent, Message, Control}
 use Rattle.wsn_rules.specs.ShownStream.{Item}
-use Rattle.wsn_rules.specs.ShownStream.Item.{Event, Unfinished, UnfinishedHead, RefusedFrame, Unread, Tail}
+use Rattle.wsn_rules.specs.ShownStream.Item.{Event, Head, Unfinished, UnfinishedHead, RefusedFrame, Unread, Tail}
 use Rattle.wsn_print.specs.ShownText.{is_hidden}
 use Rattle.wsn_print.specs.ShownParts.{HasTextReason}
 
@@ -68,6 +69,7 @@ payload_in (Control op body) = body
 -- The bytes of which an item shows a part.
 abbrev pub bytes_in : Item → List ℕ
 bytes_in (Event offset event frames) = payload_in event
+bytes_in (Head info) = key_bytes info.key
 bytes_in (Unfinished offset event frames lacks) = payload_in event
 bytes_in (UnfinishedHead offset) = []
 bytes_in (RefusedFrame offset refusal evidence) = evidence

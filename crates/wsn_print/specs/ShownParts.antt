@@ -8,14 +8,24 @@ use Rattle.wsn_rules.specs.Meaning.{MeantEvent, Message, Control}
 use Rattle.wsn_rules.specs.ShownStream.{Item}
 use Rattle.wsn_rules.specs.ShownStream.Item.{Unread, Tail}
 use Rattle.wsn_print.specs.declared.shown.Front.{Front}
+use Rattle.wsn_print.specs.declared.shown.Origin.{Origin}
+use Rattle.wsn_print.specs.declared.shown.Origin.TheVariants as origins
 use Rattle.wsn_print.specs.declared.shown.ShownEvent.{ShownEvent}
 use Rattle.wsn_print.specs.declared.shown.HeldBytes.{HeldBytes}
 use Rattle.wsn_print.specs.declared.shown.Remainder.{Remainder}
 use Rattle.wsn_print.specs.declared.shown.Remainder.TheVariants as remainders
+use Rattle.wsn_print.specs.ShownObjects.{Position}
+use Rattle.wsn_print.specs.ShownObjects.Position.{InLine, AtEnd, InStream}
 
 -- The time in front of an entry.
 abbrev pub time_of : Front → Option (List ℕ)
 time_of front = option_copied front.time
+
+-- Where an entry is.
+abbrev pub position_of : Origin → Position
+position_of (origins.Line number time) = InLine number (option_copied time)
+position_of origins.End = AtEnd
+position_of origins.Stream = InStream
 
 -- The first bytes are held: all, or at least `least` of them.
 abbrev pub HoldsFirst : ℕ → List ℕ → List ℕ → Type 0

@@ -13,10 +13,11 @@ use Rattle.wsn_wire.specs.declared.opcode.Op.TheVariants as ops
 use Rattle.wsn_rules.specs.declared.report.Report.{Report}
 use Rattle.wsn_rules.specs.Meaning.{MeantEvent, Message, Control}
 use Rattle.wsn_rules.specs.ShownStream.{Item}
-use Rattle.wsn_rules.specs.ShownStream.Item.{Event, Unfinished, UnfinishedHead, RefusedFrame, Unread, Tail}
+use Rattle.wsn_rules.specs.ShownStream.Item.{Event, Head, Unfinished, UnfinishedHead, RefusedFrame, Unread, Tail}
 use Rattle.wsn_rules.specs.ShownCapture.{LineItem, ShownLine}
 use Rattle.wsn_rules.specs.ShownCapture.LineItem.{OfStream, End, Comment}
 use Rattle.wsn_print.specs.Fields.{number_text, refusal_text, op_word}
+use Rattle.wsn_print.specs.HeadText.{head_fields}
 use Rattle.wsn_print.specs.ReportText.{report_lines}
 
 -- ---- characters
@@ -164,6 +165,7 @@ bytes_text n word bytes = word ++ codes " " ++ decimal (length bytes) ++ codes "
 -- An item's own offset.
 abbrev pub offset_of : Item → ℕ
 offset_of (Event offset event frames) = offset
+offset_of (Head info) = info.place
 offset_of (Unfinished offset event frames lacks) = offset
 offset_of (UnfinishedHead offset) = offset
 offset_of (RefusedFrame offset refusal evidence) = offset
@@ -173,6 +175,7 @@ offset_of (Tail offset bytes) = offset
 -- An item, with views of at most n bytes.
 abbrev pub item_text : ℕ → Item → List ℕ
 item_text n (Event offset event frames) = event_text event frames ++ codes " " ++ event_view n event
+item_text n (Head info) = head_fields info
 item_text n (Unfinished offset event frames lacks) =
     codes "unfinished " ++ event_text event frames ++ codes " lacks " ++ number_text lacks ++ codes " "
     ++ unfinished_view n event

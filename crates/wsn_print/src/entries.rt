@@ -1,18 +1,19 @@
 ghost use Rattle.std.specs.Prelude.{◌≡◌, ℕ, ◌+◌, ◌/◌, ◌≤◌, ◌++◌, false, List, codes, decimal, length};
 ghost use Rattle.wsn_io.specs.Stops.{IsWrittenOrStops};
 ghost use Rattle.wsn_rules.specs.Meaning.{MeantEvent};
-ghost use Rattle.wsn_rules.specs.ShownStream.Item.{Event, Unfinished, UnfinishedHead, RefusedFrame};
+ghost use Rattle.wsn_rules.specs.ShownStream.Item.{Event, Head, Unfinished, UnfinishedHead, RefusedFrame};
 ghost use Rattle.wsn_print.specs.Fields.{number_text, refusal_text};
+ghost use Rattle.wsn_print.specs.HeadText.{head_fields};
 ghost use Rattle.wsn_print.specs.ShownText.{item_line, end_line, front_text, event_text, role_letter, time_text};
 ghost use Rattle.wsn_print.specs.ShownParts.{time_of, Represents, HasTextReason, IsFrontOf, IsEndOf, item_of_remainder, remainder_word};
 
-use crate::heads::op_word;
+use crate::heads::{op_word, push_fields};
 use crate::line::Line;
 use crate::shown::{Front, HeldBytes, Remainder, ShownEvent, ViewLimit};
 use crate::views::{put_end_view, put_event_view, put_hex_view, put_unfinished_view};
 use std::io::Write;
 use wsn_io::{Output, Stop, put_line};
-use wsn_rules::Refusal;
+use wsn_rules::{HeadInfo, Refusal};
 use wsn_wire::Role;
 
 /// The maximum length in bytes of an offset and two spaces, with a number of twenty digits.
@@ -20,6 +21,9 @@ const OFFSET_MAX: usize = 22;
 
 /// The maximum length in bytes of the fields of an event, with two numbers of twenty digits.
 const EVENT_MAX: usize = 49;
+
+/// The maximum length in bytes of the fields of a head, with a number of twenty digits, and an LF.
+const FIELDS_MAX: usize = 48;
 
 /// The maximum length in bytes of the fields of an event that isn't complete, with three numbers of twenty digits.
 const UNFINISHED_MAX: usize = 88;
@@ -47,6 +51,23 @@ pub fn put_event<W: Write>(
     put_line(to, line_of_event(event).bytes())?;
     put_event_view(to, view, event)?;
     put_line(to, b"\n")
+}
+
+/// Writes the line of a frame, such as `C - 0 fin text 37fa213d 5`: its front, with the frame's offset, and the fields
+/// of its head. The head's own `place` isn't printed. `Stop::Write` if the writer fails: a prefix of the line was
+/// written.
+#[tactic(none)]
+pub fn put_frame<W: Write>(
+    to: &mut Output<W>,
+    front: &Front<'_>,
+    head: &HeadInfo,
+) -> Result<(), Stop>
+    requires { to.old.failed ≡ false }
+    ensures { (n : ℕ) → IsWrittenOrStops to.old to.new (item_line n front.now.role (time_of front.now)
+        (Head (record head.now { place = front.now.offset }))) result }
+{
+    put_front(to, front)?;
+    put_line(to, line_of_fields(head).bytes())
 }
 
 /// Writes the line of an event that isn't complete, such as `S - 17 unfinished binary 56 1 lacks 144 00ff00ff ..`: as
@@ -187,6 +208,16 @@ fn line_of_event(event: &ShownEvent<'_>) -> Line<EVENT_MAX>
 }
 
 #[tactic(none)]
+fn line_of_fields(head: &HeadInfo) -> Line<FIELDS_MAX>
+    ensures { result ≡ head_fields head.now ++ codes "\n" }
+{
+    let mut line = Line::new();
+    push_fields(&mut line, head);
+    line.push("\n");
+    line
+}
+
+#[tactic(none)]
 fn line_of_unfinished_event(event: &ShownEvent<'_>, lacks: Option<u64>) -> Line<UNFINISHED_MAX>
     ensures { (n : ℕ) (e : MeantEvent) → Represents n event.now e →
         result ≡ codes "unfinished " ++ event_text e event.now.frames ++ codes " lacks " ++ number_text lacks
@@ -237,8 +268,9 @@ fn line_of_remainder(which: Remainder, bytes: u64) -> Line<REMAINDER_MAX>
     line
 }
 
+/// The word for bytes that belong to no frame.
 #[tactic(none)]
-fn remainder_word(which: Remainder) -> &'static str
+pub(crate) fn remainder_word(which: Remainder) -> &'static str
     ensures word { result.now ≡ remainder_word which }
     ensures short { length result.now ≤ 6 }
 {

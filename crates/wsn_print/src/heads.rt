@@ -1,7 +1,7 @@
-ghost use Rattle.std.specs.Prelude.{◌≡◌, ◌≤◌, false, length};
+ghost use Rattle.std.specs.Prelude.{◌≡◌, ◌+◌, ◌≤◌, ◌++◌, false, length};
 ghost use Rattle.wsn_io.specs.Stops.{IsWrittenOrStops};
 ghost use Rattle.wsn_print.specs.Fields.{fin_word, op_word};
-ghost use Rattle.wsn_print.specs.HeadText.{head_line};
+ghost use Rattle.wsn_print.specs.HeadText.{head_fields, head_line};
 
 use crate::line::Line;
 use std::io::Write;
@@ -29,6 +29,18 @@ fn line_of_head(head: &HeadInfo) -> Line<HEAD_LINE_MAX>
     let mut line = Line::new();
     line.push_number(head.place);
     line.push(" ");
+    push_fields(&mut line, head);
+    line.push("\n");
+    line
+}
+
+/// Appends the fields of a head, at most 47 bytes.
+#[tactic(none)]
+pub(crate) fn push_fields<const MAX: usize>(line: &mut Line<MAX>, head: &HeadInfo)
+    requires { length line.old + 47 ≤ MAX }
+    ensures text { line.new ≡ line.old ++ head_fields head.now }
+    ensures len { length line.new ≤ length line.old + 47 }
+{
     line.push(fin_word(head.fin));
     line.push(" ");
     line.push(op_word(head.op));
@@ -37,8 +49,6 @@ fn line_of_head(head: &HeadInfo) -> Line<HEAD_LINE_MAX>
     line.push(" ");
     line.push_number(head.len);
     line.push_form(head.form);
-    line.push("\n");
-    line
 }
 
 fn fin_word(fin: bool) -> &'static str

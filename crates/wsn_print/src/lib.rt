@@ -5,28 +5,40 @@
 //! comparison, and [`put_report`] the seven lines of a report. The lines of faults and stops are built as a [`Line`], a
 //! text in a fixed array. The `status_of_..` functions return the exit status of an answer. Nothing here allocates.
 //!
-//! Of what is shown, [`put_event`] writes the line of a complete event, [`put_unfinished`] and [`put_unfinished_head`]
-//! that of what isn't complete, [`put_refused`] that of a refusal, [`put_remainder`] that of bytes in no frame,
-//! [`put_end`] that of an end mark and [`put_comment`] that of a comment. They take only the part of a payload that a
-//! [`ViewLimit`] shows.
+//! Of what is shown, [`put_event`] writes the line of a complete event, [`put_frame`] that of a frame,
+//! [`put_unfinished`] and [`put_unfinished_head`] that of what isn't complete, [`put_refused`] that of a refusal,
+//! [`put_remainder`] that of bytes in no frame, [`put_end`] that of an end mark and [`put_comment`] that of a comment.
+//! They take only the part of a payload that a [`ViewLimit`] shows.
+//!
+//! Each answer and each entry can also be a JSON object in one line: `put_.._object` writes it, and [`put_verdict_as`],
+//! [`put_head_as`], [`put_report_as`] and [`put_compared_as`] write an answer in a [`Format`]. An [`EntryFront`] says
+//! where an entry is.
 //!
 //! `specs/Fields.antt` defines the fields of lines; `VerdictText`, `HeadText`, `ReportText`, `ComparisonText`,
-//! `FaultText`, `StopText` and `ShownText` define the lines, and `Statuses` the exit statuses. `ShownParts` says what
-//! the arguments of the functions that show an entry stand for, `QuotedTexts` what a quoted text is ([`quoted_laws`]).
-//! [`printed_lines`] and [`printed_entries`] have examples of printed lines, computed from the definitions.
+//! `FaultText`, `StopText` and `ShownText` define the lines, `Json`, `Objects` and `ShownObjects` the objects, `Formats`
+//! the texts in each format, and `Statuses` the exit statuses. `ShownParts` says what the arguments of the functions
+//! that show an entry stand for, `QuotedTexts` what a quoted text is ([`quoted_laws`]).
+//! [`printed_lines`], [`printed_entries`] and [`printed_objects`] have examples of printed lines, computed from the
+//! definitions.
 #![tactic(auto)]
 
 mod comparisons;
 mod entries;
 mod faults;
+mod format;
 mod heads;
+mod json;
 mod line;
+mod object_views;
+mod objects;
 pub mod printed_entries;
 pub mod printed_lines;
+pub mod printed_objects;
 mod quoted;
 pub mod quoted_laws;
 mod reports;
 mod shown;
+mod shown_objects;
 mod statuses;
 mod stops;
 mod verdicts;
@@ -34,14 +46,20 @@ mod views;
 
 pub use comparisons::put_compared;
 pub use entries::{
-    put_end, put_event, put_refused, put_remainder, put_unfinished, put_unfinished_head,
+    put_end, put_event, put_frame, put_refused, put_remainder, put_unfinished, put_unfinished_head,
 };
 pub use faults::{line_of_line_fault, line_of_recut_fault, line_of_unfinished};
+pub use format::{Format, put_compared_as, put_head_as, put_report_as, put_verdict_as};
 pub use heads::put_head;
 pub use line::Line;
+pub use objects::{put_compared_object, put_frame_object, put_report_object, put_verdict_object};
 pub use quoted::put_comment;
 pub use reports::put_report;
-pub use shown::{Front, HeldBytes, Remainder, ShownEvent, VIEW_MAX, ViewLimit};
+pub use shown::{EntryFront, Front, HeldBytes, Origin, Remainder, ShownEvent, VIEW_MAX, ViewLimit};
+pub use shown_objects::{
+    put_comment_object, put_end_object, put_event_object, put_refused_object, put_remainder_object,
+    put_shown_frame_object, put_unfinished_head_object, put_unfinished_object,
+};
 pub use statuses::{status_of_comparison, status_of_outcome, status_of_verdict};
 pub use stops::line_of_stop;
 pub use verdicts::put_verdict;

@@ -1,14 +1,15 @@
 //! Examples of the printed lines of `show`, computed from the definitions in `specs/ShownText.antt`.
 
-ghost use Rattle.std.specs.Prelude.{◌≡◌, None, Some, [], ◌∷◌, ◌++◌, codes, replicate};
+ghost use Rattle.std.specs.Prelude.{◌≡◌, true, false, None, Some, [], ◌∷◌, ◌++◌, codes, replicate};
 ghost use Rattle.wsn_wire.specs.declared.endpoint.Role.TheVariants.{Client, Server};
 ghost use Rattle.wsn_wire.specs.declared.opcode.Kind.TheVariants as kind;
-ghost use Rattle.wsn_wire.specs.declared.opcode.Op.TheVariants.{Close, Ping, Pong};
+ghost use Rattle.wsn_wire.specs.declared.opcode.Op.TheVariants.{Text, Continue, Close, Ping, Pong};
+ghost use Rattle.wsn_wire.specs.declared.length_forms.Form.TheVariants.{Shortest, Two};
 ghost use Rattle.wsn_wire.specs.declared.refusal.Reason.TheVariants.{TextBad};
 ghost use Rattle.wsn_rules.specs.declared.report.Outcome.TheVariants.{Failed};
 ghost use Rattle.wsn_rules.specs.declared.report.Side.TheVariants as side;
 ghost use Rattle.wsn_rules.specs.Meaning.{Message, Control};
-ghost use Rattle.wsn_rules.specs.ShownStream.Item.{Event, Unfinished, UnfinishedHead, RefusedFrame, Unread, Tail};
+ghost use Rattle.wsn_rules.specs.ShownStream.Item.{Event, Head, Unfinished, UnfinishedHead, RefusedFrame, Unread, Tail};
 ghost use Rattle.wsn_rules.specs.ShownCapture.LineItem.{OfStream, End, Comment};
 ghost use Rattle.wsn_print.specs.ShownText.{item_line, text_view, hex_view, body_view, quoted, comment_line, end_line, shown_text};
 
@@ -27,6 +28,12 @@ pub fn of_events()
     ensures empty_close { item_line 48 Client None (Event 0 (Control Close []) 1) ≡ codes "C - 0 close 0 1 -\n" }
     ensures reason_is_whole { item_line 2 Client None (Event 0 (Control Close ((0x03 ∷ 0xe8 ∷ []) ++ codes "bye")) 1) ≡ codes "C - 0 close 5 1 1000 \"bye\"\n" }
     ensures closed_unseen { item_line 0 Client None (Event 0 (Control Close ((0x03 ∷ 0xe8 ∷ []) ++ codes "bye")) 1) ≡ codes "C - 0 close 5 1 -\n" }
+{}
+
+/// The lines of frames: the offset is the frame's own, and the key is shown.
+pub fn of_frames()
+    ensures masked { item_line 48 Client (Some (codes "0.000596")) (Head (record { place = 0; fin = true; op = Text; key = Some (0x37 ∷ 0xfa ∷ 0x21 ∷ 0x3d ∷ []); form = Shortest; len = 5 })) ≡ codes "C 0.000596 0 fin text 37fa213d 5\n" }
+    ensures not_final { item_line 0 Server None (Head (record { place = 300; fin = false; op = Continue; key = None; form = Two; len = 100 })) ≡ codes "S - 300 more cont - 100 two\n" }
 {}
 
 /// Views of 0 to 6 bytes, and of 48: characters are shown whole, and half as many bytes in hexadecimal as of a text.

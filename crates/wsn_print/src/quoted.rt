@@ -1,8 +1,10 @@
-ghost use Rattle.std.specs.Prelude.{◌≡◌, ◌++◌, ◌/◌, ◌%◌, [], ◌∷◌, ◌==◌, ◌<◌, ◌≤◌, false, true, length, if◌then◌else◌, flat_map};
+ghost use Rattle.std.specs.Prelude.{◌≡◌, ◌++◌, ◌/◌, ◌%◌, [], ◌∷◌, ◌==◌, ◌<◌, ◌≤◌, false, true, length, if◌then◌else◌, flat_map, codes};
+ghost use Rattle.hex.specs.Hex.{encode_lower};
 ghost use Rattle.std.specs.Str.{chars};
 ghost use Rattle.std.specs.Str.Lossy.{utf8_valid_len};
 ghost use Rattle.wsn_io.specs.Stops.{IsWrittenOrStops};
 ghost use Rattle.wsn_print.specs.ShownText.{is_hidden, unicode_escape, shown_character, quoted_character, quoted, shown_byte, comment_text, comment_line};
+ghost use Rattle.wsn_print.specs.ShownObjects.{quoted_byte, comment_characters};
 
 use crate::line::Line;
 use std::io::Write;
@@ -45,6 +47,18 @@ pub(crate) fn put_quoted<W: Write>(to: &mut Output<W>, text: &str) -> Result<(),
     put_line(to, b"\"")?;
     put_quoted_characters(to, text)?;
     put_line(to, b"\"")
+}
+
+/// Writes the characters of a comment that is quoted. Of a comment that isn't UTF-8, each byte that isn't printable ASCII
+/// is written as a quoted `\x` and two digits.
+pub(crate) fn put_comment_characters<W: Write>(to: &mut Output<W>, text: &[u8]) -> Result<(), Stop>
+    requires { to.old.failed ≡ false }
+    ensures { IsWrittenOrStops to.old to.new (comment_characters text.now) result }
+{
+    match str::from_utf8(text) {
+        Ok(characters) => put_quoted_characters(to, characters),
+        Err(_) => put_quoted_bytes(to, text),
+    }
 }
 
 fn put_quoted_characters<W: Write>(to: &mut Output<W>, text: &str) -> Result<(), Stop>
@@ -106,6 +120,37 @@ fn put_shown_bytes<W: Write>(to: &mut Output<W>, bytes: &[u8]) -> Result<(), Sto
         put_line(to, shown_byte(*b).bytes())?;
     }
     Ok(())
+}
+
+#[inline(never)]
+#[tactic(none)]
+fn put_quoted_bytes<W: Write>(to: &mut Output<W>, bytes: &[u8]) -> Result<(), Stop>
+    requires { to.old.failed ≡ false }
+    ensures { IsWrittenOrStops to.old to.new (flat_map quoted_byte bytes.now) result }
+{
+    for b in bytes {
+        put_line(to, quoted_byte(*b).bytes())?;
+    }
+    Ok(())
+}
+
+fn quoted_byte(b: u8) -> Line<CHARACTER_MAX>
+    ensures { result ≡ quoted_byte b }
+{
+    match b {
+        b' '..=b'~' => quoted_character(char::from(b)),
+        _ => quoted_escape(b),
+    }
+}
+
+/// A quoted `\x`, and two digits.
+fn quoted_escape(b: u8) -> Line<CHARACTER_MAX>
+    ensures { result ≡ codes "\\\\x" ++ encode_lower (b ∷ []) }
+{
+    let mut line = Line::new();
+    line.push("\\\\x");
+    line.push_hex(&[b]);
+    line
 }
 
 #[tactic(none)]

@@ -53,7 +53,8 @@ fn echo_text(echo: Option<bool>) -> &'static str
     }
 }
 
-fn outcome_word(outcome: Outcome) -> &'static str
+/// The word for an outcome.
+pub(crate) fn outcome_word(outcome: Outcome) -> &'static str
     ensures word { result.now ≡ outcome_word outcome }
     ensures short { length result.now ≤ 8 }
 {

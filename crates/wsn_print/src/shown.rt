@@ -58,6 +58,33 @@ pub struct Front<'a> {
     pub offset: u64,
 }
 
+/// Where an entry is.
+#[derive(Clone, Copy)]
+pub enum Origin<'a> {
+    /// In a line of a capture.
+    Line {
+        /// The number of the line, from 1.
+        number: u32,
+        /// The time that the capture gives, in seconds; `None` if it gives none.
+        time: Option<&'a [u8]>,
+    },
+    /// At the end of a capture.
+    End,
+    /// In a stream without a capture.
+    Stream,
+}
+
+/// What is in front of an entry's object.
+#[derive(Clone, Copy)]
+pub struct EntryFront<'a> {
+    /// The endpoint that sent it.
+    pub role: Role,
+    /// Where it is.
+    pub origin: Origin<'a>,
+    /// The offset in the endpoint's stream, from 0.
+    pub offset: u64,
+}
+
 /// An event to be shown, complete or not.
 #[derive(Clone, Copy)]
 pub struct ShownEvent<'a> {

@@ -60,7 +60,8 @@ pub(crate) fn put_unfinished_view<W: Write>(
     }
 }
 
-fn payload_of<'a>(event: &ShownEvent<'a>) -> HeldBytes<'a>
+/// The payload of an event, as far as it is held.
+pub(crate) fn payload_of<'a>(event: &ShownEvent<'a>) -> HeldBytes<'a>
     ensures bytes { result.bytes ≡ event.now.bytes }
     ensures held { result.held.now ≡ event.now.held.now }
 {
@@ -195,7 +196,7 @@ fn put_reason<W: Write>(to: &mut Output<W>, reason: &[u8]) -> Result<(), Stop>
 
 /// The whole characters at the front.
 #[tactic(none)]
-fn whole_characters(bytes: &[u8]) -> &str
+pub(crate) fn whole_characters(bytes: &[u8]) -> &str
     ensures { result.now ≡ take (utf8_valid_len bytes.now) bytes.now }
 {
     match str::from_utf8(bytes) {
@@ -204,8 +205,9 @@ fn whole_characters(bytes: &[u8]) -> &str
     }
 }
 
+/// Whether all bytes are printable ASCII characters.
 #[tactic(none)]
-fn is_printable(bytes: &[u8]) -> bool
+pub(crate) fn is_printable(bytes: &[u8]) -> bool
     ensures { result ≡ is_printable bytes.now }
 {
     for b in bytes {
@@ -217,7 +219,7 @@ fn is_printable(bytes: &[u8]) -> bool
 }
 
 /// The first bytes, at most `most`.
-fn front_of(bytes: &[u8], most: usize) -> &[u8]
+pub(crate) fn front_of(bytes: &[u8], most: usize) -> &[u8]
     ensures { result.now ≡ take most bytes.now }
 {
     if bytes.len() <= most {
@@ -229,7 +231,7 @@ fn front_of(bytes: &[u8], most: usize) -> &[u8]
 
 /// The last bytes, at most `most`.
 #[tactic(none)]
-fn end_of(bytes: &[u8], most: usize) -> &[u8]
+pub(crate) fn end_of(bytes: &[u8], most: usize) -> &[u8]
     ensures { result.now ≡ drop (length bytes.now - most) bytes.now }
 {
     if bytes.len() <= most {
@@ -277,7 +279,7 @@ fn put_hex_text<W: Write>(to: &mut Output<W>, bytes: &[u8]) -> Result<(), Stop>
 
 /// Writes bytes in hexadecimal.
 #[inline(never)]
-fn put_hex<W: Write>(to: &mut Output<W>, bytes: &[u8]) -> Result<(), Stop>
+pub(crate) fn put_hex<W: Write>(to: &mut Output<W>, bytes: &[u8]) -> Result<(), Stop>
     requires { to.old.failed ≡ false }
     ensures { IsWrittenOrStops to.old to.new (encode_lower bytes.now) result }
 {

@@ -26,5 +26,6 @@ pub mod TextLines
 pub mod Outcomes
 pub mod ComputedReports
 pub mod OneHead
+pub mod HeadsGoOn
 pub mod ShownStreams
 pub mod ShownLines

@@ -6,15 +6,18 @@ use Rattle.std.proofs.lemmas.List.{map-append}
 use Rattle.wsn_wire.specs.declared.endpoint.Role.{Role}
 use Rattle.wsn_wire.specs.declared.endpoint.Role.TheVariants.{Client, Server}
 use Rattle.wsn_rules.specs.Limits.{Limits}
+use Rattle.wsn_rules.specs.declared.detail.Detail.{Detail}
+use Rattle.wsn_rules.specs.declared.detail.Detail.TheVariants.{Events, Frames}
 use Rattle.wsn_rules.specs.declared.verdict.Verdict.TheVariants.{Accepted}
 use Rattle.wsn_rules.specs.Summary.{counted}
 use Rattle.wsn_rules.specs.Entries.{Entry}
 use Rattle.wsn_rules.specs.Entries.Entry.{Nothing, Bytes, Mark}
 use Rattle.wsn_rules.specs.Sides.{bytes_in, sent}
-use Rattle.wsn_rules.specs.ShownStream.{Item, Shown, IsShownStream}
+use Rattle.wsn_rules.specs.ShownStream.{Item, Shown, AreShownFrames, IsShownStream}
 use Rattle.wsn_rules.specs.ShownCapture.{ShownLine, beyond, of_stream, item_of, items_with_bytes, AreShownAfter}
 use Rattle.wsn_rules.proofs.Prefixes.{push-append}
 use Rattle.wsn_rules.proofs.LawfulLists.{no_close_nil, lawful_nil}
+use Rattle.wsn_rules.proofs.HeadsGoOn.{no_heads}
 use Rattle.wsn_rules.proofs.ShownStreams.{shown_goes_on}
 
 abbrev items_in : List Shown → List Item
@@ -38,13 +41,20 @@ sent_push : (role : Role) (given : List Entry) (entry : Entry) → sent role (gi
 sent_push role given entry =
     flat_map-append (bytes_in role) given (entry ∷ []) ∙ ap (λ (bs : List ℕ). sent role given ++ bs) (append-nil (bytes_in role entry))
 
-module _ (limits : Limits) where
+-- No frame shows nothing.
+no_frames : (detail : Detail) (role : Role) (limits : Limits) → AreShownFrames detail role limits [] [] []
+no_frames Events role limits = refl
+no_frames Frames role limits = ([], no_heads role limits, refl)
+
+module _ (detail : Detail) (limits : Limits) where
   -- Before any byte nothing is shown.
-  nothing_shown : (role : Role) → IsShownStream role limits [] []
+  pub nothing_shown : (role : Role) → IsShownStream detail role limits [] []
   nothing_shown role = record {
     frames = [];
     verdict = Accepted (counted [] 0 0);
     is_verdict = (record { lawful = lawful_nil role limits; ends = inl (no_close_nil, refl, refl) }, refl);
+    of_frames = [];
+    are_of_frames = no_frames detail role limits;
     of_verdict = [];
     is_of_verdict = refl;
     all = refl;
@@ -53,7 +63,7 @@ module _ (limits : Limits) where
   -- What is shown after more lines: of the stream so far, and of these lines.
   record Gathered (role : Role) (given entries : List Entry) (so_far : List Shown) (shown : List ShownLine) : Type 0 where
     all : List Shown
-    is_shown : IsShownStream role limits (sent role (given ++ entries)) all
+    is_shown : IsShownStream detail role limits (sent role (given ++ entries)) all
     joined : items_in all ≡ items_in so_far ++ items_with_bytes role entries shown
 
   -- A line of which nothing is counted for the stream.
@@ -61,13 +71,13 @@ module _ (limits : Limits) where
       → Gathered role (given ++ entry ∷ []) entries so_far shown → Gathered role given (entry ∷ entries) so_far (s ∷ shown)
   passed_over role given entry entries so_far s shown same g = record {
     all = g.all;
-    is_shown = subst (λ (es : List Entry). IsShownStream role limits (sent role es) g.all) (push-append given entry entries) g.is_shown;
+    is_shown = subst (λ (es : List Entry). IsShownStream detail role limits (sent role es) g.all) (push-append given entry entries) g.is_shown;
     joined = g.joined ∙ ap (λ (is : List Item). items_in so_far ++ is) (sym same);
   }
 
-  unchanged : (role : Role) (given : List Entry) (entry : Entry) (so_far : List Shown) → bytes_in role entry ≡ [] → IsShownStream role limits (sent role given) so_far → IsShownStream role limits (sent role (given ++ entry ∷ [])) so_far
+  unchanged : (role : Role) (given : List Entry) (entry : Entry) (so_far : List Shown) → bytes_in role entry ≡ [] → IsShownStream detail role limits (sent role given) so_far → IsShownStream detail role limits (sent role (given ++ entry ∷ [])) so_far
   unchanged role given entry so_far none is =
-      subst (λ (bs : List ℕ). IsShownStream role limits bs so_far)
+      subst (λ (bs : List ℕ). IsShownStream detail role limits bs so_far)
       (sym (sent_push role given entry ∙ ap (λ (bs : List ℕ). sent role given ++ bs) none ∙ append-nil (sent role given))) is
 
   -- A line with bytes of the stream.
@@ -76,19 +86,19 @@ module _ (limits : Limits) where
       → Gathered role (given ++ Bytes role bytes ∷ []) entries longer shown → Gathered role given (Bytes role bytes ∷ entries) so_far (s ∷ shown)
   with_bytes role given bytes entries so_far longer s shown more own grown g = record {
     all = g.all;
-    is_shown = subst (λ (es : List Entry). IsShownStream role limits (sent role es) g.all) (push-append given (Bytes role bytes) entries) g.is_shown;
+    is_shown = subst (λ (es : List Entry). IsShownStream detail role limits (sent role es) g.all) (push-append given (Bytes role bytes) entries) g.is_shown;
     joined =
         g.joined ∙ ap (λ (is : List Item). is ++ items_with_bytes role entries shown) grown ∙ append_assoc (items_in so_far) more (items_with_bytes role entries shown)
         ∙ ap (λ (is : List Item). items_in so_far ++ (is ++ items_with_bytes role entries shown)) (sym own);
   }
 
   own_bytes : (role : Role) (before : List (List ℕ)) (given : List Entry) (line : List ℕ) (lines : List (List ℕ)) (bytes : List ℕ) (entries : List Entry) (s : ShownLine) (shown : List ShownLine) (so_far : List Shown)
-      → IsShownStream role limits (sent role given) so_far
-      → (now : (longer : List Shown) × IsShownStream role limits (sent role given ++ bytes) longer × (s.items ≡ of_stream role (beyond (length (sent role given)) longer)))
-      → ((longer : List Shown) → IsShownStream role limits (sent role given ++ bytes) longer → Gathered role (given ++ Bytes role bytes ∷ []) entries longer shown)
+      → IsShownStream detail role limits (sent role given) so_far
+      → (now : (longer : List Shown) × IsShownStream detail role limits (sent role given ++ bytes) longer × (s.items ≡ of_stream role (beyond (length (sent role given)) longer)))
+      → ((longer : List Shown) → IsShownStream detail role limits (sent role given ++ bytes) longer → Gathered role (given ++ Bytes role bytes ∷ []) entries longer shown)
       → Gathered role given (Bytes role bytes ∷ entries) so_far (s ∷ shown)
   own_bytes role before given line lines bytes entries s shown so_far is now rest =
-      let on = shown_goes_on role limits (sent role given) bytes so_far now.0 is now.1 in
+      let on = shown_goes_on role limits detail (sent role given) bytes so_far now.0 is now.1 in
       with_bytes role given bytes entries so_far now.0 s shown (items_in on.0)
       (ap (flat_map (item_of role)) now.2 ∙ of_own role (beyond (length (sent role given)) now.0) ∙ on.4)
       (ap items_in on.1 ∙ map-append (λ (t : Shown). t.item) so_far on.0)
@@ -96,10 +106,10 @@ module _ (limits : Limits) where
 
   -- The items of the lines after those with the entries `given`.
   gathered : (role : Role) (before : List (List ℕ)) (given : List Entry) (lines : List (List ℕ)) (entries : List Entry) (shown : List ShownLine) (so_far : List Shown)
-      → IsShownStream role limits (sent role given) so_far → AreShownAfter limits before given lines entries shown → Gathered role given entries so_far shown
+      → IsShownStream detail role limits (sent role given) so_far → AreShownAfter detail limits before given lines entries shown → Gathered role given entries so_far shown
   gathered role before given [] [] [] so_far is are = record {
     all = so_far;
-    is_shown = subst (λ (es : List Entry). IsShownStream role limits (sent role es) so_far) (sym (append-nil given)) is;
+    is_shown = subst (λ (es : List Entry). IsShownStream detail role limits (sent role es) so_far) (sym (append-nil given)) is;
     joined = sym (append-nil (items_in so_far));
   }
   gathered role before given (line ∷ lines) (Nothing ∷ entries) (s ∷ shown) so_far is are =
@@ -118,10 +128,10 @@ module _ (limits : Limits) where
       of_mark Server = refl
   gathered Client before given (line ∷ lines) (Bytes Client bytes ∷ entries) (s ∷ shown) so_far is are =
       own_bytes Client before given line lines bytes entries s shown so_far is are.1 (λ longer now.
-      gathered Client (before ++ line ∷ []) (given ++ Bytes Client bytes ∷ []) lines entries shown longer (subst (λ (bs : List ℕ). IsShownStream Client limits bs longer) (sym (sent_push Client given (Bytes Client bytes))) now) are.2)
+      gathered Client (before ++ line ∷ []) (given ++ Bytes Client bytes ∷ []) lines entries shown longer (subst (λ (bs : List ℕ). IsShownStream detail Client limits bs longer) (sym (sent_push Client given (Bytes Client bytes))) now) are.2)
   gathered Server before given (line ∷ lines) (Bytes Server bytes ∷ entries) (s ∷ shown) so_far is are =
       own_bytes Server before given line lines bytes entries s shown so_far is are.1 (λ longer now.
-      gathered Server (before ++ line ∷ []) (given ++ Bytes Server bytes ∷ []) lines entries shown longer (subst (λ (bs : List ℕ). IsShownStream Server limits bs longer) (sym (sent_push Server given (Bytes Server bytes))) now) are.2)
+      gathered Server (before ++ line ∷ []) (given ++ Bytes Server bytes ∷ []) lines entries shown longer (subst (λ (bs : List ℕ). IsShownStream detail Server limits bs longer) (sym (sent_push Server given (Bytes Server bytes))) now) are.2)
   gathered Client before given (line ∷ lines) (Bytes Server bytes ∷ entries) (s ∷ shown) so_far is are =
       passed_over Client given (Bytes Server bytes) entries so_far s shown
       (ap (λ (is : List Item). is ++ items_with_bytes Client entries shown) (ap (flat_map (item_of Client)) are.1.2 ∙ none_of_client (beyond (length (sent Server given)) are.1.0)))
@@ -140,7 +150,7 @@ module _ (limits : Limits) where
   gathered Server before given (line ∷ lines) (Bytes Client bytes ∷ entries) [] so_far is are = absurd are
   gathered Server before given (line ∷ lines) (Bytes Server bytes ∷ entries) [] so_far is are = absurd are
 
-  pub lines_show_stream : (role : Role) (lines : List (List ℕ)) (entries : List Entry) (shown : List ShownLine) → AreShownAfter limits [] [] lines entries shown → (all : List Shown) × IsShownStream role limits (sent role entries) all × (items_with_bytes role entries shown ≡ items_in all)
+  pub lines_show_stream : (role : Role) (lines : List (List ℕ)) (entries : List Entry) (shown : List ShownLine) → AreShownAfter detail limits [] [] lines entries shown → (all : List Shown) × IsShownStream detail role limits (sent role entries) all × (items_with_bytes role entries shown ≡ items_in all)
   lines_show_stream role lines entries shown are =
       let g = gathered role [] [] lines entries shown [] (nothing_shown role) are in
       (g.all, g.is_shown, sym g.joined)

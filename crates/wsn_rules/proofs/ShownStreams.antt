@@ -2,12 +2,14 @@
 use Rattle.std.proofs.Common.{◌≡◌, ℕ, ◌+◌, ◌<◌, ◌≤◌, true, false, Option, Some, List, [], ◌∷◌, ◌++◌, ◌⊎◌, length, take, drop, map, filter, nat_lt, if◌then◌else◌, refl, sym, ap, ◌∙◌, subst, inl, inr, append-nil, append_assoc, length-append, arith}
 use Rattle.std.specs.List.{AllByRecursion, flat_map}
 use Rattle.std.proofs.lemmas.Bool.{cases_Bool, cond-true, cond-false, cases_lt}
-use Rattle.std.proofs.lemmas.List.{take-append-le}
+use Rattle.std.proofs.lemmas.List.{take-append-le, map-append}
 use Rattle.std.proofs.lemmas.List.Elements.{filter-append}
 use Rattle.std.proofs.lemmas.List.Concat.{flat_map-append}
 use Rattle.wsn_wire.specs.declared.endpoint.Role.{Role}
 use Rattle.wsn_wire.specs.declared.refusal.Reason.{Reason}
 use Rattle.wsn_wire.specs.Frame.{Frame, frame_bytes, stream, wire_payload}
+use Rattle.wsn_rules.specs.declared.detail.Detail.{Detail}
+use Rattle.wsn_rules.specs.declared.detail.Detail.TheVariants.{Events, Frames}
 use Rattle.wsn_rules.specs.declared.head_info.HeadInfo.{HeadInfo}
 use Rattle.wsn_rules.specs.declared.verdict.Refusal.{Refusal}
 use Rattle.wsn_rules.specs.declared.verdict.Summary.{Summary}
@@ -15,10 +17,11 @@ use Rattle.wsn_rules.specs.declared.verdict.Verdict.{Verdict}
 use Rattle.wsn_rules.specs.declared.verdict.Verdict.TheVariants.{Accepted, Cut, Refused}
 use Rattle.wsn_rules.specs.Limits.{Limits}
 use Rattle.wsn_rules.specs.Group.{unfinished}
+use Rattle.wsn_rules.specs.Heads.{AreHeads}
 use Rattle.wsn_rules.specs.Meaning.{MeantEvent, event_at, events_after, meaning}
 use Rattle.wsn_rules.specs.Summary.{is_close}
 use Rattle.wsn_rules.specs.Verdict.{IsRefused, IsVerdict}
-use Rattle.wsn_rules.specs.ShownStream.{Item, Shown, shown_after, open_items, items_of_final, shown_at, shown_of, IsShownEvidence, IsShownRefusal, IsShownVerdict, IsShownStream, event_in, events_shown}
+use Rattle.wsn_rules.specs.ShownStream.{Item, Shown, shown_after, open_items, items_of_final, shown_at, shown_of, shown_head, AreShownFrames, interrupted, IsShownEvidence, IsShownRefusal, IsShownVerdict, IsShownStream, event_in, events_shown, head_in, heads_shown}
 use Rattle.wsn_rules.specs.ShownStream.Item.{RefusedFrame}
 use Rattle.wsn_rules.specs.ShownCapture.{beyond}
 use Rattle.wsn_rules.proofs.Prefixes.{push-append, append_cancel, GoesOn, two_fronts}
@@ -26,6 +29,7 @@ use Rattle.wsn_rules.proofs.Walk.{stream-append}
 use Rattle.wsn_rules.proofs.OneVerdict.{AreAll, all_of_verdict, all_go_on, one_verdict}
 use Rattle.wsn_rules.proofs.StaysRefused.{place_within, refused_alike, stays_refused}
 use Rattle.wsn_rules.proofs.OneHead.{one_begun, one_following}
+use Rattle.wsn_rules.proofs.HeadsGoOn.{end_of, one_heads, heads_stay, heads_in_bytes, heads_go_on}
 
 -- ---- lists
 
@@ -141,6 +145,16 @@ events_of before (f ∷ fs) =
     ∙ ap (λ (es : List MeantEvent). es ++ events_shown (shown_of (before ++ f ∷ []) fs)) (events_at before f)
     ∙ ap (λ (es : List MeantEvent). (if f.fin then event_at before f ∷ [] else []) ++ es) (events_of (before ++ f ∷ []) fs)
 
+-- ---- heads
+
+head_items : (heads : List HeadInfo) → heads_shown (map shown_head heads) ≡ heads
+head_items [] = refl
+head_items (info ∷ heads) = ap (λ (hs : List HeadInfo). info ∷ hs) (head_items heads)
+
+all_mapped : (P : ℕ → Type 0) (heads : List HeadInfo) → AllByRecursion (λ (info : HeadInfo). P (end_of info)) heads → AllByRecursion (λ (s : Shown). P s.after) (map shown_head heads)
+all_mapped P [] all = tt
+all_mapped P (info ∷ heads) all = (all.0, all_mapped P heads all.1)
+
 -- ---- one list of items
 
 module _ (role : Role) (limits : Limits) where
@@ -154,25 +168,31 @@ module _ (role : Role) (limits : Limits) where
   one_evidence fs seen shown other (inr p) (inl q) = absurd (q.2 (p.0 q.0 q.1))
   one_evidence fs seen shown other (inr p) (inr q) = p.1 ∙ sym q.1
 
-  one_refusal_shown : (bytes : List ℕ) (fs : List Frame) (refusal : Refusal) (shown other : List Shown) → IsShownRefusal role limits bytes fs refusal shown → IsShownRefusal role limits bytes fs refusal other → shown ≡ other
-  one_refusal_shown bytes fs refusal shown other p q =
-      let same = one_evidence fs (drop (length (stream fs)) (take (refusal.place + 1) bytes)) p.evidence q.evidence p.is_evidence q.is_evidence in
-      p.is ∙ ap (λ (bs : List ℕ). shown_after (refusal.place + 1) (open_items fs (Some 0) ++ RefusedFrame (length (stream fs)) refusal bs ∷ [])) same ∙ sym q.is
+  one_of_frames : (detail : Detail) (bytes : List ℕ) (fs : List Frame) (shown other : List Shown) → AreShownFrames detail role limits bytes fs shown → AreShownFrames detail role limits bytes fs other → shown ≡ other
+  one_of_frames Events bytes fs shown other p q = p ∙ sym q
+  one_of_frames Frames bytes fs shown other p q = p.2 ∙ ap (map shown_head) (one_heads role limits bytes fs p.0 q.0 p.1 q.1) ∙ sym q.2
 
-  one_of_verdict : (bytes : List ℕ) (fs : List Frame) (v : Verdict) (shown other : List Shown) → IsShownVerdict role limits bytes fs v shown → IsShownVerdict role limits bytes fs v other → shown ≡ other
-  one_of_verdict bytes fs (Accepted s) shown other p q = p ∙ sym q
-  one_of_verdict bytes fs (Cut s) shown other p q = p ∙ sym q
-  one_of_verdict bytes fs (Refused r) shown other p q = one_refusal_shown bytes fs r shown other p q
+  module _ (detail : Detail) where
+    one_refusal_shown : (bytes : List ℕ) (fs : List Frame) (refusal : Refusal) (shown other : List Shown) → IsShownRefusal detail role limits bytes fs refusal shown → IsShownRefusal detail role limits bytes fs refusal other → shown ≡ other
+    one_refusal_shown bytes fs refusal shown other p q =
+        let same = one_evidence fs (drop (length (stream fs)) (take (refusal.place + 1) bytes)) p.evidence q.evidence p.is_evidence q.is_evidence in
+        p.is ∙ ap (λ (bs : List ℕ). shown_after (refusal.place + 1) (interrupted detail fs ++ RefusedFrame (length (stream fs)) refusal bs ∷ [])) same ∙ sym q.is
 
-  pub one_shown : (bytes : List ℕ) (shown other : List Shown) → IsShownStream role limits bytes shown → IsShownStream role limits bytes other → shown ≡ other
-  one_shown bytes shown other p q =
-      let same = one_verdict role limits bytes p.frames q.frames p.verdict q.verdict p.is_verdict q.is_verdict in
-      let moved : IsShownVerdict role limits bytes q.frames q.verdict p.of_verdict =
-      subst (λ (v : Verdict). IsShownVerdict role limits bytes q.frames v p.of_verdict) same.1 (subst (λ (fs : List Frame). IsShownVerdict role limits bytes fs p.verdict p.of_verdict) same.0 p.is_of_verdict) in
-      let last = one_of_verdict bytes q.frames q.verdict p.of_verdict q.of_verdict moved q.is_of_verdict in
-      p.all ∙ ap (λ (fs : List Frame). shown_of [] fs ++ p.of_verdict) same.0 ∙ ap (λ (ss : List Shown). shown_of [] q.frames ++ ss) last ∙ sym q.all
+    one_of_verdict : (bytes : List ℕ) (fs : List Frame) (v : Verdict) (shown other : List Shown) → IsShownVerdict detail role limits bytes fs v shown → IsShownVerdict detail role limits bytes fs v other → shown ≡ other
+    one_of_verdict bytes fs (Accepted s) shown other p q = p ∙ sym q
+    one_of_verdict bytes fs (Cut s) shown other p q = p ∙ sym q
+    one_of_verdict bytes fs (Refused r) shown other p q = one_refusal_shown bytes fs r shown other p q
 
-  no_event_of_verdict : (bytes : List ℕ) (fs : List Frame) (v : Verdict) (shown : List Shown) → IsShownVerdict role limits bytes fs v shown → events_shown shown ≡ []
+    pub one_shown : (bytes : List ℕ) (shown other : List Shown) → IsShownStream detail role limits bytes shown → IsShownStream detail role limits bytes other → shown ≡ other
+    one_shown bytes shown other p q =
+        let same = one_verdict role limits bytes p.frames q.frames p.verdict q.verdict p.is_verdict q.is_verdict in
+        let moved : IsShownVerdict detail role limits bytes q.frames q.verdict p.of_verdict =
+        subst (λ (v : Verdict). IsShownVerdict detail role limits bytes q.frames v p.of_verdict) same.1 (subst (λ (fs : List Frame). IsShownVerdict detail role limits bytes fs p.verdict p.of_verdict) same.0 p.is_of_verdict) in
+        let first = one_of_frames detail bytes q.frames p.of_frames q.of_frames (subst (λ (fs : List Frame). AreShownFrames detail role limits bytes fs p.of_frames) same.0 p.are_of_frames) q.are_of_frames in
+        let last = one_of_verdict bytes q.frames q.verdict p.of_verdict q.of_verdict moved q.is_of_verdict in
+        p.all ∙ ap (λ (ss : List Shown). ss ++ p.of_verdict) first ∙ ap (λ (ss : List Shown). q.of_frames ++ ss) last ∙ sym q.all
+
+  no_event_of_verdict : (bytes : List ℕ) (fs : List Frame) (v : Verdict) (shown : List Shown) → IsShownVerdict Events role limits bytes fs v shown → events_shown shown ≡ []
   no_event_of_verdict bytes fs (Accepted s) shown p = ap events_shown p
   no_event_of_verdict bytes fs (Cut s) shown p = ap events_shown p
   no_event_of_verdict bytes fs (Refused r) shown p =
@@ -180,12 +200,27 @@ module _ (role : Role) (limits : Limits) where
       ap events_shown p.is ∙ events_after_are (r.place + 1) (open_items fs (Some 0) ++ refused)
       ∙ flat_map-append event_in (open_items fs (Some 0)) refused ∙ ap (λ (es : List MeantEvent). es ++ []) (no_open_event fs (Some 0))
 
-  pub events_are_meaning : (bytes : List ℕ) (fs : List Frame) (v : Verdict) (shown : List Shown) → IsVerdict role limits bytes fs v → IsShownStream role limits bytes shown → events_shown shown ≡ meaning fs
+  pub events_are_meaning : (bytes : List ℕ) (fs : List Frame) (v : Verdict) (shown : List Shown) → IsVerdict role limits bytes fs v → IsShownStream Events role limits bytes shown → events_shown shown ≡ meaning fs
   events_are_meaning bytes fs v shown is p =
       let same = one_verdict role limits bytes p.frames fs p.verdict v p.is_verdict is in
-      ap events_shown p.all ∙ flat_map-append (λ (s : Shown). event_in s.item) (shown_of [] p.frames) p.of_verdict
-      ∙ ap (λ (es : List MeantEvent). events_shown (shown_of [] p.frames) ++ es) (no_event_of_verdict bytes p.frames p.verdict p.of_verdict p.is_of_verdict)
-      ∙ append-nil (events_shown (shown_of [] p.frames)) ∙ events_of [] p.frames ∙ ap meaning same.0
+      ap events_shown p.all ∙ flat_map-append (λ (s : Shown). event_in s.item) p.of_frames p.of_verdict
+      ∙ ap (λ (es : List MeantEvent). events_shown p.of_frames ++ es) (no_event_of_verdict bytes p.frames p.verdict p.of_verdict p.is_of_verdict)
+      ∙ append-nil (events_shown p.of_frames) ∙ ap events_shown p.are_of_frames ∙ events_of [] p.frames ∙ ap meaning same.0
+
+  no_head_of_verdict : (bytes : List ℕ) (fs : List Frame) (v : Verdict) (shown : List Shown) → IsShownVerdict Frames role limits bytes fs v shown → heads_shown shown ≡ []
+  no_head_of_verdict bytes fs (Accepted s) shown p = ap heads_shown p
+  no_head_of_verdict bytes fs (Cut s) shown p = ap heads_shown p
+  no_head_of_verdict bytes fs (Refused r) shown p = ap heads_shown p.is
+
+  pub heads_are_reported : (bytes : List ℕ) (fs : List Frame) (v : Verdict) (heads : List HeadInfo) (shown : List Shown) → IsVerdict role limits bytes fs v → AreHeads role limits bytes fs heads
+      → IsShownStream Frames role limits bytes shown → heads_shown shown ≡ heads
+  heads_are_reported bytes fs v heads shown is are p =
+      let same = one_verdict role limits bytes p.frames fs p.verdict v p.is_verdict is in
+      let own = p.are_of_frames in
+      ap heads_shown p.all ∙ flat_map-append (λ (s : Shown). head_in s.item) p.of_frames p.of_verdict
+      ∙ ap (λ (hs : List HeadInfo). heads_shown p.of_frames ++ hs) (no_head_of_verdict bytes p.frames p.verdict p.of_verdict p.is_of_verdict)
+      ∙ append-nil (heads_shown p.of_frames) ∙ ap heads_shown own.2 ∙ head_items own.0
+      ∙ one_heads role limits bytes fs own.0 heads (subst (λ (gs : List Frame). AreHeads role limits bytes gs own.0) same.0 own.1) are
 
 -- ---- a stream with more bytes
 
@@ -238,96 +273,134 @@ module _ (role : Role) (limits : Limits) where
       let count : length bytes ≡ length (stream fs) + length a.rest = ap (λ (bs : List ℕ). length bs) a.whole ∙ length-append (stream fs) a.rest in
       omega arith
 
-  -- Nothing is shown of the verdict, since the bytes aren't refused: the longer stream continues the frames.
-  unrefused_goes_on : (bytes more : List ℕ) (shown longer : List Shown) (p : IsShownStream role limits bytes shown) (q : IsShownStream role limits (bytes ++ more) longer) → p.of_verdict ≡ []
-      → ((place : ℕ) (reason : Reason) → IsRefused role limits bytes q.frames place reason → ⊥) → ShowsMore bytes shown longer
-  unrefused_goes_on bytes more shown longer p q none unrefused =
-      let a = all_of_verdict role limits bytes p.frames p.verdict p.is_verdict in
-      let b = all_of_verdict role limits (bytes ++ more) q.frames q.verdict q.is_verdict in
-      let on = all_go_on role limits (bytes ++ more) p.frames q.frames (a.rest ++ more) a.lawful (ap (λ (bs : List ℕ). bs ++ more) a.whole ∙ append_assoc (stream p.frames) a.rest more) b in
-      let mine : shown ≡ shown_of [] p.frames = p.all ∙ ap (λ (ss : List Shown). shown_of [] p.frames ++ ss) none ∙ append-nil (shown_of [] p.frames) in
-      let before = frames_within bytes p.frames p.verdict p.is_verdict in
-      record {
-        extra = shown_of p.frames on.0 ++ q.of_verdict;
-        all =
-            q.all ∙ ap (λ (fs : List Frame). shown_of [] fs ++ q.of_verdict) on.1 ∙ ap (λ (ss : List Shown). ss ++ q.of_verdict) (shown_of-append [] p.frames on.0)
-            ∙ append_assoc (shown_of [] p.frames) (shown_of p.frames on.0) q.of_verdict ∙ ap (λ (ss : List Shown). ss ++ (shown_of p.frames on.0 ++ q.of_verdict)) (sym mine);
-        within = subst (λ (ss : List Shown). AllByRecursion (λ (s : Shown). s.after ≤ length bytes) ss) (sym mine) (shown_within [] p.frames (length bytes) before);
-        past =
-            all-append (λ (s : Shown). length bytes < s.after) (shown_of p.frames on.0) q.of_verdict
-            (shown_beyond p.frames on.0 (length bytes) (λ f gs e. next_is_beyond bytes more p.frames gs f a
-            (subst (λ (fs : List Frame). AreAll role limits (bytes ++ more) fs) (on.1 ∙ ap (λ (hs : List Frame). p.frames ++ hs) e) b)))
-            (of_verdict_beyond q.verdict q.is_verdict q.is_of_verdict);
-      }
-    where
-      of_verdict_beyond : (w : Verdict) → IsVerdict role limits (bytes ++ more) q.frames w → IsShownVerdict role limits (bytes ++ more) q.frames w q.of_verdict → AllByRecursion (λ (s : Shown). length bytes < s.after) q.of_verdict
-      of_verdict_beyond (Accepted s) is e = subst (λ (ss : List Shown). AllByRecursion (λ (s : Shown). length bytes < s.after) ss) (sym e) tt
-      of_verdict_beyond (Cut s) is e = subst (λ (ss : List Shown). AllByRecursion (λ (s : Shown). length bytes < s.after) ss) (sym e) tt
-      of_verdict_beyond (Refused r) is e =
-          elim (cases_lt (length bytes) (r.place + 1)) [
-            | inl past ↦ subst (λ (ss : List Shown). AllByRecursion (λ (s : Shown). length bytes < s.after) ss) (sym e.is) (all_after (λ n. length bytes < n) (r.place + 1) _ past)
-            | inr inside ↦ absurd (unrefused r.place r.reason (refused_alike role limits q.frames (bytes ++ more) bytes r.place r.reason (sym (take-append-le (r.place + 1) bytes more inside)) is))
-          ]
+  -- ---- what is shown of frames
 
-  -- A refusal is all that is shown, whatever follows.
-  refused_goes_on : (bytes more : List ℕ) (shown longer : List Shown) (fs : List Frame) (r : Refusal) → IsRefused role limits bytes fs r.place r.reason → (p : IsShownStream role limits bytes shown) → IsShownStream role limits (bytes ++ more) longer → ShowsMore bytes shown longer
-  refused_goes_on bytes more shown longer fs r refused p q =
-      let place = place_within role limits fs bytes r.place r.reason refused.is_evident in
-      let same = one_verdict role limits bytes p.frames fs p.verdict (Refused r) p.is_verdict refused in
-      let moved : IsShownRefusal role limits bytes fs r p.of_verdict =
-      subst (λ (v : Verdict). IsShownVerdict role limits bytes fs v p.of_verdict) same.1 (subst (λ (gs : List Frame). IsShownVerdict role limits bytes gs p.verdict p.of_verdict) same.0 p.is_of_verdict) in
-      let front = take-append-le (r.place + 1) bytes more place in
-      let as_longer : IsShownStream role limits (bytes ++ more) shown = record {
-        frames = fs;
-        verdict = Refused r;
-        is_verdict = stays_refused role limits fs bytes more r.place r.reason refused;
-        of_verdict = p.of_verdict;
-        is_of_verdict = record {
-          evidence = moved.evidence;
-          is_evidence = subst (λ (bs : List ℕ). IsShownEvidence role limits fs (drop (length (stream fs)) bs) moved.evidence) (sym front) moved.is_evidence;
-          is = moved.is;
-        };
-        all = p.all ∙ ap (λ (gs : List Frame). shown_of [] gs ++ p.of_verdict) same.0;
-      } in
-      let one = one_shown role limits (bytes ++ more) longer shown q as_longer in
-      let before = frames_within bytes fs (Refused r) refused in
+  items_within : (detail : Detail) (bytes : List ℕ) (fs : List Frame) (shown : List Shown) → length (stream fs) ≤ length bytes → AreShownFrames detail role limits bytes fs shown
+      → AllByRecursion (λ (s : Shown). s.after ≤ length bytes) shown
+  items_within Events bytes fs shown before are = subst (λ (ss : List Shown). AllByRecursion (λ (s : Shown). s.after ≤ length bytes) ss) (sym are) (shown_within [] fs (length bytes) before)
+  items_within Frames bytes fs shown before are =
+      subst (λ (ss : List Shown). AllByRecursion (λ (s : Shown). s.after ≤ length bytes) ss) (sym are.2)
+      (all_mapped (λ n. n ≤ length bytes) are.0 (heads_in_bytes role limits bytes fs are.0 are.1))
+
+  -- After a refusal it stays the same.
+  pub frames_stay : (detail : Detail) (bytes more : List ℕ) (fs : List Frame) (r : Refusal) (shown : List Shown) → IsRefused role limits bytes fs r.place r.reason → AreShownFrames detail role limits bytes fs shown
+      → AreShownFrames detail role limits (bytes ++ more) fs shown
+  frames_stay Events bytes more fs r shown refused are = are
+  frames_stay Frames bytes more fs r shown refused are = (are.0, heads_stay role limits bytes more fs r.place r.reason are.0 refused are.1, are.2)
+
+  frames_go_on : (detail : Detail) (bytes more : List ℕ) (fs extra : List Frame) (shown longer : List Shown) → AreAll role limits bytes fs → AreAll role limits (bytes ++ more) (fs ++ extra)
+      → AreShownFrames detail role limits bytes fs shown → AreShownFrames detail role limits (bytes ++ more) (fs ++ extra) longer → length (stream fs) ≤ length bytes → ShowsMore bytes shown longer
+  frames_go_on Events bytes more fs extra shown longer a b p q before = record {
+    extra = shown_of fs extra;
+    all = q ∙ shown_of-append [] fs extra ∙ ap (λ (ss : List Shown). ss ++ shown_of fs extra) (sym p);
+    within = items_within Events bytes fs shown before p;
+    past =
+        shown_beyond fs extra (length bytes) (λ f gs e. next_is_beyond bytes more fs gs f a
+        (subst (λ (hs : List Frame). AreAll role limits (bytes ++ more) hs) (ap (λ (hs : List Frame). fs ++ hs) e) b));
+  }
+  frames_go_on Frames bytes more fs extra shown longer a b p q before =
+      let m = heads_go_on role limits bytes more fs p.0 p.1 extra q.0 q.1 (λ f gs e. next_is_beyond bytes more fs gs f a
+      (subst (λ (hs : List Frame). AreAll role limits (bytes ++ more) hs) (ap (λ (hs : List Frame). fs ++ hs) e) b)) in
       record {
-        extra = [];
-        all = one ∙ sym (append-nil shown);
-        within =
-            subst (λ (ss : List Shown). AllByRecursion (λ (s : Shown). s.after ≤ length bytes) ss) (sym as_longer.all)
-            (all-append (λ (s : Shown). s.after ≤ length bytes) (shown_of [] fs) p.of_verdict
-            (shown_within [] fs (length bytes) before)
-            (subst (λ (ss : List Shown). AllByRecursion (λ (s : Shown). s.after ≤ length bytes) ss) (sym moved.is) (all_after (λ n. n ≤ length bytes) (r.place + 1) _ place)));
-        past = tt;
+        extra = map shown_head m.extra;
+        all = q.2 ∙ ap (map shown_head) m.all ∙ map-append shown_head p.0 m.extra ∙ ap (λ (ss : List Shown). ss ++ map shown_head m.extra) (sym p.2);
+        within = items_within Frames bytes fs shown before p;
+        past = all_mapped (λ n. length bytes < n) m.extra m.past;
       }
 
-  goes_on_by : (bytes more : List ℕ) (shown longer : List Shown) (p : IsShownStream role limits bytes shown) (q : IsShownStream role limits (bytes ++ more) longer) (v : Verdict) → p.verdict ≡ v → ShowsMore bytes shown longer
-  goes_on_by bytes more shown longer p q (Refused r) e =
-      refused_goes_on bytes more shown longer p.frames r (subst (λ (v : Verdict). IsVerdict role limits bytes p.frames v) e p.is_verdict) p q
-  goes_on_by bytes more shown longer p q (Accepted s) e =
-      unrefused_goes_on bytes more shown longer p q (subst (λ (v : Verdict). IsShownVerdict role limits bytes p.frames v p.of_verdict) e p.is_of_verdict)
-      (λ place reason refused.
-      let same = one_verdict role limits bytes p.frames q.frames p.verdict (Refused (record { place = place; reason = reason })) p.is_verdict refused in
-      accepted_no_refusal s place reason (sym e ∙ same.1))
-    where
-      accepted_no_refusal : (s : Summary) (place : ℕ) (reason : Reason) → Accepted s ≡ Refused (record { place = place; reason = reason }) → ⊥
-      accepted_no_refusal s place reason e = cc
-  goes_on_by bytes more shown longer p q (Cut s) e =
-      unrefused_goes_on bytes more shown longer p q (subst (λ (v : Verdict). IsShownVerdict role limits bytes p.frames v p.of_verdict) e p.is_of_verdict)
-      (λ place reason refused.
-      let same = one_verdict role limits bytes p.frames q.frames p.verdict (Refused (record { place = place; reason = reason })) p.is_verdict refused in
-      cut_no_refusal s place reason (sym e ∙ same.1))
-    where
-      cut_no_refusal : (s : Summary) (place : ℕ) (reason : Reason) → Cut s ≡ Refused (record { place = place; reason = reason }) → ⊥
-      cut_no_refusal s place reason e = cc
+  module _ (detail : Detail) where
+    -- Nothing is shown of the verdict, since the bytes aren't refused: the longer stream continues the frames.
+    unrefused_goes_on : (bytes more : List ℕ) (shown longer : List Shown) (p : IsShownStream detail role limits bytes shown) (q : IsShownStream detail role limits (bytes ++ more) longer) → p.of_verdict ≡ []
+        → ((place : ℕ) (reason : Reason) → IsRefused role limits bytes q.frames place reason → ⊥) → ShowsMore bytes shown longer
+    unrefused_goes_on bytes more shown longer p q none unrefused =
+        let a = all_of_verdict role limits bytes p.frames p.verdict p.is_verdict in
+        let b = all_of_verdict role limits (bytes ++ more) q.frames q.verdict q.is_verdict in
+        let on = all_go_on role limits (bytes ++ more) p.frames q.frames (a.rest ++ more) a.lawful (ap (λ (bs : List ℕ). bs ++ more) a.whole ∙ append_assoc (stream p.frames) a.rest more) b in
+        let mine : shown ≡ p.of_frames = p.all ∙ ap (λ (ss : List Shown). p.of_frames ++ ss) none ∙ append-nil p.of_frames in
+        let before = frames_within bytes p.frames p.verdict p.is_verdict in
+        let f =
+        frames_go_on detail bytes more p.frames on.0 p.of_frames q.of_frames a (subst (λ (fs : List Frame). AreAll role limits (bytes ++ more) fs) on.1 b) p.are_of_frames
+        (subst (λ (fs : List Frame). AreShownFrames detail role limits (bytes ++ more) fs q.of_frames) on.1 q.are_of_frames) before in
+        record {
+          extra = f.extra ++ q.of_verdict;
+          all =
+              q.all ∙ ap (λ (ss : List Shown). ss ++ q.of_verdict) f.all ∙ append_assoc p.of_frames f.extra q.of_verdict
+              ∙ ap (λ (ss : List Shown). ss ++ (f.extra ++ q.of_verdict)) (sym mine);
+          within = subst (λ (ss : List Shown). AllByRecursion (λ (s : Shown). s.after ≤ length bytes) ss) (sym mine) f.within;
+          past = all-append (λ (s : Shown). length bytes < s.after) f.extra q.of_verdict f.past (of_verdict_beyond q.verdict q.is_verdict q.is_of_verdict);
+        }
+      where
+        of_verdict_beyond : (w : Verdict) → IsVerdict role limits (bytes ++ more) q.frames w → IsShownVerdict detail role limits (bytes ++ more) q.frames w q.of_verdict → AllByRecursion (λ (s : Shown). length bytes < s.after) q.of_verdict
+        of_verdict_beyond (Accepted s) is e = subst (λ (ss : List Shown). AllByRecursion (λ (s : Shown). length bytes < s.after) ss) (sym e) tt
+        of_verdict_beyond (Cut s) is e = subst (λ (ss : List Shown). AllByRecursion (λ (s : Shown). length bytes < s.after) ss) (sym e) tt
+        of_verdict_beyond (Refused r) is e =
+            elim (cases_lt (length bytes) (r.place + 1)) [
+              | inl past ↦ subst (λ (ss : List Shown). AllByRecursion (λ (s : Shown). length bytes < s.after) ss) (sym e.is) (all_after (λ n. length bytes < n) (r.place + 1) _ past)
+              | inr inside ↦ absurd (unrefused r.place r.reason (refused_alike role limits q.frames (bytes ++ more) bytes r.place r.reason (sym (take-append-le (r.place + 1) bytes more inside)) is))
+            ]
 
-  pub shown_goes_on : (bytes more : List ℕ) (shown longer : List Shown) → IsShownStream role limits bytes shown → IsShownStream role limits (bytes ++ more) longer →
-      (extra : List Shown) × (longer ≡ shown ++ extra) × AllByRecursion (λ (s : Shown). s.after ≤ length bytes) shown × AllByRecursion (λ (s : Shown). length bytes < s.after) extra
-      × (beyond (length bytes) longer ≡ map (λ (s : Shown). s.item) extra)
-  shown_goes_on bytes more shown longer p q =
-      let m = goes_on_by bytes more shown longer p q p.verdict refl in
-      let tests = λ (s : Shown). nat_lt (length bytes) s.after in
-      let left : filter tests longer ≡ m.extra =
-      ap (filter tests) m.all ∙ filter-append tests shown m.extra ∙ ap (λ (ss : List Shown). ss ++ filter tests m.extra) (filter_none (length bytes) shown m.within) ∙ filter_all (length bytes) m.extra m.past in
-      (m.extra, m.all, m.within, m.past, ap (map (λ (s : Shown). s.item)) left)
+    -- A refusal is all that is shown, whatever follows.
+    refused_goes_on : (bytes more : List ℕ) (shown longer : List Shown) (fs : List Frame) (r : Refusal) → IsRefused role limits bytes fs r.place r.reason → (p : IsShownStream detail role limits bytes shown) → IsShownStream detail role limits (bytes ++ more) longer → ShowsMore bytes shown longer
+    refused_goes_on bytes more shown longer fs r refused p q =
+        let place = place_within role limits fs bytes r.place r.reason refused.is_evident in
+        let same = one_verdict role limits bytes p.frames fs p.verdict (Refused r) p.is_verdict refused in
+        let moved : IsShownRefusal detail role limits bytes fs r p.of_verdict =
+        subst (λ (v : Verdict). IsShownVerdict detail role limits bytes fs v p.of_verdict) same.1 (subst (λ (gs : List Frame). IsShownVerdict detail role limits bytes gs p.verdict p.of_verdict) same.0 p.is_of_verdict) in
+        let of_frames = subst (λ (gs : List Frame). AreShownFrames detail role limits bytes gs p.of_frames) same.0 p.are_of_frames in
+        let front = take-append-le (r.place + 1) bytes more place in
+        let as_longer : IsShownStream detail role limits (bytes ++ more) shown = record {
+          frames = fs;
+          verdict = Refused r;
+          is_verdict = stays_refused role limits fs bytes more r.place r.reason refused;
+          of_frames = p.of_frames;
+          are_of_frames = frames_stay detail bytes more fs r p.of_frames refused of_frames;
+          of_verdict = p.of_verdict;
+          is_of_verdict = record {
+            evidence = moved.evidence;
+            is_evidence = subst (λ (bs : List ℕ). IsShownEvidence role limits fs (drop (length (stream fs)) bs) moved.evidence) (sym front) moved.is_evidence;
+            is = moved.is;
+          };
+          all = p.all;
+        } in
+        let one = one_shown role limits detail (bytes ++ more) longer shown q as_longer in
+        let before = frames_within bytes fs (Refused r) refused in
+        record {
+          extra = [];
+          all = one ∙ sym (append-nil shown);
+          within =
+              subst (λ (ss : List Shown). AllByRecursion (λ (s : Shown). s.after ≤ length bytes) ss) (sym p.all)
+              (all-append (λ (s : Shown). s.after ≤ length bytes) p.of_frames p.of_verdict
+              (items_within detail bytes fs p.of_frames before of_frames)
+              (subst (λ (ss : List Shown). AllByRecursion (λ (s : Shown). s.after ≤ length bytes) ss) (sym moved.is) (all_after (λ n. n ≤ length bytes) (r.place + 1) _ place)));
+          past = tt;
+        }
+
+    goes_on_by : (bytes more : List ℕ) (shown longer : List Shown) (p : IsShownStream detail role limits bytes shown) (q : IsShownStream detail role limits (bytes ++ more) longer) (v : Verdict) → p.verdict ≡ v → ShowsMore bytes shown longer
+    goes_on_by bytes more shown longer p q (Refused r) e =
+        refused_goes_on bytes more shown longer p.frames r (subst (λ (v : Verdict). IsVerdict role limits bytes p.frames v) e p.is_verdict) p q
+    goes_on_by bytes more shown longer p q (Accepted s) e =
+        unrefused_goes_on bytes more shown longer p q (subst (λ (v : Verdict). IsShownVerdict detail role limits bytes p.frames v p.of_verdict) e p.is_of_verdict)
+        (λ place reason refused.
+        let same = one_verdict role limits bytes p.frames q.frames p.verdict (Refused (record { place = place; reason = reason })) p.is_verdict refused in
+        accepted_no_refusal s place reason (sym e ∙ same.1))
+      where
+        accepted_no_refusal : (s : Summary) (place : ℕ) (reason : Reason) → Accepted s ≡ Refused (record { place = place; reason = reason }) → ⊥
+        accepted_no_refusal s place reason e = cc
+    goes_on_by bytes more shown longer p q (Cut s) e =
+        unrefused_goes_on bytes more shown longer p q (subst (λ (v : Verdict). IsShownVerdict detail role limits bytes p.frames v p.of_verdict) e p.is_of_verdict)
+        (λ place reason refused.
+        let same = one_verdict role limits bytes p.frames q.frames p.verdict (Refused (record { place = place; reason = reason })) p.is_verdict refused in
+        cut_no_refusal s place reason (sym e ∙ same.1))
+      where
+        cut_no_refusal : (s : Summary) (place : ℕ) (reason : Reason) → Cut s ≡ Refused (record { place = place; reason = reason }) → ⊥
+        cut_no_refusal s place reason e = cc
+
+    pub shown_goes_on : (bytes more : List ℕ) (shown longer : List Shown) → IsShownStream detail role limits bytes shown → IsShownStream detail role limits (bytes ++ more) longer →
+        (extra : List Shown) × (longer ≡ shown ++ extra) × AllByRecursion (λ (s : Shown). s.after ≤ length bytes) shown × AllByRecursion (λ (s : Shown). length bytes < s.after) extra
+        × (beyond (length bytes) longer ≡ map (λ (s : Shown). s.item) extra)
+    shown_goes_on bytes more shown longer p q =
+        let m = goes_on_by bytes more shown longer p q p.verdict refl in
+        let tests = λ (s : Shown). nat_lt (length bytes) s.after in
+        let left : filter tests longer ≡ m.extra =
+        ap (filter tests) m.all ∙ filter-append tests shown m.extra ∙ ap (λ (ss : List Shown). ss ++ filter tests m.extra) (filter_none (length bytes) shown m.within) ∙ filter_all (length bytes) m.extra m.past in
+        (m.extra, m.all, m.within, m.past, ap (map (λ (s : Shown). s.item)) left)

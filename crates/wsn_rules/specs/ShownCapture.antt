@@ -4,6 +4,7 @@ use Rattle.std.specs.Prelude.{◌≡◌, ◌≢◌, ℕ, ◌≤◌, ◌⊎◌, t
 use Rattle.std.specs.List.{AllByRecursion, flat_map}
 use Rattle.wsn_wire.specs.declared.endpoint.Role.{Role}
 use Rattle.wsn_wire.specs.declared.endpoint.Role.TheVariants.{Client, Server}
+use Rattle.wsn_rules.specs.declared.detail.Detail.{Detail}
 use Rattle.wsn_rules.specs.Limits.{Limits}
 use Rattle.wsn_rules.specs.Entries.{Entry, without_cr, AreEntries}
 use Rattle.wsn_rules.specs.Entries.Entry.{Nothing, Bytes, Mark}
@@ -77,12 +78,12 @@ IsShownNothing text items =
 
 -- What a line shows whose text, without its CR, and whose entry are given, after lines with the entries `given`. Of the
 -- bytes of an endpoint, what is shown of its stream with these bytes and not without them.
-abbrev pub IsShownOfEntry : Limits → List Entry → List ℕ → Entry → List LineItem → Type 0
-IsShownOfEntry limits given text Nothing items = IsShownNothing text items
-IsShownOfEntry limits given text (Bytes role bytes) items = (shown : List Shown)
-    × IsShownStream role limits (sent role given ++ bytes) shown
+abbrev pub IsShownOfEntry : Detail → Limits → List Entry → List ℕ → Entry → List LineItem → Type 0
+IsShownOfEntry detail limits given text Nothing items = IsShownNothing text items
+IsShownOfEntry detail limits given text (Bytes role bytes) items = (shown : List Shown)
+    × IsShownStream detail role limits (sent role given ++ bytes) shown
     × (items ≡ of_stream role (beyond (length (sent role given)) shown))
-IsShownOfEntry limits given text (Mark role) items = (left : List Item)
+IsShownOfEntry detail limits given text (Mark role) items = (left : List Item)
     × IsLeftOver role limits (sent role given) left
     × (items ≡ of_stream role left ++ End role (length (sent role given)) ∷ [])
 
@@ -93,12 +94,12 @@ pub record ShownLine : Type 0 where
 
 -- After the lines `before`, which gave the entries `given`, these lines with these entries show this, one for each.
 abbrev pub AreShownAfter :
-    Limits → List (List ℕ) → List Entry → List (List ℕ) → List Entry → List ShownLine → Type 0
-AreShownAfter limits before given [] [] [] = Unit {0}
-AreShownAfter limits before given (line ∷ lines) (entry ∷ entries) (s ∷ shown) =
-    IsTimeAfter before s.time × IsShownOfEntry limits given (without_cr line) entry s.items
-    × AreShownAfter limits (before ++ line ∷ []) (given ++ entry ∷ []) lines entries shown
-AreShownAfter limits before given lines entries shown = ⊥
+    Detail → Limits → List (List ℕ) → List Entry → List (List ℕ) → List Entry → List ShownLine → Type 0
+AreShownAfter detail limits before given [] [] [] = Unit {0}
+AreShownAfter detail limits before given (line ∷ lines) (entry ∷ entries) (s ∷ shown) =
+    IsTimeAfter before s.time × IsShownOfEntry detail limits given (without_cr line) entry s.items
+    × AreShownAfter detail limits (before ++ line ∷ []) (given ++ entry ∷ []) lines entries shown
+AreShownAfter detail limits before given lines entries shown = ⊥
 
 -- The items of an endpoint's stream among those of a line.
 abbrev pub item_of : Role → LineItem → List Item
@@ -122,11 +123,11 @@ IsLeftAtEnd role limits entries items =
     ⊎ ((has_ended role entries ≡ false) × IsLeftOver role limits (sent role entries) items)
 
 -- What is shown of a capture with these lines: of each line; of what is left over, the client's first; and the report.
-pub record IsShownCapture (limits : Limits) (lines : List (List ℕ)) (shown : List ShownLine) (last : List LineItem)
-    (report : Report) : Type 0 where
+pub record IsShownCapture (detail : Detail) (limits : Limits) (lines : List (List ℕ)) (shown : List ShownLine)
+    (last : List LineItem) (report : Report) : Type 0 where
   pub entries : List Entry
   pub given : AreEntries lines entries
-  pub each : AreShownAfter limits [] [] lines entries shown
+  pub each : AreShownAfter detail limits [] [] lines entries shown
   pub client_left : List Item
   pub server_left : List Item
   pub of_client : IsLeftAtEnd Client limits entries client_left

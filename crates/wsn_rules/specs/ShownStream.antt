@@ -1,8 +1,10 @@
--- What is shown of a stream: its events, a refusal, and what its frames leave over. Every byte of the stream belongs to
--- one of these. RFC 6455 sections 5.2 to 5.6 and 7.1.
+-- What is shown of a stream: its events or its frames' heads, a refusal, and what its frames leave over. Every byte of
+-- the stream belongs to one of these. RFC 6455 sections 5.2 to 5.6 and 7.1.
 use Rattle.std.specs.Prelude.{◌≡◌, ◌≢◌, ℕ, ◌+◌, ◌-◌, ◌⊎◌, Bool, nat_lt, Option, None, Some, List, [], ◌∷◌, ◌++◌, length, take, drop, map, flat_map, if◌then◌else◌}
 use Rattle.wsn_wire.specs.declared.endpoint.Role.{Role}
-use Rattle.wsn_wire.specs.Frame.{Frame, stream, is_control, wire_payload}
+use Rattle.wsn_wire.specs.Frame.{Frame, stream, is_control, head_bytes, wire_payload}
+use Rattle.wsn_rules.specs.declared.detail.Detail.{Detail}
+use Rattle.wsn_rules.specs.declared.detail.Detail.TheVariants.{Events, Frames}
 use Rattle.wsn_rules.specs.declared.head_info.HeadInfo.{HeadInfo}
 use Rattle.wsn_rules.specs.declared.verdict.Refusal.{Refusal}
 use Rattle.wsn_rules.specs.declared.verdict.Verdict.{Verdict}
@@ -11,7 +13,7 @@ use Rattle.wsn_rules.specs.Limits.{Limits}
 use Rattle.wsn_rules.specs.Group.{after_last, is_data, unfinished, kind_of, payload_of}
 use Rattle.wsn_rules.specs.Meaning.{MeantEvent, Message, Control, event_at}
 use Rattle.wsn_rules.specs.Summary.{ends_message, is_close}
-use Rattle.wsn_rules.specs.Heads.{BeginsWithHead}
+use Rattle.wsn_rules.specs.Heads.{BeginsWithHead, AreHeads}
 use Rattle.wsn_rules.specs.Verdict.{IsVerdict}
 
 -- ---- the items
@@ -20,6 +22,8 @@ use Rattle.wsn_rules.specs.Verdict.{IsVerdict}
 pub data Item : Type 0 where
   -- A complete event, and the number of its frames.
   Event : ℕ → MeantEvent → ℕ → Item
+  -- A frame, by its head.
+  Head : HeadInfo → Item
   -- What has begun and isn't complete: its payload so far, as an event; the number of its frames that have begun; and
   -- how many bytes the last of them lacks, none if only a part of the next head has come.
   Unfinished : ℕ → MeantEvent → ℕ → Option ℕ → Item
@@ -91,6 +95,27 @@ abbrev pub shown_of : List Frame → List Frame → List Shown
 shown_of before [] = []
 shown_of before (f ∷ fs) = shown_at before f ++ shown_of (before ++ f ∷ []) fs
 
+-- ---- frames, in one of two details
+
+-- What is shown of a frame by its head, with the head's last byte.
+abbrev pub shown_head : HeadInfo → Shown
+shown_head info = record {
+  after = info.place + length (head_bytes info.fin info.op info.key info.form info.len);
+  item = Head info;
+}
+
+-- What is shown of the frames fs, with which the bytes begin. With the detail Events, an entry for each event. With the
+-- detail Frames, a line for each head that is reported of the bytes, also of a frame whose payload isn't complete.
+abbrev pub AreShownFrames : Detail → Role → Limits → List ℕ → List Frame → List Shown → Type 0
+AreShownFrames Events role limits bytes fs shown = shown ≡ shown_of [] fs
+AreShownFrames Frames role limits bytes fs shown =
+    (heads : List HeadInfo) × AreHeads role limits bytes fs heads × (shown ≡ map shown_head heads)
+
+-- The open message that a refusal interrupts. With the detail Frames nothing is shown of it, since its frames were.
+abbrev pub interrupted : Detail → List Frame → List Item
+interrupted Events fs = open_items fs (Some 0)
+interrupted Frames fs = []
+
 -- ---- a refusal
 
 -- The evidence that is shown of a frame whose bytes up to the offending one are `seen`: its payload, unmasked, if the
@@ -102,27 +127,31 @@ IsShownEvidence role limits fs seen shown =
     ⊎ (((info : HeadInfo) (begun : BeginsWithHead role limits fs seen info) → begun.following ≡ []) × (shown ≡ seen))
 
 -- What is shown of a refusal after the frames fs, with the offending byte. A message that it interrupts comes first.
-pub record IsShownRefusal (role : Role) (limits : Limits) (bytes : List ℕ) (fs : List Frame) (refusal : Refusal)
-    (shown : List Shown) : Type 0 where
+pub record IsShownRefusal (detail : Detail) (role : Role) (limits : Limits) (bytes : List ℕ) (fs : List Frame)
+    (refusal : Refusal) (shown : List Shown) : Type 0 where
   pub evidence : List ℕ
   pub is_evidence : IsShownEvidence role limits fs (drop (length (stream fs)) (take (refusal.place + 1) bytes)) evidence
   pub is :
       shown ≡ shown_after (refusal.place + 1)
-      (open_items fs (Some 0) ++ RefusedFrame (length (stream fs)) refusal evidence ∷ [])
+      (interrupted detail fs ++ RefusedFrame (length (stream fs)) refusal evidence ∷ [])
 
 -- What is shown of a verdict, beside its frames.
-abbrev pub IsShownVerdict : Role → Limits → List ℕ → List Frame → Verdict → List Shown → Type 0
-IsShownVerdict role limits bytes fs (Refused refusal) shown = IsShownRefusal role limits bytes fs refusal shown
-IsShownVerdict role limits bytes fs verdict shown = shown ≡ []
+abbrev pub IsShownVerdict : Detail → Role → Limits → List ℕ → List Frame → Verdict → List Shown → Type 0
+IsShownVerdict detail role limits bytes fs (Refused refusal) shown =
+    IsShownRefusal detail role limits bytes fs refusal shown
+IsShownVerdict detail role limits bytes fs verdict shown = shown ≡ []
 
 -- What is shown of a stream, as its bytes come.
-pub record IsShownStream (role : Role) (limits : Limits) (bytes : List ℕ) (shown : List Shown) : Type 0 where
+pub record IsShownStream (detail : Detail) (role : Role) (limits : Limits) (bytes : List ℕ) (shown : List Shown)
+    : Type 0 where
   pub frames : List Frame
   pub verdict : Verdict
   pub is_verdict : IsVerdict role limits bytes frames verdict
+  pub of_frames : List Shown
+  pub are_of_frames : AreShownFrames detail role limits bytes frames of_frames
   pub of_verdict : List Shown
-  pub is_of_verdict : IsShownVerdict role limits bytes frames verdict of_verdict
-  pub all : shown ≡ shown_of [] frames ++ of_verdict
+  pub is_of_verdict : IsShownVerdict detail role limits bytes frames verdict of_verdict
+  pub all : shown ≡ of_frames ++ of_verdict
 
 -- The event of an item, if it is one.
 abbrev pub event_in : Item → List MeantEvent
@@ -132,6 +161,15 @@ event_in item = []
 -- The events among the items.
 abbrev pub events_shown : List Shown → List MeantEvent
 events_shown = flat_map (λ s. event_in s.item)
+
+-- The head of an item, if it shows a frame.
+abbrev pub head_in : Item → List HeadInfo
+head_in (Head info) = info ∷ []
+head_in item = []
+
+-- The heads among the items.
+abbrev pub heads_shown : List Shown → List HeadInfo
+heads_shown = flat_map (λ s. head_in s.item)
 
 -- ---- what is left over where a stream ends
 

@@ -12,6 +12,7 @@
 
 pub mod capture_examples;
 mod compared;
+mod detail;
 pub mod examples;
 pub mod fault_examples;
 pub mod faults;
@@ -31,6 +32,7 @@ mod verdict;
 mod why;
 
 pub use compared::Compared;
+pub use detail::Detail;
 pub use head_info::HeadInfo;
 pub use limits::{INPUT_MAX, Limits, MESSAGE_MAX};
 pub use report::{Outcome, Report, Side};

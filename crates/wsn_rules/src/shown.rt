@@ -3,25 +3,34 @@
 ghost use Rattle.std.specs.Prelude.{◌≡◌, ℕ, ◌<◌, ◌≤◌, List, [], ◌++◌, length, map};
 ghost use Rattle.std.specs.List.{AllByRecursion};
 ghost use Rattle.wsn_rules.specs.Words.{Role, Frame, Limits, Verdict, IsVerdict, meaning};
+ghost use Rattle.wsn_rules.specs.declared.detail.Detail.{Detail};
+ghost use Rattle.wsn_rules.specs.declared.detail.Detail.TheVariants.{Events, Frames};
+ghost use Rattle.wsn_rules.specs.declared.head_info.HeadInfo.{HeadInfo};
 ghost use Rattle.wsn_rules.specs.Entries.{Entry};
+ghost use Rattle.wsn_rules.specs.Heads.{AreHeads};
 ghost use Rattle.wsn_rules.specs.Sides.{sent};
-ghost use Rattle.wsn_rules.specs.ShownStream.{Shown, IsShownStream, events_shown};
+ghost use Rattle.wsn_rules.specs.ShownStream.{Shown, IsShownStream, events_shown, heads_shown};
 ghost use Rattle.wsn_rules.specs.ShownCapture.{beyond, ShownLine, AreShownAfter, items_with_bytes};
 
-/// One list of items is shown of a stream. Its events are the meaning of the stream's frames, in order.
+/// One list of items is shown of a stream in each detail. Its events are the meaning of the stream's frames, in order;
+/// its heads are those that are reported of the stream, in order.
 pub fn law_shown_stream()
-    ensures one { (role : Role) (limits : Limits) (bytes : List ℕ) (shown other : List Shown) →
-        IsShownStream role limits bytes shown → IsShownStream role limits bytes other → shown ≡ other }
+    ensures one { (detail : Detail) (role : Role) (limits : Limits) (bytes : List ℕ) (shown other : List Shown) →
+        IsShownStream detail role limits bytes shown → IsShownStream detail role limits bytes other → shown ≡ other }
     ensures events { (role : Role) (limits : Limits) (bytes : List ℕ) (fs : List Frame) (verdict : Verdict)
         (shown : List Shown) →
-        IsVerdict role limits bytes fs verdict → IsShownStream role limits bytes shown → events_shown shown
+        IsVerdict role limits bytes fs verdict → IsShownStream Events role limits bytes shown → events_shown shown
         ≡ meaning fs }
+    ensures heads { (role : Role) (limits : Limits) (bytes : List ℕ) (fs : List Frame) (verdict : Verdict)
+        (heads : List HeadInfo) (shown : List Shown) →
+        IsVerdict role limits bytes fs verdict → AreHeads role limits bytes fs heads →
+        IsShownStream Frames role limits bytes shown → heads_shown shown ≡ heads }
 {}
 
 /// With more bytes a stream shows the same items and perhaps more, which are shown with the new bytes.
 pub fn law_shown_goes_on()
-    ensures { (role : Role) (limits : Limits) (bytes more : List ℕ) (shown longer : List Shown) →
-        IsShownStream role limits bytes shown → IsShownStream role limits (bytes ++ more) longer →
+    ensures { (detail : Detail) (role : Role) (limits : Limits) (bytes more : List ℕ) (shown longer : List Shown) →
+        IsShownStream detail role limits bytes shown → IsShownStream detail role limits (bytes ++ more) longer →
         (extra : List Shown) × (longer ≡ shown ++ extra)
         × AllByRecursion (λ s. s.after ≤ length bytes) shown × AllByRecursion (λ s. length bytes < s.after) extra
         × (beyond (length bytes) longer ≡ map (λ s. s.item) extra) }
@@ -30,8 +39,9 @@ pub fn law_shown_goes_on()
 /// The lines of a capture show the items of each endpoint's stream, in order. So how the bytes of a stream are cut into
 /// lines changes only in which line an item is shown.
 pub fn law_shown_lines()
-    ensures { (role : Role) (limits : Limits) (lines : List (List ℕ)) (entries : List Entry) (shown : List ShownLine) →
-        AreShownAfter limits [] [] lines entries shown →
-        (all : List Shown) × IsShownStream role limits (sent role entries) all
+    ensures { (detail : Detail) (role : Role) (limits : Limits) (lines : List (List ℕ)) (entries : List Entry)
+        (shown : List ShownLine) →
+        AreShownAfter detail limits [] [] lines entries shown →
+        (all : List Shown) × IsShownStream detail role limits (sent role entries) all
         × (items_with_bytes role entries shown ≡ map (λ s. s.item) all) }
 {}

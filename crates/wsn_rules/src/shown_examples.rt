@@ -1,12 +1,13 @@
 //! Examples of what is shown of frames, computed from the definitions in `specs/`.
 
-ghost use Rattle.std.specs.Prelude.{◌≡◌, true, false, None, Some, [], ◌∷◌, codes};
+ghost use Rattle.std.specs.Prelude.{◌≡◌, true, false, None, Some, [], ◌∷◌, codes, map};
 ghost use Rattle.wsn_wire.specs.declared.opcode.Kind.TheVariants as kind;
 ghost use Rattle.wsn_wire.specs.declared.opcode.Op.TheVariants.{Continue, Text, Binary, Close, Ping};
-ghost use Rattle.wsn_wire.specs.declared.length_forms.Form.TheVariants.{Shortest};
+ghost use Rattle.wsn_wire.specs.declared.length_forms.Form.TheVariants.{Shortest, Two};
 ghost use Rattle.wsn_rules.specs.Meaning.{Message, Control};
-ghost use Rattle.wsn_rules.specs.ShownStream.{shown_of, items_of_part, items_of_head, items_of_bytes};
-ghost use Rattle.wsn_rules.specs.ShownStream.Item.{Event, Unfinished, UnfinishedHead, Tail};
+ghost use Rattle.wsn_rules.specs.Heads.{heads_of};
+ghost use Rattle.wsn_rules.specs.ShownStream.{shown_of, shown_head, items_of_part, items_of_head, items_of_bytes};
+ghost use Rattle.wsn_rules.specs.ShownStream.Item.{Event, Head, Unfinished, UnfinishedHead, Tail};
 ghost use Rattle.wsn_rules.specs.ShownExamples.{server_frame};
 
 /// What frames show: each event with its last byte, at the offset of its first frame.
@@ -26,6 +27,32 @@ pub fn of_frames()
     ensures interrupted { shown_of [] (server_frame false Text (codes "A") ∷ server_frame true Close [] ∷ [])
         ≡ record { after = 5; item = Unfinished 0 (Message kind.Text (codes "A")) 1 (Some 0) }
         ∷ record { after = 5; item = Event 3 (Control Close []) 1 } ∷ [] }
+{}
+
+/// What heads show: each with its last byte, at its own frame's offset.
+pub fn of_heads()
+    ensures ping_between { map shown_head
+        (heads_of
+        (server_frame false Text (codes "Hel") ∷ server_frame true Ping [] ∷ server_frame true Continue (codes "lo") ∷ []))
+        ≡ record {
+          after = 2;
+          item = Head (record { place = 0; fin = false; op = Text; key = None; form = Shortest; len = 3 });
+        }
+        ∷ record {
+          after = 7;
+          item = Head (record { place = 5; fin = true; op = Ping; key = None; form = Shortest; len = 0 });
+        }
+        ∷ record {
+          after = 9;
+          item = Head (record { place = 7; fin = true; op = Continue; key = None; form = Shortest; len = 2 });
+        } ∷ [] }
+    ensures masked { shown_head
+        (record { place = 3; fin = true; op = Binary; key = Some (1 ∷ 2 ∷ 3 ∷ 4 ∷ []); form = Two; len = 100 })
+        ≡ record {
+          after = 11;
+          item =
+              Head (record { place = 3; fin = true; op = Binary; key = Some (1 ∷ 2 ∷ 3 ∷ 4 ∷ []); form = Two; len = 100 });
+        } }
 {}
 
 /// What is left over of a stream that ends inside a frame or a message.

@@ -9,7 +9,7 @@ use Rattle.wsn_scan.specs.declared.refill.ReadChunk.{ReadChunk}
 use Rattle.wsn_scan.specs.Refill.{IsRefilled, IsChunk, count_of, count_past}
 use Rattle.wsn_scan.proofs.HeadBytes.{bytes_taken}
 
-by_past : {P : Type 0} (past : Bool) → (past ≡ true → P) → (past ≡ false → P) → P
+pub by_past : {P : Type 0} (past : Bool) → (past ≡ true → P) → (past ≡ false → P) → P
 by_past true if_so if_not = if_so refl
 by_past false if_so if_not = if_not refl
 

@@ -1,5 +1,5 @@
 -- The heads that are reported: those of whole frames, and of one that has begun.
-use Rattle.std.proofs.Common.{◌≡◌, ℕ, ◌+◌, ◌<◌, ◌≤◌, zero, suc, Bool, cond, is_some, List, [], ◌∷◌, ◌++◌, length, inl, inr, refl, sym, ap, ◌∙◌, subst, arith, append_assoc, append-nil, length-append}
+use Rattle.std.proofs.Common.{◌≡◌, ℕ, ◌+◌, ◌<◌, zero, suc, Bool, cond, is_some, List, [], ◌∷◌, ◌++◌, length, inl, inr, refl, sym, ap, ◌∙◌, subst, arith, append_assoc, append-nil, length-append}
 use Rattle.wsn_wire.specs.declared.endpoint.Role.{Role}
 use Rattle.wsn_wire.specs.declared.refusal.Reason.{Reason}
 use Rattle.wsn_wire.specs.declared.length_forms.Form.{Form}
@@ -23,6 +23,7 @@ use Rattle.wsn_frame.specs.PartialHeads.{HasHeadBytes, IsHead, encoded_form, inf
 use Rattle.wsn_rules.specs.Heads.{info_of, heads_from, heads_of, BeginsWithHead, IsBegun}
 use Rattle.wsn_rules.proofs.Prefixes.{two_fronts}
 use Rattle.wsn_rules.proofs.HeadEvidence.{first_row, encoding_row}
+use Rattle.wsn_rules.proofs.HeadsGoOn.{begins_two, begins_longer}
 use Rattle.wsn_rules.proofs.LayoutPrefixes.{layout_of}
 
 -- ---- whole frames
@@ -201,13 +202,6 @@ begins_size role limits fs rest info b first second more is =
     let size : length b.head ≡ 2 + length (lens ++ key_bytes info.key) = ap (λ (bs : List ℕ). length bs) b.encoded ∙ two_more (first_byte info.fin info.op) (second_byte info.key field) (lens ++ key_bytes info.key) in
     omega (arith, size, length-append lens (key_bytes info.key), count, keys)
 
--- a whole head has two bytes at least
-pub begins_two : (role : Role) (limits : Limits) (fs : List Frame) (rest : List ℕ) (info : HeadInfo) → BeginsWithHead role limits fs rest info → 2 ≤ length rest
-begins_two role limits fs rest info b =
-    let size : length b.head ≡ 2 + length (length_bytes (len_form_of info.form info.len) info.len ++ key_bytes info.key) = ap (λ (bs : List ℕ). length bs) b.encoded ∙ two_more (first_byte info.fin info.op) (second_byte info.key (len_form_of info.form info.len)) (length_bytes (len_form_of info.form info.len) info.len ++ key_bytes info.key) in
-    let all : length rest ≡ length b.head + length b.following = ap (λ (bs : List ℕ). length bs) b.whole ∙ length-append b.head b.following in
-    omega (arith, size, all)
-
 -- bytes that are fewer than the second one requires begin with no whole head
 short_of_head : (role : Role) (limits : Limits) (fs : List Frame) (rest : List ℕ) (first second : ℕ) (more : List ℕ) → rest ≡ first ∷ second ∷ more → length rest < head_size second
     → (info : HeadInfo) → BeginsWithHead role limits fs rest info → ⊥
@@ -281,20 +275,6 @@ cut_begins_none role limits fs head bytes reason h is_evident info b =
     let keys : length (key_bytes head.key) ≡ key_count second = key_bytes_count head.key h.of_four ∙ ap (λ (mask : Bool). cond mask 4 0) (sym h.masked) in
     let all : length bytes ≡ length b.head + length b.following = ap (λ (bs : List ℕ). length bs) b.whole ∙ length-append b.head b.following in
     all_of_head role limits fs bytes reason info b (empty b.following (omega (arith, size, own, count, keys, all, length-append h.lengths (key_bytes head.key)))) is_evident
-
--- a head with more bytes after it
-unfoldable pub begins_longer : (role : Role) (limits : Limits) (fs : List Frame) (rest later : List ℕ) (info : HeadInfo) → BeginsWithHead role limits fs rest info → BeginsWithHead role limits fs (rest ++ later) info
-begins_longer role limits fs rest later info b = record {
-  head = b.head;
-  following = b.following ++ later;
-  whole = ap (λ (bs : List ℕ). bs ++ later) b.whole ∙ append_assoc b.head b.following later;
-  place = b.place;
-  encoded = b.encoded;
-  key = b.key;
-  form = b.form;
-  size = b.size;
-  has_no_evidence = b.has_no_evidence;
-}
 
 -- what is reported of a frame that has begun stays so where its bytes are refused
 pub begun_stays : (role : Role) (limits : Limits) (fs : List Frame) (rest later : List ℕ) (reason : Reason) (begun : List HeadInfo) → Evidence role limits (unfinished fs) reason rest

@@ -24,9 +24,9 @@ use Rattle.wsn_scan.specs.Feeding.{HasScannedBytes, HasFed}
 use Rattle.wsn_scan.specs.declared.refill.ReadChunk.{ReadChunk}
 use Rattle.wsn_scan.specs.Refill.{IsChunk, chunk_size, count_of}
 use Rattle.wsn_scan.specs.Judging.{IsJudgedOf, IsReached}
-use Rattle.wsn_print.specs.HeadText.{head_lines}
-use Rattle.wsn_print.specs.VerdictText.{verdict_line}
-use Rattle.wsn_scan.specs.Listing.{HasVerdictAndHeads, listing, IsReadUpToRefusal, IsEnded, IsListedChunk, IsListed}
+use Rattle.wsn_print.specs.declared.format.Format.{Format}
+use Rattle.wsn_print.specs.Formats.{heads_text, verdict_text}
+use Rattle.wsn_scan.specs.Listing.{HasVerdictAndHeads, listing, IsReadUpToRefusal, IsEnded, IsListedChunk, IsListedAs}
 use Rattle.wsn_rules.proofs.OneVerdict.{one_verdict}
 use Rattle.wsn_scan.proofs.Chunks.{in_count, all_fit, full, most_of}
 use Rattle.wsn_scan.proofs.Unrefused.{unrefused, place_after, reported_so_far, reported_refused}
@@ -34,7 +34,7 @@ use Rattle.wsn_scan.proofs.Printing.{lines_on}
 use Rattle.wsn_io.proofs.PutTexts.{front_of_more, prints_on}
 use Rattle.wsn_scan.proofs.JudgedInputs.{HasRead, room_is, stopped, ended, goes_on, passes_limit, refuses_input}
 
-module _ (role : Role) (limits : Limits) where
+module _ (format : Format) (role : Role) (limits : Limits) where
   -- what is reported of the bytes within the limit
   within : (came : List ℕ) (heads : List HeadInfo) (verdict : Verdict) → length came ≤ limits.input → HasVerdictAndHeads role limits came heads verdict → HasVerdictAndHeads role limits (take limits.input came) heads verdict
   within came heads verdict fits reported = subst (λ (bs : List ℕ). HasVerdictAndHeads role limits bs heads verdict) (sym (take_all limits.input came fits)) reported
@@ -43,22 +43,22 @@ module _ (role : Role) (limits : Limits) where
   read_fits old mid scan came heads read = omega (arith, room_is role limits scan came heads read.taken)
 
   -- a prefix of the heads' lines is a prefix of the listing
-  front_of_listing : (before after : Outgoing) (heads : List HeadInfo) (verdict : Verdict) (k : ℕ) → Appends before.written after.written (take k (head_lines heads))
-      → (j : ℕ) × Appends before.written after.written (take j (listing heads verdict))
+  front_of_listing : (before after : Outgoing) (heads : List HeadInfo) (verdict : Verdict) (k : ℕ) → Appends before.written after.written (take k (heads_text format heads))
+      → (j : ℕ) × Appends before.written after.written (take j (listing format heads verdict))
   front_of_listing before after heads verdict k went =
-      let longer = front_of_more k (head_lines heads) (verdict_line verdict) in
+      let longer = front_of_more k (heads_text format heads) (verdict_text format verdict) in
       (longer.0, subst (λ (bs : List ℕ). Appends before.written after.written bs) (sym longer.1) went)
 
   -- the verdict's line after those of the heads, or a prefix of it
-  module _ (before mid after : Outgoing) (heads : List HeadInfo) (verdict : Verdict) (lines : Appends before.written mid.written (head_lines heads)) where
-    whole_listing : Appends mid.written after.written (verdict_line verdict) → Appends before.written after.written (listing heads verdict)
-    whole_listing went = Appends-trans before.written mid.written after.written (head_lines heads) (verdict_line verdict) lines went
+  module _ (before mid after : Outgoing) (heads : List HeadInfo) (verdict : Verdict) (lines : Appends before.written mid.written (heads_text format heads)) where
+    whole_listing : Appends mid.written after.written (verdict_text format verdict) → Appends before.written after.written (listing format heads verdict)
+    whole_listing went = Appends-trans before.written mid.written after.written (heads_text format heads) (verdict_text format verdict) lines went
 
-    front_listing : (k : ℕ) → Appends mid.written after.written (take k (verdict_line verdict)) → (j : ℕ) × Appends before.written after.written (take j (listing heads verdict))
+    front_listing : (k : ℕ) → Appends mid.written after.written (take k (verdict_text format verdict)) → (j : ℕ) × Appends before.written after.written (take j (listing format heads verdict))
     front_listing k went = (
-      length (head_lines heads) + k,
-      subst (λ (bs : List ℕ). Appends before.written after.written bs) (sym (take-append-add (head_lines heads) (verdict_line verdict) k))
-          (Appends-trans before.written mid.written after.written (head_lines heads) (take k (verdict_line verdict)) lines went),
+      length (heads_text format heads) + k,
+      subst (λ (bs : List ℕ). Appends before.written after.written bs) (sym (take-append-add (heads_text format heads) (verdict_text format verdict) k))
+          (Appends-trans before.written mid.written after.written (heads_text format heads) (take k (verdict_text format verdict)) lines went),
     )
 
   -- ---- after a failed write
@@ -81,7 +81,7 @@ module _ (role : Role) (limits : Limits) where
 
   -- a read failed
   pub list_stopped : (old mid new : Incoming) (before after : Outgoing) (scan : Scan) (came : List ℕ) (heads : List HeadInfo) → HasRead role limits old mid scan came heads
-      → Appends before.written after.written (head_lines heads) → after.failed ≡ false → IsKept mid new → new.failed ≡ true → IsListed role limits old new before after (Err stop.Read)
+      → Appends before.written after.written (heads_text format heads) → after.failed ≡ false → IsKept mid new → new.failed ≡ true → IsListedAs format role limits old new before after (Err stop.Read)
   list_stopped old mid new before after scan came heads read lines unfailed keeps failed =
       let judged = stopped role limits old mid new scan came heads read keeps failed in
       let reported = reported_so_far role limits scan came heads read.taken read.none in
@@ -94,13 +94,13 @@ module _ (role : Role) (limits : Limits) where
 
   -- a verdict is printed
   prints_verdict : (old new : Incoming) (before mid after : Outgoing) (came : List ℕ) (heads : List HeadInfo) (verdict : Verdict) (result : Result Verdict Stop) → IsJudgedOf role limits old new came (Ok verdict)
-      → HasVerdictAndHeads role limits came heads verdict → HasVerdictAndHeads role limits (take limits.input came) heads verdict → Appends before.written mid.written (head_lines heads) → IsEnded mid after verdict result
-      → IsListed role limits old new before after result
+      → HasVerdictAndHeads role limits came heads verdict → HasVerdictAndHeads role limits (take limits.input came) heads verdict → Appends before.written mid.written (heads_text format heads) → IsEnded format mid after verdict result
+      → IsListedAs format role limits old new before after result
   prints_verdict old new before mid after came heads verdict (Ok answer) judged reported cut lines is_end =
-      subst (λ (v : Verdict). IsListed role limits old new before after (Ok v)) (sym is_end.0)
+      subst (λ (v : Verdict). IsListedAs format role limits old new before after (Ok v)) (sym is_end.0)
       (record { came = came; received = judged.received; answer = judged.answer; printed = (heads, reported, (is_end.1.0, whole_listing before mid after heads verdict lines is_end.1.1)) })
   prints_verdict old new before mid after came heads verdict (Err stopped_by) judged reported cut lines is_end =
-      subst (λ (s : Stop). IsListed role limits old new before after (Err s)) (sym is_end.0)
+      subst (λ (s : Stop). IsListedAs format role limits old new before after (Err s)) (sym is_end.0)
       (record {
         came = came;
         received = judged.received;
@@ -110,9 +110,9 @@ module _ (role : Role) (limits : Limits) where
 
   -- the input ended
   pub list_ended : (old mid new : Incoming) (before mid_out after : Outgoing) (scan : Scan) (came : List ℕ) (heads : List HeadInfo) (verdict : Verdict) (result : Result Verdict Stop)
-      (read : HasRead role limits old mid scan came heads) → Appends before.written mid_out.written (head_lines heads) → IsConsumed mid new [] → IsAtEnd new.remaining → new.failed ≡ mid.failed
-      → IsVerdict role limits came read.taken.frames verdict → AreHeads role limits came read.taken.frames heads → refusal_judged verdict ≡ refusal_in scan → IsEnded mid_out after verdict result
-      → IsListed role limits old new before after result
+      (read : HasRead role limits old mid scan came heads) → Appends before.written mid_out.written (heads_text format heads) → IsConsumed mid new [] → IsAtEnd new.remaining → new.failed ≡ mid.failed
+      → IsVerdict role limits came read.taken.frames verdict → AreHeads role limits came read.taken.frames heads → refusal_judged verdict ≡ refusal_in scan → IsEnded format mid_out after verdict result
+      → IsListedAs format role limits old new before after result
   list_ended old mid new before mid_out after scan came heads verdict result read lines nothing at_end failed is_verdict are_heads reported is_end =
       let all : HasVerdictAndHeads role limits came heads verdict = record { frames = read.taken.frames; is_verdict = is_verdict; are_heads = are_heads } in
       prints_verdict old new before mid_out after came heads verdict result (ended role limits old mid new scan came heads verdict read nothing at_end failed is_verdict reported)
@@ -120,7 +120,7 @@ module _ (role : Role) (limits : Limits) where
 
   -- One read gave a chunk, and the scan got the bytes within the limit.
   module _ (old mid new : Incoming) (before mid_out after : Outgoing) (scan next : Scan) (buffer : List ℕ) (chunk : ReadChunk) (came : List ℕ) (heads : List HeadInfo)
-      (read : HasRead role limits old mid scan came heads) (lines : Appends before.written mid_out.written (head_lines heads)) (unfailed : mid_out.failed ≡ false)
+      (read : HasRead role limits old mid scan came heads) (lines : Appends before.written mid_out.written (heads_text format heads)) (unfailed : mid_out.failed ≡ false)
       (got : IsChunk mid new (room_of scan) buffer chunk) (size : length buffer ≡ chunk_size) where
     -- what came within the limit is what the scan got
     up_to_limit : take limits.input (came ++ take (count_of chunk) buffer) ≡ came ++ take chunk.len buffer
@@ -155,15 +155,15 @@ module _ (role : Role) (limits : Limits) where
     reported_within None fed = reported_so_far role limits next (came ++ take chunk.len buffer) (heads ++ fed.heads) (taken_all fed) (sym fed.answered)
     reported_within (Some refusal) fed = (Refused refusal, reported_after refusal fed (take chunk.len buffer) (drop fed.count (take chunk.len buffer)) (take-append-drop fed.count (take chunk.len buffer)))
 
-    all_lines : (refusal : Option Refusal) (piece : IsListedChunk scan next mid_out after (take chunk.len buffer) refusal) → IsWrittenUpToFailure before after (head_lines (heads ++ piece.fed.heads))
+    all_lines : (refusal : Option Refusal) (piece : IsListedChunk format scan next mid_out after (take chunk.len buffer) refusal) → IsWrittenUpToFailure before after (heads_text format (heads ++ piece.fed.heads))
     all_lines refusal piece =
-        lines_on before after heads piece.fed.heads (prints_on before mid_out after (head_lines heads) (head_lines piece.fed.heads) unfailed (inl (unfailed, lines)) piece.printed)
+        lines_on format before after heads piece.fed.heads (prints_on before mid_out after (heads_text format heads) (heads_text format piece.fed.heads) unfailed (inl (unfailed, lines)) piece.printed)
 
     -- all of them, if no write has failed
-    sent : (refusal : Option Refusal) (piece : IsListedChunk scan next mid_out after (take chunk.len buffer) refusal) → after.failed ≡ false → Appends before.written after.written (head_lines (heads ++ piece.fed.heads))
+    sent : (refusal : Option Refusal) (piece : IsListedChunk format scan next mid_out after (take chunk.len buffer) refusal) → after.failed ≡ false → Appends before.written after.written (heads_text format (heads ++ piece.fed.heads))
     sent refusal piece went = of (all_lines refusal piece)
       where
-        of : IsWrittenUpToFailure before after (head_lines (heads ++ piece.fed.heads)) → Appends before.written after.written (head_lines (heads ++ piece.fed.heads))
+        of : IsWrittenUpToFailure before after (heads_text format (heads ++ piece.fed.heads)) → Appends before.written after.written (heads_text format (heads ++ piece.fed.heads))
         of (inl all) = all.1
         of (inr front) = let both : true ≡ false = sym front.0 ∙ went in absurd cc
 
@@ -189,18 +189,18 @@ module _ (role : Role) (limits : Limits) where
         )
 
     -- a write failed
-    pub list_failed : (refusal : Option Refusal) → IsListedChunk scan next mid_out after (take chunk.len buffer) refusal → after.failed ≡ true → IsListed role limits old new before after (Err stop.Write)
+    pub list_failed : (refusal : Option Refusal) → IsListedChunk format scan next mid_out after (take chunk.len buffer) refusal → after.failed ≡ true → IsListedAs format role limits old new before after (Err stop.Write)
     list_failed refusal piece broke =
         let reported = reported_within refusal piece.fed in
         record { came = came ++ take (count_of chunk) buffer; received = received; answer = (got.unfailed ∙ read.unfailed, read_up); printed = (heads ++ piece.fed.heads, reported.0, reported_limit (heads ++ piece.fed.heads) reported.0 reported.1, (broke, of (all_lines refusal piece))) }
       where
-        of : IsWrittenUpToFailure before after (head_lines (heads ++ piece.fed.heads)) → (k : ℕ) × Appends before.written after.written (take k (listing (heads ++ piece.fed.heads) (reported_within refusal piece.fed).0))
+        of : IsWrittenUpToFailure before after (heads_text format (heads ++ piece.fed.heads)) → (k : ℕ) × Appends before.written after.written (take k (listing format (heads ++ piece.fed.heads) (reported_within refusal piece.fed).0))
         of (inl all) = let both : true ≡ false = sym broke ∙ all.0 in absurd cc
         of (inr front) = front_of_listing before after (heads ++ piece.fed.heads) (reported_within refusal piece.fed).0 front.1.0 front.1.1
 
     -- a refusal
-    pub list_refused : (last : Outgoing) (refusal : Refusal) (result : Result Verdict Stop) → IsListedChunk scan next mid_out after (take chunk.len buffer) (Some refusal) → after.failed ≡ false
-        → IsEnded after last (Refused refusal) result → IsListed role limits old new before last result
+    pub list_refused : (last : Outgoing) (refusal : Refusal) (result : Result Verdict Stop) → IsListedChunk format scan next mid_out after (take chunk.len buffer) (Some refusal) → after.failed ≡ false
+        → IsEnded format after last (Refused refusal) result → IsListedAs format role limits old new before last result
     list_refused last refusal result piece went is_end =
         let fed = piece.fed in
         let whole = take (count_of chunk) buffer in
@@ -214,7 +214,7 @@ module _ (role : Role) (limits : Limits) where
         (reported_after refusal fed whole (drop fed.count whole) parts) (reported_limit (heads ++ fed.heads) (Refused refusal) cut) (sent (Some refusal) piece went) is_end
 
     -- the limit is passed
-    pub list_passes : chunk.past_limit ≡ true → IsListedChunk scan next mid_out after (take chunk.len buffer) None → after.failed ≡ false → IsListed role limits old new before after (Err stop.InputLimit)
+    pub list_passes : chunk.past_limit ≡ true → IsListedChunk format scan next mid_out after (take chunk.len buffer) None → after.failed ≡ false → IsListedAs format role limits old new before after (Err stop.InputLimit)
     list_passes past piece went =
         let fed = piece.fed in
         let judged = passes_limit role limits old mid new scan next buffer chunk came heads read got size past fed in
@@ -227,7 +227,7 @@ module _ (role : Role) (limits : Limits) where
         }
 
     -- all was consumed
-    pub list_goes_on : chunk.past_limit ≡ false → IsListedChunk scan next mid_out after (take chunk.len buffer) None → after.failed ≡ false
-        → (all : List ℕ) × (more : List HeadInfo) × HasRead role limits old new next all more × Appends before.written after.written (head_lines more)
+    pub list_goes_on : chunk.past_limit ≡ false → IsListedChunk format scan next mid_out after (take chunk.len buffer) None → after.failed ≡ false
+        → (all : List ℕ) × (more : List HeadInfo) × HasRead role limits old new next all more × Appends before.written after.written (heads_text format more)
     list_goes_on none piece went =
         (came ++ take (count_of chunk) buffer, heads ++ piece.fed.heads, goes_on role limits old mid new scan next buffer chunk came heads read got size none piece.fed, sent None piece went)

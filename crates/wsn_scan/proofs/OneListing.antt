@@ -1,92 +1,33 @@
 -- The heads of given bytes are one list, and so is the listing printed of them.
-use Rattle.std.proofs.Common.{◌≡◌, ℕ, ◌+◌, Option, None, Some, Result, Ok, Err, List, [], ◌∷◌, ◌++◌, length, take, inl, inr, refl, sym, ap, ◌∙◌, subst, append_assoc, length-append, append-nil, arith}
+use Rattle.std.proofs.Common.{◌≡◌, ℕ, ◌+◌, Option, None, Some, Result, Ok, Err, List, [], ◌++◌, length, take, refl, sym, ap, ◌∙◌, subst, length-append, append-nil, arith}
 use Rattle.std.proofs.lemmas.List.{take-append-le}
 use Rattle.std.specs.Io.KnownBytes.{Consumes, IsAtEnd}
 use Rattle.wsn_wire.specs.declared.endpoint.Role.{Role}
-use Rattle.wsn_wire.specs.declared.refusal.Reason.{Reason}
-use Rattle.wsn_wire.specs.Frame.{Frame, stream}
+use Rattle.wsn_wire.specs.Frame.{Frame}
 use Rattle.wsn_io.specs.Transfer.{Incoming, Outgoing, IsWritten}
 use Rattle.wsn_rules.specs.declared.head_info.HeadInfo.{HeadInfo}
 use Rattle.wsn_rules.specs.declared.verdict.Verdict.{Verdict}
 use Rattle.wsn_rules.specs.declared.verdict.Verdict.TheVariants.{Accepted, Cut, Refused}
 use Rattle.wsn_rules.specs.Limits.{Limits}
-use Rattle.wsn_rules.specs.Accepted.{HasNoClose, EndsWithClose}
-use Rattle.wsn_rules.specs.Heads.{heads_of, BeginsWithHead, IsBegun, AreHeads}
-use Rattle.wsn_rules.specs.Verdict.{IsVerdict, IsRefused, IsEvidentAt}
-use Rattle.wsn_rules.proofs.Prefixes.{append_cancel, two_fronts}
+use Rattle.wsn_rules.specs.Heads.{AreHeads}
+use Rattle.wsn_rules.specs.Verdict.{IsVerdict}
 use Rattle.wsn_rules.proofs.OneVerdict.{one_verdict}
-use Rattle.wsn_rules.proofs.OneHead.{one_begun}
+use Rattle.wsn_rules.proofs.HeadsGoOn.{one_heads, heads_stay}
 use Rattle.wsn_io.specs.declared.stop.Stop.{Stop}
 use Rattle.wsn_io.specs.declared.stop.Stop.TheVariants as stop
-use Rattle.wsn_print.specs.HeadText.{head_lines}
+use Rattle.wsn_print.specs.declared.format.Format.{Format}
+use Rattle.wsn_print.specs.Formats.{heads_text}
 use Rattle.wsn_scan.specs.Judging.{IsReached, IsUnrefused, IsWithinLimit}
-use Rattle.wsn_scan.specs.Listing.{HasVerdictAndHeads, listing, IsPrinted, IsListAnswer, IsListed, IsListedWhole}
+use Rattle.wsn_scan.specs.Listing.{HasVerdictAndHeads, listing, IsPrinted, IsListAnswer, IsListedAs, IsListedWholeAs}
 use Rattle.wsn_io.specs.Stops.{HasNoFailure}
-use Rattle.wsn_scan.proofs.HeadsReported.{begins_longer}
 use Rattle.wsn_scan.proofs.WholeInputs.{of_all, not_past}
 
--- ---- the heads of bytes whose frames are known
-
 module _ (role : Role) (limits : Limits) where
-  not_closed : (fs : List Frame) → EndsWithClose fs → HasNoClose fs → ⊥
-  not_closed fs (before, close, is_close, last) none = none before [] close last is_close
-
-  same_begun : (fs : List Frame) (rest : List ℕ) (begun other : List HeadInfo) → IsBegun role limits fs rest begun → IsBegun role limits fs rest other → begun ≡ other
-  same_begun fs rest begun other (inl closed) (inl also) = closed.0 ∙ sym also.0
-  same_begun fs rest begun other (inl closed) (inr (inl none)) = closed.0 ∙ sym none.0
-  same_begun fs rest begun other (inl closed) (inr (inr some)) = absurd (not_closed fs closed.1 some.0)
-  same_begun fs rest begun other (inr (inl none)) (inl closed) = none.0 ∙ sym closed.0
-  same_begun fs rest begun other (inr (inl none)) (inr (inl also)) = none.0 ∙ sym also.0
-  same_begun fs rest begun other (inr (inl none)) (inr (inr some)) = absurd (none.2 some.1.0 some.1.2)
-  same_begun fs rest begun other (inr (inr some)) (inl closed) = absurd (not_closed fs closed.1 some.0)
-  same_begun fs rest begun other (inr (inr some)) (inr (inl none)) = absurd (none.2 some.1.0 some.1.2)
-  same_begun fs rest begun other (inr (inr some)) (inr (inr also)) = some.1.1 ∙ ap (λ (h : HeadInfo). h ∷ []) (one_begun role limits fs rest some.1.0 also.1.0 some.1.2 also.1.2) ∙ sym also.1.1
-
-  pub one_heads : (bytes : List ℕ) (fs : List Frame) (heads others : List HeadInfo) → AreHeads role limits bytes fs heads → AreHeads role limits bytes fs others → heads ≡ others
-  one_heads bytes fs heads others are also =
-      let same : are.rest ≡ also.rest = append_cancel (stream fs) are.rest also.rest (sym are.whole ∙ also.whole) in
-      let begun : are.begun ≡ also.begun = same_begun fs also.rest are.begun also.begun (subst (λ (bs : List ℕ). IsBegun role limits fs bs are.begun) same are.is_begun) also.is_begun in
-      are.all ∙ ap (λ (hs : List HeadInfo). heads_of fs ++ hs) begun ∙ sym also.all
-
   pub one_report : (bytes : List ℕ) (verdict other : Verdict) (heads others : List HeadInfo) → HasVerdictAndHeads role limits bytes heads verdict → HasVerdictAndHeads role limits bytes others other
       → (heads ≡ others) × (verdict ≡ other)
   one_report bytes verdict other heads others has also =
       let same = one_verdict role limits bytes has.frames also.frames verdict other has.is_verdict also.is_verdict in
-      (one_heads bytes also.frames heads others (subst (λ (fs : List Frame). AreHeads role limits bytes fs heads) same.0 has.are_heads) also.are_heads, same.1)
-
-  -- ---- more bytes after a refusal have no more heads
-
-  begun_stays : (fs : List Frame) (place : ℕ) (rest later : List ℕ) (bytes : List ℕ) → bytes ≡ stream fs ++ rest → (refused : (reason : Reason) × IsEvidentAt role limits bytes fs place reason) → (begun : List HeadInfo)
-      → IsBegun role limits fs rest begun → IsBegun role limits fs (rest ++ later) begun
-  begun_stays fs place rest later bytes whole refused begun (inl closed) = inl closed
-  begun_stays fs place rest later bytes whole refused begun (inr (inr some)) =
-      inr (inr (some.0, (some.1.0, some.1.1, begins_longer role limits fs rest later some.1.0 some.1.2)))
-  begun_stays fs place rest later bytes whole refused begun (inr (inl none)) = inr (inl (none.0, none.1, no_head))
-    where
-      is_evident : IsEvidentAt role limits bytes fs place refused.0
-      is_evident = refused.1
-
-      rest_is : rest ≡ is_evident.seen ++ is_evident.later
-      rest_is = append_cancel (stream fs) rest (is_evident.seen ++ is_evident.later) (sym whole ∙ is_evident.whole)
-
-      no_head : (info : HeadInfo) → BeginsWithHead role limits fs (rest ++ later) info → ⊥
-      no_head info b =
-          elim (two_fronts rest b.head later b.following b.whole) [
-            | inl p ↦ b.has_no_evidence.none is_evident.seen (is_evident.later ++ p.0) refused.0
-                (p.1 ∙ ap (λ (bs : List ℕ). bs ++ p.0) rest_is ∙ append_assoc is_evident.seen is_evident.later p.0) is_evident.evidence
-            | inr p ↦ none.2 info (record { head = b.head; following = p.0; whole = p.1; place = b.place; encoded = b.encoded; key = b.key; form = b.form; size = b.size; has_no_evidence = b.has_no_evidence })
-          ]
-
-  heads_stay : (bytes later : List ℕ) (fs : List Frame) (place : ℕ) (reason : Reason) (heads : List HeadInfo) → IsRefused role limits bytes fs place reason → AreHeads role limits bytes fs heads
-      → AreHeads role limits (bytes ++ later) fs heads
-  heads_stay bytes later fs place reason heads refused are = record {
-    rest = are.rest ++ later;
-    begun = are.begun;
-    lawful = are.lawful;
-    whole = ap (λ (bs : List ℕ). bs ++ later) are.whole ∙ append_assoc (stream fs) are.rest later;
-    is_begun = begun_stays fs place are.rest later bytes are.whole (reason, refused.is_evident) are.begun are.is_begun;
-    all = are.all;
-  }
+      (one_heads role limits bytes also.frames heads others (subst (λ (fs : List Frame). AreHeads role limits bytes fs heads) same.0 has.are_heads) also.are_heads, same.1)
 
   -- ---- all the bytes of an input
 
@@ -101,20 +42,20 @@ module _ (role : Role) (limits : Limits) where
           subst (λ (bs : List ℕ). AreHeads role limits bs has.frames heads) (sym (append-nil came) ∙ ap (λ (bs : List ℕ). came ++ bs) (sym nothing)) has.are_heads
 
       of : (v : Verdict) → IsReached role limits new came v → IsVerdict role limits came has.frames v → AreHeads role limits (came ++ rest) has.frames heads
-      of (Refused r) is refused = heads_stay came rest has.frames r.place r.reason heads refused has.are_heads
+      of (Refused r) is refused = heads_stay role limits came rest has.frames r.place r.reason heads refused has.are_heads
       of (Accepted s) is accepted = nothing_more (subst IsAtEnd left is.2)
       of (Cut s) is cut = nothing_more (subst IsAtEnd left is.2)
 
-  pub whole_listing : (old new : Incoming) (before after : Outgoing) (result : Result Verdict Stop) (all : List ℕ) → IsListed role limits old new before after result → old.remaining ≡ Some all
-      → IsListedWhole role limits all before after result
-  whole_listing old new before after result all listed known =
+  pub whole_listing : (format : Format) (old new : Incoming) (before after : Outgoing) (result : Result Verdict Stop) (all : List ℕ) → IsListedAs format role limits old new before after result → old.remaining ≡ Some all
+      → IsListedWholeAs format role limits all before after result
+  whole_listing format old new before after result all listed known =
       by_rest new.remaining refl (subst (λ (a : Option (List ℕ)). Consumes a new.remaining listed.came) known listed.received.consumed)
     where
       came : List ℕ
       came = listed.came
 
       by_result : (rest : List ℕ) → new.remaining ≡ Some rest → all ≡ came ++ rest → (r : Result Verdict Stop) → IsListAnswer role limits new came r
-          → IsPrinted role limits came before after r → IsListedWhole role limits all before after r
+          → IsPrinted format role limits came before after r → IsListedWholeAs format role limits all before after r
       by_result rest left is (Ok verdict) reached (heads, has, written) =
           let here = report_of_all new came rest heads verdict reached left has in (
             heads,
@@ -134,7 +75,7 @@ module _ (role : Role) (limits : Limits) where
       by_result rest left is (Err stop.Memory) stopped written = tt
       by_result rest left is (Err stop.Write) stopped written = tt
 
-      by_rest : (rest : Option (List ℕ)) → new.remaining ≡ rest → Consumes (Some all) rest came → IsListedWhole role limits all before after result
+      by_rest : (rest : Option (List ℕ)) → new.remaining ≡ rest → Consumes (Some all) rest came → IsListedWholeAs format role limits all before after result
       by_rest None left consumed = absurd consumed
       by_rest (Some rest) left consumed = by_result rest left consumed result listed.answer listed.printed
 
@@ -143,23 +84,23 @@ module _ (role : Role) (limits : Limits) where
   abbrev AreAlike : Outgoing → Outgoing → Outgoing → Outgoing → Type 0
   AreAlike before after other_before other_after = (bytes : List ℕ) × IsWritten before after bytes × IsWritten other_before other_after bytes
 
-  pub one_listing : (all : List ℕ) (before after other_before other_after : Outgoing) (result other : Result Verdict Stop) → HasNoFailure result → HasNoFailure other
-      → IsListedWhole role limits all before after result → IsListedWhole role limits all other_before other_after other → (result ≡ other) × AreAlike before after other_before other_after
-  one_listing all before after other_before other_after (Ok v) (Ok w) says also one two =
+  pub one_listing : (format : Format) (all : List ℕ) (before after other_before other_after : Outgoing) (result other : Result Verdict Stop) → HasNoFailure result → HasNoFailure other
+      → IsListedWholeAs format role limits all before after result → IsListedWholeAs format role limits all other_before other_after other → (result ≡ other) × AreAlike before after other_before other_after
+  one_listing format all before after other_before other_after (Ok v) (Ok w) says also one two =
       let same = one_report all v w one.0 two.0 one.1 two.1 in (
         ap (λ (u : Verdict). let answer : Result Verdict Stop = Ok u in answer) same.1,
-        (listing one.0 v, one.3, subst (λ (bs : List ℕ). IsWritten other_before other_after bs) (λ i. listing (sym same.0 i) (sym same.1 i)) two.3),
+        (listing format one.0 v, one.3, subst (λ (bs : List ℕ). IsWritten other_before other_after bs) (λ i. listing format (sym same.0 i) (sym same.1 i)) two.3),
       )
-  one_listing all before after other_before other_after (Ok v) (Err stop.InputLimit) says also one two = absurd (not_past role limits all one.1.frames v one.1.is_verdict one.2 two.0 two.1)
-  one_listing all before after other_before other_after (Err stop.InputLimit) (Ok w) says also one two = absurd (not_past role limits all two.1.frames w two.1.is_verdict two.2 one.0 one.1)
-  one_listing all before after other_before other_after (Err stop.InputLimit) (Err stop.InputLimit) says also one two =
+  one_listing format all before after other_before other_after (Ok v) (Err stop.InputLimit) says also one two = absurd (not_past role limits all one.1.frames v one.1.is_verdict one.2 two.0 two.1)
+  one_listing format all before after other_before other_after (Err stop.InputLimit) (Ok w) says also one two = absurd (not_past role limits all two.1.frames w two.1.is_verdict two.2 one.0 one.1)
+  one_listing format all before after other_before other_after (Err stop.InputLimit) (Err stop.InputLimit) says also one two =
       let same = one_report (take limits.input all) one.2.1 two.2.1 one.2.0 two.2.0 one.2.2 two.2.2 in (
         refl,
-        (head_lines one.2.0, one.2.3, subst (λ (hs : List HeadInfo). IsWritten other_before other_after (head_lines hs)) (sym same.0) two.2.3),
+        (heads_text format one.2.0, one.2.3, subst (λ (hs : List HeadInfo). IsWritten other_before other_after (heads_text format hs)) (sym same.0) two.2.3),
       )
-  one_listing all before after other_before other_after (Err stop.Read) other says also one two = absurd says
-  one_listing all before after other_before other_after (Err stop.Memory) other says also one two = absurd says
-  one_listing all before after other_before other_after (Err stop.Write) other says also one two = absurd says
-  one_listing all before after other_before other_after result (Err stop.Read) says also one two = absurd also
-  one_listing all before after other_before other_after result (Err stop.Memory) says also one two = absurd also
-  one_listing all before after other_before other_after result (Err stop.Write) says also one two = absurd also
+  one_listing format all before after other_before other_after (Err stop.Read) other says also one two = absurd says
+  one_listing format all before after other_before other_after (Err stop.Memory) other says also one two = absurd says
+  one_listing format all before after other_before other_after (Err stop.Write) other says also one two = absurd says
+  one_listing format all before after other_before other_after result (Err stop.Read) says also one two = absurd also
+  one_listing format all before after other_before other_after result (Err stop.Memory) says also one two = absurd also
+  one_listing format all before after other_before other_after result (Err stop.Write) says also one two = absurd also

@@ -25,7 +25,8 @@ use Rattle.wsn_frame.specs.Payloads.{unmasked_by}
 use Rattle.wsn_scan.specs.Scans.{HasScannedAt, IsInPayload, refusal_at}
 use Rattle.wsn_scan.proofs.FedPieces.{untold_few}
 use Rattle.wsn_scan.proofs.FramesReported.{IsWhole, IsToldAt, reported_at}
-use Rattle.wsn_scan.proofs.HeadsReported.{head_begins_at, front_without_evidence, begins_longer}
+use Rattle.wsn_rules.proofs.HeadsGoOn.{begins_longer}
+use Rattle.wsn_scan.proofs.HeadsReported.{head_begins_at, front_without_evidence}
 use Rattle.wsn_frame.proofs.PayloadMore.{length-unmasked_by, unmasked_by-twice}
 
 by_key : (key : Option (List ℕ)) (payload : List ℕ) → wire_payload key payload ≡ unmasked_by key 0 payload

@@ -1,4 +1,4 @@
--- What is printed of a stream: a line for each of its heads, and one for its verdict.
+-- What is printed of a stream: a line for each of its heads, and one for its verdict, in a format.
 use Rattle.std.specs.Prelude.{◌≡◌, ℕ, ◌+◌, ◌<◌, ◌≤◌, false, Option, Result, Ok, Err, List, ◌++◌, length, take, ⊤}
 use Rattle.wsn_wire.specs.declared.endpoint.Role.{Role}
 use Rattle.wsn_wire.specs.declared.refusal.Reason.{Reason}
@@ -13,8 +13,9 @@ use Rattle.wsn_scan.specs.declared.scan.Scan.{Scan}
 use Rattle.wsn_rules.specs.Limits.{Limits}
 use Rattle.wsn_rules.specs.Verdict.{IsRefused, IsVerdict}
 use Rattle.wsn_rules.specs.Heads.{AreHeads}
-use Rattle.wsn_print.specs.HeadText.{head_lines}
-use Rattle.wsn_print.specs.VerdictText.{verdict_line}
+use Rattle.wsn_print.specs.declared.format.Format.{Format}
+use Rattle.wsn_print.specs.declared.format.Format.TheVariants.{Text}
+use Rattle.wsn_print.specs.Formats.{heads_text, verdict_text}
 use Rattle.wsn_scan.specs.Feeding.{HasFed, ConsumesPrefix}
 use Rattle.wsn_scan.specs.Refill.{chunk_size}
 use Rattle.wsn_scan.specs.Judging.{IsJudgeAnswer, IsUnrefused, IsWithinLimit}
@@ -27,44 +28,45 @@ pub record HasVerdictAndHeads (role : Role) (limits : Limits) (bytes : List ℕ)
   pub are_heads : AreHeads role limits bytes frames heads
 
 -- the lines of the heads, and then the verdict's line
-abbrev pub listing : List HeadInfo → Verdict → List ℕ
-listing heads verdict = head_lines heads ++ verdict_line verdict
+abbrev pub listing : Format → List HeadInfo → Verdict → List ℕ
+listing format heads verdict = heads_text format heads ++ verdict_text format verdict
 
 -- The scan has consumed the piece up to a refusal, if there is one, and the lines of the heads that it reported were
 -- written, up to a failed write.
-pub record IsListedChunk (old new : Scan) (before after : Outgoing) (piece : List ℕ) (refusal : Option Refusal)
-    : Type 0 where
+pub record IsListedChunk (format : Format) (old new : Scan) (before after : Outgoing) (piece : List ℕ)
+    (refusal : Option Refusal) : Type 0 where
   pub fed : HasFed old new piece refusal
-  pub printed : IsWrittenUpToFailure before after (head_lines fed.heads)
+  pub printed : IsWrittenUpToFailure before after (heads_text format fed.heads)
 
 -- The scan has consumed the first n bytes of the piece, and the lines of the heads that it reported were written after
 -- what was printed before, up to a failed write.
-pub record IsListedRun (old new : Scan) (before after : Outgoing) (piece : List ℕ) (n : ℕ) : Type 0 where
+pub record IsListedRun (format : Format) (old new : Scan) (before after : Outgoing) (piece : List ℕ) (n : ℕ)
+    : Type 0 where
   pub heads : List HeadInfo
   pub consumes : ConsumesPrefix old new piece n heads
   pub printed : (first : Outgoing) (text : List ℕ) → IsWrittenUpToFailure first before text →
-      IsWrittenUpToFailure first after (text ++ head_lines heads)
+      IsWrittenUpToFailure first after (text ++ heads_text format heads)
 
 -- The verdict is returned and its line was written; or the write failed, and a prefix of the line was written.
-abbrev pub IsEnded : Outgoing → Outgoing → Verdict → Result Verdict Stop → Type 0
-IsEnded before after verdict (Ok answer) = (answer ≡ verdict) × IsWritten before after (verdict_line verdict)
-IsEnded before after verdict (Err stopped) =
-    (stopped ≡ stop.Write) × IsPartlyWritten before after (verdict_line verdict)
+abbrev pub IsEnded : Format → Outgoing → Outgoing → Verdict → Result Verdict Stop → Type 0
+IsEnded format before after verdict (Ok answer) = (answer ≡ verdict) × IsWritten before after (verdict_text format verdict)
+IsEnded format before after verdict (Err stopped) =
+    (stopped ≡ stop.Write) × IsPartlyWritten before after (verdict_text format verdict)
 
 -- What was written at each answer: with a verdict, the whole listing; after a failed write, a prefix of the listing of
 -- the bytes within the limit; at any other stop, the lines of the heads in those bytes.
-abbrev pub IsPrinted : Role → Limits → List ℕ → Outgoing → Outgoing → Result Verdict Stop → Type 0
-IsPrinted role limits came before after (Ok verdict) =
+abbrev pub IsPrinted : Format → Role → Limits → List ℕ → Outgoing → Outgoing → Result Verdict Stop → Type 0
+IsPrinted format role limits came before after (Ok verdict) =
     (heads : List HeadInfo) × HasVerdictAndHeads role limits came heads verdict
-    × IsWritten before after (listing heads verdict)
-IsPrinted role limits came before after (Err stop.Write) =
+    × IsWritten before after (listing format heads verdict)
+IsPrinted format role limits came before after (Err stop.Write) =
     (heads : List HeadInfo) × (verdict : Verdict)
     × HasVerdictAndHeads role limits (take limits.input came) heads verdict
-    × IsPartlyWritten before after (listing heads verdict)
-IsPrinted role limits came before after (Err stopped) =
+    × IsPartlyWritten before after (listing format heads verdict)
+IsPrinted format role limits came before after (Err stopped) =
     (heads : List HeadInfo) × (verdict : Verdict)
     × HasVerdictAndHeads role limits (take limits.input came) heads verdict
-    × IsWritten before after (head_lines heads)
+    × IsWritten before after (heads_text format heads)
 
 -- If the bytes that came are refused, at most `chunk_size` - 1 of them came after the offending byte.
 abbrev pub IsReadUpToRefusal : Role → Limits → List ℕ → Type 0
@@ -80,24 +82,33 @@ IsListAnswer role limits new came result = IsJudgeAnswer role limits new came re
 
 -- These bytes came from the input, at most one past its limit. The answer is right for them, and this was printed of
 -- them.
-pub record IsListed (role : Role) (limits : Limits) (old new : Incoming) (before after : Outgoing)
-    (result : Result Verdict Stop) : Type 0 where
+pub record IsListedAs (format : Format) (role : Role) (limits : Limits) (old new : Incoming)
+    (before after : Outgoing) (result : Result Verdict Stop) : Type 0 where
   pub came : List ℕ
   pub received : IsReceived (limits.input + 1) old new came
   pub answer : IsListAnswer role limits new came result
-  pub printed : IsPrinted role limits came before after result
+  pub printed : IsPrinted format role limits came before after result
+
+-- The same of a listing in words.
+abbrev pub IsListed :
+    Role → Limits → Incoming → Incoming → Outgoing → Outgoing → Result Verdict Stop → Type 0
+IsListed = IsListedAs Text
 
 -- ---- an input whose bytes are known
 
 -- The answer for all bytes of an input. With a verdict on them, their listing was written. At the input limit the bytes
 -- within it are not refused, and the lines of their heads were written. At any other stop this says nothing.
-abbrev pub IsListedWhole : Role → Limits → List ℕ → Outgoing → Outgoing → Result Verdict Stop → Type 0
-IsListedWhole role limits all before after (Ok verdict) =
+abbrev pub IsListedWholeAs : Format → Role → Limits → List ℕ → Outgoing → Outgoing → Result Verdict Stop → Type 0
+IsListedWholeAs format role limits all before after (Ok verdict) =
     (heads : List HeadInfo) × HasVerdictAndHeads role limits all heads verdict × IsWithinLimit limits all verdict
-    × IsWritten before after (listing heads verdict)
-IsListedWhole role limits all before after (Err stop.InputLimit) =
+    × IsWritten before after (listing format heads verdict)
+IsListedWholeAs format role limits all before after (Err stop.InputLimit) =
     (limits.input < length all) × IsUnrefused role limits (take limits.input all)
     × ((heads : List HeadInfo) × (verdict : Verdict)
     × HasVerdictAndHeads role limits (take limits.input all) heads verdict
-    × IsWritten before after (head_lines heads))
-IsListedWhole role limits all before after (Err stopped) = ⊤
+    × IsWritten before after (heads_text format heads))
+IsListedWholeAs format role limits all before after (Err stopped) = ⊤
+
+-- The same of a listing in words.
+abbrev pub IsListedWhole : Role → Limits → List ℕ → Outgoing → Outgoing → Result Verdict Stop → Type 0
+IsListedWhole = IsListedWholeAs Text

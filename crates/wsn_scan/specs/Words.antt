@@ -7,14 +7,15 @@ pub use Rattle.wsn_rules.specs.Group.{unfinished}
 pub use Rattle.wsn_rules.specs.Heads.{AreHeads, heads_of}
 pub use Rattle.wsn_rules.specs.Limits.{Limits}
 pub use Rattle.wsn_print.specs.VerdictText.{verdict_line}
-pub use Rattle.wsn_print.specs.HeadText.{head_lines}
+pub use Rattle.wsn_print.specs.declared.format.Format.{Format}
+pub use Rattle.wsn_print.specs.Formats.{heads_text}
 pub use Rattle.wsn_rules.specs.Verdict.{IsVerdict}
 pub use Rattle.wsn_rules.specs.declared.head_info.HeadInfo.{HeadInfo}
 pub use Rattle.wsn_rules.specs.declared.verdict.Verdict.{Verdict}
 pub use Rattle.wsn_scan.specs.Feeding.{IsRunning, heads_in, HasFed, ConsumesPrefix}
 pub use Rattle.wsn_scan.specs.ReportedFrames.{Position, IsReportedOf, BetweenFrames}
 pub use Rattle.wsn_scan.specs.Judging.{IsJudged, IsUnrefused}
-pub use Rattle.wsn_scan.specs.Listing.{IsEnded, IsListedChunk, IsListedRun, IsListed, IsListedWhole}
+pub use Rattle.wsn_scan.specs.Listing.{IsEnded, IsListedChunk, IsListedRun, IsListed, IsListedAs, IsListedWhole, IsListedWholeAs}
 pub use Rattle.wsn_scan.specs.NoticeReaders.{HasReported, IsReading, notices_left, held_payload}
 pub use Rattle.wsn_scan.specs.ReadNotices.{ReadsOn, IsNotice}
 pub use Rattle.wsn_scan.specs.ReportedEvents.{ReportsEvents}

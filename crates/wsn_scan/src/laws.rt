@@ -1,7 +1,7 @@
 //! Laws about this crate's answers and definitions. Each function does nothing: its contract is the law.
 
 ghost use Rattle.std.specs.Prelude.{◌≡◌, ℕ, ◌+◌, false, None, Some, Result, List, [], ◌∷◌, ◌++◌, length};
-ghost use Rattle.wsn_scan.specs.Words.{Frame, Role, Incoming, Limits, Verdict, Stop, NoticeReader, Position, IsReportedOf, IsJudged, Scan, HasScanned, ConsumesFromPiece, refusal_in, Reported, IsReportedSoFar, IsPayloadSoFar, HeadInfo, heads_of, room_of, AnswersByCase, Notice, HasReported, Outgoing, IsWritten, IsListedWhole, HasNoFailure};
+ghost use Rattle.wsn_scan.specs.Words.{Frame, Role, Incoming, Limits, Verdict, Stop, NoticeReader, Position, IsReportedOf, IsJudged, Scan, HasScanned, ConsumesFromPiece, refusal_in, Reported, IsReportedSoFar, IsPayloadSoFar, HeadInfo, heads_of, room_of, AnswersByCase, Notice, HasReported, Outgoing, IsWritten, IsListedWholeAs, Format, HasNoFailure};
 
 /// [`judge`](crate::judge) has one right answer for an input whose bytes are known, in whatever chunks they come,
 /// unless a read fails.
@@ -12,13 +12,13 @@ pub fn law_one_answer()
         IsJudged role limits old new result → IsJudged role limits old other same → result ≡ same }
 {}
 
-/// [`list`](crate::list) has one answer for an input whose bytes are known and prints one text, in whatever chunks they
-/// come, unless a read or a write fails.
+/// [`list_as`](crate::list_as) has one answer for an input whose bytes are known and prints one text in each format, in
+/// whatever chunks they come, unless a read or a write fails. So has [`list`](crate::list).
 pub fn law_one_listing()
-    ensures { (role : Role) (limits : Limits) (all : List ℕ) (before after other_before other_after : Outgoing)
-        (result other : Result Verdict Stop) →
-        HasNoFailure result → HasNoFailure other → IsListedWhole role limits all before after result →
-        IsListedWhole role limits all other_before other_after other →
+    ensures { (format : Format) (role : Role) (limits : Limits) (all : List ℕ)
+        (before after other_before other_after : Outgoing) (result other : Result Verdict Stop) →
+        HasNoFailure result → HasNoFailure other → IsListedWholeAs format role limits all before after result →
+        IsListedWholeAs format role limits all other_before other_after other →
         (result ≡ other) × ((bytes : List ℕ) × IsWritten before after bytes
         × IsWritten other_before other_after bytes) }
 {}

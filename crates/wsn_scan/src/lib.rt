@@ -1,8 +1,8 @@
 //! Reads one endpoint's stream, lists its frames and gives its verdict (RFC 6455 sections 5 and 7).
 //!
-//! [`judge`] reads an input to its verdict. [`list`] does so too and prints a line for each frame first.
-//! [`NoticeReader`] reports each head, the payload and each frame's end as they come. [`Scan`] does the work for all
-//! three: it consumes a stream in pieces and keeps none of the bytes. [`put_verdict`] prints a verdict.
+//! [`judge`] reads an input to its verdict. [`list`] does so too and prints a line for each frame first, [`list_as`] in
+//! a [`Format`]. [`NoticeReader`] reports each head, the payload and each frame's end as they come. [`Scan`] does the
+//! work for all three: it consumes a stream in pieces and keeps none of the bytes. [`put_verdict`] prints a verdict.
 //!
 //! `wsn_rules` defines what a stream means and which verdict it has. `specs/` defines how a scan's state relates to the
 //! bytes that it has consumed. One frame's head, key and payload check are in `wsn_frame`.
@@ -18,11 +18,11 @@ mod scan;
 mod stage;
 
 pub use judging::judge;
-pub use listing::list;
+pub use listing::{list, list_as};
 pub use notice::Notice;
 pub use notice_reader::{NextNotice, NoticeReader};
-pub use refill::CHUNK;
+pub use refill::{CHUNK, ReadChunk, refill as read_chunk};
 pub use scan::Scan;
 pub use wsn_io::Stop;
-pub use wsn_print::put_verdict;
+pub use wsn_print::{Format, put_verdict};
 pub use wsn_rules::{HeadInfo, INPUT_MAX, Limits, MESSAGE_MAX, Refusal, Summary, Verdict};

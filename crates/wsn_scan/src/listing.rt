@@ -1,12 +1,12 @@
 ghost use Rattle.std.specs.Prelude.{◌≡◌, ℕ, ◌+◌, ◌≤◌, List, ◌++◌, length, drop, false, Ok, Some};
-ghost use Rattle.wsn_scan.specs.Words.{Outgoing, IsWrittenUpToFailure, room_of, IsRunning, heads_in, head_lines, IsEnded, IsListedChunk, IsListedRun, IsListed, IsListedWhole, IsBytes};
+ghost use Rattle.wsn_scan.specs.Words.{Outgoing, IsWrittenUpToFailure, room_of, IsRunning, heads_in, heads_text, IsEnded, IsListedChunk, IsListedRun, IsListed, IsListedAs, IsListedWhole, IsListedWholeAs, IsBytes};
 
 use crate::notice::Notice;
 use crate::refill::{CHUNK, refill};
 use crate::scan::Scan;
 use std::io::{Read, Write};
 use wsn_io::Stop;
-use wsn_print::{put_head, put_verdict};
+use wsn_print::{Format, put_head_as, put_verdict_as};
 use wsn_rules::{Limits, Refusal, Verdict};
 use wsn_wire::{Input, Output, Role};
 
@@ -17,7 +17,6 @@ use wsn_wire::{Input, Output, Role};
 /// Errors: `Read` if a read fails, and `InputLimit` if a byte past the input limit comes. With either, the lines of the
 /// heads that came within the limit are printed, and no verdict. `Write` if the writer fails: a prefix of the lines is
 /// written.
-#[tactic(none)]
 pub fn list<R: Read, W: Write>(
     input: &mut Input<R>,
     output: &mut Output<W>,
@@ -30,18 +29,37 @@ pub fn list<R: Read, W: Write>(
     ensures whole { (all : List ℕ) → input.old.remaining ≡ Some all →
         IsListedWhole role limits all output.old output.new result }
 {
+    list_as(input, output, role, limits, Format::Text)
+}
+
+/// Prints in a format what [`list`] prints: of each frame its line or its object, and then that of the verdict. It reads
+/// and answers as [`list`] does, with the same errors.
+#[tactic(none)]
+pub fn list_as<R: Read, W: Write>(
+    input: &mut Input<R>,
+    output: &mut Output<W>,
+    role: Role,
+    limits: Limits,
+    format: Format,
+) -> Result<Verdict, Stop>
+    requires readable { input.old.failed ≡ false }
+    requires writable { output.old.failed ≡ false }
+    ensures listed { IsListedAs format role limits input.old input.new output.old output.new result }
+    ensures whole { (all : List ℕ) → input.old.remaining ≡ Some all →
+        IsListedWholeAs format role limits all output.old output.new result }
+{
     let mut scan = Scan::new(role, limits);
     let mut buffer = [0; CHUNK];
     loop {
         let Some(chunk) = refill(input, scan.room(), &mut buffer)? else {
-            return end(output, scan.finish());
+            return end(output, format, scan.finish());
         };
-        let refusal = list_chunk(&mut scan, &mut buffer[..chunk.len], output);
+        let refusal = list_chunk(&mut scan, &mut buffer[..chunk.len], output, format);
         if output.failed() {
             return Err(Stop::Write);
         }
         if let Some(refusal) = refusal {
-            return end(output, Verdict::Refused(refusal));
+            return end(output, format, Verdict::Refused(refusal));
         }
         if chunk.past_limit {
             return Err(Stop::InputLimit);
@@ -51,11 +69,11 @@ pub fn list<R: Read, W: Write>(
 
 /// Prints the verdict's line and returns the verdict. `Write` if the writer fails: a prefix of the line is written.
 #[tactic(none)]
-fn end<W: Write>(output: &mut Output<W>, verdict: Verdict) -> Result<Verdict, Stop>
+fn end<W: Write>(output: &mut Output<W>, format: Format, verdict: Verdict) -> Result<Verdict, Stop>
     requires { output.old.failed ≡ false }
-    ensures { IsEnded output.old output.new verdict result }
+    ensures { IsEnded format output.old output.new verdict result }
 {
-    put_verdict(output, &verdict)?;
+    put_verdict_as(output, format, &verdict)?;
     Ok(verdict)
 }
 
@@ -66,21 +84,22 @@ fn list_chunk<W: Write>(
     scan: &mut Scan,
     piece: &mut [u8],
     output: &mut Output<W>,
+    format: Format,
 ) -> Option<Refusal>
     requires begun { IsRunning scan.old }
     requires fits { length piece.old ≤ room_of scan.old }
     requires writable { output.old.failed ≡ false }
-    ensures { IsListedChunk scan.old scan.new output.old output.new piece.old result }
+    ensures { IsListedChunk format scan.old scan.new output.old output.new piece.old result }
 {
     let mut at = 0;
     while at < piece.len() {
         let (taken, notice) = scan.next(&mut piece[at..]);
         at += taken;
-        print(output, &notice);
+        print(output, format, &notice);
         if let Notice::Refused(refusal) = notice {
             return Some(refusal);
         }
-        at += list_frames(scan, &mut piece[at..], output);
+        at += list_frames(scan, &mut piece[at..], output, format);
     }
     scan.refusal()
 }
@@ -89,9 +108,14 @@ fn list_chunk<W: Write>(
 /// Returns the number of bytes. With 0 nothing changes.
 #[inline(never)]
 #[tactic(none)]
-fn list_frames<W: Write>(scan: &mut Scan, piece: &mut [u8], output: &mut Output<W>) -> usize
+fn list_frames<W: Write>(
+    scan: &mut Scan,
+    piece: &mut [u8],
+    output: &mut Output<W>,
+    format: Format,
+) -> usize
     requires { length piece.old ≤ room_of scan.old }
-    ensures taken { IsBytes piece.old → IsListedRun scan.old scan.new output.old output.new piece.old result }
+    ensures taken { IsBytes piece.old → IsListedRun format scan.old scan.new output.old output.new piece.old result }
     ensures within { result ≤ length piece.old }
     ensures kept { drop result piece.new ≡ drop result piece.old }
     ensures room { room_of scan.new + result ≡ room_of scan.old }
@@ -100,20 +124,20 @@ fn list_frames<W: Write>(scan: &mut Scan, piece: &mut [u8], output: &mut Output<
     let mut at = 0;
     while let Some((taken, head)) = scan.take_frame(&mut piece[at..]) {
         at += taken;
-        print(output, &Notice::Head(head));
+        print(output, format, &Notice::Head(head));
     }
     at
 }
 
 /// Prints the head that a notice reports, if it reports one and no write has failed.
 #[tactic(none)]
-fn print<W: Write>(output: &mut Output<W>, notice: &Notice)
+fn print<W: Write>(output: &mut Output<W>, format: Format, notice: &Notice)
     ensures { (before : Outgoing) (text : List ℕ) → IsWrittenUpToFailure before output.old text →
-        IsWrittenUpToFailure before output.new (text ++ head_lines (heads_in notice.now)) }
+        IsWrittenUpToFailure before output.new (text ++ heads_text format (heads_in notice.now)) }
 {
     if let Notice::Head(head) = notice {
         if !output.failed() {
-            let _stop = put_head(output, head);
+            let _stop = put_head_as(output, format, head);
         }
     }
 }

@@ -10,7 +10,7 @@ pub const CHUNK: usize = 4096;
 
 /// What one read put at the start of a buffer: the bytes within the room, and maybe one more.
 #[derive(Clone, Copy)]
-pub(crate) struct ReadChunk {
+pub struct ReadChunk {
     /// How many bytes are within the room.
     pub len: usize,
     /// One byte past the room came after them.
@@ -20,7 +20,7 @@ pub(crate) struct ReadChunk {
 /// Reads once, at most one byte more than `room`, into the start of `buffer`. `None` at the end of the input;
 /// `Stop::Read` if the read fails: then no byte of the input is consumed.
 #[tactic(none)]
-pub(crate) fn refill<R: Read>(
+pub fn refill<R: Read>(
     input: &mut Input<R>,
     room: u64,
     buffer: &mut [u8],

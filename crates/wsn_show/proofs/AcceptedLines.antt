@@ -7,7 +7,7 @@ use Rattle.wsn_rules.specs.Limits.{Limits}
 use Rattle.wsn_rules.specs.Sides.{has_ended}
 use Rattle.wsn_rules.specs.Reports.{IsReport, IsReportOf}
 use Rattle.wsn_rules.specs.declared.report.Report.{Report}
-use Rattle.wsn_rules.specs.Entries.{Entry, GivesEntry, without_cr, IsEntry, AreEntries}
+use Rattle.wsn_rules.specs.Entries.{Entry, without_cr, IsEntry, AreEntries}
 use Rattle.wsn_rules.specs.ShownCapture.{IsNoTime, IsTimeAfter}
 use Rattle.wsn_capture.specs.declared.capture.Capture.{Capture}
 use Rattle.wsn_capture.specs.Captures.{HasAcceptedLines}
@@ -15,8 +15,9 @@ use Rattle.wsn_capture.specs.declared.line_fault.LineFault.TheVariants.{TooLong}
 use Rattle.wsn_capture.specs.LineFaults.{IsAcceptedLine, AreAcceptedAfter}
 use Rattle.wsn_capture.proofs.AcceptedTexts.{taken_given}
 use Rattle.wsn_capture.proofs.OneEntry.{same_entries}
+use Rattle.wsn_show.specs.declared.style.Style.{Style}
 use Rattle.wsn_show.specs.declared.capture_view.CaptureView.{CaptureView}
-use Rattle.wsn_show.specs.CaptureViews.{HasShownLines, IsShowingLines, IsAcceptedText, CanShow, IsTimeNext, ShowsText, ShowsLine}
+use Rattle.wsn_show.specs.CaptureViews.{HasShownLines, IsAcceptedText, CanShow, IsTimeNext, ShowsText, ShowsLine}
 
 -- ---- the last of the accepted lines
 
@@ -73,8 +74,8 @@ time_pushed lines line time next holds (inr (none, is)) =
 
 -- ---- a line
 
-module _ (limits : Limits) (n : ℕ) (view : CaptureView) (lines : List (List ℕ)) (entries : List Entry)
-    (has : HasShownLines limits n view lines entries) (new : Capture) (line : List ℕ) (taken : HasAcceptedLines limits new (lines ++ line ∷ [])) where
+module _ (limits : Limits) (style : Style) (view : CaptureView) (lines : List (List ℕ)) (entries : List Entry)
+    (has : HasShownLines limits style view lines entries) (new : Capture) (line : List ℕ) (taken : HasAcceptedLines limits new (lines ++ line ∷ [])) where
   pub line_accepted : (entry : Entry) × IsAcceptedText limits entries (without_cr line) entry
   line_accepted =
       let last = last_line limits [] lines line taken.entries taken.taken in
@@ -87,7 +88,7 @@ module _ (limits : Limits) (n : ℕ) (view : CaptureView) (lines : List (List �
       let accepted = line_accepted in
       record {
         limits = limits;
-        most = n;
+        style = style;
         given = entries;
         entry = accepted.0;
         viewed = record { client = has.viewed.client; server = has.viewed.server };
@@ -101,8 +102,8 @@ module _ (limits : Limits) (n : ℕ) (view : CaptureView) (lines : List (List �
       omega (arith, long)
 
   pub line_shown : (after : CaptureView) (written put : Outgoing) (entry : Entry) → after.capture ≡ new
-      → ShowsText limits n (record view { capture = new }) after entries (without_cr line) entry written put
-      → IsAcceptedText limits entries (without_cr line) entry → ShowsLine limits n after lines entries line written put
+      → ShowsText limits style (record view { capture = new }) after entries (without_cr line) entry written put
+      → IsAcceptedText limits entries (without_cr line) entry → ShowsLine limits style after lines entries line written put
   line_shown after written put entry capture shows accepted = record {
     entry = entry;
     has_shown = record {
@@ -119,7 +120,7 @@ module _ (limits : Limits) (n : ℕ) (view : CaptureView) (lines : List (List �
 
 -- ---- the end
 
-module _ (limits : Limits) (n : ℕ) (view : CaptureView) (lines : List (List ℕ)) (entries : List Entry) (has : HasShownLines limits n view lines entries) where
+module _ (limits : Limits) (style : Style) (view : CaptureView) (lines : List (List ℕ)) (entries : List Entry) (has : HasShownLines limits style view lines entries) where
   same_accepted : has.accepted.entries ≡ entries
   same_accepted = same_entries lines has.accepted.entries entries (taken_given limits [] lines has.accepted.entries has.accepted.taken) has.given
 

@@ -1,17 +1,15 @@
 -- The end of a text that is shown.
-use Rattle.std.proofs.Common.{◌≡◌, ℕ, ◌+◌, ◌==◌, true, false, None, Result, Ok, Err, List, [], ◌∷◌, ◌++◌, flat_map, length, inl, inr, refl, sym, ap, ◌∙◌, subst, append-nil}
-use Rattle.std.specs.List.{AllByRecursion}
-use Rattle.wsn_io.specs.Transfer.{Outgoing, IsWritten, IsPartlyWritten, IsWrittenUpToFailure}
-use Rattle.wsn_io.specs.Stops.{IsWrittenOrStops}
+use Rattle.std.proofs.Common.{◌≡◌, ℕ, true, false, None, Ok, Err, List, [], ◌∷◌, ◌++◌, flat_map, inl, inr, refl, sym, ap, ◌∙◌, subst, append-nil}
+use Rattle.wsn_io.specs.Transfer.{Outgoing, IsWritten, IsPartlyWritten}
 use Rattle.wsn_io.proofs.PutTexts.{put_both, put_front, put_no_more}
 use Rattle.wsn_rules.specs.Limits.{Limits}
-use Rattle.wsn_rules.specs.Entries.{Entry}
-use Rattle.wsn_rules.specs.TextLines.{IsLine, ended, AreLines}
+use Rattle.wsn_rules.specs.TextLines.{ended, AreLines}
 use Rattle.wsn_rules.proofs.TextLines.{lines_at_end}
 use Rattle.wsn_rules.specs.declared.report.Report.{Report}
 use Rattle.wsn_wire.specs.declared.endpoint.Role.TheVariants.{Client, Server}
-use Rattle.wsn_rules.specs.ShownCapture.{LineItem, of_stream, IsShownCapture}
-use Rattle.wsn_print.specs.ShownText.{line_item_text, shown_line_text, shown_text}
+use Rattle.wsn_rules.specs.ShownCapture.{LineItem, of_stream}
+use Rattle.wsn_show.specs.declared.style.Style.{Style}
+use Rattle.wsn_show.specs.Styles.{styled_line_item, styled_line}
 use Rattle.wsn_print.specs.ReportText.{report_lines}
 use Rattle.wsn_capture.specs.declared.capture_stop.CaptureStop.TheVariants as capture
 use Rattle.wsn_capture.specs.LineFaults.{AreAcceptedLines}
@@ -22,25 +20,25 @@ use Rattle.wsn_show.specs.declared.capture_view.CaptureView.{CaptureView}
 use Rattle.wsn_show.specs.declared.showing.ShowStop.{ShowStop}
 use Rattle.wsn_show.specs.declared.showing.ShowStop.TheVariants as stop
 use Rattle.wsn_show.specs.CaptureViews.{ShowsLine, Finishes}
-use Rattle.wsn_show.specs.Showing.{IsTextOf, IsWholeText, BeginWithLines}
+use Rattle.wsn_show.specs.Showing.{IsWholeText}
 use Rattle.wsn_show.specs.PassedLines.{HasPrinted, HasPrintedLines, StopsAtLine, EndsShowing}
 use Rattle.wsn_show.proofs.PassedPieces.{text_so_far, text_with_line, partly_with_line, printed_with_line, one_more, failed_part, whole_part}
 
 -- ---- the report
 
-module _ (limits : Limits) (n : ℕ) (first : Outgoing) (came : List ℕ) (lines : List (List ℕ)) (are_lines : AreLines came lines)
-    (view : CaptureView) (now : Outgoing) (has : HasPrintedLines limits n first view lines now) (after : Outgoing) (report : Report)
-    (finishes : Finishes limits n lines has.entries now after report) where
+module _ (limits : Limits) (style : Style) (first : Outgoing) (came : List ℕ) (lines : List (List ℕ)) (are_lines : AreLines came lines)
+    (view : CaptureView) (now : Outgoing) (has : HasPrintedLines limits style first view lines now) (after : Outgoing) (report : Report)
+    (finishes : Finishes limits style lines has.entries now after report) where
   abbrev last : List LineItem
   last = of_stream Client finishes.client_left ++ of_stream Server finishes.server_left
 
   abbrev lines_text : List ℕ
-  lines_text = flat_map (shown_line_text n) has.shown
+  lines_text = flat_map (styled_line style) has.shown
 
   abbrev last_text : List ℕ
-  last_text = flat_map (line_item_text n None) last
+  last_text = flat_map (styled_line_item style None) last
 
-  pub whole_text : IsWholeText limits n came report (lines_text ++ last_text ++ report_lines report)
+  pub whole_text : IsWholeText limits style came report (lines_text ++ last_text ++ report_lines report)
   whole_text =
       let accepted = has.has_shown.accepted in
       let same = same_entries lines accepted.entries has.entries (taken_given limits [] lines accepted.entries accepted.taken) has.has_shown.given in
@@ -66,7 +64,7 @@ module _ (limits : Limits) (n : ℕ) (first : Outgoing) (came : List ℕ) (lines
       }
 
   -- a write failed before the report
-  pub stopped_before : after.failed ≡ true → EndsShowing limits n first after came (Err stop.Write)
+  pub stopped_before : after.failed ≡ true → EndsShowing limits style first after came (Err stop.Write)
   stopped_before failed = (
     lines_text ++ last_text ++ report_lines report,
     inr (report, whole_text),
@@ -78,10 +76,10 @@ module _ (limits : Limits) (n : ℕ) (first : Outgoing) (came : List ℕ) (lines
     all_before : IsWritten first after (lines_text ++ last_text)
     all_before = put_both first now after lines_text last_text has.printed (whole_part now after last_text works finishes.printed)
 
-    pub reported : IsWritten after out (report_lines report) → EndsShowing limits n first out came (Ok report)
+    pub reported : IsWritten after out (report_lines report) → EndsShowing limits style first out came (Ok report)
     reported written = (lines_text ++ last_text ++ report_lines report, whole_text, put_both first after out (lines_text ++ last_text) (report_lines report) all_before written)
 
-    pub stopped_in : IsPartlyWritten after out (report_lines report) → EndsShowing limits n first out came (Err stop.Write)
+    pub stopped_in : IsPartlyWritten after out (report_lines report) → EndsShowing limits style first out came (Err stop.Write)
     stopped_in partly = (
       lines_text ++ last_text ++ report_lines report,
       inr (report, whole_text),
@@ -90,8 +88,8 @@ module _ (limits : Limits) (n : ℕ) (first : Outgoing) (came : List ℕ) (lines
 
 -- ---- the last line
 
-module _ (limits : Limits) (n : ℕ) (first : Outgoing) (view : CaptureView) (begun : List ℕ) (now : Outgoing) (came : List ℕ)
-    (has : HasPrinted limits n first view begun now came) where
+module _ (limits : Limits) (style : Style) (first : Outgoing) (view : CaptureView) (begun : List ℕ) (now : Outgoing) (came : List ℕ)
+    (has : HasPrinted limits style first view begun now came) where
   -- there is none
   pub no_more_lines : begun ≡ [] → AreLines came has.passed.lines
   no_more_lines none = record {
@@ -99,7 +97,7 @@ module _ (limits : Limits) (n : ℕ) (first : Outgoing) (view : CaptureView) (be
     joined = inl (has.passed.whole ∙ ap (λ (bs : List ℕ). ended has.passed.lines ++ bs) none ∙ append-nil (ended has.passed.lines));
   }
 
-  pub all_printed : HasPrintedLines limits n first view has.passed.lines now
+  pub all_printed : HasPrintedLines limits style first view has.passed.lines now
   all_printed = record { entries = has.entries; has_shown = has.has_shown; shown = has.shown; are = has.are; printed = has.printed }
 
   module _ (some : begun ≡ [] → ⊥) (new : CaptureView) (after : Outgoing) where
@@ -108,35 +106,35 @@ module _ (limits : Limits) (n : ℕ) (first : Outgoing) (view : CaptureView) (be
         subst (λ (bs : List ℕ). AreLines bs (has.passed.lines ++ begun ∷ [])) (sym has.passed.whole)
         (lines_at_end has.passed.lines begun has.passed.each has.passed.in_line some)
 
-    pub last_printed : (shows : ShowsLine limits n new has.passed.lines has.entries begun now after) → after.failed ≡ false
-        → HasPrintedLines limits n first new (has.passed.lines ++ begun ∷ []) after
+    pub last_printed : (shows : ShowsLine limits style new has.passed.lines has.entries begun now after) → after.failed ≡ false
+        → HasPrintedLines limits style first new (has.passed.lines ++ begun ∷ []) after
     last_printed shows works =
-        let text = text_with_line limits n first view begun now came has new begun after shows in
+        let text = text_with_line limits style first view begun now came has new begun after shows in
         record {
           entries = has.entries ++ shows.entry ∷ [];
           has_shown = shows.has_shown;
           shown = text.shown;
-          are = one_more limits n first view begun now came has new begun after shows;
+          are = one_more limits style first view begun now came has new begun after shows;
           printed = subst (IsWritten first after) text.is
-              (printed_with_line limits n first view begun now came has new begun after shows (whole_part now after (shown_line_text n shows.shown) works shows.printed));
+              (printed_with_line limits style first view begun now came has new begun after shows (whole_part now after (styled_line style shows.shown) works shows.printed));
         }
 
-    pub last_stops : (s : ShowStop) → StopsAtLine limits n new has.passed.lines has.entries begun now after s → EndsShowing limits n first after came (Err s)
+    pub last_stops : (s : ShowStop) → StopsAtLine limits style new has.passed.lines has.entries begun now after s → EndsShowing limits style first after came (Err s)
     last_stops (stop.Capture (capture.Line number fault)) stops = (
       faulty_last limits view.capture begun came has.passed number fault some (stops.0, stops.1),
       unfaulted limits view.capture begun came has.passed,
       (
         has.passed.lines,
-        flat_map (shown_line_text n) has.shown,
+        flat_map (styled_line style) has.shown,
         inl (begun, has.passed.each, has.passed.whole),
         stops.0,
-        text_so_far limits n first view begun now came has,
-        subst (λ (o : Outgoing). IsWritten first o (flat_map (shown_line_text n) has.shown)) (sym stops.2) has.printed,
+        text_so_far limits style first view begun now came has,
+        subst (λ (o : Outgoing). IsWritten first o (flat_map (styled_line style) has.shown)) (sym stops.2) has.printed,
       ),
     )
     last_stops (stop.Capture capture.Read) stops = absurd stops
     last_stops stop.Write stops = (
-      flat_map (shown_line_text n) has.shown ++ shown_line_text n stops.0.shown,
-      inl (has.passed.lines ++ begun ∷ [], inr with_last, text_with_line limits n first view begun now came has new begun after stops.0),
-      partly_with_line limits n first view begun now came has new begun after stops.0 (failed_part now after (shown_line_text n stops.0.shown) stops.1 stops.0.printed),
+      flat_map (styled_line style) has.shown ++ styled_line style stops.0.shown,
+      inl (has.passed.lines ++ begun ∷ [], inr with_last, text_with_line limits style first view begun now came has new begun after stops.0),
+      partly_with_line limits style first view begun now came has new begun after stops.0 (failed_part now after (styled_line style stops.0.shown) stops.1 stops.0.printed),
     )

@@ -65,7 +65,7 @@ module _ (role : Role) (limits : Limits) where
       begun_is : heads.begun ≡ begun_at at
       begun_is = append_cancel (heads_of h.frames) heads.begun (begun_at at) (sym heads.all ∙ h.ended.heads ∙ ap (λ (fs : List Frame). heads_of fs ++ begun_at at) same)
 
-      is_begun : IsBegun role limits done rest (begun_at at)
+      pub is_begun : IsBegun role limits done rest (begun_at at)
       is_begun =
           subst (λ (fs : List Frame). IsBegun role limits fs rest (begun_at at)) (sym same)
           (subst (λ (bs : List ℕ). IsBegun role limits h.frames bs (begun_at at)) (rest_is heads.rest heads.whole)

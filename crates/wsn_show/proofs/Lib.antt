@@ -6,6 +6,7 @@ pub mod PrintedItems
 pub mod HeldItems
 pub mod PrintedParts
 pub mod ScanCalls
+pub mod FramesSoFar
 pub mod ShownSteps
 pub mod ShownPieces
 pub mod StreamsShown
@@ -16,3 +17,4 @@ pub mod AcceptedLines
 pub mod PassedPieces
 pub mod EndedTexts
 pub mod ShownInputs
+pub mod ShownStreamInputs

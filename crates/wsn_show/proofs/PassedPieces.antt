@@ -1,22 +1,20 @@
 -- A piece of a text and the lines that it ends.
-use Rattle.std.proofs.Common.{◌≡◌, ℕ, suc, ◌+◌, ◌-◌, ◌*◌, ◌≤◌, ◌<◌, true, false, List, [], ◌∷◌, ◌++◌, length, take, drop, flat_map, inl, inr, refl, sym, ap, ◌∙◌, subst, append_assoc, append-nil, length-append, arith}
-use Rattle.std.specs.List.{AllByRecursion}
+use Rattle.std.proofs.Common.{◌≡◌, ℕ, ◌+◌, ◌-◌, ◌≤◌, ◌<◌, true, false, List, [], ◌∷◌, ◌++◌, length, take, drop, flat_map, inl, inr, refl, sym, ap, ◌∙◌, subst, append_assoc, append-nil, length-append, arith}
 use Rattle.std.proofs.lemmas.List.{take-append-drop, length-take-le}
 use Rattle.std.proofs.lemmas.List.Concat.{flat_map-append}
 use Rattle.wsn_io.specs.Transfer.{Outgoing, IsWritten, IsPartlyWritten, IsWrittenUpToFailure}
 use Rattle.wsn_io.proofs.PutTexts.{put_both, put_front}
+use Rattle.wsn_rules.specs.declared.detail.Detail.{Detail}
 use Rattle.wsn_rules.specs.Limits.{Limits}
 use Rattle.wsn_rules.specs.Entries.{Entry}
 use Rattle.wsn_rules.specs.TextLines.{IsLine, ended}
 use Rattle.wsn_rules.proofs.TextLines.{ended-push, each_join}
 use Rattle.wsn_rules.specs.ShownCapture.{ShownLine, AreShownAfter}
-use Rattle.wsn_print.specs.ShownText.{shown_line_text}
-use Rattle.wsn_capture.specs.declared.capture.Capture.{Capture}
-use Rattle.wsn_capture.specs.declared.capture_stop.CaptureStop.{CaptureStop}
+use Rattle.wsn_show.specs.declared.style.Style.{Style}
+use Rattle.wsn_show.specs.Styles.{styled_line}
 use Rattle.wsn_capture.specs.declared.capture_stop.CaptureStop.TheVariants as capture
-use Rattle.wsn_capture.specs.Captures.{HasAcceptedLines, count_of}
 use Rattle.wsn_capture.specs.LineFaults.{AreAcceptedLines}
-use Rattle.wsn_capture.specs.LineSplitters.{HasPassedOn, IsStopAt, IsStopWithin}
+use Rattle.wsn_capture.specs.LineSplitters.{IsStopAt, IsStopWithin}
 use Rattle.wsn_capture.proofs.SplitLines.{line_join, stop_line, stop_at_most, no_long}
 use Rattle.wsn_capture.proofs.PiecePrefixes.{rest_is, stop_in_rest}
 use Rattle.wsn_capture.proofs.OneEntry.{same_entries}
@@ -24,44 +22,44 @@ use Rattle.wsn_capture.proofs.AcceptedTexts.{taken_given}
 use Rattle.wsn_show.specs.declared.capture_view.CaptureView.{CaptureView}
 use Rattle.wsn_show.specs.declared.showing.ShowStop.{ShowStop}
 use Rattle.wsn_show.specs.declared.showing.ShowStop.TheVariants as stop
-use Rattle.wsn_show.specs.CaptureViews.{HasShownLines, IsShowingLines, ShowsLine}
+use Rattle.wsn_show.specs.CaptureViews.{ShowsLine}
 use Rattle.wsn_show.specs.Showing.{IsTextOfLines, BeginWithLines, IsTextOf}
 use Rattle.wsn_show.specs.SplitLines.{GoesOn, EndsLine}
-use Rattle.wsn_show.specs.PassedLines.{HasPrinted, IsPrinting, StopsAtLine, StopsWithin, bytes_ahead}
+use Rattle.wsn_show.specs.PassedLines.{HasPrinted, StopsAtLine, StopsWithin}
 
 -- ---- lists
 
 -- what one line more shows
-pub shown_pushed : (limits : Limits) (before : List (List ℕ)) (given : List Entry) (lines : List (List ℕ)) (entries : List Entry) (shown : List ShownLine)
-    (line : List ℕ) (entry : Entry) (s : ShownLine) → AreShownAfter limits before given lines entries shown
-    → AreShownAfter limits (before ++ lines) (given ++ entries) (line ∷ []) (entry ∷ []) (s ∷ [])
-    → AreShownAfter limits before given (lines ++ line ∷ []) (entries ++ entry ∷ []) (shown ++ s ∷ [])
-shown_pushed limits before given [] [] [] line entry s are one =
-    subst (λ (b : List (List ℕ)). AreShownAfter limits b given (line ∷ []) (entry ∷ []) (s ∷ [])) (append-nil before)
-    (subst (λ (g : List Entry). AreShownAfter limits (before ++ []) g (line ∷ []) (entry ∷ []) (s ∷ [])) (append-nil given) one)
-shown_pushed limits before given [] [] (t ∷ shown) line entry s are one = absurd are
-shown_pushed limits before given [] (e ∷ entries) shown line entry s are one = absurd are
-shown_pushed limits before given (l ∷ lines) [] shown line entry s are one = absurd are
-shown_pushed limits before given (l ∷ lines) (e ∷ entries) [] line entry s are one = absurd are
-shown_pushed limits before given (l ∷ lines) (e ∷ entries) (t ∷ shown) line entry s are one = (
+pub shown_pushed : (detail : Detail) (limits : Limits) (before : List (List ℕ)) (given : List Entry) (lines : List (List ℕ)) (entries : List Entry) (shown : List ShownLine)
+    (line : List ℕ) (entry : Entry) (s : ShownLine) → AreShownAfter detail limits before given lines entries shown
+    → AreShownAfter detail limits (before ++ lines) (given ++ entries) (line ∷ []) (entry ∷ []) (s ∷ [])
+    → AreShownAfter detail limits before given (lines ++ line ∷ []) (entries ++ entry ∷ []) (shown ++ s ∷ [])
+shown_pushed detail limits before given [] [] [] line entry s are one =
+    subst (λ (b : List (List ℕ)). AreShownAfter detail limits b given (line ∷ []) (entry ∷ []) (s ∷ [])) (append-nil before)
+    (subst (λ (g : List Entry). AreShownAfter detail limits (before ++ []) g (line ∷ []) (entry ∷ []) (s ∷ [])) (append-nil given) one)
+shown_pushed detail limits before given [] [] (t ∷ shown) line entry s are one = absurd are
+shown_pushed detail limits before given [] (e ∷ entries) shown line entry s are one = absurd are
+shown_pushed detail limits before given (l ∷ lines) [] shown line entry s are one = absurd are
+shown_pushed detail limits before given (l ∷ lines) (e ∷ entries) [] line entry s are one = absurd are
+shown_pushed detail limits before given (l ∷ lines) (e ∷ entries) (t ∷ shown) line entry s are one = (
   are.0,
   are.1,
-  shown_pushed limits (before ++ l ∷ []) (given ++ e ∷ []) lines entries shown line entry s are.2
-      (subst (λ (b : List (List ℕ)). AreShownAfter limits b ((given ++ e ∷ []) ++ entries) (line ∷ []) (entry ∷ []) (s ∷ [])) (sym (append_assoc before (l ∷ []) lines))
-      (subst (λ (g : List Entry). AreShownAfter limits (before ++ l ∷ lines) g (line ∷ []) (entry ∷ []) (s ∷ [])) (sym (append_assoc given (e ∷ []) entries)) one)),
+  shown_pushed detail limits (before ++ l ∷ []) (given ++ e ∷ []) lines entries shown line entry s are.2
+      (subst (λ (b : List (List ℕ)). AreShownAfter detail limits b ((given ++ e ∷ []) ++ entries) (line ∷ []) (entry ∷ []) (s ∷ [])) (sym (append_assoc before (l ∷ []) lines))
+      (subst (λ (g : List Entry). AreShownAfter detail limits (before ++ l ∷ lines) g (line ∷ []) (entry ∷ []) (s ∷ [])) (sym (append_assoc given (e ∷ []) entries)) one)),
 )
 
-pub text_pushed : (n : ℕ) (shown : List ShownLine) (s : ShownLine) →
-    flat_map (shown_line_text n) (shown ++ s ∷ []) ≡ flat_map (shown_line_text n) shown ++ shown_line_text n s
-text_pushed n shown s =
-    flat_map-append (shown_line_text n) shown (s ∷ []) ∙ ap (λ (bs : List ℕ). flat_map (shown_line_text n) shown ++ bs) (append-nil (shown_line_text n s))
+pub text_pushed : (style : Style) (shown : List ShownLine) (s : ShownLine) →
+    flat_map (styled_line style) (shown ++ s ∷ []) ≡ flat_map (styled_line style) shown ++ styled_line style s
+text_pushed style shown s =
+    flat_map-append (styled_line style) shown (s ∷ []) ∙ ap (λ (bs : List ℕ). flat_map (styled_line style) shown ++ bs) (append-nil (styled_line style s))
 
 -- ---- a view that has printed lines
 
-module _ (limits : Limits) (n : ℕ) (first : Outgoing) (view : CaptureView) (begun : List ℕ) (now : Outgoing) (came : List ℕ)
-    (has : HasPrinted limits n first view begun now came) where
+module _ (limits : Limits) (style : Style) (first : Outgoing) (view : CaptureView) (begun : List ℕ) (now : Outgoing) (came : List ℕ)
+    (has : HasPrinted limits style first view begun now came) where
   -- the text of the lines so far
-  pub text_so_far : IsTextOfLines limits n has.passed.lines (flat_map (shown_line_text n) has.shown)
+  pub text_so_far : IsTextOfLines limits style has.passed.lines (flat_map (styled_line style) has.shown)
   text_so_far =
       let accepted = has.has_shown.accepted in
       let same = same_entries has.passed.lines accepted.entries has.entries (taken_given limits [] has.passed.lines accepted.entries accepted.taken) has.has_shown.given in
@@ -74,11 +72,11 @@ module _ (limits : Limits) (n : ℕ) (first : Outgoing) (view : CaptureView) (be
       }
 
   -- the line goes on
-  pub printed_on : (after piece : List ℕ) (k : ℕ) → GoesOn begun after piece k → HasPrinted limits n first view after now (came ++ take k piece)
+  pub printed_on : (after piece : List ℕ) (k : ℕ) → GoesOn begun after piece k → HasPrinted limits style first view after now (came ++ take k piece)
   printed_on after piece k goes =
       let bytes = take k piece in
       let passed = has.passed in
-      subst (λ (bs : List ℕ). HasPrinted limits n first view bs now (came ++ bytes)) (sym goes.is) (record {
+      subst (λ (bs : List ℕ). HasPrinted limits style first view bs now (came ++ bytes)) (sym goes.is) (record {
         passed = record {
           lines = passed.lines;
           whole = ap (λ (bs : List ℕ). bs ++ bytes) passed.whole ∙ append_assoc (ended passed.lines) begun bytes;
@@ -96,11 +94,11 @@ module _ (limits : Limits) (n : ℕ) (first : Outgoing) (view : CaptureView) (be
       })
 
   -- one line more was shown
-  module _ (new : CaptureView) (line : List ℕ) (after : Outgoing) (shows : ShowsLine limits n new has.passed.lines has.entries line now after) where
-    pub one_more : AreShownAfter limits [] [] (has.passed.lines ++ line ∷ []) (has.entries ++ shows.entry ∷ []) (has.shown ++ shows.shown ∷ [])
-    one_more = shown_pushed limits [] [] has.passed.lines has.entries has.shown line shows.entry shows.shown has.are (shows.at, shows.shows, tt)
+  module _ (new : CaptureView) (line : List ℕ) (after : Outgoing) (shows : ShowsLine limits style new has.passed.lines has.entries line now after) where
+    pub one_more : AreShownAfter style.detail limits [] [] (has.passed.lines ++ line ∷ []) (has.entries ++ shows.entry ∷ []) (has.shown ++ shows.shown ∷ [])
+    one_more = shown_pushed style.detail limits [] [] has.passed.lines has.entries has.shown line shows.entry shows.shown has.are (shows.at, shows.shows, tt)
 
-    abbrev pub text_with_line : IsTextOfLines limits n (has.passed.lines ++ line ∷ []) (flat_map (shown_line_text n) has.shown ++ shown_line_text n shows.shown)
+    abbrev pub text_with_line : IsTextOfLines limits style (has.passed.lines ++ line ∷ []) (flat_map (styled_line style) has.shown ++ styled_line style shows.shown)
     text_with_line =
         let accepted = shows.has_shown.accepted in
         let lines = has.passed.lines ++ line ∷ [] in
@@ -111,18 +109,18 @@ module _ (limits : Limits) (n : ℕ) (first : Outgoing) (view : CaptureView) (be
           taken = subst (AreAcceptedLines limits lines) same accepted.taken;
           shown = has.shown ++ shows.shown ∷ [];
           are = one_more;
-          is = sym (text_pushed n has.shown shows.shown);
+          is = sym (text_pushed style has.shown shows.shown);
         }
 
-    pub printed_with_line : IsWritten now after (shown_line_text n shows.shown) → IsWritten first after (flat_map (shown_line_text n) has.shown ++ shown_line_text n shows.shown)
-    printed_with_line written = put_both first now after (flat_map (shown_line_text n) has.shown) (shown_line_text n shows.shown) has.printed written
+    pub printed_with_line : IsWritten now after (styled_line style shows.shown) → IsWritten first after (flat_map (styled_line style) has.shown ++ styled_line style shows.shown)
+    printed_with_line written = put_both first now after (flat_map (styled_line style) has.shown) (styled_line style shows.shown) has.printed written
 
-    pub partly_with_line : IsPartlyWritten now after (shown_line_text n shows.shown) → IsPartlyWritten first after (flat_map (shown_line_text n) has.shown ++ shown_line_text n shows.shown)
-    partly_with_line partly = put_front first now after (flat_map (shown_line_text n) has.shown) (shown_line_text n shows.shown) has.printed partly
+    pub partly_with_line : IsPartlyWritten now after (styled_line style shows.shown) → IsPartlyWritten first after (flat_map (styled_line style) has.shown ++ styled_line style shows.shown)
+    partly_with_line partly = put_front first now after (flat_map (styled_line style) has.shown) (styled_line style shows.shown) has.printed partly
 
     -- an LF ended it
-    pub printed_line : (bytes : List ℕ) → line ≡ begun ++ bytes → IsLine bytes → length line < 8196 → IsWritten now after (shown_line_text n shows.shown)
-        → HasPrinted limits n first new [] after (came ++ (bytes ++ 10 ∷ []))
+    pub printed_line : (bytes : List ℕ) → line ≡ begun ++ bytes → IsLine bytes → length line < 8196 → IsWritten now after (styled_line style shows.shown)
+        → HasPrinted limits style first new [] after (came ++ (bytes ++ 10 ∷ []))
     printed_line bytes is in_line short written =
         let passed = has.passed in
         let lines = passed.lines ++ line ∷ [] in
@@ -144,7 +142,7 @@ module _ (limits : Limits) (n : ℕ) (first : Outgoing) (view : CaptureView) (be
           has_shown = shows.has_shown;
           shown = has.shown ++ shows.shown ∷ [];
           are = one_more;
-          printed = subst (IsWritten first after) (sym (text_pushed n has.shown shows.shown)) (printed_with_line written);
+          printed = subst (IsWritten first after) (sym (text_pushed style has.shown shows.shown)) (printed_with_line written);
         }
 
 -- ---- stops
@@ -158,8 +156,8 @@ pub failed_part : (before after : Outgoing) (text : List ℕ) → after.failed �
 failed_part before after text failed (inl written) = let both : true ≡ false = sym failed ∙ written.0 in cc
 failed_part before after text failed (inr partly) = partly
 
-module _ (limits : Limits) (n : ℕ) (first : Outgoing) (view : CaptureView) (begun : List ℕ) (now : Outgoing) (came : List ℕ)
-    (has : HasPrinted limits n first view begun now came) (new : CaptureView) (line bytes : List ℕ) (after : Outgoing) (is : line ≡ begun ++ bytes)
+module _ (limits : Limits) (style : Style) (first : Outgoing) (view : CaptureView) (begun : List ℕ) (now : Outgoing) (came : List ℕ)
+    (has : HasPrinted limits style first view begun now came) (new : CaptureView) (line bytes : List ℕ) (after : Outgoing) (is : line ≡ begun ++ bytes)
     (in_line : IsLine bytes) where
   begins : (piece : List ℕ) → BeginWithLines (came ++ piece) has.passed.lines
   begins piece = inl (begun ++ piece, has.passed.each, ap (λ (bs : List ℕ). bs ++ piece) has.passed.whole ∙ append_assoc (ended has.passed.lines) begun piece)
@@ -177,19 +175,19 @@ module _ (limits : Limits) (n : ℕ) (first : Outgoing) (view : CaptureView) (be
 
   before_line : (piece : List ℕ) (number : ℕ) → number ≡ length has.passed.lines + 1 → after ≡ now
       → (lines : List (List ℕ)) × (text : List ℕ) × BeginWithLines (came ++ piece) lines × (number ≡ length lines + 1)
-      × IsTextOfLines limits n lines text × IsWritten first after text
+      × IsTextOfLines limits style lines text × IsWritten first after text
   before_line piece number at same = (
     has.passed.lines,
-    flat_map (shown_line_text n) has.shown,
+    flat_map (styled_line style) has.shown,
     begins piece,
     at,
-    text_so_far limits n first view begun now came has,
-    subst (λ (o : Outgoing). IsWritten first o (flat_map (shown_line_text n) has.shown)) (sym same) has.printed,
+    text_so_far limits style first view begun now came has,
+    subst (λ (o : Outgoing). IsWritten first o (flat_map (styled_line style) has.shown)) (sym same) has.printed,
   )
 
   -- an LF ends the line
-  pub stops_lf : (ahead : List ℕ) (s : ShowStop) → length line < 8196 → StopsAtLine limits n new has.passed.lines has.entries line now after s
-      → StopsWithin limits n first after came (bytes ++ 10 ∷ ahead) s
+  pub stops_lf : (ahead : List ℕ) (s : ShowStop) → length line < 8196 → StopsAtLine limits style new has.passed.lines has.entries line now after s
+      → StopsWithin limits style first after came (bytes ++ 10 ∷ ahead) s
   stops_lf ahead (stop.Capture (capture.Line number fault)) short stops =
       let size : length begun + length bytes < 8196 = omega (arith, short, length-append begun bytes, ap (λ (bs : List ℕ). length bs) is) in (
         stop_line limits view.capture begun came has.passed bytes ahead (capture.Line number fault) in_line size
@@ -198,17 +196,17 @@ module _ (limits : Limits) (n : ℕ) (first : Outgoing) (view : CaptureView) (be
       )
   stops_lf ahead (stop.Capture capture.Read) short stops = absurd stops
   stops_lf ahead stop.Write short stops = (
-    flat_map (shown_line_text n) has.shown ++ shown_line_text n stops.0.shown,
-    inl (has.passed.lines ++ line ∷ [], begins_with ahead, text_with_line limits n first view begun now came has new line after stops.0),
-    partly_with_line limits n first view begun now came has new line after stops.0 (failed_part now after (shown_line_text n stops.0.shown) stops.1 stops.0.printed),
+    flat_map (styled_line style) has.shown ++ styled_line style stops.0.shown,
+    inl (has.passed.lines ++ line ∷ [], begins_with ahead, text_with_line limits style first view begun now came has new line after stops.0),
+    partly_with_line limits style first view begun now came has new line after stops.0 (failed_part now after (styled_line style stops.0.shown) stops.1 stops.0.printed),
   )
 
   -- a line that is too long isn't shown
-  pub not_long : length line ≡ 8196 → ShowsLine limits n new has.passed.lines has.entries line now after → ⊥
+  pub not_long : length line ≡ 8196 → ShowsLine limits style new has.passed.lines has.entries line now after → ⊥
   not_long size shows = no_long limits view.capture begun came has.passed new.capture line size shows.has_shown.accepted
 
-  pub stops_long : (ahead : List ℕ) (s : ShowStop) → length line ≡ 8196 → StopsAtLine limits n new has.passed.lines has.entries line now after s
-      → StopsWithin limits n first after came (bytes ++ ahead) s
+  pub stops_long : (ahead : List ℕ) (s : ShowStop) → length line ≡ 8196 → StopsAtLine limits style new has.passed.lines has.entries line now after s
+      → StopsWithin limits style first after came (bytes ++ ahead) s
   stops_long ahead (stop.Capture (capture.Line number fault)) size stops =
       let sizes : length begun + length bytes ≡ 8196 = sym (length-append begun bytes) ∙ ap (λ (bs : List ℕ). length bs) (sym is) ∙ size in
       let parts = last_of bytes (omega (arith, sizes, has.passed.short)) in (
@@ -227,32 +225,32 @@ pub whole_part : (before after : Outgoing) (text : List ℕ) → after.failed �
 whole_part before after text works (inl written) = written
 whole_part before after text works (inr partly) = let both : true ≡ false = sym partly.0 ∙ works in cc
 
-module _ (limits : Limits) (n : ℕ) (first : Outgoing) (view : CaptureView) (begun : List ℕ) (now : Outgoing) (came : List ℕ)
-    (has : HasPrinted limits n first view begun now came) (new : CaptureView) (line : List ℕ) (after : Outgoing) (piece : List ℕ) (k : ℕ)
+module _ (limits : Limits) (style : Style) (first : Outgoing) (view : CaptureView) (begun : List ℕ) (now : Outgoing) (came : List ℕ)
+    (has : HasPrinted limits style first view begun now came) (new : CaptureView) (line : List ℕ) (after : Outgoing) (piece : List ℕ) (k : ℕ)
     (ends : EndsLine begun line piece k) where
-  pub stops_in : (s : ShowStop) → StopsAtLine limits n new has.passed.lines has.entries line now after s → StopsWithin limits n first after came piece s
+  pub stops_in : (s : ShowStop) → StopsAtLine limits style new has.passed.lines has.entries line now after s → StopsWithin limits style first after came piece s
   stops_in s stops =
       let ahead = drop k piece in
       elim ends.ends [
         | inl lf ↦
-            subst (λ (bs : List ℕ). StopsWithin limits n first after came bs s)
+            subst (λ (bs : List ℕ). StopsWithin limits style first after came bs s)
             (sym (append_assoc ends.bytes (10 ∷ []) ahead) ∙ ap (λ (bs : List ℕ). bs ++ ahead) (sym lf.0) ∙ take-append-drop k piece)
-            (stops_lf limits n first view begun now came has new line ends.bytes after ends.is ends.in_line ahead s lf.1 stops)
+            (stops_lf limits style first view begun now came has new line ends.bytes after ends.is ends.in_line ahead s lf.1 stops)
         | inr long ↦
-            subst (λ (bs : List ℕ). StopsWithin limits n first after came bs s)
+            subst (λ (bs : List ℕ). StopsWithin limits style first after came bs s)
             (ap (λ (bs : List ℕ). bs ++ ahead) (sym long.0) ∙ take-append-drop k piece)
-            (stops_long limits n first view begun now came has new line ends.bytes after ends.is ends.in_line ahead s long.1 stops)
+            (stops_long limits style first view begun now came has new line ends.bytes after ends.is ends.in_line ahead s long.1 stops)
       ]
 
-  pub printed_in : ShowsLine limits n new has.passed.lines has.entries line now after → after.failed ≡ false
-      → HasPrinted limits n first new [] after (came ++ take k piece)
+  pub printed_in : ShowsLine limits style new has.passed.lines has.entries line now after → after.failed ≡ false
+      → HasPrinted limits style first new [] after (came ++ take k piece)
   printed_in shows works =
       elim ends.ends [
         | inl lf ↦
-            subst (λ (bs : List ℕ). HasPrinted limits n first new [] after (came ++ bs)) (sym lf.0)
-            (printed_line limits n first view begun now came has new line after shows ends.bytes ends.is ends.in_line lf.1
-            (whole_part now after (shown_line_text n shows.shown) works shows.printed))
-        | inr long ↦ absurd (not_long limits n first view begun now came has new line ends.bytes after ends.is ends.in_line long.1 shows)
+            subst (λ (bs : List ℕ). HasPrinted limits style first new [] after (came ++ bs)) (sym lf.0)
+            (printed_line limits style first view begun now came has new line after shows ends.bytes ends.is ends.in_line lf.1
+            (whole_part now after (styled_line style shows.shown) works shows.printed))
+        | inr long ↦ absurd (not_long limits style first view begun now came has new line ends.bytes after ends.is ends.in_line long.1 shows)
       ]
 
 pub room_for_line : (begun line piece : List ℕ) (k : ℕ) → k ≤ length piece → EndsLine begun line piece k → length begun + k ≤ 8196
@@ -272,12 +270,12 @@ rest_whole came piece at =
     append_assoc came (take at piece) (take (length piece - at) (drop at piece))
     ∙ ap (λ (bs : List ℕ). came ++ (take at piece ++ bs)) (rest_is piece at) ∙ ap (λ (bs : List ℕ). came ++ bs) (take-append-drop at piece)
 
-pub stops_in_rest : (limits : Limits) (n : ℕ) (first now : Outgoing) (came piece : List ℕ) (at : ℕ) (s : ShowStop)
-    → StopsWithin limits n first now (came ++ take at piece) (take (length piece - at) (drop at piece)) s → StopsWithin limits n first now came piece s
-stops_in_rest limits n first now came piece at (stop.Capture (capture.Line number fault)) (within, (lines, text, begins, at_line, is, written)) = (
+pub stops_in_rest : (limits : Limits) (style : Style) (first now : Outgoing) (came piece : List ℕ) (at : ℕ) (s : ShowStop)
+    → StopsWithin limits style first now (came ++ take at piece) (take (length piece - at) (drop at piece)) s → StopsWithin limits style first now came piece s
+stops_in_rest limits style first now came piece at (stop.Capture (capture.Line number fault)) (within, (lines, text, begins, at_line, is, written)) = (
   stop_in_rest limits came piece at (capture.Line number fault) within,
   (lines, text, subst (λ (bs : List ℕ). BeginWithLines bs lines) (rest_whole came piece at) begins, at_line, is, written),
 )
-stops_in_rest limits n first now came piece at (stop.Capture capture.Read) stops = absurd stops
-stops_in_rest limits n first now came piece at stop.Write (text, is, partly) =
-    (text, subst (λ (bs : List ℕ). IsTextOf limits n bs text) (rest_whole came piece at) is, partly)
+stops_in_rest limits style first now came piece at (stop.Capture capture.Read) stops = absurd stops
+stops_in_rest limits style first now came piece at stop.Write (text, is, partly) =
+    (text, subst (λ (bs : List ℕ). IsTextOf limits style bs text) (rest_whole came piece at) is, partly)

@@ -1,5 +1,5 @@
 -- What a line with one entry shows.
-use Rattle.std.proofs.Common.{◌≡◌, ℕ, ◌+◌, ◌≤◌, ◌<◌, ◌==◌, true, false, Option, Some, List, [], ◌∷◌, ◌++◌, length, flat_map, inl, inr, refl, sym, ap, ◌∙◌, subst, append_assoc, append-nil, arith}
+use Rattle.std.proofs.Common.{◌≡◌, ℕ, ◌+◌, ◌≤◌, ◌<◌, ◌==◌, true, false, Option, Some, List, [], ◌∷◌, ◌++◌, length, flat_map, inl, inr, refl, sym, ap, ◌∙◌, subst, append-nil, arith}
 use Rattle.std.proofs.lemmas.Bool.{eqb-true, false≢true}
 use Rattle.std.proofs.lemmas.List.Concat.{flat_map-append}
 use Rattle.wsn_wire.specs.declared.endpoint.Role.{Role}
@@ -10,9 +10,11 @@ use Rattle.wsn_rules.specs.Entries.{Entry, GivesEntry, IsHex, bytes_prefix, end_
 use Rattle.wsn_rules.specs.Entries.Entry.{Nothing, Bytes, Mark}
 use Rattle.wsn_rules.specs.Sides.{sent, bytes_in}
 use Rattle.wsn_rules.specs.ShownStream.{Item, Shown, IsShownStream, IsLeftOver}
-use Rattle.wsn_rules.specs.ShownCapture.{LineItem, of_stream, beyond, GivesTime, GivesNoTime}
-use Rattle.wsn_rules.specs.ShownCapture.LineItem.{OfStream, End, Comment}
-use Rattle.wsn_print.specs.ShownText.{item_line, item_lines, end_line, comment_line, line_item_text}
+use Rattle.wsn_rules.specs.ShownCapture.{of_stream, beyond, GivesTime, GivesNoTime}
+use Rattle.wsn_rules.specs.ShownCapture.LineItem.{End, Comment}
+use Rattle.wsn_print.specs.ShownText.{end_line, comment_line}
+use Rattle.wsn_show.specs.declared.style.Style.{Style}
+use Rattle.wsn_show.specs.Styles.{styled_item, styled_items, styled_line_item}
 use Rattle.wsn_capture.specs.declared.line_fault.LineFault.TheVariants.{InputLimit}
 use Rattle.wsn_rules.proofs.Prefixes.{head_same}
 use Rattle.wsn_capture.proofs.OneEntry.{letter_of, front_is, mark_is, one_given}
@@ -32,32 +34,32 @@ some_text bs some is = false≢true (sym (subst (λ (xs : List ℕ). (length xs 
 
 -- ---- what a stream's view does
 
-pub record Takes (role : Role) (limits : Limits) (n : ℕ) (new : StreamView) (came bytes : List ℕ) (time : Option (List ℕ))
+pub record Takes (role : Role) (limits : Limits) (style : Style) (new : StreamView) (came bytes : List ℕ) (time : Option (List ℕ))
     (before after : Outgoing) : Type 0 where
-  pub viewed : HasViewed role limits n new (came ++ bytes)
+  pub viewed : HasViewed role limits style new (came ++ bytes)
   pub shown : List Shown
-  pub is_shown : IsShownStream role limits (came ++ bytes) shown
-  pub printed : IsWrittenUpToFailure before after (item_lines n role time (beyond (length came) shown))
+  pub is_shown : IsShownStream style.detail role limits (came ++ bytes) shown
+  pub printed : IsWrittenUpToFailure before after (styled_items style role time (beyond (length came) shown))
 
-pub record PutsLeft (role : Role) (limits : Limits) (n : ℕ) (came : List ℕ) (time : Option (List ℕ)) (before after : Outgoing) : Type 0 where
+pub record PutsLeft (role : Role) (limits : Limits) (style : Style) (came : List ℕ) (time : Option (List ℕ)) (before after : Outgoing) : Type 0 where
   pub left : List Item
   pub is_left : IsLeftOver role limits came left
-  pub printed : IsWrittenUpToFailure before after (item_lines n role time left)
+  pub printed : IsWrittenUpToFailure before after (styled_items style role time left)
 
 -- ---- the text of items
 
-of_stream_text : (n : ℕ) (role : Role) (time : Option (List ℕ)) (items : List Item) →
-    flat_map (line_item_text n time) (of_stream role items) ≡ item_lines n role time items
-of_stream_text n role time [] = refl
-of_stream_text n role time (item ∷ items) =
-    ap (λ (bs : List ℕ). item_line n role time item ++ bs) (of_stream_text n role time items)
+of_stream_text : (style : Style) (role : Role) (time : Option (List ℕ)) (items : List Item) →
+    flat_map (styled_line_item style time) (of_stream role items) ≡ styled_items style role time items
+of_stream_text style role time [] = refl
+of_stream_text style role time (item ∷ items) =
+    ap (λ (bs : List ℕ). styled_item style role time item ++ bs) (of_stream_text style role time items)
 
-with_end_text : (n : ℕ) (role : Role) (time : Option (List ℕ)) (items : List Item) (offset : ℕ) →
-    flat_map (line_item_text n time) (of_stream role items ++ End role offset ∷ []) ≡ item_lines n role time items ++ end_line role time offset
-with_end_text n role time items offset =
-    flat_map-append (line_item_text n time) (of_stream role items) (End role offset ∷ [])
-    ∙ ap (λ (bs : List ℕ). bs ++ flat_map (line_item_text n time) (End role offset ∷ [])) (of_stream_text n role time items)
-    ∙ ap (λ (bs : List ℕ). item_lines n role time items ++ bs) (append-nil (end_line role time offset))
+with_end_text : (style : Style) (role : Role) (time : Option (List ℕ)) (items : List Item) (offset : ℕ) →
+    flat_map (styled_line_item style time) (of_stream role items ++ End role offset ∷ []) ≡ styled_items style role time items ++ end_line role time offset
+with_end_text style role time items offset =
+    flat_map-append (styled_line_item style time) (of_stream role items) (End role offset ∷ [])
+    ∙ ap (λ (bs : List ℕ). bs ++ flat_map (styled_line_item style time) (End role offset ∷ [])) (of_stream_text style role time items)
+    ∙ ap (λ (bs : List ℕ). styled_items style role time items ++ bs) (append-nil (end_line role time offset))
 
 -- ---- streams
 
@@ -80,57 +82,57 @@ no_time_in_bytes role digits seconds gives =
 no_time_in_mark : (role : Role) → GivesNoTime (end_mark role)
 no_time_in_mark role seconds gives = no_letter role (46 ∷ []) (32 ∷ seconds) (sym (mark_is role) ∙ gives.0)
 
-module _ (limits : Limits) (n : ℕ) (given : List Entry) (old : CaptureView) (viewed : AreViewed limits n old given) where
+module _ (limits : Limits) (style : Style) (given : List Entry) (old : CaptureView) (viewed : AreViewed limits style old given) where
   -- an entry without bytes leaves both streams as they are
-  kept : (entry : Entry) → bytes_in Client entry ≡ [] → bytes_in Server entry ≡ [] → AreViewed limits n old (given ++ entry ∷ [])
+  kept : (entry : Entry) → bytes_in Client entry ≡ [] → bytes_in Server entry ≡ [] → AreViewed limits style old (given ++ entry ∷ [])
   kept entry no_client no_server = record {
-    client = subst (HasViewed Client limits n old.client) (sent_kept Client given entry no_client) viewed.client;
-    server = subst (HasViewed Server limits n old.server) (sent_kept Server given entry no_server) viewed.server;
+    client = subst (HasViewed Client limits style old.client) (sent_kept Client given entry no_client) viewed.client;
+    server = subst (HasViewed Server limits style old.server) (sent_kept Server given entry no_server) viewed.server;
   }
 
   module _ (entry : Entry) (before after : Outgoing) where
     pub shows_client : (new : StreamView) (digits bytes : List ℕ) → IsAcceptedText limits given (bytes_prefix Client ++ digits) entry → IsHex digits bytes
-        → Takes Client limits n new (sent Client given) bytes old.time before after
-        → ShowsText limits n old (record old { client = new }) given (bytes_prefix Client ++ digits) entry before after
+        → Takes Client limits style new (sent Client given) bytes old.time before after
+        → ShowsText limits style old (record old { client = new }) given (bytes_prefix Client ++ digits) entry before after
     shows_client new digits bytes accepted hex takes =
         let text = bytes_prefix Client ++ digits in
         let is : Bytes Client bytes ≡ entry = one_given text (Bytes Client bytes) entry (digits, refl, hex) accepted.gives in
         let items = of_stream Client (beyond (length (sent Client given)) takes.shown) in
-        subst (λ (e : Entry). ShowsText limits n old (record old { client = new }) given text e before after) is (record {
+        subst (λ (e : Entry). ShowsText limits style old (record old { client = new }) given text e before after) is (record {
           viewed = record {
-            client = subst (HasViewed Client limits n new) (sym (sent_push Client given (Bytes Client bytes))) takes.viewed;
-            server = subst (HasViewed Server limits n old.server) (sent_kept Server given (Bytes Client bytes) refl) viewed.server;
+            client = subst (HasViewed Client limits style new) (sym (sent_push Client given (Bytes Client bytes))) takes.viewed;
+            server = subst (HasViewed Server limits style old.server) (sent_kept Server given (Bytes Client bytes) refl) viewed.server;
           };
           time = inr (no_time_in_bytes Client digits, refl);
           items = items;
           shows = (takes.shown, takes.is_shown, refl);
-          printed = subst (IsWrittenUpToFailure before after) (sym (of_stream_text n Client old.time (beyond (length (sent Client given)) takes.shown))) takes.printed;
+          printed = subst (IsWrittenUpToFailure before after) (sym (of_stream_text style Client old.time (beyond (length (sent Client given)) takes.shown))) takes.printed;
         })
 
     pub shows_server : (new : StreamView) (digits bytes : List ℕ) → IsAcceptedText limits given (bytes_prefix Server ++ digits) entry → IsHex digits bytes
-        → Takes Server limits n new (sent Server given) bytes old.time before after
-        → ShowsText limits n old (record old { server = new }) given (bytes_prefix Server ++ digits) entry before after
+        → Takes Server limits style new (sent Server given) bytes old.time before after
+        → ShowsText limits style old (record old { server = new }) given (bytes_prefix Server ++ digits) entry before after
     shows_server new digits bytes accepted hex takes =
         let text = bytes_prefix Server ++ digits in
         let is : Bytes Server bytes ≡ entry = one_given text (Bytes Server bytes) entry (digits, refl, hex) accepted.gives in
         let items = of_stream Server (beyond (length (sent Server given)) takes.shown) in
-        subst (λ (e : Entry). ShowsText limits n old (record old { server = new }) given text e before after) is (record {
+        subst (λ (e : Entry). ShowsText limits style old (record old { server = new }) given text e before after) is (record {
           viewed = record {
-            client = subst (HasViewed Client limits n old.client) (sent_kept Client given (Bytes Server bytes) refl) viewed.client;
-            server = subst (HasViewed Server limits n new) (sym (sent_push Server given (Bytes Server bytes))) takes.viewed;
+            client = subst (HasViewed Client limits style old.client) (sent_kept Client given (Bytes Server bytes) refl) viewed.client;
+            server = subst (HasViewed Server limits style new) (sym (sent_push Server given (Bytes Server bytes))) takes.viewed;
           };
           time = inr (no_time_in_bytes Server digits, refl);
           items = items;
           shows = (takes.shown, takes.is_shown, refl);
-          printed = subst (IsWrittenUpToFailure before after) (sym (of_stream_text n Server old.time (beyond (length (sent Server given)) takes.shown))) takes.printed;
+          printed = subst (IsWrittenUpToFailure before after) (sym (of_stream_text style Server old.time (beyond (length (sent Server given)) takes.shown))) takes.printed;
         })
 
     -- an end mark
     pub shows_mark : (role : Role) → IsAcceptedText limits given (end_mark role) entry → bytes_in Client (Mark role) ≡ [] → bytes_in Server (Mark role) ≡ []
-        → ShowsMark role limits n given old.time before after → ShowsText limits n old old given (end_mark role) entry before after
+        → ShowsMark role limits style given old.time before after → ShowsText limits style old old given (end_mark role) entry before after
     shows_mark role accepted no_client no_server marks =
         let is : Mark role ≡ entry = one_given (end_mark role) (Mark role) entry refl accepted.gives in
-        subst (λ (e : Entry). ShowsText limits n old old given (end_mark role) e before after) is (record {
+        subst (λ (e : Entry). ShowsText limits style old old given (end_mark role) e before after) is (record {
           viewed = kept (Mark role) no_client no_server;
           time = inr (no_time_in_mark role, refl);
           items = marks.items;
@@ -140,10 +142,10 @@ module _ (limits : Limits) (n : ℕ) (given : List Entry) (old : CaptureView) (v
 
     -- an empty line
     pub shows_empty : (text : List ℕ) → IsAcceptedText limits given text entry → text ≡ [] → GivesEntry text Nothing
-        → IsWrittenUpToFailure before after [] → ShowsText limits n old old given text entry before after
+        → IsWrittenUpToFailure before after [] → ShowsText limits style old old given text entry before after
     shows_empty text accepted empty nothing printed =
         let is : Nothing ≡ entry = one_given text Nothing entry nothing accepted.gives in
-        subst (λ (e : Entry). ShowsText limits n old old given text e before after) is (record {
+        subst (λ (e : Entry). ShowsText limits style old old given text e before after) is (record {
           viewed = kept Nothing refl refl;
           time = inr ((λ seconds gives. let both : [] ≡ 35 ∷ 32 ∷ seconds = sym empty ∙ gives.0 in cc), refl);
           items = [];
@@ -154,11 +156,11 @@ module _ (limits : Limits) (n : ℕ) (given : List Entry) (old : CaptureView) (v
     -- a comment that gives a time
     pub shows_time : (text seconds : List ℕ) (time : Option (List ℕ)) → IsAcceptedText limits given text entry → GivesEntry text Nothing
         → GivesTime text seconds → time ≡ Some seconds → IsWrittenUpToFailure before after []
-        → ShowsText limits n old (record old { time = time }) given text entry before after
+        → ShowsText limits style old (record old { time = time }) given text entry before after
     shows_time text seconds time accepted nothing gives holds printed =
         let is : Nothing ≡ entry = one_given text Nothing entry nothing accepted.gives in
         let stays = kept Nothing refl refl in
-        subst (λ (e : Entry). ShowsText limits n old (record old { time = time }) given text e before after) is (record {
+        subst (λ (e : Entry). ShowsText limits style old (record old { time = time }) given text e before after) is (record {
           viewed = record { client = stays.client; server = stays.server };
           time = inl (seconds, gives, holds);
           items = [];
@@ -168,10 +170,10 @@ module _ (limits : Limits) (n : ℕ) (given : List Entry) (old : CaptureView) (v
 
     -- a comment
     pub shows_comment : (text : List ℕ) → IsAcceptedText limits given text entry → (text ≡ [] → ⊥) → GivesEntry text Nothing → GivesNoTime text
-        → IsWrittenUpToFailure before after (comment_line text) → ShowsText limits n old old given text entry before after
+        → IsWrittenUpToFailure before after (comment_line text) → ShowsText limits style old old given text entry before after
     shows_comment text accepted some nothing none printed =
         let is : Nothing ≡ entry = one_given text Nothing entry nothing accepted.gives in
-        subst (λ (e : Entry). ShowsText limits n old old given text e before after) is (record {
+        subst (λ (e : Entry). ShowsText limits style old old given text e before after) is (record {
           viewed = kept Nothing refl refl;
           time = inr (none, refl);
           items = Comment text ∷ [];
@@ -200,21 +202,21 @@ room_for_server view digits bytes can hex =
 
 -- ---- end marks
 
-pub marks : (role : Role) (limits : Limits) (n : ℕ) (given : List Entry) (time : Option (List ℕ)) (before after : Outgoing) (left : List Item)
+pub marks : (role : Role) (limits : Limits) (style : Style) (given : List Entry) (time : Option (List ℕ)) (before after : Outgoing) (left : List Item)
     → IsLeftOver role limits (sent role given) left
-    → IsWrittenUpToFailure before after (item_lines n role time left ++ end_line role time (length (sent role given)))
-    → ShowsMark role limits n given time before after
-marks role limits n given time before after left is_left printed = record {
+    → IsWrittenUpToFailure before after (styled_items style role time left ++ end_line role time (length (sent role given)))
+    → ShowsMark role limits style given time before after
+marks role limits style given time before after left is_left printed = record {
   items = of_stream role left ++ End role (length (sent role given)) ∷ [];
   shows = (left, is_left, refl);
-  printed = subst (IsWrittenUpToFailure before after) (sym (with_end_text n role time left (length (sent role given)))) printed;
+  printed = subst (IsWrittenUpToFailure before after) (sym (with_end_text style role time left (length (sent role given)))) printed;
 }
 
 -- ---- both streams
 
-pub both_streams_text : (n : ℕ) (time : Option (List ℕ)) (client server : List Item) →
-    flat_map (line_item_text n time) (of_stream Client client ++ of_stream Server server) ≡ item_lines n Client time client ++ item_lines n Server time server
-both_streams_text n time client server =
-    flat_map-append (line_item_text n time) (of_stream Client client) (of_stream Server server)
-    ∙ ap (λ (bs : List ℕ). bs ++ flat_map (line_item_text n time) (of_stream Server server)) (of_stream_text n Client time client)
-    ∙ ap (λ (bs : List ℕ). item_lines n Client time client ++ bs) (of_stream_text n Server time server)
+pub both_streams_text : (style : Style) (time : Option (List ℕ)) (client server : List Item) →
+    flat_map (styled_line_item style time) (of_stream Client client ++ of_stream Server server) ≡ styled_items style Client time client ++ styled_items style Server time server
+both_streams_text style time client server =
+    flat_map-append (styled_line_item style time) (of_stream Client client) (of_stream Server server)
+    ∙ ap (λ (bs : List ℕ). bs ++ flat_map (styled_line_item style time) (of_stream Server server)) (of_stream_text style Client time client)
+    ∙ ap (λ (bs : List ℕ). styled_items style Client time client ++ bs) (of_stream_text style Server time server)

@@ -1,12 +1,13 @@
 -- An input whose capture is shown: the answer fits the bytes that came.
-use Rattle.std.proofs.Common.{◌≡◌, ℕ, ◌+◌, ◌*◌, ◌≤◌, false, true, Result, Ok, Err, List, [], ◌∷◌, ◌++◌, flat_map, length, inl, inr, refl, sym, ap, ◌∙◌, subst, append_assoc, append-nil, length-append, arith}
+use Rattle.std.proofs.Common.{◌≡◌, ℕ, ◌+◌, ◌*◌, ◌≤◌, false, true, Result, Ok, Err, List, [], ◌∷◌, ◌++◌, flat_map, length, inl, inr, refl, sym, ap, ◌∙◌, subst, append_assoc, length-append, arith}
 use Rattle.std.specs.Io.KnownBytes.{IsAtEnd}
-use Rattle.wsn_io.specs.Transfer.{Incoming, Outgoing, IsConsumed, IsKept, IsWritten}
+use Rattle.wsn_io.specs.Transfer.{Incoming, Outgoing, IsConsumed, IsKept}
 use Rattle.wsn_io.proofs.Received.{consumed_none, consumed_on, consumed_end, consumed_kept, received_of}
 use Rattle.wsn_io.proofs.PutTexts.{prints_nothing}
 use Rattle.wsn_rules.specs.Limits.{Limits}
 use Rattle.wsn_rules.specs.declared.report.Report.{Report}
-use Rattle.wsn_print.specs.ShownText.{shown_line_text}
+use Rattle.wsn_show.specs.declared.style.Style.{Style}
+use Rattle.wsn_show.specs.Styles.{styled_line}
 use Rattle.wsn_capture.specs.declared.line_fault.LineFault.{LineFault}
 use Rattle.wsn_capture.specs.declared.capture_stop.CaptureStop.TheVariants as capture
 use Rattle.wsn_capture.specs.Captures.{count_of}
@@ -22,19 +23,19 @@ use Rattle.wsn_show.specs.PassedLines.{HasPrinted, StopsWithin, EndsShowing}
 use Rattle.wsn_show.proofs.PassedPieces.{text_so_far, whole_part}
 
 -- All bytes that came were passed on, and what their lines show was printed.
-pub record HasReadOn (limits : Limits) (n : ℕ) (old new : Incoming) (first : Outgoing) (view : CaptureView) (begun : List ℕ) (now : Outgoing)
+pub record HasReadOn (limits : Limits) (style : Style) (old new : Incoming) (first : Outgoing) (view : CaptureView) (begun : List ℕ) (now : Outgoing)
     : Type 0 where
   pub came : List ℕ
   pub consumed : IsConsumed old new came
-  pub printed : HasPrinted limits n first view begun now came
+  pub printed : HasPrinted limits style first view begun now came
 
 -- no byte came
-pub begins : (limits : Limits) (n : ℕ) (input : Incoming) (output : Outgoing) (view : CaptureView) (begun : List ℕ) → begun ≡ []
-    → HasShownLines limits n view [] [] → output.failed ≡ false → HasReadOn limits n input input output view begun output
-begins limits n input output view begun none shown works = record {
+pub begins : (limits : Limits) (style : Style) (input : Incoming) (output : Outgoing) (view : CaptureView) (begun : List ℕ) → begun ≡ []
+    → HasShownLines limits style view [] [] → output.failed ≡ false → HasReadOn limits style input input output view begun output
+begins limits style input output view begun none shown works = record {
   came = [];
   consumed = consumed_none input;
-  printed = subst (λ (bs : List ℕ). HasPrinted limits n output view bs output []) (sym none) (record {
+  printed = subst (λ (bs : List ℕ). HasPrinted limits style output view bs output []) (sym none) (record {
     passed = record {
       lines = [];
       whole = refl;
@@ -52,15 +53,15 @@ begins limits n input output view begun none shown works = record {
   });
 }
 
-module _ (limits : Limits) (n : ℕ) (old mid new : Incoming) (first : Outgoing) (view : CaptureView) (begun : List ℕ) (now : Outgoing)
-    (read : HasReadOn limits n old mid first view begun now) (few : count_of view.capture ≤ 1000000) where
+module _ (limits : Limits) (style : Style) (old mid new : Incoming) (first : Outgoing) (view : CaptureView) (begun : List ℕ) (now : Outgoing)
+    (read : HasReadOn limits style old mid first view begun now) (few : count_of view.capture ≤ 1000000) where
   bounded : length read.came ≤ 1000000 * 8196 + 8195
   bounded =
       let lines = read.printed.passed.taken.count in let all = read.printed.passed.few in let short = read.printed.passed.short in
       omega (arith, lines, all, short, few)
 
   -- a read failed
-  pub stopped : IsKept mid new → new.failed ≡ true → IsShown limits n old new first now (Err (stop.Capture capture.Read))
+  pub stopped : IsKept mid new → new.failed ≡ true → IsShown limits style old new first now (Err (stop.Capture capture.Read))
   stopped keeps failed = record {
     came = read.came;
     received = received_of (1000001 * 8196 + 4095) old new read.came (consumed_kept old mid new read.came read.consumed keeps) (omega (arith, bounded));
@@ -70,18 +71,18 @@ module _ (limits : Limits) (n : ℕ) (old mid new : Incoming) (first : Outgoing)
       (
         read.printed.passed.lines,
         begun,
-        flat_map (shown_line_text n) read.printed.shown,
+        flat_map (styled_line style) read.printed.shown,
         read.printed.passed.each,
         read.printed.passed.in_line,
         read.printed.passed.whole,
-        text_so_far limits n first view begun now read.came read.printed,
+        text_so_far limits style first view begun now read.came read.printed,
         read.printed.printed,
       ),
     );
   }
 
   at_end : (result : Result Report ShowStop) (after : Outgoing) → IsAtEnd new.remaining → new.failed ≡ false
-      → EndsShowing limits n first after read.came result → IsShowAnswer limits n new read.came first after result
+      → EndsShowing limits style first after read.came result → IsShowAnswer limits style new read.came first after result
   at_end (Ok report) after ends unfailed (text, whole, written) = (text, whole, written, ends, unfailed)
   at_end (Err (stop.Capture (capture.Line number fault))) after ends unfailed (faulty, unfaulted_there, printed) =
       (inr (faulty, unfaulted_there, ends), unfailed, printed)
@@ -90,7 +91,7 @@ module _ (limits : Limits) (n : ℕ) (old mid new : Incoming) (first : Outgoing)
 
   -- the input ended
   pub ended : (result : Result Report ShowStop) (after : Outgoing) → IsConsumed mid new [] → IsAtEnd new.remaining → new.failed ≡ false
-      → EndsShowing limits n first after read.came result → IsShown limits n old new first after result
+      → EndsShowing limits style first after read.came result → IsShown limits style old new first after result
   ended result after nothing ends unfailed is = record {
     came = read.came;
     received = received_of (1000001 * 8196 + 4095) old new read.came (consumed_end old mid new read.came read.consumed nothing) (omega (arith, bounded));
@@ -99,7 +100,7 @@ module _ (limits : Limits) (n : ℕ) (old mid new : Incoming) (first : Outgoing)
 
   -- a chunk was shown
   pub goes_on : (piece : List ℕ) (further : CaptureView) (left : List ℕ) (after : Outgoing) → IsConsumed mid new piece
-      → HasPrinted limits n first further left after (read.came ++ piece) → HasReadOn limits n old new first further left after
+      → HasPrinted limits style first further left after (read.came ++ piece) → HasReadOn limits style old new first further left after
   goes_on piece further left after consumes printed = record {
     came = read.came ++ piece;
     consumed = consumed_on old mid new read.came piece read.consumed consumes;
@@ -123,7 +124,7 @@ module _ (limits : Limits) (n : ℕ) (old mid new : Incoming) (first : Outgoing)
       }
 
   within_piece : (piece : List ℕ) (s : ShowStop) (after : Outgoing) → length piece ≤ 4096 → new.failed ≡ false
-      → StopsWithin limits n first after read.came piece s → IsShowAnswer limits n new (read.came ++ piece) first after (Err s)
+      → StopsWithin limits style first after read.came piece s → IsShowAnswer limits style new (read.came ++ piece) first after (Err s)
   within_piece piece (stop.Capture (capture.Line number fault)) after size unfailed stops =
       (inl (prompt piece number fault size stops.0), unfailed, stops.1)
   within_piece piece (stop.Capture capture.Read) after size unfailed stops = absurd stops
@@ -131,7 +132,7 @@ module _ (limits : Limits) (n : ℕ) (old mid new : Incoming) (first : Outgoing)
 
   -- the stop is within a chunk
   pub stops_here : (piece : List ℕ) (s : ShowStop) (after : Outgoing) → IsConsumed mid new piece → length piece ≤ 4096 → new.failed ≡ false
-      → StopsWithin limits n first after read.came piece s → IsShown limits n old new first after (Err s)
+      → StopsWithin limits style first after read.came piece s → IsShown limits style old new first after (Err s)
   stops_here piece s after consumes size unfailed stops = record {
     came = read.came ++ piece;
     received = received_of (1000001 * 8196 + 4095) old new (read.came ++ piece) (consumed_on old mid new read.came piece read.consumed consumes) (omega (arith, bounded, size, length-append read.came piece));

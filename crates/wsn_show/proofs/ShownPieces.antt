@@ -5,6 +5,7 @@ use Rattle.std.proofs.lemmas.List.{drop_all, length-take-le, drop-append-le}
 use borrow.Rule.Slice.PartMut.{mid_of, post_of, put_mid, put_same}
 use Rattle.wsn_io.specs.Transfer.{Outgoing}
 use Rattle.wsn_wire.specs.declared.endpoint.Role.{Role}
+use Rattle.wsn_rules.specs.declared.detail.Detail.{Detail}
 use Rattle.wsn_rules.specs.declared.verdict.Refusal.{Refusal}
 use Rattle.wsn_rules.specs.Limits.{Limits}
 use Rattle.wsn_rules.specs.ShownStream.{Item, Shown}
@@ -27,6 +28,7 @@ use Rattle.wsn_show.specs.ShownItems.{Prints}
 use Rattle.wsn_show.specs.ShownSoFar.{items_in, HasShownFrames, HasShownRefusal, HasShownAll, ShowsMore, ShowsAll, ShowsFrames}
 use Rattle.wsn_show.proofs.PrintedItems.{prints_nothing, prints_both}
 use Rattle.wsn_show.proofs.FollowedScans.{rest_few}
+use Rattle.wsn_show.proofs.FramesSoFar.{nothing_so_far}
 
 items_in-append : (xs ys : List Shown) → items_in (xs ++ ys) ≡ items_in xs ++ items_in ys
 items_in-append [] ys = refl
@@ -34,10 +36,10 @@ items_in-append (x ∷ xs) ys = ap (λ (is : List Item). x.item ∷ is) (items_i
 
 -- ---- no bytes
 
-pub nothing_shown : (role : Role) (limits : Limits) (scan : Scan) (parts : StreamParts) → HasScanned role limits scan [] [] [] nothing_reported → Keeps parts [] BetweenFrames [] → HasShownAll role limits scan parts [] []
-nothing_shown role limits scan parts scanned keeps =
+pub nothing_shown : (detail : Detail) (role : Role) (limits : Limits) (scan : Scan) (parts : StreamParts) → HasScanned role limits scan [] [] [] nothing_reported → Keeps parts [] BetweenFrames [] → HasShownAll detail role limits scan parts [] []
+nothing_shown detail role limits scan parts scanned keeps =
     let none = unrefused_first role limits scan [] (record { frames = []; since = []; payload = []; ends = []; has_scanned = scanned }) in
-    let frames : HasShownFrames role limits scan parts [] [] = record {
+    let frames : HasShownFrames detail role limits scan parts [] [] = record {
       done = [];
       at = BetweenFrames;
       rest = [];
@@ -51,7 +53,7 @@ nothing_shown role limits scan parts scanned keeps =
         whole = refl;
       };
       keeps = keeps;
-      is = refl;
+      is = nothing_so_far detail;
     } in
     inl (frames, refl)
 
@@ -75,12 +77,12 @@ module _ (role : Role) (limits : Limits) (scan : Scan) (parts : StreamParts) (co
   pub ended_more : (size : ℕ) → size ≡ 0 → ShowsMore role limits scan parts context old new size came shown → ShowsAll role limits scan parts context old new came shown
   ended_more size nothing more = record { extra = more.extra; has = more.all nothing; printed = more.printed }
 
-  pub same_frames_shown : HasShownFrames role limits scan parts came shown → ShowsFrames role limits scan parts context old old came shown
-  same_frames_shown frames = record { extra = []; frames = subst (HasShownFrames role limits scan parts came) (sym (append-nil shown)) frames; printed = prints_nothing context old }
+  pub same_frames_shown : HasShownFrames context.style.detail role limits scan parts came shown → ShowsFrames role limits scan parts context old old came shown
+  same_frames_shown frames = record { extra = []; frames = subst (HasShownFrames context.style.detail role limits scan parts came) (sym (append-nil shown)) frames; printed = prints_nothing context old }
 
 pub goes_on : (role : Role) (limits : Limits) (mid new : Scan) (mid_parts new_parts : StreamParts) (context : EntryContext) (before between after : Outgoing) (came piece share : List ℕ) (at n size : ℕ) (shown : List Shown) → share ≡ drop at piece
     → ShowsFrames role limits mid mid_parts context before between (came ++ take at piece) shown
-    → ((so_far : List Shown) → HasShownFrames role limits mid mid_parts (came ++ take at piece) so_far → ShowsMore role limits new new_parts context between after size ((came ++ take at piece) ++ take n share) so_far)
+    → ((so_far : List Shown) → HasShownFrames context.style.detail role limits mid mid_parts (came ++ take at piece) so_far → ShowsMore role limits new new_parts context between after size ((came ++ take at piece) ++ take n share) so_far)
     → ShowsMore role limits new new_parts context before after size (came ++ take (at + n) piece) shown
 goes_on role limits mid new mid_parts new_parts context before between after came piece share at n size shown is first step =
     let more = step (shown ++ first.extra) first.frames in
@@ -90,8 +92,8 @@ goes_on role limits mid new mid_parts new_parts context before between after cam
     subst (λ (bs : List ℕ). ShowsMore role limits new new_parts context before after size bs shown) joined
     (let both : ShowsMore role limits new new_parts context before after size ((came ++ take at piece) ++ take n share) shown = record {
       extra = first.extra ++ more.extra;
-      has = subst (λ (ss : List Shown). HasShownFrames role limits new new_parts ((came ++ take at piece) ++ take n share) ss ⊎ HasShownRefusal role limits new new_parts ((came ++ take at piece) ++ take n share) ss) all more.has;
-      all = λ nothing. subst (HasShownAll role limits new new_parts ((came ++ take at piece) ++ take n share)) all (more.all nothing);
+      has = subst (λ (ss : List Shown). HasShownFrames context.style.detail role limits new new_parts ((came ++ take at piece) ++ take n share) ss ⊎ HasShownRefusal context.style.detail role limits new new_parts ((came ++ take at piece) ++ take n share) ss) all more.has;
+      all = λ nothing. subst (HasShownAll context.style.detail role limits new new_parts ((came ++ take at piece) ++ take n share)) all (more.all nothing);
       printed = subst (Prints context before after) (sym (items_in-append first.extra more.extra)) (prints_both context before between after (items_in first.extra) (items_in more.extra) first.printed more.printed);
     } in both)
 
@@ -155,8 +157,8 @@ with_first parts first = record parts { frame = record parts.frame { first = fir
 abbrev pub AddsTo : FirstBytes → FirstBytes → List ℕ → Type 0
 AddsTo old new more = (all : List ℕ) → length all + length more < 2 ^ 64 → HasFirst old all → HasFirst new (all ++ more)
 
-module _ (role : Role) (limits : Limits) (scan : Scan) (parts : StreamParts) (first : FirstBytes) (came more : List ℕ) (shown : List Shown) (adds : AddsTo parts.frame.first first more) (small : length came + length more < 2 ^ 64) where
-  pub refused_longer : HasShownRefusal role limits scan parts came shown → HasShownRefusal role limits scan (with_first parts first) (came ++ more) shown
+module _ (detail : Detail) (role : Role) (limits : Limits) (scan : Scan) (parts : StreamParts) (first : FirstBytes) (came more : List ℕ) (shown : List Shown) (adds : AddsTo parts.frame.first first more) (small : length came + length more < 2 ^ 64) where
+  pub refused_longer : HasShownRefusal detail role limits scan parts came shown → HasShownRefusal detail role limits scan (with_first parts first) (came ++ more) shown
   refused_longer r =
       let size : length came ≡ length r.read + length r.unread = ap (λ (bs : List ℕ). length bs) r.whole ∙ length-append r.read r.unread in
       record {
@@ -171,16 +173,18 @@ module _ (role : Role) (limits : Limits) (scan : Scan) (parts : StreamParts) (fi
         refused = r.refused;
         place = r.place;
         first = adds r.unread (omega (arith, size, small)) r.first;
+        of_frames = r.of_frames;
+        are_of_frames = r.are_of_frames;
         of_refusal = r.of_refusal;
         is_of_refusal = r.is_of_refusal;
         is = r.is;
       }
 
-  same_shown : more ≡ [] → (frames : HasShownFrames role limits scan parts came shown) → IsSettled frames.followed → HasShownAll role limits scan (with_first parts first) (came ++ more) shown
+  same_shown : more ≡ [] → (frames : HasShownFrames detail role limits scan parts came shown) → IsSettled frames.followed → HasShownAll detail role limits scan (with_first parts first) (came ++ more) shown
   same_shown none frames settled =
       let size = rest_few role limits scan came frames.done frames.at frames.rest frames.followed in
       let own = frames.keeps.frame in
-      let there : HasShownFrames role limits scan (with_first parts first) came shown = record {
+      let there : HasShownFrames detail role limits scan (with_first parts first) came shown = record {
         done = frames.done;
         at = frames.at;
         rest = frames.rest;
@@ -198,19 +202,19 @@ module _ (role : Role) (limits : Limits) (scan : Scan) (parts : StreamParts) (fi
         };
         is = frames.is;
       } in
-      subst (λ (bs : List ℕ). HasShownAll role limits scan (with_first parts first) bs shown) (sym (ap (λ (bs : List ℕ). came ++ bs) none ∙ append-nil came)) (inl (there, settled))
+      subst (λ (bs : List ℕ). HasShownAll detail role limits scan (with_first parts first) bs shown) (sym (ap (λ (bs : List ℕ). came ++ bs) none ∙ append-nil came)) (inl (there, settled))
 
-  pub all_longer : (refusal_in scan ≡ None → more ≡ []) → HasShownAll role limits scan parts came shown → HasShownAll role limits scan (with_first parts first) (came ++ more) shown
+  pub all_longer : (refusal_in scan ≡ None → more ≡ []) → HasShownAll detail role limits scan parts came shown → HasShownAll detail role limits scan (with_first parts first) (came ++ more) shown
   all_longer none (inl (frames, settled)) = same_shown (none frames.followed.unrefused) frames settled
   all_longer none (inr refusal) = inr (refused_longer refusal)
 
 -- After a refusal nothing is shown of more bytes.
 pub shows_none : (role : Role) (limits : Limits) (scan : Scan) (parts : StreamParts) (first : FirstBytes) (context : EntryContext) (old : Outgoing) (came more : List ℕ) (shown : List Shown) (refusal : Refusal) → AddsTo parts.frame.first first more
-    → length came + length more < 2 ^ 64 → refusal_in scan ≡ Some refusal → HasShownAll role limits scan parts came shown → ShowsAll role limits scan (with_first parts first) context old old (came ++ more) shown
+    → length came + length more < 2 ^ 64 → refusal_in scan ≡ Some refusal → HasShownAll context.style.detail role limits scan parts came shown → ShowsAll role limits scan (with_first parts first) context old old (came ++ more) shown
 shows_none role limits scan parts first context old came more shown refusal adds small is has = record {
   extra = [];
-  has = subst (HasShownAll role limits scan (with_first parts first) (came ++ more)) (sym (append-nil shown))
-      (all_longer role limits scan parts first came more shown adds small (λ none. let both : Some refusal ≡ None = sym is ∙ none in cc) has);
+  has = subst (HasShownAll context.style.detail role limits scan (with_first parts first) (came ++ more)) (sym (append-nil shown))
+      (all_longer context.style.detail role limits scan parts first came more shown adds small (λ none. let both : Some refusal ≡ None = sym is ∙ none in cc) has);
   printed = prints_nothing context old;
 }
 
@@ -225,11 +229,11 @@ shows_rest role limits scan parts first context old new came piece left read sho
     let few : length (came ++ take read piece) + length left < 2 ^ 64 = omega (arith, size, length-take-le read piece within, ap (λ (bs : List ℕ). length bs) is, length-drop read piece, small, within) in
     record {
       extra = s.extra;
-      has = subst (λ (bs : List ℕ). HasShownAll role limits scan (with_first parts first) bs (shown ++ s.extra)) whole
-          (all_longer role limits scan parts first (came ++ take read piece) left (shown ++ s.extra) adds few none s.has);
+      has = subst (λ (bs : List ℕ). HasShownAll context.style.detail role limits scan (with_first parts first) bs (shown ++ s.extra)) whole
+          (all_longer context.style.detail role limits scan parts first (came ++ take read piece) left (shown ++ s.extra) adds few none s.has);
       printed = s.printed;
     }
 
-pub frames_of : (role : Role) (limits : Limits) (scan : Scan) (parts : StreamParts) (came : List ℕ) (shown : List Shown) → refusal_in scan ≡ None → HasShownAll role limits scan parts came shown → HasShownFrames role limits scan parts came shown
-frames_of role limits scan parts came shown none (inl (frames, settled)) = frames
-frames_of role limits scan parts came shown none (inr refusal) = let both : Some refusal.refusal ≡ None = sym refusal.reported ∙ none in absurd cc
+pub frames_of : (detail : Detail) (role : Role) (limits : Limits) (scan : Scan) (parts : StreamParts) (came : List ℕ) (shown : List Shown) → refusal_in scan ≡ None → HasShownAll detail role limits scan parts came shown → HasShownFrames detail role limits scan parts came shown
+frames_of detail role limits scan parts came shown none (inl (frames, settled)) = frames
+frames_of detail role limits scan parts came shown none (inr refusal) = let both : Some refusal.refusal ≡ None = sym refusal.reported ∙ none in absurd cc

@@ -1,10 +1,10 @@
 -- What one call of the scan adds to what was shown.
-use Rattle.std.proofs.Common.{◌≡◌, ℕ, ◌+◌, ◌<◌, ◌≤◌, ◌^◌, Bool, true, false, Some, List, [], ◌∷◌, ◌++◌, length, take, drop, inl, inr, refl, sym, ap, ◌∙◌, subst, append-nil, append_assoc, arith, length-append}
-use Rattle.std.proofs.lemmas.Bool.{cond-true, cond-false}
+use Rattle.std.proofs.Common.{◌≡◌, ℕ, ◌+◌, ◌<◌, ◌≤◌, ◌^◌, Bool, true, false, List, [], ◌∷◌, ◌++◌, length, take, drop, inl, inr, refl, sym, ap, ◌∙◌, subst, append-nil, append_assoc, arith, length-append}
 use Rattle.std.proofs.lemmas.List.{take_all, drop_at, length-take, length-take-le}
 use Rattle.wsn_io.specs.Transfer.{Outgoing}
 use Rattle.wsn_wire.specs.declared.endpoint.Role.{Role}
 use Rattle.wsn_wire.specs.Frame.{Frame, stream, wire_payload}
+use Rattle.wsn_rules.specs.declared.detail.Detail.{Detail}
 use Rattle.wsn_rules.specs.declared.head_info.HeadInfo.{HeadInfo}
 use Rattle.wsn_rules.specs.declared.verdict.Refusal.{Refusal}
 use Rattle.wsn_rules.specs.Limits.{Limits}
@@ -12,35 +12,26 @@ use Rattle.wsn_rules.specs.Group.{unfinished, payload_of}
 use Rattle.wsn_rules.specs.Accepted.{HasNoClose}
 use Rattle.wsn_rules.specs.Heads.{info_of, BeginsWithHead, IsBegun}
 use Rattle.wsn_rules.specs.Lawful.{IsLawful}
-use Rattle.wsn_rules.specs.ShownStream.{Item, Shown, shown_after, shown_at, shown_of, open_items, items_of_final, IsShownEvidence}
+use Rattle.wsn_rules.specs.ShownStream.{Shown, shown_after, interrupted, IsShownEvidence}
 use Rattle.wsn_rules.specs.ShownStream.Item.{RefusedFrame}
 use Rattle.wsn_rules.proofs.Groups.{group_of_lawful}
-use Rattle.wsn_rules.proofs.ShownStreams.{shown_of-append}
 use Rattle.wsn_scan.specs.declared.notice.Notice.{Notice}
 use Rattle.wsn_scan.specs.declared.notice.Notice.TheVariants as notices
 use Rattle.wsn_scan.specs.declared.scan.Scan.{Scan}
 use Rattle.wsn_scan.specs.NoticeReaders.{begun_at}
 use Rattle.wsn_scan.specs.ReportedFrames.{Position, BetweenFrames, InFrame}
 use Rattle.wsn_scan.proofs.FrameEnds.{unfinished_few}
-use Rattle.wsn_scan.proofs.HeadsReported.{begins_longer}
+use Rattle.wsn_rules.proofs.HeadsGoOn.{begins_longer}
 use Rattle.wsn_show.specs.declared.entry_context.EntryContext.{EntryContext}
 use Rattle.wsn_show.specs.declared.stream_parts.StreamParts.{StreamParts}
 use Rattle.wsn_show.specs.HeldParts.{HasFirst}
 use Rattle.wsn_show.specs.StreamParts.{Keeps, IsEvidenceAt}
 use Rattle.wsn_show.specs.FollowedScans.{HasFollowed, IsSettled, IsCall}
-use Rattle.wsn_show.specs.ShownItems.{Prints}
-use Rattle.wsn_show.specs.ShownSoFar.{items_in, HasShownFrames, HasShownRefusal, ShowsMore}
+use Rattle.wsn_show.specs.ShownItems.{Prints, items_of_begun, items_of_ended}
+use Rattle.wsn_show.specs.ShownSoFar.{items_in, shown_so_far, HasShownFrames, HasShownRefusal, ShowsMore}
 use Rattle.wsn_show.proofs.PrintedItems.{prints_nothing}
+use Rattle.wsn_show.proofs.FramesSoFar.{items_after, shown_begun, shown_ended, begun_items, ended_items, unended_items, same_so_far, begun_so_far, ended_so_far, are_so_far}
 use Rattle.wsn_show.proofs.FollowedScans.{few, rest_few, in_frame, head_follows, payload_follows, end_follows, more_follows, closed_follows, was_settled, refused_follows}
-
--- ---- items
-
-items_after : (n : ℕ) (items : List Item) → items_in (shown_after n items) ≡ items
-items_after n [] = refl
-items_after n (item ∷ items) = ap (λ (is : List Item). item ∷ is) (items_after n items)
-
-shown_push : (fs : List Frame) (f : Frame) → shown_of [] (fs ++ f ∷ []) ≡ shown_of [] fs ++ shown_at fs f
-shown_push fs f = shown_of-append [] fs (f ∷ []) ∙ ap (λ (ss : List Shown). shown_of [] fs ++ ss) (append-nil (shown_at fs f))
 
 -- Bytes of a payload aren't many.
 few_open : (role : Role) (limits : Limits) (scan : Scan) (came : List ℕ) (done : List Frame) (at : Position) (rest : List ℕ) → HasFollowed role limits scan came done at rest → length (payload_of (unfinished done)) ≤ 16777216
@@ -49,9 +40,12 @@ few_open role limits scan came done at rest h =
     let most = h.has_scanned.has_consumed.in_range.message in
     omega (arith, size, most)
 
-module _ (role : Role) (limits : Limits) (old new : Scan) (piece after : List ℕ) (n : ℕ) (came : List ℕ) (shown : List Shown) (parts kept : StreamParts) (frames : HasShownFrames role limits old parts came shown) (context : EntryContext) where
+module _ (role : Role) (limits : Limits) (old new : Scan) (piece after : List ℕ) (n : ℕ) (came : List ℕ) (shown : List Shown) (parts kept : StreamParts) (context : EntryContext) (frames : HasShownFrames context.style.detail role limits old parts came shown) where
   abbrev share : List ℕ
   share = take n piece
+
+  abbrev detail : Detail
+  detail = context.style.detail
 
   abbrev done : List Frame
   done = frames.done
@@ -61,13 +55,13 @@ module _ (role : Role) (limits : Limits) (old new : Scan) (piece after : List �
 
   -- After a call without a refusal.
   shows : (out out_after : Outgoing) (parts_after : StreamParts) (ended : List Frame) (to : Position) (left : List ℕ) (extra : List Shown) (g : HasFollowed role limits new (came ++ share) ended to left) → Keeps parts_after ended to left
-      → shown ++ extra ≡ shown_of [] ended → (length piece ≡ 0 → IsSettled g) → Prints context out out_after (items_in extra) → ShowsMore role limits new parts_after context out out_after (length piece) (came ++ share) shown
+      → shown ++ extra ≡ shown_so_far detail ended to → (length piece ≡ 0 → IsSettled g) → Prints context out out_after (items_in extra) → ShowsMore role limits new parts_after context out out_after (length piece) (came ++ share) shown
   shows out out_after parts_after ended to left extra g keeps is settled printed =
-      let there : HasShownFrames role limits new parts_after (came ++ share) (shown ++ extra) = record { done = ended; at = to; rest = left; followed = g; keeps = keeps; is = is } in
+      let there : HasShownFrames detail role limits new parts_after (came ++ share) (shown ++ extra) = record { done = ended; at = to; rest = left; followed = g; keeps = keeps; is = is } in
       record { extra = extra; has = inl there; all = λ nothing. inl (there, settled nothing); printed = printed }
 
-  none_is : shown ++ [] ≡ shown_of [] done
-  none_is = append-nil shown ∙ frames.is
+  same_is : (to : Position) → begun_at frames.at ≡ begun_at to → shown ++ [] ≡ shown_so_far detail done to
+  same_is to same = append-nil shown ∙ frames.is ∙ same_so_far detail done frames.at to same
 
   -- the bytes that a call consumes aren't many
   pub few_more : (notice : Notice) → IsCall old new piece after n notice → length frames.rest + n < 2 ^ 64
@@ -80,12 +74,14 @@ module _ (role : Role) (limits : Limits) (old new : Scan) (piece after : List �
       omega (arith, size, most, room, all, input)
 
   module _ (out : Outgoing) (in_all : Keeps kept done frames.at longer) where
-    pub head_step : (info : HeadInfo) (parts_after : StreamParts) → IsCall old new piece after n (notices.Head info) → (Keeps kept done BetweenFrames longer → Keeps parts_after done (InFrame info []) longer)
-        → ShowsMore role limits new parts_after context out out (length piece) (came ++ share) shown
-    head_step info parts_after call begins =
+    pub head_step : (info : HeadInfo) (out_after : Outgoing) (parts_after : StreamParts) → IsCall old new piece after n (notices.Head info) → (Keeps kept done BetweenFrames longer → Keeps parts_after done (InFrame info []) longer)
+        → Prints context out out_after (items_of_begun detail info) → ShowsMore role limits new parts_after context out out_after (length piece) (came ++ share) shown
+    head_step info out_after parts_after call begins printed =
         let on = head_follows role limits old new piece after n came done frames.at frames.rest frames.followed info call in
         let within = call.within in
-        shows out out parts_after done (InFrame info []) longer [] on.1 (begins (subst (λ (p : Position). Keeps kept done p longer) on.0 in_all)) none_is (λ nothing. absurd (omega (arith, nothing, within, on.2))) (prints_nothing context out)
+        shows out out_after parts_after done (InFrame info []) longer (shown_begun detail info) on.1 (begins (subst (λ (p : Position). Keeps kept done p longer) on.0 in_all))
+        (ap (λ (ss : List Shown). ss ++ shown_begun detail info) (frames.is ∙ ap (shown_so_far detail done) on.0) ∙ begun_so_far detail done info)
+        (λ nothing. absurd (omega (arith, nothing, within, on.2))) (subst (Prints context out out_after) (sym (begun_items detail info)) printed)
 
     pub payload_step : (payload : List ℕ) (parts_after : StreamParts) → IsCall old new piece after n notices.Payload → payload ≡ take n after
         → ((info : HeadInfo) (part : List ℕ) → length (payload_of (unfinished done)) + length part + length payload < 2 ^ 64 → Keeps kept done (InFrame info part) longer → Keeps parts_after done (InFrame info (part ++ payload)) longer)
@@ -110,17 +106,17 @@ module _ (role : Role) (limits : Limits) (old new : Scan) (piece after : List �
         omega (arith, whole, own, open_few, size, all, room, consumed, input, ap (λ (bs : List ℕ). length bs) is, length-take n after) in
         shows out out parts_after done (InFrame info (part ++ take n after)) longer [] on.3
         (subst (λ (bs : List ℕ). Keeps parts_after done (InFrame info (part ++ bs)) longer) is (adds info part small (subst (λ (p : Position). Keeps kept done p longer) on.2 in_all)))
-        none_is (λ nothing. absurd (omega (arith, nothing, within, on.4))) (prints_nothing context out)
+        (same_is (InFrame info (part ++ take n after)) (ap begun_at on.2)) (λ nothing. absurd (omega (arith, nothing, within, on.4))) (prints_nothing context out)
 
     pub more_step : IsCall old new piece after n notices.More → ShowsMore role limits new kept context out out (length piece) (came ++ share) shown
     more_step call =
         let on = more_follows role limits old new piece after n came done frames.at frames.rest frames.followed call in
-        shows out out kept done frames.at longer [] on.0 in_all none_is on.1 (prints_nothing context out)
+        shows out out kept done frames.at longer [] on.0 in_all (same_is frames.at refl) on.1 (prints_nothing context out)
 
     pub closed_step : IsCall old new piece after n notices.Closed → ShowsMore role limits new kept context out out (length piece) (came ++ share) shown
     closed_step call =
         let on = closed_follows role limits old new piece after n came done frames.at frames.rest frames.followed call in
-        shows out out kept done frames.at longer [] on.0 in_all none_is on.1 (prints_nothing context out)
+        shows out out kept done frames.at longer [] on.0 in_all (same_is frames.at refl) on.1 (prints_nothing context out)
 
     -- ---- a frame's end
 
@@ -133,7 +129,7 @@ module _ (role : Role) (limits : Limits) (old new : Scan) (piece after : List �
       pub small : length (stream (done ++ frame ∷ [])) < 2 ^ 64
       pub few_frames : length (unfinished done) + 1 < 2 ^ 64
       pub keeps : Keeps kept done (InFrame (info_of (length (stream done)) frame) frame.payload) longer
-      pub shows_end : (out_after : Outgoing) (parts_after : StreamParts) → Keeps parts_after (done ++ frame ∷ []) BetweenFrames [] → Prints context out out_after (items_in (shown_at done frame))
+      pub shows_end : (out_after : Outgoing) (parts_after : StreamParts) → Keeps parts_after (done ++ frame ∷ []) BetweenFrames [] → Prints context out out_after (items_in (shown_ended detail done frame))
           → ShowsMore role limits new parts_after context out out_after (length piece) (came ++ share) shown
 
     pub end_step : (event : Bool) → IsCall old new piece after n (notices.FrameEnd event) → Ends event
@@ -155,15 +151,15 @@ module _ (role : Role) (limits : Limits) (old new : Scan) (piece after : List �
           few_frames = omega (arith, unfinished_few done, before, some);
           keeps = subst (λ (p : Position). Keeps kept done p longer) on.was in_all;
           shows_end = λ out_after parts_after keeps printed.
-              shows out out_after parts_after (done ++ f ∷ []) BetweenFrames [] (shown_at done f) on.followed keeps (ap (λ (ss : List Shown). ss ++ shown_at done f) frames.is ∙ sym (shown_push done f)) (λ nothing. on.is_settled) printed;
+              shows out out_after parts_after (done ++ f ∷ []) BetweenFrames [] (shown_ended detail done f) on.followed keeps
+              (ap (λ (ss : List Shown). ss ++ shown_ended detail done f) (frames.is ∙ ap (shown_so_far detail done) on.was) ∙ ended_so_far detail done f) (λ nothing. on.is_settled) printed;
         }
 
-    pub final_items : (f : Frame) → f.fin ≡ true → items_in (shown_at done f) ≡ items_of_final done f
-    final_items f final =
-        ap items_in (cond-true f.fin (shown_after (length (stream (done ++ f ∷ []))) (items_of_final done f)) [] final) ∙ items_after (length (stream (done ++ f ∷ []))) (items_of_final done f)
+    pub final_items : (f : Frame) → f.fin ≡ true → items_in (shown_ended detail done f) ≡ items_of_ended detail done f
+    final_items f final = ended_items detail done f final
 
-    pub no_items : (f : Frame) → f.fin ≡ false → items_in (shown_at done f) ≡ []
-    no_items f more = ap items_in (cond-false f.fin (shown_after (length (stream (done ++ f ∷ []))) (items_of_final done f)) [] more)
+    pub no_items : (f : Frame) → f.fin ≡ false → items_in (shown_ended detail done f) ≡ []
+    no_items f more = unended_items detail done f more
 
     -- ---- a refusal
 
@@ -200,7 +196,7 @@ module _ (role : Role) (limits : Limits) (old new : Scan) (piece after : List �
       pub is : IsEvidenceAt frames.at n longer evidence
       pub lawful : IsLawful role limits done
       pub small : length longer < 2 ^ 64
-      pub shows_refusal : (out_after : Outgoing) (parts_after : StreamParts) → HasFirst parts_after.frame.first [] → Prints context out out_after (open_items done (Some 0) ++ RefusedFrame (length (stream done)) refusal evidence ∷ [])
+      pub shows_refusal : (out_after : Outgoing) (parts_after : StreamParts) → HasFirst parts_after.frame.first [] → Prints context out out_after (interrupted detail done ++ RefusedFrame (length (stream done)) refusal evidence ∷ [])
           → ShowsMore role limits new parts_after context out out_after (length piece) (came ++ share) shown
 
     pub refused_step : (refusal : Refusal) → IsCall old new piece after n (notices.Refused refusal) → Refuses refusal
@@ -209,7 +205,7 @@ module _ (role : Role) (limits : Limits) (old new : Scan) (piece after : List �
         let size : length share ≡ n = length-take-le n piece call.within in
         let e = found frames.at refl r.begun r.settled r.some size ((r.refused []).no_close) in
         let most = few_more (notices.Refused refusal) call in
-        let items = open_items done (Some 0) ++ RefusedFrame (length (stream done)) refusal e.evidence ∷ [] in
+        let items = interrupted detail done ++ RefusedFrame (length (stream done)) refusal e.evidence ∷ [] in
         let extra = shown_after (refusal.place + 1) items in
         let whole : came ++ share ≡ stream done ++ longer = ap (λ (bs : List ℕ). bs ++ share) frames.followed.whole ∙ append_assoc (stream done) frames.rest share in
         let at_end = r.place in
@@ -221,7 +217,7 @@ module _ (role : Role) (limits : Limits) (old new : Scan) (piece after : List �
           lawful = frames.followed.ended.lawful;
           small = omega (arith, most, length-append frames.rest share, size);
           shows_refusal = λ out_after parts_after first printed.
-              let there : HasShownRefusal role limits new parts_after (came ++ share) (shown ++ extra) = record {
+              let there : HasShownRefusal detail role limits new parts_after (came ++ share) (shown ++ extra) = record {
                 done = done;
                 refusal = refusal;
                 read = came ++ share;
@@ -233,9 +229,11 @@ module _ (role : Role) (limits : Limits) (old new : Scan) (piece after : List �
                 refused = r.refused;
                 place = r.place;
                 first = first;
+                of_frames = shown;
+                are_of_frames = are_so_far detail role limits (came ++ share) longer done frames.at shown frames.followed.ended.lawful whole r.begun frames.is;
                 of_refusal = extra;
                 is_of_refusal = record { evidence = e.evidence; is_evidence = subst (λ (bs : List ℕ). IsShownEvidence role limits done bs e.evidence) (sym seen) e.is_shown; is = refl };
-                is = ap (λ (ss : List Shown). ss ++ extra) frames.is;
+                is = refl;
               } in
               record {
                 extra = extra;

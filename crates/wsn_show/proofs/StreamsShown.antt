@@ -13,6 +13,7 @@ use Rattle.wsn_wire.specs.Frame.{Frame, opcode, is_control, first_byte, second_b
 use Rattle.wsn_wire.specs.Layout.{opcode_field}
 use Rattle.wsn_wire.specs.Rows.{IsControlOpcode, IsLong}
 use Rattle.wsn_wire.proofs.FrameLemmas.{first_byte_fields, second_byte_fields, spells-len_form_of}
+use Rattle.wsn_rules.specs.declared.detail.Detail.{Detail}
 use Rattle.wsn_rules.specs.declared.head_info.HeadInfo.{HeadInfo}
 use Rattle.wsn_rules.specs.declared.verdict.Refusal.{Refusal}
 use Rattle.wsn_rules.specs.declared.verdict.Summary.{Summary}
@@ -24,13 +25,14 @@ use Rattle.wsn_rules.specs.Evidence.Evidence.{ByFirst, BySecond}
 use Rattle.wsn_rules.specs.Group.{unfinished, first_op}
 use Rattle.wsn_rules.specs.Heads.{BeginsWithHead}
 use Rattle.wsn_rules.specs.Lawful.{IsLawful}
-use Rattle.wsn_rules.specs.ShownStream.{Shown, shown_of, frame_so_far, items_of_bytes, items_of_head, items_of_part, IsLeftOfRest, IsShownEvidence, IsShownVerdict, IsShownStream, IsLeftOf, IsLeftOver}
+use Rattle.wsn_rules.specs.ShownStream.{Shown, AreShownFrames, frame_so_far, items_of_bytes, items_of_head, items_of_part, IsLeftOfRest, IsShownEvidence, IsShownVerdict, IsShownStream, IsLeftOf, IsLeftOver}
 use Rattle.wsn_rules.specs.ShownStream.Item.{Unread, Tail}
 use Rattle.wsn_rules.specs.Summary.{close_of, close_code}
 use Rattle.wsn_rules.specs.Verdict.{IsRefused, IsVerdict}
 use Rattle.wsn_rules.proofs.Groups.{group_of_lawful}
 use Rattle.wsn_rules.proofs.LawfulLists.{came_on}
 use Rattle.wsn_rules.proofs.Prefixes.{append_cancel}
+use Rattle.wsn_rules.proofs.ShownStreams.{frames_stay}
 use Rattle.wsn_rules.proofs.StaysRefused.{stays_refused}
 use Rattle.wsn_scan.specs.declared.scan.Scan.{Scan}
 use Rattle.wsn_scan.specs.ReportedFrames.{Position, BetweenFrames, InFrame}
@@ -38,14 +40,15 @@ use Rattle.wsn_scan.specs.Reports.{Reported, refusal_judged}
 use Rattle.wsn_scan.specs.Scans.{HasScanned, refusal_in}
 use Rattle.wsn_scan.proofs.FrameEnds.{close_of-push, unfinished_few}
 use Rattle.wsn_scan.proofs.FramesReported.{frames_of_bytes}
-use Rattle.wsn_scan.proofs.HeadsReported.{begins_two}
+use Rattle.wsn_rules.proofs.HeadsGoOn.{begins_two}
 use Rattle.wsn_scan.proofs.Unrefused.{unrefused}
 use Rattle.wsn_show.specs.declared.stream_parts.StreamParts.{StreamParts}
 use Rattle.wsn_show.specs.HeldParts.{HasFirst}
 use Rattle.wsn_show.specs.StreamParts.{HasKind, IsSoundPart, items_left}
 use Rattle.wsn_show.specs.FollowedScans.{HasFollowed, IsSettled}
 use Rattle.wsn_show.specs.ShownSoFar.{HasShownFrames, HasShownRefusal, HasShownAll}
-use Rattle.wsn_show.proofs.FollowedScans.{few, rest_few, in_frame, between}
+use Rattle.wsn_show.proofs.FollowedScans.{few, rest_few, is_begun, in_frame, between}
+use Rattle.wsn_show.proofs.FramesSoFar.{are_so_far}
 use Rattle.wsn_show.proofs.HeldItems.{none_is}
 
 -- ---- a frame that has begun
@@ -115,10 +118,10 @@ begun_kind role limits fs rest info payload lawful b other = by (unfinished fs) 
         let kind = (group_of_lawful role limits fs lawful).kind (λ none. let both : g ∷ group ≡ [] = sym some ∙ none in cc) in
         subst (λ (gs : List Frame). HasKind (first_op (gs ++ frame_so_far info payload ∷ []))) (sym some) (subst (λ (gs : List Frame). HasKind (first_op gs)) some kind)
 
-module _ (role : Role) (limits : Limits) (scan : Scan) (parts : StreamParts) (came : List ℕ) (shown : List Shown) where
+module _ (detail : Detail) (role : Role) (limits : Limits) (scan : Scan) (parts : StreamParts) (came : List ℕ) (shown : List Shown) where
   -- ---- all that is shown
 
-  module _ (frames : HasShownFrames role limits scan parts came shown) (settled : IsSettled frames.followed) where
+  module _ (frames : HasShownFrames detail role limits scan parts came shown) (settled : IsSettled frames.followed) where
     abbrev done : List Frame
     done = frames.done
 
@@ -133,22 +136,24 @@ module _ (role : Role) (limits : Limits) (scan : Scan) (parts : StreamParts) (ca
         let found = frames_of_bytes role limits scan came h.since h.frames h.reported h.has_scanned in
         (found.0, subst (λ (fs : List Frame). IsVerdict role limits came fs found.0) (sym settled) found.1)
 
-    nothing_of : (verdict : Verdict) → IsVerdict role limits came done verdict → IsShownVerdict role limits came done verdict []
+    nothing_of : (verdict : Verdict) → IsVerdict role limits came done verdict → IsShownVerdict detail role limits came done verdict []
     nothing_of (Accepted summary) is = refl
     nothing_of (Cut summary) is = refl
     nothing_of (Refused refusal) is = absurd (not_refused done refusal is)
 
-    frames_shown : IsShownStream role limits came shown
+    frames_shown : IsShownStream detail role limits came shown
     frames_shown = record {
       frames = done;
       verdict = verdict_of.0;
       is_verdict = verdict_of.1;
+      of_frames = shown;
+      are_of_frames = let h = frames.followed in are_so_far detail role limits came frames.rest done frames.at shown h.ended.lawful h.whole (is_begun role limits scan came done frames.at frames.rest h settled) frames.is;
       of_verdict = [];
       is_of_verdict = nothing_of verdict_of.0 verdict_of.1;
-      all = frames.is ∙ sym (append-nil (shown_of [] done));
+      all = sym (append-nil shown);
     }
 
-  refusal_shown : HasShownRefusal role limits scan parts came shown → IsShownStream role limits came shown
+  refusal_shown : HasShownRefusal detail role limits scan parts came shown → IsShownStream detail role limits came shown
   refusal_shown r =
       let at_end = r.place in
       let front : take (r.refusal.place + 1) came ≡ take (r.refusal.place + 1) r.read =
@@ -158,6 +163,11 @@ module _ (role : Role) (limits : Limits) (scan : Scan) (parts : StreamParts) (ca
         frames = r.done;
         verdict = Refused r.refusal;
         is_verdict = subst (λ (bs : List ℕ). IsRefused role limits bs r.done r.refusal.place r.refusal.reason) (sym r.whole) (r.refused r.unread);
+        of_frames = r.of_frames;
+        are_of_frames =
+            subst (λ (bs : List ℕ). AreShownFrames detail role limits bs r.done r.of_frames) (sym r.whole)
+            (frames_stay role limits detail r.read r.unread r.done r.refusal r.of_frames
+            (subst (λ (bs : List ℕ). IsRefused role limits bs r.done r.refusal.place r.refusal.reason) (append-nil r.read) (r.refused [])) r.are_of_frames);
         of_verdict = r.of_refusal;
         is_of_verdict = record {
           evidence = own.evidence;
@@ -167,7 +177,7 @@ module _ (role : Role) (limits : Limits) (scan : Scan) (parts : StreamParts) (ca
         all = r.is;
       }
 
-  pub all_shown : HasShownAll role limits scan parts came shown → IsShownStream role limits came shown
+  pub all_shown : HasShownAll detail role limits scan parts came shown → IsShownStream detail role limits came shown
   all_shown (inl (frames, settled)) = frames_shown frames settled
   all_shown (inr refusal) = refusal_shown refusal
 
@@ -182,7 +192,7 @@ module _ (role : Role) (limits : Limits) (scan : Scan) (parts : StreamParts) (ca
   verdict_on read unread fs (Refused own) refusal is judged = stays_refused role limits fs read unread own.place own.reason judged
 
   pub judged : (verdict : Verdict) → ((bytes rest : List ℕ) (fs : List Frame) (reported : Reported) → HasScanned role limits scan bytes fs rest reported → IsVerdict role limits bytes fs verdict) → refusal_judged verdict ≡ refusal_in scan
-      → HasShownAll role limits scan parts came shown → (fs : List Frame) × IsVerdict role limits came fs verdict
+      → HasShownAll detail role limits scan parts came shown → (fs : List Frame) × IsVerdict role limits came fs verdict
   judged verdict judges reported (inl (frames, settled)) = let h = frames.followed in (h.frames, judges came h.since h.frames h.reported h.has_scanned)
   judged verdict judges reported (inr r) =
       let s = r.scanned in (
@@ -199,7 +209,7 @@ module _ (role : Role) (limits : Limits) (scan : Scan) (parts : StreamParts) (ca
     pub small : place + 1 < 2 ^ 64
     pub left_over : IsLeftOver role limits came (items_of_bytes Unread (place + 1) unread)
 
-  pub leaves_unread : (refusal : Refusal) → refusal_in scan ≡ Some refusal → HasShownAll role limits scan parts came shown → LeavesUnread refusal.place
+  pub leaves_unread : (refusal : Refusal) → refusal_in scan ≡ Some refusal → HasShownAll detail role limits scan parts came shown → LeavesUnread refusal.place
   leaves_unread refusal is (inl (frames, settled)) = let both : Some refusal ≡ None = sym is ∙ frames.followed.unrefused in absurd cc
   leaves_unread refusal is (inr r) =
       let same : r.refusal ≡ refusal = let both : Some r.refusal ≡ Some refusal = sym r.reported ∙ is in cc in
@@ -220,7 +230,7 @@ module _ (role : Role) (limits : Limits) (scan : Scan) (parts : StreamParts) (ca
 
   -- ---- the tail, or what isn't complete
 
-  module _ (frames : HasShownFrames role limits scan parts came shown) (settled : IsSettled frames.followed) where
+  module _ (frames : HasShownFrames detail role limits scan parts came shown) (settled : IsSettled frames.followed) where
     abbrev fs : List Frame
     fs = frames.done
 
@@ -316,7 +326,7 @@ module _ (role : Role) (limits : Limits) (scan : Scan) (parts : StreamParts) (ca
     }
 
 -- The bytes aren't refused, so the frames are all that is shown.
-pub unrefused_all : (role : Role) (limits : Limits) (scan : Scan) (parts : StreamParts) (came : List ℕ) (shown : List Shown) → refusal_in scan ≡ None → HasShownAll role limits scan parts came shown
-    → (frames : HasShownFrames role limits scan parts came shown) × IsSettled frames.followed
-unrefused_all role limits scan parts came shown none (inl frames) = frames
-unrefused_all role limits scan parts came shown none (inr refusal) = let both : Some refusal.refusal ≡ None = sym refusal.reported ∙ none in absurd cc
+pub unrefused_all : (detail : Detail) (role : Role) (limits : Limits) (scan : Scan) (parts : StreamParts) (came : List ℕ) (shown : List Shown) → refusal_in scan ≡ None → HasShownAll detail role limits scan parts came shown
+    → (frames : HasShownFrames detail role limits scan parts came shown) × IsSettled frames.followed
+unrefused_all detail role limits scan parts came shown none (inl frames) = frames
+unrefused_all detail role limits scan parts came shown none (inr refusal) = let both : Some refusal.refusal ≡ None = sym refusal.reported ∙ none in absurd cc

@@ -11,7 +11,8 @@ use Rattle.wsn_rules.specs.ShownStream.{Item}
 use Rattle.wsn_rules.specs.declared.report.Report.{Report}
 use Rattle.wsn_rules.specs.Reports.{IsReportOf}
 use Rattle.wsn_rules.specs.ShownCapture.{LineItem, ShownLine, GivesTime, GivesNoTime, of_stream, IsTimeAfter, IsShownOfEntry, IsLeftAtEnd}
-use Rattle.wsn_print.specs.ShownText.{item_lines, line_item_text, shown_line_text}
+use Rattle.wsn_show.specs.declared.style.Style.{Style}
+use Rattle.wsn_show.specs.Styles.{styled_items, styled_line_item, styled_line}
 use Rattle.wsn_capture.specs.declared.line_fault.LineFault.{LineFault}
 use Rattle.wsn_capture.specs.LineFaults.{HasFault}
 use Rattle.wsn_capture.specs.Captures.{HasAcceptedLines}
@@ -21,25 +22,25 @@ use Rattle.wsn_show.specs.declared.capture_view.CaptureView.{CaptureView}
 -- ---- lines that were shown
 
 -- The view has the streams of both endpoints as these entries give them.
-pub record AreViewed (limits : Limits) (n : ℕ) (view : CaptureView) (entries : List Entry) : Type 0 where
-  pub client : HasViewed Client limits n view.client (sent Client entries)
-  pub server : HasViewed Server limits n view.server (sent Server entries)
+pub record AreViewed (limits : Limits) (style : Style) (view : CaptureView) (entries : List Entry) : Type 0 where
+  pub client : HasViewed Client limits style view.client (sent Client entries)
+  pub server : HasViewed Server limits style view.server (sent Server entries)
 
--- The view has shown these lines, which gave these entries, with views of at most n bytes.
-pub record HasShownLines (limits : Limits) (n : ℕ) (view : CaptureView) (lines : List (List ℕ)) (entries : List Entry)
-    : Type 0 where
+-- The view has shown these lines, which gave these entries, in this style.
+pub record HasShownLines (limits : Limits) (style : Style) (view : CaptureView) (lines : List (List ℕ))
+    (entries : List Entry) : Type 0 where
   pub accepted : HasAcceptedLines limits view.capture lines
   pub given : AreEntries lines entries
-  pub viewed : AreViewed limits n view entries
+  pub viewed : AreViewed limits style view entries
   pub time : IsTimeAfter lines view.time
 
 -- The view has shown some lines, or none.
 pub record IsShowingLines (view : CaptureView) : Type 0 where
   pub limits : Limits
-  pub most : ℕ
+  pub style : Style
   pub lines : List (List ℕ)
   pub entries : List Entry
-  pub has_shown : HasShownLines limits most view lines entries
+  pub has_shown : HasShownLines limits style view lines entries
 
 -- ---- one more line
 
@@ -51,10 +52,10 @@ pub record IsAcceptedText (limits : Limits) (given : List Entry) (text : List �
 -- The text can be shown: it is accepted after the lines whose streams the view has.
 pub record CanShow (view : CaptureView) (text : List ℕ) : Type 0 where
   pub limits : Limits
-  pub most : ℕ
+  pub style : Style
   pub given : List Entry
   pub entry : Entry
-  pub viewed : AreViewed limits most view given
+  pub viewed : AreViewed limits style view given
   pub accepted : IsAcceptedText limits given text entry
 
 -- The time that holds after a text: the one that it gives, or the one that held before.
@@ -63,55 +64,55 @@ IsTimeNext before text after =
     ((seconds : List ℕ) × GivesTime text seconds × (after ≡ Some seconds)) ⊎ (GivesNoTime text × (after ≡ before))
 
 -- What a text with this entry shows was printed, with the time that held before it.
-pub record ShowsText (limits : Limits) (n : ℕ) (old new : CaptureView) (given : List Entry) (text : List ℕ)
+pub record ShowsText (limits : Limits) (style : Style) (old new : CaptureView) (given : List Entry) (text : List ℕ)
     (entry : Entry) (before after : Outgoing) : Type 0 where
-  pub viewed : AreViewed limits n new (given ++ entry ∷ [])
+  pub viewed : AreViewed limits style new (given ++ entry ∷ [])
   pub time : IsTimeNext old.time text new.time
   pub items : List LineItem
-  pub shows : IsShownOfEntry limits given text entry items
-  pub printed : IsWrittenUpToFailure before after (flat_map (line_item_text n old.time) items)
+  pub shows : IsShownOfEntry style.detail limits given text entry items
+  pub printed : IsWrittenUpToFailure before after (flat_map (styled_line_item style old.time) items)
 
 -- What an endpoint's end mark shows was printed, while this time holds.
-pub record ShowsMark (role : Role) (limits : Limits) (n : ℕ) (given : List Entry) (time : Option (List ℕ))
+pub record ShowsMark (role : Role) (limits : Limits) (style : Style) (given : List Entry) (time : Option (List ℕ))
     (before after : Outgoing) : Type 0 where
   pub items : List LineItem
-  pub shows : IsShownOfEntry limits given (end_mark role) (Mark role) items
-  pub printed : IsWrittenUpToFailure before after (flat_map (line_item_text n time) items)
+  pub shows : IsShownOfEntry style.detail limits given (end_mark role) (Mark role) items
+  pub printed : IsWrittenUpToFailure before after (flat_map (styled_line_item style time) items)
 
 -- Whatever lines the view has shown, what an accepted text shows was printed.
 abbrev pub Shows : CaptureView → CaptureView → List ℕ → Outgoing → Outgoing → Type 0
 Shows old new text before after =
-    (limits : Limits) (n : ℕ) (given : List Entry) (entry : Entry) → AreViewed limits n old given
-    → IsAcceptedText limits given text entry → ShowsText limits n old new given text entry before after
+    (limits : Limits) (style : Style) (given : List Entry) (entry : Entry) → AreViewed limits style old given
+    → IsAcceptedText limits given text entry → ShowsText limits style old new given text entry before after
 
 -- After these lines the view has shown one more, and what it shows was printed.
-pub record ShowsLine (limits : Limits) (n : ℕ) (new : CaptureView) (lines : List (List ℕ)) (given : List Entry)
+pub record ShowsLine (limits : Limits) (style : Style) (new : CaptureView) (lines : List (List ℕ)) (given : List Entry)
     (line : List ℕ) (before after : Outgoing) : Type 0 where
   pub entry : Entry
-  pub has_shown : HasShownLines limits n new (lines ++ line ∷ []) (given ++ entry ∷ [])
+  pub has_shown : HasShownLines limits style new (lines ++ line ∷ []) (given ++ entry ∷ [])
   pub shown : ShownLine
   pub at : IsTimeAfter lines shown.time
-  pub shows : IsShownOfEntry limits given (without_cr line) entry shown.items
-  pub printed : IsWrittenUpToFailure before after (shown_line_text n shown)
+  pub shows : IsShownOfEntry style.detail limits given (without_cr line) entry shown.items
+  pub printed : IsWrittenUpToFailure before after (styled_line style shown)
 
 -- ---- the end
 
 -- What is left over of an endpoint's stream at the end of the capture was printed after what was printed before.
-pub record LeavesAtEnd (role : Role) (limits : Limits) (n : ℕ) (entries : List Entry) (old new : Outgoing) : Type 0
-  where
-    pub left : List Item
-    pub is_left : IsLeftAtEnd role limits entries left
-    pub printed : (before : Outgoing) (text : List ℕ) → IsWrittenUpToFailure before old text →
-        IsWrittenUpToFailure before new (text ++ item_lines n role None left)
+pub record LeavesAtEnd (role : Role) (limits : Limits) (style : Style) (entries : List Entry) (old new : Outgoing)
+    : Type 0 where
+  pub left : List Item
+  pub is_left : IsLeftAtEnd role limits entries left
+  pub printed : (before : Outgoing) (text : List ℕ) → IsWrittenUpToFailure before old text →
+      IsWrittenUpToFailure before new (text ++ styled_items style role None left)
 
 -- What is left over of both streams was printed, and this is the report.
-pub record Finishes (limits : Limits) (n : ℕ) (lines : List (List ℕ)) (entries : List Entry) (before after : Outgoing)
-    (report : Report) : Type 0 where
+pub record Finishes (limits : Limits) (style : Style) (lines : List (List ℕ)) (entries : List Entry)
+    (before after : Outgoing) (report : Report) : Type 0 where
   pub client_left : List Item
   pub server_left : List Item
   pub of_client : IsLeftAtEnd Client limits entries client_left
   pub of_server : IsLeftAtEnd Server limits entries server_left
   pub is_report : IsReportOf limits entries report
   pub printed :
-      IsWrittenUpToFailure before after (flat_map (line_item_text n None)
+      IsWrittenUpToFailure before after (flat_map (styled_line_item style None)
       (of_stream Client client_left ++ of_stream Server server_left))

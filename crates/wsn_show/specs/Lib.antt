@@ -1,4 +1,5 @@
 -- Definitions of what `show` does: first of one stream, then of a capture.
+pub mod Styles
 pub mod HeldParts
 pub mod StreamParts
 pub mod FollowedScans
@@ -10,3 +11,4 @@ pub mod SplitLines
 pub mod CaptureViews
 pub mod Showing
 pub mod PassedLines
+pub mod StreamShows

@@ -1,11 +1,12 @@
 -- How the text that came is related to the lines that a view has shown.
-use Rattle.std.specs.Prelude.{◌≡◌, ℕ, ◌+◌, ◌*◌, ◌-◌, true, Result, Ok, Err, List, [], ◌∷◌, ◌++◌, flat_map, length}
-use Rattle.wsn_io.specs.Transfer.{Outgoing, IsWrittenUpToFailure, IsWritten, IsPartlyWritten}
+use Rattle.std.specs.Prelude.{◌≡◌, ℕ, ◌+◌, ◌*◌, ◌-◌, true, Result, Ok, Err, List, [], ◌++◌, flat_map, length}
+use Rattle.wsn_io.specs.Transfer.{Outgoing, IsWritten, IsPartlyWritten}
 use Rattle.wsn_rules.specs.Limits.{Limits}
 use Rattle.wsn_rules.specs.declared.report.Report.{Report}
 use Rattle.wsn_rules.specs.Entries.{Entry}
 use Rattle.wsn_rules.specs.ShownCapture.{ShownLine, AreShownAfter}
-use Rattle.wsn_print.specs.ShownText.{shown_line_text}
+use Rattle.wsn_show.specs.declared.style.Style.{Style}
+use Rattle.wsn_show.specs.Styles.{styled_line}
 use Rattle.wsn_capture.specs.declared.capture_stop.CaptureStop.TheVariants as capture
 use Rattle.wsn_capture.specs.LineFaults.{IsFaultAfter}
 use Rattle.wsn_capture.specs.Captures.{count_of}
@@ -18,41 +19,41 @@ use Rattle.wsn_show.specs.CaptureViews.{HasShownLines, ShowsLine}
 use Rattle.wsn_show.specs.Showing.{IsTextOfLines, BeginWithLines, IsTextOf, IsWholeText, IsPrintedBefore}
 
 -- These bytes came: whole lines, which the view has shown, and a line that has begun. What the lines show was printed.
-pub record HasPrinted (limits : Limits) (n : ℕ) (first : Outgoing) (view : CaptureView) (begun : List ℕ) (now : Outgoing)
-    (came : List ℕ) : Type 0 where
+pub record HasPrinted (limits : Limits) (style : Style) (first : Outgoing) (view : CaptureView) (begun : List ℕ)
+    (now : Outgoing) (came : List ℕ) : Type 0 where
   pub passed : HasPassedOn limits view.capture begun came
   pub entries : List Entry
-  pub has_shown : HasShownLines limits n view passed.lines entries
+  pub has_shown : HasShownLines limits style view passed.lines entries
   pub shown : List ShownLine
-  pub are : AreShownAfter limits [] [] passed.lines entries shown
-  pub printed : IsWritten first now (flat_map (shown_line_text n) shown)
+  pub are : AreShownAfter style.detail limits [] [] passed.lines entries shown
+  pub printed : IsWritten first now (flat_map (styled_line style) shown)
 
 -- Some bytes came.
 pub record IsPrinting (view : CaptureView) (begun : List ℕ) (now : Outgoing) : Type 0 where
   pub limits : Limits
-  pub most : ℕ
+  pub style : Style
   pub first : Outgoing
   pub came : List ℕ
-  pub has_printed : HasPrinted limits most first view begun now came
+  pub has_printed : HasPrinted limits style first view begun now came
 
 -- The stop is at the line after these lines: it is faulty, and nothing was printed of it; or a write failed.
 abbrev pub StopsAtLine :
-    Limits → ℕ → CaptureView → List (List ℕ) → List Entry → List ℕ → Outgoing → Outgoing → ShowStop → Type 0
-StopsAtLine limits n new lines entries line before after (Capture (capture.Line number fault)) =
+    Limits → Style → CaptureView → List (List ℕ) → List Entry → List ℕ → Outgoing → Outgoing → ShowStop → Type 0
+StopsAtLine limits style new lines entries line before after (Capture (capture.Line number fault)) =
     (number ≡ length lines + 1) × IsFaultAfter limits lines line fault × (after ≡ before)
-StopsAtLine limits n new lines entries line before after (Capture capture.Read) = ⊥
-StopsAtLine limits n new lines entries line before after Write =
-    ShowsLine limits n new lines entries line before after × (after.failed ≡ true)
+StopsAtLine limits style new lines entries line before after (Capture capture.Read) = ⊥
+StopsAtLine limits style new lines entries line before after Write =
+    ShowsLine limits style new lines entries line before after × (after.failed ≡ true)
 
 -- The stop is within the piece, after the bytes that came.
-abbrev pub StopsWithin : Limits → ℕ → Outgoing → Outgoing → List ℕ → List ℕ → ShowStop → Type 0
-StopsWithin limits n first now came piece (Capture (capture.Line number fault)) =
+abbrev pub StopsWithin : Limits → Style → Outgoing → Outgoing → List ℕ → List ℕ → ShowStop → Type 0
+StopsWithin limits style first now came piece (Capture (capture.Line number fault)) =
     IsStopWithin limits came piece (capture.Line number fault)
     × ((lines : List (List ℕ)) × (text : List ℕ) × BeginWithLines (came ++ piece) lines × (number ≡ length lines + 1)
-    × IsTextOfLines limits n lines text × IsWritten first now text)
-StopsWithin limits n first now came piece (Capture capture.Read) = ⊥
-StopsWithin limits n first now came piece Write =
-    (text : List ℕ) × IsTextOf limits n (came ++ piece) text × IsPartlyWritten first now text
+    × IsTextOfLines limits style lines text × IsWritten first now text)
+StopsWithin limits style first now came piece (Capture capture.Read) = ⊥
+StopsWithin limits style first now came piece Write =
+    (text : List ℕ) × IsTextOf limits style (came ++ piece) text × IsPartlyWritten first now text
 
 -- the number of bytes that may still come
 abbrev pub bytes_ahead : CaptureView → List ℕ → ℕ
@@ -61,20 +62,20 @@ bytes_ahead view begun = (1000001 - count_of view.capture) * begun_most - length
 -- ---- the end of the text
 
 -- The view has shown these lines, and what they show was printed.
-pub record HasPrintedLines (limits : Limits) (n : ℕ) (first : Outgoing) (view : CaptureView) (lines : List (List ℕ))
-    (now : Outgoing) : Type 0 where
+pub record HasPrintedLines (limits : Limits) (style : Style) (first : Outgoing) (view : CaptureView)
+    (lines : List (List ℕ)) (now : Outgoing) : Type 0 where
   pub entries : List Entry
-  pub has_shown : HasShownLines limits n view lines entries
+  pub has_shown : HasShownLines limits style view lines entries
   pub shown : List ShownLine
-  pub are : AreShownAfter limits [] [] lines entries shown
-  pub printed : IsWritten first now (flat_map (shown_line_text n) shown)
+  pub are : AreShownAfter style.detail limits [] [] lines entries shown
+  pub printed : IsWritten first now (flat_map (styled_line style) shown)
 
 -- The answer where the text ends, and what was printed of it.
-abbrev pub EndsShowing : Limits → ℕ → Outgoing → Outgoing → List ℕ → Result Report ShowStop → Type 0
-EndsShowing limits n first now came (Ok report) =
-    (text : List ℕ) × IsWholeText limits n came report text × IsWritten first now text
-EndsShowing limits n first now came (Err (Capture (capture.Line number fault))) =
-    IsFaulty limits came number fault × IsUnfaulted limits came × IsPrintedBefore limits n came number first now
-EndsShowing limits n first now came (Err (Capture capture.Read)) = ⊥
-EndsShowing limits n first now came (Err Write) =
-    (text : List ℕ) × IsTextOf limits n came text × IsPartlyWritten first now text
+abbrev pub EndsShowing : Limits → Style → Outgoing → Outgoing → List ℕ → Result Report ShowStop → Type 0
+EndsShowing limits style first now came (Ok report) =
+    (text : List ℕ) × IsWholeText limits style came report text × IsWritten first now text
+EndsShowing limits style first now came (Err (Capture (capture.Line number fault))) =
+    IsFaulty limits came number fault × IsUnfaulted limits came × IsPrintedBefore limits style came number first now
+EndsShowing limits style first now came (Err (Capture capture.Read)) = ⊥
+EndsShowing limits style first now came (Err Write) =
+    (text : List ℕ) × IsTextOf limits style came text × IsPartlyWritten first now text

@@ -1,15 +1,15 @@
 -- What is printed of a capture's text.
-use Rattle.std.specs.Prelude.{◌≡◌, ◌≢◌, ℕ, ◌+◌, ◌*◌, ◌-◌, ◌<◌, ◌⊎◌, true, false, Result, Ok, Err, List, [], ◌∷◌, ◌++◌, flat_map, length}
+use Rattle.std.specs.Prelude.{◌≡◌, ℕ, ◌+◌, ◌*◌, ◌⊎◌, true, false, Result, Ok, Err, List, [], ◌++◌, flat_map, length}
 use Rattle.std.specs.List.{AllByRecursion}
 use Rattle.std.specs.Io.KnownBytes.{IsAtEnd}
-use Rattle.wsn_io.specs.Transfer.{Incoming, Outgoing, IsReceived, IsWritten, IsPartlyWritten, IsWrittenUpToFailure}
+use Rattle.wsn_io.specs.Transfer.{Incoming, Outgoing, IsReceived, IsWritten, IsPartlyWritten}
 use Rattle.wsn_rules.specs.Limits.{Limits}
 use Rattle.wsn_rules.specs.declared.report.Report.{Report}
 use Rattle.wsn_rules.specs.Entries.{Entry}
 use Rattle.wsn_rules.specs.TextLines.{IsLine, ended, AreLines}
 use Rattle.wsn_rules.specs.ShownCapture.{LineItem, ShownLine, AreShownAfter, IsShownCapture}
-use Rattle.wsn_print.specs.ShownText.{shown_line_text, shown_text}
-use Rattle.wsn_capture.specs.declared.capture_stop.CaptureStop.{CaptureStop}
+use Rattle.wsn_show.specs.declared.style.Style.{Style}
+use Rattle.wsn_show.specs.Styles.{styled_line, styled_capture}
 use Rattle.wsn_capture.specs.declared.capture_stop.CaptureStop.TheVariants as capture
 use Rattle.wsn_capture.specs.LineFaults.{AreAcceptedLines}
 use Rattle.wsn_capture.specs.CaptureAnswers.{begun_most, IsUnfaulted, IsFaultReported}
@@ -18,13 +18,13 @@ use Rattle.wsn_show.specs.declared.showing.ShowStop.TheVariants.{Capture, Write}
 
 -- ---- lines
 
--- These lines are accepted, and this is what is printed of them, with views of at most n bytes.
-pub record IsTextOfLines (limits : Limits) (n : ℕ) (lines : List (List ℕ)) (text : List ℕ) : Type 0 where
+-- These lines are accepted, and this is what is printed of them, in this style.
+pub record IsTextOfLines (limits : Limits) (style : Style) (lines : List (List ℕ)) (text : List ℕ) : Type 0 where
   pub entries : List Entry
   pub taken : AreAcceptedLines limits lines entries
   pub shown : List ShownLine
-  pub are : AreShownAfter limits [] [] lines entries shown
-  pub is : text ≡ flat_map (shown_line_text n) shown
+  pub are : AreShownAfter style.detail limits [] [] lines entries shown
+  pub is : text ≡ flat_map (styled_line style) shown
 
 -- The bytes begin with these lines, each with its LF; or these are all their lines.
 abbrev pub BeginWithLines : List ℕ → List (List ℕ) → Type 0
@@ -32,52 +32,53 @@ BeginWithLines came lines =
     ((rest : List ℕ) × AllByRecursion IsLine lines × (came ≡ ended lines ++ rest)) ⊎ AreLines came lines
 
 -- All lines of the text are accepted, and this is what is printed of the capture, with its report.
-pub record IsWholeText (limits : Limits) (n : ℕ) (came : List ℕ) (report : Report) (text : List ℕ) : Type 0 where
+pub record IsWholeText (limits : Limits) (style : Style) (came : List ℕ) (report : Report) (text : List ℕ)
+    : Type 0 where
   pub lines : List (List ℕ)
   pub are_lines : AreLines came lines
   pub entries : List Entry
   pub taken : AreAcceptedLines limits lines entries
   pub shown : List ShownLine
   pub last : List LineItem
-  pub is_shown : IsShownCapture limits lines shown last report
-  pub is : text ≡ shown_text n shown last report
+  pub is_shown : IsShownCapture style.detail limits lines shown last report
+  pub is : text ≡ styled_capture style shown last report
 
 -- ---- the answer
 
 -- What was printed of the lines before the faulty one.
-abbrev pub IsPrintedBefore : Limits → ℕ → List ℕ → ℕ → Outgoing → Outgoing → Type 0
-IsPrintedBefore limits n came number before after = (lines : List (List ℕ)) × (text : List ℕ)
-    × BeginWithLines came lines × (number ≡ length lines + 1) × IsTextOfLines limits n lines text
+abbrev pub IsPrintedBefore : Limits → Style → List ℕ → ℕ → Outgoing → Outgoing → Type 0
+IsPrintedBefore limits style came number before after = (lines : List (List ℕ)) × (text : List ℕ)
+    × BeginWithLines came lines × (number ≡ length lines + 1) × IsTextOfLines limits style lines text
     × IsWritten before after text
 
 -- What was printed of the lines that came whole.
-abbrev pub IsPrintedOfWhole : Limits → ℕ → List ℕ → Outgoing → Outgoing → Type 0
-IsPrintedOfWhole limits n came before after = (lines : List (List ℕ)) × (begun text : List ℕ)
-    × AllByRecursion IsLine lines × IsLine begun × (came ≡ ended lines ++ begun) × IsTextOfLines limits n lines text
+abbrev pub IsPrintedOfWhole : Limits → Style → List ℕ → Outgoing → Outgoing → Type 0
+IsPrintedOfWhole limits style came before after = (lines : List (List ℕ)) × (begun text : List ℕ)
+    × AllByRecursion IsLine lines × IsLine begun × (came ≡ ended lines ++ begun) × IsTextOfLines limits style lines text
     × IsWritten before after text
 
 -- A text that is printed of the bytes that came: of the first lines, or of the whole capture.
-abbrev pub IsTextOf : Limits → ℕ → List ℕ → List ℕ → Type 0
-IsTextOf limits n came text =
-    ((lines : List (List ℕ)) × BeginWithLines came lines × IsTextOfLines limits n lines text)
-    ⊎ ((report : Report) × IsWholeText limits n came report text)
+abbrev pub IsTextOf : Limits → Style → List ℕ → List ℕ → Type 0
+IsTextOf limits style came text =
+    ((lines : List (List ℕ)) × BeginWithLines came lines × IsTextOfLines limits style lines text)
+    ⊎ ((report : Report) × IsWholeText limits style came report text)
 
 -- The answer fits the bytes that came, and this was printed of them. A report comes only at the end of an input.
-abbrev pub IsShowAnswer : Limits → ℕ → Incoming → List ℕ → Outgoing → Outgoing → Result Report ShowStop → Type 0
-IsShowAnswer limits n new came before after (Ok report) =
-    (text : List ℕ) × IsWholeText limits n came report text × IsWritten before after text × IsAtEnd new.remaining
+abbrev pub IsShowAnswer : Limits → Style → Incoming → List ℕ → Outgoing → Outgoing → Result Report ShowStop → Type 0
+IsShowAnswer limits style new came before after (Ok report) =
+    (text : List ℕ) × IsWholeText limits style came report text × IsWritten before after text × IsAtEnd new.remaining
     × (new.failed ≡ false)
-IsShowAnswer limits n new came before after (Err (Capture (capture.Line number fault))) =
+IsShowAnswer limits style new came before after (Err (Capture (capture.Line number fault))) =
     IsFaultReported limits new came number fault × (new.failed ≡ false)
-    × IsPrintedBefore limits n came number before after
-IsShowAnswer limits n new came before after (Err (Capture capture.Read)) =
-    (new.failed ≡ true) × IsUnfaulted limits came × IsPrintedOfWhole limits n came before after
-IsShowAnswer limits n new came before after (Err Write) =
-    (new.failed ≡ false) × ((text : List ℕ) × IsTextOf limits n came text × IsPartlyWritten before after text)
+    × IsPrintedBefore limits style came number before after
+IsShowAnswer limits style new came before after (Err (Capture capture.Read)) =
+    (new.failed ≡ true) × IsUnfaulted limits came × IsPrintedOfWhole limits style came before after
+IsShowAnswer limits style new came before after (Err Write) =
+    (new.failed ≡ false) × ((text : List ℕ) × IsTextOf limits style came text × IsPartlyWritten before after text)
 
 -- These bytes came from the input, and the answer is right for them.
-pub record IsShown (limits : Limits) (n : ℕ) (old new : Incoming) (before after : Outgoing)
+pub record IsShown (limits : Limits) (style : Style) (old new : Incoming) (before after : Outgoing)
     (result : Result Report ShowStop) : Type 0 where
   pub came : List ℕ
   pub received : IsReceived (1000001 * begun_most + 4095) old new came
-  pub answer : IsShowAnswer limits n new came before after result
+  pub answer : IsShowAnswer limits style new came before after result

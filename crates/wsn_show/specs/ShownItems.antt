@@ -1,11 +1,15 @@
 -- Items as they are held to be printed, and what it means that items were printed.
-use Rattle.std.specs.Prelude.{◌≡◌, ℕ, ◌/◌, Option, option_copied, List, ◌++◌}
+use Rattle.std.specs.Prelude.{◌≡◌, ℕ, ◌/◌, Option, option_copied, List, [], ◌∷◌, ◌++◌}
 use Rattle.wsn_io.specs.Transfer.{Outgoing, IsWrittenUpToFailure}
+use Rattle.wsn_wire.specs.Frame.{Frame}
+use Rattle.wsn_rules.specs.declared.detail.Detail.{Detail}
+use Rattle.wsn_rules.specs.declared.detail.Detail.TheVariants.{Events, Frames}
+use Rattle.wsn_rules.specs.declared.head_info.HeadInfo.{HeadInfo}
 use Rattle.wsn_rules.specs.Meaning.{MeantEvent}
-use Rattle.wsn_rules.specs.ShownStream.{Item}
-use Rattle.wsn_rules.specs.ShownStream.Item.{Event, Unfinished, UnfinishedHead, RefusedFrame}
-use Rattle.wsn_print.specs.ShownText.{item_lines}
+use Rattle.wsn_rules.specs.ShownStream.{Item, items_of_final}
+use Rattle.wsn_rules.specs.ShownStream.Item.{Event, Head, Unfinished, UnfinishedHead, RefusedFrame}
 use Rattle.wsn_print.specs.ShownParts.{Represents, HasTextReason, IsFrontOf, IsEndOf, item_of_remainder}
+use Rattle.wsn_show.specs.Styles.{styled_items}
 use Rattle.wsn_show.specs.declared.entry_context.EntryContext.{EntryContext}
 use Rattle.wsn_show.specs.declared.shown_item.ShownItem.{ShownItem}
 use Rattle.wsn_show.specs.declared.shown_item.ShownItem.TheVariants as shown
@@ -14,6 +18,7 @@ use Rattle.wsn_show.specs.declared.shown_item.ShownItem.TheVariants as shown
 abbrev pub IsItem : ℕ → ℕ → ShownItem → Item → Type 0
 IsItem n offset (shown.Event held) item = (event : MeantEvent) × Represents n held event × HasTextReason event
     × (item ≡ Event offset event held.frames)
+IsItem n offset (shown.Frame info) item = item ≡ Head (record info { place = offset })
 IsItem n offset (shown.Unfinished held lacks) item = (event : MeantEvent) × Represents n held event
     × (item ≡ Unfinished offset event held.frames lacks)
 IsItem n offset shown.UnfinishedHead item = item ≡ UnfinishedHead offset
@@ -30,4 +35,14 @@ time_in context = option_copied context.time
 abbrev pub Prints : EntryContext → Outgoing → Outgoing → List Item → Type 0
 Prints context old new items =
     (before : Outgoing) (text : List ℕ) → IsWrittenUpToFailure before old text →
-    IsWrittenUpToFailure before new (text ++ item_lines context.view context.role (time_in context) items)
+    IsWrittenUpToFailure before new (text ++ styled_items context.style context.role (time_in context) items)
+
+-- What is printed where the head of a frame is complete.
+abbrev pub items_of_begun : Detail → HeadInfo → List Item
+items_of_begun Events info = []
+items_of_begun Frames info = Head info ∷ []
+
+-- What is printed where a final frame ends, after the frames before it.
+abbrev pub items_of_ended : Detail → List Frame → Frame → List Item
+items_of_ended Events fs f = items_of_final fs f
+items_of_ended Frames fs f = []

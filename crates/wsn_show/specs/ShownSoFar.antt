@@ -3,13 +3,17 @@ use Rattle.std.specs.Prelude.{◌≡◌, ℕ, ◌+◌, ◌⊎◌, Some, List, []
 use Rattle.wsn_io.specs.Transfer.{Outgoing}
 use Rattle.wsn_wire.specs.declared.endpoint.Role.{Role}
 use Rattle.wsn_wire.specs.Frame.{Frame}
+use Rattle.wsn_rules.specs.declared.detail.Detail.{Detail}
+use Rattle.wsn_rules.specs.declared.detail.Detail.TheVariants.{Events, Frames}
 use Rattle.wsn_rules.specs.declared.head_info.HeadInfo.{HeadInfo}
 use Rattle.wsn_rules.specs.declared.verdict.Refusal.{Refusal}
+use Rattle.wsn_rules.specs.Heads.{heads_of}
 use Rattle.wsn_rules.specs.Limits.{Limits}
 use Rattle.wsn_rules.specs.Verdict.{IsRefused}
-use Rattle.wsn_rules.specs.ShownStream.{Item, Shown, shown_of, IsShownRefusal, IsLeftOver}
+use Rattle.wsn_rules.specs.ShownStream.{Item, Shown, shown_of, shown_head, AreShownFrames, IsShownRefusal, IsLeftOver}
 use Rattle.wsn_scan.specs.declared.scan.Scan.{Scan}
 use Rattle.wsn_scan.specs.Feeding.{HasScannedBytes}
+use Rattle.wsn_scan.specs.NoticeReaders.{begun_at}
 use Rattle.wsn_scan.specs.ReportedFrames.{Position}
 use Rattle.wsn_scan.specs.Scans.{refusal_in}
 use Rattle.wsn_show.specs.declared.entry_context.EntryContext.{EntryContext}
@@ -23,20 +27,26 @@ use Rattle.wsn_show.specs.ShownItems.{Prints}
 abbrev pub items_in : List Shown → List Item
 items_in = map (λ s. s.item)
 
--- The bytes that came aren't refused, and this was shown of the frames that were reported to their ends.
-pub record HasShownFrames (role : Role) (limits : Limits) (scan : Scan) (parts : StreamParts) (came : List ℕ)
-    (shown : List Shown) : Type 0 where
+-- What is shown of the frames `done` and of the next one up to this position: the events of whole frames, or the heads,
+-- also of the next frame if it has begun.
+abbrev pub shown_so_far : Detail → List Frame → Position → List Shown
+shown_so_far Events done at = shown_of [] done
+shown_so_far Frames done at = map shown_head (heads_of done ++ begun_at at)
+
+-- The bytes that came aren't refused, and this was shown of what was reported of their frames.
+pub record HasShownFrames (detail : Detail) (role : Role) (limits : Limits) (scan : Scan) (parts : StreamParts)
+    (came : List ℕ) (shown : List Shown) : Type 0 where
   pub done : List Frame
   pub at : Position
   pub rest : List ℕ
   pub followed : HasFollowed role limits scan came done at rest
   pub keeps : Keeps parts done at rest
-  pub is : shown ≡ shown_of [] done
+  pub is : shown ≡ shown_so_far detail done at
 
 -- The bytes up to `read` are refused at the last one, whatever follows; this was shown of them and the refusal. The
 -- bytes `unread` came after them.
-pub record HasShownRefusal (role : Role) (limits : Limits) (scan : Scan) (parts : StreamParts) (came : List ℕ)
-    (shown : List Shown) : Type 0 where
+pub record HasShownRefusal (detail : Detail) (role : Role) (limits : Limits) (scan : Scan) (parts : StreamParts)
+    (came : List ℕ) (shown : List Shown) : Type 0 where
   pub done : List Frame
   pub refusal : Refusal
   pub read : List ℕ
@@ -48,50 +58,52 @@ pub record HasShownRefusal (role : Role) (limits : Limits) (scan : Scan) (parts 
   pub refused : (later : List ℕ) → IsRefused role limits (read ++ later) done refusal.place refusal.reason
   pub place : refusal.place + 1 ≡ length read
   pub first : HasFirst parts.frame.first unread
+  pub of_frames : List Shown
+  pub are_of_frames : AreShownFrames detail role limits read done of_frames
   pub of_refusal : List Shown
-  pub is_of_refusal : IsShownRefusal role limits read done refusal of_refusal
-  pub is : shown ≡ shown_of [] done ++ of_refusal
+  pub is_of_refusal : IsShownRefusal detail role limits read done refusal of_refusal
+  pub is : shown ≡ of_frames ++ of_refusal
 
 -- This was shown of the bytes that came.
-abbrev pub HasShown : Role → Limits → Scan → StreamParts → List ℕ → List Shown → Type 0
-HasShown role limits scan parts came shown =
-    HasShownFrames role limits scan parts came shown ⊎ HasShownRefusal role limits scan parts came shown
+abbrev pub HasShown : Detail → Role → Limits → Scan → StreamParts → List ℕ → List Shown → Type 0
+HasShown detail role limits scan parts came shown =
+    HasShownFrames detail role limits scan parts came shown ⊎ HasShownRefusal detail role limits scan parts came shown
 
 -- The same, and each whole frame was reported to its end.
-abbrev pub HasShownAll : Role → Limits → Scan → StreamParts → List ℕ → List Shown → Type 0
-HasShownAll role limits scan parts came shown =
-    ((frames : HasShownFrames role limits scan parts came shown) × IsSettled frames.followed)
-    ⊎ HasShownRefusal role limits scan parts came shown
+abbrev pub HasShownAll : Detail → Role → Limits → Scan → StreamParts → List ℕ → List Shown → Type 0
+HasShownAll detail role limits scan parts came shown =
+    ((frames : HasShownFrames detail role limits scan parts came shown) × IsSettled frames.followed)
+    ⊎ HasShownRefusal detail role limits scan parts came shown
 
 -- More bytes came, and more items were shown and printed. They are all if the call of the scan got no bytes: it reports
 -- a frame's end by a call of its own.
 pub record ShowsMore (role : Role) (limits : Limits) (scan : Scan) (parts : StreamParts) (context : EntryContext)
     (old new : Outgoing) (size : ℕ) (came : List ℕ) (shown : List Shown) : Type 0 where
   pub extra : List Shown
-  pub has : HasShown role limits scan parts came (shown ++ extra)
-  pub all : size ≡ 0 → HasShownAll role limits scan parts came (shown ++ extra)
+  pub has : HasShown context.style.detail role limits scan parts came (shown ++ extra)
+  pub all : size ≡ 0 → HasShownAll context.style.detail role limits scan parts came (shown ++ extra)
   pub printed : Prints context old new (items_in extra)
 
 -- All that is shown of the bytes with more of them was shown, and printed.
 pub record ShowsAll (role : Role) (limits : Limits) (scan : Scan) (parts : StreamParts) (context : EntryContext)
     (old new : Outgoing) (came : List ℕ) (shown : List Shown) : Type 0 where
   pub extra : List Shown
-  pub has : HasShownAll role limits scan parts came (shown ++ extra)
+  pub has : HasShownAll context.style.detail role limits scan parts came (shown ++ extra)
   pub printed : Prints context old new (items_in extra)
 
 -- The scan has consumed some bytes, or none, and hasn't refused them.
-pub record IsShowing (scan : Scan) (parts : StreamParts) : Type 0 where
+pub record IsShowing (detail : Detail) (scan : Scan) (parts : StreamParts) : Type 0 where
   pub role : Role
   pub limits : Limits
   pub came : List ℕ
   pub shown : List Shown
-  pub frames : HasShownFrames role limits scan parts came shown
+  pub frames : HasShownFrames detail role limits scan parts came shown
 
 -- The bytes that came aren't refused, and more items were shown, and printed.
 pub record ShowsFrames (role : Role) (limits : Limits) (scan : Scan) (parts : StreamParts) (context : EntryContext)
     (old new : Outgoing) (came : List ℕ) (shown : List Shown) : Type 0 where
   pub extra : List Shown
-  pub frames : HasShownFrames role limits scan parts came (shown ++ extra)
+  pub frames : HasShownFrames context.style.detail role limits scan parts came (shown ++ extra)
   pub printed : Prints context old new (items_in extra)
 
 -- What is left over of the bytes was printed.

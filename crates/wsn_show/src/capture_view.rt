@@ -2,16 +2,18 @@ ghost use Rattle.std.specs.Prelude.{◌≡◌, ℕ, List, false};
 ghost use Rattle.wsn_rules.specs.Limits.{Limits};
 ghost use Rattle.wsn_rules.specs.Entries.{Entry};
 ghost use Rattle.wsn_rules.specs.Sides.{sent};
+ghost use Rattle.wsn_show.specs.declared.style.Style.{Style};
 ghost use Rattle.wsn_show.specs.StreamViews.{HasViewed};
 ghost use Rattle.wsn_show.specs.CaptureViews.{ShowsMark};
 
 use crate::stream_view::StreamView;
+use crate::style::Style;
 use crate::times::{CurrentTime, LINE_MAX};
 use std::io::Write;
 use wsn_capture::line_form::{LineForm, decode, form_of, strip_cr};
 use wsn_capture::{Capture, LineFault, Report};
 use wsn_io::Output;
-use wsn_print::{Front, ViewLimit, put_comment, put_end};
+use wsn_print::{Front, put_comment, put_end};
 use wsn_rules::Limits;
 use wsn_wire::Role;
 
@@ -34,17 +36,18 @@ impl CaptureView {
     ghost use Rattle.wsn_capture.specs.Captures.{count_of};
     ghost use Rattle.wsn_capture.specs.LineFaults.{IsFaultAfter};
     ghost use Rattle.wsn_rules.specs.Entries.Entry.{Nothing};
+    ghost use Rattle.wsn_show.specs.declared.style.Style.{Style};
     ghost use Rattle.wsn_show.specs.CaptureViews.{HasShownLines, IsShowingLines, CanShow, Shows, ShowsLine, LeavesAtEnd, Finishes};
 
-    /// A view that has shown no line. The limits apply to each endpoint's stream separately; `view` is the most bytes of
-    /// a payload that an entry shows.
-    pub fn new(limits: Limits, view: ViewLimit) -> CaptureView
-        ensures { HasShownLines limits view result [] [] }
+    /// A view that has shown no line. The limits apply to each endpoint's stream separately.
+    pub fn new(limits: Limits, style: Style) -> CaptureView
+        ensures { HasShownLines limits style result [] [] }
     {
+        let of_client = style;
         CaptureView {
             capture: Capture::new(limits),
-            client: StreamView::new(Role::Client, limits, view),
-            server: StreamView::new(Role::Server, limits, view),
+            client: StreamView::new(Role::Client, limits, of_client),
+            server: StreamView::new(Role::Server, limits, style),
             time: CurrentTime::new(),
         }
     }
@@ -55,11 +58,12 @@ impl CaptureView {
     pub fn line<W: Write>(&mut self, line: &[u8], output: &mut Output<W>) -> Result<(), LineFault>
         requires showing { IsShowingLines self.old }
         requires writable { output.old.failed ≡ false }
-        ensures shown { OnOk result ((limits : Limits) (n : ℕ) (lines : List (List ℕ)) (entries : List Entry) →
-            HasShownLines limits n self.old lines entries →
-            ShowsLine limits n self.new lines entries line.now output.old output.new) }
-        ensures fault { IfErr result (λ fault. (limits : Limits) (n : ℕ) (lines : List (List ℕ)) (entries : List Entry) →
-            HasShownLines limits n self.old lines entries → IsFaultAfter limits lines line.now fault) }
+        ensures shown { OnOk result ((limits : Limits) (style : Style) (lines : List (List ℕ)) (entries : List Entry) →
+            HasShownLines limits style self.old lines entries →
+            ShowsLine limits style self.new lines entries line.now output.old output.new) }
+        ensures fault { IfErr result (λ fault. (limits : Limits) (style : Style) (lines : List (List ℕ))
+            (entries : List Entry) →
+            HasShownLines limits style self.old lines entries → IsFaultAfter limits lines line.now fault) }
         ensures unchanged { IfErr result (λ _. (self.new ≡ self.old) × (output.new ≡ output.old)) }
         ensures count { OnOk result ((count_of self.new.capture ≡ count_of self.old.capture + 1)
             × (count_of self.new.capture ≤ 1000000)) }
@@ -79,9 +83,9 @@ impl CaptureView {
     /// Prints what is left over of both streams at the end of the capture, the client's first, and returns the report.
     pub fn finish<W: Write>(&self, output: &mut Output<W>) -> Report
         requires { output.old.failed ≡ false }
-        ensures { (limits : Limits) (n : ℕ) (lines : List (List ℕ)) (entries : List Entry) →
-            HasShownLines limits n self.now lines entries →
-            Finishes limits n lines entries output.old output.new result }
+        ensures { (limits : Limits) (style : Style) (lines : List (List ℕ)) (entries : List Entry) →
+            HasShownLines limits style self.now lines entries →
+            Finishes limits style lines entries output.old output.new result }
     {
         self.put_left_at_end(Role::Client, output);
         self.put_left_at_end(Role::Server, output);
@@ -90,9 +94,9 @@ impl CaptureView {
 
     /// Prints what is left over of an endpoint's stream at the end of the capture: nothing after its end mark.
     fn put_left_at_end<W: Write>(&self, role: Role, output: &mut Output<W>)
-        ensures { (limits : Limits) (n : ℕ) (lines : List (List ℕ)) (entries : List Entry) →
-            HasShownLines limits n self.now lines entries →
-            LeavesAtEnd role limits n entries output.old output.new }
+        ensures { (limits : Limits) (style : Style) (lines : List (List ℕ)) (entries : List Entry) →
+            HasShownLines limits style self.now lines entries →
+            LeavesAtEnd role limits style entries output.old output.new }
     {
         if self.capture.has_ended(role) {
             return;
@@ -172,8 +176,9 @@ impl CaptureView {
 /// Prints what a stream leaves over, and its end.
 fn put_end_of<W: Write>(role: Role, stream: &StreamView, time: &CurrentTime, output: &mut Output<W>)
     requires writable { output.old.failed ≡ false }
-    ensures { (limits : Limits) (n : ℕ) (given : List Entry) → HasViewed role limits n stream.now (sent role given) →
-        ShowsMark role limits n given time.now output.old output.new }
+    ensures { (limits : Limits) (style : Style) (given : List Entry) →
+        HasViewed role limits style stream.now (sent role given) →
+        ShowsMark role limits style given time.now output.old output.new }
 {
     let time = time.text();
     stream.put_left_over(time, output);

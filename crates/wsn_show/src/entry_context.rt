@@ -1,6 +1,4 @@
-ghost use Rattle.std.specs.Prelude.{◌≤◌};
-
-use wsn_print::ViewLimit;
+use crate::style::Style;
 use wsn_wire::Role;
 
 /// What all entries of a stream have in common that are printed at one time.
@@ -8,9 +6,8 @@ use wsn_wire::Role;
 pub struct EntryContext<'a> {
     /// The endpoint that sent the stream.
     pub role: Role,
-    /// The most bytes of a payload that an entry shows.
-    pub view: ViewLimit,
+    /// How the stream is shown.
+    pub style: Style,
     /// The time that the capture gives, in seconds; `None` if it gives none.
     pub time: Option<&'a [u8]>,
-    ghost in_range: { view ≤ 4096 },
 }

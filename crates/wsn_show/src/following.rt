@@ -2,6 +2,7 @@
 
 use crate::entry_context::EntryContext;
 use crate::scan_calls::Consumed;
+use crate::shown_item::put_begun;
 use crate::stream_parts::StreamParts;
 use std::io::Write;
 use wsn_io::Output;
@@ -9,12 +10,12 @@ use wsn_rules::Refusal;
 use wsn_scan::Notice;
 
 impl StreamParts {
-    ghost use Rattle.std.specs.Prelude.{◌≡◌, ℕ, ◌<◌, ◌^◌, List, [], ◌∷◌, ◌++◌, length, take, Some};
+    ghost use Rattle.std.specs.Prelude.{◌≡◌, ℕ, ◌<◌, ◌^◌, List, [], ◌∷◌, ◌++◌, length, take};
     ghost use Rattle.wsn_wire.specs.Frame.{Frame, stream};
     ghost use Rattle.wsn_wire.specs.declared.endpoint.Role.{Role};
     ghost use Rattle.wsn_rules.specs.Limits.{Limits};
     ghost use Rattle.wsn_rules.specs.Lawful.{IsLawful};
-    ghost use Rattle.wsn_rules.specs.ShownStream.{Shown, open_items};
+    ghost use Rattle.wsn_rules.specs.ShownStream.{Shown, interrupted};
     ghost use Rattle.wsn_rules.specs.ShownStream.Item.{RefusedFrame};
     ghost use Rattle.wsn_scan.specs.declared.scan.Scan.{Scan};
     ghost use Rattle.wsn_scan.specs.ReportedFrames.{Position};
@@ -38,7 +39,7 @@ impl StreamParts {
             IsCall old new piece after (length consumed.now.bytes.items) consumed.now.notice →
             consumed.now.bytes.items ≡ take (length consumed.now.bytes.items) piece →
             payload.now ≡ take (length consumed.now.bytes.items) after →
-            HasShownFrames role limits old self.old came shown →
+            HasShownFrames context.now.style.detail role limits old self.old came shown →
             ShowsMore role limits new self.new context.now output.old output.new (length piece)
             (came ++ consumed.now.bytes.items) shown }
     {
@@ -46,7 +47,10 @@ impl StreamParts {
         match &consumed.notice {
             Notice::More => {}
             Notice::Closed => {}
-            Notice::Head(head) => self.begin(*head),
+            Notice::Head(head) => {
+                put_begun(output, context, head);
+                self.begin(*head);
+            }
             Notice::Payload => self.add_payload(payload),
             Notice::FrameEnd { event } => {
                 if *event {
@@ -73,7 +77,7 @@ impl StreamParts {
             IsLawful role limits fs → length rest < 2 ^ 64 → IsEvidenceAt at count rest evidence →
             Keeps self.old fs at rest →
             Prints context.now output.old output.new
-            (open_items fs (Some 0) ++ RefusedFrame (length (stream fs)) refusal.now evidence ∷ []) }
+            (interrupted context.now.style.detail fs ++ RefusedFrame (length (stream fs)) refusal.now evidence ∷ []) }
         ensures first { HasFirst self.new.frame.first [] }
     {
         self.put_refused(output, context, refusal, count);

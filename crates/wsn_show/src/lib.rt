@@ -1,9 +1,11 @@
 //! Shows what both sides of a WebSocket session said, in order (RFC 6455 sections 5 and 7): each event with its last
-//! byte, a refusal with the offending one, and what is left over where a stream ends.
+//! byte, or each frame with the last byte of its head; a refusal with the offending byte; and what is left over where a
+//! stream ends.
 //!
 //! [`show`] reads a capture and prints what each of its lines completes, and then the report. A [`CaptureView`] does so
-//! line by line, a [`StreamView`] for the bytes of one endpoint. Nothing is allocated: at most one line is held, and of
-//! each stream the first bytes of its open message and of the frame that has begun.
+//! line by line. [`show_stream`] shows the stream of one endpoint, a [`StreamView`] its bytes as they come. A [`Style`]
+//! says whether events or frames are shown, and how much of a payload. Nothing is allocated: at most one line is held,
+//! and of each stream the first bytes of its open message and of the frame that has begun.
 //!
 //! `wsn_rules/specs/ShownStream.antt` defines what is shown of a stream and what is left over, `ShownCapture.antt` what
 //! is shown of a capture, and `wsn_print/specs/ShownText.antt` how it is printed. Here, `specs/Showing.antt` defines
@@ -27,9 +29,13 @@ mod showing;
 mod shown_item;
 mod shown_scan;
 mod stream_parts;
+mod stream_showing;
 mod stream_view;
+mod style;
 mod times;
 
 pub use capture_view::CaptureView;
 pub use showing::{ShowStop, show};
+pub use stream_showing::show_stream;
 pub use stream_view::StreamView;
+pub use style::Style;

@@ -6,7 +6,7 @@ use crate::stream_parts::StreamParts;
 use std::io::Write;
 use wsn_io::Output;
 use wsn_print::Remainder;
-use wsn_rules::{HeadInfo, Refusal};
+use wsn_rules::{Detail, HeadInfo, Refusal};
 use wsn_wire::Op;
 
 impl StreamParts {
@@ -18,13 +18,13 @@ impl StreamParts {
     ghost use Rattle.wsn_rules.specs.Heads.{info_of};
     ghost use Rattle.wsn_rules.specs.Lawful.{IsLawful};
     ghost use Rattle.wsn_rules.specs.Summary.{is_close};
-    ghost use Rattle.wsn_rules.specs.ShownStream.{open_items, items_of_final, items_of_bytes};
+    ghost use Rattle.wsn_rules.specs.ShownStream.{open_items, items_of_final, interrupted, items_of_bytes};
     ghost use Rattle.wsn_rules.specs.ShownStream.Item.{RefusedFrame};
     ghost use Rattle.wsn_print.specs.ShownParts.{item_of_remainder};
     ghost use Rattle.wsn_scan.specs.ReportedFrames.{Position, BetweenFrames, InFrame};
     ghost use Rattle.wsn_show.specs.HeldParts.{HasFirst};
     ghost use Rattle.wsn_show.specs.StreamParts.{KeepsMessage, Keeps, IsEvidenceAt, IsSoundPart, items_left};
-    ghost use Rattle.wsn_show.specs.ShownItems.{Prints};
+    ghost use Rattle.wsn_show.specs.ShownItems.{Prints, items_of_ended};
 
     /// Prints the open message, if there is one, as unfinished. Its last frame lacks this number of bytes, `None` if
     /// only a part of the next head has come.
@@ -47,7 +47,7 @@ impl StreamParts {
 
     /// Before a Close, prints the message that it interrupts.
     #[tactic(none)]
-    fn put_interrupted<W: Write>(&self, output: &mut Output<W>, context: &EntryContext<'_>, op: Op)
+    fn put_before_close<W: Write>(&self, output: &mut Output<W>, context: &EntryContext<'_>, op: Op)
         ensures { (role : Role) (limits : Limits) (fs : List Frame) (part : List ℕ) → IsLawful role limits fs →
             KeepsMessage self.now.message fs part →
             Prints context.now output.old output.new (if is_close op then open_items fs (Some 0) else []) }
@@ -66,7 +66,7 @@ impl StreamParts {
             Keeps self.now fs (InFrame (info_of (length (stream fs)) f) f.payload) rest →
             Prints context.now output.old output.new (items_of_final fs f) }
     {
-        self.put_interrupted(output, context, op);
+        self.put_before_close(output, context, op);
         let item = ShownItem::Event(self.frame.control(op));
         put_item(output, context, self.frame.offset, &item);
     }
@@ -83,9 +83,24 @@ impl StreamParts {
         put_item(output, context, self.message.offset, &item);
     }
 
-    /// Prints the event that the frame ends, which is final. A message that a Close interrupts comes first.
+    /// Prints the event that the frame ends, which is final, if events are shown. A message that a Close interrupts
+    /// comes first.
     #[tactic(none)]
     pub fn put_final<W: Write>(&self, output: &mut Output<W>, context: &EntryContext<'_>)
+        ensures { (role : Role) (limits : Limits) (fs : List Frame) (f : Frame) (rest : List ℕ) →
+            IsLawful role limits (fs ++ f ∷ []) → length (unfinished fs) + 1 < 2 ^ 64 →
+            Keeps self.now fs (InFrame (info_of (length (stream fs)) f) f.payload) rest →
+            Prints context.now output.old output.new (items_of_ended context.now.style.detail fs f) }
+    {
+        match context.style.detail {
+            Detail::Events => self.put_event(output, context),
+            Detail::Frames => {}
+        }
+    }
+
+    /// Prints the event that the frame ends, and before a Close the message that it interrupts.
+    #[tactic(none)]
+    fn put_event<W: Write>(&self, output: &mut Output<W>, context: &EntryContext<'_>)
         ensures { (role : Role) (limits : Limits) (fs : List Frame) (f : Frame) (rest : List ℕ) →
             IsLawful role limits (fs ++ f ∷ []) → length (unfinished fs) + 1 < 2 ^ 64 →
             Keeps self.now fs (InFrame (info_of (length (stream fs)) f) f.payload) rest →
@@ -97,6 +112,19 @@ impl StreamParts {
             } else {
                 self.put_message(output, context);
             }
+        }
+    }
+
+    /// Before a refusal, prints the message that it interrupts, if events are shown.
+    #[tactic(none)]
+    fn put_interrupted<W: Write>(&self, output: &mut Output<W>, context: &EntryContext<'_>)
+        ensures { (role : Role) (limits : Limits) (fs : List Frame) (part : List ℕ) → IsLawful role limits fs →
+            KeepsMessage self.now.message fs part →
+            Prints context.now output.old output.new (interrupted context.now.style.detail fs) }
+    {
+        match context.style.detail {
+            Detail::Events => self.put_open(output, context, Some(0)),
+            Detail::Frames => {}
         }
     }
 
@@ -114,9 +142,9 @@ impl StreamParts {
             IsLawful role limits fs → length rest < 2 ^ 64 → IsEvidenceAt at count rest evidence →
             Keeps self.now fs at rest →
             Prints context.now output.old output.new
-            (open_items fs (Some 0) ++ RefusedFrame (length (stream fs)) refusal.now evidence ∷ []) }
+            (interrupted context.now.style.detail fs ++ RefusedFrame (length (stream fs)) refusal.now evidence ∷ []) }
     {
-        self.put_open(output, context, Some(0));
+        self.put_interrupted(output, context);
         let evidence = self.frame.evidence(count);
         let item = ShownItem::Refused(*refusal, evidence.held());
         put_item(output, context, self.frame.offset, &item);

@@ -4,16 +4,18 @@ ghost use Rattle.wsn_rules.specs.Limits.{Limits};
 ghost use Rattle.wsn_rules.specs.Entries.{Entry};
 ghost use Rattle.wsn_rules.specs.TextLines.{AreLines};
 ghost use Rattle.wsn_capture.specs.Captures.{count_of};
+ghost use Rattle.wsn_show.specs.declared.style.Style.{Style};
 ghost use Rattle.wsn_show.specs.CaptureViews.{HasShownLines, IsShowingLines, ShowsLine};
 ghost use Rattle.wsn_show.specs.Showing.{IsShown};
 ghost use Rattle.wsn_show.specs.PassedLines.{HasPrinted, HasPrintedLines, IsPrinting, StopsAtLine, StopsWithin, EndsShowing, bytes_ahead};
 
 use crate::capture_view::CaptureView;
 use crate::lines::{BEGUN_MAX, Lines};
+use crate::style::Style;
 use std::io::{Read, Write};
 use wsn_capture::{CaptureStop, Report};
 use wsn_io::{Input, Output};
-use wsn_print::{ViewLimit, put_report};
+use wsn_print::put_report;
 use wsn_rules::Limits;
 use wsn_scan::CHUNK;
 
@@ -28,7 +30,7 @@ pub enum ShowStop {
 
 /// Shows the capture on the input: prints what each line completes as soon as the line is whole, then what is left over
 /// of both streams, and the report, which it returns. It reads chunks of at most [`CHUNK`] bytes. The limits apply to
-/// each endpoint's stream separately; `view` is the most bytes of a payload that an entry shows.
+/// each endpoint's stream separately.
 ///
 /// The error `Line` is the first line that isn't accepted; what the lines before it show is printed. It is returned once
 /// the line has ended or is too long whatever follows, with at most 4,095 bytes read after that byte. `Read` is a read
@@ -39,13 +41,13 @@ pub fn show<R: Read, W: Write>(
     input: &mut Input<R>,
     output: &mut Output<W>,
     limits: Limits,
-    view: ViewLimit,
+    style: Style,
 ) -> Result<Report, ShowStop>
     requires readable { input.old.failed ≡ false }
     requires writable { output.old.failed ≡ false }
-    ensures { IsShown limits view input.old input.new output.old output.new result }
+    ensures { IsShown limits style input.old input.new output.old output.new result }
 {
-    let mut capture = CaptureView::new(limits, view);
+    let mut capture = CaptureView::new(limits, style);
     let mut lines = Lines::new();
     let mut piece = [0; CHUNK];
     loop {
@@ -68,13 +70,14 @@ fn show_line<W: Write>(
     requires showing { IsShowingLines view.old }
     requires few { count_of view.old.capture ≤ 1000000 }
     requires writable { output.old.failed ≡ false }
-    ensures shown { OnOk result ((limits : Limits) (n : ℕ) (lines : List (List ℕ)) (entries : List Entry) →
-        HasShownLines limits n view.old lines entries →
-        ShowsLine limits n view.new lines entries line.now output.old output.new) }
+    ensures shown { OnOk result ((limits : Limits) (style : Style) (lines : List (List ℕ)) (entries : List Entry) →
+        HasShownLines limits style view.old lines entries →
+        ShowsLine limits style view.new lines entries line.now output.old output.new) }
     ensures writable { OnOk result (output.new.failed ≡ false) }
-    ensures stop { IfErr result (λ stop. (limits : Limits) (n : ℕ) (lines : List (List ℕ)) (entries : List Entry) →
-        HasShownLines limits n view.old lines entries →
-        StopsAtLine limits n view.new lines entries line.now output.old output.new stop) }
+    ensures stop { IfErr result (λ stop. (limits : Limits) (style : Style) (lines : List (List ℕ))
+        (entries : List Entry) →
+        HasShownLines limits style view.old lines entries →
+        StopsAtLine limits style view.new lines entries line.now output.old output.new stop) }
     ensures count { OnOk result ((count_of view.new.capture ≡ count_of view.old.capture + 1)
         × (count_of view.new.capture ≤ 1000000)) }
 {
@@ -100,12 +103,12 @@ fn show_piece<W: Write>(
     requires few { count_of view.old.capture ≤ 1000000 }
     requires short { length lines.old.begun.items < BEGUN_MAX }
     requires writable { output.old.failed ≡ false }
-    ensures printed { OnOk result ((limits : Limits) (n : ℕ) (first : Outgoing) (came : List ℕ) →
-        HasPrinted limits n first view.old lines.old.begun.items output.old came →
-        HasPrinted limits n first view.new lines.new.begun.items output.new (came ++ piece.now)) }
-    ensures stop { IfErr result (λ stop. (limits : Limits) (n : ℕ) (first : Outgoing) (came : List ℕ) →
-        HasPrinted limits n first view.old lines.old.begun.items output.old came →
-        StopsWithin limits n first output.new came piece.now stop) }
+    ensures printed { OnOk result ((limits : Limits) (style : Style) (first : Outgoing) (came : List ℕ) →
+        HasPrinted limits style first view.old lines.old.begun.items output.old came →
+        HasPrinted limits style first view.new lines.new.begun.items output.new (came ++ piece.now)) }
+    ensures stop { IfErr result (λ stop. (limits : Limits) (style : Style) (first : Outgoing) (came : List ℕ) →
+        HasPrinted limits style first view.old lines.old.begun.items output.old came →
+        StopsWithin limits style first output.new came piece.now stop) }
     ensures few { OnOk result (count_of view.new.capture ≤ 1000000) }
     ensures short { OnOk result (length lines.new.begun.items < BEGUN_MAX) }
     ensures writable { OnOk result (output.new.failed ≡ false) }
@@ -133,9 +136,9 @@ fn end<W: Write>(
     requires printing { IsPrinting view.old last.now output.old }
     requires few { count_of view.old.capture ≤ 1000000 }
     requires writable { output.old.failed ≡ false }
-    ensures { (limits : Limits) (n : ℕ) (first : Outgoing) (came : List ℕ) →
-        HasPrinted limits n first view.old last.now output.old came →
-        EndsShowing limits n first output.new came result }
+    ensures { (limits : Limits) (style : Style) (first : Outgoing) (came : List ℕ) →
+        HasPrinted limits style first view.old last.now output.old came →
+        EndsShowing limits style first output.new came result }
 {
     if last.is_empty() {
         return put_end_of_capture(view, output);
@@ -150,9 +153,9 @@ fn put_end_of_capture<W: Write>(
     output: &mut Output<W>,
 ) -> Result<Report, ShowStop>
     requires writable { output.old.failed ≡ false }
-    ensures { (limits : Limits) (n : ℕ) (first : Outgoing) (came : List ℕ) (lines : List (List ℕ)) →
-        AreLines came lines → HasPrintedLines limits n first view.now lines output.old →
-        EndsShowing limits n first output.new came result }
+    ensures { (limits : Limits) (style : Style) (first : Outgoing) (came : List ℕ) (lines : List (List ℕ)) →
+        AreLines came lines → HasPrintedLines limits style first view.now lines output.old →
+        EndsShowing limits style first output.new came result }
 {
     let report = view.finish(output);
     if output.failed() {

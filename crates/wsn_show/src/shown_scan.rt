@@ -19,6 +19,7 @@ impl ShownScan {
     ghost use Rattle.std.specs.Prelude.{◌≡◌, ℕ, ◌+◌, ◌<◌, ◌≤◌, ◌^◌, ◌⊎◌, List, [], ◌++◌, length, take, drop, None, ◌≢◌};
     ghost use Rattle.wsn_wire.specs.Frame.{Frame};
     ghost use Rattle.wsn_wire.specs.declared.endpoint.Role.{Role};
+    ghost use Rattle.wsn_rules.specs.declared.detail.Detail.{Detail};
     ghost use Rattle.wsn_rules.specs.Limits.{Limits};
     ghost use Rattle.wsn_rules.specs.ShownStream.{Shown};
     ghost use Rattle.wsn_scan.specs.Scans.{HasScanned, room_of, refusal_in, ends_pending};
@@ -29,7 +30,7 @@ impl ShownScan {
     /// A scan of no bytes.
     #[tactic(none)]
     pub fn new(role: Role, limits: Limits) -> ShownScan
-        ensures { HasShownAll role limits result.scan result.parts [] [] }
+        ensures { (detail : Detail) → HasShownAll detail role limits result.scan result.parts [] [] }
     {
         ShownScan {
             scan: Scan::new(role, limits),
@@ -59,7 +60,7 @@ impl ShownScan {
         ensures kept { drop result piece.new ≡ drop result piece.old }
         ensures room { room_of self.new.scan + result ≡ room_of self.old.scan }
         ensures shows { (role : Role) (limits : Limits) (came : List ℕ) (shown : List Shown) →
-            HasShownFrames role limits self.old.scan self.old.parts came shown →
+            HasShownFrames context.now.style.detail role limits self.old.scan self.old.parts came shown →
             ShowsMore role limits self.new.scan self.new.parts context.now output.old output.new (length piece.old)
             (came ++ take result piece.old) shown }
         ensures progress { (role : Role) (limits : Limits) (bytes rest : List ℕ) (fs : List Frame)
@@ -83,12 +84,12 @@ impl ShownScan {
         output: &mut Output<W>,
         context: &EntryContext<'_>,
     ) -> usize
-        requires begun { IsShowing self.old.scan self.old.parts }
+        requires begun { IsShowing context.now.style.detail self.old.scan self.old.parts }
         requires fits { length piece.old ≤ room_of self.old.scan }
         ensures within { result ≤ length piece.old }
         ensures kept { drop result piece.new ≡ drop result piece.old }
         ensures shows { (role : Role) (limits : Limits) (came : List ℕ) (shown : List Shown) →
-            HasShownFrames role limits self.old.scan self.old.parts came shown →
+            HasShownFrames context.now.style.detail role limits self.old.scan self.old.parts came shown →
             ShowsAll role limits self.new.scan self.new.parts context.now output.old output.new
             (came ++ take result piece.old) shown }
         ensures all { refusal_in self.new.scan ≡ None → result ≡ length piece.old }
@@ -111,11 +112,12 @@ impl ShownScan {
         output: &mut Output<W>,
         context: &EntryContext<'_>,
     )
-        requires begun { refusal_in self.old.scan ≡ None → IsShowing self.old.scan self.old.parts }
+        requires begun { refusal_in self.old.scan ≡ None →
+            IsShowing context.now.style.detail self.old.scan self.old.parts }
         requires fits { refusal_in self.old.scan ≡ None → length piece.old ≤ room_of self.old.scan }
         ensures { (role : Role) (limits : Limits) (came : List ℕ) (shown : List Shown) →
             length came + length piece.old < 2 ^ 64 →
-            HasShownAll role limits self.old.scan self.old.parts came shown →
+            HasShownAll context.now.style.detail role limits self.old.scan self.old.parts came shown →
             ShowsAll role limits self.new.scan self.new.parts context.now output.old output.new
             (came ++ piece.old) shown }
     {
@@ -131,8 +133,8 @@ impl ShownScan {
     /// The verdict on the bytes that came, as if the stream ended here (RFC 6455 sections 5 and 7).
     #[tactic(none)]
     pub fn verdict(&self) -> Verdict
-        ensures { (role : Role) (limits : Limits) (came : List ℕ) (shown : List Shown) →
-            HasShownAll role limits self.now.scan self.now.parts came shown →
+        ensures { (detail : Detail) (role : Role) (limits : Limits) (came : List ℕ) (shown : List Shown) →
+            HasShownAll detail role limits self.now.scan self.now.parts came shown →
             (fs : List Frame) × IsVerdict role limits came fs result }
     {
         self.scan.finish()
@@ -141,8 +143,8 @@ impl ShownScan {
     /// Prints what is left over if the stream ends here: what isn't complete, the tail, or what wasn't read.
     #[tactic(none)]
     pub fn put_left_over<W: Write>(&self, output: &mut Output<W>, context: &EntryContext<'_>)
-        ensures { (role : Role) (limits : Limits) (came : List ℕ) (shown : List Shown) →
-            HasShownAll role limits self.now.scan self.now.parts came shown →
+        ensures { (detail : Detail) (role : Role) (limits : Limits) (came : List ℕ) (shown : List Shown) →
+            HasShownAll detail role limits self.now.scan self.now.parts came shown →
             LeavesOver role limits came context.now output.old output.new }
     {
         let parts = &self.parts;

@@ -1,19 +1,19 @@
 use crate::entry_context::EntryContext;
 use crate::shown_scan::ShownScan;
+use crate::style::Style;
 use std::io::Write;
 use std::marker::Model;
 use wsn_io::Output;
-use wsn_print::ViewLimit;
 use wsn_rules::{Limits, Verdict};
 use wsn_wire::Role;
 
 /// Shows the stream that one endpoint sent, as its bytes come (RFC 6455 sections 5 and 7): prints each event with its
-/// last byte, and a refusal with the offending byte. It keeps the first bytes of the open message and of the frame that
-/// has begun, and allocates nothing.
+/// last byte, or each frame with its head's last byte, and a refusal with the offending byte. It keeps the first bytes of
+/// the open message and of the frame that has begun, and allocates nothing.
 #[derive(Drop)]
 pub struct StreamView {
     role: Role,
-    view: ViewLimit,
+    style: Style,
     input: u64,
     room: u64,
     stream: ShownScan,
@@ -26,7 +26,7 @@ impl Model for StreamView {
 
     ghost view = { λ v. record {
       role = v.role;
-      view = v.view;
+      style = v.style;
       input = v.input;
       room = v.room;
       scan = v.stream.scan;
@@ -35,7 +35,7 @@ impl Model for StreamView {
 
     ghost invariant = { λ v. IsViewing (record {
       role = v.role;
-      view = v.view;
+      style = v.style;
       input = v.input;
       room = v.room;
       scan = v.stream.scan;
@@ -52,16 +52,17 @@ impl StreamView {
     ghost use Rattle.wsn_rules.specs.Verdict.{IsVerdict};
     ghost use Rattle.wsn_rules.specs.ShownStream.{Item, Shown, IsShownStream, IsLeftOver};
     ghost use Rattle.wsn_rules.specs.ShownCapture.{beyond};
-    ghost use Rattle.wsn_print.specs.ShownText.{item_lines};
+    ghost use Rattle.wsn_show.specs.declared.style.Style.{Style};
+    ghost use Rattle.wsn_show.specs.Styles.{styled_items};
     ghost use Rattle.wsn_show.specs.StreamViews.{HasViewed};
 
     /// A view of a stream of no bytes. `role` is the endpoint that sent the stream.
-    pub fn new(role: Role, limits: Limits, view: ViewLimit) -> StreamView
-        ensures { HasViewed role limits view result [] }
+    pub fn new(role: Role, limits: Limits, style: Style) -> StreamView
+        ensures { HasViewed role limits style result [] }
     {
         StreamView {
             role,
-            view,
+            style,
             input: limits.input(),
             room: limits.input(),
             stream: ShownScan::new(role, limits),
@@ -77,8 +78,8 @@ impl StreamView {
 
     /// The number of bytes that came.
     pub fn sent(&self) -> u64
-        ensures { (role : Role) (limits : Limits) (view : ℕ) (came : List ℕ) →
-            HasViewed role limits view self.now came → result ≡ length came }
+        ensures { (role : Role) (limits : Limits) (style : Style) (came : List ℕ) →
+            HasViewed role limits style self.now came → result ≡ length came }
     {
         self.input.saturating_sub(self.room)
     }
@@ -86,8 +87,8 @@ impl StreamView {
     /// The verdict on the bytes that came, as if the stream ended here (RFC 6455 sections 5 and 7).
     #[tactic(none)]
     pub fn verdict(&self) -> Verdict
-        ensures { (role : Role) (limits : Limits) (view : ℕ) (came : List ℕ) →
-            HasViewed role limits view self.now came → (fs : List Frame) × IsVerdict role limits came fs result }
+        ensures { (role : Role) (limits : Limits) (style : Style) (came : List ℕ) →
+            HasViewed role limits style self.now came → (fs : List Frame) × IsVerdict role limits came fs result }
     {
         self.stream.verdict()
     }
@@ -98,18 +99,18 @@ impl StreamView {
     pub fn take<W: Write>(&mut self, bytes: &mut [u8], time: Option<&[u8]>, output: &mut Output<W>)
         requires fits { length bytes.old ≤ self.old.room }
         requires writable { output.old.failed ≡ false }
-        ensures viewed { (role : Role) (limits : Limits) (view : ℕ) (came : List ℕ) →
-            HasViewed role limits view self.old came → HasViewed role limits view self.new (came ++ bytes.old) }
-        ensures printed { (role : Role) (limits : Limits) (view : ℕ) (came : List ℕ) →
-            HasViewed role limits view self.old came → (shown : List Shown)
-            × IsShownStream role limits (came ++ bytes.old) shown
+        ensures viewed { (role : Role) (limits : Limits) (style : Style) (came : List ℕ) →
+            HasViewed role limits style self.old came → HasViewed role limits style self.new (came ++ bytes.old) }
+        ensures printed { (role : Role) (limits : Limits) (style : Style) (came : List ℕ) →
+            HasViewed role limits style self.old came → (shown : List Shown)
+            × IsShownStream style.detail role limits (came ++ bytes.old) shown
             × IsWrittenUpToFailure output.old output.new
-            (item_lines view role (option_copied time.entry) (beyond (length came) shown)) }
+            (styled_items style role (option_copied time.entry) (beyond (length came) shown)) }
     {
         self.room -= bytes.len() as u64;
         let context = EntryContext {
             role: self.role,
-            view: self.view,
+            style: self.style,
             time,
         };
         self.stream.take(bytes, output, &context);
@@ -119,15 +120,15 @@ impl StreamView {
     /// message, the frame that has begun, the tail, or the bytes that weren't read. `time` is as for
     /// [`take`](StreamView::take).
     pub fn put_left_over<W: Write>(&self, time: Option<&[u8]>, output: &mut Output<W>)
-        ensures { (role : Role) (limits : Limits) (view : ℕ) (came : List ℕ) →
-            HasViewed role limits view self.now came → (left : List Item)
+        ensures { (role : Role) (limits : Limits) (style : Style) (came : List ℕ) →
+            HasViewed role limits style self.now came → (left : List Item)
             × IsLeftOver role limits came left
             × ((before : Outgoing) (text : List ℕ) → IsWrittenUpToFailure before output.old text →
-            IsWrittenUpToFailure before output.new (text ++ item_lines view role (option_copied time.entry) left)) }
+            IsWrittenUpToFailure before output.new (text ++ styled_items style role (option_copied time.entry) left)) }
     {
         let context = EntryContext {
             role: self.role,
-            view: self.view,
+            style: self.style,
             time,
         };
         self.stream.put_left_over(output, &context);

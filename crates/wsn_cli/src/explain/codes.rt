@@ -43,8 +43,8 @@ can't accept, such as binary where it takes text alone.
 RFC 6455, 7.4.1.
 Usual causes: a client that sends a Blob or an ArrayBuffer, or a library that
 sends bytes as binary, to a server that expects JSON in text.
-Next: 'wsn frames' on the other side's bytes: the last message before the Close
-is 'text' or 'binary'.
+Next: 'wsn show CAPTURE' prints the other side's last message before the Close,
+'text' or 'binary', and the reason in the Close.
 ",
     },
     Entry {
@@ -91,8 +91,8 @@ for a refusal that no other code fits.
 RFC 6455, 7.4.1. wsn gives it for too-many-frames alone.
 Usual causes: a login that is missing or has expired; a rate limit; an origin
 that isn't allowed; a subscription that was refused.
-Next: read the reason in the Close: 'wsn frames' has its offset and length, and
-xxd shows a server's text there. Then read that side's log.
+Next: 'wsn show CAPTURE' prints the reason in the Close and what was said before
+it. Then read that side's log.
 ",
     },
     Entry {
@@ -127,8 +127,8 @@ RFC 6455, 7.4.1 names a server; IANA's registry and real clients use it for both
 sides.
 Usual causes: an exception in a message handler; a library whose ping got no
 pong in time (python-websockets: 'keepalive ping timeout').
-Next: read that side's log at this time. 'wsn frames' on the bytes of both sides
-shows which message came last, and whether each ping got a pong.
+Next: read that side's log at this time. 'wsn show CAPTURE' prints the reason in
+the Close, which message came last, and whether each ping got a pong.
 ",
     },
     Entry {

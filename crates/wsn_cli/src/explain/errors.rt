@@ -1,7 +1,7 @@
 //! The lines on standard error of a command that has no answer; its status is 2.
 use super::Entry;
 
-static ERRORS: [Entry; 6] = [
+static ERRORS: [Entry; 7] = [
     Entry {
         words: &["usage"],
         text: "\
@@ -66,6 +66,18 @@ Usual causes: a misspelt name; the file is in another folder; missing rights; a
 plan that is a directory.
 Next: ls -l FILE. In the printed name, \\x1b and the like are control characters,
 \\u202e and the like are characters that change how a terminal shows text.
+",
+    },
+    Entry {
+        words: &["hint"],
+        text: "\
+hint: TEXT, on standard error: by its first bytes the input isn't what the
+command reads, and TEXT says what to do. Output and status are as without it.
+judge and frames give one for a stream that is empty, or refused at offset 0 or
+1; each command for a capture whose first line is malformed; recut for a plan
+with a byte order mark. Other faults have none.
+Next: do what it says, and run the command again. It is a guess by at most 16
+bytes: xxd -l 32 FILE shows them.
 ",
     },
 ];

@@ -31,7 +31,9 @@ size of the message. 'wsn normal' writes it in one frame.
 text: a text frame (opcode 1), the first or only frame of a text message.
 RFC 6455, 5.6: the payload of the whole message is UTF-8; a fragment may end
 inside a character. LENGTH is in bytes, so it can exceed the characters.
-Next: xxd -s OFFSET -l 64 FILE shows the frame; a client's payload is masked.
+In 'wsn show': text BYTES FRAMES \"..\", a whole message, unmasked.
+Next: 'wsn show CAPTURE' prints the messages of both sides. Of a stream, xxd -s
+OFFSET -l 64 FILE shows the frame; a client's payload is masked.
 ",
     },
     Entry {
@@ -62,8 +64,8 @@ RFC 6455, 5.5.2: the receiver answers as soon as it can with a pong that has the
 same payload, unless it already received a Close.
 Usual causes of a missing pong: the peer reads nothing, because it is blocked in
 a handler or waits for room to write; the network is gone.
-Next: list the other side's frames and count its pongs. One pong may answer
-several pings (5.5.3).
+Next: 'wsn show CAPTURE' prints pings and pongs of both sides, in order and with
+the times that the capture has. One pong may answer several pings (5.5.3).
 ",
     },
     Entry {

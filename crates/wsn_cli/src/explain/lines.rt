@@ -81,8 +81,9 @@ anywhere. To split the lines of a file:
 too-many-lines: the capture has more than 1000000 lines, of any kind.
 Usual causes: a recording of many hours; a recorder that writes a line for each
 few bytes.
+With --capture the maximum is the same.
 Next: split the session's bytes into longer lines, of up to 4096 bytes each. Or
-judge each side alone, which has no such maximum:
+judge each side's bytes as a stream, which has no such maximum:
   sed -n 's/^S //p' FILE | xxd -r -p | wsn judge --role server
 ",
     },

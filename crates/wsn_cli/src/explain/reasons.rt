@@ -53,8 +53,8 @@ opcode 0, and only the last has FIN.
 Usual causes: a sender that sets FIN on the first fragment already; two threads
 that send at once; a first fragment that a proxy or the recording lost; zeros,
 which some tools write for missing bytes.
-Next: 'wsn frames' lists the frame before this one. If it is 'fin text' or 'fin
-binary' and its payload goes on here, its FIN is wrong.
+Next: 'wsn show CAPTURE' prints this side's message before it, 'wsn frames' its
+frames. If that message is incomplete and goes on here, its FIN is wrong.
 ",
     },
     Entry {
@@ -66,9 +66,9 @@ RFC 6455, 5.4: only control frames may come between the fragments of a message.
 Usual causes: two threads or tasks send on one connection without a lock; a
 message was given up halfway (an exception, a timeout) and the next one sent; a
 sender that repeats the opcode in each fragment, where the later ones need 0.
-Next: 'wsn frames' lists the open message: the lines from its 'more text' or
-'more binary' on. If this frame continues it, the opcode is wrong; if it belongs
-to something else, the lock is missing.
+Next: 'wsn show CAPTURE' prints the open message, as 'unfinished', just before
+'refused'. If this frame continues it, the opcode is wrong; if it belongs to
+something else, the lock is missing.
 ",
     },
     Entry {
@@ -81,8 +81,9 @@ one that isn't masked.
 Usual causes: --role names the wrong side (then OFFSET is 1); a whole capture
 that went through xxd -r -p, which reads C as a digit; a home-made client, or a
 server's library used as a client; a tool that recorded unmasked frames.
-Next: --role is the endpoint that sent the bytes: try --role server. If the
-client did send them, it is at fault, even if some servers tolerate it.
+Next: --role is the endpoint that sent the bytes: try --role server. Of a
+capture, add --capture and leave xxd out. If the client did send unmasked
+frames, it is at fault, even if some servers tolerate it.
 ",
     },
     Entry {
@@ -108,8 +109,9 @@ RFC 6455, 5.5: the payload of a control frame has at most 125 bytes.
 Usual causes: a Close with a whole error message as its reason, which may have
 123 bytes; a ping that carries data. Or no frame begins here: bytes are missing,
 an earlier length is wrong, or two threads wrote at once.
-Next: the byte before OFFSET says which frame it is: 88 a Close, 89 a ping, 8a a
-pong. Shorten the reason at the sender: count bytes, cut between characters.
+Next: 'wsn show CAPTURE' ends the line 'refused' with the frame's two bytes; the
+first says which it is: 88 a Close, 89 a ping, 8a a pong. Shorten the reason at
+the sender: count bytes, cut between characters.
 ",
     },
     Entry {
@@ -176,8 +178,8 @@ IANA's registry 1012 to 1014. 1005, 1006 and 1015 are for logs alone.
 Usual causes: a relay that closes with the 1005 or 1006 that it was given; 0, or
 an HTTP status such as 500; the low byte first (e803 is 59395); no code before
 the reason, so that its first two letters are read as one.
-Next: see the code: xxd -s $((OFFSET - 1)) -l 2 FILE (a client's is masked). In
-a relay, send no code for 1005, and 1001 or 1011 for 1006.
+Next: 'wsn show CAPTURE' ends the line 'refused' with the code, unmasked, in hex
+(03ee is 1006). In a relay, send no code for 1005, and 1001 or 1011 for 1006.
 ",
     },
     Entry {
@@ -188,8 +190,9 @@ bad byte, or the frame's last byte if the reason ends inside a character.
 RFC 6455, 5.5.1: what follows the code is text in UTF-8.
 Usual causes: a reason that was cut to 123 bytes inside a character; an error
 message of the system in another encoding (Latin-1, GBK, Shift JIS).
-Next: at the sender, convert the reason to UTF-8 first, then shorten it between
-two characters. A short reason in ASCII is the safest.
+Next: 'wsn show CAPTURE' ends the line 'refused' with the code and the reason up
+to that byte, in hex. At the sender, convert the reason to UTF-8 first, then
+shorten it between two characters. A short reason in ASCII is the safest.
 ",
     },
     Entry {
@@ -202,8 +205,8 @@ receiver must fail the connection.
 Usual causes: text in Latin-1 or Windows-1252 (fc is u-umlaut, 92 an
 apostrophe); binary data sent as text (gzip begins with 1f 8b); surrogates one
 by one (ed a0 ..) or c0 80, from CESU-8 or Java's modified UTF-8.
-Next: see the text before: xxd -s $((OFFSET - 16)) -l 32 FILE (a client's is
-masked). Convert it to UTF-8 where it is made, or send it as binary.
+Next: 'wsn show CAPTURE' ends the line 'refused' with the text up to that byte,
+unmasked, in hex. Convert it to UTF-8 where it is made, or send it as binary.
 ",
     },
     Entry {
@@ -215,9 +218,10 @@ RFC 6455, 5.6 and 8.1: a fragment may end inside a character, a message may not.
 Usual causes: text that is read in blocks (of a file, a process, a socket) and
 sent block by block as messages; a buffer that truncates; a length in characters
 where bytes are meant.
-Next: if the next message begins with a byte from 80 to bf, both are one text.
-Send the blocks as fragments of one message, keep the incomplete character for
-the next block, or send binary.
+Next: in 'wsn show CAPTURE' 'unread' begins with the next frame. If its text
+begins with a byte from 80 to bf, both are one text. Send the blocks as
+fragments of one message, keep the incomplete character for the next block, or
+send binary.
 ",
     },
     Entry {

@@ -45,9 +45,8 @@ running: nothing is wrong with what this side sent, it sent no Close, and the
 capture has no end mark for it (C. or S.).
 Usual causes: the recording stopped before the session did; packets are missing
 from here on; this side had nothing to send.
-Next: read the capture's comments, where recipes/pcap2wsn reports missing bytes:
-grep '^#' FILE. 'wsn judge' on this side's bytes says whether they end inside a
-frame or a message.
+Next: 'wsn show CAPTURE' prints what this side said last and what is unfinished,
+and the comments, where recipes/pcap2wsn reports missing bytes.
 ",
     },
     Entry {
@@ -100,10 +99,9 @@ RFC 6455, 7.1.7: the receiver fails the connection: it should send a Close with
 a code and must not read on. wsn reports that its application sees 1006.
 Usual causes: those of the reason. If both sides are refused early as
 reserved-bits, compression was on.
-Next: the line with 'refused' names side, offset and reason. 'wsn explain
-REASON', and list that side's frames:
-  wsn frames --role server --capture FILE
-(for the client: --role client).
+Next: the line with 'refused' names side, offset and reason: 'wsn explain
+REASON'. 'wsn show CAPTURE' prints what was said before it; to list the side's
+frames: wsn frames --role server --capture CAPTURE (or --role client).
 ",
     },
     Entry {
@@ -139,8 +137,9 @@ RFC 6455, 7.1.5: an application that waits for that side's Close sees 1006.
 Usual causes: a process that crashed, was killed or redeployed; an idle timeout
 of a proxy or load balancer (often 60 seconds); a network that went away; a
 program that closes the socket instead of the WebSocket.
-Next: which side is 'ended' or 'cut'? Read its log, then the proxies'. If it
-happens after the same silence each time, it is a timeout: ping more often.
+Next: which side is 'ended' or 'cut'? Read its log, then the proxies'. 'wsn show
+CAPTURE' prints when it last said something. If the silence is the same each
+time, it is a timeout: ping more often.
 ",
     },
     Entry {
@@ -151,9 +150,9 @@ RFC 6455, 5.5.1: it must answer as soon as it can, at the latest when it has
 sent the rest of its current message.
 Usual causes: the recording stopped, or lost the answer; a peer that doesn't
 read, because a handler blocks it; one that sends a long message first.
-Next: record for longer. If no answer comes, look at what the silent side was
-doing when the Close came. After some seconds most libraries give up and report
-1006 to their application.
+Next: record for longer. If no answer comes, 'wsn show CAPTURE' prints what the
+silent side sent after the Close. After some seconds most libraries give up and
+report 1006 to their application.
 ",
     },
     Entry {
@@ -163,8 +162,8 @@ outcome open: nothing is wrong, no side sent a Close, and no direction ended.
 The session was alive, or hung, where the capture stops.
 Usual causes: the recording stopped; packets are missing at its end; each side
 waits for the other.
-Next: if the session hung, judge each side's bytes. 'cut' says that a frame or a
-message is incomplete, and that its receiver waits for the rest.
+Next: if the session hung, look at the end of 'wsn show CAPTURE': of a message
+that is 'unfinished' the receiver waits for the rest.
 ",
     },
 ];

@@ -27,8 +27,8 @@ RFC 6455, 5.2 and 5.4: the length says where a frame ends, FIN where a message.
 Usual causes: the recording stopped or lost packets; the sender died while it
 sent; a length is wrong, so that all that follows counts as payload, and a real
 receiver waits forever.
-Next: the last line of 'wsn frames' before 'cut' is the last frame whose head is
-complete. Is its length what the sender meant? After 'more' a fragment is due.
+Next: 'wsn show CAPTURE' prints what is unfinished, and how many bytes it lacks.
+Is the length what the sender meant? 'wsn frames' lists its frames.
 ",
     },
     Entry {
@@ -53,22 +53,23 @@ RFC 6455, 5.5.1: an endpoint sends no data frame after its Close; 1.4: the peer
 discards what comes after it.
 Usual causes: one task goes on sending while another closes; a handler answers a
 message that it had read before; two places in a program each send a Close.
-Next: to see the bytes: tail -c TAIL FILE | xxd. They harm no correct receiver,
-but their messages are lost: stop or drain the senders before the Close.
+Next: 'wsn show CAPTURE' prints the first of these bytes (of a stream, tail -c
+TAIL FILE | xxd). They harm no correct receiver, but their messages are lost:
+stop or drain the senders before the Close.
 ",
     },
     Entry {
         words: &["unfinished"],
         text: "\
 unfinished SIZE, in a verdict: the Close interrupts a message, of which SIZE
-bytes had come; - says that no message was open.
-unfinished, alone, from 'wsn plan': there is no plan, because the Close
-interrupts a message, and a plan has no step for that.
+bytes had come; - says that no message was open. In 'wsn show': 'wsn explain
+lacks'. Alone, from 'wsn plan': there is no plan, because the Close interrupts a
+message, and a plan has no step for that.
 RFC 6455, 5.5.1: an endpoint may send the rest of its message before its Close;
 it needn't. The receiver drops the fragments.
 Usual causes: a program that streams a message and is stopped halfway; a task
 that sends a Close while another sends fragments.
-Next: 'wsn frames' lists the fragments: 'more', and no 'fin cont' after it.
+Next: 'wsn show CAPTURE' prints what came of the message, before the Close.
 ",
     },
 ];
@@ -94,10 +95,10 @@ An event is a message, a ping, a pong or a Close; K counts from 0. One stream
 may also have ended before event K.
 Usual causes: a keepalive that came earlier or later in one run; a timestamp or
 an identifier in a message; another close code or reason.
-Next: in a normal form, frame K is event K. For each of the two streams:
+Next: of two captures, run diff on what 'wsn show CAPTURE' prints of this side.
+Of two streams, run for each:
   wsn normal --role R < a.bin | tee a.normal | wsn frames --role R > a.frames
-Then run diff on the two lists; line K + 1 has the event's offset and length in
-the normal form, and xxd shows its bytes there.
+Line K + 1 of the list has the event's offset and length in the normal form.
 ",
     },
     Entry {

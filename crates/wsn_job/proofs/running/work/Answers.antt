@@ -111,3 +111,39 @@ returns-in-Closing-clause-read g c = search rules
 
 pub returns-in-Closing-clause-write : goal.returns-in-Closing-clause-write
 returns-in-Closing-clause-write g c = search rules
+
+pub show-requires-clause-readable : goal.show-requires-clause-readable
+show-requires-clause-readable g c = search rules
+
+pub show-requires-clause-writable : goal.show-requires-clause-writable
+show-requires-clause-writable g c = search rules
+
+pub returns-in-Show-clause-done : goal.returns-in-Show-clause-done
+returns-in-Show-clause-done g c = search rules
+
+pub returns-in-Show-clause-status : goal.returns-in-Show-clause-status
+returns-in-Show-clause-status g c = search rules
+
+pub returns-in-Show-clause-read : goal.returns-in-Show-clause-read
+returns-in-Show-clause-read g c = search rules
+
+pub returns-in-Show-clause-write : goal.returns-in-Show-clause-write
+returns-in-Show-clause-write g c = search rules
+
+pub show_stream-requires-clause-readable : goal.show_stream-requires-clause-readable
+show_stream-requires-clause-readable g c = search rules
+
+pub show_stream-requires-clause-writable : goal.show_stream-requires-clause-writable
+show_stream-requires-clause-writable g c = search rules
+
+pub returns-in-ShowStream-clause-done : goal.returns-in-ShowStream-clause-done
+returns-in-ShowStream-clause-done g c = search rules
+
+pub returns-in-ShowStream-clause-status : goal.returns-in-ShowStream-clause-status
+returns-in-ShowStream-clause-status g c = search rules
+
+pub returns-in-ShowStream-clause-read : goal.returns-in-ShowStream-clause-read
+returns-in-ShowStream-clause-read g c = search rules
+
+pub returns-in-ShowStream-clause-write : goal.returns-in-ShowStream-clause-write
+returns-in-ShowStream-clause-write g c = search rules

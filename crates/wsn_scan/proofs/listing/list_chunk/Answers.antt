@@ -1,11 +1,11 @@
-use Rattle.std.proofs.Common.{◌≡◌, ◌∙◌, ◌+◌, ◌-◌, ◌<◌, ◌≤◌, ℕ, List, [], ◌++◌, length, drop, refl, sym, arith, ap, subst, length-drop, rules}
+use Rattle.std.proofs.Common.{◌≡◌, ◌∙◌, ◌+◌, ◌-◌, ◌<◌, ℕ, List, [], ◌++◌, length, drop, refl, sym, arith, ap, subst, length-drop, rules}
 use borrow.Rule.Slice.PartMut.{mid_of, put_mid}
 use Rattle.wsn_wire.specs.Frame.{IsBytes}
 use Rattle.wsn_scan.specs.Reports.{refusal_in_notice}
 use Rattle.wsn_scan.specs.Feeding.{heads_in}
 use Rattle.wsn_scan.specs.declared.notice.Notice.{Notice}
 use Rattle.wsn_scan.proofs.FedPieces.{IsFedTo, bytes_below, bytes_after, share_is, takes_none, takes_by, takes_on, takes_further, fed_further, no_refusal, falls, falls_further}
-use Rattle.wsn_print.specs.HeadText.{head_lines}
+use Rattle.wsn_print.specs.Formats.{heads_text}
 use Rattle.wsn_scan.proofs.Printing.{lines_on}
 use Rattle.wsn_io.proofs.PutTexts.{prints_nothing}
 use Rattle.wsn_scan.proofs.listing.list_chunk.Goals as goal
@@ -27,7 +27,7 @@ returns-in-Refused g c =
     let share = mid_of at (length c.loop-at.piece - at) c.loop-at.piece in
     let is : share ≡ drop at c.args.piece.now = share_is at c.loop-at.piece ∙ c.loop-at.invariant.kept in
     let more = c.loop-at.invariant.consumes.0 in
-    let printed = lines_on c.args.output.now c.print.new.output more (heads_in c.next-taken.result.1) (c.print.ensures c.args.output.now (head_lines more) c.loop-at.invariant.consumes.2) in
+    let printed = lines_on c.args.format c.args.output.now c.print.new.output more (heads_in c.next-taken.result.1) (c.print.ensures c.args.output.now (heads_text c.args.format more) c.loop-at.invariant.consumes.2) in
     record {
       fed = record {
         count = at + taken;
@@ -81,7 +81,7 @@ loop-at-preserved g c =
     let next = fed_further c.args.scan.now c.loop-at.scan mid piece here c.next-taken.new.piece at taken fed c.next-taken.ensures.within c.next-taken.auto.piece c.next-taken.ensures.kept c.next-taken.ensures.room
     (λ in_bytes. (heads, takes_by c.loop-at.scan mid c.next-taken.result.1 share c.next-taken.new.piece taken c.next-taken.ensures.taken in_bytes)) in
     let first = takes_on c.args.scan.now c.loop-at.scan mid c.next-taken.result.1 piece share c.next-taken.new.piece at taken known.consumes.0 known.in_bytes is known.consumes.1 c.next-taken.ensures.taken in
-    let printed = lines_on c.args.output.now c.print.new.output known.consumes.0 heads (c.print.ensures c.args.output.now (head_lines known.consumes.0) known.consumes.2) in
+    let printed = lines_on c.args.format c.args.output.now c.print.new.output known.consumes.0 heads (c.print.ensures c.args.output.now (heads_text c.args.format known.consumes.0) known.consumes.2) in
     let frames = c.list_frames-at in
     let left = mid_of (at + taken) (length there - (at + taken)) there in
     let left_is : left ≡ drop (at + taken) piece = share_is (at + taken) there ∙ next.kept in
@@ -98,7 +98,7 @@ loop-at-preserved g c =
       consumes = (
         (known.consumes.0 ++ heads) ++ run.heads,
         takes_further c.args.scan.now mid frames.new.scan piece left (at + taken) frames.result (known.consumes.0 ++ heads) run.heads left_is first run.consumes,
-        lines_on c.args.output.now frames.new.output (known.consumes.0 ++ heads) run.heads (run.printed c.args.output.now (head_lines (known.consumes.0 ++ heads)) printed),
+        lines_on c.args.format c.args.output.now frames.new.output (known.consumes.0 ++ heads) run.heads (run.printed c.args.output.now (heads_text c.args.format (known.consumes.0 ++ heads)) printed),
       );
     }
 

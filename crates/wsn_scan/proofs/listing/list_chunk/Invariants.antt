@@ -3,7 +3,7 @@ use Rattle.wsn_wire.specs.Frame.{IsBytes}
 use Rattle.wsn_rules.specs.declared.head_info.HeadInfo.{HeadInfo}
 use Rattle.wsn_scan.specs.Scans.{ends_pending}
 use Rattle.wsn_scan.specs.Feeding.{ConsumesPrefix}
-use Rattle.wsn_print.specs.HeadText.{head_lines}
+use Rattle.wsn_print.specs.Formats.{heads_text}
 use Rattle.wsn_scan.proofs.listing.list_chunk.Given as goal
 use Rattle.wsn_io.specs.Transfer.{IsWrittenUpToFailure}
 
@@ -16,7 +16,7 @@ invariant-loop-at g l = record {
   size : length l.piece ≡ length l.fn.piece;
   kept : drop l.at l.piece ≡ drop l.at l.fn.piece;
   room : l.scan.room + l.at ≡ l.fn.scan.room;
-  consumes : (more : List HeadInfo) × ConsumesPrefix l.fn.scan l.scan l.fn.piece l.at more × IsWrittenUpToFailure l.fn.output l.output (head_lines more);
+  consumes : (more : List HeadInfo) × ConsumesPrefix l.fn.scan l.scan l.fn.piece l.at more × IsWrittenUpToFailure l.fn.output l.output (heads_text l.fn.format more);
 }
 
 abbrev pub decreases-loop-at : goal.decreases-loop-at

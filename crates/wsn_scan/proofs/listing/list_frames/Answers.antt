@@ -1,12 +1,12 @@
-use Rattle.std.proofs.Common.{◌≡◌, ◌+◌, ◌-◌, ◌≤◌, List, ℕ, [], ◌∷◌, ◌++◌, length, drop, refl, sym, ap, ◌∙◌, subst, arith, length-drop, append-nil, append_assoc, rules}
+use Rattle.std.proofs.Common.{◌≡◌, ◌-◌, List, ℕ, [], ◌∷◌, ◌++◌, length, drop, refl, sym, ap, ◌∙◌, subst, arith, length-drop, append-nil, append_assoc, rules}
 use borrow.Rule.Slice.PartMut.{mid_of, put_mid, put_same, same_len_mid}
 use Rattle.wsn_wire.specs.Frame.{IsBytes}
 use Rattle.wsn_io.specs.Transfer.{IsWrittenUpToFailure}
-use Rattle.wsn_print.specs.HeadText.{head_lines}
+use Rattle.wsn_print.specs.Formats.{heads_text}
 use Rattle.wsn_scan.specs.declared.scan.Scan.{Scan}
 use Rattle.wsn_scan.specs.Listing.{IsListedRun}
 use Rattle.wsn_scan.proofs.FedPieces.{bytes_below, bytes_after, share_is, kept_after, same_further, takes_none, takes_further}
-use Rattle.wsn_scan.proofs.Printing.{head_lines-append}
+use Rattle.wsn_scan.proofs.Printing.{heads_text-append}
 use Rattle.wsn_scan.proofs.listing.list_frames.Goals as goal
 
 pub loop-taken-init : goal.loop-taken-init
@@ -38,7 +38,7 @@ loop-taken-preserved g c =
     let size : length share ≡ length (drop at piece) = ap (λ (bs : List ℕ). length bs) is in
     let same_size : length c.take_frame.new.piece ≡ length share = c.take_frame.auto.piece in
     let more = found.taken (subst IsBytes (sym is) (bytes_after at piece known.in_bytes)) in
-    let lines = head_lines known.run.heads in
+    let lines = heads_text c.args.format known.run.heads in
     record {
       in_bytes = known.in_bytes;
       within = omega (arith, length-drop at piece, size, found.within.1);
@@ -50,7 +50,7 @@ loop-taken-preserved g c =
         heads = known.run.heads ++ head ∷ [];
         consumes = takes_further c.args.scan.now c.loop-taken.scan c.take_frame.new.self piece share at taken known.run.heads (head ∷ []) is known.run.consumes more;
         printed = λ first text printed.
-            subst (λ (bs : List ℕ). IsWrittenUpToFailure first c.print.new.output bs) (append_assoc text lines (head_lines (head ∷ [])) ∙ ap (λ (bs : List ℕ). text ++ bs) (sym (head_lines-append known.run.heads (head ∷ []))))
+            subst (λ (bs : List ℕ). IsWrittenUpToFailure first c.print.new.output bs) (append_assoc text lines (heads_text c.args.format (head ∷ [])) ∙ ap (λ (bs : List ℕ). text ++ bs) (sym (heads_text-append c.args.format known.run.heads (head ∷ []))))
             (c.print.ensures first (text ++ lines) (known.run.printed first text printed));
       };
       none = λ zero. absurd (omega (arith, found.within.0, zero));
@@ -58,7 +58,7 @@ loop-taken-preserved g c =
 
 pub returns-clause-taken : goal.returns-clause-taken
 returns-clause-taken g c in_bytes =
-    subst (λ (scan : Scan). IsListedRun c.args.scan.now scan c.args.output.now c.loop-taken.output c.args.piece.now c.loop-taken.at) (sym c.in_default.ensures.none.0) c.loop-taken.invariant.run
+    subst (λ (scan : Scan). IsListedRun c.args.format c.args.scan.now scan c.args.output.now c.loop-taken.output c.args.piece.now c.loop-taken.at) (sym c.in_default.ensures.none.0) c.loop-taken.invariant.run
 
 pub slice_bounds-take_frame-count : goal.slice_bounds-take_frame-count
 slice_bounds-take_frame-count g c = search rules

@@ -12,7 +12,7 @@ invariant-loop-taken g l = record {
   size : length l.piece ≡ length l.fn.piece;
   kept : drop l.at l.piece ≡ drop l.at l.fn.piece;
   room : l.scan.room + l.at ≡ l.fn.scan.room;
-  run : IsListedRun l.fn.scan l.scan l.fn.output l.output l.fn.piece l.at;
+  run : IsListedRun l.fn.format l.fn.scan l.scan l.fn.output l.output l.fn.piece l.at;
   none : l.at ≡ 0 → l.scan ≡ l.fn.scan;
 }
 

@@ -1,4 +1,4 @@
-use Rattle.std.proofs.Common.{◌≡◌, ℕ, List, Result, Err, sym, ap, ◌∙◌, subst, rules}
+use Rattle.std.proofs.Common.{◌≡◌, Result, Err, sym, ap, ◌∙◌, subst}
 use Rattle.std.proofs.lemmas.Result.{err_from_is_err_and}
 use Rattle.wsn_rules.specs.declared.report.Report.{Report}
 use Rattle.wsn_show.specs.declared.showing.ShowStop.{ShowStop}
@@ -8,25 +8,25 @@ use Rattle.wsn_show.proofs.EndedTexts.{no_more_lines, all_printed, with_last, la
 use Rattle.wsn_show.proofs.showing.end.Goals as goal
 
 pub returns-then-is_empty : goal.returns-then-is_empty
-returns-then-is_empty g c limits n first came has =
+returns-then-is_empty g c limits style first came has =
     let none = empty_text c.args.last.now (sym c.is_empty.ensures ∙ c.if-is_empty.true) in
-    c.put_end_of_capture.ensures limits n first came has.passed.lines
-    (no_more_lines limits n first c.args.view.now c.args.last.now c.args.output.now came has none)
-    (all_printed limits n first c.args.view.now c.args.last.now c.args.output.now came has)
+    c.put_end_of_capture.ensures limits style first came has.passed.lines
+    (no_more_lines limits style first c.args.view.now c.args.last.now c.args.output.now came has none)
+    (all_printed limits style first c.args.view.now c.args.last.now c.args.output.now came has)
 
 pub returns-in_err-show_line : goal.returns-in_err-show_line
-returns-in_err-show_line g c limits n first came has =
+returns-in_err-show_line g c limits style first came has =
     let out = err_from_is_err_and c.from_residual.result c.from_residual.ensures.1 in
     let is : c.from_residual.result ≡ Err c.in_err-show_line.field-0.0 = out.1 ∙ ap Err out.2 in
     let some = some_text c.args.last.now (sym c.is_empty.ensures ∙ c.if-is_empty.false) in
-    subst (λ (r : Result Report ShowStop). EndsShowing limits n first c.show_line.new.output came r) (sym is)
-    (last_stops limits n first c.args.view.now c.args.last.now c.args.output.now came has some c.show_line.new.view c.show_line.new.output c.in_err-show_line.field-0.0
-    (c.in_err-show_line.ensures.stop limits n has.passed.lines has.entries has.has_shown))
+    subst (λ (r : Result Report ShowStop). EndsShowing limits style first c.show_line.new.output came r) (sym is)
+    (last_stops limits style first c.args.view.now c.args.last.now c.args.output.now came has some c.show_line.new.view c.show_line.new.output c.in_err-show_line.field-0.0
+    (c.in_err-show_line.ensures.stop limits style has.passed.lines has.entries has.has_shown))
 
 pub returns : goal.returns
-returns g c limits n first came has =
+returns g c limits style first came has =
     let some = some_text c.args.last.now (sym c.is_empty.ensures ∙ c.if-is_empty.false) in
-    c.put_end_of_capture-2.ensures limits n first came _
-    (with_last limits n first c.args.view.now c.args.last.now c.args.output.now came has some c.show_line.new.view c.show_line.new.output)
-    (last_printed limits n first c.args.view.now c.args.last.now c.args.output.now came has some c.show_line.new.view c.show_line.new.output
-    (c.in_ok-show_line.ensures.shown limits n has.passed.lines has.entries has.has_shown) c.in_ok-show_line.ensures.writable)
+    c.put_end_of_capture-2.ensures limits style first came _
+    (with_last limits style first c.args.view.now c.args.last.now c.args.output.now came has some c.show_line.new.view c.show_line.new.output)
+    (last_printed limits style first c.args.view.now c.args.last.now c.args.output.now came has some c.show_line.new.view c.show_line.new.output
+    (c.in_ok-show_line.ensures.shown limits style has.passed.lines has.entries has.has_shown) c.in_ok-show_line.ensures.writable)

@@ -1,4 +1,4 @@
-use Rattle.std.proofs.Common.{◌≡◌, ◌≤◌, ◌++◌, ℕ, List, Result, Err, length, take, refl, sym, ap, ◌∙◌, subst, rules, arith, length-take-le}
+use Rattle.std.proofs.Common.{◌≡◌, ◌≤◌, ℕ, List, Result, Err, length, take, refl, sym, ap, ◌∙◌, subst, rules, arith, length-take-le}
 use Rattle.std.proofs.lemmas.Result.{err_from_is_err_and}
 use Rattle.wsn_io.specs.Transfer.{IsConsumed}
 use Rattle.wsn_io.proofs.Received.{consumed_read}
@@ -11,7 +11,7 @@ use Rattle.wsn_show.proofs.showing.show.Goals as goal
 
 pub loop-count-init : goal.loop-count-init
 loop-count-init g c = record {
-  read = begins c.args.limits c.args.view c.args.input.now c.args.output.now c.new-capture.result c.new-lines.result.begun.items c.new-lines.ensures
+  read = begins c.args.limits c.args.style c.args.input.now c.args.output.now c.new-capture.result c.new-lines.result.begun.items c.new-lines.ensures
       (c.new-capture.ensures) c.requires.writable;
   unfailed = c.requires.readable;
   writable = c.requires.writable;
@@ -29,14 +29,14 @@ read-requires g c = search rules
 pub returns-in_default : goal.returns-in_default
 returns-in_default g c =
     let inv = c.loop-count.invariant in
-    stopped c.args.limits c.args.view c.args.input.now c.loop-count.input c.read.new.self c.args.output.now c.loop-count.capture c.loop-count.lines.begun.items c.loop-count.output
+    stopped c.args.limits c.args.style c.args.input.now c.loop-count.input c.read.new.self c.args.output.now c.loop-count.capture c.loop-count.lines.begun.items c.loop-count.output
     inv.read inv.few c.in_default.ensures.none.1 c.in_default.ensures.none.0
 
 pub end-requires-clause-printing : goal.end-requires-clause-printing
 end-requires-clause-printing g c =
     let read = c.loop-count.invariant.read in
     subst (λ (bs : List ℕ). IsPrinting c.loop-count.capture bs c.loop-count.output) (sym c.line.ensures)
-    (record { limits = c.args.limits; most = c.args.view; first = c.args.output.now; came = read.came; has_printed = read.printed })
+    (record { limits = c.args.limits; style = c.args.style; first = c.args.output.now; came = read.came; has_printed = read.printed })
 
 pub end-requires-clause-few : goal.end-requires-clause-few
 end-requires-clause-few g c = c.loop-count.invariant.few
@@ -49,10 +49,10 @@ returns-then-count-eq0 g c =
     let inv = c.loop-count.invariant in
     let came = consumed_read c.loop-count.input c.read.new.self c.read.new.into c.in-Some.count c.in-Some.ensures.within c.in-Some.ensures.bytes c.in-Some.ensures.counted in
     let nothing = subst (λ (n : ℕ). IsConsumed c.loop-count.input c.read.new.self (take n c.read.new.into)) c.if-count-eq0.true came in
-    let printed = subst (λ (bs : List ℕ). HasPrinted c.args.limits c.args.view c.args.output.now c.loop-count.capture bs c.loop-count.output inv.read.came) (sym c.line.ensures) inv.read.printed in
-    ended c.args.limits c.args.view c.args.input.now c.loop-count.input c.read.new.self c.args.output.now c.loop-count.capture c.loop-count.lines.begun.items c.loop-count.output
+    let printed = subst (λ (bs : List ℕ). HasPrinted c.args.limits c.args.style c.args.output.now c.loop-count.capture bs c.loop-count.output inv.read.came) (sym c.line.ensures) inv.read.printed in
+    ended c.args.limits c.args.style c.args.input.now c.loop-count.input c.read.new.self c.args.output.now c.loop-count.capture c.loop-count.lines.begun.items c.loop-count.output
     inv.read inv.few c.end.result c.end.new.output nothing (c.in-Some.ensures.end c.if-count-eq0.true) (c.in-Some.ensures.some ∙ inv.unfailed)
-    (c.end.ensures c.args.limits c.args.view c.args.output.now inv.read.came printed)
+    (c.end.ensures c.args.limits c.args.style c.args.output.now inv.read.came printed)
 
 pub slice_bounds-piece-end : goal.slice_bounds-piece-end
 slice_bounds-piece-end g c = search rules
@@ -63,7 +63,7 @@ slice_bounds-show_piece-end g c = search rules
 pub show_piece-requires-clause-printing : goal.show_piece-requires-clause-printing
 show_piece-requires-clause-printing g c =
     let read = c.loop-count.invariant.read in
-    record { limits = c.args.limits; most = c.args.view; first = c.args.output.now; came = read.came; has_printed = read.printed }
+    record { limits = c.args.limits; style = c.args.style; first = c.args.output.now; came = read.came; has_printed = read.printed }
 
 pub show_piece-requires-clause-few : goal.show_piece-requires-clause-few
 show_piece-requires-clause-few g c = c.loop-count.invariant.few
@@ -81,10 +81,10 @@ pub loop-count-preserved : goal.loop-count-preserved
 loop-count-preserved g c =
     let inv = c.loop-count.invariant in
     record {
-      read = goes_on c.args.limits c.args.view c.args.input.now c.loop-count.input c.read.new.self c.args.output.now c.loop-count.capture c.loop-count.lines.begun.items c.loop-count.output
+      read = goes_on c.args.limits c.args.style c.args.input.now c.loop-count.input c.read.new.self c.args.output.now c.loop-count.capture c.loop-count.lines.begun.items c.loop-count.output
           inv.read inv.few (take c.in-Some.count c.read.new.into) c.show_piece.new.view c.show_piece.new.lines.begun.items c.show_piece.new.output
           (consumed_read c.loop-count.input c.read.new.self c.read.new.into c.in-Some.count c.in-Some.ensures.within c.in-Some.ensures.bytes c.in-Some.ensures.counted)
-          (c.in_ok-show_piece.ensures.printed c.args.limits c.args.view c.args.output.now inv.read.came inv.read.printed);
+          (c.in_ok-show_piece.ensures.printed c.args.limits c.args.style c.args.output.now inv.read.came inv.read.printed);
       unfailed = c.in-Some.ensures.some ∙ inv.unfailed;
       writable = c.in_ok-show_piece.ensures.writable;
       few = c.in_ok-show_piece.ensures.few;
@@ -98,8 +98,8 @@ returns-in_err-show_piece g c =
     let out = err_from_is_err_and c.from_residual.result c.from_residual.ensures.1 in
     let is : c.from_residual.result ≡ Err c.in_err-show_piece.field-0.0 = out.1 ∙ ap Err out.2 in
     let size : length (take c.in-Some.count c.read.new.into) ≤ 4096 = omega (arith, length-take-le c.in-Some.count c.read.new.into c.in-Some.ensures.within, c.in-Some.ensures.within, c.read.auto.into) in
-    subst (λ (r : Result Report ShowStop). IsShown c.args.limits c.args.view c.args.input.now c.read.new.self c.args.output.now c.show_piece.new.output r) (sym is)
-    (stops_here c.args.limits c.args.view c.args.input.now c.loop-count.input c.read.new.self c.args.output.now c.loop-count.capture c.loop-count.lines.begun.items c.loop-count.output
+    subst (λ (r : Result Report ShowStop). IsShown c.args.limits c.args.style c.args.input.now c.read.new.self c.args.output.now c.show_piece.new.output r) (sym is)
+    (stops_here c.args.limits c.args.style c.args.input.now c.loop-count.input c.read.new.self c.args.output.now c.loop-count.capture c.loop-count.lines.begun.items c.loop-count.output
     inv.read inv.few (take c.in-Some.count c.read.new.into) c.in_err-show_piece.field-0.0 c.show_piece.new.output
     (consumed_read c.loop-count.input c.read.new.self c.read.new.into c.in-Some.count c.in-Some.ensures.within c.in-Some.ensures.bytes c.in-Some.ensures.counted) size (c.in-Some.ensures.some ∙ inv.unfailed)
-    (c.in_err-show_piece.ensures.stop c.args.limits c.args.view c.args.output.now inv.read.came inv.read.printed))
+    (c.in_err-show_piece.ensures.stop c.args.limits c.args.style c.args.output.now inv.read.came inv.read.printed))

@@ -7,7 +7,7 @@ use Rattle.wsn_show.proofs.showing.show.Given as goal
 -- all bytes that came are shown, and no read and no write has failed
 abbrev pub invariant-loop-count : goal.invariant-loop-count
 invariant-loop-count g l = record {
-  read : HasReadOn l.fn.limits l.fn.view l.fn.input l.input l.fn.output l.capture l.lines.begun.items l.output;
+  read : HasReadOn l.fn.limits l.fn.style l.fn.input l.input l.fn.output l.capture l.lines.begun.items l.output;
   unfailed : l.input.failed ≡ false;
   writable : l.output.failed ≡ false;
   few : count_of l.capture.capture ≤ 1000000;

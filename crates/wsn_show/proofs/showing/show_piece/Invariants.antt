@@ -2,6 +2,7 @@ use Rattle.std.proofs.Common.{◌≡◌, ◌≤◌, ◌<◌, ◌+◌, ◌-◌, �
 use Rattle.wsn_io.specs.Transfer.{Outgoing}
 use Rattle.wsn_rules.specs.Limits.{Limits}
 use Rattle.wsn_capture.specs.Captures.{count_of}
+use Rattle.wsn_show.specs.declared.style.Style.{Style}
 use Rattle.wsn_show.specs.PassedLines.{HasPrinted, IsPrinting, bytes_ahead}
 use Rattle.wsn_show.proofs.showing.show_piece.Given as goal
 
@@ -13,8 +14,8 @@ invariant-loop-taken g l = record {
   few : count_of l.view.capture ≤ 1000000;
   short : length l.lines.begun.items < 8196;
   writable : l.output.failed ≡ false;
-  printed : (limits : Limits) (n : ℕ) (first : Outgoing) (came : List ℕ) → HasPrinted limits n first l.fn.view l.fn.lines.begun.items l.fn.output came
-      → HasPrinted limits n first l.view l.lines.begun.items l.output (came ++ take l.taken l.piece);
+  printed : (limits : Limits) (style : Style) (first : Outgoing) (came : List ℕ) → HasPrinted limits style first l.fn.view l.fn.lines.begun.items l.fn.output came
+      → HasPrinted limits style first l.view l.lines.begun.items l.output (came ++ take l.taken l.piece);
   left : bytes_ahead l.view l.lines.begun.items + l.taken ≤ bytes_ahead l.fn.view l.fn.lines.begun.items;
 }
 

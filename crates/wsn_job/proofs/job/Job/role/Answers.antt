@@ -6,3 +6,6 @@ returns-in-Closing g c = search rules
 
 pub returns-in-Judge : goal.returns-in-Judge
 returns-in-Judge g c = search rules
+
+pub returns-in-Closing-2 : goal.returns-in-Closing-2
+returns-in-Closing-2 g c = search rules

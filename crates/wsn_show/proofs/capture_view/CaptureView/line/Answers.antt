@@ -1,4 +1,4 @@
-use Rattle.std.proofs.Common.{◌≡◌, ℕ, ◌≤◌, List, length, sym, ap, subst, ◌∙◌, arith}
+use Rattle.std.proofs.Common.{ℕ, ◌≤◌, List, length, sym, subst}
 use Rattle.wsn_show.specs.CaptureViews.{AreViewed, CanShow, ShowsText, IsAcceptedText}
 use Rattle.wsn_show.proofs.AcceptedLines.{can_show, line_short, line_accepted, line_shown}
 use Rattle.wsn_show.proofs.capture_view.CaptureView.line.Goals as goal
@@ -8,23 +8,23 @@ show-requires-clause-can_show g c =
     let some = c.requires.showing in
     let taken = c.in_ok-line.ensures.taken some.limits some.lines some.has_shown.accepted in
     subst (CanShow (record c.args.self.now { capture = c.line.new.self })) (sym c.strip_cr.ensures)
-    (can_show some.limits some.most c.args.self.now some.lines some.entries some.has_shown c.line.new.self c.args.line.now taken)
+    (can_show some.limits some.style c.args.self.now some.lines some.entries some.has_shown c.line.new.self c.args.line.now taken)
 
 pub show-requires-clause-short : goal.show-requires-clause-short
 show-requires-clause-short g c =
     let some = c.requires.showing in
     let taken = c.in_ok-line.ensures.taken some.limits some.lines some.has_shown.accepted in
     subst (λ (bs : List ℕ). length bs ≤ 8194) (sym c.strip_cr.ensures)
-    (line_short some.limits some.most c.args.self.now some.lines some.entries some.has_shown c.line.new.self c.args.line.now taken)
+    (line_short some.limits some.style c.args.self.now some.lines some.entries some.has_shown c.line.new.self c.args.line.now taken)
 
 pub returns-clause-shown : goal.returns-clause-shown
-returns-clause-shown g c limits n lines entries has =
+returns-clause-shown g c limits style lines entries has =
     let old = record c.args.self.now { capture = c.line.new.self } in
     let taken = c.in_ok-line.ensures.taken limits lines has.accepted in
-    let accepted = line_accepted limits n c.args.self.now lines entries has c.line.new.self c.args.line.now taken in
+    let accepted = line_accepted limits style c.args.self.now lines entries has c.line.new.self c.args.line.now taken in
     let here = subst (λ (bs : List ℕ). IsAcceptedText limits entries bs accepted.0) (sym c.strip_cr.ensures) accepted.1 in
-    let viewed : AreViewed limits n old entries = record { client = has.viewed.client; server = has.viewed.server } in
-    let shows = subst (λ (bs : List ℕ). ShowsText limits n old c.show.new.self entries bs accepted.0 c.args.output.now c.show.new.output) c.strip_cr.ensures
-    (c.show.ensures.shows limits n entries accepted.0 viewed here) in
-    line_shown limits n c.args.self.now lines entries has c.line.new.self c.args.line.now taken c.show.new.self c.args.output.now c.show.new.output accepted.0
+    let viewed : AreViewed limits style old entries = record { client = has.viewed.client; server = has.viewed.server } in
+    let shows = subst (λ (bs : List ℕ). ShowsText limits style old c.show.new.self entries bs accepted.0 c.args.output.now c.show.new.output) c.strip_cr.ensures
+    (c.show.ensures.shows limits style entries accepted.0 viewed here) in
+    line_shown limits style c.args.self.now lines entries has c.line.new.self c.args.line.now taken c.show.new.self c.args.output.now c.show.new.output accepted.0
     c.show.ensures.capture shows accepted.1

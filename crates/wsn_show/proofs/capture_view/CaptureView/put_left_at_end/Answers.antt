@@ -1,16 +1,15 @@
-use Rattle.std.proofs.Common.{◌≡◌, ℕ, ◌++◌, [], List, true, false, Bool, inl, inr, refl, sym, ap, ◌∙◌, subst, append-nil}
+use Rattle.std.proofs.Common.{◌≡◌, [], true, false, inl, inr, refl, sym, ◌∙◌, subst, append-nil}
 use Rattle.wsn_wire.specs.declared.endpoint.Role.{Role}
 use Rattle.wsn_io.specs.Transfer.{IsWrittenUpToFailure}
 use Rattle.wsn_rules.specs.Sides.{has_ended, sent}
 use Rattle.wsn_show.specs.StreamViews.{HasViewed}
-use Rattle.wsn_show.specs.CaptureViews.{LeavesAtEnd}
 use Rattle.wsn_show.proofs.AcceptedLines.{ended_is}
 use Rattle.wsn_show.proofs.capture_view.CaptureView.put_left_at_end.Goals as goal
 
 pub returns-then-has_ended : goal.returns-then-has_ended
-returns-then-has_ended g c limits n lines entries has =
+returns-then-has_ended g c limits style lines entries has =
     let over : has_ended c.args.role entries ≡ true =
-    sym (ended_is limits n c.args.self.now lines entries has c.args.role c.has_ended.result (c.has_ended.ensures limits lines has.accepted)) ∙ c.if-has_ended.true in
+    sym (ended_is limits style c.args.self.now lines entries has c.args.role c.has_ended.result (c.has_ended.ensures limits lines has.accepted)) ∙ c.if-has_ended.true in
     record {
       left = [];
       is_left = inl (over, refl);
@@ -18,17 +17,17 @@ returns-then-has_ended g c limits n lines entries has =
     }
 
 pub returns-in-Client : goal.returns-in-Client
-returns-in-Client g c limits n lines entries has =
+returns-in-Client g c limits style lines entries has =
     let going : has_ended c.args.role entries ≡ false =
-    sym (ended_is limits n c.args.self.now lines entries has c.args.role c.has_ended.result (c.has_ended.ensures limits lines has.accepted)) ∙ c.if-has_ended.false in
-    let viewed = subst (λ (r : Role). HasViewed r limits n c.args.self.now.client (sent r entries)) (sym c.in-Client.is) has.viewed.client in
-    let left = c.put_left_over.ensures c.args.role limits n (sent c.args.role entries) viewed in
+    sym (ended_is limits style c.args.self.now lines entries has c.args.role c.has_ended.result (c.has_ended.ensures limits lines has.accepted)) ∙ c.if-has_ended.false in
+    let viewed = subst (λ (r : Role). HasViewed r limits style c.args.self.now.client (sent r entries)) (sym c.in-Client.is) has.viewed.client in
+    let left = c.put_left_over.ensures c.args.role limits style (sent c.args.role entries) viewed in
     record { left = left.0; is_left = inr (going, left.1); printed = left.2 }
 
 pub returns-in-Server : goal.returns-in-Server
-returns-in-Server g c limits n lines entries has =
+returns-in-Server g c limits style lines entries has =
     let going : has_ended c.args.role entries ≡ false =
-    sym (ended_is limits n c.args.self.now lines entries has c.args.role c.has_ended.result (c.has_ended.ensures limits lines has.accepted)) ∙ c.if-has_ended.false in
-    let viewed = subst (λ (r : Role). HasViewed r limits n c.args.self.now.server (sent r entries)) (sym c.in-Server.is) has.viewed.server in
-    let left = c.put_left_over-in-Server.ensures c.args.role limits n (sent c.args.role entries) viewed in
+    sym (ended_is limits style c.args.self.now lines entries has c.args.role c.has_ended.result (c.has_ended.ensures limits lines has.accepted)) ∙ c.if-has_ended.false in
+    let viewed = subst (λ (r : Role). HasViewed r limits style c.args.self.now.server (sent r entries)) (sym c.in-Server.is) has.viewed.server in
+    let left = c.put_left_over-in-Server.ensures c.args.role limits style (sent c.args.role entries) viewed in
     record { left = left.0; is_left = inr (going, left.1); printed = left.2 }

@@ -1,6 +1,4 @@
-use Rattle.std.proofs.Common.{◌≡◌, ℕ, List, sym, subst}
-use Rattle.std.specs.Prelude.{◌++◌}
-use Rattle.wsn_rules.specs.Entries.{bytes_prefix, end_mark}
+use Rattle.std.proofs.Common.{ℕ, List, sym, subst}
 use Rattle.wsn_capture.specs.declared.line_form.LineForm.{LineForm}
 use Rattle.wsn_capture.specs.declared.line_fault.LineFault.TheVariants.{BadForm}
 use Rattle.wsn_capture.specs.LineForms.{IsForm}
@@ -21,4 +19,4 @@ returns-in-Some-Mark-clause-shows g c =
     subst (λ (bs : List ℕ). Shows c.args.self.now c.show_mark.new.self bs c.args.output.now c.show_mark.new.output) (sym form) c.show_mark.ensures.shows
 
 pub returns-in-None-clause-shows : goal.returns-in-None-clause-shows
-returns-in-None-clause-shows g c limits n given entry viewed accepted = absurd (accepted.none BadForm c.in-None.ensures)
+returns-in-None-clause-shows g c limits style given entry viewed accepted = absurd (accepted.none BadForm c.in-None.ensures)

@@ -1,11 +1,10 @@
-use Rattle.std.proofs.Common.{◌≡◌, ℕ, ◌≤◌, ◌++◌, List, Option, length, take, refl, sym, subst}
+use Rattle.std.proofs.Common.{ℕ, ◌++◌, List, Option, take, refl, sym, subst}
 use Rattle.wsn_wire.specs.declared.endpoint.Role.{Role}
 use Rattle.wsn_wire.specs.declared.endpoint.Role.TheVariants.{Client, Server}
-use Rattle.wsn_rules.specs.Entries.{Entry, bytes_prefix}
+use Rattle.wsn_rules.specs.Entries.{bytes_prefix}
 use Rattle.wsn_capture.specs.declared.line_fault.LineFault.TheVariants.{BadHex}
 use Rattle.wsn_rules.specs.Sides.{sent}
-use Rattle.wsn_show.specs.StreamViews.{HasViewed}
-use Rattle.wsn_show.specs.CaptureViews.{AreViewed, IsAcceptedText, CanShow, ShowsText}
+use Rattle.wsn_show.specs.CaptureViews.{IsAcceptedText, CanShow, ShowsText}
 use Rattle.wsn_show.proofs.ShownEntries.{Takes, shows_client, shows_server, room_for_client, room_for_server}
 use Rattle.wsn_show.proofs.capture_view.CaptureView.show_bytes.Goals as goal
 
@@ -20,37 +19,37 @@ take-requires-in-Server-clause-fits g c =
     room_for_server c.args.self.now c.args.digits.now (take c.in-Ok.count c.decode.new.bytes) can c.in-Ok.ensures.1
 
 pub returns-in-Client-clause-shows : goal.returns-in-Client-clause-shows
-returns-in-Client-clause-shows g c limits n given entry viewed accepted =
+returns-in-Client-clause-shows g c limits style given entry viewed accepted =
     let old = c.args.self.now in
     let is = c.in-Client.is in
     let bytes = take c.in-Ok.count c.decode.new.bytes in
     let here = subst (λ (r : Role). IsAcceptedText limits given (bytes_prefix r ++ c.args.digits.now) entry) is accepted in
-    let takes = subst (λ (t : Option (List ℕ)). Takes Client limits n c.take.new.self (sent Client given) bytes t c.args.output.now c.take.new.output) c.text-time.ensures
-    (let printed = c.take.ensures.printed Client limits n (sent Client given) viewed.client in record {
-      viewed = c.take.ensures.viewed Client limits n (sent Client given) viewed.client;
+    let takes = subst (λ (t : Option (List ℕ)). Takes Client limits style c.take.new.self (sent Client given) bytes t c.args.output.now c.take.new.output) c.text-time.ensures
+    (let printed = c.take.ensures.printed Client limits style (sent Client given) viewed.client in record {
+      viewed = c.take.ensures.viewed Client limits style (sent Client given) viewed.client;
       shown = printed.0;
       is_shown = printed.1;
       printed = printed.2;
     }) in
-    subst (λ (r : Role). ShowsText limits n old (record old { client = c.take.new.self }) given (bytes_prefix r ++ c.args.digits.now) entry c.args.output.now c.take.new.output) (sym is)
-    (shows_client limits n given old viewed entry c.args.output.now c.take.new.output c.take.new.self c.args.digits.now bytes here c.in-Ok.ensures.1 takes)
+    subst (λ (r : Role). ShowsText limits style old (record old { client = c.take.new.self }) given (bytes_prefix r ++ c.args.digits.now) entry c.args.output.now c.take.new.output) (sym is)
+    (shows_client limits style given old viewed entry c.args.output.now c.take.new.output c.take.new.self c.args.digits.now bytes here c.in-Ok.ensures.1 takes)
 
 pub returns-in-Server-clause-shows : goal.returns-in-Server-clause-shows
-returns-in-Server-clause-shows g c limits n given entry viewed accepted =
+returns-in-Server-clause-shows g c limits style given entry viewed accepted =
     let old = c.args.self.now in
     let is = c.in-Server.is in
     let bytes = take c.in-Ok.count c.decode.new.bytes in
     let here = subst (λ (r : Role). IsAcceptedText limits given (bytes_prefix r ++ c.args.digits.now) entry) is accepted in
-    let takes = subst (λ (t : Option (List ℕ)). Takes Server limits n c.take-in-Server.new.self (sent Server given) bytes t c.args.output.now c.take-in-Server.new.output) c.text-time.ensures
-    (let printed = c.take-in-Server.ensures.printed Server limits n (sent Server given) viewed.server in record {
-      viewed = c.take-in-Server.ensures.viewed Server limits n (sent Server given) viewed.server;
+    let takes = subst (λ (t : Option (List ℕ)). Takes Server limits style c.take-in-Server.new.self (sent Server given) bytes t c.args.output.now c.take-in-Server.new.output) c.text-time.ensures
+    (let printed = c.take-in-Server.ensures.printed Server limits style (sent Server given) viewed.server in record {
+      viewed = c.take-in-Server.ensures.viewed Server limits style (sent Server given) viewed.server;
       shown = printed.0;
       is_shown = printed.1;
       printed = printed.2;
     }) in
-    subst (λ (r : Role). ShowsText limits n old (record old { server = c.take-in-Server.new.self }) given (bytes_prefix r ++ c.args.digits.now) entry c.args.output.now c.take-in-Server.new.output) (sym is)
-    (shows_server limits n given old viewed entry c.args.output.now c.take-in-Server.new.output c.take-in-Server.new.self c.args.digits.now bytes here c.in-Ok.ensures.1 takes)
+    subst (λ (r : Role). ShowsText limits style old (record old { server = c.take-in-Server.new.self }) given (bytes_prefix r ++ c.args.digits.now) entry c.args.output.now c.take-in-Server.new.output) (sym is)
+    (shows_server limits style given old viewed entry c.args.output.now c.take-in-Server.new.output c.take-in-Server.new.self c.args.digits.now bytes here c.in-Ok.ensures.1 takes)
 
 pub returns-in-Err-clause-shows : goal.returns-in-Err-clause-shows
-returns-in-Err-clause-shows g c limits n given entry viewed accepted =
+returns-in-Err-clause-shows g c limits style given entry viewed accepted =
     absurd (accepted.none BadHex (c.args.role, c.args.digits.now, refl, c.in-Err.ensures.1))

@@ -13,7 +13,7 @@ invariant-loop-at g l = record {
   size : length l.piece ≡ length l.fn.piece;
   kept : drop l.at l.piece ≡ drop l.at l.fn.piece;
   room : room_of l.self.scan + l.at ≡ room_of l.fn.self.scan;
-  shows : (role : Role) (limits : Limits) (came : List ℕ) (shown : List Shown) → HasShownFrames role limits l.fn.self.scan l.fn.self.parts came shown →
+  shows : (role : Role) (limits : Limits) (came : List ℕ) (shown : List Shown) → HasShownFrames l.fn.context.style.detail role limits l.fn.self.scan l.fn.self.parts came shown →
       ShowsFrames role limits l.self.scan l.self.parts l.fn.context l.fn.output l.output (came ++ take l.at l.fn.piece) shown;
 }
 

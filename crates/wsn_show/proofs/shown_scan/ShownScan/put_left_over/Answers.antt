@@ -12,10 +12,10 @@ use Rattle.wsn_show.proofs.StreamsShown.{leaves_unread, leaves_cut, leaves_accep
 use Rattle.wsn_show.proofs.shown_scan.ShownScan.put_left_over.Goals as goal
 
 pub returns-in-Refused : goal.returns-in-Refused
-returns-in-Refused g c role limits came shown has =
+returns-in-Refused g c detail role limits came shown has =
     let refusal = c.in-Refused.refusal in
     let is : refusal_in c.args.self.now.scan ≡ Some refusal = sym c.finish.ensures.reported ∙ ap refusal_judged c.in-Refused.is in
-    let l = leaves_unread role limits c.args.self.now.scan c.args.self.now.parts came shown refusal is has in
+    let l = leaves_unread detail role limits c.args.self.now.scan c.args.self.now.parts came shown refusal is has in
     let small = l.small in
     let offset : c.saturating_add-offset.result ≡ refusal.place + 1 = let sum = c.saturating_add-offset.ensures in omega (arith, sum, small) in (
       items_of_bytes Unread (refusal.place + 1) l.unread,
@@ -24,30 +24,30 @@ returns-in-Refused g c role limits came shown has =
     )
 
 pub returns-in-Some : goal.returns-in-Some
-returns-in-Some g c role limits came shown has =
+returns-in-Some g c detail role limits came shown has =
     let none : refusal_in c.args.self.now.scan ≡ None = sym c.finish.ensures.reported ∙ ap refusal_judged c.in-Accepted.is in
-    let all = unrefused_all role limits c.args.self.now.scan c.args.self.now.parts came shown none has in
+    let all = unrefused_all detail role limits c.args.self.now.scan c.args.self.now.parts came shown none has in
     let h = all.0.followed in
     let judged = subst (λ (v : Verdict). IsVerdict role limits came h.frames v) c.in-Accepted.is (c.finish.ensures.verdict role limits came h.since h.frames h.reported h.has_scanned) in (
       items_of_bytes Tail (length (stream all.0.done)) all.0.rest,
-      leaves_tail role limits c.args.self.now.scan c.args.self.now.parts came shown all.0 all.1 c.in-Accepted.summary c.in-Some.field-0 c.in-Some.is judged,
+      leaves_tail detail role limits c.args.self.now.scan c.args.self.now.parts came shown all.0 all.1 c.in-Accepted.summary c.in-Some.field-0 c.in-Some.is judged,
       subst (λ (m : ℕ). Prints c.args.context.now c.args.output.now c.put_remainder-in-Some.new.output (items_of_bytes Tail m all.0.rest)) all.0.keeps.frame.offset (c.put_remainder-in-Some.ensures all.0.rest all.0.keeps.frame.first),
     )
 
 pub returns-in-None : goal.returns-in-None
-returns-in-None g c role limits came shown has =
+returns-in-None g c detail role limits came shown has =
     let none : refusal_in c.args.self.now.scan ≡ None = sym c.finish.ensures.reported ∙ ap refusal_judged c.in-Accepted.is in
-    let all = unrefused_all role limits c.args.self.now.scan c.args.self.now.parts came shown none has in
+    let all = unrefused_all detail role limits c.args.self.now.scan c.args.self.now.parts came shown none has in
     let h = all.0.followed in
     let judged = subst (λ (v : Verdict). IsVerdict role limits came h.frames v) c.in-Accepted.is (c.finish.ensures.verdict role limits came h.since h.frames h.reported h.has_scanned) in
-    let l = leaves_accepted role limits c.args.self.now.scan c.args.self.now.parts came shown all.0 all.1 c.in-Accepted.summary c.in-None.is judged in
+    let l = leaves_accepted detail role limits c.args.self.now.scan c.args.self.now.parts came shown all.0 all.1 c.in-Accepted.summary c.in-None.is judged in
     (items_left all.0.done all.0.at all.0.rest, l.left_over, c.put_left.ensures role limits all.0.done all.0.at all.0.rest l.lawful l.few_frames l.sound all.0.keeps)
 
 pub returns-in-Cut : goal.returns-in-Cut
-returns-in-Cut g c role limits came shown has =
+returns-in-Cut g c detail role limits came shown has =
     let none : refusal_in c.args.self.now.scan ≡ None = sym c.finish.ensures.reported ∙ ap refusal_judged c.in-Cut.is in
-    let all = unrefused_all role limits c.args.self.now.scan c.args.self.now.parts came shown none has in
+    let all = unrefused_all detail role limits c.args.self.now.scan c.args.self.now.parts came shown none has in
     let h = all.0.followed in
     let judged = subst (λ (v : Verdict). IsVerdict role limits came h.frames v) c.in-Cut.is (c.finish.ensures.verdict role limits came h.since h.frames h.reported h.has_scanned) in
-    let l = leaves_cut role limits c.args.self.now.scan c.args.self.now.parts came shown all.0 all.1 c.in-Cut.field-0 judged in
+    let l = leaves_cut detail role limits c.args.self.now.scan c.args.self.now.parts came shown all.0 all.1 c.in-Cut.field-0 judged in
     (items_left all.0.done all.0.at all.0.rest, l.left_over, c.put_left-in-Cut.ensures role limits all.0.done all.0.at all.0.rest l.lawful l.few_frames l.sound all.0.keeps)

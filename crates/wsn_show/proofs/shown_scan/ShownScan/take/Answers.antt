@@ -14,4 +14,4 @@ returns-in-None g c role limits came shown small has =
     let left = rest_is read there ∙ c.feed-read.ensures.kept in
     shows_rest role limits c.feed-read.new.self.scan c.feed-read.new.self.parts c.add-in-None.new.self c.args.context.now c.args.output.now c.feed-read.new.output came c.args.piece.now (take (length there - read) (drop read there)) read shown
     c.add-in-None.ensures left c.feed-read.ensures.all c.feed-read.ensures.within small
-    (c.feed-read.ensures.shows role limits came shown (frames_of role limits c.args.self.now.scan c.args.self.now.parts came shown (sym c.refusal.ensures ∙ c.in-None.is) has))
+    (c.feed-read.ensures.shows role limits came shown (frames_of c.args.context.now.style.detail role limits c.args.self.now.scan c.args.self.now.parts came shown (sym c.refusal.ensures ∙ c.in-None.is) has))

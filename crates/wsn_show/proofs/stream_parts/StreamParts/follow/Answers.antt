@@ -20,11 +20,11 @@ returns-in-Head g c role limits old new piece after came shown call bytes payloa
     let one = c.add_bytes.new.self in
     let same : c.as_slice.result.now ≡ take n piece = c.as_slice.ensures.value ∙ bytes in
     let small : length frames.rest + length c.as_slice.result.now < 2 ^ 64 =
-    let most = few_more role limits old new piece after n came shown c.args.self.now one frames c.args.context.now c.args.consumed.now.notice call in omega (arith, most, ap (λ (bs : List ℕ). length bs) c.as_slice.ensures.value) in
+    let most = few_more role limits old new piece after n came shown c.args.self.now one c.args.context.now frames c.args.consumed.now.notice call in omega (arith, most, ap (λ (bs : List ℕ). length bs) c.as_slice.ensures.value) in
     let in_all = subst (λ (bs : List ℕ). Keeps one frames.done frames.at (frames.rest ++ bs)) same (c.add_bytes.ensures frames.done frames.at frames.rest small frames.keeps) in
-    subst (λ (bs : List ℕ). ShowsMore role limits new c.begin.new.self c.args.context.now c.args.output.now c.args.output.now (length piece) (came ++ bs) shown) (sym bytes)
-    (head_step role limits old new piece after n came shown c.args.self.now one frames c.args.context.now c.args.output.now in_all c.in-Head.head c.begin.new.self
-    (subst (IsCall old new piece after n) c.in-Head.is call) (c.begin.ensures frames.done (frames.rest ++ take n piece)))
+    subst (λ (bs : List ℕ). ShowsMore role limits new c.begin.new.self c.args.context.now c.args.output.now c.put_begun.new.output (length piece) (came ++ bs) shown) (sym bytes)
+    (head_step role limits old new piece after n came shown c.args.self.now one c.args.context.now frames c.args.output.now in_all c.in-Head.head c.put_begun.new.output c.begin.new.self
+    (subst (IsCall old new piece after n) c.in-Head.is call) (c.begin.ensures frames.done (frames.rest ++ take n piece)) c.put_begun.ensures)
 
 pub returns-in-Payload : goal.returns-in-Payload
 returns-in-Payload g c role limits old new piece after came shown call bytes payload frames =
@@ -33,10 +33,10 @@ returns-in-Payload g c role limits old new piece after came shown call bytes pay
     let one = c.add_bytes.new.self in
     let same : c.as_slice.result.now ≡ take n piece = c.as_slice.ensures.value ∙ bytes in
     let small : length frames.rest + length c.as_slice.result.now < 2 ^ 64 =
-    let most = few_more role limits old new piece after n came shown c.args.self.now one frames c.args.context.now c.args.consumed.now.notice call in omega (arith, most, ap (λ (bs : List ℕ). length bs) c.as_slice.ensures.value) in
+    let most = few_more role limits old new piece after n came shown c.args.self.now one c.args.context.now frames c.args.consumed.now.notice call in omega (arith, most, ap (λ (bs : List ℕ). length bs) c.as_slice.ensures.value) in
     let in_all = subst (λ (bs : List ℕ). Keeps one frames.done frames.at (frames.rest ++ bs)) same (c.add_bytes.ensures frames.done frames.at frames.rest small frames.keeps) in
     subst (λ (bs : List ℕ). ShowsMore role limits new c.add_payload.new.self c.args.context.now c.args.output.now c.args.output.now (length piece) (came ++ bs) shown) (sym bytes)
-    (payload_step role limits old new piece after n came shown c.args.self.now one frames c.args.context.now c.args.output.now in_all c.args.payload.now c.add_payload.new.self
+    (payload_step role limits old new piece after n came shown c.args.self.now one c.args.context.now frames c.args.output.now in_all c.args.payload.now c.add_payload.new.self
     (subst (IsCall old new piece after n) c.in-Payload.is call) payload (λ info part few. c.add_payload.ensures frames.done info part (frames.rest ++ take n piece) few))
 
 pub returns-in-Refused : goal.returns-in-Refused
@@ -46,9 +46,9 @@ returns-in-Refused g c role limits old new piece after came shown call bytes pay
     let one = c.add_bytes.new.self in
     let same : c.as_slice.result.now ≡ take n piece = c.as_slice.ensures.value ∙ bytes in
     let small : length frames.rest + length c.as_slice.result.now < 2 ^ 64 =
-    let most = few_more role limits old new piece after n came shown c.args.self.now one frames c.args.context.now c.args.consumed.now.notice call in omega (arith, most, ap (λ (bs : List ℕ). length bs) c.as_slice.ensures.value) in
+    let most = few_more role limits old new piece after n came shown c.args.self.now one c.args.context.now frames c.args.consumed.now.notice call in omega (arith, most, ap (λ (bs : List ℕ). length bs) c.as_slice.ensures.value) in
     let in_all = subst (λ (bs : List ℕ). Keeps one frames.done frames.at (frames.rest ++ bs)) same (c.add_bytes.ensures frames.done frames.at frames.rest small frames.keeps) in
-    let r = refused_step role limits old new piece after n came shown c.args.self.now one frames c.args.context.now c.args.output.now in_all c.in-Refused.refusal (subst (IsCall old new piece after n) c.in-Refused.is call) in
+    let r = refused_step role limits old new piece after n came shown c.args.self.now one c.args.context.now frames c.args.output.now in_all c.in-Refused.refusal (subst (IsCall old new piece after n) c.in-Refused.is call) in
     let count = c.len.ensures.value in
     subst (λ (bs : List ℕ). ShowsMore role limits new c.refuse.new.self c.args.context.now c.args.output.now c.refuse.new.output (length piece) (came ++ bs) shown) (sym bytes)
     (r.shows_refusal c.refuse.new.output c.refuse.new.self c.refuse.ensures.first
@@ -62,10 +62,10 @@ returns-in-More g c role limits old new piece after came shown call bytes payloa
     let one = c.add_bytes.new.self in
     let same : c.as_slice.result.now ≡ take n piece = c.as_slice.ensures.value ∙ bytes in
     let small : length frames.rest + length c.as_slice.result.now < 2 ^ 64 =
-    let most = few_more role limits old new piece after n came shown c.args.self.now one frames c.args.context.now c.args.consumed.now.notice call in omega (arith, most, ap (λ (bs : List ℕ). length bs) c.as_slice.ensures.value) in
+    let most = few_more role limits old new piece after n came shown c.args.self.now one c.args.context.now frames c.args.consumed.now.notice call in omega (arith, most, ap (λ (bs : List ℕ). length bs) c.as_slice.ensures.value) in
     let in_all = subst (λ (bs : List ℕ). Keeps one frames.done frames.at (frames.rest ++ bs)) same (c.add_bytes.ensures frames.done frames.at frames.rest small frames.keeps) in
     subst (λ (bs : List ℕ). ShowsMore role limits new one c.args.context.now c.args.output.now c.args.output.now (length piece) (came ++ bs) shown) (sym bytes)
-    (more_step role limits old new piece after n came shown c.args.self.now one frames c.args.context.now c.args.output.now in_all (subst (IsCall old new piece after n) c.in-More.is call))
+    (more_step role limits old new piece after n came shown c.args.self.now one c.args.context.now frames c.args.output.now in_all (subst (IsCall old new piece after n) c.in-More.is call))
 
 pub returns-in-Closed : goal.returns-in-Closed
 returns-in-Closed g c role limits old new piece after came shown call bytes payload frames =
@@ -74,10 +74,10 @@ returns-in-Closed g c role limits old new piece after came shown call bytes payl
     let one = c.add_bytes.new.self in
     let same : c.as_slice.result.now ≡ take n piece = c.as_slice.ensures.value ∙ bytes in
     let small : length frames.rest + length c.as_slice.result.now < 2 ^ 64 =
-    let most = few_more role limits old new piece after n came shown c.args.self.now one frames c.args.context.now c.args.consumed.now.notice call in omega (arith, most, ap (λ (bs : List ℕ). length bs) c.as_slice.ensures.value) in
+    let most = few_more role limits old new piece after n came shown c.args.self.now one c.args.context.now frames c.args.consumed.now.notice call in omega (arith, most, ap (λ (bs : List ℕ). length bs) c.as_slice.ensures.value) in
     let in_all = subst (λ (bs : List ℕ). Keeps one frames.done frames.at (frames.rest ++ bs)) same (c.add_bytes.ensures frames.done frames.at frames.rest small frames.keeps) in
     subst (λ (bs : List ℕ). ShowsMore role limits new one c.args.context.now c.args.output.now c.args.output.now (length piece) (came ++ bs) shown) (sym bytes)
-    (closed_step role limits old new piece after n came shown c.args.self.now one frames c.args.context.now c.args.output.now in_all (subst (IsCall old new piece after n) c.in-Closed.is call))
+    (closed_step role limits old new piece after n came shown c.args.self.now one c.args.context.now frames c.args.output.now in_all (subst (IsCall old new piece after n) c.in-Closed.is call))
 
 pub returns-then-event : goal.returns-then-event
 returns-then-event g c role limits old new piece after came shown call bytes payload frames =
@@ -86,14 +86,14 @@ returns-then-event g c role limits old new piece after came shown call bytes pay
     let one = c.add_bytes.new.self in
     let same : c.as_slice.result.now ≡ take n piece = c.as_slice.ensures.value ∙ bytes in
     let small : length frames.rest + length c.as_slice.result.now < 2 ^ 64 =
-    let most = few_more role limits old new piece after n came shown c.args.self.now one frames c.args.context.now c.args.consumed.now.notice call in omega (arith, most, ap (λ (bs : List ℕ). length bs) c.as_slice.ensures.value) in
+    let most = few_more role limits old new piece after n came shown c.args.self.now one c.args.context.now frames c.args.consumed.now.notice call in omega (arith, most, ap (λ (bs : List ℕ). length bs) c.as_slice.ensures.value) in
     let in_all = subst (λ (bs : List ℕ). Keeps one frames.done frames.at (frames.rest ++ bs)) same (c.add_bytes.ensures frames.done frames.at frames.rest small frames.keeps) in
-    let e = end_step role limits old new piece after n came shown c.args.self.now one frames c.args.context.now c.args.output.now in_all c.in-FrameEnd.event (subst (IsCall old new piece after n) c.in-FrameEnd.is call) in
+    let e = end_step role limits old new piece after n came shown c.args.self.now one c.args.context.now frames c.args.output.now in_all c.in-FrameEnd.event (subst (IsCall old new piece after n) c.in-FrameEnd.is call) in
     let final : e.frame.fin ≡ true = e.final ∙ c.if-event.true in
     let printed = c.put_final.ensures role limits frames.done e.frame (frames.rest ++ take n piece) e.lawful e.few_frames e.keeps in
     subst (λ (bs : List ℕ). ShowsMore role limits new c.end.new.self c.args.context.now c.args.output.now c.put_final.new.output (length piece) (came ++ bs) shown) (sym bytes)
     (e.shows_end c.put_final.new.output c.end.new.self (c.end.ensures frames.done e.frame (frames.rest ++ take n piece) final e.size e.small e.few_frames e.keeps)
-    (subst (Prints c.args.context.now c.args.output.now c.put_final.new.output) (sym (final_items role limits old new piece after n came shown c.args.self.now one frames c.args.context.now c.args.output.now in_all e.frame final)) printed))
+    (subst (Prints c.args.context.now c.args.output.now c.put_final.new.output) (sym (final_items role limits old new piece after n came shown c.args.self.now one c.args.context.now frames c.args.output.now in_all e.frame final)) printed))
 
 pub returns-else-event : goal.returns-else-event
 returns-else-event g c role limits old new piece after came shown call bytes payload frames =
@@ -102,10 +102,10 @@ returns-else-event g c role limits old new piece after came shown call bytes pay
     let one = c.add_bytes.new.self in
     let same : c.as_slice.result.now ≡ take n piece = c.as_slice.ensures.value ∙ bytes in
     let small : length frames.rest + length c.as_slice.result.now < 2 ^ 64 =
-    let most = few_more role limits old new piece after n came shown c.args.self.now one frames c.args.context.now c.args.consumed.now.notice call in omega (arith, most, ap (λ (bs : List ℕ). length bs) c.as_slice.ensures.value) in
+    let most = few_more role limits old new piece after n came shown c.args.self.now one c.args.context.now frames c.args.consumed.now.notice call in omega (arith, most, ap (λ (bs : List ℕ). length bs) c.as_slice.ensures.value) in
     let in_all = subst (λ (bs : List ℕ). Keeps one frames.done frames.at (frames.rest ++ bs)) same (c.add_bytes.ensures frames.done frames.at frames.rest small frames.keeps) in
-    let e = end_step role limits old new piece after n came shown c.args.self.now one frames c.args.context.now c.args.output.now in_all c.in-FrameEnd.event (subst (IsCall old new piece after n) c.in-FrameEnd.is call) in
+    let e = end_step role limits old new piece after n came shown c.args.self.now one c.args.context.now frames c.args.output.now in_all c.in-FrameEnd.event (subst (IsCall old new piece after n) c.in-FrameEnd.is call) in
     let more : e.frame.fin ≡ false = e.final ∙ c.if-event.false in
     subst (λ (bs : List ℕ). ShowsMore role limits new c.end-else-event.new.self c.args.context.now c.args.output.now c.args.output.now (length piece) (came ++ bs) shown) (sym bytes)
     (e.shows_end c.args.output.now c.end-else-event.new.self (c.end-else-event.ensures frames.done e.frame (frames.rest ++ take n piece) more e.size e.small e.few_frames e.keeps)
-    (subst (Prints c.args.context.now c.args.output.now c.args.output.now) (sym (no_items role limits old new piece after n came shown c.args.self.now one frames c.args.context.now c.args.output.now in_all e.frame more)) (prints_nothing c.args.context.now c.args.output.now)))
+    (subst (Prints c.args.context.now c.args.output.now c.args.output.now) (sym (no_items role limits old new piece after n came shown c.args.self.now one c.args.context.now frames c.args.output.now in_all e.frame more)) (prints_nothing c.args.context.now c.args.output.now)))

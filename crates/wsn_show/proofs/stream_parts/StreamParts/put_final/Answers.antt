@@ -1,19 +1,15 @@
-use Rattle.std.proofs.Common.{◌≡◌, length, sym, ap, ◌∙◌}
-use Rattle.wsn_wire.specs.Frame.{is_control, stream}
-use Rattle.wsn_rules.specs.Heads.{info_of}
+use Rattle.std.proofs.Common.{sym, subst}
+use Rattle.wsn_rules.specs.declared.detail.Detail.{Detail}
+use Rattle.wsn_show.specs.ShownItems.{Prints, items_of_ended}
+use Rattle.wsn_show.proofs.PrintedItems.{prints_nothing}
 use Rattle.wsn_show.proofs.stream_parts.StreamParts.put_final.Goals as goal
 
-pub returns-then-is_control : goal.returns-then-is_control
-returns-then-is_control g c role limits fs f rest lawful small kept =
-    let same : info_of (length (stream fs)) f ≡ c.in-Some.head = let both = sym kept.frame.head ∙ c.in-Some.is in cc in
-    let op : f.op ≡ c.in-Some.head.op = ap (λ (h : _). h.op) same in
-    c.put_control.ensures role limits fs f rest lawful (ap is_control op ∙ sym c.is_control.ensures ∙ c.if-is_control.true) op kept
+pub returns-in-Events : goal.returns-in-Events
+returns-in-Events g c role limits fs f rest lawful small kept =
+    subst (λ (d : Detail). Prints c.args.context.now c.args.output.now c.put_event.new.output (items_of_ended d fs f)) (sym c.in-Events.is)
+    (c.put_event.ensures role limits fs f rest lawful small kept)
 
-pub returns-else-is_control : goal.returns-else-is_control
-returns-else-is_control g c role limits fs f rest lawful small kept =
-    let same : info_of (length (stream fs)) f ≡ c.in-Some.head = let both = sym kept.frame.head ∙ c.in-Some.is in cc in
-    let op : f.op ≡ c.in-Some.head.op = ap (λ (h : _). h.op) same in
-    c.put_message.ensures role limits fs f rest lawful (ap is_control op ∙ sym c.is_control.ensures ∙ c.if-is_control.false) small kept
-
-pub returns-in_default : goal.returns-in_default
-returns-in_default g c role limits fs f rest lawful small kept = absurd (c.in_default.not-Some (info_of (length (stream fs)) f) kept.frame.head)
+pub returns-in-Frames : goal.returns-in-Frames
+returns-in-Frames g c role limits fs f rest lawful small kept =
+    subst (λ (d : Detail). Prints c.args.context.now c.args.output.now c.args.output.now (items_of_ended d fs f)) (sym c.in-Frames.is)
+    (prints_nothing c.args.context.now c.args.output.now)

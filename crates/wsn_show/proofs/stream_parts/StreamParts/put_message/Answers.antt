@@ -18,10 +18,10 @@ returns g c role limits fs f rest lawful other small kept =
     let message = c.args.self.now.message in
     let group = unfinished fs ++ f ∷ [] in
     let event = Message (kind_of group) (payload_of group) in
-    let few = context.in_range in
+    let few = context.style.in_range in
     let keeps = subst (KeepsMessage message fs) (part_of_data (info_of (length (stream fs)) f) f.payload other) kept.message in
     let joined = kept.joined other in
-    let represents = represents_joined context.view c.all_parts.result message fs f few (kind_of_data role limits fs f lawful other) keeps joined c.all_parts.ensures.op c.all_parts.ensures.bytes c.all_parts.ensures.held in
+    let represents = represents_joined context.style.view c.all_parts.result message fs f few (kind_of_data role limits fs f lawful other) keeps joined c.all_parts.ensures.op c.all_parts.ensures.bytes c.all_parts.ensures.held in
     let frames = keeps.frames in
     let count : length group ≡ c.all_parts.result.frames = let own = c.all_parts.ensures.frames (omega (arith, frames, small)) in omega (arith, own, frames, length-append (unfinished fs) (f ∷ [])) in
     let is : Event (open_offset fs) event (length group) ≡ Event message.offset event c.all_parts.result.frames =

@@ -18,7 +18,7 @@ returns-then-is_control g c role limits fs part rest lawful small sound kept =
     let head = c.args.head.now in
     let control = sym c.is_control.ensures ∙ c.if-is_control.true in
     let event = Control head.op part in
-    let represents = represents_control context.view c.control.result head.op part frame.payload control c.control.ensures.op c.control.ensures.bytes c.control.ensures.held kept.frame.payload (sound.1 control) in
+    let represents = represents_control context.style.view c.control.result head.op part frame.payload control c.control.ensures.op c.control.ensures.bytes c.control.ensures.held kept.frame.payload (sound.1 control) in
     let lacks : head.len - length part ≡ c.saturating_sub.result = ap (λ (m : ℕ). head.len - m) (sym (c.count.ensures ∙ kept.frame.payload.count)) ∙ sym c.saturating_sub.ensures in
     let is : Unfinished head.place event 1 (Some (head.len - length part)) ≡ Unfinished frame.offset event c.control.result.frames (Some c.saturating_sub.result) =
     ap (λ (m : ℕ). Unfinished m event 1 (Some (head.len - length part))) (sound.0 ∙ sym kept.frame.offset)
@@ -38,10 +38,10 @@ returns-else-is_control g c role limits fs part rest lawful small sound kept =
     let f = frame_so_far head part in
     let group = unfinished fs ++ f ∷ [] in
     let event = Message (kind_of group) (payload_of group) in
-    let few = context.in_range in
+    let few = context.style.in_range in
     let keeps = subst (KeepsMessage message fs) (part_of_data head part other) kept.message in
     let joined = kept.joined other in
-    let represents = represents_joined context.view c.all_parts.result message fs f few (sound.2 other) keeps joined c.all_parts.ensures.op c.all_parts.ensures.bytes c.all_parts.ensures.held in
+    let represents = represents_joined context.style.view c.all_parts.result message fs f few (sound.2 other) keeps joined c.all_parts.ensures.op c.all_parts.ensures.bytes c.all_parts.ensures.held in
     let frames = keeps.frames in
     let count : length group ≡ c.all_parts.result.frames = let own = c.all_parts.ensures.frames (omega (arith, frames, small)) in omega (arith, own, frames, length-append (unfinished fs) (f ∷ [])) in
     let lacks : head.len - length part ≡ c.saturating_sub.result = ap (λ (m : ℕ). head.len - m) (sym (c.count.ensures ∙ kept.frame.payload.count)) ∙ sym c.saturating_sub.ensures in

@@ -1,6 +1,6 @@
-use Rattle.std.proofs.Common.{ℕ, [], ◌∷◌, length, Some, sym, ap}
+use Rattle.std.proofs.Common.{ℕ, [], ◌∷◌, length, sym, ap}
 use Rattle.wsn_wire.specs.Frame.{stream}
-use Rattle.wsn_rules.specs.ShownStream.{open_items}
+use Rattle.wsn_rules.specs.ShownStream.{interrupted}
 use Rattle.wsn_rules.specs.ShownStream.Item.{RefusedFrame}
 use Rattle.wsn_show.proofs.HeldItems.{evidence_held}
 use Rattle.wsn_show.proofs.PrintedItems.{prints_both}
@@ -13,9 +13,9 @@ returns g c role limits fs at rest evidence lawful small is kept =
     let frame = c.args.self.now.frame in
     let result = c.evidence-evidence.result in
     let refusal = c.args.refusal.now in
-    let few = context.in_range in
+    let few = context.style.in_range in
     let all = evidence_at frame fs at c.args.count rest evidence result c.evidence-evidence.ensures.of_payload c.evidence-evidence.ensures.of_head small is kept.frame in
-    let held = evidence_held context.view evidence result c.held.result few all c.held.ensures.bytes c.held.ensures.held in
-    prints_both context c.args.output.now c.put_open.new.output c.put_item.new.output (open_items fs (Some 0)) (RefusedFrame (length (stream fs)) refusal evidence ∷ [])
-    (c.put_open.ensures role limits fs _ lawful kept.message)
+    let held = evidence_held context.style.view evidence result c.held.result few all c.held.ensures.bytes c.held.ensures.held in
+    prints_both context c.args.output.now c.put_interrupted.new.output c.put_item.new.output (interrupted context.style.detail fs) (RefusedFrame (length (stream fs)) refusal evidence ∷ [])
+    (c.put_interrupted.ensures role limits fs _ lawful kept.message)
     (c.put_item.ensures (RefusedFrame (length (stream fs)) refusal evidence) (evidence, held, ap (λ (m : ℕ). RefusedFrame m refusal evidence) (sym kept.frame.offset)))

@@ -11,9 +11,9 @@ returns-then-count-gt0 g c all has =
     let first = c.args.self.now.frame.first in
     let count = has.count in
     let own = c.count.ensures in
-    let few = c.args.context.now.in_range in
+    let few = c.args.context.now.style.in_range in
     subst (Prints c.args.context.now c.args.output.now c.put_item.new.output) (sym (bytes_some (item_of_remainder c.args.which) c.args.offset all (omega (arith, count, own, c.if-count-gt0.true))))
-    (c.put_item.ensures (item_of_remainder c.args.which c.args.offset all) (all, front_of_bytes c.args.context.now.view all first c.front.result few has c.front.ensures.bytes c.front.ensures.held, refl))
+    (c.put_item.ensures (item_of_remainder c.args.which c.args.offset all) (all, front_of_bytes c.args.context.now.style.view all first c.front.result few has c.front.ensures.bytes c.front.ensures.held, refl))
 
 pub returns-else-count-gt0 : goal.returns-else-count-gt0
 returns-else-count-gt0 g c all has =

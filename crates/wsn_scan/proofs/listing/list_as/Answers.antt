@@ -7,12 +7,12 @@ use Rattle.wsn_io.specs.declared.stop.Stop.TheVariants as stop
 use Rattle.wsn_scan.specs.declared.refill.ReadChunk.{ReadChunk}
 use Rattle.wsn_scan.specs.Scans.{room_of}
 use Rattle.wsn_scan.specs.Refill.{IsRefilled}
-use Rattle.wsn_scan.specs.Listing.{IsListed, IsListedChunk}
+use Rattle.wsn_scan.specs.Listing.{IsListedAs, IsListedChunk}
 use Rattle.wsn_scan.proofs.Chunks.{got_chunk}
 use Rattle.wsn_scan.proofs.JudgedInputs.{begins}
 use Rattle.wsn_scan.proofs.ListedInputs.{list_stopped, list_ended, list_failed, list_refused, list_passes, list_goes_on}
 use Rattle.wsn_scan.proofs.OneListing.{whole_listing}
-use Rattle.wsn_scan.proofs.listing.list.Goals as goal
+use Rattle.wsn_scan.proofs.listing.list_as.Goals as goal
 
 pub loop-chunk-init : goal.loop-chunk-init
 loop-chunk-init g c = record {
@@ -26,59 +26,59 @@ returns-in_err-chunk-clause-listed g c =
     let read = c.loop-chunk.invariant.read in
     let out : c.from_residual.result ≡ Err c.in_err-chunk.field-0.0 = search rules in
     let is : c.from_residual.result ≡ Err stop.Read = out ∙ ap Err c.in_err-chunk.ensures.0 in
-    subst (λ (r : Result Verdict Stop). IsListed c.args.role c.args.limits c.args.input.now c.refill.new.input c.args.output.now c.loop-chunk.output r) (sym is)
-    (list_stopped c.args.role c.args.limits c.args.input.now c.loop-chunk.input c.refill.new.input c.args.output.now c.loop-chunk.output c.loop-chunk.scan read.0 read.1 read.2 read.3
+    subst (λ (r : Result Verdict Stop). IsListedAs c.args.format c.args.role c.args.limits c.args.input.now c.refill.new.input c.args.output.now c.loop-chunk.output r) (sym is)
+    (list_stopped c.args.format c.args.role c.args.limits c.args.input.now c.loop-chunk.input c.refill.new.input c.args.output.now c.loop-chunk.output c.loop-chunk.scan read.0 read.1 read.2 read.3
     c.loop-chunk.invariant.unfailed c.in_err-chunk.ensures.2 c.in_err-chunk.ensures.1)
 
 pub returns-in_err-chunk-clause-whole : goal.returns-in_err-chunk-clause-whole
-returns-in_err-chunk-clause-whole g c all known = whole_listing c.args.role c.args.limits _ _ _ _ _ all (returns-in_err-chunk-clause-listed g c) known
+returns-in_err-chunk-clause-whole g c all known = whole_listing c.args.role c.args.limits c.args.format _ _ _ _ _ all (returns-in_err-chunk-clause-listed g c) known
 
 pub returns-in_default-clause-listed : goal.returns-in_default-clause-listed
 returns-in_default-clause-listed g c =
     let read = c.loop-chunk.invariant.read in
     let at_end = subst (λ (r : Option ReadChunk). IsRefilled c.loop-chunk.input c.refill.new.input c.room.result c.refill.new.buffer (Ok r)) c.in_default.is c.in_ok-chunk.ensures in
-    list_ended c.args.role c.args.limits c.args.input.now c.loop-chunk.input c.refill.new.input c.args.output.now c.loop-chunk.output c.end.new.output c.loop-chunk.scan read.0 read.1 c.finish.result c.end.result
+    list_ended c.args.format c.args.role c.args.limits c.args.input.now c.loop-chunk.input c.refill.new.input c.args.output.now c.loop-chunk.output c.end.new.output c.loop-chunk.scan read.0 read.1 c.finish.result c.end.result
     read.2 read.3 at_end.0 at_end.1 at_end.2
     (c.finish.ensures.verdict c.args.role c.args.limits read.0 read.2.taken.since read.2.taken.frames _ read.2.taken.has_scanned)
     (c.finish.ensures.heads c.args.role c.args.limits read.0 read.2.taken.since read.2.taken.frames _ read.2.taken.has_scanned) c.finish.ensures.reported c.end.ensures
 
 pub returns-in_default-clause-whole : goal.returns-in_default-clause-whole
-returns-in_default-clause-whole g c all known = whole_listing c.args.role c.args.limits _ _ _ _ _ all (returns-in_default-clause-listed g c) known
+returns-in_default-clause-whole g c all known = whole_listing c.args.role c.args.limits c.args.format _ _ _ _ _ all (returns-in_default-clause-listed g c) known
 
 pub returns-then-failed-clause-listed : goal.returns-then-failed-clause-listed
 returns-then-failed-clause-listed g c =
     let read = c.loop-chunk.invariant.read in
     let got = got_chunk c.loop-chunk.input c.refill.new.input c.room.result (room_of c.loop-chunk.scan) c.refill.new.buffer c.in_ok-chunk.field-0 c.in-Some.chunk c.room.ensures c.in-Some.is c.in_ok-chunk.ensures in
-    list_failed c.args.role c.args.limits c.args.input.now c.loop-chunk.input c.refill.new.input c.args.output.now c.loop-chunk.output c.list_chunk-refusal.new.output
+    list_failed c.args.format c.args.role c.args.limits c.args.input.now c.loop-chunk.input c.refill.new.input c.args.output.now c.loop-chunk.output c.list_chunk-refusal.new.output
     c.loop-chunk.scan c.list_chunk-refusal.new.scan c.refill.new.buffer c.in-Some.chunk read.0 read.1 read.2 read.3 c.loop-chunk.invariant.unfailed got (omega arith)
     c.list_chunk-refusal.result c.list_chunk-refusal.ensures (sym c.failed.ensures ∙ c.if-failed.true)
 
 pub returns-then-failed-clause-whole : goal.returns-then-failed-clause-whole
-returns-then-failed-clause-whole g c all known = whole_listing c.args.role c.args.limits _ _ _ _ _ all (returns-then-failed-clause-listed g c) known
+returns-then-failed-clause-whole g c all known = whole_listing c.args.role c.args.limits c.args.format _ _ _ _ _ all (returns-then-failed-clause-listed g c) known
 
 pub returns-in-Some-refusal-clause-listed : goal.returns-in-Some-refusal-clause-listed
 returns-in-Some-refusal-clause-listed g c =
     let read = c.loop-chunk.invariant.read in
     let got = got_chunk c.loop-chunk.input c.refill.new.input c.room.result (room_of c.loop-chunk.scan) c.refill.new.buffer c.in_ok-chunk.field-0 c.in-Some.chunk c.room.ensures c.in-Some.is c.in_ok-chunk.ensures in
-    let piece = subst (λ (r : Option Refusal). IsListedChunk c.loop-chunk.scan c.list_chunk-refusal.new.scan c.loop-chunk.output c.list_chunk-refusal.new.output (take c.in-Some.chunk.len c.refill.new.buffer) r)
+    let piece = subst (λ (r : Option Refusal). IsListedChunk c.args.format c.loop-chunk.scan c.list_chunk-refusal.new.scan c.loop-chunk.output c.list_chunk-refusal.new.output (take c.in-Some.chunk.len c.refill.new.buffer) r)
     c.in-Some-refusal.is c.list_chunk-refusal.ensures in
-    list_refused c.args.role c.args.limits c.args.input.now c.loop-chunk.input c.refill.new.input c.args.output.now c.loop-chunk.output c.list_chunk-refusal.new.output
+    list_refused c.args.format c.args.role c.args.limits c.args.input.now c.loop-chunk.input c.refill.new.input c.args.output.now c.loop-chunk.output c.list_chunk-refusal.new.output
     c.loop-chunk.scan c.list_chunk-refusal.new.scan c.refill.new.buffer c.in-Some.chunk read.0 read.1 read.2 read.3 c.loop-chunk.invariant.unfailed got (omega arith)
     c.end-in-Some-refusal.new.output c.in-Some-refusal.refusal c.end-in-Some-refusal.result piece (sym c.failed.ensures ∙ c.if-failed.false) c.end-in-Some-refusal.ensures
 
 pub returns-in-Some-refusal-clause-whole : goal.returns-in-Some-refusal-clause-whole
-returns-in-Some-refusal-clause-whole g c all known = whole_listing c.args.role c.args.limits _ _ _ _ _ all (returns-in-Some-refusal-clause-listed g c) known
+returns-in-Some-refusal-clause-whole g c all known = whole_listing c.args.role c.args.limits c.args.format _ _ _ _ _ all (returns-in-Some-refusal-clause-listed g c) known
 
 pub returns-then-chunk-clause-listed : goal.returns-then-chunk-clause-listed
 returns-then-chunk-clause-listed g c =
     let read = c.loop-chunk.invariant.read in
     let got = got_chunk c.loop-chunk.input c.refill.new.input c.room.result (room_of c.loop-chunk.scan) c.refill.new.buffer c.in_ok-chunk.field-0 c.in-Some.chunk c.room.ensures c.in-Some.is c.in_ok-chunk.ensures in
-    list_passes c.args.role c.args.limits c.args.input.now c.loop-chunk.input c.refill.new.input c.args.output.now c.loop-chunk.output c.list_chunk-refusal.new.output
+    list_passes c.args.format c.args.role c.args.limits c.args.input.now c.loop-chunk.input c.refill.new.input c.args.output.now c.loop-chunk.output c.list_chunk-refusal.new.output
     c.loop-chunk.scan c.list_chunk-refusal.new.scan c.refill.new.buffer c.in-Some.chunk read.0 read.1 read.2 read.3 c.loop-chunk.invariant.unfailed got (omega arith)
     c.if-chunk.true c.in_default-refusal.ensures (sym c.failed.ensures ∙ c.if-failed.false)
 
 pub returns-then-chunk-clause-whole : goal.returns-then-chunk-clause-whole
-returns-then-chunk-clause-whole g c all known = whole_listing c.args.role c.args.limits _ _ _ _ _ all (returns-then-chunk-clause-listed g c) known
+returns-then-chunk-clause-whole g c all known = whole_listing c.args.role c.args.limits c.args.format _ _ _ _ _ all (returns-then-chunk-clause-listed g c) known
 
 pub loop-chunk-preserved : goal.loop-chunk-preserved
 loop-chunk-preserved g c =
@@ -86,7 +86,7 @@ loop-chunk-preserved g c =
     let got = got_chunk c.loop-chunk.input c.refill.new.input c.room.result (room_of c.loop-chunk.scan) c.refill.new.buffer c.in_ok-chunk.field-0 c.in-Some.chunk c.room.ensures c.in-Some.is c.in_ok-chunk.ensures in
     let within : length (take c.in-Some.chunk.len c.refill.new.buffer) ≡ c.in-Some.chunk.len = length-take-le c.in-Some.chunk.len c.refill.new.buffer (omega (arith, got.in_buffer)) in
     record {
-      read = list_goes_on c.args.role c.args.limits c.args.input.now c.loop-chunk.input c.refill.new.input c.args.output.now c.loop-chunk.output c.list_chunk-refusal.new.output
+      read = list_goes_on c.args.format c.args.role c.args.limits c.args.input.now c.loop-chunk.input c.refill.new.input c.args.output.now c.loop-chunk.output c.list_chunk-refusal.new.output
           c.loop-chunk.scan c.list_chunk-refusal.new.scan c.refill.new.buffer c.in-Some.chunk read.0 read.1 read.2 read.3 c.loop-chunk.invariant.unfailed got (omega arith)
           c.if-chunk.false c.in_default-refusal.ensures (sym c.failed.ensures ∙ c.if-failed.false);
       unfailed = sym c.failed.ensures ∙ c.if-failed.false;

@@ -1,0 +1,47 @@
+//! The words of what both sides said.
+use super::Entry;
+
+static SHOWN: [Entry; 3] = [
+    Entry {
+        words: &["lacks", "head"],
+        text: "\
+lacks, head, from 'wsn show': what has begun and isn't whole.
+  unfinished KIND BYTES FRAMES lacks N VIEW
+BYTES of its payload came, in FRAMES frames, and the last of these lacks N
+bytes: 0 between two fragments, - if a part of the next head came.
+  unfinished head 0 0 lacks - -
+Only a part of a frame's head came, and no message was open.
+RFC 6455, 5.2 and 5.4: the length says where a frame ends, FIN where a message.
+Next: if N is large, is the length what the sender meant? If it is small, the
+recording stopped, or the sender died while it sent. 'wsn explain cut'.
+",
+    },
+    Entry {
+        words: &["unread"],
+        text: "\
+unread N HEX, from 'wsn show': the N bytes that this side sent after the byte
+that refused its stream, and the first of them. wsn doesn't read them: where a
+frame begins among them is unknown.
+RFC 6455, 7.1.7: an endpoint that fails the connection must not process what
+comes after that, not even a Close.
+Next: the line 'refused' before it has the reason: 'wsn explain REASON'. If HEX
+begins as a frame does (81, 82, 88 ..), only the frame before it was wrong.
+",
+    },
+    Entry {
+        words: &["end"],
+        text: "\
+end, from 'wsn show': this side's direction of the TCP connection ended (the
+capture's line C. or S.). The number before it counts the bytes that it sent.
+RFC 6455, 7.1.1: after both Closes the server ends the connection first, and the
+client should wait for that.
+Next: if this side sent no Close before it, 'wsn explain abnormal'. Without such
+a line the capture doesn't say that the direction ended.
+",
+    },
+];
+
+/// The words of what both sides said.
+pub fn shown_entries() -> &'static [Entry] {
+    &SHOWN
+}

@@ -1,0 +1,239 @@
+//! Hints: each everyday mistake by the first bytes of its format, and what has none.
+
+use std::process::Abort;
+use wsn_cli::{Hint, capture_hint_of, hint_of, plan_hint_of};
+use wsn_rules::{INPUT_MAX, Limits, MESSAGE_MAX};
+use wsn_wire::Role;
+
+fn limits(rt: &impl Abort, message: u32) -> Limits {
+    Limits::new(message, INPUT_MAX).expect(rt, "limits in range")
+}
+
+/// The hint on a stream under the greatest limits.
+fn of_stream(rt: &impl Abort, first: &[u8], role: Role) -> Option<Hint> {
+    hint_of(first, role, limits(rt, MESSAGE_MAX))
+}
+
+/// Marks at the front of file formats: pcap's four, by time stamps and byte order; pcapng's section header; gzip's
+/// magic and method; a ClientHello's and an alert's TLS record; a byte order mark in UTF-8.
+static FORMATS: [(&[u8], Hint); 10] = [
+    (
+        &[0xd4, 0xc3, 0xb2, 0xa1, 2, 0, 4, 0, 0, 0, 0, 0, 0, 0, 0, 0],
+        Hint::Pcap,
+    ),
+    (&[0xa1, 0xb2, 0xc3, 0xd4, 0, 2, 0, 4], Hint::Pcap),
+    (&[0x4d, 0x3c, 0xb2, 0xa1], Hint::Pcap),
+    (&[0xa1, 0xb2, 0x3c, 0x4d], Hint::Pcap),
+    (
+        &[
+            0x0a, 0x0d, 0x0d, 0x0a, 0x1c, 0, 0, 0, 0x4d, 0x3c, 0x2b, 0x1a,
+        ],
+        Hint::PcapNg,
+    ),
+    (&[0x1f, 0x8b, 8, 0, 0, 0, 0, 0, 0, 3], Hint::Gzip),
+    (&[0x16, 3, 1, 2, 0, 1, 0, 1, 0xfc, 3, 3], Hint::Tls),
+    (&[0x15, 3, 3, 0, 2, 2, 0x28], Hint::Tls),
+    (&[0x17, 3, 3, 0, 0x13], Hint::Tls),
+    (
+        &[0xef, 0xbb, 0xbf, 0x43, 0x20, 0x38, 0x31],
+        Hint::ByteOrderMark,
+    ),
+];
+
+/// Texts that are neither a stream nor a capture: heads of HTTP, digits as `xxd -p` and `tshark` print them, a dump.
+static TEXTS: [(&str, Hint); 9] = [
+    ("HTTP/1.1 101 Swi", Hint::HttpHead),
+    ("GET /chat HTTP/1", Hint::HttpHead),
+    ("POST /ws HTTP/1.", Hint::HttpHead),
+    ("OPTIONS * HTTP/1", Hint::HttpHead),
+    ("810548656c6c6f81", Hint::Hexadecimal),
+    ("81 05 48\r\n", Hint::Hexadecimal),
+    ("C1:05:48:65:6c:6", Hint::Hexadecimal),
+    ("8105", Hint::Hexadecimal),
+    ("00000000: 8105 4", Hint::HexDump),
+];
+
+/// What a stream and a capture are both mistaken for.
+#[test]
+fn formats_are_named(rt: HostRuntime) {
+    for row in FORMATS.iter() {
+        for role in [Role::Client, Role::Server] {
+            assert_eq!(rt; of_stream(&rt, row.0, role), Some(row.1));
+        }
+        assert_eq!(rt; capture_hint_of(row.0), Some(row.1));
+    }
+    for row in TEXTS.iter() {
+        for role in [Role::Client, Role::Server] {
+            assert_eq!(rt; of_stream(&rt, row.0.as_bytes(), role), Some(row.1));
+        }
+        assert_eq!(rt; capture_hint_of(row.0.as_bytes()), Some(row.1));
+    }
+}
+
+static CAPTURES: [&str; 7] = [
+    "C 8180\nS 8100\n",
+    "S 8900",
+    "# seconds\nC 8180",
+    "C.",
+    "S.\nC.\n",
+    "C.\r\n",
+    "S 8aFf",
+];
+
+/// Captures are no streams, and have no hint where a capture is read.
+#[test]
+fn captures_are_named_where_a_stream_is_read(rt: HostRuntime) {
+    for text in CAPTURES.iter() {
+        for role in [Role::Client, Role::Server] {
+            assert_eq!(rt; of_stream(&rt, text.as_bytes(), role), Some(Hint::Capture));
+        }
+        assert_eq!(rt; capture_hint_of(text.as_bytes()), None);
+    }
+}
+
+/// Text that is nothing known, in ASCII: `A` and `B` have the bits of a compressed frame.
+static UNKNOWN: [&str; 8] = [
+    "Connection close",
+    "Slow",
+    "#!/bin/sh",
+    "Bad Gateway",
+    "A log line",
+    "{\"type\":1}",
+    "C",
+    "get / http/1.1",
+];
+
+#[test]
+fn other_texts_have_no_hint(rt: HostRuntime) {
+    for text in UNKNOWN.iter() {
+        for role in [Role::Client, Role::Server] {
+            assert_eq!(rt; of_stream(&rt, text.as_bytes(), role), None);
+        }
+        assert_eq!(rt; capture_hint_of(text.as_bytes()), None);
+    }
+}
+
+/// Heads of frames: what the client's stream has for a hint, and what the server's.
+static FRAMES: [(&[u8], Option<Hint>, Option<Hint>); 15] = [
+    (
+        &[0x81, 0x05, 0x48],
+        Some(Hint::OtherRole(Role::Server)),
+        None,
+    ),
+    (
+        &[0x81, 0x85, 0x37],
+        None,
+        Some(Hint::OtherRole(Role::Client)),
+    ),
+    (&[0x01, 0x00], Some(Hint::OtherRole(Role::Server)), None),
+    (
+        &[0x88, 0x82, 1, 2, 3, 4],
+        None,
+        Some(Hint::OtherRole(Role::Client)),
+    ),
+    (&[0x89, 0x00], Some(Hint::OtherRole(Role::Server)), None),
+    (
+        &[0x82, 0xff, 0x80],
+        None,
+        Some(Hint::OtherRole(Role::Client)),
+    ),
+    (&[0xc1, 0x07, 0xf2], None, Some(Hint::Compressed)),
+    (&[0xc1, 0x87, 0x37], Some(Hint::Compressed), None),
+    (&[0x41, 0xfe, 0x01], Some(Hint::Compressed), None),
+    (&[0xc2, 0x7e, 0x01], None, Some(Hint::Compressed)),
+    (&[0xc9, 0x80, 0x01], None, None),
+    (&[0xf1, 0x80, 0x01], None, None),
+    (&[0x88, 0x01], None, None),
+    (&[0x89, 0xfe], None, None),
+    (&[0x00, 0x80], None, None),
+];
+
+#[test]
+fn frames_are_compressed_or_of_the_other_endpoint(rt: HostRuntime) {
+    for row in FRAMES.iter() {
+        assert_eq!(rt; of_stream(&rt, row.0, Role::Client), row.1);
+        assert_eq!(rt; of_stream(&rt, row.0, Role::Server), row.2);
+    }
+    let small = limits(&rt, 4);
+    assert_eq!(rt; hint_of(&[0x81, 0x05], Role::Server, small), None);
+    assert_eq!(rt; hint_of(&[0x81, 0x05], Role::Client, small), None);
+}
+
+#[test]
+fn an_empty_stream_has_a_hint_and_an_empty_capture_none(rt: HostRuntime) {
+    assert_eq!(rt; of_stream(&rt, &[], Role::Server), Some(Hint::Empty));
+    assert_eq!(rt; capture_hint_of(&[]), None);
+    assert_eq!(rt; plan_hint_of(&[]), None);
+}
+
+#[test]
+fn a_stream_is_no_capture(rt: HostRuntime) {
+    assert_eq!(rt; capture_hint_of(&[0x81, 0x05, 0x48]), Some(Hint::Stream));
+    assert_eq!(rt; capture_hint_of(&[0x81, 0x85, 0x37]), Some(Hint::Stream));
+    assert_eq!(rt; capture_hint_of(&[0x81]), None);
+    assert_eq!(rt; capture_hint_of(&[0xff, 0x85]), None);
+}
+
+#[test]
+fn a_plan_has_a_hint_for_a_byte_order_mark_alone(rt: HostRuntime) {
+    assert_eq!(rt;
+        plan_hint_of(&[0xef, 0xbb, 0xbf, 0x6c]),
+        Some(Hint::ByteOrderMark)
+    );
+    assert_eq!(rt; plan_hint_of("last -\r\n".as_bytes()), None);
+    assert_eq!(rt; plan_hint_of(&[0xd4, 0xc3, 0xb2, 0xa1]), None);
+    assert_eq!(rt; plan_hint_of(&[0xef, 0xbb]), None);
+}
+
+/// The next number of a generator with a fixed seed (Numerical Recipes' constants).
+fn next(number: u32) -> u32 {
+    number.wrapping_mul(1_664_525).wrapping_add(1_013_904_223)
+}
+
+/// By RFC 6455 section 5.2, whether a stream may begin with these two bytes, but for the MASK bit.
+fn is_head(first: u8, second: u8) -> bool {
+    match first {
+        0x01 | 0x02 | 0x81 | 0x82 => true,
+        0x88 => second & 0x7f < 126 && second & 0x7f != 1,
+        0x89 | 0x8a => second & 0x7f < 126,
+        _ => false,
+    }
+}
+
+/// Of a thousand random refused streams, only those have a hint that begin with the other endpoint's frame, or with a
+/// frame whose RSV1 is set.
+#[test]
+fn random_streams_have_the_hints_of_their_first_bytes(rt: HostRuntime) {
+    let mut number = 20_261_125;
+    let mut refused: u32 = 0;
+    for _ in 0..4_000 {
+        if refused == 1_000 {
+            break;
+        }
+        let mut stream = [0; 16];
+        for byte in &mut stream {
+            number = next(number);
+            *byte = (number >> 24) as u8;
+        }
+        let (first, second) = (stream[0], stream[1]);
+        let is_server = second < 0x80;
+        if is_head(first, second) && !is_server {
+            assert_eq!(rt; of_stream(&rt, &stream, Role::Client), None);
+            continue;
+        }
+        refused = refused.saturating_add(1);
+        let expected = if is_head(first, second) {
+            Some(Hint::OtherRole(Role::Server))
+        } else if first & 0x70 == 0x40
+            && is_head(first & 0xbf, second)
+            && first & 8 == 0
+            && !is_server
+        {
+            Some(Hint::Compressed)
+        } else {
+            None
+        };
+        assert_eq!(rt; of_stream(&rt, &stream, Role::Client), expected);
+    }
+    assert_eq!(rt; refused, 1_000);
+}

@@ -1,0 +1,18 @@
+use Rattle.std.proofs.Common.{rules, take, Option, Some, ap, ◌∙◌, subst}
+use Rattle.std.specs.Prelude.{IfSome}
+use Rattle.wsn_rules.specs.declared.verdict.Verdict.{Verdict}
+use Rattle.wsn_rules.specs.declared.verdict.Verdict.TheVariants.{Accepted}
+use Rattle.wsn_hint.specs.Hints.{HasVerdict}
+use Rattle.wsn_hint.proofs.EarlyVerdicts.{accepted_unrefused, cut_unrefused}
+use Rattle.wsn_hint.proofs.starts.is_lawful_start.Goals as goal
+
+pub returns-in-Some-Accepted : goal.returns-in-Some-Accepted
+returns-in-Some-Accepted c = λ true_is fs place reason refused.
+    let has : HasVerdict c.args.role c.args.limits (take 2 c.args.first.now) (Accepted c.in-Some-Accepted._summary) = search rules in
+    accepted_unrefused c.args.role c.args.limits (take 2 c.args.first.now) c.in-Some-Accepted._summary has fs place reason refused
+
+pub returns-in-Some-Cut : goal.returns-in-Some-Cut
+returns-in-Some-Cut c = λ true_is fs place reason refused.
+    let bytes = take 2 c.args.first.now in
+    let has = subst (λ (v : Option Verdict). IfSome v (HasVerdict c.args.role c.args.limits bytes)) (c.in-Some-Cut.is ∙ ap (λ (v : Verdict). Some v) c.in-Some-Cut.field-0-is) c.early_verdict.ensures in
+    cut_unrefused c.args.role c.args.limits bytes c.in-Some-Cut._summary has fs place reason refused

@@ -1,0 +1,2 @@
+-- When a stream has a hint.
+pub mod Hints

@@ -1,0 +1,68 @@
+ghost use Rattle.std.specs.Prelude.{IfSome};
+ghost use Rattle.wsn_rules.specs.Limits.{Limits};
+ghost use Rattle.wsn_hint.specs.Hints.{Fits};
+
+use crate::hint::Hint;
+
+/// What the first line of an HTTP request or response begins with (RFC 9112 sections 3 and 4).
+static HTTP_STARTS: [&str; 10] = [
+    "HTTP/1.", "GET ", "HEAD ", "POST ", "PUT ", "DELETE ", "CONNECT ", "OPTIONS ", "TRACE ",
+    "PATCH ",
+];
+
+/// The file format or text that begins with these bytes, other than a capture. `None` if they begin no known one.
+pub fn format_of(first: &[u8]) -> Option<Hint>
+    ensures { (limits : Limits) → IfSome result (Fits limits first.now) }
+{
+    match first {
+        [0xef, 0xbb, 0xbf, ..] => Some(Hint::ByteOrderMark),
+        [0xa1, 0xb2, 0xc3, 0xd4, ..]
+        | [0xd4, 0xc3, 0xb2, 0xa1, ..]
+        | [0xa1, 0xb2, 0x3c, 0x4d, ..]
+        | [0x4d, 0x3c, 0xb2, 0xa1, ..] => Some(Hint::Pcap),
+        [0x0a, 0x0d, 0x0d, 0x0a, ..] => Some(Hint::PcapNg),
+        [0x1f, 0x8b, 8, ..] => Some(Hint::Gzip),
+        [0x14..=0x17, 3, 0..=4, ..] => Some(Hint::Tls),
+        _ if is_http_head(first) => Some(Hint::HttpHead),
+        _ if is_hex_dump(first) => Some(Hint::HexDump),
+        _ if is_hexadecimal(first) => Some(Hint::Hexadecimal),
+        _ => None,
+    }
+}
+
+fn is_http_head(first: &[u8]) -> bool {
+    for start in &HTTP_STARTS {
+        if first.starts_with(start.as_bytes()) {
+            return true;
+        }
+    }
+    false
+}
+
+/// Whether these bytes begin with an offset of eight digits, a colon, a space and a digit.
+fn is_hex_dump(first: &[u8]) -> bool {
+    match first {
+        [_, _, _, _, _, _, _, _, b':', b' ', digit, ..] => {
+            digit.is_ascii_hexdigit() && first[..8].iter().all(|byte| byte.is_ascii_hexdigit())
+        }
+        _ => false,
+    }
+}
+
+/// Whether these bytes begin with two digits, and are digits, spaces, colons and line ends.
+fn is_hexadecimal(first: &[u8]) -> bool {
+    match first {
+        [high, low, _, _, ..] => {
+            high.is_ascii_hexdigit()
+                && low.is_ascii_hexdigit()
+                && first
+                    .iter()
+                    .all(|byte| byte.is_ascii_hexdigit() || is_separator(*byte))
+        }
+        _ => false,
+    }
+}
+
+fn is_separator(byte: u8) -> bool {
+    matches!(byte, b' ' | b':' | b'\t' | b'\r' | b'\n')
+}

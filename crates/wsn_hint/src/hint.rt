@@ -1,0 +1,80 @@
+ghost use Rattle.std.specs.Prelude.{◌≤◌, length};
+
+use wsn_wire::Role;
+
+/// An everyday mistake: what an input is by its first bytes, where a command reads something else.
+#[derive(Clone, Copy, Debug, PartialEq, Eq)]
+pub enum Hint {
+    /// No byte came.
+    Empty,
+    /// The head of an HTTP request or response (RFC 9112 section 2.1).
+    HttpHead,
+    /// A capture of both sides, as text.
+    Capture,
+    /// Hexadecimal digits.
+    Hexadecimal,
+    /// A hexadecimal dump, as `xxd` prints it.
+    HexDump,
+    /// A pcap file.
+    Pcap,
+    /// A pcapng file.
+    PcapNg,
+    /// A file that gzip compressed (RFC 1952 section 2.3.1).
+    Gzip,
+    /// TLS records (RFC 8446 section 5.1).
+    Tls,
+    /// A text with a byte order mark in UTF-8 in front.
+    ByteOrderMark,
+    /// A compressed frame (RFC 7692 section 6).
+    Compressed,
+    /// Frames as this endpoint sends them, and not the one that was named (RFC 6455 section 5.1).
+    OtherRole(Role),
+    /// The bytes that one endpoint sent, where a capture of both is read.
+    Stream,
+}
+
+impl Hint {
+    /// The line that is printed, without its LF: at most 80 bytes.
+    pub fn line(&self) -> &'static str
+        ensures { length result.now ≤ 80 }
+    {
+        match self {
+            Hint::Empty => {
+                "hint: no byte came: is FILE empty, or the output of the command before the pipe?"
+            }
+            Hint::HttpHead => {
+                "hint: this begins with an HTTP head: remove it, LC_ALL=C sed '1,/^\\r$/d' FILE"
+            }
+            Hint::Capture => "hint: this looks like a capture of both sides: add --capture",
+            Hint::Hexadecimal => {
+                "hint: these are hexadecimal digits: make bytes of them, xxd -r -p FILE"
+            }
+            Hint::HexDump => "hint: this is a dump by xxd: make bytes of it, xxd -r FILE",
+            Hint::Pcap => {
+                "hint: this is a pcap file: recipes/pcap2wsn FILE 0 makes a capture of it"
+            }
+            Hint::PcapNg => {
+                "hint: this is a pcapng file: recipes/pcap2wsn FILE 0 makes a capture of it"
+            }
+            Hint::Gzip => "hint: this is compressed by gzip: unpack it, gzip -dc FILE",
+            Hint::Tls => {
+                "hint: this is TLS: recipes/pcap2wsn PCAP 0 KEYLOG decrypts it, from its pcap"
+            }
+            Hint::ByteOrderMark => {
+                "hint: this begins with a byte order mark: remove it, tail -c +4 FILE"
+            }
+            Hint::Compressed => {
+                "hint: a compressed frame: recipes/inflate CAPTURE, or recipes/record --plain"
+            }
+            Hint::OtherRole(Role::Client) => {
+                "hint: masked, as a client's frames are: did a client send this? --role client"
+            }
+            Hint::OtherRole(Role::Server) => {
+                "hint: not masked, as a server's frames: did a server send this? --role server"
+            }
+            Hint::Stream => {
+                "hint: this is what one endpoint sent, and no capture: wsn judge --role R FILE"
+            }
+        }
+    }
+}

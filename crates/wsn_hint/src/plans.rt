@@ -1,0 +1,16 @@
+ghost use Rattle.std.specs.Prelude.{◌≡◌, ◌↔◌, [], ◌∷◌, Some};
+ghost use Rattle.wsn_hint.specs.declared.hint.Hint.TheVariants.{ByteOrderMark};
+ghost use Rattle.wsn_hint.specs.Hints.{Begins};
+
+use crate::hint::Hint;
+
+/// The hint for an input that begins with these bytes, where a plan is read and its first line isn't accepted: a byte
+/// order mark. `None` for any other bytes.
+pub fn plan_hint_of(first: &[u8]) -> Option<Hint>
+    ensures { result ≡ Some ByteOrderMark ↔ Begins (0xef ∷ 0xbb ∷ 0xbf ∷ []) first.now }
+{
+    match first {
+        [0xef, 0xbb, 0xbf, ..] => Some(Hint::ByteOrderMark),
+        _ => None,
+    }
+}

@@ -1,0 +1,78 @@
+ghost use Rattle.std.specs.Prelude.{◌≡◌, ◌⊎◌, ℕ, Some, IsSome, IfSome, List, [], ◌++◌};
+ghost use Rattle.wsn_hint.specs.declared.hint.Hint.TheVariants.{Empty};
+ghost use Rattle.wsn_hint.specs.Hints.{IsRefusedEarly, Fits};
+
+use crate::formats::format_of;
+use crate::hint::Hint;
+use crate::starts::{early_verdict, is_lawful_start};
+use wsn_rules::{Limits, Verdict};
+use wsn_wire::{Reason, Role};
+
+/// The hint for an input whose first bytes are these, read as the stream that `role` sent: its first 16 bytes, or all of
+/// them if there are fewer.
+///
+/// `None` unless the stream is refused at offset 0 or 1, or is empty; and if its first bytes look like nothing known.
+/// `OtherRole` is given only if that endpoint may send the first two bytes (RFC 6455 section 5.1).
+pub fn hint_of(first: &[u8], role: Role, limits: Limits) -> Option<Hint>
+    ensures refused { IsSome result → (first.now ≡ [])
+        ⊎ ((later : List ℕ) → IsRefusedEarly role limits (first.now ++ later)) }
+    ensures empty { first.now ≡ [] → result ≡ Some Empty }
+    ensures fits { IfSome result (Fits limits first.now) }
+{
+    if first.is_empty() {
+        return Some(Hint::Empty);
+    }
+    let Some(Verdict::Refused(refusal)) = early_verdict(first, role, limits) else {
+        return None;
+    };
+    if is_capture_text(first) {
+        return Some(Hint::Capture);
+    }
+    match format_of(first) {
+        Some(hint) => Some(hint),
+        None => frame_hint(first, refusal.reason, role, limits),
+    }
+}
+
+/// The hint for a stream that is refused at offset 0 or 1 for this reason, and is of no other format: compressed, or the
+/// other endpoint's.
+fn frame_hint(first: &[u8], reason: Reason, role: Role, limits: Limits) -> Option<Hint>
+    ensures { IfSome result (Fits limits first.now) }
+{
+    match reason {
+        Reason::ReservedBits if is_compressed(first, role, limits) => Some(Hint::Compressed),
+        Reason::MaskMissing if is_lawful_start(first, Role::Server, limits) => {
+            Some(Hint::OtherRole(Role::Server))
+        }
+        Reason::MaskPresent if is_lawful_start(first, Role::Client, limits) => {
+            Some(Hint::OtherRole(Role::Client))
+        }
+        _ => None,
+    }
+}
+
+/// Whether these bytes begin with a text or binary frame that is lawful but for RSV1, as compression sets it (RFC 7692
+/// section 6), and aren't all text in ASCII.
+fn is_compressed(first: &[u8], role: Role, limits: Limits) -> bool {
+    match first {
+        [head @ (0x41 | 0x42 | 0xc1 | 0xc2), second, ..] => {
+            is_lawful_start(&[*head & 0xbf, *second], role, limits)
+                && !first.iter().all(|byte| is_text(*byte))
+        }
+        _ => false,
+    }
+}
+
+fn is_text(byte: u8) -> bool {
+    matches!(byte, b'\t' | b'\r' | b'\n' | 0x20..=0x7e)
+}
+
+/// Whether these bytes begin a line of a capture that has bytes, an end mark, or a comment after a space.
+fn is_capture_text(first: &[u8]) -> bool {
+    match first {
+        [b'C' | b'S', b' ', high, low, ..] => high.is_ascii_hexdigit() && low.is_ascii_hexdigit(),
+        [b'C' | b'S', b'.'] | [b'C' | b'S', b'.', b'\r' | b'\n', ..] => true,
+        [b'#', b' ', ..] => true,
+        _ => false,
+    }
+}

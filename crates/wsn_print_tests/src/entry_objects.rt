@@ -1,0 +1,230 @@
+//! The objects of what is shown.
+
+use crate::reading::{expect_none, expect_object};
+use wsn_io::Output;
+use wsn_print::{
+    EntryFront, HeldBytes, Origin, Remainder, ShownEvent, ViewLimit, put_comment_object,
+    put_end_object, put_event_object, put_refused_object, put_remainder_object,
+    put_shown_frame_object, put_unfinished_head_object, put_unfinished_object,
+};
+use wsn_rules::{HeadInfo, Refusal};
+use wsn_wire::{Form, Op, Reason, Role};
+
+/// In line 1 of a capture, with a time.
+const IN_LINE: EntryFront<'static> = EntryFront {
+    role: Role::Client,
+    origin: Origin::Line {
+        number: 1,
+        time: Some(b"0.001356"),
+    },
+    offset: 3,
+};
+
+/// At the end of a capture.
+const AT_END: EntryFront<'static> = EntryFront {
+    role: Role::Server,
+    origin: Origin::End,
+    offset: 17,
+};
+
+/// In a stream.
+const IN_STREAM: EntryFront<'static> = EntryFront {
+    role: Role::Server,
+    origin: Origin::Stream,
+    offset: 7,
+};
+
+/// An event that is held whole.
+fn event_of(op: Op, held: &[u8]) -> ShownEvent<'_> {
+    ShownEvent {
+        op,
+        bytes: held.len() as u64,
+        frames: 2,
+        held,
+    }
+}
+
+fn whole(held: &[u8]) -> HeldBytes<'_> {
+    HeldBytes {
+        bytes: held.len() as u64,
+        held,
+    }
+}
+
+#[test]
+fn a_text(rt: HostRuntime) {
+    let view = ViewLimit::new(48).expect(&rt, "a view");
+    let mut line = Vec::new(rt.alloc());
+    let event = event_of(Op::Text, b"a\"\\\n\xe2\x82\xac");
+    let put = put_event_object(&mut Output::new(&mut line), view, &IN_LINE, &event);
+    assert_eq!(rt; put, Ok(()));
+    let members = [
+        ("/type", "\"event\""),
+        ("/line", "1"),
+        ("/side", "\"client\""),
+        ("/time", "0.001356"),
+        ("/offset", "3"),
+        ("/event", "\"text\""),
+        ("/bytes", "7"),
+        ("/frames", "2"),
+        ("/text", "\"a\\\"\\\\\\n\u{20ac}\""),
+    ];
+    expect_object(&rt, rt.alloc(), line.as_slice(), 9, &members);
+}
+
+#[test]
+fn a_text_that_is_cut_off(rt: HostRuntime) {
+    let view = ViewLimit::new(2).expect(&rt, "a view");
+    let mut line = Vec::new(rt.alloc());
+    let event = event_of(Op::Text, b"Hello");
+    let put = put_event_object(&mut Output::new(&mut line), view, &IN_STREAM, &event);
+    assert_eq!(rt; put, Ok(()));
+    let members = [("/text", "\"He\""), ("/truncated", "true")];
+    expect_object(&rt, rt.alloc(), line.as_slice(), 8, &members);
+    expect_none(&rt, rt.alloc(), line.as_slice(), "/line");
+    expect_none(&rt, rt.alloc(), line.as_slice(), "/time");
+}
+
+#[test]
+fn a_close(rt: HostRuntime) {
+    let view = ViewLimit::new(48).expect(&rt, "a view");
+    let mut line = Vec::new(rt.alloc());
+    let event = event_of(Op::Close, b"\x03\xe8bye");
+    let put = put_event_object(&mut Output::new(&mut line), view, &IN_LINE, &event);
+    assert_eq!(rt; put, Ok(()));
+    let members = [
+        ("/event", "\"close\""),
+        ("/code", "1000"),
+        ("/reason", "\"bye\""),
+    ];
+    expect_object(&rt, rt.alloc(), line.as_slice(), 10, &members);
+}
+
+#[test]
+fn an_unfinished_message(rt: HostRuntime) {
+    let view = ViewLimit::new(4).expect(&rt, "a view");
+    let mut line = Vec::new(rt.alloc());
+    let event = event_of(Op::Binary, b"\x00\xff\x00");
+    let put = put_unfinished_object(
+        &mut Output::new(&mut line),
+        view,
+        &AT_END,
+        &event,
+        Some(144),
+    );
+    assert_eq!(rt; put, Ok(()));
+    let members = [
+        ("/type", "\"unfinished\""),
+        ("/time", "null"),
+        ("/event", "\"binary\""),
+        ("/lacks", "144"),
+        ("/hex", "\"00ff\""),
+        ("/truncated", "true"),
+    ];
+    expect_object(&rt, rt.alloc(), line.as_slice(), 10, &members);
+    expect_none(&rt, rt.alloc(), line.as_slice(), "/line");
+}
+
+#[test]
+fn an_unfinished_head(rt: HostRuntime) {
+    let mut line = Vec::new(rt.alloc());
+    let put = put_unfinished_head_object(&mut Output::new(&mut line), &AT_END);
+    assert_eq!(rt; put, Ok(()));
+    let members = [
+        ("/type", "\"unfinished\""),
+        ("/event", "\"head\""),
+        ("/bytes", "0"),
+        ("/frames", "0"),
+        ("/lacks", "null"),
+        ("/hex", "\"\""),
+    ];
+    expect_object(&rt, rt.alloc(), line.as_slice(), 9, &members);
+}
+
+#[test]
+fn a_refusal(rt: HostRuntime) {
+    let view = ViewLimit::new(4).expect(&rt, "a view");
+    let mut line = Vec::new(rt.alloc());
+    let refusal = Refusal {
+        place: 11,
+        reason: Reason::TextBad,
+    };
+    let evidence = whole(b"Gr\xfc");
+    let put = put_refused_object(
+        &mut Output::new(&mut line),
+        view,
+        &IN_LINE,
+        &refusal,
+        &evidence,
+    );
+    assert_eq!(rt; put, Ok(()));
+    let members = [
+        ("/type", "\"refused\""),
+        ("/offset", "3"),
+        ("/place", "11"),
+        ("/reason", "\"text-bad\""),
+        ("/code", "1007"),
+        ("/hex", "\"72fc\""),
+        ("/truncated", "true"),
+    ];
+    expect_object(&rt, rt.alloc(), line.as_slice(), 10, &members);
+}
+
+#[test]
+fn bytes_in_no_frame(rt: HostRuntime) {
+    let view = ViewLimit::new(48).expect(&rt, "a view");
+    for (which, kind) in [
+        (Remainder::Unread, "\"unread\""),
+        (Remainder::Tail, "\"tail\""),
+    ] {
+        let mut line = Vec::new(rt.alloc());
+        let bytes = whole(b"\xdf\x65");
+        let put = put_remainder_object(&mut Output::new(&mut line), view, &AT_END, which, &bytes);
+        assert_eq!(rt; put, Ok(()));
+        let members = [("/type", kind), ("/bytes", "2"), ("/hex", "\"df65\"")];
+        expect_object(&rt, rt.alloc(), line.as_slice(), 6, &members);
+    }
+}
+
+#[test]
+fn an_end_mark_and_a_comment(rt: HostRuntime) {
+    let mut line = Vec::new(rt.alloc());
+    let put = put_end_object(&mut Output::new(&mut line), &IN_LINE);
+    assert_eq!(rt; put, Ok(()));
+    let members = [("/type", "\"end\""), ("/offset", "3")];
+    expect_object(&rt, rt.alloc(), line.as_slice(), 5, &members);
+    for (text, shown) in [
+        (b"# \"reset\"".as_slice(), "\" \\\"reset\\\"\""),
+        (b"#\xe9\\".as_slice(), "\"\\\\xe9\\\\\""),
+    ] {
+        let mut line = Vec::new(rt.alloc());
+        let put = put_comment_object(&mut Output::new(&mut line), 2, text);
+        assert_eq!(rt; put, Ok(()));
+        let members = [("/type", "\"comment\""), ("/line", "2"), ("/text", shown)];
+        expect_object(&rt, rt.alloc(), line.as_slice(), 3, &members);
+    }
+}
+
+#[test]
+fn a_frame(rt: HostRuntime) {
+    let head = HeadInfo {
+        place: 3,
+        fin: true,
+        op: Op::Pong,
+        key: None,
+        form: Form::Shortest,
+        len: 0,
+    };
+    let mut line = Vec::new(rt.alloc());
+    let mut output = Output::new(&mut line);
+    let put = put_shown_frame_object(&mut output, Role::Client, &IN_LINE.origin, &head);
+    assert_eq!(rt; put, Ok(()));
+    let members = [
+        ("/type", "\"frame\""),
+        ("/line", "1"),
+        ("/time", "0.001356"),
+        ("/offset", "3"),
+        ("/opcode", "\"pong\""),
+    ];
+    expect_object(&rt, rt.alloc(), line.as_slice(), 10, &members);
+}

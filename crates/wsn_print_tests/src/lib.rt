@@ -1,0 +1,10 @@
+//! Tests of printed objects: each is read as JSON by another program's parser, and has the members that it should, in
+//! `answer_objects` and `entry_objects`. `reading` reads a line.
+#![tactic(auto)]
+
+#[cfg(test)]
+mod answer_objects;
+#[cfg(test)]
+mod entry_objects;
+#[cfg(test)]
+mod reading;

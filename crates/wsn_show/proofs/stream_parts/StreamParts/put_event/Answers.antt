@@ -1,0 +1,19 @@
+use Rattle.std.proofs.Common.{◌≡◌, length, sym, ap, ◌∙◌}
+use Rattle.wsn_wire.specs.Frame.{is_control, stream}
+use Rattle.wsn_rules.specs.Heads.{info_of}
+use Rattle.wsn_show.proofs.stream_parts.StreamParts.put_event.Goals as goal
+
+pub returns-then-is_control : goal.returns-then-is_control
+returns-then-is_control g c role limits fs f rest lawful small kept =
+    let same : info_of (length (stream fs)) f ≡ c.in-Some.head = let both = sym kept.frame.head ∙ c.in-Some.is in cc in
+    let op : f.op ≡ c.in-Some.head.op = ap (λ (h : _). h.op) same in
+    c.put_control.ensures role limits fs f rest lawful (ap is_control op ∙ sym c.is_control.ensures ∙ c.if-is_control.true) op kept
+
+pub returns-else-is_control : goal.returns-else-is_control
+returns-else-is_control g c role limits fs f rest lawful small kept =
+    let same : info_of (length (stream fs)) f ≡ c.in-Some.head = let both = sym kept.frame.head ∙ c.in-Some.is in cc in
+    let op : f.op ≡ c.in-Some.head.op = ap (λ (h : _). h.op) same in
+    c.put_message.ensures role limits fs f rest lawful (ap is_control op ∙ sym c.is_control.ensures ∙ c.if-is_control.false) small kept
+
+pub returns-in_default : goal.returns-in_default
+returns-in_default g c role limits fs f rest lawful small kept = absurd (c.in_default.not-Some (info_of (length (stream fs)) f) kept.frame.head)

@@ -1,0 +1,84 @@
+ghost use Rattle.std.specs.Prelude.{◌≡◌, ℕ, List, false};
+ghost use Rattle.wsn_io.specs.Transfer.{Outgoing, IsWritten};
+ghost use Rattle.wsn_wire.specs.declared.endpoint.Role.{Role};
+ghost use Rattle.wsn_rules.specs.Limits.{Limits};
+ghost use Rattle.wsn_scan.specs.Judging.{IsUnrefused};
+ghost use Rattle.wsn_print.specs.declared.format.Format.TheVariants.{Text};
+ghost use Rattle.wsn_scan.specs.Listing.{IsEnded};
+ghost use Rattle.wsn_show.specs.StreamViews.{HasViewed};
+ghost use Rattle.wsn_show.specs.declared.style.Style.{Style};
+ghost use Rattle.wsn_show.specs.StreamShows.{IsItemText, IsStreamShown, EndsStream};
+
+use crate::stream_view::StreamView;
+use crate::style::Style;
+use std::io::{Read, Write};
+use wsn_io::{Input, Output, Stop};
+use wsn_print::put_verdict;
+use wsn_rules::{Limits, Verdict};
+use wsn_scan::{CHUNK, read_chunk};
+use wsn_wire::Role;
+
+/// Shows the stream on the input, which one endpoint sent: prints each event with its last byte, or each frame with its
+/// head's, then what is left over, and the verdict's line, and returns the verdict (RFC 6455 sections 5 and 7). It reads
+/// as [`wsn_scan::judge`] does: to the end, or up to a refusal.
+///
+/// Errors: `Read` if a read fails, and `InputLimit` if a byte past the input limit comes. With either, what is shown of
+/// the bytes that came within the limit is printed, and no verdict. `Write` if the writer fails: a prefix of the lines is
+/// written.
+#[tactic(none)]
+pub fn show_stream<R: Read, W: Write>(
+    input: &mut Input<R>,
+    output: &mut Output<W>,
+    role: Role,
+    limits: Limits,
+    style: Style,
+) -> Result<Verdict, Stop>
+    requires readable { input.old.failed ≡ false }
+    requires writable { output.old.failed ≡ false }
+    ensures { IsStreamShown role limits style input.old input.new output.old output.new result }
+{
+    let mut stream = StreamView::new(role, limits, style);
+    let mut buffer = [0; CHUNK];
+    loop {
+        let Some(chunk) = read_chunk(input, stream.room(), &mut buffer)? else {
+            return end(&stream, output);
+        };
+        stream.take(&mut buffer[..chunk.len], None, output);
+        if output.failed() {
+            return Err(Stop::Write);
+        }
+        let verdict = stream.verdict();
+        if let Verdict::Refused(_) = verdict {
+            return put_answer(output, verdict);
+        }
+        if chunk.past_limit {
+            return Err(Stop::InputLimit);
+        }
+    }
+}
+
+/// Prints what is left over where the stream ends, and the verdict's line, and returns the verdict. `Write` if the
+/// writer fails: a prefix of these lines is written.
+#[tactic(none)]
+fn end<W: Write>(stream: &StreamView, output: &mut Output<W>) -> Result<Verdict, Stop>
+    requires { output.old.failed ≡ false }
+    ensures { (role : Role) (limits : Limits) (style : Style) (came : List ℕ) (first : Outgoing) (text : List ℕ) →
+        HasViewed role limits style stream.now came → IsUnrefused role limits came → IsItemText role limits style came text →
+        IsWritten first output.old text → EndsStream role limits style came first output.new result }
+{
+    stream.put_left_over(None, output);
+    if output.failed() {
+        return Err(Stop::Write);
+    }
+    put_answer(output, stream.verdict())
+}
+
+/// Prints the verdict's line and returns the verdict. `Write` if the writer fails: a prefix of the line is written.
+#[tactic(none)]
+fn put_answer<W: Write>(output: &mut Output<W>, verdict: Verdict) -> Result<Verdict, Stop>
+    requires { output.old.failed ≡ false }
+    ensures { IsEnded Text output.old output.new verdict result }
+{
+    put_verdict(output, &verdict)?;
+    Ok(verdict)
+}

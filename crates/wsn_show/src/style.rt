@@ -1,0 +1,14 @@
+ghost use Rattle.std.specs.Prelude.{◌≤◌};
+
+use wsn_print::ViewLimit;
+use wsn_rules::Detail;
+
+/// How a capture is shown.
+#[derive(Clone, Copy)]
+pub struct Style {
+    /// The most bytes of a payload that an entry shows.
+    pub view: ViewLimit,
+    /// What is shown of a stream's frames.
+    pub detail: Detail,
+    ghost in_range: { view ≤ 4096 },
+}

@@ -1,0 +1,65 @@
+//! What the tests expect of a run.
+ghost use Rattle.wsn_job.specs.Jobs.{MayRun};
+
+use std::alloc::Global;
+use std::process::Abort;
+use std::str;
+use wsn_doubles::command_runs::{CommandRun, run_on};
+use wsn_doubles::readers::Chopped;
+use wsn_doubles::writers::Narrow;
+use wsn_job::Job;
+use wsn_print::ViewLimit;
+use wsn_rules::Detail;
+use wsn_show::Style;
+
+/// The expected result of a run: its exit status, standard output in two parts, and the line on standard error, if any.
+#[derive(Clone, Copy)]
+pub struct Expected<'a> {
+    pub status: u8,
+    pub shown: &'a str,
+    pub last: &'a str,
+    pub line: &'a str,
+}
+
+/// Events, with at most this many bytes of each payload.
+pub fn events_of(rt: &impl Abort, bytes: u16) -> Style {
+    style_of(rt, bytes, Detail::Events)
+}
+
+/// Events or frames, with at most this many bytes of each payload.
+pub fn style_of(rt: &impl Abort, bytes: u16, detail: Detail) -> Style {
+    let view = ViewLimit::new(bytes).expect(rt, "a view of at most 4096 bytes");
+    Style { view, detail }
+}
+
+/// Fails unless a run has this result. `text` is its input, which is printed if it hasn't.
+pub fn expect_run(rt: &impl Abort, run: &CommandRun, text: &[u8], expected: Expected) {
+    let out = str::from_utf8(run.out.as_slice()).expect(rt, "standard output is UTF-8");
+    let printed = out.strip_prefix(expected.shown);
+    assert_eq!(rt; printed, Some(expected.last), "{text:?} {out}");
+    let end: &[u8] = if expected.line.is_empty() { b"" } else { b"\n" };
+    let line = run.err.as_slice().strip_suffix(end);
+    assert_eq!(rt; line, Some(expected.line.as_bytes()), "{text:?}");
+    assert_eq!(rt; run.status, expected.status, "{text:?}");
+}
+
+/// Fails unless a job that allocates nothing has this result over the input, in reads of at most `at_most` bytes.
+pub fn expect_job(
+    rt: &impl Abort,
+    alloc: Global,
+    job: &Job,
+    text: &[u8],
+    at_most: usize,
+    expected: Expected,
+)
+    requires { MayRun job.now }
+{
+    let run = run_on(
+        alloc,
+        alloc,
+        job,
+        Chopped::new(text, at_most),
+        Narrow::wide(alloc),
+    );
+    expect_run(rt, &run, text, expected);
+}
