@@ -87,6 +87,16 @@ pub data Position : Type 0 where
   -- In a stream without a capture.
   InStream : Position
 
+-- The time that holds at a position; none at a capture's end and in a stream.
+abbrev pub time_at : Position → Option (List ℕ)
+time_at (InLine number time) = time
+time_at position = None
+
+-- The number of the line, from 1; 0 outside of lines.
+abbrev pub number_at : Position → ℕ
+number_at (InLine number time) = number
+number_at position = 0
+
 -- The number of the line.
 abbrev pub line_field : Position → List ℕ
 line_field (InLine number time) = number_field (codes "line") number

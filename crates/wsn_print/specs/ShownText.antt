@@ -1,4 +1,4 @@
--- The lines of `show`, each with its LF: entries of what both sides sent, comments and the report.
+-- The lines of `show`, each with its LF: entries of what both sides sent, and comments.
 use Rattle.std.specs.Prelude.{ℕ, ◌+◌, ◌*◌, ◌-◌, ◌/◌, ◌%◌, ◌==◌, ◌&&◌, ◌||◌, nat_le, nat_lt, Bool, true, if◌then◌else◌, Option, None, Some, List, [], ◌∷◌, ◌++◌, length, take, drop, flat_map, codes, decimal}
 use Rattle.std.specs.Char.{encode_utf8}
 use Rattle.std.specs.Str.{chars}
@@ -10,15 +10,11 @@ use Rattle.wsn_wire.specs.declared.opcode.Kind.{Kind}
 use Rattle.wsn_wire.specs.declared.opcode.Kind.TheVariants as kinds
 use Rattle.wsn_wire.specs.declared.opcode.Op.{Op}
 use Rattle.wsn_wire.specs.declared.opcode.Op.TheVariants as ops
-use Rattle.wsn_rules.specs.declared.report.Report.{Report}
 use Rattle.wsn_rules.specs.Meaning.{MeantEvent, Message, Control}
 use Rattle.wsn_rules.specs.ShownStream.{Item}
 use Rattle.wsn_rules.specs.ShownStream.Item.{Event, Head, Unfinished, UnfinishedHead, RefusedFrame, Unread, Tail}
-use Rattle.wsn_rules.specs.ShownCapture.{LineItem, ShownLine}
-use Rattle.wsn_rules.specs.ShownCapture.LineItem.{OfStream, End, Comment}
 use Rattle.wsn_print.specs.Fields.{number_text, refusal_text, op_word}
 use Rattle.wsn_print.specs.HeadText.{head_fields}
-use Rattle.wsn_print.specs.ReportText.{report_lines}
 
 -- ---- characters
 
@@ -188,11 +184,7 @@ item_text n (Tail offset bytes) = bytes_text n (codes "tail") bytes
 abbrev pub item_line : ℕ → Role → Option (List ℕ) → Item → List ℕ
 item_line n role time item = front_text role time (offset_of item) ++ item_text n item ++ codes "\n"
 
--- The lines of items, in order.
-abbrev pub item_lines : ℕ → Role → Option (List ℕ) → List Item → List ℕ
-item_lines n role time = flat_map (item_line n role time)
-
--- ---- comments, and all lines
+-- ---- comments and end marks
 
 -- A byte of a comment that isn't UTF-8.
 abbrev pub shown_byte : ℕ → List ℕ
@@ -210,18 +202,3 @@ comment_line text = comment_text text ++ codes "\n"
 -- The line of an endpoint's end mark. The offset is the number of bytes that the endpoint sent.
 abbrev pub end_line : Role → Option (List ℕ) → ℕ → List ℕ
 end_line role time sent = front_text role time sent ++ codes "end\n"
-
--- What is printed of an item of a capture's line.
-abbrev pub line_item_text : ℕ → Option (List ℕ) → LineItem → List ℕ
-line_item_text n time (OfStream role item) = item_line n role time item
-line_item_text n time (End role sent) = end_line role time sent
-line_item_text n time (Comment text) = comment_line text
-
--- What is printed of a line of a capture.
-abbrev pub shown_line_text : ℕ → ShownLine → List ℕ
-shown_line_text n shown = flat_map (line_item_text n shown.time) shown.items
-
--- What is printed of a capture: of each line, of what is left over at its end, and the report.
-abbrev pub shown_text : ℕ → List ShownLine → List LineItem → Report → List ℕ
-shown_text n lines last report =
-    flat_map (shown_line_text n) lines ++ flat_map (line_item_text n None) last ++ report_lines report

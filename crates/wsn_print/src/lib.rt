@@ -49,7 +49,9 @@ pub use entries::{
     put_end, put_event, put_frame, put_refused, put_remainder, put_unfinished, put_unfinished_head,
 };
 pub use faults::{line_of_line_fault, line_of_recut_fault, line_of_unfinished};
-pub use format::{Format, put_compared_as, put_head_as, put_report_as, put_verdict_as};
+pub use format::{
+    Format, put_comment_as, put_compared_as, put_end_as, put_head_as, put_report_as, put_verdict_as,
+};
 pub use heads::put_head;
 pub use line::Line;
 pub use objects::{put_compared_object, put_frame_object, put_report_object, put_verdict_object};

@@ -1,4 +1,5 @@
-//! Examples of the printed lines of `show`, computed from the definitions in `specs/ShownText.antt`.
+//! Examples of the printed lines of `show`, computed from the definitions in `specs/ShownText.antt` and
+//! `specs/Formats.antt`.
 
 ghost use Rattle.std.specs.Prelude.{◌≡◌, true, false, None, Some, [], ◌∷◌, ◌++◌, codes, replicate};
 ghost use Rattle.wsn_wire.specs.declared.endpoint.Role.TheVariants.{Client, Server};
@@ -11,7 +12,9 @@ ghost use Rattle.wsn_rules.specs.declared.report.Side.TheVariants as side;
 ghost use Rattle.wsn_rules.specs.Meaning.{Message, Control};
 ghost use Rattle.wsn_rules.specs.ShownStream.Item.{Event, Head, Unfinished, UnfinishedHead, RefusedFrame, Unread, Tail};
 ghost use Rattle.wsn_rules.specs.ShownCapture.LineItem.{OfStream, End, Comment};
-ghost use Rattle.wsn_print.specs.ShownText.{item_line, text_view, hex_view, body_view, quoted, comment_line, end_line, shown_text};
+ghost use Rattle.wsn_print.specs.ShownText.{item_line, text_view, hex_view, body_view, quoted, comment_line, end_line};
+ghost use Rattle.wsn_print.specs.Formats.{capture_text};
+ghost use Rattle.wsn_print.specs.declared.format.Format.TheVariants as format;
 
 /// The lines of complete events: their offset is that of the first frame.
 pub fn of_events()
@@ -140,10 +143,10 @@ pub fn of_comments()
 
 /// What is printed of a whole capture: its lines, what is left over at its end, and the report.
 pub fn of_a_capture()
-    ensures { shown_text 48 ((record { time = None; items = OfStream Server (Event 0 (Message kind.Text (codes "Hello")) 1) ∷ OfStream Server (RefusedFrame 7 (record { place = 11; reason = TextBad }) (codes "Gr" ++ (0xfc ∷ []))) ∷ [] })
-        ∷ (record { time = Some (codes "0.5"); items = OfStream Client (Event 0 (Control Close ((0x03 ∷ 0xef ∷ []))) 1) ∷ [] })
-        ∷ (record { time = Some (codes "0.5"); items = End Client 8 ∷ [] })
-        ∷ (record { time = None; items = Comment (codes "# reset") ∷ [] }) ∷ [])
+    ensures { capture_text format.Text 48 ((record { number = 1; time = None; items = OfStream Server (Event 0 (Message kind.Text (codes "Hello")) 1) ∷ OfStream Server (RefusedFrame 7 (record { place = 11; reason = TextBad }) (codes "Gr" ++ (0xfc ∷ []))) ∷ [] })
+        ∷ (record { number = 3; time = Some (codes "0.5"); items = OfStream Client (Event 0 (Control Close ((0x03 ∷ 0xef ∷ []))) 1) ∷ [] })
+        ∷ (record { number = 4; time = Some (codes "0.5"); items = End Client 8 ∷ [] })
+        ∷ (record { number = 5; time = None; items = Comment (codes "# reset") ∷ [] }) ∷ [])
         (OfStream Server (Unread 12 ((0xdf ∷ []))) ∷ [])
         (record {
           client = side.Closed (Some 1007);

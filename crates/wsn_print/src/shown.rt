@@ -85,6 +85,29 @@ pub struct EntryFront<'a> {
     pub offset: u64,
 }
 
+impl<'a> EntryFront<'a> {
+    ghost use Rattle.std.specs.Prelude.{◌≡◌};
+    ghost use Rattle.wsn_print.specs.ShownObjects.{time_at};
+    ghost use Rattle.wsn_print.specs.ShownParts.{time_of, position_of};
+
+    /// What is in front of the entry's line.
+    pub fn of_line(&self) -> Front<'a>
+        ensures role { result.role ≡ self.now.role }
+        ensures time { time_of result ≡ time_at (position_of self.now.origin) }
+        ensures offset { result.offset ≡ self.now.offset }
+    {
+        let time = match self.origin {
+            Origin::Line { time, .. } => time,
+            Origin::End | Origin::Stream => None,
+        };
+        Front {
+            role: self.role,
+            time,
+            offset: self.offset,
+        }
+    }
+}
+
 /// An event to be shown, complete or not.
 #[derive(Clone, Copy)]
 pub struct ShownEvent<'a> {

@@ -114,32 +114,32 @@ module _ (detail : Detail) (limits : Limits) where
   }
   gathered role before given (line ∷ lines) (Nothing ∷ entries) (s ∷ shown) so_far is are =
       passed_over role given Nothing entries so_far s shown refl
-      (gathered role (before ++ line ∷ []) (given ++ Nothing ∷ []) lines entries shown so_far (unchanged role given Nothing so_far (of_nothing role) is) are.2)
+      (gathered role (before ++ line ∷ []) (given ++ Nothing ∷ []) lines entries shown so_far (unchanged role given Nothing so_far (of_nothing role) is) are.3)
     where
       of_nothing : (r : Role) → bytes_in r Nothing ≡ []
       of_nothing Client = refl
       of_nothing Server = refl
   gathered role before given (line ∷ lines) (Mark other ∷ entries) (s ∷ shown) so_far is are =
       passed_over role given (Mark other) entries so_far s shown refl
-      (gathered role (before ++ line ∷ []) (given ++ Mark other ∷ []) lines entries shown so_far (unchanged role given (Mark other) so_far (of_mark role) is) are.2)
+      (gathered role (before ++ line ∷ []) (given ++ Mark other ∷ []) lines entries shown so_far (unchanged role given (Mark other) so_far (of_mark role) is) are.3)
     where
       of_mark : (r : Role) → bytes_in r (Mark other) ≡ []
       of_mark Client = refl
       of_mark Server = refl
   gathered Client before given (line ∷ lines) (Bytes Client bytes ∷ entries) (s ∷ shown) so_far is are =
-      own_bytes Client before given line lines bytes entries s shown so_far is are.1 (λ longer now.
-      gathered Client (before ++ line ∷ []) (given ++ Bytes Client bytes ∷ []) lines entries shown longer (subst (λ (bs : List ℕ). IsShownStream detail Client limits bs longer) (sym (sent_push Client given (Bytes Client bytes))) now) are.2)
+      own_bytes Client before given line lines bytes entries s shown so_far is are.2 (λ longer now.
+      gathered Client (before ++ line ∷ []) (given ++ Bytes Client bytes ∷ []) lines entries shown longer (subst (λ (bs : List ℕ). IsShownStream detail Client limits bs longer) (sym (sent_push Client given (Bytes Client bytes))) now) are.3)
   gathered Server before given (line ∷ lines) (Bytes Server bytes ∷ entries) (s ∷ shown) so_far is are =
-      own_bytes Server before given line lines bytes entries s shown so_far is are.1 (λ longer now.
-      gathered Server (before ++ line ∷ []) (given ++ Bytes Server bytes ∷ []) lines entries shown longer (subst (λ (bs : List ℕ). IsShownStream detail Server limits bs longer) (sym (sent_push Server given (Bytes Server bytes))) now) are.2)
+      own_bytes Server before given line lines bytes entries s shown so_far is are.2 (λ longer now.
+      gathered Server (before ++ line ∷ []) (given ++ Bytes Server bytes ∷ []) lines entries shown longer (subst (λ (bs : List ℕ). IsShownStream detail Server limits bs longer) (sym (sent_push Server given (Bytes Server bytes))) now) are.3)
   gathered Client before given (line ∷ lines) (Bytes Server bytes ∷ entries) (s ∷ shown) so_far is are =
       passed_over Client given (Bytes Server bytes) entries so_far s shown
-      (ap (λ (is : List Item). is ++ items_with_bytes Client entries shown) (ap (flat_map (item_of Client)) are.1.2 ∙ none_of_client (beyond (length (sent Server given)) are.1.0)))
-      (gathered Client (before ++ line ∷ []) (given ++ Bytes Server bytes ∷ []) lines entries shown so_far (unchanged Client given (Bytes Server bytes) so_far refl is) are.2)
+      (ap (λ (is : List Item). is ++ items_with_bytes Client entries shown) (ap (flat_map (item_of Client)) are.2.2 ∙ none_of_client (beyond (length (sent Server given)) are.2.0)))
+      (gathered Client (before ++ line ∷ []) (given ++ Bytes Server bytes ∷ []) lines entries shown so_far (unchanged Client given (Bytes Server bytes) so_far refl is) are.3)
   gathered Server before given (line ∷ lines) (Bytes Client bytes ∷ entries) (s ∷ shown) so_far is are =
       passed_over Server given (Bytes Client bytes) entries so_far s shown
-      (ap (λ (is : List Item). is ++ items_with_bytes Server entries shown) (ap (flat_map (item_of Server)) are.1.2 ∙ none_of_server (beyond (length (sent Client given)) are.1.0)))
-      (gathered Server (before ++ line ∷ []) (given ++ Bytes Client bytes ∷ []) lines entries shown so_far (unchanged Server given (Bytes Client bytes) so_far refl is) are.2)
+      (ap (λ (is : List Item). is ++ items_with_bytes Server entries shown) (ap (flat_map (item_of Server)) are.2.2 ∙ none_of_server (beyond (length (sent Client given)) are.2.0)))
+      (gathered Server (before ++ line ∷ []) (given ++ Bytes Client bytes ∷ []) lines entries shown so_far (unchanged Server given (Bytes Client bytes) so_far refl is) are.3)
   gathered role before given [] [] (s ∷ shown) so_far is are = absurd are
   gathered role before given [] (_ ∷ entries) shown so_far is are = absurd are
   gathered role before given (line ∷ lines) [] shown so_far is are = absurd are

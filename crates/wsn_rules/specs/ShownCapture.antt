@@ -1,6 +1,6 @@
 -- What is shown of a capture: with each of its lines, in order, what the line completes; then what is left over of both
 -- streams; then the report.
-use Rattle.std.specs.Prelude.{◌≡◌, ◌≢◌, ℕ, ◌≤◌, ◌⊎◌, true, false, nat_lt, Option, None, Some, List, [], ◌∷◌, ◌++◌, length, filter, map, codes}
+use Rattle.std.specs.Prelude.{◌≡◌, ◌≢◌, ℕ, ◌+◌, ◌≤◌, ◌⊎◌, true, false, nat_lt, Option, None, Some, List, [], ◌∷◌, ◌++◌, length, filter, map, codes}
 use Rattle.std.specs.List.{AllByRecursion, flat_map}
 use Rattle.wsn_wire.specs.declared.endpoint.Role.{Role}
 use Rattle.wsn_wire.specs.declared.endpoint.Role.TheVariants.{Client, Server}
@@ -87,8 +87,9 @@ IsShownOfEntry detail limits given text (Mark role) items = (left : List Item)
     × IsLeftOver role limits (sent role given) left
     × (items ≡ of_stream role left ++ End role (length (sent role given)) ∷ [])
 
--- A line's items, and the time that holds for them.
+-- A line's number, from 1, its items, and the time that holds for them.
 pub record ShownLine : Type 0 where
+  pub number : ℕ
   pub time : Option (List ℕ)
   pub items : List LineItem
 
@@ -97,7 +98,8 @@ abbrev pub AreShownAfter :
     Detail → Limits → List (List ℕ) → List Entry → List (List ℕ) → List Entry → List ShownLine → Type 0
 AreShownAfter detail limits before given [] [] [] = Unit {0}
 AreShownAfter detail limits before given (line ∷ lines) (entry ∷ entries) (s ∷ shown) =
-    IsTimeAfter before s.time × IsShownOfEntry detail limits given (without_cr line) entry s.items
+    (s.number ≡ length before + 1) × IsTimeAfter before s.time
+    × IsShownOfEntry detail limits given (without_cr line) entry s.items
     × AreShownAfter detail limits (before ++ line ∷ []) (given ++ entry ∷ []) lines entries shown
 AreShownAfter detail limits before given lines entries shown = ⊥
 
