@@ -12,7 +12,7 @@ use std::rt::Runtime;
 use std::{fs, str};
 use wsn_capture::SideReader;
 use wsn_cli::{
-    Escaped, Hint, How, Job, hint_on_run, plan_hint_of, run, run_on_side, run_same,
+    Comparison, Escaped, Hint, How, Job, hint_on_run, plan_hint_of, run, run_on_side, run_same,
     run_same_on_sides,
 };
 use wsn_io::{BlockReader, BlockWriter, FirstBytes, Input, Output, Stop, TiedReader, TiedWriter};
@@ -20,7 +20,7 @@ use wsn_plan::{PlanFileFault, read_plan_file};
 use wsn_rules::Limits;
 use wsn_wire::Role;
 
-/// A line to be printed later: an answer, a verdict or a fault.
+/// A line to be printed later, on standard error: a verdict or a fault.
 type OneLine = ArrayVec<u8, 128>;
 
 /// Prints a text on standard error and returns the exit status for a fault. What can't be written is dropped.
@@ -214,8 +214,7 @@ fn name_of(file: &Option<String>) -> &str {
 /// Compares the streams in two files and returns the exit status. Both are opened before either is read.
 pub fn compare<R: Runtime + AllocGlobal>(
     rt: &R,
-    role: Role,
-    limits: Limits,
+    comparison: Comparison,
     first: &Option<String>,
     second: &Option<String>,
     side: Option<Role>,
@@ -229,47 +228,45 @@ pub fn compare<R: Runtime + AllocGlobal>(
         Ok(input) => input,
         Err(status) => return status,
     };
-    let mut answer = OneLine::new();
     let mut diagnosed = OneLine::new();
-    let status = compare_inputs(
+    let output = io::writer(rt);
+    match compare_inputs(
         rt.alloc(),
         first,
         second,
-        role,
-        limits,
+        comparison,
         side,
-        &mut answer,
+        output,
         &mut diagnosed,
-    );
-    if Print::write_all(rt, answer.as_slice()).is_err() {
-        return diagnose_stop(rt, Stop::Write);
+    ) {
+        Some(status) => finish(rt, &diagnosed, status),
+        None => diagnose_stop(rt, Stop::Write),
     }
-    finish(rt, &diagnosed, status)
 }
 
-/// Compares the streams on two inputs, or one side of the captures on them. Puts the answer, and what is to be printed on
-/// standard error, into the given lines, and returns the exit status.
-fn compare_inputs<A: Allocator + Copy, R: Read + Drop, S: Read + Drop>(
+/// Compares the streams on two inputs, or one side of the captures on them. Prints the answer, puts what is to be printed
+/// on standard error into the given line, and returns the exit status; `None` if the output failed.
+fn compare_inputs<A: Allocator + Copy, R: Read + Drop, S: Read + Drop, W: Write + Drop>(
     alloc: A,
     first: R,
     second: S,
-    role: Role,
-    limits: Limits,
+    comparison: Comparison,
     side: Option<Role>,
-    answer: &mut OneLine,
+    output: W,
     diagnosed: &mut OneLine,
-) -> u8 {
+) -> Option<u8> {
     let mut first = BlockReader::new(first);
     let mut second = BlockReader::new(second);
-    let mut printed = Output::new(answer);
+    let output = RefCell::new(BlockWriter::new(output));
+    let mut writer = TiedWriter::new(&output);
+    let mut printed = Output::new(&mut writer);
     let mut errors = Output::new(diagnosed);
-    match side {
+    let status = match side {
         None => run_same(
             alloc,
             &mut Input::new(&mut first),
             &mut Input::new(&mut second),
-            role,
-            limits,
+            comparison,
             &mut printed,
             &mut errors,
         ),
@@ -277,12 +274,12 @@ fn compare_inputs<A: Allocator + Copy, R: Read + Drop, S: Read + Drop>(
             alloc,
             &mut Input::new(SideReader::new(&mut first, side)),
             &mut Input::new(SideReader::new(&mut second, side)),
-            role,
-            limits,
+            comparison,
             &mut printed,
             &mut errors,
         ),
-    }
+    };
+    writer.flush().is_ok().then_some(status)
 }
 
 /// Reports a file that can't be read, and returns the exit status for a fault.

@@ -16,13 +16,13 @@ pub record AreAskedLimits (limits : Limits) : Type 0 where
 
 -- the limits under which a job reads its input
 abbrev pub job_limits : {A : Type 0} → Job A → Limits
-job_limits (Judge role limits) = limits
-job_limits (Frames role limits) = limits
+job_limits (Judge role limits format) = limits
+job_limits (Frames role limits format) = limits
 job_limits (Normal role limits) = limits
 job_limits (Plan role limits) = limits
 job_limits (Recut role limits how) = limits
 job_limits (ShowStream role limits style) = limits
-job_limits (Closing limits) = limits
+job_limits (Closing limits format) = limits
 job_limits (Show limits style) = limits
 
 -- The side of a capture that is read, if one is, is the stream that the job reads.
@@ -35,6 +35,6 @@ abbrev pub CanBeDone : Request → Type 0
 CanBeDone (Run job file side) = MayRun job × AreAskedLimits (job_limits job) × IsOwnSide job side
 CanBeDone (RecutBy role limits plan file side) =
     AreAskedLimits limits × AreApart plan file × IfSome side (λ own. own ≡ role)
-CanBeDone (Same role limits first second side) =
-    AreAskedLimits limits × AreApart first second × IfSome side (λ own. own ≡ role)
+CanBeDone (Same comparison first second side) =
+    AreAskedLimits comparison.limits × AreApart first second × IfSome side (λ own. own ≡ comparison.role)
 CanBeDone (Help text) = Unit {0}

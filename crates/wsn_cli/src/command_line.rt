@@ -7,24 +7,25 @@ use crate::escaped::Escaped;
 use crate::explain::{explanation, list_of_words};
 use crate::help;
 use crate::options::{
-    check_digits, file, file_of, limits_of, role, role_of, side_of, style_of, with_capture,
-    with_file, with_limits, with_role, with_view, with_wire,
+    check_digits, file, file_of, format_of, limits_of, role, role_of, side_of, style_of,
+    with_capture, with_file, with_json, with_limits, with_role, with_view, with_wire,
 };
 use crate::recut_options::{recut_of, with_recuts};
 use crate::request::{Request, Usage};
 use clap::error::ErrorKind;
 use clap::{Arg, ArgAction, ArgMatches, Command, Error};
 use std::alloc::{AllocError, Global};
-use wsn_job::Job;
+use wsn_job::{Comparison, Job};
 use wsn_rules::Limits;
 use wsn_show::Style;
 
-/// A command: its name, its help texts, and what it reads.
+/// A command: its name, its help texts, what it reads, and whether it prints an answer that can be JSON.
 struct Described {
     name: &'static str,
     about: &'static str,
     details: &'static str,
     reads: Reads,
+    has_json: bool,
 }
 
 /// What a command reads; its options depend on that.
@@ -50,54 +51,63 @@ static COMMANDS: [Described; 9] = [
         about: help::SHOW,
         details: help::SHOW_DETAILS,
         reads: Reads::CaptureToShow,
+        has_json: true,
     },
     Described {
         name: "judge",
         about: help::JUDGE,
         details: help::JUDGE_DETAILS,
         reads: Reads::Stream,
+        has_json: true,
     },
     Described {
         name: "frames",
         about: help::FRAMES,
         details: help::FRAMES_DETAILS,
         reads: Reads::Stream,
+        has_json: true,
     },
     Described {
         name: "normal",
         about: help::NORMAL,
         details: help::NORMAL_DETAILS,
         reads: Reads::Stream,
+        has_json: false,
     },
     Described {
         name: "same",
         about: help::SAME,
         details: help::SAME_DETAILS,
         reads: Reads::Streams,
+        has_json: true,
     },
     Described {
         name: "plan",
         about: help::PLAN,
         details: help::PLAN_DETAILS,
         reads: Reads::Stream,
+        has_json: false,
     },
     Described {
         name: "recut",
         about: help::RECUT,
         details: help::RECUT_DETAILS,
         reads: Reads::StreamToCut,
+        has_json: false,
     },
     Described {
         name: "closing",
         about: help::CLOSING,
         details: help::CLOSING_DETAILS,
         reads: Reads::Capture,
+        has_json: true,
     },
     Described {
         name: "explain",
         about: help::EXPLAIN,
         details: help::EXPLAIN_DETAILS,
         reads: Reads::Words,
+        has_json: false,
     },
 ];
 
@@ -114,7 +124,12 @@ fn command<'a>(alloc: Global, described: &'a Described) -> Result<Command<'a>, A
         Reads::CaptureToShow => with_shown(alloc, command),
         Reads::Words => return with_words(alloc, command),
     };
-    with_limits(alloc, command?)
+    let command = if described.has_json {
+        with_json(alloc, command?)?
+    } else {
+        command?
+    };
+    with_limits(alloc, command)
 }
 
 /// Adds `--role`, `--capture` and the name of a file.
@@ -200,11 +215,11 @@ fn job_of(name: &str, matches: &ArgMatches<'_>) -> Option<Job>
     let role = role_of(matches);
     let limits = limits_of(matches)?;
     match name {
-        "judge" => Some(Job::Judge(role, limits)),
-        "frames" => Some(Job::Frames(role, limits)),
+        "judge" => Some(Job::Judge(role, limits, format_of(matches))),
+        "frames" => Some(Job::Frames(role, limits, format_of(matches))),
         "normal" => Some(Job::Normal(role, limits)),
         "plan" => Some(Job::Plan(role, limits)),
-        "closing" => Some(Job::Closing(limits)),
+        "closing" => Some(Job::Closing(limits, format_of(matches))),
         "show" => Some(show_of(matches, limits, style_of(matches)?)),
         _ => None,
     }
@@ -239,7 +254,7 @@ fn run_of(alloc: Global, name: &str, matches: &ArgMatches<'_>) -> Result<Request
     })
 }
 
-/// The request of `same`: two inputs, and the role and the limits for reading them. The error is `Own` if both are
+/// The request of `same`: two inputs, and how they are compared. The error is `Own` if both are
 /// standard input.
 fn same_of(alloc: Global, matches: &ArgMatches<'_>) -> Result<Request, Usage>
     ensures { IfOk result CanBeDone }
@@ -249,8 +264,11 @@ fn same_of(alloc: Global, matches: &ArgMatches<'_>) -> Result<Request, Usage>
     let second = file_of(alloc, matches, "second")?;
     match limits_of(matches) {
         Some(limits) if first.is_some() || second.is_some() => Ok(Request::Same {
-            role,
-            limits,
+            comparison: Comparison {
+                role,
+                limits,
+                format: format_of(matches),
+            },
             first,
             second,
             side: side_of(matches, role),

@@ -1,6 +1,7 @@
 use std::alloc::Allocator;
 use wsn_hint::{Hint, capture_hint_of, hint_of};
 use wsn_job::Job;
+use wsn_print::Format;
 use wsn_wire::Role;
 
 /// The exit status of a run without an answer.
@@ -10,7 +11,8 @@ const FAULT: u8 = 2;
 /// `status` is the run's exit status, `said` what it put on standard error, and `side` the side of a capture that it
 /// read, if it read one.
 ///
-/// A stream may have one if `judge`, `frames` or `show` gave a verdict, and a capture if a line of it isn't accepted.
+/// A stream may have one if `judge`, `frames` or `show` gave a verdict, and a capture if a line of it isn't accepted. A
+/// job that prints JSON has none.
 pub fn hint_on_run<A: Allocator>(
     job: &Job<A>,
     side: Option<Role>,
@@ -18,7 +20,10 @@ pub fn hint_on_run<A: Allocator>(
     status: u8,
     said: &[u8],
 ) -> Option<Hint> {
-    let is_capture = side.is_some() || matches!(job, Job::Closing(_) | Job::Show(_, _));
+    if is_json(job) {
+        return None;
+    }
+    let is_capture = side.is_some() || matches!(job, Job::Closing(_, _) | Job::Show(_, _));
     if is_capture {
         return if said.starts_with(b"line ") {
             capture_hint_of(first)
@@ -27,8 +32,20 @@ pub fn hint_on_run<A: Allocator>(
         };
     }
     match job {
-        Job::Judge(role, limits) | Job::Frames(role, limits) | Job::ShowStream(role, limits, _)
+        Job::Judge(role, limits, _)
+        | Job::Frames(role, limits, _)
+        | Job::ShowStream(role, limits, _)
             if status != FAULT => { hint_of(first, *role, *limits) }
         _ => None,
     }
+}
+
+/// Whether the job prints JSON.
+fn is_json<A: Allocator>(job: &Job<A>) -> bool {
+    let format = match job {
+        Job::Judge(_, _, format) | Job::Frames(_, _, format) | Job::Closing(_, format) => *format,
+        Job::ShowStream(_, _, style) | Job::Show(_, style) => style.format,
+        Job::Normal(_, _) | Job::Plan(_, _) | Job::Recut(_, _, _) => Format::Text,
+    };
+    format == Format::Json
 }

@@ -3,8 +3,8 @@
 //! [`asked`] reads the words, with clap, and returns a [`Request`], or a [`Usage`] that says why there is none. A
 //! request to run holds a [`Job`], which [`run`] does over any reader and writers; [`run_same`] compares two streams.
 //! [`run_on_side`] and [`run_same_on_sides`] do so over one side of a capture. [`Escaped`] prints a word from outside so
-//! that a terminal isn't changed by it. [`hint_on_run`] says which everyday mistake an input looks like. `specs/Inputs.antt` defines which input a word names, `specs/Requests.antt` which
-//! requests can be carried out.
+//! that a terminal isn't changed by it. [`hint_on_run`] says which everyday mistake an input looks like.
+//! `specs/Inputs.antt` defines which input a word names, `specs/Requests.antt` which requests can be carried out.
 #![tactic(auto)]
 
 mod command_line;
@@ -22,4 +22,4 @@ pub use escaped::Escaped;
 pub use hints::hint_on_run;
 pub use request::{Request, Usage};
 pub use wsn_hint::{Hint, capture_hint_of, hint_of, plan_hint_of};
-pub use wsn_job::{How, Job, run, run_on_side, run_same, run_same_on_sides};
+pub use wsn_job::{Comparison, How, Job, run, run_on_side, run_same, run_same_on_sides};

@@ -3,6 +3,7 @@ ghost use Rattle.clap.specs.Words.{found_of, first_value, one_text};
 ghost use Rattle.wsn_wire.specs.declared.endpoint.Role.TheVariants.{Server};
 ghost use Rattle.wsn_wire.specs.declared.length_forms.Lengths.TheVariants.{Any};
 ghost use Rattle.wsn_rules.specs.declared.detail.Detail.TheVariants.{Events};
+ghost use Rattle.wsn_print.specs.declared.format.Format.TheVariants as formats;
 ghost use Rattle.wsn_cli.specs.Inputs.{IsInputNamed};
 ghost use Rattle.wsn_cli.specs.Requests.{AreAskedLimits};
 
@@ -10,7 +11,7 @@ use crate::request::Usage;
 use clap::builder::ValueParser;
 use clap::{Arg, ArgAction, ArgMatches, Command, value_parser};
 use std::alloc::{AllocError, Global};
-use wsn_print::ViewLimit;
+use wsn_print::{Format, ViewLimit};
 use wsn_rules::{Detail, INPUT_MAX, Limits, MESSAGE_MAX};
 use wsn_show::Style;
 use wsn_wire::{Lengths, Role};
@@ -78,6 +79,14 @@ pub fn with_wire<'a>(alloc: Global, command: Command<'a>) -> Result<Command<'a>,
         .long("wire")
         .action(ArgAction::SetTrue);
     command.arg(wire.help("Show frames, as frames lists them, in place of\nevents"))
+}
+
+/// Adds `--json`.
+pub fn with_json<'a>(alloc: Global, command: Command<'a>) -> Result<Command<'a>, AllocError> {
+    let json = Arg::new(alloc, "json")
+        .long("json")
+        .action(ArgAction::SetTrue);
+    command.arg(json.help("Print JSON objects, one a line, in place of words"))
 }
 
 /// Adds `--capture`.
@@ -164,12 +173,25 @@ pub fn limits_of(matches: &ArgMatches<'_>) -> Option<Limits>
     }
 }
 
-/// What is shown and how much of it, from `--view` and `--wire`; `None` if the number of bytes is out of range.
+/// The format in which the answer is printed, from `--json`.
+pub fn format_of(matches: &ArgMatches<'_>) -> Format
+    ensures { (one_text (found_of matches.now) (codes "json") ≡ None) → result ≡ formats.Text }
+{
+    if matches.get_flag("json") {
+        Format::Json
+    } else {
+        Format::Text
+    }
+}
+
+/// What is shown, how much of it and in which format, from `--view`, `--wire` and `--json`; `None` if the number of bytes is out of range.
 pub fn style_of(matches: &ArgMatches<'_>) -> Option<Style>
     ensures view { (one_text (found_of matches.now) (codes "view") ≡ None)
         → IfSome result (λ style. style.view ≡ 48) }
     ensures events { (one_text (found_of matches.now) (codes "wire") ≡ None)
         → IfSome result (λ style. style.detail ≡ Events) }
+    ensures text { (one_text (found_of matches.now) (codes "json") ≡ None)
+        → IfSome result (λ style. style.format ≡ formats.Text) }
 {
     let view = ViewLimit::new(matches.get_one::<u16>("view").unwrap_or(VIEW_DEFAULT))?;
     let detail = if matches.get_flag("wire") {
@@ -177,7 +199,12 @@ pub fn style_of(matches: &ArgMatches<'_>) -> Option<Style>
     } else {
         Detail::Events
     };
-    Some(Style { view, detail })
+    let format = format_of(matches);
+    Some(Style {
+        view,
+        detail,
+        format,
+    })
 }
 
 /// Refuses a number with any character but digits, such as `+5`, which clap accepts.

@@ -1,5 +1,5 @@
 use std::alloc::{AllocError, AllocFailed};
-use wsn_job::Job;
+use wsn_job::{Comparison, Job};
 use wsn_rules::Limits;
 use wsn_wire::Role;
 
@@ -21,10 +21,9 @@ pub enum Request {
         file: Option<String>,
         side: Option<Role>,
     },
-    /// Compare the streams in two files, both sent by `role` and read under these limits.
+    /// Compare the streams in two files.
     Same {
-        role: Role,
-        limits: Limits,
+        comparison: Comparison,
         first: Option<String>,
         second: Option<String>,
         side: Option<Role>,

@@ -11,12 +11,12 @@ use Rattle.wsn_job.specs.Work.{IsDone, IsDoneDiagnosed, done_status}
 pub run_of_done : {A : Type 0} (job : Job A) (before after : Channels) (d : Done A) →
     IsDone job before.input after.input before.output after.output d → IsDoneDiagnosed d before.errors after.errors →
     IsRun job before after (done_status d)
-run_of_done (Judge role limits) before after (done.Judge answer) is said = (answer, is, refl, said)
-run_of_done (Frames role limits) before after (done.Frames answer) is said = (answer, is, refl, said)
+run_of_done (Judge role limits format) before after (done.Judge answer) is said = (answer, is, refl, said)
+run_of_done (Frames role limits format) before after (done.Frames answer) is said = (answer, is, refl, said)
 run_of_done (Normal role limits) before after (done.Normal answer) is said = (answer, is, refl, said)
 run_of_done (Plan role limits) before after (done.Plan answer) is said = (answer, is, refl, said)
 run_of_done (Recut role limits how) before after (done.Recut answer) is said = (answer, is, refl, said)
 run_of_done (ShowStream role limits style) before after (done.ShowStream answer) is said = (answer, is, refl, said)
-run_of_done (Closing limits) before after (done.Closing answer) is said = (answer, is, refl, said)
+run_of_done (Closing limits format) before after (done.Closing answer) is said = (answer, is, refl, said)
 run_of_done (Show limits style) before after (done.Show answer) is said = (answer, is, refl, said)
 run_of_done job before after d is said = absurd is

@@ -7,12 +7,13 @@ use Rattle.wsn_io.specs.declared.stop.Stop.TheVariants as stop
 use Rattle.wsn_rules.specs.Limits.{Limits}
 use Rattle.wsn_rules.specs.declared.verdict.Verdict.{Verdict}
 use Rattle.wsn_rules.specs.declared.verdict.Verdict.TheVariants.{Accepted, Cut, Refused}
+use Rattle.wsn_print.specs.declared.format.Format.{Format}
 use Rattle.wsn_print.specs.FaultText.{line_fault_line}
 use Rattle.wsn_print.specs.StopText.{stop_line}
 use Rattle.wsn_capture.specs.declared.line_fault.LineFault.{LineFault}
 use Rattle.wsn_capture.specs.LineFaults.{fault_word}
 use Rattle.wsn_scan.specs.Judging.{IsReached, IsJudged}
-use Rattle.wsn_scan.specs.Listing.{IsListed}
+use Rattle.wsn_scan.specs.Listing.{IsListedAs}
 use Rattle.wsn_events.specs.Normalised.{IsNormalised}
 use Rattle.wsn_show.specs.declared.style.Style.{Style}
 use Rattle.wsn_show.specs.StreamShows.{IsStreamShown}
@@ -49,21 +50,21 @@ module _ (role : Role) (limits : Limits) (old new : Incoming) (failed : new.fail
   judged (Err stop.Memory) is = absurd is.1.answer
   judged (Err stop.Write) is = absurd is.1.answer
 
-  verdict_printed : (before after : Outgoing) (result : Result Verdict Stop) →
-      IsVerdictPrinted role limits old new before after result → result ≡ Err stop.Read
-  verdict_printed before after (Ok verdict) is = judged (Ok verdict) is.0
-  verdict_printed before after (Err stop.Read) is = refl
-  verdict_printed before after (Err stop.InputLimit) is = judged (Err stop.InputLimit) is.0
-  verdict_printed before after (Err stop.Memory) is = judged (Err stop.Memory) is.0
-  verdict_printed before after (Err stop.Write) is = reached is.1.0 is.0 is.1.1.answer
+  verdict_printed : (format : Format) (before after : Outgoing) (result : Result Verdict Stop) →
+      IsVerdictPrinted format role limits old new before after result → result ≡ Err stop.Read
+  verdict_printed format before after (Ok verdict) is = judged (Ok verdict) is.0
+  verdict_printed format before after (Err stop.Read) is = refl
+  verdict_printed format before after (Err stop.InputLimit) is = judged (Err stop.InputLimit) is.0
+  verdict_printed format before after (Err stop.Memory) is = judged (Err stop.Memory) is.0
+  verdict_printed format before after (Err stop.Write) is = reached is.1.0 is.0 is.1.1.answer
 
-  listed : (before after : Outgoing) (result : Result Verdict Stop) →
-      IsListed role limits old new before after result → result ≡ Err stop.Read
-  listed before after (Ok verdict) is = reached is.came verdict is.answer
-  listed before after (Err stop.Read) is = refl
-  listed before after (Err stop.InputLimit) is = let h : new.failed ≡ false = is.answer.2 in absurd cc
-  listed before after (Err stop.Memory) is = absurd is.answer
-  listed before after (Err stop.Write) is = let h : new.failed ≡ false = is.answer.0 in absurd cc
+  listed : (format : Format) (before after : Outgoing) (result : Result Verdict Stop) →
+      IsListedAs format role limits old new before after result → result ≡ Err stop.Read
+  listed format before after (Ok verdict) is = reached is.came verdict is.answer
+  listed format before after (Err stop.Read) is = refl
+  listed format before after (Err stop.InputLimit) is = let h : new.failed ≡ false = is.answer.2 in absurd cc
+  listed format before after (Err stop.Memory) is = absurd is.answer
+  listed format before after (Err stop.Write) is = let h : new.failed ≡ false = is.answer.0 in absurd cc
 
   stream_shown : (style : Style) (before after : Outgoing) (result : Result Verdict Stop) →
       IsStreamShown role limits style old new before after result → result ≡ Err stop.Read
@@ -112,11 +113,11 @@ pub run_of_failed_read : {A : Type 0} (job : Job A) (before after : Channels) (d
     IsDone job before.input after.input before.output after.output d → after.input.failed ≡ true →
     (errors : Outgoing) → IsDiagnosed before.errors errors (stop_line stop.Read) →
     IsRun job before (record after { errors = errors }) (done_status d)
-run_of_failed_read (Judge role limits) before after (done.Judge answer) may is failed errors said =
-    let stopped = verdict_printed role limits before.input after.input failed before.output after.output answer is in
+run_of_failed_read (Judge role limits format) before after (done.Judge answer) may is failed errors said =
+    let stopped = verdict_printed role limits before.input after.input failed format before.output after.output answer is in
     (answer, is, refl, subst (λ (a : Result Verdict Stop). IsStopDiagnosed a before.errors errors) (sym stopped) said)
-run_of_failed_read (Frames role limits) before after (done.Frames answer) may is failed errors said =
-    let stopped = listed role limits before.input after.input failed before.output after.output answer is in
+run_of_failed_read (Frames role limits format) before after (done.Frames answer) may is failed errors said =
+    let stopped = listed role limits before.input after.input failed format before.output after.output answer is in
     (answer, is, refl, subst (λ (a : Result Verdict Stop). IsStopDiagnosed a before.errors errors) (sym stopped) said)
 run_of_failed_read (Normal role limits) before after (done.Normal answer) may is failed errors said =
     let stopped = normalised role limits before.input after.input failed before.output after.output answer is in
@@ -130,7 +131,7 @@ run_of_failed_read (Recut role limits how) before after (done.Recut answer) may 
 run_of_failed_read (ShowStream role limits style) before after (done.ShowStream answer) may is failed errors said =
     let stopped = stream_shown role limits before.input after.input failed style before.output after.output answer is in
     (answer, is, refl, subst (λ (a : Result Verdict Stop). IsStopDiagnosed a before.errors errors) (sym stopped) said)
-run_of_failed_read (Closing limits) before after d may is failed errors said = let h : false ≡ true = may.1 in absurd cc
+run_of_failed_read (Closing limits format) before after d may is failed errors said = let h : false ≡ true = may.1 in absurd cc
 run_of_failed_read (Show limits style) before after d may is failed errors said = let h : false ≡ true = may.1 in absurd cc
 run_of_failed_read job before after d may is failed errors said = absurd is
 

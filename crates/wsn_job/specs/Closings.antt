@@ -8,7 +8,8 @@ use Rattle.wsn_capture.specs.CaptureAnswers.{IsCaptureJudged}
 use Rattle.wsn_capture.specs.LineFaults.{fault_word}
 use Rattle.wsn_io.specs.declared.stop.Stop.TheVariants as stop
 use Rattle.wsn_print.specs.FaultText.{line_fault_line}
-use Rattle.wsn_print.specs.ReportText.{report_lines}
+use Rattle.wsn_print.specs.declared.format.Format.{Format}
+use Rattle.wsn_print.specs.Formats.{report_text}
 use Rattle.wsn_print.specs.Statuses.{outcome_status}
 use Rattle.wsn_print.specs.StopText.{stop_line}
 use Rattle.wsn_show.specs.declared.showing.ShowStop.{ShowStop}
@@ -16,15 +17,15 @@ use Rattle.wsn_show.specs.declared.showing.ShowStop.TheVariants.{Capture, Write}
 use Rattle.wsn_job.specs.Channels.{Channels}
 use Rattle.wsn_job.specs.Diagnostics.{IsDiagnosed}
 
--- The report's lines were printed; before a stop, nothing was. If a write failed, there is a report, and a prefix of
--- its lines was printed.
-abbrev pub IsReportPrinted : Limits → Incoming → Incoming → Outgoing → Outgoing → Result Report ShowStop → Type 0
-IsReportPrinted limits old new before after (Ok report) =
-    IsCaptureJudged limits old new (Ok report) × IsWritten before after (report_lines report)
-IsReportPrinted limits old new before after (Err (Capture stopped)) =
+-- The report was printed, in this format; before a stop, nothing was. If a write failed, there is a report, and a prefix
+-- of its text was printed.
+abbrev pub IsReportPrinted : Format → Limits → Incoming → Incoming → Outgoing → Outgoing → Result Report ShowStop → Type 0
+IsReportPrinted format limits old new before after (Ok report) =
+    IsCaptureJudged limits old new (Ok report) × IsWritten before after (report_text format report)
+IsReportPrinted format limits old new before after (Err (Capture stopped)) =
     IsCaptureJudged limits old new (Err stopped) × (after ≡ before)
-IsReportPrinted limits old new before after (Err Write) =
-    (report : Report) × IsCaptureJudged limits old new (Ok report) × IsPartlyWritten before after (report_lines report)
+IsReportPrinted format limits old new before after (Err Write) =
+    (report : Report) × IsCaptureJudged limits old new (Ok report) × IsPartlyWritten before after (report_text format report)
 
 -- the exit status for a report or a stop: 2 for a stop
 abbrev pub closing_status : Result Report ShowStop → ℕ
@@ -43,7 +44,7 @@ IsClosingDiagnosed (Ok report) old new = new ≡ old
 IsClosingDiagnosed (Err stopped) old new = IsDiagnosed old new (closing_stop_line stopped)
 
 -- `closing`: its channels before and after, and the exit status, are of one answer.
-abbrev pub IsClosingRun : Limits → Channels → Channels → ℕ → Type 0
-IsClosingRun limits before after status = (done : Result Report ShowStop)
-    × IsReportPrinted limits before.input after.input before.output after.output done
+abbrev pub IsClosingRun : Format → Limits → Channels → Channels → ℕ → Type 0
+IsClosingRun format limits before after status = (done : Result Report ShowStop)
+    × IsReportPrinted format limits before.input after.input before.output after.output done
     × (status ≡ closing_status done) × IsClosingDiagnosed done before.errors after.errors

@@ -17,22 +17,22 @@ MayRun job = Unit {0}
 
 -- the endpoint whose stream the job reads; `closing` and `show` read both streams
 abbrev pub job_role : {A : Type 0} → Job A → Option Role
-job_role (Judge role limits) = Some role
-job_role (Frames role limits) = Some role
+job_role (Judge role limits format) = Some role
+job_role (Frames role limits format) = Some role
 job_role (Normal role limits) = Some role
 job_role (Plan role limits) = Some role
 job_role (Recut role limits how) = Some role
 job_role (ShowStream role limits style) = Some role
-job_role (Closing limits) = None
+job_role (Closing limits format) = None
 job_role (Show limits style) = None
 
 -- The job's run: its channels before and after, and the exit status, are of one answer.
 abbrev pub IsRun : {A : Type 0} → Job A → Channels → Channels → ℕ → Type 0
-IsRun (Judge role limits) before after status = IsJudgeRun role limits before after status
-IsRun (Frames role limits) before after status = IsFramesRun role limits before after status
+IsRun (Judge role limits format) before after status = IsJudgeRun format role limits before after status
+IsRun (Frames role limits format) before after status = IsFramesRun format role limits before after status
 IsRun (Normal role limits) before after status = IsNormalRun role limits before after status
 IsRun {A} (Plan role limits) before after status = IsPlanRun A role limits before after status
 IsRun (Recut role limits how) before after status = IsRecutRun role limits how before after status
 IsRun (ShowStream role limits style) before after status = IsShowStreamRun role limits style before after status
-IsRun (Closing limits) before after status = IsClosingRun limits before after status
+IsRun (Closing limits format) before after status = IsClosingRun format limits before after status
 IsRun (Show limits style) before after status = IsShowRun limits style before after status

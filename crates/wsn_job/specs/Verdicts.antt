@@ -6,25 +6,28 @@ use Rattle.wsn_rules.specs.declared.verdict.Verdict.{Verdict}
 use Rattle.wsn_rules.specs.declared.verdict.Verdict.TheVariants.{Accepted}
 use Rattle.wsn_rules.specs.Limits.{Limits}
 use Rattle.wsn_print.specs.Statuses.{verdict_status}
+use Rattle.wsn_print.specs.declared.format.Format.{Format}
 use Rattle.wsn_print.specs.VerdictText.{verdict_line}
+use Rattle.wsn_print.specs.Formats.{verdict_text}
 use Rattle.wsn_io.specs.declared.stop.Stop.{Stop}
 use Rattle.wsn_io.specs.declared.stop.Stop.TheVariants as stop
 use Rattle.wsn_scan.specs.Judging.{IsJudged}
-use Rattle.wsn_scan.specs.Listing.{IsListed}
+use Rattle.wsn_scan.specs.Listing.{IsListedAs}
 use Rattle.wsn_events.specs.Normalised.{IsNormalised}
 use Rattle.wsn_job.specs.Channels.{Channels}
 use Rattle.wsn_job.specs.Diagnostics.{IsDiagnosed, IsStopDiagnosed}
 use Rattle.wsn_print.specs.StopText.{stop_line}
 
--- The verdict's line was printed; before a stop, nothing was. If a write failed, there is a verdict, and a prefix of
--- its line was printed.
-abbrev pub IsVerdictPrinted : Role → Limits → Incoming → Incoming → Outgoing → Outgoing → Result Verdict Stop → Type 0
-IsVerdictPrinted role limits old new before after (Ok verdict) =
-    IsJudged role limits old new (Ok verdict) × IsWritten before after (verdict_line verdict)
-IsVerdictPrinted role limits old new before after (Err stop.Write) =
+-- The verdict was printed, in this format; before a stop, nothing was. If a write failed, there is a verdict, and a
+-- prefix of its line was printed.
+abbrev pub IsVerdictPrinted :
+    Format → Role → Limits → Incoming → Incoming → Outgoing → Outgoing → Result Verdict Stop → Type 0
+IsVerdictPrinted format role limits old new before after (Ok verdict) =
+    IsJudged role limits old new (Ok verdict) × IsWritten before after (verdict_text format verdict)
+IsVerdictPrinted format role limits old new before after (Err stop.Write) =
     (verdict : Verdict) × IsJudged role limits old new (Ok verdict)
-    × IsPartlyWritten before after (verdict_line verdict)
-IsVerdictPrinted role limits old new before after (Err stopped) =
+    × IsPartlyWritten before after (verdict_text format verdict)
+IsVerdictPrinted format role limits old new before after (Err stopped) =
     IsJudged role limits old new (Err stopped) × (after ≡ before)
 
 -- A stop, and a verdict that isn't accepted, is reported in its line; for an accepted verdict nothing is written.
@@ -35,17 +38,18 @@ IsVerdictDiagnosed (Err stopped) old new = IsDiagnosed old new (stop_line stoppe
 
 -- ---- a command's run: its channels before and after, and the exit status
 
--- `judge`: the verdict's line was printed.
-abbrev pub IsJudgeRun : Role → Limits → Channels → Channels → ℕ → Type 0
-IsJudgeRun role limits before after status = (done : Result Verdict Stop)
-    × IsVerdictPrinted role limits before.input after.input before.output after.output done
+-- `judge`: the verdict was printed.
+abbrev pub IsJudgeRun : Format → Role → Limits → Channels → Channels → ℕ → Type 0
+IsJudgeRun format role limits before after status = (done : Result Verdict Stop)
+    × IsVerdictPrinted format role limits before.input after.input before.output after.output done
     × (status ≡ verdict_status done)
     × IsStopDiagnosed done before.errors after.errors
 
--- `frames`: the lines of the frames were printed, and then the verdict's line.
-abbrev pub IsFramesRun : Role → Limits → Channels → Channels → ℕ → Type 0
-IsFramesRun role limits before after status = (done : Result Verdict Stop)
-    × IsListed role limits before.input after.input before.output after.output done × (status ≡ verdict_status done)
+-- `frames`: the frames were printed, and then the verdict.
+abbrev pub IsFramesRun : Format → Role → Limits → Channels → Channels → ℕ → Type 0
+IsFramesRun format role limits before after status = (done : Result Verdict Stop)
+    × IsListedAs format role limits before.input after.input before.output after.output done
+    × (status ≡ verdict_status done)
     × IsStopDiagnosed done before.errors after.errors
 
 -- `normal`: the normal form of the input's meaning was written.

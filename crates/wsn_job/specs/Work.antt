@@ -2,7 +2,7 @@
 use Rattle.std.specs.Prelude.{ℕ}
 use Rattle.wsn_io.specs.Transfer.{Incoming, Outgoing}
 use Rattle.wsn_print.specs.Statuses.{verdict_status}
-use Rattle.wsn_scan.specs.Listing.{IsListed}
+use Rattle.wsn_scan.specs.Listing.{IsListedAs}
 use Rattle.wsn_events.specs.Normalised.{IsNormalised}
 use Rattle.wsn_job.specs.declared.job.Job.{Job}
 use Rattle.wsn_job.specs.declared.job.Job.TheVariants.{Judge, Frames, Normal, Plan, Recut, ShowStream, Closing, Show}
@@ -19,8 +19,10 @@ use Rattle.wsn_job.specs.Closings.{IsReportPrinted, IsClosingDiagnosed, closing_
 
 -- What came from the input and what was printed are of the job's answer or stop.
 abbrev pub IsDone : {A : Type 0} → Job A → Incoming → Incoming → Outgoing → Outgoing → Done A → Type 0
-IsDone (Judge role limits) old new before after (done.Judge answer) = IsVerdictPrinted role limits old new before after answer
-IsDone (Frames role limits) old new before after (done.Frames answer) = IsListed role limits old new before after answer
+IsDone (Judge role limits format) old new before after (done.Judge answer) =
+    IsVerdictPrinted format role limits old new before after answer
+IsDone (Frames role limits format) old new before after (done.Frames answer) =
+    IsListedAs format role limits old new before after answer
 IsDone (Normal role limits) old new before after (done.Normal answer) =
     IsNormalised role limits old new before after answer
 IsDone (Plan role limits) old new before after (done.Plan answer) = IsPlanPrinted role limits old new before after answer
@@ -28,7 +30,8 @@ IsDone (Recut role limits how) old new before after (done.Recut answer) =
     IsRecut role limits (planned_by how) old new before after answer
 IsDone (ShowStream role limits style) old new before after (done.ShowStream answer) =
     IsStreamShown role limits style old new before after answer
-IsDone (Closing limits) old new before after (done.Closing answer) = IsReportPrinted limits old new before after answer
+IsDone (Closing limits format) old new before after (done.Closing answer) =
+    IsReportPrinted format limits old new before after answer
 IsDone (Show limits style) old new before after (done.Show answer) = IsShown limits style old new before after answer
 IsDone job old new before after answer = ⊥
 

@@ -6,7 +6,7 @@ use crate::diagnostics::{diagnose_line_fault, diagnose_stop};
 use std::io::{Read, Write};
 use wsn_capture::{CaptureStop, Report, judge_capture};
 use wsn_io::{Input, Output, Stop};
-use wsn_print::{put_report, status_of_outcome};
+use wsn_print::{Format, put_report_as, status_of_outcome};
 use wsn_scan::Limits;
 use wsn_show::ShowStop;
 
@@ -15,14 +15,15 @@ use wsn_show::ShowStop;
 pub(crate) fn print_report<R: Read, W: Write>(
     input: &mut Input<R>,
     limits: Limits,
+    format: Format,
     output: &mut Output<W>,
 ) -> Result<Report, ShowStop>
     requires readable { input.old.failed ≡ false }
     requires writable { output.old.failed ≡ false }
-    ensures { IsReportPrinted limits input.old input.new output.old output.new result }
+    ensures { IsReportPrinted format limits input.old input.new output.old output.new result }
 {
     let report = judge_capture(input, limits).map_err(ShowStop::Capture)?;
-    match put_report(output, &report) {
+    match put_report_as(output, format, &report) {
         Ok(()) => Ok(report),
         Err(_) => Err(ShowStop::Write),
     }

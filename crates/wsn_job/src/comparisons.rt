@@ -6,14 +6,25 @@ use crate::diagnostics::diagnose_if_stopped;
 use std::alloc::Allocator;
 use std::io::{Read, Write};
 use wsn_events::{Compared, same};
-use wsn_print::{put_compared, status_of_comparison};
+use wsn_print::{Format, put_compared_as, status_of_comparison};
 use wsn_scan::{Limits, Stop};
 use wsn_wire::{Input, Output, Role};
+
+/// How two streams are compared, and how the answer is printed.
+#[derive(Clone, Copy)]
+pub struct Comparison {
+    /// The endpoint that sent the streams.
+    pub role: Role,
+    /// The limits for reading each of them.
+    pub limits: Limits,
+    /// The format of the answer.
+    pub format: Format,
+}
 
 /// Compares the meaning of two streams that endpoints of one role sent, prints the answer as one line, and returns the
 /// program's exit status.
 ///
-/// The line is `equal`, with status 0; `different K`, with status 1, where K is the index, from 0, of the first event
+/// In words, the line is `equal`, with status 0; `different K`, with status 1, where K is the index, from 0, of the first event
 /// that differs; or, for a stream that isn't accepted, `first ` or `second ` and its verdict's line, with status 1. A
 /// stop gives status 2 and one line on `errors`; what can't be written there is dropped.
 #[tactic(none)]
@@ -21,8 +32,7 @@ pub fn run_same<A: Allocator + Copy, R: Read, S: Read, W: Write, E: Write>(
     alloc: A,
     first: &mut Input<R>,
     second: &mut Input<S>,
-    role: Role,
-    limits: Limits,
+    comparison: Comparison,
     output: &mut Output<W>,
     errors: &mut Output<E>,
 ) -> u8
@@ -30,7 +40,7 @@ pub fn run_same<A: Allocator + Copy, R: Read, S: Read, W: Write, E: Write>(
     requires second { second.old.failed ≡ false }
     requires writable { output.old.failed ≡ false }
     ensures done { (done : Result Compared Stop)
-        × IsComparisonPrinted role limits (compared_channels first.old second.old output.old)
+        × IsComparisonPrinted comparison.format comparison.role comparison.limits (compared_channels first.old second.old output.old)
         (compared_channels first.new second.new output.new) done
         × (result ≡ comparison_status done) × IsStopDiagnosed done errors.old errors.new }
     ensures status { (result ≡ 0) ⊎ (result ≡ 1) ⊎ (result ≡ 2) }
@@ -40,7 +50,7 @@ pub fn run_same<A: Allocator + Copy, R: Read, S: Read, W: Write, E: Write>(
     ensures read_second { second.new.failed ≡ true → result ≡ 2 }
     ensures write { output.new.failed ≡ true → result ≡ 2 }
 {
-    let done = print_comparison(alloc, first, second, role, limits, output);
+    let done = print_comparison(alloc, first, second, comparison, output);
     diagnose_if_stopped(done, errors);
     status_of_comparison(done)
 }
@@ -51,17 +61,16 @@ pub(crate) fn print_comparison<A: Allocator + Copy, R: Read, S: Read, W: Write>(
     alloc: A,
     first: &mut Input<R>,
     second: &mut Input<S>,
-    role: Role,
-    limits: Limits,
+    comparison: Comparison,
     output: &mut Output<W>,
 ) -> Result<Compared, Stop>
     requires first { first.old.failed ≡ false }
     requires second { second.old.failed ≡ false }
     requires writable { output.old.failed ≡ false }
-    ensures { IsComparisonPrinted role limits (compared_channels first.old second.old output.old)
+    ensures { IsComparisonPrinted comparison.format comparison.role comparison.limits (compared_channels first.old second.old output.old)
         (compared_channels first.new second.new output.new) result }
 {
-    let compared = same(alloc, first, second, role, limits)?;
-    put_compared(output, compared)?;
+    let compared = same(alloc, first, second, comparison.role, comparison.limits)?;
+    put_compared_as(output, comparison.format, compared)?;
     Ok(compared)
 }

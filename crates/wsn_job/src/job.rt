@@ -5,17 +5,18 @@ ghost use Rattle.wsn_job.specs.declared.job.How.TheVariants.{BySize};
 
 use std::alloc::{Allocator, Global};
 use wsn_plan::Plan;
+use wsn_print::Format;
 use wsn_scan::Limits;
 use wsn_show::Style;
 use wsn_wire::Role;
 
-/// The work of one command over one input.
+/// The work of one command over one input, and the format in which it prints its answer, if it has one.
 #[derive(Drop)]
 pub enum Job<A: Allocator = Global> {
     /// Print the verdict on the stream that this endpoint sent.
-    Judge(Role, Limits),
+    Judge(Role, Limits, Format),
     /// Print a line for each of the stream's frames, and then the verdict.
-    Frames(Role, Limits),
+    Frames(Role, Limits, Format),
     /// Write the normal form of the stream's meaning.
     Normal(Role, Limits),
     /// Print the plan of the stream's own frames.
@@ -23,7 +24,7 @@ pub enum Job<A: Allocator = Global> {
     /// Write the stream's meaning in other frames.
     Recut(Role, Limits, How<A>),
     /// Print how the connection closed, from a capture of both sides.
-    Closing(Limits),
+    Closing(Limits, Format),
     /// Print what the stream that this endpoint sent says, in order and in this style, and then the verdict.
     ShowStream(Role, Limits, Style),
     /// Print what both sides of a capture said, in order and in this style, and how the connection closed.
@@ -39,13 +40,13 @@ impl<A: Allocator> Job<A> {
         ensures { result ≡ job_role self.now }
     {
         match self {
-            Job::Judge(role, _)
-            | Job::Frames(role, _)
+            Job::Judge(role, _, _)
+            | Job::Frames(role, _, _)
             | Job::Normal(role, _)
             | Job::Plan(role, _)
             | Job::Recut(role, _, _)
             | Job::ShowStream(role, _, _) => Some(*role),
-            Job::Closing(_) | Job::Show(_, _) => None,
+            Job::Closing(_, _) | Job::Show(_, _) => None,
         }
     }
 }

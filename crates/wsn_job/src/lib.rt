@@ -19,7 +19,7 @@ mod sides;
 pub mod status_examples;
 mod verdicts;
 
-pub use comparisons::run_same;
+pub use comparisons::{Comparison, run_same};
 pub use job::{How, Job};
 pub use running::run;
 pub use sides::{run_on_side, run_same_on_sides};

@@ -12,7 +12,7 @@ use crate::verdicts::print_verdict;
 use std::alloc::Allocator;
 use std::io::{Read, Write};
 use wsn_events::normalise;
-use wsn_scan::list;
+use wsn_scan::list_as;
 use wsn_show::{show, show_stream};
 use wsn_wire::{Input, Output};
 
@@ -62,8 +62,12 @@ pub(crate) fn work<A: Allocator + Copy, R: Read, W: Write>(
     ensures write { output.new.failed ≡ true → done_status result ≡ 2 }
 {
     match job {
-        Job::Judge(role, limits) => Done::Judge(print_verdict(input, *role, *limits, output)),
-        Job::Frames(role, limits) => Done::Frames(list(input, output, *role, *limits)),
+        Job::Judge(role, limits, format) => {
+            Done::Judge(print_verdict(input, *role, *limits, *format, output))
+        }
+        Job::Frames(role, limits, format) => {
+            Done::Frames(list_as(input, output, *role, *limits, *format))
+        }
         Job::Normal(role, limits) => {
             Done::Normal(normalise(alloc, input, output, *role, *limits))
         }
@@ -74,7 +78,9 @@ pub(crate) fn work<A: Allocator + Copy, R: Read, W: Write>(
         Job::ShowStream(role, limits, style) => {
             Done::ShowStream(show_stream(input, output, *role, *limits, *style))
         }
-        Job::Closing(limits) => Done::Closing(print_report(input, *limits, output)),
+        Job::Closing(limits, format) => {
+            Done::Closing(print_report(input, *limits, *format, output))
+        }
         Job::Show(limits, style) => Done::Show(show(input, output, *limits, *style)),
     }
 }

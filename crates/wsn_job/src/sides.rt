@@ -3,7 +3,7 @@ ghost use Rattle.wsn_job.specs.Channels.{channels, compared_channels};
 ghost use Rattle.wsn_job.specs.Sides.{MayRunOnSide, IsRunOnSide, IsFaultySide, IsFirstFaultySide, IsSameDiagnosed};
 ghost use Rattle.wsn_job.specs.Words.{Stop, Compared, IsComparisonPrinted, comparison_status};
 
-use crate::comparisons::print_comparison;
+use crate::comparisons::{Comparison, print_comparison};
 use crate::diagnostics::{diagnose_if_stopped, diagnose_line_fault};
 use crate::job::Job;
 use crate::running::work;
@@ -12,8 +12,8 @@ use std::io::{Read, Write};
 use wsn_capture::{CaptureStop, LineFault, SideReader};
 use wsn_events::Compared;
 use wsn_print::status_of_comparison;
-use wsn_scan::{Limits, Stop};
-use wsn_wire::{Input, Output, Role};
+use wsn_scan::Stop;
+use wsn_wire::{Input, Output};
 
 /// A line of a capture that isn't accepted: its number, counted from 1, and its first fault.
 #[derive(Clone, Copy)]
@@ -75,8 +75,7 @@ pub fn run_same_on_sides<A: Allocator + Copy, R: Read, S: Read, W: Write, E: Wri
     alloc: A,
     first: &mut Input<SideReader<R>>,
     second: &mut Input<SideReader<S>>,
-    role: Role,
-    limits: Limits,
+    comparison: Comparison,
     output: &mut Output<W>,
     errors: &mut Output<E>,
 ) -> u8
@@ -84,7 +83,7 @@ pub fn run_same_on_sides<A: Allocator + Copy, R: Read, S: Read, W: Write, E: Wri
     requires second { second.old.failed ≡ false }
     requires writable { output.old.failed ≡ false }
     ensures done { (done : Result Compared Stop)
-        × IsComparisonPrinted role limits (compared_channels first.old second.old output.old)
+        × IsComparisonPrinted comparison.format comparison.role comparison.limits (compared_channels first.old second.old output.old)
         (compared_channels first.new second.new output.new) done
         × (result ≡ comparison_status done) × IsSameDiagnosed first.new second.new done errors.old errors.new }
     ensures status { (result ≡ 0) ⊎ (result ≡ 1) ⊎ (result ≡ 2) }
@@ -94,7 +93,7 @@ pub fn run_same_on_sides<A: Allocator + Copy, R: Read, S: Read, W: Write, E: Wri
     ensures read_second { second.new.failed ≡ true → result ≡ 2 }
     ensures write { output.new.failed ≡ true → result ≡ 2 }
 {
-    let done = print_comparison(alloc, first, second, role, limits, output);
+    let done = print_comparison(alloc, first, second, comparison, output);
     match faulty_line_of_two(done, first, second) {
         Some(line) => line.diagnose(errors),
         None => diagnose_if_stopped(done, errors),

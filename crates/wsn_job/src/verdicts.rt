@@ -3,24 +3,25 @@ ghost use Rattle.wsn_job.specs.Words.{IsVerdictPrinted, IsVerdictDiagnosed};
 
 use crate::diagnostics::{diagnose_stop, diagnose_verdict};
 use std::io::{Read, Write};
-use wsn_print::put_verdict;
+use wsn_print::{Format, put_verdict_as};
 use wsn_scan::{Limits, Stop, Verdict, judge};
 use wsn_wire::{Input, Output, Role};
 
-/// Prints the line of the verdict on the input.
+/// Prints the verdict on the input.
 #[tactic(none)]
 pub(crate) fn print_verdict<R: Read, W: Write>(
     input: &mut Input<R>,
     role: Role,
     limits: Limits,
+    format: Format,
     output: &mut Output<W>,
 ) -> Result<Verdict, Stop>
     requires readable { input.old.failed ≡ false }
     requires writable { output.old.failed ≡ false }
-    ensures { IsVerdictPrinted role limits input.old input.new output.old output.new result }
+    ensures { IsVerdictPrinted format role limits input.old input.new output.old output.new result }
 {
     let verdict = judge(input, role, limits)?;
-    put_verdict(output, &verdict)?;
+    put_verdict_as(output, format, &verdict)?;
     Ok(verdict)
 }
 

@@ -1,5 +1,5 @@
 -- One more line of a capture: its entry, and the time that holds after it.
-use Rattle.std.proofs.Common.{◌≡◌, ℕ, Bool, Option, None, Some, List, [], ◌∷◌, ◌++◌, inl, inr, refl, sym, ap, ◌∙◌, subst, append_assoc, append-nil, length, ◌≤◌, ◌<◌, arith}
+use Rattle.std.proofs.Common.{◌≡◌, ℕ, Bool, Option, None, Some, List, [], ◌∷◌, ◌++◌, inl, inr, refl, sym, ap, ◌∙◌, subst, append_assoc, append-nil, length, length-append, ◌≤◌, ◌<◌, arith}
 use Rattle.std.specs.List.{AllByRecursion}
 use Rattle.wsn_io.specs.Transfer.{Outgoing}
 use Rattle.wsn_wire.specs.declared.endpoint.Role.{Role}
@@ -10,7 +10,7 @@ use Rattle.wsn_rules.specs.declared.report.Report.{Report}
 use Rattle.wsn_rules.specs.Entries.{Entry, without_cr, IsEntry, AreEntries}
 use Rattle.wsn_rules.specs.ShownCapture.{IsNoTime, IsTimeAfter}
 use Rattle.wsn_capture.specs.declared.capture.Capture.{Capture}
-use Rattle.wsn_capture.specs.Captures.{HasAcceptedLines}
+use Rattle.wsn_capture.specs.Captures.{HasAcceptedLines, count_of}
 use Rattle.wsn_capture.specs.declared.line_fault.LineFault.TheVariants.{TooLong}
 use Rattle.wsn_capture.specs.LineFaults.{IsAcceptedLine, AreAcceptedAfter}
 use Rattle.wsn_capture.proofs.AcceptedTexts.{taken_given}
@@ -112,7 +112,8 @@ module _ (limits : Limits) (style : Style) (view : CaptureView) (lines : List (L
       viewed = shows.viewed;
       time = time_pushed lines line view.time after.time has.time shows.time;
     };
-    shown = record { time = view.time; items = shows.items };
+    shown = record { number = count_of new; time = view.time; items = shows.items };
+    numbered = taken.count ∙ length-append lines (line ∷ []);
     at = has.time;
     shows = shows.shows;
     printed = shows.printed;

@@ -1,5 +1,5 @@
 -- The end of a text that is shown.
-use Rattle.std.proofs.Common.{◌≡◌, ℕ, true, false, None, Ok, Err, List, [], ◌∷◌, ◌++◌, flat_map, inl, inr, refl, sym, ap, ◌∙◌, subst, append-nil}
+use Rattle.std.proofs.Common.{◌≡◌, ℕ, true, false, Ok, Err, List, [], ◌∷◌, ◌++◌, flat_map, inl, inr, refl, sym, ap, ◌∙◌, subst, append-nil}
 use Rattle.wsn_io.specs.Transfer.{Outgoing, IsWritten, IsPartlyWritten}
 use Rattle.wsn_io.proofs.PutTexts.{put_both, put_front, put_no_more}
 use Rattle.wsn_rules.specs.Limits.{Limits}
@@ -9,8 +9,8 @@ use Rattle.wsn_rules.specs.declared.report.Report.{Report}
 use Rattle.wsn_wire.specs.declared.endpoint.Role.TheVariants.{Client, Server}
 use Rattle.wsn_rules.specs.ShownCapture.{LineItem, of_stream}
 use Rattle.wsn_show.specs.declared.style.Style.{Style}
-use Rattle.wsn_show.specs.Styles.{styled_line_item, styled_line}
-use Rattle.wsn_print.specs.ReportText.{report_lines}
+use Rattle.wsn_show.specs.Styles.{styled_line_item, styled_line, styled_report}
+use Rattle.wsn_print.specs.ShownObjects.Position.{AtEnd}
 use Rattle.wsn_capture.specs.declared.capture_stop.CaptureStop.TheVariants as capture
 use Rattle.wsn_capture.specs.LineFaults.{AreAcceptedLines}
 use Rattle.wsn_capture.proofs.SplitLines.{unfaulted, faulty_last}
@@ -36,9 +36,9 @@ module _ (limits : Limits) (style : Style) (first : Outgoing) (came : List ℕ) 
   lines_text = flat_map (styled_line style) has.shown
 
   abbrev last_text : List ℕ
-  last_text = flat_map (styled_line_item style None) last
+  last_text = flat_map (styled_line_item style AtEnd) last
 
-  pub whole_text : IsWholeText limits style came report (lines_text ++ last_text ++ report_lines report)
+  pub whole_text : IsWholeText limits style came report (lines_text ++ last_text ++ styled_report style report)
   whole_text =
       let accepted = has.has_shown.accepted in
       let same = same_entries lines accepted.entries has.entries (taken_given limits [] lines accepted.entries accepted.taken) has.has_shown.given in
@@ -66,9 +66,9 @@ module _ (limits : Limits) (style : Style) (first : Outgoing) (came : List ℕ) 
   -- a write failed before the report
   pub stopped_before : after.failed ≡ true → EndsShowing limits style first after came (Err stop.Write)
   stopped_before failed = (
-    lines_text ++ last_text ++ report_lines report,
+    lines_text ++ last_text ++ styled_report style report,
     inr (report, whole_text),
-    put_no_more first after (lines_text ++ last_text) (report_lines report)
+    put_no_more first after (lines_text ++ last_text) (styled_report style report)
         (put_front first now after lines_text last_text has.printed (failed_part now after last_text failed finishes.printed)),
   )
 
@@ -76,14 +76,14 @@ module _ (limits : Limits) (style : Style) (first : Outgoing) (came : List ℕ) 
     all_before : IsWritten first after (lines_text ++ last_text)
     all_before = put_both first now after lines_text last_text has.printed (whole_part now after last_text works finishes.printed)
 
-    pub reported : IsWritten after out (report_lines report) → EndsShowing limits style first out came (Ok report)
-    reported written = (lines_text ++ last_text ++ report_lines report, whole_text, put_both first after out (lines_text ++ last_text) (report_lines report) all_before written)
+    pub reported : IsWritten after out (styled_report style report) → EndsShowing limits style first out came (Ok report)
+    reported written = (lines_text ++ last_text ++ styled_report style report, whole_text, put_both first after out (lines_text ++ last_text) (styled_report style report) all_before written)
 
-    pub stopped_in : IsPartlyWritten after out (report_lines report) → EndsShowing limits style first out came (Err stop.Write)
+    pub stopped_in : IsPartlyWritten after out (styled_report style report) → EndsShowing limits style first out came (Err stop.Write)
     stopped_in partly = (
-      lines_text ++ last_text ++ report_lines report,
+      lines_text ++ last_text ++ styled_report style report,
       inr (report, whole_text),
-      put_front first after out (lines_text ++ last_text) (report_lines report) all_before partly,
+      put_front first after out (lines_text ++ last_text) (styled_report style report) all_before partly,
     )
 
 -- ---- the last line

@@ -44,7 +44,8 @@ shown_pushed detail limits before given (l ∷ lines) (e ∷ entries) [] line en
 shown_pushed detail limits before given (l ∷ lines) (e ∷ entries) (t ∷ shown) line entry s are one = (
   are.0,
   are.1,
-  shown_pushed detail limits (before ++ l ∷ []) (given ++ e ∷ []) lines entries shown line entry s are.2
+  are.2,
+  shown_pushed detail limits (before ++ l ∷ []) (given ++ e ∷ []) lines entries shown line entry s are.3
       (subst (λ (b : List (List ℕ)). AreShownAfter detail limits b ((given ++ e ∷ []) ++ entries) (line ∷ []) (entry ∷ []) (s ∷ [])) (sym (append_assoc before (l ∷ []) lines))
       (subst (λ (g : List Entry). AreShownAfter detail limits (before ++ l ∷ lines) g (line ∷ []) (entry ∷ []) (s ∷ [])) (sym (append_assoc given (e ∷ []) entries)) one)),
 )
@@ -96,7 +97,7 @@ module _ (limits : Limits) (style : Style) (first : Outgoing) (view : CaptureVie
   -- one line more was shown
   module _ (new : CaptureView) (line : List ℕ) (after : Outgoing) (shows : ShowsLine limits style new has.passed.lines has.entries line now after) where
     pub one_more : AreShownAfter style.detail limits [] [] (has.passed.lines ++ line ∷ []) (has.entries ++ shows.entry ∷ []) (has.shown ++ shows.shown ∷ [])
-    one_more = shown_pushed style.detail limits [] [] has.passed.lines has.entries has.shown line shows.entry shows.shown has.are (shows.at, shows.shows, tt)
+    one_more = shown_pushed style.detail limits [] [] has.passed.lines has.entries has.shown line shows.entry shows.shown has.are (shows.numbered, shows.at, shows.shows, tt)
 
     abbrev pub text_with_line : IsTextOfLines limits style (has.passed.lines ++ line ∷ []) (flat_map (styled_line style) has.shown ++ styled_line style shows.shown)
     text_with_line =

@@ -12,7 +12,9 @@ use Rattle.wsn_rules.specs.Sides.{sent, bytes_in}
 use Rattle.wsn_rules.specs.ShownStream.{Item, Shown, IsShownStream, IsLeftOver}
 use Rattle.wsn_rules.specs.ShownCapture.{of_stream, beyond, GivesTime, GivesNoTime}
 use Rattle.wsn_rules.specs.ShownCapture.LineItem.{End, Comment}
-use Rattle.wsn_print.specs.ShownText.{end_line, comment_line}
+use Rattle.wsn_print.specs.ShownObjects.{Position}
+use Rattle.wsn_print.specs.Formats.{end_entry, comment_entry}
+use Rattle.wsn_capture.specs.Captures.{count_of}
 use Rattle.wsn_show.specs.declared.style.Style.{Style}
 use Rattle.wsn_show.specs.Styles.{styled_item, styled_items, styled_line_item}
 use Rattle.wsn_capture.specs.declared.line_fault.LineFault.TheVariants.{InputLimit}
@@ -21,7 +23,7 @@ use Rattle.wsn_capture.proofs.OneEntry.{letter_of, front_is, mark_is, one_given}
 use Rattle.wsn_show.specs.declared.capture_view.CaptureView.{CaptureView}
 use Rattle.wsn_show.specs.declared.stream_view.StreamView.{StreamView}
 use Rattle.wsn_show.specs.StreamViews.{HasViewed}
-use Rattle.wsn_show.specs.CaptureViews.{AreViewed, IsAcceptedText, CanShow, ShowsText, ShowsMark}
+use Rattle.wsn_show.specs.CaptureViews.{AreViewed, IsAcceptedText, CanShow, line_position, ShowsText, ShowsMark}
 
 -- ---- empty texts
 
@@ -34,32 +36,32 @@ some_text bs some is = false≢true (sym (subst (λ (xs : List ℕ). (length xs 
 
 -- ---- what a stream's view does
 
-pub record Takes (role : Role) (limits : Limits) (style : Style) (new : StreamView) (came bytes : List ℕ) (time : Option (List ℕ))
+pub record Takes (role : Role) (limits : Limits) (style : Style) (new : StreamView) (came bytes : List ℕ) (position : Position)
     (before after : Outgoing) : Type 0 where
   pub viewed : HasViewed role limits style new (came ++ bytes)
   pub shown : List Shown
   pub is_shown : IsShownStream style.detail role limits (came ++ bytes) shown
-  pub printed : IsWrittenUpToFailure before after (styled_items style role time (beyond (length came) shown))
+  pub printed : IsWrittenUpToFailure before after (styled_items style role position (beyond (length came) shown))
 
-pub record PutsLeft (role : Role) (limits : Limits) (style : Style) (came : List ℕ) (time : Option (List ℕ)) (before after : Outgoing) : Type 0 where
+pub record PutsLeft (role : Role) (limits : Limits) (style : Style) (came : List ℕ) (position : Position) (before after : Outgoing) : Type 0 where
   pub left : List Item
   pub is_left : IsLeftOver role limits came left
-  pub printed : IsWrittenUpToFailure before after (styled_items style role time left)
+  pub printed : IsWrittenUpToFailure before after (styled_items style role position left)
 
 -- ---- the text of items
 
-of_stream_text : (style : Style) (role : Role) (time : Option (List ℕ)) (items : List Item) →
-    flat_map (styled_line_item style time) (of_stream role items) ≡ styled_items style role time items
-of_stream_text style role time [] = refl
-of_stream_text style role time (item ∷ items) =
-    ap (λ (bs : List ℕ). styled_item style role time item ++ bs) (of_stream_text style role time items)
+of_stream_text : (style : Style) (role : Role) (position : Position) (items : List Item) →
+    flat_map (styled_line_item style position) (of_stream role items) ≡ styled_items style role position items
+of_stream_text style role position [] = refl
+of_stream_text style role position (item ∷ items) =
+    ap (λ (bs : List ℕ). styled_item style role position item ++ bs) (of_stream_text style role position items)
 
-with_end_text : (style : Style) (role : Role) (time : Option (List ℕ)) (items : List Item) (offset : ℕ) →
-    flat_map (styled_line_item style time) (of_stream role items ++ End role offset ∷ []) ≡ styled_items style role time items ++ end_line role time offset
-with_end_text style role time items offset =
-    flat_map-append (styled_line_item style time) (of_stream role items) (End role offset ∷ [])
-    ∙ ap (λ (bs : List ℕ). bs ++ flat_map (styled_line_item style time) (End role offset ∷ [])) (of_stream_text style role time items)
-    ∙ ap (λ (bs : List ℕ). styled_items style role time items ++ bs) (append-nil (end_line role time offset))
+with_end_text : (style : Style) (role : Role) (position : Position) (items : List Item) (offset : ℕ) →
+    flat_map (styled_line_item style position) (of_stream role items ++ End role offset ∷ []) ≡ styled_items style role position items ++ end_entry style.format role position offset
+with_end_text style role position items offset =
+    flat_map-append (styled_line_item style position) (of_stream role items) (End role offset ∷ [])
+    ∙ ap (λ (bs : List ℕ). bs ++ flat_map (styled_line_item style position) (End role offset ∷ [])) (of_stream_text style role position items)
+    ∙ ap (λ (bs : List ℕ). styled_items style role position items ++ bs) (append-nil (end_entry style.format role position offset))
 
 -- ---- streams
 
@@ -92,7 +94,7 @@ module _ (limits : Limits) (style : Style) (given : List Entry) (old : CaptureVi
 
   module _ (entry : Entry) (before after : Outgoing) where
     pub shows_client : (new : StreamView) (digits bytes : List ℕ) → IsAcceptedText limits given (bytes_prefix Client ++ digits) entry → IsHex digits bytes
-        → Takes Client limits style new (sent Client given) bytes old.time before after
+        → Takes Client limits style new (sent Client given) bytes (line_position old) before after
         → ShowsText limits style old (record old { client = new }) given (bytes_prefix Client ++ digits) entry before after
     shows_client new digits bytes accepted hex takes =
         let text = bytes_prefix Client ++ digits in
@@ -106,11 +108,11 @@ module _ (limits : Limits) (style : Style) (given : List Entry) (old : CaptureVi
           time = inr (no_time_in_bytes Client digits, refl);
           items = items;
           shows = (takes.shown, takes.is_shown, refl);
-          printed = subst (IsWrittenUpToFailure before after) (sym (of_stream_text style Client old.time (beyond (length (sent Client given)) takes.shown))) takes.printed;
+          printed = subst (IsWrittenUpToFailure before after) (sym (of_stream_text style Client (line_position old) (beyond (length (sent Client given)) takes.shown))) takes.printed;
         })
 
     pub shows_server : (new : StreamView) (digits bytes : List ℕ) → IsAcceptedText limits given (bytes_prefix Server ++ digits) entry → IsHex digits bytes
-        → Takes Server limits style new (sent Server given) bytes old.time before after
+        → Takes Server limits style new (sent Server given) bytes (line_position old) before after
         → ShowsText limits style old (record old { server = new }) given (bytes_prefix Server ++ digits) entry before after
     shows_server new digits bytes accepted hex takes =
         let text = bytes_prefix Server ++ digits in
@@ -124,12 +126,12 @@ module _ (limits : Limits) (style : Style) (given : List Entry) (old : CaptureVi
           time = inr (no_time_in_bytes Server digits, refl);
           items = items;
           shows = (takes.shown, takes.is_shown, refl);
-          printed = subst (IsWrittenUpToFailure before after) (sym (of_stream_text style Server old.time (beyond (length (sent Server given)) takes.shown))) takes.printed;
+          printed = subst (IsWrittenUpToFailure before after) (sym (of_stream_text style Server (line_position old) (beyond (length (sent Server given)) takes.shown))) takes.printed;
         })
 
     -- an end mark
     pub shows_mark : (role : Role) → IsAcceptedText limits given (end_mark role) entry → bytes_in Client (Mark role) ≡ [] → bytes_in Server (Mark role) ≡ []
-        → ShowsMark role limits style given old.time before after → ShowsText limits style old old given (end_mark role) entry before after
+        → ShowsMark role limits style given (line_position old) before after → ShowsText limits style old old given (end_mark role) entry before after
     shows_mark role accepted no_client no_server marks =
         let is : Mark role ≡ entry = one_given (end_mark role) (Mark role) entry refl accepted.gives in
         subst (λ (e : Entry). ShowsText limits style old old given (end_mark role) e before after) is (record {
@@ -170,7 +172,7 @@ module _ (limits : Limits) (style : Style) (given : List Entry) (old : CaptureVi
 
     -- a comment
     pub shows_comment : (text : List ℕ) → IsAcceptedText limits given text entry → (text ≡ [] → ⊥) → GivesEntry text Nothing → GivesNoTime text
-        → IsWrittenUpToFailure before after (comment_line text) → ShowsText limits style old old given text entry before after
+        → IsWrittenUpToFailure before after (comment_entry style.format (count_of old.capture) text) → ShowsText limits style old old given text entry before after
     shows_comment text accepted some nothing none printed =
         let is : Nothing ≡ entry = one_given text Nothing entry nothing accepted.gives in
         subst (λ (e : Entry). ShowsText limits style old old given text e before after) is (record {
@@ -178,7 +180,7 @@ module _ (limits : Limits) (style : Style) (given : List Entry) (old : CaptureVi
           time = inr (none, refl);
           items = Comment text ∷ [];
           shows = inl (some, none, refl);
-          printed = subst (IsWrittenUpToFailure before after) (sym (append-nil (comment_line text))) printed;
+          printed = subst (IsWrittenUpToFailure before after) (sym (append-nil (comment_entry style.format (count_of old.capture) text))) printed;
         })
 
 -- ---- room
@@ -202,21 +204,21 @@ room_for_server view digits bytes can hex =
 
 -- ---- end marks
 
-pub marks : (role : Role) (limits : Limits) (style : Style) (given : List Entry) (time : Option (List ℕ)) (before after : Outgoing) (left : List Item)
+pub marks : (role : Role) (limits : Limits) (style : Style) (given : List Entry) (position : Position) (before after : Outgoing) (left : List Item)
     → IsLeftOver role limits (sent role given) left
-    → IsWrittenUpToFailure before after (styled_items style role time left ++ end_line role time (length (sent role given)))
-    → ShowsMark role limits style given time before after
-marks role limits style given time before after left is_left printed = record {
+    → IsWrittenUpToFailure before after (styled_items style role position left ++ end_entry style.format role position (length (sent role given)))
+    → ShowsMark role limits style given position before after
+marks role limits style given position before after left is_left printed = record {
   items = of_stream role left ++ End role (length (sent role given)) ∷ [];
   shows = (left, is_left, refl);
-  printed = subst (IsWrittenUpToFailure before after) (sym (with_end_text style role time left (length (sent role given)))) printed;
+  printed = subst (IsWrittenUpToFailure before after) (sym (with_end_text style role position left (length (sent role given)))) printed;
 }
 
 -- ---- both streams
 
-pub both_streams_text : (style : Style) (time : Option (List ℕ)) (client server : List Item) →
-    flat_map (styled_line_item style time) (of_stream Client client ++ of_stream Server server) ≡ styled_items style Client time client ++ styled_items style Server time server
-both_streams_text style time client server =
-    flat_map-append (styled_line_item style time) (of_stream Client client) (of_stream Server server)
-    ∙ ap (λ (bs : List ℕ). bs ++ flat_map (styled_line_item style time) (of_stream Server server)) (of_stream_text style Client time client)
-    ∙ ap (λ (bs : List ℕ). styled_items style Client time client ++ bs) (of_stream_text style Server time server)
+pub both_streams_text : (style : Style) (position : Position) (client server : List Item) →
+    flat_map (styled_line_item style position) (of_stream Client client ++ of_stream Server server) ≡ styled_items style Client position client ++ styled_items style Server position server
+both_streams_text style position client server =
+    flat_map-append (styled_line_item style position) (of_stream Client client) (of_stream Server server)
+    ∙ ap (λ (bs : List ℕ). bs ++ flat_map (styled_line_item style position) (of_stream Server server)) (of_stream_text style Client position client)
+    ∙ ap (λ (bs : List ℕ). styled_items style Client position client ++ bs) (of_stream_text style Server position server)

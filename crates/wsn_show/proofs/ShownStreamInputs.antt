@@ -1,5 +1,5 @@
 -- An input whose stream is shown: the answer fits the bytes that came.
-use Rattle.std.proofs.Common.{◌≡◌, ◌≢◌, ℕ, ◌+◌, ◌<◌, ◌≤◌, false, true, None, Result, Ok, Err, List, [], ◌++◌, length, take, drop, map, flat_map, inl, inr, refl, sym, ap, ◌∙◌, subst, append_assoc, append-nil, length-append, arith}
+use Rattle.std.proofs.Common.{◌≡◌, ◌≢◌, ℕ, ◌+◌, ◌<◌, ◌≤◌, false, true, Result, Ok, Err, List, [], ◌++◌, length, take, drop, inl, inr, refl, sym, ap, ◌∙◌, subst, append_assoc, append-nil, length-append, arith}
 use Rattle.std.proofs.KnownBytes.{Appends-nil}
 use Rattle.std.proofs.lemmas.List.{length-take-le, take-take, take_all, take-append-drop, map-append}
 use Rattle.std.proofs.lemmas.List.Concat.{flat_map-append}
@@ -23,8 +23,7 @@ use Rattle.wsn_rules.proofs.OneVerdict.{one_verdict}
 use Rattle.wsn_rules.proofs.StaysRefused.{place_within, stays_refused}
 use Rattle.wsn_rules.proofs.ShownStreams.{shown_goes_on}
 use Rattle.wsn_rules.proofs.ShownLines.{nothing_shown}
-use Rattle.wsn_print.specs.declared.format.Format.TheVariants.{Text}
-use Rattle.wsn_print.specs.VerdictText.{verdict_line}
+use Rattle.wsn_print.specs.ShownObjects.Position.{InStream}
 use Rattle.wsn_scan.specs.declared.refill.ReadChunk.{ReadChunk}
 use Rattle.wsn_scan.specs.Refill.{IsChunk, chunk_size, count_of}
 use Rattle.wsn_scan.specs.Judging.{IsReached, IsUnrefused}
@@ -32,10 +31,10 @@ use Rattle.wsn_scan.specs.Listing.{IsEnded, IsListAnswer, IsReadUpToRefusal}
 use Rattle.wsn_scan.proofs.Chunks.{one_past, none_past, in_count, most_of, by_past}
 use Rattle.wsn_scan.proofs.Unrefused.{place_after}
 use Rattle.wsn_show.specs.declared.style.Style.{Style}
-use Rattle.wsn_show.specs.Styles.{styled_item, styled_items}
+use Rattle.wsn_show.specs.Styles.{styled_item, styled_items, styled_verdict}
 use Rattle.wsn_show.specs.ShownSoFar.{items_in}
 use Rattle.wsn_show.specs.StreamViews.{Viewed, HasViewed}
-use Rattle.wsn_show.specs.StreamShows.{IsItemText, IsLeftWith, IsStreamText, IsPrintedText, EndsStream, IsStreamPrinted, IsStreamShown}
+use Rattle.wsn_show.specs.StreamShows.{IsItemText, IsLeftWith, IsStreamText, IsPrintedText, EndsStream, IsStreamShown}
 
 module _ (role : Role) (limits : Limits) (style : Style) where
   -- All bytes that came aren't refused, and what is shown of them was printed.
@@ -73,8 +72,8 @@ module _ (role : Role) (limits : Limits) (style : Style) where
 
   module _ (came : List ℕ) (first now mid after : Outgoing) (text : List ℕ) (none : IsUnrefused role limits came) (is_text : IsItemText role limits style came text)
       (written : IsWritten first now text) (left : List Item) (is_left : IsLeftOver role limits came left)
-      (printed : IsWrittenUpToFailure first mid (text ++ styled_items style role None left)) where
-    all_lines : (fs : List Frame) (verdict : Verdict) → IsVerdict role limits came fs verdict → IsStreamText role limits style came verdict ((text ++ styled_items style role None left) ++ verdict_line verdict)
+      (printed : IsWrittenUpToFailure first mid (text ++ styled_items style role InStream left)) where
+    all_lines : (fs : List Frame) (verdict : Verdict) → IsVerdict role limits came fs verdict → IsStreamText role limits style came verdict ((text ++ styled_items style role InStream left) ++ styled_verdict style verdict)
     all_lines fs verdict is = record {
       frames = fs;
       is_verdict = is;
@@ -89,27 +88,27 @@ module _ (role : Role) (limits : Limits) (style : Style) where
     pub left_unwritten : mid.failed ≡ true → EndsStream role limits style came first mid (Err stop.Write)
     left_unwritten failed =
         let verdict = is_text.is_shown.verdict in
-        let lines = text ++ styled_items style role None left in
-        let whole = prints_no_more first mid lines (verdict_line verdict) failed printed in
-        let partly : IsPartlyWritten first mid (lines ++ verdict_line verdict) =
+        let lines = text ++ styled_items style role InStream left in
+        let whole = prints_no_more first mid lines (styled_verdict style verdict) failed printed in
+        let partly : IsPartlyWritten first mid (lines ++ styled_verdict style verdict) =
         elim whole [ inl went ↦ (let both : false ≡ true = sym went.0 ∙ failed in absurd cc) | inr part ↦ part ] in
-        (refl, (lines ++ verdict_line verdict, inr (verdict, all_lines is_text.is_shown.frames verdict is_text.is_shown.is_verdict), partly))
+        (refl, (lines ++ styled_verdict style verdict, inr (verdict, all_lines is_text.is_shown.frames verdict is_text.is_shown.is_verdict), partly))
 
-    pub ends : mid.failed ≡ false → (fs : List Frame) (verdict : Verdict) → IsVerdict role limits came fs verdict → (result : Result Verdict Stop) → IsEnded Text mid after verdict result →
+    pub ends : mid.failed ≡ false → (fs : List Frame) (verdict : Verdict) → IsVerdict role limits came fs verdict → (result : Result Verdict Stop) → IsEnded style.format mid after verdict result →
         EndsStream role limits style came first after result
     ends works fs verdict is (Ok answer) ended =
-        let lines = text ++ styled_items style role None left in
+        let lines = text ++ styled_items style role InStream left in
         let all : IsWritten first mid lines =
         elim printed [ inl went ↦ went | inr part ↦ (let both : true ≡ false = sym part.0 ∙ works in absurd cc) ] in (
-          lines ++ verdict_line verdict,
-          subst (λ (v : Verdict). IsStreamText role limits style came v (lines ++ verdict_line verdict)) (sym ended.0) (all_lines fs verdict is),
-          put_both first mid after lines (verdict_line verdict) all ended.1,
+          lines ++ styled_verdict style verdict,
+          subst (λ (v : Verdict). IsStreamText role limits style came v (lines ++ styled_verdict style verdict)) (sym ended.0) (all_lines fs verdict is),
+          put_both first mid after lines (styled_verdict style verdict) all ended.1,
         )
     ends works fs verdict is (Err stopped) ended =
-        let lines = text ++ styled_items style role None left in
+        let lines = text ++ styled_items style role InStream left in
         let all : IsWritten first mid lines =
         elim printed [ inl went ↦ went | inr part ↦ (let both : true ≡ false = sym part.0 ∙ works in absurd cc) ] in
-        (ended.0, (lines ++ verdict_line verdict, inr (verdict, all_lines fs verdict is), put_front first mid after lines (verdict_line verdict) all ended.1))
+        (ended.0, (lines ++ styled_verdict style verdict, inr (verdict, all_lines fs verdict is), put_front first mid after lines (styled_verdict style verdict) all ended.1))
 
   module _ (old mid : Incoming) (first now : Outgoing) (view : Viewed) (came : List ℕ) (read : HasShownInput old mid first now view came) where
     few : length came ≤ limits.input
@@ -157,7 +156,7 @@ module _ (role : Role) (limits : Limits) (style : Style) where
     -- ---- one read gave a chunk, and the view got the bytes within the limit
     module _ (new : Incoming) (buffer : List ℕ) (chunk : ReadChunk) (got : IsChunk mid new view.room buffer chunk) (size : length buffer ≡ chunk_size)
         (next : Viewed) (after : Outgoing) (viewed : HasViewed role limits style next (came ++ take chunk.len buffer))
-        (shows : (shown : List Shown) × IsShownStream style.detail role limits (came ++ take chunk.len buffer) shown × IsWrittenUpToFailure now after (styled_items style role None (beyond (length came) shown))) where
+        (shows : (shown : List Shown) × IsShownStream style.detail role limits (came ++ take chunk.len buffer) shown × IsWrittenUpToFailure now after (styled_items style role InStream (beyond (length came) shown))) where
       abbrev piece : List ℕ
       piece = take chunk.len buffer
 
@@ -196,21 +195,21 @@ module _ (role : Role) (limits : Limits) (style : Style) where
       received_more : IsReceived (limits.input + 1) old new all_came
       received_more = received_of (limits.input + 1) old new all_came consumed_all (let room = read.viewed.room in omega (arith, length_all, room, most_of mid new view.room buffer chunk got))
 
-      text_now : IsItemText role limits style (came ++ piece) (read.text ++ styled_items style role None (beyond (length came) shows.0))
+      text_now : IsItemText role limits style (came ++ piece) (read.text ++ styled_items style role InStream (beyond (length came) shows.0))
       text_now =
           let on = shown_goes_on role limits style.detail came piece read.is_text.shown shows.0 read.is_text.is_shown shows.1 in
-          let lines = λ (items : List Item). styled_items style role None items in
+          let lines = λ (items : List Item). styled_items style role InStream items in
           record {
             shown = shows.0;
             is_shown = shows.1;
             is =
                 ap (λ (bs : List ℕ). bs ++ lines (beyond (length came) shows.0)) read.is_text.is ∙ ap (λ (items : List Item). lines (items_in read.is_text.shown) ++ lines items) on.4
-                ∙ sym (flat_map-append (styled_item style role None) (items_in read.is_text.shown) (items_in on.0))
+                ∙ sym (flat_map-append (styled_item style role InStream) (items_in read.is_text.shown) (items_in on.0))
                 ∙ ap lines (sym (map-append (λ (s : Shown). s.item) read.is_text.shown on.0) ∙ ap items_in (sym on.1));
           }
 
-      written_now : IsWrittenUpToFailure first after (read.text ++ styled_items style role None (beyond (length came) shows.0))
-      written_now = prints_on first now after read.text (styled_items style role None (beyond (length came) shows.0)) read.written.0 (inl read.written) shows.2
+      written_now : IsWrittenUpToFailure first after (read.text ++ styled_items style role InStream (beyond (length came) shows.0))
+      written_now = prints_on first now after read.text (styled_items style role InStream (beyond (length came) shows.0)) read.written.0 (inl read.written) shows.2
 
       unfailed_now : new.failed ≡ false
       unfailed_now = got.unfailed ∙ read.unfailed
@@ -226,22 +225,22 @@ module _ (role : Role) (limits : Limits) (style : Style) where
         received = received_more;
         answer = (unfailed_now, up_to_refusal);
         printed = (
-          read.text ++ styled_items style role None (beyond (length came) shows.0),
-          inl (subst (λ (bs : List ℕ). IsItemText role limits style bs (read.text ++ styled_items style role None (beyond (length came) shows.0))) (sym within_is) text_now),
+          read.text ++ styled_items style role InStream (beyond (length came) shows.0),
+          inl (subst (λ (bs : List ℕ). IsItemText role limits style bs (read.text ++ styled_items style role InStream (beyond (length came) shows.0))) (sym within_is) text_now),
           elim written_now [ inl went ↦ (let both : false ≡ true = sym went.0 ∙ failed in absurd cc) | inr part ↦ part ],
         );
       }
 
       module _ (works : after.failed ≡ false) where
-        wrote : IsWritten first after (read.text ++ styled_items style role None (beyond (length came) shows.0))
+        wrote : IsWritten first after (read.text ++ styled_items style role InStream (beyond (length came) shows.0))
         wrote = elim written_now [ inl went ↦ went | inr part ↦ (let both : true ≡ false = sym part.0 ∙ works in absurd cc) ]
 
         -- the bytes are refused
         module _ (fs : List Frame) (refusal : Refusal) (refused : IsRefused role limits (came ++ piece) fs refusal.place refusal.reason) (last : Outgoing) where
           abbrev lines : List ℕ
-          lines = read.text ++ styled_items style role None (beyond (length came) shows.0)
+          lines = read.text ++ styled_items style role InStream (beyond (length came) shows.0)
 
-          whole_text : IsStreamText role limits style (came ++ piece) (Refused refusal) (lines ++ verdict_line (Refused refusal))
+          whole_text : IsStreamText role limits style (came ++ piece) (Refused refusal) (lines ++ styled_verdict style (Refused refusal))
           whole_text = record {
             frames = fs;
             is_verdict = refused;
@@ -249,7 +248,7 @@ module _ (role : Role) (limits : Limits) (style : Style) where
             are_items = text_now;
             left = [];
             is_left = refl;
-            is = ap (λ (bs : List ℕ). bs ++ verdict_line (Refused refusal)) (sym (append-nil lines));
+            is = ap (λ (bs : List ℕ). bs ++ styled_verdict style (Refused refusal)) (sym (append-nil lines));
           }
 
           refused_all : (later : List ℕ) → IsRefused role limits (all_came ++ later) fs refusal.place refusal.reason
@@ -267,16 +266,16 @@ module _ (role : Role) (limits : Limits) (style : Style) where
           soon : length all_came ≤ refusal.place + chunk_size
           soon = up_to_refusal fs refusal.place refusal.reason (subst (λ (bs : List ℕ). IsRefused role limits bs fs refusal.place refusal.reason) (append-nil all_came) (refused_all []))
 
-          pub refuses : (result : Result Verdict Stop) → IsEnded Text after last (Refused refusal) result → IsStreamShown role limits style old new first last result
+          pub refuses : (result : Result Verdict Stop) → IsEnded style.format after last (Refused refusal) result → IsStreamShown role limits style old new first last result
           refuses (Ok verdict) e = record {
             came = all_came;
             received = received_more;
             answer = subst (λ (v : Verdict). IsListAnswer role limits new all_came (Ok v)) (sym e.0) (fs, refused_all, soon, within, unfailed_now);
             printed = (
-              lines ++ verdict_line (Refused refusal),
-              subst (λ (v : Verdict). IsStreamText role limits style (take limits.input all_came) v (lines ++ verdict_line (Refused refusal))) (sym e.0)
-                  (subst (λ (bs : List ℕ). IsStreamText role limits style bs (Refused refusal) (lines ++ verdict_line (Refused refusal))) (sym within_is) whole_text),
-              put_both first after last lines (verdict_line (Refused refusal)) wrote e.1,
+              lines ++ styled_verdict style (Refused refusal),
+              subst (λ (v : Verdict). IsStreamText role limits style (take limits.input all_came) v (lines ++ styled_verdict style (Refused refusal))) (sym e.0)
+                  (subst (λ (bs : List ℕ). IsStreamText role limits style bs (Refused refusal) (lines ++ styled_verdict style (Refused refusal))) (sym within_is) whole_text),
+              put_both first after last lines (styled_verdict style (Refused refusal)) wrote e.1,
             );
           }
           refuses (Err stop.Write) e = record {
@@ -284,9 +283,9 @@ module _ (role : Role) (limits : Limits) (style : Style) where
             received = received_more;
             answer = (unfailed_now, up_to_refusal);
             printed = (
-              lines ++ verdict_line (Refused refusal),
-              inr (Refused refusal, subst (λ (bs : List ℕ). IsStreamText role limits style bs (Refused refusal) (lines ++ verdict_line (Refused refusal))) (sym within_is) whole_text),
-              put_front first after last lines (verdict_line (Refused refusal)) wrote e.1,
+              lines ++ styled_verdict style (Refused refusal),
+              inr (Refused refusal, subst (λ (bs : List ℕ). IsStreamText role limits style bs (Refused refusal) (lines ++ styled_verdict style (Refused refusal))) (sym within_is) whole_text),
+              put_front first after last lines (styled_verdict style (Refused refusal)) wrote e.1,
             );
           }
           refuses (Err stop.Read) e = let h : stop.Read ≡ stop.Write = e.0 in absurd cc
@@ -309,8 +308,8 @@ module _ (role : Role) (limits : Limits) (style : Style) where
               unfailed_now,
             );
             printed = (
-              read.text ++ styled_items style role None (beyond (length came) shows.0),
-              subst (λ (bs : List ℕ). IsItemText role limits style bs (read.text ++ styled_items style role None (beyond (length came) shows.0))) (sym within_is) text_now,
+              read.text ++ styled_items style role InStream (beyond (length came) shows.0),
+              subst (λ (bs : List ℕ). IsItemText role limits style bs (read.text ++ styled_items style role InStream (beyond (length came) shows.0))) (sym within_is) text_now,
               wrote,
             );
           }
@@ -320,7 +319,7 @@ module _ (role : Role) (limits : Limits) (style : Style) where
             consumed = subst (λ (m : ℕ). IsConsumed old new (came ++ take m buffer)) (none_past chunk none) consumed_all;
             viewed = viewed;
             unrefused = none_now;
-            text = read.text ++ styled_items style role None (beyond (length came) shows.0);
+            text = read.text ++ styled_items style role InStream (beyond (length came) shows.0);
             is_text = text_now;
             written = wrote;
             unfailed = unfailed_now;

@@ -14,7 +14,7 @@ use Rattle.wsn_show.specs.declared.style.Style.{Style}
 use Rattle.wsn_show.specs.Styles.{styled_items}
 use Rattle.wsn_show.specs.declared.entry_context.EntryContext.{EntryContext}
 use Rattle.wsn_show.specs.declared.stream_parts.StreamParts.{StreamParts}
-use Rattle.wsn_show.specs.ShownItems.{time_in, Prints}
+use Rattle.wsn_show.specs.ShownItems.{position_in, Prints}
 use Rattle.wsn_show.specs.ShownSoFar.{items_in, HasShownAll, IsShowing, ShowsAll}
 use Rattle.wsn_show.specs.StreamViews.{Viewed, HasViewed}
 use Rattle.wsn_show.proofs.ShownPieces.{frames_of}
@@ -36,18 +36,18 @@ module _ (role : Role) (limits : Limits) (style : Style) (viewed : Viewed) (came
 
   -- The lines were written with the view's own role and style.
   pub written : (context : EntryContext) (old new : Outgoing) (items : List Item) → context.role ≡ viewed.role → context.style ≡ viewed.style → old.failed ≡ false → Prints context old new items
-      → IsWrittenUpToFailure old new (styled_items style role (time_in context) items)
+      → IsWrittenUpToFailure old new (styled_items style role (position_in context) items)
   written context old new items own_role own_style unfailed printed =
-      subst (λ (s : Style). IsWrittenUpToFailure old new (styled_items s role (time_in context) items)) (own_style ∙ has.in_style)
-      (subst (λ (r : Role). IsWrittenUpToFailure old new (styled_items context.style r (time_in context) items)) (own_role ∙ has.sender)
+      subst (λ (s : Style). IsWrittenUpToFailure old new (styled_items s role (position_in context) items)) (own_style ∙ has.in_style)
+      (subst (λ (r : Role). IsWrittenUpToFailure old new (styled_items context.style r (position_in context) items)) (own_role ∙ has.sender)
       (printed old [] (prints_nothing old unfailed)))
 
   -- They were written after what was printed before.
   pub written_on : (context : EntryContext) (old new : Outgoing) (items : List Item) → context.role ≡ viewed.role → context.style ≡ viewed.style → Prints context old new items
-      → (before : Outgoing) (text : List ℕ) → IsWrittenUpToFailure before old text → IsWrittenUpToFailure before new (text ++ styled_items style role (time_in context) items)
+      → (before : Outgoing) (text : List ℕ) → IsWrittenUpToFailure before old text → IsWrittenUpToFailure before new (text ++ styled_items style role (position_in context) items)
   written_on context old new items own_role own_style printed before text earlier =
-      subst (λ (s : Style). IsWrittenUpToFailure before new (text ++ styled_items s role (time_in context) items)) (own_style ∙ has.in_style)
-      (subst (λ (r : Role). IsWrittenUpToFailure before new (text ++ styled_items context.style r (time_in context) items)) (own_role ∙ has.sender)
+      subst (λ (s : Style). IsWrittenUpToFailure before new (text ++ styled_items s role (position_in context) items)) (own_style ∙ has.in_style)
+      (subst (λ (r : Role). IsWrittenUpToFailure before new (text ++ styled_items context.style r (position_in context) items)) (own_role ∙ has.sender)
       (printed before text earlier))
 
   module _ (bytes : List ℕ) (fits : length bytes ≤ viewed.room) where
@@ -70,7 +70,7 @@ module _ (role : Role) (limits : Limits) (style : Style) (viewed : Viewed) (came
       }
 
       pub shows_more : context.role ≡ viewed.role → old.failed ≡ false
-          → (shown : List Shown) × IsShownStream style.detail role limits (came ++ bytes) shown × IsWrittenUpToFailure old new (styled_items style role (time_in context) (beyond (length came) shown))
+          → (shown : List Shown) × IsShownStream style.detail role limits (came ++ bytes) shown × IsWrittenUpToFailure old new (styled_items style role (position_in context) (beyond (length came) shown))
       shows_more own_role unfailed =
           let longer = has.shown ++ s.extra in
           let before = all_shown style.detail role limits viewed.scan viewed.parts came has.shown has.has in
@@ -80,6 +80,6 @@ module _ (role : Role) (limits : Limits) (style : Style) (viewed : Viewed) (came
           let items : items_in s.extra ≡ beyond (length came) longer = ap items_in same ∙ sym on.4 in (
             longer,
             now,
-            subst (λ (is : List Item). IsWrittenUpToFailure old new (styled_items style role (time_in context) is)) items
+            subst (λ (is : List Item). IsWrittenUpToFailure old new (styled_items style role (position_in context) is)) items
                 (written context old new (items_in s.extra) own_role own_style unfailed s.printed),
           )

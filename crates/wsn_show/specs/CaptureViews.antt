@@ -1,5 +1,5 @@
 -- What a capture's view has shown, and what it shows of one more line.
-use Rattle.std.specs.Prelude.{◌≡◌, ℕ, ◌⊎◌, Option, None, Some, List, [], ◌∷◌, ◌++◌, flat_map}
+use Rattle.std.specs.Prelude.{◌≡◌, ℕ, ◌+◌, ◌⊎◌, Option, Some, List, [], ◌∷◌, ◌++◌, length, flat_map}
 use Rattle.wsn_wire.specs.declared.endpoint.Role.{Role}
 use Rattle.wsn_wire.specs.declared.endpoint.Role.TheVariants.{Client, Server}
 use Rattle.wsn_io.specs.Transfer.{Outgoing, IsWrittenUpToFailure}
@@ -15,7 +15,9 @@ use Rattle.wsn_show.specs.declared.style.Style.{Style}
 use Rattle.wsn_show.specs.Styles.{styled_items, styled_line_item, styled_line}
 use Rattle.wsn_capture.specs.declared.line_fault.LineFault.{LineFault}
 use Rattle.wsn_capture.specs.LineFaults.{HasFault}
-use Rattle.wsn_capture.specs.Captures.{HasAcceptedLines}
+use Rattle.wsn_capture.specs.Captures.{HasAcceptedLines, count_of}
+use Rattle.wsn_print.specs.ShownObjects.{Position}
+use Rattle.wsn_print.specs.ShownObjects.Position.{InLine, AtEnd}
 use Rattle.wsn_show.specs.StreamViews.{HasViewed}
 use Rattle.wsn_show.specs.declared.capture_view.CaptureView.{CaptureView}
 
@@ -63,6 +65,10 @@ abbrev pub IsTimeNext : Option (List ℕ) → List ℕ → Option (List ℕ) →
 IsTimeNext before text after =
     ((seconds : List ℕ) × GivesTime text seconds × (after ≡ Some seconds)) ⊎ (GivesNoTime text × (after ≡ before))
 
+-- Where the view's last line is: its number, and the time that holds.
+abbrev pub line_position : CaptureView → Position
+line_position view = InLine (count_of view.capture) view.time
+
 -- What a text with this entry shows was printed, with the time that held before it.
 pub record ShowsText (limits : Limits) (style : Style) (old new : CaptureView) (given : List Entry) (text : List ℕ)
     (entry : Entry) (before after : Outgoing) : Type 0 where
@@ -70,14 +76,14 @@ pub record ShowsText (limits : Limits) (style : Style) (old new : CaptureView) (
   pub time : IsTimeNext old.time text new.time
   pub items : List LineItem
   pub shows : IsShownOfEntry style.detail limits given text entry items
-  pub printed : IsWrittenUpToFailure before after (flat_map (styled_line_item style old.time) items)
+  pub printed : IsWrittenUpToFailure before after (flat_map (styled_line_item style (line_position old)) items)
 
--- What an endpoint's end mark shows was printed, while this time holds.
-pub record ShowsMark (role : Role) (limits : Limits) (style : Style) (given : List Entry) (time : Option (List ℕ))
+-- What an endpoint's end mark shows was printed, at this position.
+pub record ShowsMark (role : Role) (limits : Limits) (style : Style) (given : List Entry) (position : Position)
     (before after : Outgoing) : Type 0 where
   pub items : List LineItem
   pub shows : IsShownOfEntry style.detail limits given (end_mark role) (Mark role) items
-  pub printed : IsWrittenUpToFailure before after (flat_map (styled_line_item style time) items)
+  pub printed : IsWrittenUpToFailure before after (flat_map (styled_line_item style position) items)
 
 -- Whatever lines the view has shown, what an accepted text shows was printed.
 abbrev pub Shows : CaptureView → CaptureView → List ℕ → Outgoing → Outgoing → Type 0
@@ -91,6 +97,7 @@ pub record ShowsLine (limits : Limits) (style : Style) (new : CaptureView) (line
   pub entry : Entry
   pub has_shown : HasShownLines limits style new (lines ++ line ∷ []) (given ++ entry ∷ [])
   pub shown : ShownLine
+  pub numbered : shown.number ≡ length lines + 1
   pub at : IsTimeAfter lines shown.time
   pub shows : IsShownOfEntry style.detail limits given (without_cr line) entry shown.items
   pub printed : IsWrittenUpToFailure before after (styled_line style shown)
@@ -103,7 +110,7 @@ pub record LeavesAtEnd (role : Role) (limits : Limits) (style : Style) (entries 
   pub left : List Item
   pub is_left : IsLeftAtEnd role limits entries left
   pub printed : (before : Outgoing) (text : List ℕ) → IsWrittenUpToFailure before old text →
-      IsWrittenUpToFailure before new (text ++ styled_items style role None left)
+      IsWrittenUpToFailure before new (text ++ styled_items style role AtEnd left)
 
 -- What is left over of both streams was printed, and this is the report.
 pub record Finishes (limits : Limits) (style : Style) (lines : List (List ℕ)) (entries : List Entry)
@@ -114,5 +121,5 @@ pub record Finishes (limits : Limits) (style : Style) (lines : List (List ℕ)) 
   pub of_server : IsLeftAtEnd Server limits entries server_left
   pub is_report : IsReportOf limits entries report
   pub printed :
-      IsWrittenUpToFailure before after (flat_map (styled_line_item style None)
+      IsWrittenUpToFailure before after (flat_map (styled_line_item style AtEnd)
       (of_stream Client client_left ++ of_stream Server server_left))

@@ -1,5 +1,5 @@
 -- Items as they are held to be printed, and what it means that items were printed.
-use Rattle.std.specs.Prelude.{◌≡◌, ℕ, ◌/◌, Option, option_copied, List, [], ◌∷◌, ◌++◌}
+use Rattle.std.specs.Prelude.{◌≡◌, ℕ, ◌/◌, List, [], ◌∷◌, ◌++◌}
 use Rattle.wsn_io.specs.Transfer.{Outgoing, IsWrittenUpToFailure}
 use Rattle.wsn_wire.specs.Frame.{Frame}
 use Rattle.wsn_rules.specs.declared.detail.Detail.{Detail}
@@ -8,7 +8,8 @@ use Rattle.wsn_rules.specs.declared.head_info.HeadInfo.{HeadInfo}
 use Rattle.wsn_rules.specs.Meaning.{MeantEvent}
 use Rattle.wsn_rules.specs.ShownStream.{Item, items_of_final}
 use Rattle.wsn_rules.specs.ShownStream.Item.{Event, Head, Unfinished, UnfinishedHead, RefusedFrame}
-use Rattle.wsn_print.specs.ShownParts.{Represents, HasTextReason, IsFrontOf, IsEndOf, item_of_remainder}
+use Rattle.wsn_print.specs.ShownObjects.{Position}
+use Rattle.wsn_print.specs.ShownParts.{position_of, Represents, HasTextReason, IsFrontOf, IsEndOf, item_of_remainder}
 use Rattle.wsn_show.specs.Styles.{styled_items}
 use Rattle.wsn_show.specs.declared.entry_context.EntryContext.{EntryContext}
 use Rattle.wsn_show.specs.declared.shown_item.ShownItem.{ShownItem}
@@ -27,15 +28,15 @@ IsItem n offset (shown.Refused refusal evidence) item = (all : List ℕ) × IsEn
 IsItem n offset (shown.Remainder which bytes) item = (all : List ℕ) × IsFrontOf (n / 2) all bytes
     × (item ≡ item_of_remainder which offset all)
 
--- The time in front of each entry.
-abbrev pub time_in : EntryContext → Option (List ℕ)
-time_in context = option_copied context.time
+-- Where each entry is.
+abbrev pub position_in : EntryContext → Position
+position_in context = position_of context.origin
 
--- The lines of these items were printed after what was printed before, up to a failed write.
+-- These items were printed after what was printed before, up to a failed write.
 abbrev pub Prints : EntryContext → Outgoing → Outgoing → List Item → Type 0
 Prints context old new items =
     (before : Outgoing) (text : List ℕ) → IsWrittenUpToFailure before old text →
-    IsWrittenUpToFailure before new (text ++ styled_items context.style context.role (time_in context) items)
+    IsWrittenUpToFailure before new (text ++ styled_items context.style context.role (position_in context) items)
 
 -- What is printed where the head of a frame is complete.
 abbrev pub items_of_begun : Detail → HeadInfo → List Item

@@ -1,5 +1,5 @@
--- What is printed of the stream that one endpoint sent: what is shown of it, what is left over, and the verdict's line.
-use Rattle.std.specs.Prelude.{◌≡◌, ℕ, ◌+◌, ◌⊎◌, Option, None, Result, Ok, Err, List, [], ◌++◌, take}
+-- What is printed of the stream that one endpoint sent: what is shown of it, what is left over, and the verdict.
+use Rattle.std.specs.Prelude.{◌≡◌, ℕ, ◌+◌, ◌⊎◌, Result, Ok, Err, List, [], ◌++◌, take}
 use Rattle.wsn_io.specs.Transfer.{Incoming, Outgoing, IsReceived, IsWritten, IsPartlyWritten}
 use Rattle.wsn_io.specs.declared.stop.Stop.{Stop}
 use Rattle.wsn_io.specs.declared.stop.Stop.TheVariants as stop
@@ -10,24 +10,24 @@ use Rattle.wsn_rules.specs.declared.verdict.Verdict.TheVariants.{Refused}
 use Rattle.wsn_rules.specs.Limits.{Limits}
 use Rattle.wsn_rules.specs.Verdict.{IsVerdict}
 use Rattle.wsn_rules.specs.ShownStream.{Item, Shown, IsShownStream, IsLeftOver}
-use Rattle.wsn_print.specs.VerdictText.{verdict_line}
+use Rattle.wsn_print.specs.ShownObjects.Position.{InStream}
 use Rattle.wsn_scan.specs.Listing.{IsListAnswer}
 use Rattle.wsn_show.specs.declared.style.Style.{Style}
-use Rattle.wsn_show.specs.Styles.{styled_items}
+use Rattle.wsn_show.specs.Styles.{styled_items, styled_verdict}
 use Rattle.wsn_show.specs.ShownSoFar.{items_in}
 
--- The lines of what is shown of these bytes as they come, in this style.
+-- The text of what is shown of these bytes as they come, in this style.
 pub record IsItemText (role : Role) (limits : Limits) (style : Style) (bytes text : List ℕ) : Type 0 where
   pub shown : List Shown
   pub is_shown : IsShownStream style.detail role limits bytes shown
-  pub is : text ≡ styled_items style role None (items_in shown)
+  pub is : text ≡ styled_items style role InStream (items_in shown)
 
 -- What is left over where the stream ends; nothing after a refusal, which ends the reading.
 abbrev pub IsLeftWith : Role → Limits → List ℕ → Verdict → List Item → Type 0
 IsLeftWith role limits bytes (Refused refusal) left = left ≡ []
 IsLeftWith role limits bytes verdict left = IsLeftOver role limits bytes left
 
--- All lines for a stream of these bytes: what is shown of them, what is left over, and their verdict.
+-- The whole text for a stream of these bytes: what is shown of them, what is left over, and their verdict.
 pub record IsStreamText (role : Role) (limits : Limits) (style : Style) (bytes : List ℕ) (verdict : Verdict) (text : List ℕ)
     : Type 0 where
   pub frames : List Frame
@@ -36,15 +36,15 @@ pub record IsStreamText (role : Role) (limits : Limits) (style : Style) (bytes :
   pub are_items : IsItemText role limits style bytes items
   pub left : List Item
   pub is_left : IsLeftWith role limits bytes verdict left
-  pub is : text ≡ (items ++ styled_items style role None left) ++ verdict_line verdict
+  pub is : text ≡ (items ++ styled_items style role InStream left) ++ styled_verdict style verdict
 
--- A text that is printed of these bytes: as they come, or all lines.
+-- A text that is printed of these bytes: as they come, or the whole text.
 abbrev pub IsPrintedText : Role → Limits → Style → List ℕ → List ℕ → Type 0
 IsPrintedText role limits style bytes text =
     IsItemText role limits style bytes text ⊎ ((verdict : Verdict) × IsStreamText role limits style bytes verdict text)
 
--- After the lines of what is shown of these bytes, the rest was printed, since the stream ends here; `first` is the
--- output before all lines.
+-- After the text of what is shown of these bytes, the rest was printed, since the stream ends here; `first` is the
+-- output before it all.
 abbrev pub EndsStream :
     Role → Limits → Style → List ℕ → Outgoing → Outgoing → Result Verdict Stop → Type 0
 EndsStream role limits style bytes first after (Ok verdict) =
@@ -52,7 +52,7 @@ EndsStream role limits style bytes first after (Ok verdict) =
 EndsStream role limits style bytes first after (Err stopped) = (stopped ≡ stop.Write)
     × ((text : List ℕ) × IsPrintedText role limits style bytes text × IsPartlyWritten first after text)
 
--- What was printed at each answer, of the bytes within the limit: with a verdict all lines; after a failed write a
+-- What was printed at each answer, of the bytes within the limit: with a verdict the whole text; after a failed write a
 -- prefix; at any other stop what is shown of these bytes.
 abbrev pub IsStreamPrinted : Role → Limits → Style → List ℕ → Outgoing → Outgoing → Result Verdict Stop → Type 0
 IsStreamPrinted role limits style came before after (Ok verdict) =

@@ -4,6 +4,9 @@ ghost use Rattle.wsn_rules.specs.Entries.{Entry};
 ghost use Rattle.wsn_rules.specs.Sides.{sent};
 ghost use Rattle.wsn_show.specs.declared.style.Style.{Style};
 ghost use Rattle.wsn_show.specs.StreamViews.{HasViewed};
+ghost use Rattle.wsn_print.specs.ShownObjects.Position.{InLine};
+ghost use Rattle.wsn_print.specs.ShownParts.{position_of};
+ghost use Rattle.wsn_capture.specs.Captures.{count_of};
 ghost use Rattle.wsn_show.specs.CaptureViews.{ShowsMark};
 
 use crate::stream_view::StreamView;
@@ -13,7 +16,7 @@ use std::io::Write;
 use wsn_capture::line_form::{LineForm, decode, form_of, strip_cr};
 use wsn_capture::{Capture, LineFault, Report};
 use wsn_io::Output;
-use wsn_print::{Front, put_comment, put_end};
+use wsn_print::{EntryFront, Origin, put_comment_as, put_end_as};
 use wsn_rules::Limits;
 use wsn_wire::Role;
 
@@ -73,6 +76,14 @@ impl CaptureView {
         Ok(())
     }
 
+    /// How the lines are shown.
+    pub fn style(&self) -> Style
+        ensures { (limits : Limits) (style : Style) (lines : List (List ℕ)) (entries : List Entry) →
+            HasShownLines limits style self.now lines entries → result ≡ style }
+    {
+        self.client.style()
+    }
+
     /// The number of lines that it has shown.
     pub fn count(&self) -> u32
         ensures { result ≡ count_of self.now.capture }
@@ -102,8 +113,8 @@ impl CaptureView {
             return;
         }
         match role {
-            Role::Client => self.client.put_left_over(None, output),
-            Role::Server => self.server.put_left_over(None, output),
+            Role::Client => self.client.put_left_over(Origin::End, output),
+            Role::Server => self.server.put_left_over(Origin::End, output),
         }
     }
 
@@ -137,7 +148,9 @@ impl CaptureView {
         if self.time.take(text) {
             return;
         }
-        let _stop = put_comment(output, text);
+        let format = self.client.style().format;
+        let number = self.capture.count();
+        let _stop = put_comment_as(output, format, number, text);
     }
 
     /// Prints what the bytes of an endpoint, which these digits encode, complete.
@@ -153,10 +166,10 @@ impl CaptureView {
             Ok(count) => count,
             Err(_) => return,
         };
-        let time = self.time.text();
+        let origin = origin_of(&self.capture, &self.time);
         match role {
-            Role::Client => self.client.take(&mut bytes[..count], time, output),
-            Role::Server => self.server.take(&mut bytes[..count], time, output),
+            Role::Client => self.client.take(&mut bytes[..count], origin, output),
+            Role::Server => self.server.take(&mut bytes[..count], origin, output),
         }
     }
 
@@ -166,24 +179,39 @@ impl CaptureView {
         ensures shows { Shows self.old self.new (end_mark role) output.old output.new }
         ensures capture { self.new.capture ≡ self.old.capture }
     {
+        let origin = origin_of(&self.capture, &self.time);
         match role {
-            Role::Client => put_end_of(role, &self.client, &self.time, output),
-            Role::Server => put_end_of(role, &self.server, &self.time, output),
+            Role::Client => put_end_of(role, &self.client, origin, output),
+            Role::Server => put_end_of(role, &self.server, origin, output),
         }
     }
 }
 
+/// Where the last line is, while this time holds.
+fn origin_of<'a>(capture: &Capture, time: &'a CurrentTime) -> Origin<'a>
+    ensures { position_of result ≡ InLine (count_of capture.now) time.now }
+{
+    Origin::Line {
+        number: capture.count(),
+        time: time.text(),
+    }
+}
+
 /// Prints what a stream leaves over, and its end.
-fn put_end_of<W: Write>(role: Role, stream: &StreamView, time: &CurrentTime, output: &mut Output<W>)
+fn put_end_of<W: Write>(role: Role, stream: &StreamView, origin: Origin<'_>, output: &mut Output<W>)
     requires writable { output.old.failed ≡ false }
     ensures { (limits : Limits) (style : Style) (given : List Entry) →
         HasViewed role limits style stream.now (sent role given) →
-        ShowsMark role limits style given time.now output.old output.new }
+        ShowsMark role limits style given (position_of origin.entry) output.old output.new }
 {
-    let time = time.text();
-    stream.put_left_over(time, output);
+    stream.put_left_over(origin, output);
     if !output.failed() {
         let offset = stream.sent();
-        let _stop = put_end(output, &Front { role, time, offset });
+        let front = EntryFront {
+            role,
+            origin,
+            offset,
+        };
+        let _stop = put_end_as(output, stream.style().format, &front);
     }
 }

@@ -1,4 +1,5 @@
 use crate::style::Style;
+use wsn_print::Origin;
 use wsn_wire::Role;
 
 /// What all entries of a stream have in common that are printed at one time.
@@ -8,6 +9,6 @@ pub struct EntryContext<'a> {
     pub role: Role,
     /// How the stream is shown.
     pub style: Style,
-    /// The time that the capture gives, in seconds; `None` if it gives none.
-    pub time: Option<&'a [u8]>,
+    /// Where the entries are.
+    pub origin: Origin<'a>,
 }

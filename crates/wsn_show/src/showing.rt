@@ -15,7 +15,7 @@ use crate::style::Style;
 use std::io::{Read, Write};
 use wsn_capture::{CaptureStop, Report};
 use wsn_io::{Input, Output};
-use wsn_print::put_report;
+use wsn_print::put_report_as;
 use wsn_rules::Limits;
 use wsn_scan::CHUNK;
 
@@ -161,7 +161,7 @@ fn put_end_of_capture<W: Write>(
     if output.failed() {
         return Err(ShowStop::Write);
     }
-    match put_report(output, &report) {
+    match put_report_as(output, view.style().format, &report) {
         Ok(()) => Ok(report),
         Err(_) => Err(ShowStop::Write),
     }

@@ -1,13 +1,19 @@
 ghost use Rattle.wsn_rules.specs.ShownStream.{Item};
 ghost use Rattle.wsn_show.specs.ShownItems.{IsItem, Prints, items_of_begun};
-ghost use Rattle.std.specs.Prelude.{[], ◌∷◌};
+ghost use Rattle.std.specs.Prelude.{◌≡◌, [], ◌∷◌, false};
+ghost use Rattle.wsn_io.specs.Stops.{IsWrittenOrStops};
+ghost use Rattle.wsn_print.specs.ShownText.{item_line};
+ghost use Rattle.wsn_print.specs.ShownObjects.{item_object, shown_frame_object};
+ghost use Rattle.wsn_print.specs.ShownParts.{time_of, position_of};
 
 use crate::entry_context::EntryContext;
 use std::io::Write;
-use wsn_io::Output;
+use wsn_io::{Output, Stop};
 use wsn_print::{
-    Front, HeldBytes, Remainder, ShownEvent, put_event, put_frame, put_refused, put_remainder,
-    put_unfinished, put_unfinished_head,
+    EntryFront, Format, Front, HeldBytes, Remainder, ShownEvent, ViewLimit, put_event,
+    put_event_object, put_frame, put_refused, put_refused_object, put_remainder,
+    put_remainder_object, put_shown_frame_object, put_unfinished, put_unfinished_head,
+    put_unfinished_head_object, put_unfinished_object,
 };
 use wsn_rules::{Detail, HeadInfo, Refusal};
 
@@ -29,7 +35,8 @@ pub enum ShownItem<'a> {
     Remainder(Remainder, HeldBytes<'a>),
 }
 
-/// Prints the line of the item at this offset, unless a write has failed.
+/// Prints the item at this offset, unless a write has failed.
+#[tactic(none)]
 pub fn put_item<W: Write>(
     output: &mut Output<W>,
     context: &EntryContext<'_>,
@@ -42,25 +49,86 @@ pub fn put_item<W: Write>(
     if output.failed() {
         return;
     }
-    let front = Front {
+    let front = EntryFront {
         role: context.role,
-        time: context.time,
+        origin: context.origin,
         offset,
     };
     let view = context.style.view;
-    let _stop = match item {
-        ShownItem::Event(event) => put_event(output, view, &front, event),
-        ShownItem::Frame(head) => put_frame(output, &front, head),
-        ShownItem::Unfinished(event, lacks) => put_unfinished(output, view, &front, event, *lacks),
-        ShownItem::UnfinishedHead => put_unfinished_head(output, &front),
-        ShownItem::Refused(refusal, evidence) => {
-            put_refused(output, view, &front, refusal, evidence)
-        }
-        ShownItem::Remainder(which, bytes) => put_remainder(output, view, &front, *which, bytes),
+    let _stop = match context.style.format {
+        Format::Text => put_line_of(output, view, &front.of_line(), item),
+        Format::Json => put_object_of(output, view, &front, item),
     };
 }
 
-/// Prints the line of the frame with this head, which is complete, if frames are shown by their heads.
+/// Prints the line of the item with this front.
+fn put_line_of<W: Write>(
+    output: &mut Output<W>,
+    view: ViewLimit,
+    front: &Front<'_>,
+    item: &ShownItem<'_>,
+) -> Result<(), Stop>
+    requires { output.old.failed ≡ false }
+    ensures { (shown : Item) → IsItem view front.now.offset item.now shown →
+        IsWrittenOrStops output.old output.new (item_line view front.now.role (time_of front.now) shown) result }
+{
+    match item {
+        ShownItem::Event(event) => put_event(output, view, front, event),
+        ShownItem::Frame(head) => put_frame(output, front, head),
+        ShownItem::Unfinished(event, lacks) => put_unfinished(output, view, front, event, *lacks),
+        ShownItem::UnfinishedHead => put_unfinished_head(output, front),
+        ShownItem::Refused(refusal, evidence) => {
+            put_refused(output, view, front, refusal, evidence)
+        }
+        ShownItem::Remainder(which, bytes) => put_remainder(output, view, front, *which, bytes),
+    }
+}
+
+/// Prints the object of the item with this front.
+fn put_object_of<W: Write>(
+    output: &mut Output<W>,
+    view: ViewLimit,
+    front: &EntryFront<'_>,
+    item: &ShownItem<'_>,
+) -> Result<(), Stop>
+    requires { output.old.failed ≡ false }
+    ensures { (shown : Item) → IsItem view front.now.offset item.now shown → IsWrittenOrStops output.old output.new
+        (item_object view front.now.role (position_of front.now.origin) shown) result }
+{
+    match item {
+        ShownItem::Event(event) => put_event_object(output, view, front, event),
+        ShownItem::Frame(head) => put_frame_of(output, front, head),
+        ShownItem::Unfinished(event, lacks) => {
+            put_unfinished_object(output, view, front, event, *lacks)
+        }
+        ShownItem::UnfinishedHead => put_unfinished_head_object(output, front),
+        ShownItem::Refused(refusal, evidence) => {
+            put_refused_object(output, view, front, refusal, evidence)
+        }
+        ShownItem::Remainder(which, bytes) => {
+            put_remainder_object(output, view, front, *which, bytes)
+        }
+    }
+}
+
+/// Prints the object of the frame with this head, which is at the front's offset.
+fn put_frame_of<W: Write>(
+    output: &mut Output<W>,
+    front: &EntryFront<'_>,
+    head: &HeadInfo,
+) -> Result<(), Stop>
+    requires { output.old.failed ≡ false }
+    ensures { IsWrittenOrStops output.old output.new (shown_frame_object front.now.role
+        (position_of front.now.origin) (record head.now { place = front.now.offset })) result }
+{
+    let head = HeadInfo {
+        place: front.offset,
+        ..*head
+    };
+    put_shown_frame_object(output, front.role, &front.origin, &head)
+}
+
+/// Prints the frame with this head, which is complete, if frames are shown by their heads.
 #[tactic(none)]
 pub fn put_begun<W: Write>(output: &mut Output<W>, context: &EntryContext<'_>, head: &HeadInfo)
     ensures { Prints context.now output.old output.new (items_of_begun context.now.style.detail head.now) }

@@ -3,7 +3,6 @@ ghost use Rattle.wsn_io.specs.Transfer.{Outgoing, IsWritten};
 ghost use Rattle.wsn_wire.specs.declared.endpoint.Role.{Role};
 ghost use Rattle.wsn_rules.specs.Limits.{Limits};
 ghost use Rattle.wsn_scan.specs.Judging.{IsUnrefused};
-ghost use Rattle.wsn_print.specs.declared.format.Format.TheVariants.{Text};
 ghost use Rattle.wsn_scan.specs.Listing.{IsEnded};
 ghost use Rattle.wsn_show.specs.StreamViews.{HasViewed};
 ghost use Rattle.wsn_show.specs.declared.style.Style.{Style};
@@ -13,13 +12,13 @@ use crate::stream_view::StreamView;
 use crate::style::Style;
 use std::io::{Read, Write};
 use wsn_io::{Input, Output, Stop};
-use wsn_print::put_verdict;
+use wsn_print::{Format, Origin, put_verdict_as};
 use wsn_rules::{Limits, Verdict};
 use wsn_scan::{CHUNK, read_chunk};
 use wsn_wire::Role;
 
 /// Shows the stream on the input, which one endpoint sent: prints each event with its last byte, or each frame with its
-/// head's, then what is left over, and the verdict's line, and returns the verdict (RFC 6455 sections 5 and 7). It reads
+/// head's, then what is left over, and the verdict, which it returns (RFC 6455 sections 5 and 7). It reads
 /// as [`wsn_scan::judge`] does: to the end, or up to a refusal.
 ///
 /// Errors: `Read` if a read fails, and `InputLimit` if a byte past the input limit comes. With either, what is shown of
@@ -43,13 +42,13 @@ pub fn show_stream<R: Read, W: Write>(
         let Some(chunk) = read_chunk(input, stream.room(), &mut buffer)? else {
             return end(&stream, output);
         };
-        stream.take(&mut buffer[..chunk.len], None, output);
+        stream.take(&mut buffer[..chunk.len], Origin::Stream, output);
         if output.failed() {
             return Err(Stop::Write);
         }
         let verdict = stream.verdict();
         if let Verdict::Refused(_) = verdict {
-            return put_answer(output, verdict);
+            return put_answer(output, stream.style().format, verdict);
         }
         if chunk.past_limit {
             return Err(Stop::InputLimit);
@@ -57,7 +56,7 @@ pub fn show_stream<R: Read, W: Write>(
     }
 }
 
-/// Prints what is left over where the stream ends, and the verdict's line, and returns the verdict. `Write` if the
+/// Prints what is left over where the stream ends, and the verdict, which it returns. `Write` if the
 /// writer fails: a prefix of these lines is written.
 #[tactic(none)]
 fn end<W: Write>(stream: &StreamView, output: &mut Output<W>) -> Result<Verdict, Stop>
@@ -66,19 +65,23 @@ fn end<W: Write>(stream: &StreamView, output: &mut Output<W>) -> Result<Verdict,
         HasViewed role limits style stream.now came → IsUnrefused role limits came → IsItemText role limits style came text →
         IsWritten first output.old text → EndsStream role limits style came first output.new result }
 {
-    stream.put_left_over(None, output);
+    stream.put_left_over(Origin::Stream, output);
     if output.failed() {
         return Err(Stop::Write);
     }
-    put_answer(output, stream.verdict())
+    put_answer(output, stream.style().format, stream.verdict())
 }
 
-/// Prints the verdict's line and returns the verdict. `Write` if the writer fails: a prefix of the line is written.
+/// Prints the verdict and returns it. `Write` if the writer fails: a prefix of the line is written.
 #[tactic(none)]
-fn put_answer<W: Write>(output: &mut Output<W>, verdict: Verdict) -> Result<Verdict, Stop>
+fn put_answer<W: Write>(
+    output: &mut Output<W>,
+    format: Format,
+    verdict: Verdict,
+) -> Result<Verdict, Stop>
     requires { output.old.failed ≡ false }
-    ensures { IsEnded Text output.old output.new verdict result }
+    ensures { IsEnded format output.old output.new verdict result }
 {
-    put_verdict(output, &verdict)?;
+    put_verdict_as(output, format, &verdict)?;
     Ok(verdict)
 }

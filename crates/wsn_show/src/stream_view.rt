@@ -4,6 +4,7 @@ use crate::style::Style;
 use std::io::Write;
 use std::marker::Model;
 use wsn_io::Output;
+use wsn_print::Origin;
 use wsn_rules::{Limits, Verdict};
 use wsn_wire::Role;
 
@@ -44,7 +45,7 @@ impl Model for StreamView {
 }
 
 impl StreamView {
-    ghost use Rattle.std.specs.Prelude.{◌≡◌, ℕ, ◌+◌, ◌≤◌, List, [], ◌++◌, length, false, option_copied};
+    ghost use Rattle.std.specs.Prelude.{◌≡◌, ℕ, ◌+◌, ◌≤◌, List, [], ◌++◌, length, false};
     ghost use Rattle.wsn_io.specs.Transfer.{Outgoing, IsWrittenUpToFailure};
     ghost use Rattle.wsn_wire.specs.Frame.{Frame};
     ghost use Rattle.wsn_wire.specs.declared.endpoint.Role.{Role};
@@ -52,6 +53,7 @@ impl StreamView {
     ghost use Rattle.wsn_rules.specs.Verdict.{IsVerdict};
     ghost use Rattle.wsn_rules.specs.ShownStream.{Item, Shown, IsShownStream, IsLeftOver};
     ghost use Rattle.wsn_rules.specs.ShownCapture.{beyond};
+    ghost use Rattle.wsn_print.specs.ShownParts.{position_of};
     ghost use Rattle.wsn_show.specs.declared.style.Style.{Style};
     ghost use Rattle.wsn_show.specs.Styles.{styled_items};
     ghost use Rattle.wsn_show.specs.StreamViews.{HasViewed};
@@ -67,6 +69,13 @@ impl StreamView {
             room: limits.input(),
             stream: ShownScan::new(role, limits),
         }
+    }
+
+    /// How the stream is shown.
+    pub fn style(&self) -> Style
+        ensures { result ≡ self.now.style }
+    {
+        self.style
     }
 
     /// The number of bytes that may still come: the input limit less those that came.
@@ -93,10 +102,10 @@ impl StreamView {
         self.stream.verdict()
     }
 
-    /// Consumes bytes, at most `room` of them, and prints what they complete, up to a failed write. `time` is the time
-    /// that the capture gives, in seconds. Payload is unmasked in place. Bytes after a refusal are counted, and the
+    /// Consumes bytes, at most `room` of them, and prints what they complete, up to a failed write. `origin` is where
+    /// they are. Payload is unmasked in place. Bytes after a refusal are counted, and the
     /// first of them kept, but they aren't read.
-    pub fn take<W: Write>(&mut self, bytes: &mut [u8], time: Option<&[u8]>, output: &mut Output<W>)
+    pub fn take<W: Write>(&mut self, bytes: &mut [u8], origin: Origin<'_>, output: &mut Output<W>)
         requires fits { length bytes.old ≤ self.old.room }
         requires writable { output.old.failed ≡ false }
         ensures viewed { (role : Role) (limits : Limits) (style : Style) (came : List ℕ) →
@@ -105,31 +114,31 @@ impl StreamView {
             HasViewed role limits style self.old came → (shown : List Shown)
             × IsShownStream style.detail role limits (came ++ bytes.old) shown
             × IsWrittenUpToFailure output.old output.new
-            (styled_items style role (option_copied time.entry) (beyond (length came) shown)) }
+            (styled_items style role (position_of origin.entry) (beyond (length came) shown)) }
     {
         self.room -= bytes.len() as u64;
         let context = EntryContext {
             role: self.role,
             style: self.style,
-            time,
+            origin,
         };
         self.stream.take(bytes, output, &context);
     }
 
     /// Prints what is left over if the stream ends here, after what was printed before, up to a failed write: the open
-    /// message, the frame that has begun, the tail, or the bytes that weren't read. `time` is as for
-    /// [`take`](StreamView::take).
-    pub fn put_left_over<W: Write>(&self, time: Option<&[u8]>, output: &mut Output<W>)
+    /// message, the frame that has begun, the tail, or the bytes that weren't read. `origin` is where
+    /// it is.
+    pub fn put_left_over<W: Write>(&self, origin: Origin<'_>, output: &mut Output<W>)
         ensures { (role : Role) (limits : Limits) (style : Style) (came : List ℕ) →
             HasViewed role limits style self.now came → (left : List Item)
             × IsLeftOver role limits came left
             × ((before : Outgoing) (text : List ℕ) → IsWrittenUpToFailure before output.old text →
-            IsWrittenUpToFailure before output.new (text ++ styled_items style role (option_copied time.entry) left)) }
+            IsWrittenUpToFailure before output.new (text ++ styled_items style role (position_of origin.entry) left)) }
     {
         let context = EntryContext {
             role: self.role,
             style: self.style,
-            time,
+            origin,
         };
         self.stream.put_left_over(output, &context);
     }

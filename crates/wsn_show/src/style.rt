@@ -1,6 +1,6 @@
 ghost use Rattle.std.specs.Prelude.{◌≤◌};
 
-use wsn_print::ViewLimit;
+use wsn_print::{Format, ViewLimit};
 use wsn_rules::Detail;
 
 /// How a capture is shown.
@@ -10,5 +10,7 @@ pub struct Style {
     pub view: ViewLimit,
     /// What is shown of a stream's frames.
     pub detail: Detail,
+    /// Whether lines of words or JSON objects are printed.
+    pub format: Format,
     ghost in_range: { view ≤ 4096 },
 }

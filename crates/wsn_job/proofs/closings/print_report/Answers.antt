@@ -10,8 +10,8 @@ judge_capture-requires g c = search rules
 pub returns-in_err-report : goal.returns-in_err-report
 returns-in_err-report g c = search rules
 
-pub put_report-requires : goal.put_report-requires
-put_report-requires g c = search rules
+pub put_report_as-requires : goal.put_report_as-requires
+put_report_as-requires g c = search rules
 
 pub returns-in-Ok : goal.returns-in-Ok
 returns-in-Ok g c = search rules

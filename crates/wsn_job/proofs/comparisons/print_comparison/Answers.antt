@@ -13,8 +13,8 @@ same-requires-clause-second g c = search rules
 pub returns-in_err-compared : goal.returns-in_err-compared
 returns-in_err-compared g c = search rules
 
-pub put_compared-requires : goal.put_compared-requires
-put_compared-requires g c = search rules
+pub put_compared_as-requires : goal.put_compared_as-requires
+put_compared_as-requires g c = search rules
 
-pub returns-in_err-put_compared : goal.returns-in_err-put_compared
-returns-in_err-put_compared g c = search rules
+pub returns-in_err-put_compared_as : goal.returns-in_err-put_compared_as
+returns-in_err-put_compared_as g c = search rules

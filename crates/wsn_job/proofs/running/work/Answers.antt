@@ -7,11 +7,11 @@ print_verdict-requires-clause-readable g c = search rules
 pub print_verdict-requires-clause-writable : goal.print_verdict-requires-clause-writable
 print_verdict-requires-clause-writable g c = search rules
 
-pub list-requires-clause-readable : goal.list-requires-clause-readable
-list-requires-clause-readable g c = search rules
+pub list_as-requires-clause-readable : goal.list_as-requires-clause-readable
+list_as-requires-clause-readable g c = search rules
 
-pub list-requires-clause-writable : goal.list-requires-clause-writable
-list-requires-clause-writable g c = search rules
+pub list_as-requires-clause-writable : goal.list_as-requires-clause-writable
+list_as-requires-clause-writable g c = search rules
 
 pub normalise-requires-clause-readable : goal.normalise-requires-clause-readable
 normalise-requires-clause-readable g c = search rules

@@ -1,4 +1,7 @@
-use Rattle.std.proofs.Common.{rules}
+use Rattle.std.proofs.Common.{subst, rules}
+use Rattle.wsn_io.specs.Transfer.{IsWritten, IsPartlyWritten}
+use Rattle.wsn_show.specs.declared.style.Style.{Style}
+use Rattle.wsn_show.specs.Styles.{styled_report}
 use Rattle.wsn_show.proofs.EndedTexts.{stopped_before, reported, stopped_in}
 use Rattle.wsn_show.proofs.showing.put_end_of_capture.Goals as goal
 
@@ -10,9 +13,11 @@ returns-then-failed g c limits style first came lines are has =
 pub returns-in-Ok : goal.returns-in-Ok
 returns-in-Ok g c limits style first came lines are has =
     reported limits style first came lines are c.args.view.now c.args.output.now has c.finish-report.new.output c.finish-report.result
-    (c.finish-report.ensures limits style lines has.entries has.has_shown) c.put_report.new.to (search rules) (search rules)
+    (c.finish-report.ensures limits style lines has.entries has.has_shown) c.put_report_as.new.to (search rules)
+    (subst (λ (s : Style). IsWritten c.finish-report.new.output c.put_report_as.new.to (styled_report s c.finish-report.result)) (c.style.ensures limits style lines has.entries has.has_shown) (search rules))
 
 pub returns-in-Err : goal.returns-in-Err
 returns-in-Err g c limits style first came lines are has =
     stopped_in limits style first came lines are c.args.view.now c.args.output.now has c.finish-report.new.output c.finish-report.result
-    (c.finish-report.ensures limits style lines has.entries has.has_shown) c.put_report.new.to (search rules) (search rules)
+    (c.finish-report.ensures limits style lines has.entries has.has_shown) c.put_report_as.new.to (search rules)
+    (subst (λ (s : Style). IsPartlyWritten c.finish-report.new.output c.put_report_as.new.to (styled_report s c.finish-report.result)) (c.style.ensures limits style lines has.entries has.has_shown) (search rules))

@@ -1,12 +1,11 @@
-use Rattle.std.proofs.Common.{◌≡◌, ◌++◌, Option, Result, Ok, Err, [], length, take, drop, refl, sym, ap, ◌∙◌, subst, arith, length-append, length-drop, length-take-le, rules}
+use Rattle.std.proofs.Common.{◌≡◌, ◌++◌, Option, Result, Ok, Err, [], take, drop, refl, sym, ap, ◌∙◌, subst, arith, length-append, length-drop, length-take-le, rules}
 use Rattle.wsn_io.specs.declared.stop.Stop.{Stop}
 use Rattle.wsn_io.specs.declared.stop.Stop.TheVariants as stop
 use Rattle.wsn_rules.specs.declared.verdict.Verdict.{Verdict}
-use Rattle.wsn_rules.specs.declared.verdict.Verdict.TheVariants.{Refused}
 use Rattle.wsn_rules.specs.Verdict.{IsVerdict}
 use Rattle.wsn_scan.specs.declared.refill.ReadChunk.{ReadChunk}
 use Rattle.wsn_scan.specs.Refill.{IsRefilled}
-use Rattle.wsn_print.specs.declared.format.Format.TheVariants.{Text}
+use Rattle.wsn_show.specs.declared.style.Style.{Style}
 use Rattle.wsn_scan.specs.Listing.{IsEnded}
 use Rattle.wsn_scan.proofs.Chunks.{got_chunk, none_past}
 use Rattle.wsn_show.specs.StreamShows.{IsStreamShown}
@@ -79,7 +78,9 @@ returns-in-Refused g c =
     let shows = c.take.ensures.printed c.args.role c.args.limits c.args.style read.0 read.1.viewed in
     let is = c.verdict-verdict.ensures c.args.role c.args.limits c.args.style (read.0 ++ take c.in-Some.chunk.len c.refill.new.buffer) viewed in
     let refused = subst (λ (v : Verdict). IsVerdict c.args.role c.args.limits (read.0 ++ take c.in-Some.chunk.len c.refill.new.buffer) is.0 v) c.in-Refused.is is.1 in
-    let put = subst (λ (v : Verdict). IsEnded Text c.take.new.output c.put_answer.new.output v c.put_answer.result) c.in-Refused.is c.put_answer.ensures in
+    let own_style : c.style.result ≡ c.args.style = c.style.ensures ∙ viewed.in_style in
+    let put = subst (λ (v : Verdict). IsEnded c.args.style.format c.take.new.output c.put_answer.new.output v c.put_answer.result) c.in-Refused.is
+    (subst (λ (s : Style). IsEnded s.format c.take.new.output c.put_answer.new.output c.verdict-verdict.result c.put_answer.result) own_style c.put_answer.ensures) in
     refuses c.args.role c.args.limits c.args.style c.args.input.now c.loop-chunk.input c.args.output.now c.loop-chunk.output c.loop-chunk.stream read.0 read.1
     c.refill.new.input c.refill.new.buffer c.in-Some.chunk got (omega arith) c.take.new.self c.take.new.output viewed shows (search rules)
     is.0 c.in-Refused.field-0 refused c.put_answer.new.output c.put_answer.result put

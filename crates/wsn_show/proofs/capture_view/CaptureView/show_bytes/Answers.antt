@@ -1,9 +1,10 @@
-use Rattle.std.proofs.Common.{ℕ, ◌++◌, List, Option, take, refl, sym, subst}
+use Rattle.std.proofs.Common.{◌++◌, take, refl, sym, subst}
 use Rattle.wsn_wire.specs.declared.endpoint.Role.{Role}
 use Rattle.wsn_wire.specs.declared.endpoint.Role.TheVariants.{Client, Server}
 use Rattle.wsn_rules.specs.Entries.{bytes_prefix}
 use Rattle.wsn_capture.specs.declared.line_fault.LineFault.TheVariants.{BadHex}
 use Rattle.wsn_rules.specs.Sides.{sent}
+use Rattle.wsn_print.specs.ShownObjects.{Position}
 use Rattle.wsn_show.specs.CaptureViews.{IsAcceptedText, CanShow, ShowsText}
 use Rattle.wsn_show.proofs.ShownEntries.{Takes, shows_client, shows_server, room_for_client, room_for_server}
 use Rattle.wsn_show.proofs.capture_view.CaptureView.show_bytes.Goals as goal
@@ -24,7 +25,7 @@ returns-in-Client-clause-shows g c limits style given entry viewed accepted =
     let is = c.in-Client.is in
     let bytes = take c.in-Ok.count c.decode.new.bytes in
     let here = subst (λ (r : Role). IsAcceptedText limits given (bytes_prefix r ++ c.args.digits.now) entry) is accepted in
-    let takes = subst (λ (t : Option (List ℕ)). Takes Client limits style c.take.new.self (sent Client given) bytes t c.args.output.now c.take.new.output) c.text-time.ensures
+    let takes = subst (λ (p : Position). Takes Client limits style c.take.new.self (sent Client given) bytes p c.args.output.now c.take.new.output) c.origin_of-origin.ensures
     (let printed = c.take.ensures.printed Client limits style (sent Client given) viewed.client in record {
       viewed = c.take.ensures.viewed Client limits style (sent Client given) viewed.client;
       shown = printed.0;
@@ -40,7 +41,7 @@ returns-in-Server-clause-shows g c limits style given entry viewed accepted =
     let is = c.in-Server.is in
     let bytes = take c.in-Ok.count c.decode.new.bytes in
     let here = subst (λ (r : Role). IsAcceptedText limits given (bytes_prefix r ++ c.args.digits.now) entry) is accepted in
-    let takes = subst (λ (t : Option (List ℕ)). Takes Server limits style c.take-in-Server.new.self (sent Server given) bytes t c.args.output.now c.take-in-Server.new.output) c.text-time.ensures
+    let takes = subst (λ (p : Position). Takes Server limits style c.take-in-Server.new.self (sent Server given) bytes p c.args.output.now c.take-in-Server.new.output) c.origin_of-origin.ensures
     (let printed = c.take-in-Server.ensures.printed Server limits style (sent Server given) viewed.server in record {
       viewed = c.take-in-Server.ensures.viewed Server limits style (sent Server given) viewed.server;
       shown = printed.0;
