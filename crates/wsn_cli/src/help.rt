@@ -23,6 +23,12 @@ Report whether a stream is accepted, cut or refused, where and why";
 pub const JUDGE_DETAILS: &str = "\
 Reads a stream and prints its verdict in one line.
 
+With --json it prints an object, of an accepted stream
+  {\"type\":\"verdict\",\"verdict\":\"accepted\",\"used\":6,\"tail\":0,\"unfinished\":null,
+  \"frames\":1,\"messages\":0,\"pings\":0,\"pongs\":0,\"close\":null}
+in one line; close is {\"code\":1000} or {\"code\":null} if there is a Close. Of a
+cut stream tail and close are missing; a refusal has offset, reason and code.
+
 Example: a server's frame with a masking key, and a client's from a capture
   $ printf '\\201\\205' | wsn judge --role server
   refused 1 mask-present 1002
@@ -41,6 +47,10 @@ Prints a line for each frame whose head is complete and valid, then the verdict:
     KEY     the masking key in hexadecimal, or - if there is none
     LENGTH  the bytes of the payload; then 'two' or 'eight' if the length is
             encoded in two or eight bytes and needs fewer
+
+With --json each frame is an object, and then the verdict ('wsn help judge'):
+  {\"type\":\"frame\",\"offset\":0,\"fin\":true,\"opcode\":\"text\",\"key\":\"37fa213d\",
+  \"length\":5,\"form\":\"shortest\"}
 
 Example: a server's message in two fragments, and a ping between them
   $ printf '\\001\\003Hel\\211\\000\\200\\002lo' | wsn frames --role server
@@ -77,6 +87,9 @@ line:
   first VERDICT   the first isn't accepted
   second VERDICT  the second isn't accepted, and the first is
 Either FIRST or SECOND may be -, which is standard input; ./- is a file named -.
+With --json it prints an object: {\"type\":\"comparison\",\"answer\":\"equal\"}, or with
+\"answer\":\"different\" and \"event\":K, or with \"answer\":\"first\" or \"second\" and the
+verdict as \"verdict\" ('wsn help judge').
 
 Example: one frame, and the same message in two
   $ printf '\\201\\002Hi' > one; printf '\\001\\001H\\200\\001i' > two
@@ -177,6 +190,13 @@ completes, as the lines come; then closing's report:
 With --wire it prints frames, after SIDE and TIME as frames lists them, in place
 of events. With --role the input is one stream, without TIME; the verdict's line
 is last, and a refusal ends the reading.
+With --json each entry is an object in one line, with the capture's line if the
+entry is of one; \"truncated\":true if bytes are left out:
+  {\"type\":\"event\",\"line\":1,\"side\":\"client\",\"time\":0.001356,\"offset\":0,
+  \"event\":\"text\",\"bytes\":5,\"frames\":1,\"text\":\"Hello\"}
+\"hex\" is in place of \"text\" for other bytes; a Close has \"code\" and \"reason\".
+The other types are refused, unfinished, unread, tail, end, comment and report,
+with --wire also frame.
 
 Example: a client says \"Hello\" in two frames, and sends half a ping
   $ printf 'C 01830000000048656c\\nC 8082000000006c6f89\\n' | wsn show | head -n 2
@@ -212,6 +232,10 @@ side. Prints seven lines:
             abnormal  a direction ended without a Close
             half      one side sent a Close
             open      none of these
+With --json it prints an object: {\"type\":\"report\",\"client\":{\"state\":\"closed\",
+\"code\":1000},\"server\":{\"state\":\"ended\"},\"first\":\"client\",\"echo\":null,
+\"client_sees\":1006,\"server_sees\":1000,\"outcome\":\"abnormal\"}, in one line; - is
+null, and a refused side has offset, reason and code.
 A malformed line gives status 2, and line N: WORD on standard error, with N
 from 1 and WORD too-many-lines, too-long, bad-form, bad-hex, after-end or
 input-limit.

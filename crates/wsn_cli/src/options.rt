@@ -86,7 +86,7 @@ pub fn with_json<'a>(alloc: Global, command: Command<'a>) -> Result<Command<'a>,
     let json = Arg::new(alloc, "json")
         .long("json")
         .action(ArgAction::SetTrue);
-    command.arg(json.help("Print JSON objects, one a line, in place of words"))
+    command.arg(json.help("Print JSON objects, one a line"))
 }
 
 /// Adds `--capture`.

@@ -3,7 +3,7 @@
 
 use std::alloc::{AllocError, Global};
 use std::process::Abort;
-use wsn_cli::{How, Job, Request, Usage, asked};
+use wsn_cli::{Comparison, Format, How, Job, Request, Usage, asked};
 use wsn_rules::{Detail, Limits};
 use wsn_show::Style;
 use wsn_wire::{Lengths, Role};
@@ -46,15 +46,20 @@ fn request_line(alloc: Global, request: &Request) -> Result<String, AllocError> 
             with_input(alloc, &line, file, *side)
         }
         Request::Same {
-            role,
-            limits,
+            comparison,
             first,
             second,
             side,
         } => {
+            let Comparison {
+                role,
+                limits,
+                format,
+            } = comparison;
             let stream = stream_line(alloc, "same", *role, limits)?;
             let (first, second) = (name_of(first), name_of(second));
-            let line = format!(in alloc; "{stream}, {first} and {second}")?;
+            let suffix = suffix_of(*format);
+            let line = format!(in alloc; "{stream}, {first} and {second}{suffix}")?;
             with_side(alloc, &line, *side)
         }
         Request::Help(_) => String::from_str(alloc, "help"),
@@ -103,14 +108,21 @@ fn role_name(role: Role) -> &'static str {
 
 fn job_line(alloc: Global, job: &Job) -> Result<String, AllocError> {
     match job {
-        Job::Judge(role, limits) => stream_line(alloc, "judge", *role, limits),
-        Job::Frames(role, limits) => stream_line(alloc, "frames", *role, limits),
+        Job::Judge(role, limits, format) => {
+            let stream = stream_line(alloc, "judge", *role, limits)?;
+            with_format(alloc, &stream, *format)
+        }
+        Job::Frames(role, limits, format) => {
+            let stream = stream_line(alloc, "frames", *role, limits)?;
+            with_format(alloc, &stream, *format)
+        }
         Job::Normal(role, limits) => stream_line(alloc, "normal", *role, limits),
         Job::Plan(role, limits) => stream_line(alloc, "plan", *role, limits),
         Job::Recut(role, limits, how) => recut_line(alloc, *role, limits, how),
-        Job::Closing(limits) => {
+        Job::Closing(limits, format) => {
             let limits = limits_line(alloc, limits)?;
-            format!(in alloc; "closing {limits}")
+            let suffix = suffix_of(*format);
+            format!(in alloc; "closing {limits}{suffix}")
         }
         Job::ShowStream(role, limits, style) => {
             let stream = stream_line(alloc, "show", *role, limits)?;
@@ -131,7 +143,22 @@ fn style_line(alloc: Global, style: &Style) -> Result<String, AllocError> {
         Detail::Frames => "frames",
     };
     let view = style.view.bytes();
-    format!(in alloc; "{shown} view {view}")
+    let suffix = suffix_of(style.format);
+    format!(in alloc; "{shown} view {view}{suffix}")
+}
+
+/// Appends the format, if it is JSON.
+fn with_format(alloc: Global, line: &String, format: Format) -> Result<String, AllocError> {
+    let suffix = suffix_of(format);
+    format!(in alloc; "{line}{suffix}")
+}
+
+/// What follows a line for the format: nothing for text.
+fn suffix_of(format: Format) -> &'static str {
+    match format {
+        Format::Text => "",
+        Format::Json => ", in JSON",
+    }
 }
 
 fn recut_line(alloc: Global, role: Role, limits: &Limits, how: &How) -> Result<String, AllocError> {

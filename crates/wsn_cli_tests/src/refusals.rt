@@ -3,7 +3,7 @@
 use crate::answer_lines::expect_answer;
 
 /// A missing or unknown word, and a role or number out of its range.
-static WRONG: [&str; 38] = [
+static WRONG: [&str; 41] = [
     "wsn",
     "wsn other",
     "wsn judge",
@@ -25,6 +25,9 @@ static WRONG: [&str; 38] = [
     "wsn closing --role server",
     "wsn closing --view 5",
     "wsn show --capture",
+    "wsn normal --role server --json",
+    "wsn plan --role server --json",
+    "wsn recut --role server --size 3 --json",
     "wsn show file other",
     "wsn show --view 4097",
     "wsn show --view -1",

@@ -113,6 +113,37 @@ fn views_are_asked_for(rt: HostRuntime) {
     }
 }
 
+/// With `--json` the answer is printed in JSON.
+static JSON: [(&str, &str); 5] = [
+    (
+        "wsn judge --json --role server",
+        "judge server 16777216 1099511627776 - shortest, in JSON",
+    ),
+    (
+        "wsn frames --role client --json file",
+        "frames client 16777216 1099511627776 - shortest, in JSON, from file",
+    ),
+    (
+        "wsn closing --json",
+        "closing 16777216 1099511627776 - shortest, in JSON",
+    ),
+    (
+        "wsn show --wire --json --view 7",
+        "show 16777216 1099511627776 - shortest, frames view 7, in JSON",
+    ),
+    (
+        "wsn same --role client a b --json",
+        "same client 16777216 1099511627776 - shortest, a and b, in JSON",
+    ),
+];
+
+#[test]
+fn json_is_asked_for(rt: HostRuntime) {
+    for row in JSON.iter() {
+        expect_answer(&rt, rt.alloc(), row.0, row.1);
+    }
+}
+
 static LIMITED: [(&str, &str); 11] = [
     (
         "wsn judge --role server --limit 5",

@@ -6,7 +6,7 @@ use crate::readers::Chopped;
 use crate::writers::Narrow;
 use std::alloc::{Allocator, Global};
 use wsn_capture::SideReader;
-use wsn_job::{Job, run, run_on_side, run_same, run_same_on_sides};
+use wsn_job::{Comparison, Format, Job, run, run_on_side, run_same, run_same_on_sides};
 use wsn_scan::Limits;
 use wsn_wire::{Input, Output, Role};
 
@@ -82,8 +82,7 @@ pub fn run_same_on_sides_on(
         alloc,
         &mut Input::new(SideReader::new(first, Role::Server)),
         &mut Input::new(SideReader::new(second, Role::Server)),
-        Role::Server,
-        limits,
+        text_of(limits),
         &mut Output::new(&mut writer),
         &mut Output::new(&mut err),
     );
@@ -108,8 +107,7 @@ pub fn run_same_on<A: Allocator + Copy>(
         heap,
         &mut Input::new(&mut first),
         &mut Input::new(&mut second),
-        Role::Server,
-        limits,
+        text_of(limits),
         &mut Output::new(&mut writer),
         &mut Output::new(&mut err),
     );
@@ -117,5 +115,14 @@ pub fn run_same_on<A: Allocator + Copy>(
         status,
         out: writer.taken,
         err,
+    }
+}
+
+/// A comparison of two streams of a server, whose answer is printed in words.
+fn text_of(limits: Limits) -> Comparison {
+    Comparison {
+        role: Role::Server,
+        limits,
+        format: Format::Text,
     }
 }

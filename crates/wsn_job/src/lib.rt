@@ -23,3 +23,4 @@ pub use comparisons::{Comparison, run_same};
 pub use job::{How, Job};
 pub use running::run;
 pub use sides::{run_on_side, run_same_on_sides};
+pub use wsn_print::Format;

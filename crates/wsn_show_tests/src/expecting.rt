@@ -8,7 +8,7 @@ use wsn_doubles::command_runs::{CommandRun, run_on};
 use wsn_doubles::readers::Chopped;
 use wsn_doubles::writers::Narrow;
 use wsn_job::Job;
-use wsn_print::ViewLimit;
+use wsn_print::{Format, ViewLimit};
 use wsn_rules::Detail;
 use wsn_show::Style;
 
@@ -29,7 +29,21 @@ pub fn events_of(rt: &impl Abort, bytes: u16) -> Style {
 /// Events or frames, with at most this many bytes of each payload.
 pub fn style_of(rt: &impl Abort, bytes: u16, detail: Detail) -> Style {
     let view = ViewLimit::new(bytes).expect(rt, "a view of at most 4096 bytes");
-    Style { view, detail }
+    Style {
+        view,
+        detail,
+        format: Format::Text,
+    }
+}
+
+/// Events or frames as JSON objects, with at most 48 bytes of each payload.
+pub fn objects_of(rt: &impl Abort, detail: Detail) -> Style {
+    let view = ViewLimit::new(48).expect(rt, "a view of at most 4096 bytes");
+    Style {
+        view,
+        detail,
+        format: Format::Json,
+    }
 }
 
 /// Fails unless a run has this result. `text` is its input, which is printed if it hasn't.

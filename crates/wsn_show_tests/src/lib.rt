@@ -1,12 +1,14 @@
 //! Tests of `show`, through its command and its public calls. `rows` has captures and what is printed of them,
 //! `captures` and `streams` run the command over captures and over single streams, `stops` with readers and writers that
-//! fail.
+//! fail; `objects` runs commands that print JSON.
 #![tactic(auto)]
 
 #[cfg(test)]
 mod captures;
 #[cfg(test)]
 mod expecting;
+#[cfg(test)]
+mod objects;
 #[cfg(test)]
 mod rows;
 #[cfg(test)]

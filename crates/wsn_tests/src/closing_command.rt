@@ -13,7 +13,7 @@ use wsn_doubles::heaps::heap_of;
 use wsn_doubles::readers::{Chopped, READS};
 use wsn_doubles::vectors::{filled, greatest};
 use wsn_doubles::writers::{FULL, Full, Narrow};
-use wsn_job::{Job, run};
+use wsn_job::{Format, Job, run};
 use wsn_scan::Limits;
 use wsn_wire::{Input, Output};
 
@@ -82,7 +82,7 @@ fn expect_closing_on<A: Allocator + Copy>(
     given: Given,
     expected: Expected,
 ) {
-    let job = Job::Closing(limits);
+    let job = Job::Closing(limits, Format::Text);
     let done = run_on(heap, alloc, &job, given.reader(), Narrow::wide(alloc));
     expect_run(
         rt,
@@ -229,7 +229,7 @@ fn a_failed_write_is_reported_after_every_byte(rt: HostRuntime) {
         let report = row.report.as_bytes();
         for room in 0..report.len() {
             let (text, prefix) = (row.text.as_bytes(), &report[..room]);
-            let job = Job::Closing(greatest());
+            let job = Job::Closing(greatest(), Format::Text);
             expect_failed_writes(&rt, &heap, alloc, &job, text, usize::MAX, prefix);
         }
     }
@@ -240,7 +240,7 @@ fn a_writer_may_accept_one_byte_per_call(rt: HostRuntime) {
     let alloc = rt.alloc();
     let heap = heap_of(alloc, 0).expect(&rt, "memory");
     for row in report_rows() {
-        let job = Job::Closing(greatest());
+        let job = Job::Closing(greatest(), Format::Text);
         let reader = Chopped::new(row.text.as_bytes(), 1);
         let writer = Narrow::new(alloc, 1, usize::MAX, Full::Fails);
         let done = run_on(&heap, alloc, &job, reader, writer);
@@ -261,7 +261,7 @@ fn a_stop_has_its_status_where_standard_error_fails(rt: HostRuntime) {
 
 /// Fails unless the exit status is 2 where the line of a stop cannot be written after this prefix.
 fn expect_status_alone(rt: &impl Abort, alloc: Global, full: Full, prefix: &[u8]) {
-    let job = Job::Closing(greatest());
+    let job = Job::Closing(greatest(), Format::Text);
     let mut out = Vec::new(alloc);
     let mut err = Narrow::new(alloc, usize::MAX, prefix.len(), full);
     let status = run(

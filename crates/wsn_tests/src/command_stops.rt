@@ -10,7 +10,7 @@ use wsn_doubles::command_runs::{run_on, run_same_on};
 use wsn_doubles::readers::{Chopped, READS};
 use wsn_doubles::vectors::{Stream, greatest, stream_named};
 use wsn_doubles::writers::{FULL, Full, Narrow};
-use wsn_job::Job;
+use wsn_job::{Format, Job};
 
 /// The stream: "Hello" in fragments of three bytes and two, with a ping between them.
 fn fragments(rt: &impl Abort, alloc: Global) -> Stream {
@@ -115,7 +115,7 @@ fn judge_is_stopped(rt: HostRuntime) {
         out: b"accepted 11 tail 0 unfinished -\n",
         due: &JUDGED,
     };
-    let job = Job::Judge(stream.role, stream.limits);
+    let job = Job::Judge(stream.role, stream.limits, Format::Text);
     expect_stops(&rt, alloc, &job, &expected);
 }
 
@@ -129,7 +129,7 @@ fn frames_is_stopped(rt: HostRuntime) {
         out: lines.as_bytes(),
         due: &LISTED,
     };
-    let job = Job::Frames(stream.role, stream.limits);
+    let job = Job::Frames(stream.role, stream.limits, Format::Text);
     expect_stops(&rt, alloc, &job, &expected);
 }
 

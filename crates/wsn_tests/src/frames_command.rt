@@ -11,11 +11,11 @@ use wsn_doubles::heaps::heap_of;
 use wsn_doubles::readers::Chopped;
 use wsn_doubles::vectors::{Stream, streams};
 use wsn_doubles::writers::{Full, Narrow};
-use wsn_job::Job;
+use wsn_job::{Format, Job};
 
 /// Fails unless the command prints the lines of a stream, and reports a stream that is too long.
 fn expect_printed<A: Allocator + Copy>(rt: &impl Abort, heap: A, alloc: Global, stream: &Stream) {
-    let job = Job::Frames(stream.role, stream.limits);
+    let job = Job::Frames(stream.role, stream.limits, Format::Text);
     let reader = Chopped::new(stream.bytes.as_slice(), 4_096);
     let done = run_on(heap, alloc, &job, reader, Narrow::wide(alloc));
     let err = if stream.is_too_long() {
@@ -40,7 +40,7 @@ fn a_failed_read_is_reported_in_one_line(rt: HostRuntime) {
     let alloc = rt.alloc();
     let heap = heap_of(alloc, 0).expect(&rt, "memory");
     for stream in streams(alloc).expect(&rt, "every vector").iter() {
-        let job = Job::Frames(stream.role, stream.limits);
+        let job = Job::Frames(stream.role, stream.limits, Format::Text);
         expect_failed_read(&rt, &heap, alloc, &job);
     }
 }
@@ -50,7 +50,7 @@ fn a_failed_write_is_reported_in_one_line(rt: HostRuntime) {
     let alloc = rt.alloc();
     let heap = heap_of(alloc, 0).expect(&rt, "memory");
     for stream in streams(alloc).expect(&rt, "every vector").iter() {
-        let job = Job::Frames(stream.role, stream.limits);
+        let job = Job::Frames(stream.role, stream.limits, Format::Text);
         expect_failed_writes(&rt, &heap, alloc, &job, stream.bytes.as_slice(), 1, &[]);
     }
 }

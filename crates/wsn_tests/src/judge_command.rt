@@ -9,11 +9,11 @@ use wsn_doubles::heaps::heap_of;
 use wsn_doubles::readers::Chopped;
 use wsn_doubles::vectors::{Stream, streams};
 use wsn_doubles::writers::Narrow;
-use wsn_job::Job;
+use wsn_job::{Format, Job};
 
 /// Fails unless the command prints a stream's verdict, or reports that the stream is too long.
 fn expect_verdict<A: Allocator + Copy>(rt: &impl Abort, heap: A, alloc: Global, stream: &Stream) {
-    let job = Job::Judge(stream.role, stream.limits);
+    let job = Job::Judge(stream.role, stream.limits, Format::Text);
     let reader = Chopped::new(stream.bytes.as_slice(), 4_096);
     let done = run_on(heap, alloc, &job, reader, Narrow::wide(alloc));
     let line = printed(alloc, stream.verdict).expect(rt, "memory");
@@ -38,7 +38,7 @@ fn a_failed_read_is_reported_in_one_line(rt: HostRuntime) {
     let alloc = rt.alloc();
     let heap = heap_of(alloc, 0).expect(&rt, "memory");
     for stream in streams(alloc).expect(&rt, "every vector").iter() {
-        let job = Job::Judge(stream.role, stream.limits);
+        let job = Job::Judge(stream.role, stream.limits, Format::Text);
         expect_failed_read(&rt, &heap, alloc, &job);
     }
 }
@@ -47,7 +47,7 @@ fn a_failed_read_is_reported_in_one_line(rt: HostRuntime) {
 fn expect_failed<A: Allocator + Copy>(rt: &impl Abort, heap: A, alloc: Global, stream: &Stream) {
     let verdict = stream.verdict.as_bytes();
     if !stream.is_too_long() {
-        let job = Job::Judge(stream.role, stream.limits);
+        let job = Job::Judge(stream.role, stream.limits, Format::Text);
         let prefix = &verdict[..1.min(verdict.len())];
         expect_failed_writes(rt, heap, alloc, &job, stream.bytes.as_slice(), 1, prefix);
     }

@@ -10,7 +10,7 @@ use wsn_doubles::command_runs::{run_on, run_on_side_on, run_same_on_sides_on};
 use wsn_doubles::readers::{Chopped, READS};
 use wsn_doubles::vectors::{filled, greatest};
 use wsn_doubles::writers::{FULL, Narrow};
-use wsn_job::{How, Job};
+use wsn_job::{Format, How, Job};
 use wsn_wire::Role;
 
 /// Lines of both sides, and no LF at the end.
@@ -60,8 +60,20 @@ fn expect_as_on_bytes(rt: &impl Abort, alloc: Global, job: &Job, role: Role, byt
 fn each_command_answers_as_on_the_sides_bytes(rt: HostRuntime) {
     let alloc = rt.alloc();
     for (role, bytes) in [(Role::Client, BOTH_CLIENT), (Role::Server, BOTH_SERVER)] {
-        expect_as_on_bytes(&rt, alloc, &Job::Judge(role, greatest()), role, bytes);
-        expect_as_on_bytes(&rt, alloc, &Job::Frames(role, greatest()), role, bytes);
+        expect_as_on_bytes(
+            &rt,
+            alloc,
+            &Job::Judge(role, greatest(), Format::Text),
+            role,
+            bytes,
+        );
+        expect_as_on_bytes(
+            &rt,
+            alloc,
+            &Job::Frames(role, greatest(), Format::Text),
+            role,
+            bytes,
+        );
         expect_as_on_bytes(&rt, alloc, &Job::Normal(role, greatest()), role, bytes);
         expect_as_on_bytes(&rt, alloc, &Job::Plan(role, greatest()), role, bytes);
     }
@@ -81,9 +93,9 @@ fn a_side_is_recut_by_size(rt: HostRuntime) {
 fn what_was_printed_before_a_faulty_line_stays(rt: HostRuntime) {
     let alloc = rt.alloc();
     let line = "line 4: bad-form";
-    let judge = Job::Judge(Role::Server, greatest());
+    let judge = Job::Judge(Role::Server, greatest(), Format::Text);
     expect_on_side(&rt, alloc, &judge, FAULTY, 2, b"", line);
-    let frames = Job::Frames(Role::Server, greatest());
+    let frames = Job::Frames(Role::Server, greatest(), Format::Text);
     let heads = b"0 fin ping - 0\n2 fin text - 2\n";
     expect_on_side(&rt, alloc, &frames, FAULTY, 2, heads, line);
     let normal = Job::Normal(Role::Server, greatest());
@@ -105,7 +117,7 @@ static FAULTS: [(&str, &str); 6] = [
 #[test]
 fn bad_form_bad_hex_and_after_end_are_reported(rt: HostRuntime) {
     let alloc = rt.alloc();
-    let judge = Job::Judge(Role::Server, greatest());
+    let judge = Job::Judge(Role::Server, greatest(), Format::Text);
     for (text, line) in FAULTS.iter() {
         expect_on_side(&rt, alloc, &judge, text.as_bytes(), 2, b"", line);
     }
@@ -114,7 +126,7 @@ fn bad_form_bad_hex_and_after_end_are_reported(rt: HostRuntime) {
 #[test]
 fn too_long_and_too_many_lines_are_reported(rt: HostRuntime) {
     let alloc = rt.alloc();
-    let judge = Job::Judge(Role::Server, greatest());
+    let judge = Job::Judge(Role::Server, greatest(), Format::Text);
     let long = filled(alloc, b"#\n#", b'#', 8_194).expect(&rt, "memory");
     expect_on_side(
         &rt,
@@ -142,7 +154,7 @@ fn too_long_and_too_many_lines_are_reported(rt: HostRuntime) {
 fn a_refusal_before_a_faulty_line_is_the_answer(rt: HostRuntime) {
     let alloc = rt.alloc();
     let text = b"C 00\nS 89\nS 00c1\nX\n";
-    let judge = Job::Judge(Role::Server, greatest());
+    let judge = Job::Judge(Role::Server, greatest(), Format::Text);
     let verdict = b"refused 2 reserved-bits 1002\n";
     expect_on_side(&rt, alloc, &judge, text, 1, verdict, "");
     let plan = Job::Plan(Role::Server, greatest());
@@ -160,7 +172,7 @@ fn a_refusal_before_a_faulty_line_is_the_answer(rt: HostRuntime) {
 #[test]
 fn a_failed_read_of_the_text_is_reported_as_such(rt: HostRuntime) {
     let alloc = rt.alloc();
-    let frames = Job::Frames(Role::Server, greatest());
+    let frames = Job::Frames(Role::Server, greatest(), Format::Text);
     for left in [FAULTY.len(), 10, 9, 8] {
         let text = Chopped::stumbling(FAULTY, 4, left, ErrorKind::Interrupted);
         let done = run_on_side_on(
@@ -179,7 +191,7 @@ fn a_failed_read_of_the_text_is_reported_as_such(rt: HostRuntime) {
 #[test]
 fn a_failed_write_before_a_faulty_line_is_reported(rt: HostRuntime) {
     let alloc = rt.alloc();
-    let frames = Job::Frames(Role::Server, greatest());
+    let frames = Job::Frames(Role::Server, greatest(), Format::Text);
     for full in FULL {
         let text = Chopped::new(FAULTY, 3);
         let writer = Narrow::new(alloc, 1, 4, full);

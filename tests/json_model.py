@@ -1,0 +1,163 @@
+"""What the JSON objects of `wsn --json` say, as the lines that `wsn` prints without it.
+
+objects(out) reads the lines as JSON, and fails unless each is written as it should be: its members in their order, no
+spaces, strings quoted as in the lines of `show`. line_of(read, view) gives the line or lines of an object.
+"""
+import json
+
+import show_model
+
+ENTRY = ("type", "line", "side", "time", "offset")
+VIEWED = ("text", "hex", "code", "reason", "truncated")
+FRAME = ("fin", "opcode", "key", "length", "form")
+COUNTS = ("frames", "messages", "pings", "pongs")
+# The members of each type, in their order; those of an entry that may be missing are in MAY_LACK.
+MEMBERS = {
+    "event": (*ENTRY, "event", "bytes", "frames", *VIEWED),
+    "unfinished": (*ENTRY, "event", "bytes", "frames", "lacks", *VIEWED),
+    "refused": (*ENTRY, "place", "reason", "code", "hex", "truncated"),
+    "unread": (*ENTRY, "bytes", "hex", "truncated"),
+    "tail": (*ENTRY, "bytes", "hex", "truncated"),
+    "end": ENTRY,
+    "frame": (*ENTRY, *FRAME),
+    "comment": ("type", "line", "text"),
+    "report": ("type", "client", "server", "first", "echo", "client_sees", "server_sees", "outcome"),
+    "accepted": ("type", "verdict", "used", "tail", "unfinished", *COUNTS, "close"),
+    "cut": ("type", "verdict", "used", "unfinished", *COUNTS),
+    "refused verdict": ("type", "verdict", "offset", "reason", "code"),
+    "comparison": ("type", "answer", "event", "verdict"),
+}
+MAY_LACK = {"line", "side", "time", *VIEWED, "event", "verdict"}
+
+
+class Number(str):
+    """A number as it is written."""
+
+
+def compact(value):
+    """The value as JSON without spaces, strings quoted as in the lines of `show`."""
+    if isinstance(value, dict):
+        return "{%s}" % ",".join(f"{show_model.quoted(key.encode())}:{compact(it)}" for key, it in value.items())
+    if isinstance(value, Number):
+        return value
+    if isinstance(value, str):
+        return show_model.quoted(value.encode())
+    return {None: "null", True: "true", False: "false"}[value]
+
+
+def kind_of(read):
+    if read["type"] != "verdict":
+        return read["type"]
+    return "refused verdict" if read["verdict"] == "refused" else read["verdict"]
+
+
+def objects(out):
+    lines = out.decode().split("\n")
+    assert lines.pop() == "", f"no line feed at the end: {out!r}"
+    found = []
+    for line in lines:
+        read = json.loads(line, parse_int=Number, parse_float=Number)
+        assert compact(read) == line, line
+        members = MEMBERS[kind_of(read)]
+        assert list(read) == [it for it in members if it in read], line
+        assert all(it in MAY_LACK or it in read for it in members), line
+        found.append(read)
+    return found
+
+
+def dashed(value):
+    return "-" if value is None else value
+
+
+def hexadecimal(read, view):
+    return "-" if view == 0 else (read["hex"] or "-") + (" .." if "truncated" in read else "")
+
+
+def viewed(read, view):
+    more = " .." if "truncated" in read else ""
+    if "code" in read:
+        reason = f" {show_model.quoted(read['reason'].encode())}" if "reason" in read else ""
+        return f"{dashed(read['code'])}{reason}"
+    if "text" in read:
+        return "-" if view == 0 and more else show_model.quoted(read["text"].encode()) + more
+    return hexadecimal(read, view)
+
+
+def frame_line(read):
+    form = "" if read["form"] == "shortest" else f" {read['form']}"
+    end = "fin" if read["fin"] else "more"
+    return f"{read['offset']} {end} {read['opcode']} {dashed(read['key'])} {read['length']}{form}"
+
+
+def verdict_line(read):
+    if read["verdict"] == "accepted":
+        return f"accepted {read['used']} tail {read['tail']} unfinished {dashed(read['unfinished'])}"
+    if read["verdict"] == "cut":
+        return f"cut {read['used']}"
+    return f"refused {read['offset']} {read['reason']} {read['code']}"
+
+
+def side_line(read):
+    if read["state"] == "closed":
+        return f"closed {dashed(read['code'])}"
+    if read["state"] == "refused":
+        return f"refused {read['offset']} {read['reason']} {read['code']}"
+    return read["state"]
+
+
+def report_lines(read):
+    echo = {True: "yes", False: "no", None: "-"}[read["echo"]]
+    return [
+        f"client {side_line(read['client'])}", f"server {side_line(read['server'])}", f"first {dashed(read['first'])}",
+        f"echo {echo}", f"client-sees {dashed(read['client_sees'])}", f"server-sees {dashed(read['server_sees'])}",
+        f"outcome {read['outcome']}",
+    ]
+
+
+def comparison_line(read):
+    if read["answer"] in ("first", "second"):
+        return f"{read['answer']} {verdict_line(read['verdict'])}"
+    return f"different {read['event']}" if read["answer"] == "different" else read["answer"]
+
+
+def entry_text(read, view):
+    """An entry's line after its offset."""
+    kind = read["type"]
+    if kind == "refused":
+        shown = "-" if view == 0 else (".." if "truncated" in read else "") + read["hex"]
+        return f"refused {read['place']} {read['reason']} {read['code']} {shown}"
+    if kind in ("unread", "tail"):
+        return f"{kind} {read['bytes']} {hexadecimal(read, view)}"
+    if kind == "end":
+        return kind
+    counted = f"{read['event']} {read['bytes']} {read['frames']}"
+    if kind == "unfinished":
+        return f"unfinished {counted} lacks {dashed(read['lacks'])} {viewed(read, view)}"
+    return f"{counted} {viewed(read, view)}"
+
+
+def lines_of(read, view=48):
+    """The lines that an object stands for."""
+    kind = read["type"]
+    if kind == "report":
+        return report_lines(read)
+    if kind == "verdict":
+        return [verdict_line(read)]
+    if kind == "comparison":
+        return [comparison_line(read)]
+    if kind == "comment":
+        return [f"#{show_model.escaped(read['text'])}"]
+    if "side" not in read:
+        return [frame_line(read)]
+    front = f"{read['side'][0].upper()} {dashed(read.get('time'))} "
+    if kind == "frame":
+        return [front + frame_line(read)]
+    return [f"{front}{read['offset']} {entry_text(read, view)}"]
+
+
+def counts_of(lines):
+    """The counts that a verdict's object has, worked out from the lines of `frames` before it: whole frames' alone."""
+    frames = [line.split() for line in lines]
+    final = [frame[2] for frame in frames if frame[1] == "fin"]
+    messages = sum(kind in ("text", "binary", "cont") for kind in final)
+    return [len(frames), messages, final.count("ping"), final.count("pong")]
