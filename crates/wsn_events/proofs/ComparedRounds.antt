@@ -5,7 +5,9 @@ use Rattle.wsn_wire.specs.declared.endpoint.Role.{Role}
 use Rattle.wsn_io.specs.Transfer.{Incoming}
 use Rattle.wsn_rules.specs.declared.verdict.Verdict.{Verdict}
 use Rattle.wsn_io.specs.declared.stop.Stop.{Stop}
+use Rattle.wsn_rules.specs.declared.without.Without.{Without}
 use Rattle.wsn_rules.specs.Limits.{Limits}
+use Rattle.wsn_rules.specs.LeftOut.{events_without}
 use Rattle.wsn_rules.specs.Meaning.{MeantEvent}
 use Rattle.wsn_scan.proofs.ReaderReports.{left_few}
 use Rattle.wsn_events.specs.declared.comparing.Round.TheVariants.{Alike, Unlike}
@@ -35,14 +37,14 @@ IsDifferenceSoFar reading other index events others (Some k) =
 
 module _ {A : Type 0} (role : Role) (limits : Limits) where
   -- the first difference stays
-  differ_on : (new : Incoming) (before reading : EventReader A) (came : List ℕ) (given events others : List MeantEvent) (next : Next A) (k : ℕ)
-      → Gives role limits new before reading came given events next → (answered before ≡ None → k < length given) → DifferAt k given others
+  differ_on : (before reading : EventReader A) (given events others : List MeantEvent) (next : Next A) (k : ℕ)
+      → Gives before reading given events next → (answered before ≡ None → k < length given) → DifferAt k given others
       → DifferAt k events others × (answered reading ≡ None → k < length events)
-  differ_on new before reading came given events others (nexts.Event event) k gives within differ =
+  differ_on before reading given events others (nexts.Event event) k gives within differ =
       let more = differ_more k given others (meant event ∷ []) (within gives.1) differ in
       (subst (λ (es : List MeantEvent). DifferAt k es others) (sym gives.0) more, λ going. omega (arith, within gives.1, ap (λ (es : List MeantEvent). length es) gives.0, length-append given (meant event ∷ [])))
-  differ_on new before reading came given events others (nexts.Done verdict) k gives within differ =
-      (subst (λ (es : List MeantEvent). DifferAt k es others) (sym gives.0) differ, λ going. let both : Some (Ok verdict) ≡ None = sym gives.1.0 ∙ going in absurd cc)
+  differ_on before reading given events others (nexts.Done verdict) k gives within differ =
+      (subst (λ (es : List MeantEvent). DifferAt k es others) (sym gives.0) differ, λ going. let both : Some (Ok verdict) ≡ None = sym gives.1 ∙ going in absurd cc)
 
   -- ---- rounds
 
@@ -62,10 +64,10 @@ module _ {A : Type 0} (role : Role) (limits : Limits) where
   falls_by (nexts.Event event) = 1
   falls_by (nexts.Done verdict) = 0
 
-  falls : (new : Incoming) (before reading : EventReader A) (came : List ℕ) (given events : List MeantEvent) (next : Next A)
-      → Gives role limits new before reading came given events next → pending reading + falls_by next ≤ pending before
-  falls new before reading came given events (nexts.Event event) gives = omega (arith, pending_going before gives.1, pending_going reading gives.2, gives.3)
-  falls new before reading came given events (nexts.Done verdict) gives = omega (arith, pending_done reading (Ok verdict) gives.1.0)
+  falls : (before reading : EventReader A) (given events : List MeantEvent) (next : Next A)
+      → Gives before reading given events next → pending reading + falls_by next ≤ pending before
+  falls before reading given events (nexts.Event event) gives = omega (arith, pending_going before gives.1, pending_going reading gives.2, gives.3)
+  falls before reading given events (nexts.Done verdict) gives = omega (arith, pending_done reading (Ok verdict) gives.1)
 
   -- an event or two
   some_alike : (next other : Next A) → IsRoundOf next other Alike → 0 < falls_by next + falls_by other
@@ -82,79 +84,92 @@ module _ {A : Type 0} (role : Role) (limits : Limits) where
   -- ---- what comes after the same events, or after a difference
 
   -- both sides of a first difference
-  differ_still : (new other_new : Incoming) (before reading other_before other : EventReader A) (came other_came : List ℕ) (given events other_given others : List MeantEvent) (next other_next : Next A) (k : ℕ)
-      → Gives role limits new before reading came given events next → Gives role limits other_new other_before other other_came other_given others other_next
+  differ_still : (before reading other_before other : EventReader A) (given events other_given others : List MeantEvent) (next other_next : Next A) (k : ℕ)
+      → Gives before reading given events next → Gives other_before other other_given others other_next
       → DifferAt k given other_given → (answered before ≡ None → k < length given) → (answered other_before ≡ None → k < length other_given)
       → DifferAt k events others × (answered reading ≡ None → k < length events) × (answered other ≡ None → k < length others)
-  differ_still new other_new before reading other_before other came other_came given events other_given others next other_next k gives other_gives differ within other_within =
-      let one = differ_on new before reading came given events other_given next k gives within differ in
-      let two = differ_on other_new other_before other other_came other_given others events other_next k other_gives other_within (differ_sym k events other_given one.0) in
+  differ_still before reading other_before other given events other_given others next other_next k gives other_gives differ within other_within =
+      let one = differ_on before reading given events other_given next k gives within differ in
+      let two = differ_on other_before other other_given others events other_next k other_gives other_within (differ_sym k events other_given one.0) in
       (differ_sym k others events two.0, one.1, two.1)
 
-  same_next : (new other_new : Incoming) (before reading other_before other : EventReader A) (came other_came : List ℕ) (given events other_given others : List MeantEvent) (next other_next : Next A) (index : ℕ)
-      → Gives role limits new before reading came given events next → Gives role limits other_new other_before other other_came other_given others other_next
+  same_next : (before reading other_before other : EventReader A) (given events other_given others : List MeantEvent) (next other_next : Next A) (index : ℕ)
+      → Gives before reading given events next → Gives other_before other other_given others other_next
       → given ≡ other_given → length given ≡ index → IsRoundOf next other_next Alike → IsDifferenceSoFar reading other (index + 1) events others None
-  same_next new other_new before reading other_before other came other_came given events other_given others (nexts.Event event) (nexts.Event that) index gives other_gives same size is = (
+  same_next before reading other_before other given events other_given others (nexts.Event event) (nexts.Event that) index gives other_gives same size is = (
     gives.2,
     other_gives.2,
     gives.0 ∙ ap (λ (es : List MeantEvent). es ++ meant event ∷ []) same ∙ ap (λ (e : MeantEvent). other_given ++ e ∷ []) is ∙ sym other_gives.0,
     omega (arith, ap (λ (es : List MeantEvent). length es) gives.0, length-append given (meant event ∷ [])),
   )
-  same_next new other_new before reading other_before other came other_came given events other_given others (nexts.Event event) (nexts.Done verdict) index gives other_gives same size is = absurd is
-  same_next new other_new before reading other_before other came other_came given events other_given others (nexts.Done verdict) (nexts.Event that) index gives other_gives same size is = absurd is
-  same_next new other_new before reading other_before other came other_came given events other_given others (nexts.Done verdict) (nexts.Done that) index gives other_gives same size is = absurd is
+  same_next before reading other_before other given events other_given others (nexts.Event event) (nexts.Done verdict) index gives other_gives same size is = absurd is
+  same_next before reading other_before other given events other_given others (nexts.Done verdict) (nexts.Event that) index gives other_gives same size is = absurd is
+  same_next before reading other_before other given events other_given others (nexts.Done verdict) (nexts.Done that) index gives other_gives same size is = absurd is
 
-  unlike_next : (new other_new : Incoming) (before reading other_before other : EventReader A) (came other_came : List ℕ) (given events other_given others : List MeantEvent) (next other_next : Next A) (index : ℕ)
-      → Gives role limits new before reading came given events next → Gives role limits other_new other_before other other_came other_given others other_next
+  unlike_next : (before reading other_before other : EventReader A) (given events other_given others : List MeantEvent) (next other_next : Next A) (index : ℕ)
+      → Gives before reading given events next → Gives other_before other other_given others other_next
       → given ≡ other_given → length given ≡ index → IsRoundOf next other_next Unlike → IsDifferenceSoFar reading other (index + 1) events others (Some index)
-  unlike_next new other_new before reading other_before other came other_came given events other_given others (nexts.Event event) (nexts.Event that) index gives other_gives same size is = (
+  unlike_next before reading other_before other given events other_given others (nexts.Event event) (nexts.Event that) index gives other_gives same size is = (
     differ_first given events other_given others (meant event ∷ []) (meant that ∷ []) index gives.0 other_gives.0 same size (differ_next given (meant event) (meant that) is),
     λ going. omega (arith, ap (λ (es : List MeantEvent). length es) gives.0, length-append given (meant event ∷ [])),
     λ going. omega (arith, ap (λ (es : List MeantEvent). length es) other_gives.0, length-append other_given (meant that ∷ []), ap (λ (es : List MeantEvent). length es) same),
   )
-  unlike_next new other_new before reading other_before other came other_came given events other_given others (nexts.Event event) (nexts.Done verdict) index gives other_gives same size is = (
+  unlike_next before reading other_before other given events other_given others (nexts.Event event) (nexts.Done verdict) index gives other_gives same size is = (
     differ_first given events other_given others (meant event ∷ []) [] index gives.0 (other_gives.0 ∙ sym (append-nil other_given)) same size
         (subst (λ (es : List MeantEvent). DifferAt (length given) (given ++ meant event ∷ []) es) (sym (append-nil given)) (differ_end given (meant event))),
     λ going. omega (arith, ap (λ (es : List MeantEvent). length es) gives.0, length-append given (meant event ∷ [])),
-    λ going. let both : Some (Ok verdict) ≡ None = sym other_gives.1.0 ∙ going in absurd cc,
+    λ going. let both : Some (Ok verdict) ≡ None = sym other_gives.1 ∙ going in absurd cc,
   )
-  unlike_next new other_new before reading other_before other came other_came given events other_given others (nexts.Done verdict) (nexts.Event that) index gives other_gives same size is = (
+  unlike_next before reading other_before other given events other_given others (nexts.Done verdict) (nexts.Event that) index gives other_gives same size is = (
     differ_first given events other_given others [] (meant that ∷ []) index (gives.0 ∙ sym (append-nil given)) other_gives.0 same size
         (subst (λ (es : List MeantEvent). DifferAt (length given) es (given ++ meant that ∷ [])) (sym (append-nil given)) (differ_sym (length given) (given ++ meant that ∷ []) given (differ_end given (meant that)))),
-    λ going. let both : Some (Ok verdict) ≡ None = sym gives.1.0 ∙ going in absurd cc,
+    λ going. let both : Some (Ok verdict) ≡ None = sym gives.1 ∙ going in absurd cc,
     λ going. omega (arith, ap (λ (es : List MeantEvent). length es) other_gives.0, length-append other_given (meant that ∷ []), ap (λ (es : List MeantEvent). length es) same),
   )
-  unlike_next new other_new before reading other_before other came other_came given events other_given others (nexts.Done verdict) (nexts.Done that) index gives other_gives same size is = absurd is
+  unlike_next before reading other_before other given events other_given others (nexts.Done verdict) (nexts.Done that) index gives other_gives same size is = absurd is
 
   -- ---- one round
 
-  module _ (old other_old new other_new : Incoming) (before reading other_before other : EventReader A) (given other_given : List MeantEvent) (next other_next : Next A)
-      (one : HasGivenNext role limits old new before reading given next) (two : HasGivenNext role limits other_old other_new other_before other other_given other_next) where
+  module _ (without : Without) (old other_old new other_new : Incoming) (before reading other_before other : EventReader A) (given other_given : List MeantEvent) (next other_next : Next A)
+      (one : HasGivenNext without role limits old new before reading given next) (two : HasGivenNext without role limits other_old other_new other_before other other_given other_next) where
+    -- what is left of the events before the round, and with it
+    abbrev left : List MeantEvent
+    left = events_without without given
+
+    abbrev left_now : List MeantEvent
+    left_now = events_without without one.events
+
+    abbrev other_left : List MeantEvent
+    other_left = events_without without other_given
+
+    abbrev other_left_now : List MeantEvent
+    other_left_now = events_without without two.events
+
     fewer : 0 < falls_by next + falls_by other_next → pending reading + pending other < pending before + pending other_before
-    fewer some = omega (arith, some, falls new before reading one.came given one.events next one.gives, falls other_new other_before other two.came other_given two.events other_next two.gives)
+    fewer some = omega (arith, some, falls before reading left left_now next one.gives, falls other_before other other_left other_left_now other_next two.gives)
 
-    alike_on : (index : ℕ) (difference : Option ℕ) → IsDifferenceSoFar before other_before index given other_given difference → IsRoundOf next other_next Alike
-        → IsDifferenceSoFar reading other (index + 1) one.events two.events difference
-    alike_on index None so_far is = same_next new other_new before reading other_before other one.came two.came given one.events other_given two.events next other_next index one.gives two.gives so_far.2 so_far.3 is
-    alike_on index (Some k) so_far is = differ_still new other_new before reading other_before other one.came two.came given one.events other_given two.events next other_next k one.gives two.gives so_far.0 so_far.1 so_far.2
+    alike_on : (index : ℕ) (difference : Option ℕ) → IsDifferenceSoFar before other_before index left other_left difference → IsRoundOf next other_next Alike
+        → IsDifferenceSoFar reading other (index + 1) left_now other_left_now difference
+    alike_on index None so_far is = same_next before reading other_before other left left_now other_left other_left_now next other_next index one.gives two.gives so_far.2 so_far.3 is
+    alike_on index (Some k) so_far is = differ_still before reading other_before other left left_now other_left other_left_now next other_next k one.gives two.gives so_far.0 so_far.1 so_far.2
 
-    unlike_on : (index : ℕ) (difference : Option ℕ) → IsDifferenceSoFar before other_before index given other_given difference → IsRoundOf next other_next Unlike
-        → IsDifferenceSoFar reading other (index + 1) one.events two.events (option_or difference (Some index))
-    unlike_on index None so_far is = unlike_next new other_new before reading other_before other one.came two.came given one.events other_given two.events next other_next index one.gives two.gives so_far.2 so_far.3 is
-    unlike_on index (Some k) so_far is = differ_still new other_new before reading other_before other one.came two.came given one.events other_given two.events next other_next k one.gives two.gives so_far.0 so_far.1 so_far.2
+    unlike_on : (index : ℕ) (difference : Option ℕ) → IsDifferenceSoFar before other_before index left other_left difference → IsRoundOf next other_next Unlike
+        → IsDifferenceSoFar reading other (index + 1) left_now other_left_now (option_or difference (Some index))
+    unlike_on index None so_far is = unlike_next before reading other_before other left left_now other_left other_left_now next other_next index one.gives two.gives so_far.2 so_far.3 is
+    unlike_on index (Some k) so_far is = differ_still before reading other_before other left left_now other_left other_left_now next other_next k one.gives two.gives so_far.0 so_far.1 so_far.2
 
     -- the same event on both sides
-    pub on_alike : (index : ℕ) (difference now : Option ℕ) → IsDifferenceSoFar before other_before index given other_given difference → now ≡ difference → IsRoundOf next other_next Alike
-        → IsDifferenceSoFar reading other (index + 1) one.events two.events now × (pending reading + pending other < pending before + pending other_before)
+    pub on_alike : (index : ℕ) (difference now : Option ℕ) → IsDifferenceSoFar before other_before index left other_left difference → now ≡ difference → IsRoundOf next other_next Alike
+        → IsDifferenceSoFar reading other (index + 1) left_now other_left_now now × (pending reading + pending other < pending before + pending other_before)
     on_alike index difference now so_far is round = (
-      subst (λ (d : Option ℕ). IsDifferenceSoFar reading other (index + 1) one.events two.events d) (sym is) (alike_on index difference so_far round),
+      subst (λ (d : Option ℕ). IsDifferenceSoFar reading other (index + 1) left_now other_left_now d) (sym is) (alike_on index difference so_far round),
       fewer (some_alike next other_next round),
     )
 
     -- two events, or an event where the other side has none
-    pub on_unlike : (index : ℕ) (difference now : Option ℕ) → IsDifferenceSoFar before other_before index given other_given difference → now ≡ option_or difference (Some index)
-        → IsRoundOf next other_next Unlike → IsDifferenceSoFar reading other (index + 1) one.events two.events now × (pending reading + pending other < pending before + pending other_before)
+    pub on_unlike : (index : ℕ) (difference now : Option ℕ) → IsDifferenceSoFar before other_before index left other_left difference → now ≡ option_or difference (Some index)
+        → IsRoundOf next other_next Unlike → IsDifferenceSoFar reading other (index + 1) left_now other_left_now now × (pending reading + pending other < pending before + pending other_before)
     on_unlike index difference now so_far is round = (
-      subst (λ (d : Option ℕ). IsDifferenceSoFar reading other (index + 1) one.events two.events d) (sym is) (unlike_on index difference so_far round),
+      subst (λ (d : Option ℕ). IsDifferenceSoFar reading other (index + 1) left_now other_left_now d) (sym is) (unlike_on index difference so_far round),
       fewer (some_unlike next other_next round),
     )

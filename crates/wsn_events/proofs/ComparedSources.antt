@@ -1,19 +1,24 @@
 -- One event source in a comparison: what a call gives after the events that it has given.
-use Rattle.std.proofs.Common.{◌≡◌, ℕ, ◌+◌, ◌<◌, ◌⊎◌, false, None, Some, Result, Ok, Err, List, [], ◌∷◌, ◌++◌, inl, inr, refl, sym, ap, ◌∙◌, subst}
+use Rattle.std.proofs.Common.{◌≡◌, ℕ, ◌+◌, ◌<◌, ◌⊎◌, false, None, Some, Result, Ok, Err, IfOk, List, [], ◌∷◌, ◌++◌, inl, inr, refl, sym, ap, ◌∙◌, subst}
 use Rattle.wsn_io.proofs.Received.{received_none, received_on}
 use Rattle.wsn_wire.specs.declared.endpoint.Role.{Role}
 use Rattle.wsn_io.specs.Transfer.{Incoming, IsReceived}
 use Rattle.wsn_rules.specs.declared.verdict.Verdict.{Verdict}
 use Rattle.wsn_io.specs.declared.stop.Stop.{Stop}
+use Rattle.wsn_rules.specs.declared.without.Without.{Without}
 use Rattle.wsn_rules.specs.Limits.{Limits}
+use Rattle.wsn_rules.specs.LeftOut.{is_left_out, events_without}
 use Rattle.wsn_rules.specs.Meaning.{MeantEvent}
 use Rattle.wsn_events.specs.declared.event_reader.EventReader.{EventReader}
 use Rattle.wsn_events.specs.declared.source.Next.{Next}
 use Rattle.wsn_events.specs.declared.source.Next.TheVariants as nexts
 use Rattle.wsn_events.specs.EventsMeant.{meant}
 use Rattle.wsn_events.specs.Sources.{IsLast}
-use Rattle.wsn_events.specs.EventReaders.{HasGiven, IsNextEvent, GoesOn, IsEvent, answered, readings_left, next_of}
+use Rattle.wsn_events.specs.EventReaders.{HasGiven, HasBegunOrEnded, IsNextEvent, IsEvent, answered, readings_left, next_of}
+use Rattle.wsn_events.specs.LeavingOut.{is_next_left_out, GoesOnWithout}
 use Rattle.wsn_events.specs.Comparing.{HasStopped}
+use Rattle.wsn_events.proofs.GivenSoFar.{begun_sound}
+use Rattle.wsn_events.proofs.LeftOut.{passed_over, one_more}
 
 -- A source has not ended, and its input hasn't failed.
 abbrev pub IsGoing : {A : Type 0} → Role → Limits → Incoming → EventReader A → List ℕ → List MeantEvent → Type 0
@@ -28,51 +33,73 @@ pub record HasFollowed {A : Type 0} (role : Role) (limits : Limits) (old now : I
   pub received : IsReceived (limits.input + 1) old now came
   pub state : IsGoing role limits now reading came given ⊎ ((verdict : Verdict) × IsDone role limits now reading came given verdict)
 
--- What a source gave in a round, after the events that it had given.
-abbrev pub Gives : {A : Type 0} → Role → Limits → Incoming → EventReader A → EventReader A → List ℕ → List MeantEvent → List MeantEvent → Next A → Type 0
-Gives role limits new old reading came given events (nexts.Event event) =
+-- What a source gave in a round, after the events that are compared so far.
+abbrev pub Gives : {A : Type 0} → EventReader A → EventReader A → List MeantEvent → List MeantEvent → Next A → Type 0
+Gives old reading given events (nexts.Event event) =
     (events ≡ given ++ meant event ∷ []) × (answered old ≡ None) × (answered reading ≡ None) × (readings_left reading < readings_left old)
-Gives role limits new old reading came given events (nexts.Done verdict) =
-    (events ≡ given) × IsDone role limits new reading came events verdict
+Gives old reading given events (nexts.Done verdict) = (events ≡ given) × (answered reading ≡ Some (Ok verdict))
 
--- A round: the source has given its next event, or its verdict.
-pub record HasGivenNext {A : Type 0} (role : Role) (limits : Limits) (old new : Incoming) (before reading : EventReader A) (given : List MeantEvent) (next : Next A) : Type 0 where
+-- With a verdict these are all of its events.
+abbrev pub IsLastNext : {A : Type 0} → Role → Limits → Incoming → List ℕ → List MeantEvent → Next A → Type 0
+IsLastNext role limits new came events (nexts.Event event) = Unit {0}
+IsLastNext role limits new came events (nexts.Done verdict) = IsLast role limits new came events (Ok verdict)
+
+-- A round: the source has given its next event that isn't left out, or its verdict.
+pub record HasGivenNext {A : Type 0} (without : Without) (role : Role) (limits : Limits) (old new : Incoming) (before reading : EventReader A) (given : List MeantEvent) (next : Next A) : Type 0 where
   pub came : List ℕ
   pub events : List MeantEvent
   pub followed : HasFollowed role limits old new reading came events
-  pub gives : Gives role limits new before reading came given events next
+  pub gives : Gives before reading (events_without without given) (events_without without events) next
+  pub last : IsLastNext role limits new came events next
 
-module _ (role : Role) (limits : Limits) where
+module _ (without : Without) (role : Role) (limits : Limits) where
   pub begins : {A : Type 0} (input : Incoming) (reading : EventReader A) → HasGiven role limits reading [] [] → input.failed ≡ false → HasFollowed role limits input input reading [] []
   begins input reading has unfailed = record { received = received_none (limits.input + 1) input; state = inl (has, unfailed) }
+
+  -- a source that is followed has begun or ended, and can be read on
+  pub begun : {A : Type 0} (old now : Incoming) (reading : EventReader A) (came : List ℕ) (given : List MeantEvent) → HasFollowed role limits old now reading came given → HasBegunOrEnded reading
+  begun old now reading came given followed none = elim followed.state [
+    | inl going ↦ begun_sound role limits reading came given going.0
+    | inr done ↦ let both : Some (Ok done.0) ≡ None = sym done.1.0 ∙ none in absurd cc
+  ]
+
+  pub readable : {A : Type 0} (old now : Incoming) (reading : EventReader A) (came : List ℕ) (given : List MeantEvent) → HasFollowed role limits old now reading came given → answered reading ≡ None → now.failed ≡ false
+  readable old now reading came given followed none = elim followed.state [
+    | inl going ↦ going.1
+    | inr done ↦ let both : Some (Ok done.0) ≡ None = sym done.1.0 ∙ none in absurd cc
+  ]
 
   -- One call of a source.
   module _ {A : Type 0} (old mid new : Incoming) (before reading : EventReader A) (came : List ℕ) (given : List MeantEvent) (result : Result (Next A) Stop)
       (followed : HasFollowed role limits old mid before came given)
-      (next : HasGiven role limits before came given → GoesOn role limits mid new reading came given result)
+      (next : HasGiven role limits before came given → GoesOnWithout without role limits mid new reading came given result)
+      (not_left_out : IfOk result (λ (n : Next A). is_next_left_out without n ≡ false))
       (falls : IsEvent result → readings_left reading < readings_left before)
       (again : (answer : Result Verdict Stop) → answered before ≡ Some answer → (result ≡ next_of answer) × (reading ≡ before) × (new ≡ mid)) where
-    received : (went : GoesOn role limits mid new reading came given result) → IsReceived (limits.input + 1) old new (came ++ went.more)
-    received went = received_on (limits.input + 1) old mid new came went.more followed.received went.consumed went.few
+    received : (went : GoesOnWithout without role limits mid new reading came given result) → IsReceived (limits.input + 1) old new (came ++ went.goes_on.more)
+    received went = received_on (limits.input + 1) old mid new came went.goes_on.more followed.received went.goes_on.consumed went.goes_on.few
 
-    goes_on : HasGiven role limits before came given → (n : Next A) → result ≡ Ok n → HasGivenNext role limits old new before reading given n
+    goes_on : HasGiven role limits before came given → (n : Next A) → result ≡ Ok n → HasGivenNext without role limits old new before reading given n
     goes_on has (nexts.Event event) is =
         let went = next has in
-        let now = subst (λ (r : Result (Next A) Stop). IsNextEvent role limits new reading (came ++ went.more) given r) is went.next in
+        let now = subst (λ (r : Result (Next A) Stop). IsNextEvent role limits new reading (came ++ went.goes_on.more) (given ++ went.passed) r) is went.goes_on.next in
+        let kept : is_left_out without (meant event) ≡ false = subst (λ (r : Result (Next A) Stop). IfOk r (λ (n : Next A). is_next_left_out without n ≡ false)) is not_left_out in
         record {
-          came = came ++ went.more;
-          events = given ++ meant event ∷ [];
+          came = came ++ went.goes_on.more;
+          events = (given ++ went.passed) ++ meant event ∷ [];
           followed = record { received = received went; state = inl (now.0, now.2) };
-          gives = (refl, has.going, now.0.going, falls (subst (λ (r : Result (Next A) Stop). IsEvent r) (sym is) tt));
+          gives = (one_more without given went.passed (meant event) went.left_out kept, has.going, now.0.going, falls (subst (λ (r : Result (Next A) Stop). IsEvent r) (sym is) tt));
+          last = tt;
         }
     goes_on has (nexts.Done verdict) is =
         let went = next has in
-        let now = subst (λ (r : Result (Next A) Stop). IsNextEvent role limits new reading (came ++ went.more) given r) is went.next in
+        let now = subst (λ (r : Result (Next A) Stop). IsNextEvent role limits new reading (came ++ went.goes_on.more) (given ++ went.passed) r) is went.goes_on.next in
         record {
-          came = came ++ went.more;
-          events = given;
+          came = came ++ went.goes_on.more;
+          events = given ++ went.passed;
           followed = record { received = received went; state = inr (verdict, (now.1, now.0)) };
-          gives = (refl, (now.1, now.0));
+          gives = (passed_over without given went.passed went.left_out, now.1);
+          last = now.0;
         }
 
     -- a source that is done has read nothing
@@ -80,7 +107,7 @@ module _ (role : Role) (limits : Limits) where
     same_state at now is_at is_now =
         subst (λ (i : Incoming). HasFollowed role limits old i at came given) (sym is_now) (subst (λ (r : EventReader A). HasFollowed role limits old mid r came given) (sym is_at) followed)
 
-    stays : (verdict : Verdict) → IsDone role limits mid before came given verdict → (n : Next A) → result ≡ Ok n → HasGivenNext role limits old new before reading given n
+    stays : (verdict : Verdict) → IsDone role limits mid before came given verdict → (n : Next A) → result ≡ Ok n → HasGivenNext without role limits old new before reading given n
     stays verdict done (nexts.Event event) is =
         let reported = again (Ok verdict) done.0 in
         let both : Ok (nexts.Event event) ≡ Ok (nexts.Done verdict) = sym is ∙ reported.0 in absurd cc
@@ -94,10 +121,11 @@ module _ (role : Role) (limits : Limits) where
           came = came;
           events = given;
           followed = same_state reading new reported.1 reported.2;
-          gives = (refl, (answer, subst (λ (i : Incoming). IsLast role limits i came given (Ok v)) (sym reported.2) last));
+          gives = (refl, answer);
+          last = subst (λ (i : Incoming). IsLast role limits i came given (Ok v)) (sym reported.2) last;
         }
 
-    pub gives_next : (n : Next A) → result ≡ Ok n → HasGivenNext role limits old new before reading given n
+    pub gives_next : (n : Next A) → result ≡ Ok n → HasGivenNext without role limits old new before reading given n
     gives_next n is = elim followed.state [ inl going ↦ goes_on going.0 n is | inr done ↦ stays done.0 done.1 n is ]
 
     pub stops : (stop : Stop) → result ≡ Err stop → (all : List ℕ) × IsReceived (limits.input + 1) old new all × HasStopped role limits new all stop
@@ -106,8 +134,8 @@ module _ (role : Role) (limits : Limits) where
         halts : HasGiven role limits before came given → (all : List ℕ) × IsReceived (limits.input + 1) old new all × HasStopped role limits new all stop
         halts has =
             let went = next has in
-            let now = subst (λ (r : Result (Next A) Stop). IsNextEvent role limits new reading (came ++ went.more) given r) is went.next in
-            (came ++ went.more, received went, (given, now.0))
+            let now = subst (λ (r : Result (Next A) Stop). IsNextEvent role limits new reading (came ++ went.goes_on.more) (given ++ went.passed) r) is went.goes_on.next in
+            (came ++ went.goes_on.more, received went, (given ++ went.passed, now.0))
 
         never : (verdict : Verdict) → IsDone role limits mid before came given verdict → (all : List ℕ) × IsReceived (limits.input + 1) old new all × HasStopped role limits new all stop
         never verdict done =

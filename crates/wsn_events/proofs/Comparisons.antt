@@ -6,7 +6,9 @@ use Rattle.wsn_rules.specs.declared.verdict.Summary.{Summary}
 use Rattle.wsn_rules.specs.declared.verdict.Verdict.{Verdict}
 use Rattle.wsn_rules.specs.declared.verdict.Verdict.TheVariants.{Accepted, Cut, Refused}
 use Rattle.wsn_io.specs.declared.stop.Stop.{Stop}
+use Rattle.wsn_rules.specs.declared.without.Without.{Without}
 use Rattle.wsn_rules.specs.Limits.{Limits}
+use Rattle.wsn_rules.specs.LeftOut.{events_without}
 use Rattle.wsn_rules.specs.Meaning.{MeantEvent}
 use Rattle.wsn_rules.specs.declared.compared.Compared.{Compared}
 use Rattle.wsn_rules.specs.declared.compared.Compared.TheVariants.{Equal, Different, NotAccepted}
@@ -15,16 +17,16 @@ use Rattle.wsn_events.specs.declared.event_reader.EventReader.{EventReader}
 use Rattle.wsn_events.specs.declared.source.Next.{Next}
 use Rattle.wsn_events.specs.declared.source.Next.TheVariants as nexts
 use Rattle.wsn_events.specs.Sources.{IsLast}
-use Rattle.wsn_events.specs.Comparing.{IsFirstDifference, IsRoundOf, IsAnAccepted, HasStopped, IsComparison, IsCompared}
+use Rattle.wsn_events.specs.Comparing.{IsFirstDifference, IsRoundOf, IsAnAccepted, HasStopped, IsComparisonBy, IsComparedBy}
 use Rattle.wsn_events.proofs.ComparedSources.{HasFollowed, HasGivenNext}
 use Rattle.wsn_events.proofs.ComparedRounds.{IsDifferenceSoFar}
 
 -- What the answer must say for two verdicts and the first difference of the events before them.
-abbrev pub Compares : Verdict → Verdict → Option ℕ → Compared → Type 0
-Compares verdict other difference result =
+abbrev pub Compares : (List MeantEvent → List MeantEvent) → Verdict → Verdict → Option ℕ → Compared → Type 0
+Compares part verdict other difference result =
     (role : Role) (limits : Limits) (new : Incoming) (came : List ℕ) (events : List MeantEvent) (other_new : Incoming) (other_came : List ℕ) (others : List MeantEvent)
     → IsLast role limits new came events (Ok verdict) → IsLast role limits other_new other_came others (Ok other)
-    → IsFirstDifference difference events others → IsComparison role limits new came other_new other_came (Ok result)
+    → IsFirstDifference difference (part events) (part others) → IsComparisonBy part role limits new came other_new other_came (Ok result)
 
 first_difference : {A : Type 0} (reading other : EventReader A) (index : ℕ) (given other_given : List MeantEvent) (difference : Option ℕ)
     → IsDifferenceSoFar reading other index given other_given difference → IsFirstDifference difference given other_given
@@ -36,23 +38,23 @@ same_difference : (given events other_given others : List MeantEvent) (differenc
 same_difference given events other_given others difference is others_is first =
     subst (λ (es : List MeantEvent). IsFirstDifference difference events es) (sym others_is) (subst (λ (es : List MeantEvent). IsFirstDifference difference es other_given) (sym is) first)
 
-module _ {A : Type 0} (role : Role) (limits : Limits) where
+module _ {A : Type 0} (without : Without) (role : Role) (limits : Limits) where
   -- both have their verdicts
   pub compares : (old other_old new other_new : Incoming) (before reading other_before other : EventReader A) (given other_given : List MeantEvent) (next other_next : Next A)
-      → HasGivenNext role limits old new before reading given next → HasGivenNext role limits other_old other_new other_before other other_given other_next
-      → (index : ℕ) (difference : Option ℕ) → IsDifferenceSoFar before other_before index given other_given difference
+      → HasGivenNext without role limits old new before reading given next → HasGivenNext without role limits other_old other_new other_before other other_given other_next
+      → (index : ℕ) (difference : Option ℕ) → IsDifferenceSoFar before other_before index (events_without without given) (events_without without other_given) difference
       → (verdict other_verdict : Verdict) → IsRoundOf next other_next (Over verdict other_verdict)
-      → (result : Compared) → Compares verdict other_verdict difference result → IsCompared role limits old new other_old other_new (Ok result)
+      → (result : Compared) → Compares (events_without without) verdict other_verdict difference result → IsComparedBy (events_without without) role limits old new other_old other_new (Ok result)
   compares old other_old new other_new before reading other_before other given other_given (nexts.Done v) (nexts.Done w) one two index difference so_far verdict other_verdict is result reported =
-      let last = subst (λ (x : Verdict). IsLast role limits new one.came one.events (Ok x)) (sym is.0) one.gives.1.1 in
-      let other_last = subst (λ (x : Verdict). IsLast role limits other_new two.came two.events (Ok x)) (sym is.1) two.gives.1.1 in
-      let first = first_difference before other_before index given other_given difference so_far in
+      let last = subst (λ (x : Verdict). IsLast role limits new one.came one.events (Ok x)) (sym is.0) one.last in
+      let other_last = subst (λ (x : Verdict). IsLast role limits other_new two.came two.events (Ok x)) (sym is.1) two.last in
+      let first = first_difference before other_before index (events_without without given) (events_without without other_given) difference so_far in
       record {
         came = one.came;
         received = one.followed.received;
         other_came = two.came;
         other_received = two.followed.received;
-        answer = reported role limits new one.came one.events other_new two.came two.events last other_last (same_difference given one.events other_given two.events difference one.gives.0 two.gives.0 first);
+        answer = reported role limits new one.came one.events other_new two.came two.events last other_last (same_difference (events_without without given) (events_without without one.events) (events_without without other_given) (events_without without two.events) difference one.gives.0 two.gives.0 first);
       }
   compares old other_old new other_new before reading other_before other given other_given (nexts.Done v) (nexts.Event event) one two index difference so_far verdict other_verdict is result reported = absurd is
   compares old other_old new other_new before reading other_before other given other_given (nexts.Event event) (nexts.Done w) one two index difference so_far verdict other_verdict is result reported = absurd is
@@ -61,7 +63,7 @@ module _ {A : Type 0} (role : Role) (limits : Limits) where
   -- the first stream has stopped
   pub first_stops : (old new other_old other_new : Incoming) (other : EventReader A) (other_came : List ℕ) (other_given : List MeantEvent) → HasFollowed role limits other_old other_new other other_came other_given
       → (stop : Stop) → (all : List ℕ) × IsReceived (limits.input + 1) old new all × HasStopped role limits new all stop
-      → IsCompared role limits old new other_old other_new (Err stop)
+      → IsComparedBy (events_without without) role limits old new other_old other_new (Err stop)
   first_stops old new other_old other_new other other_came other_given followed stop stops = record {
     came = stops.0;
     received = stops.1;
@@ -71,9 +73,9 @@ module _ {A : Type 0} (role : Role) (limits : Limits) where
   }
 
   -- the second stream has stopped
-  pub second_stops : (old new other_old other_new : Incoming) (before reading : EventReader A) (given : List MeantEvent) (next : Next A) → HasGivenNext role limits old new before reading given next
+  pub second_stops : (old new other_old other_new : Incoming) (before reading : EventReader A) (given : List MeantEvent) (next : Next A) → HasGivenNext without role limits old new before reading given next
       → (stop : Stop) → (all : List ℕ) × IsReceived (limits.input + 1) other_old other_new all × HasStopped role limits other_new all stop
-      → IsCompared role limits old new other_old other_new (Err stop)
+      → IsComparedBy (events_without without) role limits old new other_old other_new (Err stop)
   second_stops old new other_old other_new before reading given next one stop stops = record {
     came = one.came;
     received = one.followed.received;
@@ -93,31 +95,31 @@ accepted : (role : Role) (limits : Limits) (new : Incoming) (came : List ℕ) (e
     → verdict ≡ Accepted summary → IsLast role limits new came events (Ok verdict) → IsLast role limits new came events (Ok (Accepted summary))
 accepted role limits new came events verdict summary is last = subst (λ (v : Verdict). IsLast role limits new came events (Ok v)) is last
 
-pub first_not_accepted : (verdict other : Verdict) (difference : Option ℕ) → ((summary : Summary) → verdict ≡ Accepted summary → ⊥) → Compares verdict other difference (NotAccepted false verdict)
-first_not_accepted verdict other difference none role limits new came events other_new other_came others last other_last first =
+pub first_not_accepted : (part : List MeantEvent → List MeantEvent) (verdict other : Verdict) (difference : Option ℕ) → ((summary : Summary) → verdict ≡ Accepted summary → ⊥) → Compares part verdict other difference (NotAccepted false verdict)
+first_not_accepted part verdict other difference none role limits new came events other_new other_came others last other_last first =
     ((events, last), not_accepted verdict none, (other, (others, other_last)))
 
-pub second_not_accepted : (verdict other : Verdict) (difference : Option ℕ) (summary : Summary) → verdict ≡ Accepted summary → ((s : Summary) → other ≡ Accepted s → ⊥)
-    → Compares verdict other difference (NotAccepted true other)
-second_not_accepted verdict other difference summary is none role limits new came events other_new other_came others last other_last first =
+pub second_not_accepted : (part : List MeantEvent → List MeantEvent) (verdict other : Verdict) (difference : Option ℕ) (summary : Summary) → verdict ≡ Accepted summary → ((s : Summary) → other ≡ Accepted s → ⊥)
+    → Compares part verdict other difference (NotAccepted true other)
+second_not_accepted part verdict other difference summary is none role limits new came events other_new other_came others last other_last first =
     ((summary, (events, accepted role limits new came events verdict summary is last)), (others, other_last), not_accepted other none)
 
-pub are_equal : (verdict other : Verdict) (difference : Option ℕ) (summary other_summary : Summary) → verdict ≡ Accepted summary → other ≡ Accepted other_summary → difference ≡ None
-    → Compares verdict other difference Equal
-are_equal verdict other difference summary other_summary is other_is none role limits new came events other_new other_came others last other_last first = (
+pub are_equal : (part : List MeantEvent → List MeantEvent) (verdict other : Verdict) (difference : Option ℕ) (summary other_summary : Summary) → verdict ≡ Accepted summary → other ≡ Accepted other_summary → difference ≡ None
+    → Compares part verdict other difference Equal
+are_equal part verdict other difference summary other_summary is other_is none role limits new came events other_new other_came others last other_last first = (
   events,
   others,
   (summary, accepted role limits new came events verdict summary is last),
   (other_summary, accepted role limits other_new other_came others other other_summary other_is other_last),
-  subst (λ (d : Option ℕ). IsFirstDifference d events others) none first,
+  subst (λ (d : Option ℕ). IsFirstDifference d (part events) (part others)) none first,
 )
 
-pub are_different : (verdict other : Verdict) (difference : Option ℕ) (summary other_summary : Summary) (k : ℕ) → verdict ≡ Accepted summary → other ≡ Accepted other_summary → difference ≡ Some k
-    → Compares verdict other difference (Different k)
-are_different verdict other difference summary other_summary k is other_is some role limits new came events other_new other_came others last other_last first = (
+pub are_different : (part : List MeantEvent → List MeantEvent) (verdict other : Verdict) (difference : Option ℕ) (summary other_summary : Summary) (k : ℕ) → verdict ≡ Accepted summary → other ≡ Accepted other_summary → difference ≡ Some k
+    → Compares part verdict other difference (Different k)
+are_different part verdict other difference summary other_summary k is other_is some role limits new came events other_new other_came others last other_last first = (
   events,
   others,
   (summary, accepted role limits new came events verdict summary is last),
   (other_summary, accepted role limits other_new other_came others other other_summary other_is other_last),
-  subst (λ (d : Option ℕ). IsFirstDifference d events others) some first,
+  subst (λ (d : Option ℕ). IsFirstDifference d (part events) (part others)) some first,
 )

@@ -1,13 +1,16 @@
 pub mod CloseBodies
 pub mod NormalBytes
+pub mod LeftOut
 pub mod ComparedEvents
 pub mod ComparedSources
 pub mod ComparedRounds
 pub mod Comparisons
 pub mod WholeComparisons
+pub mod NothingLeftOut
 pub mod ReassembledFrames
 pub mod GivenSoFar
 pub mod SourceCalls
+pub mod PassedOver
 pub mod Normalising
 pub mod TakenEvents
 pub mod WholeNormalForms

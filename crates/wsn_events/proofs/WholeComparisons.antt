@@ -15,7 +15,7 @@ use Rattle.wsn_scan.proofs.JudgedInputs.{whole_verdict}
 use Rattle.wsn_rules.proofs.OneVerdict.{one_verdict}
 use Rattle.wsn_rules.specs.declared.compared.Compared.{Compared}
 use Rattle.wsn_rules.specs.declared.compared.Compared.TheVariants.{Equal, Different, NotAccepted}
-use Rattle.wsn_events.specs.Comparing.{DifferAt, IsAnAccepted, HasVerdict, IsAcceptedOf, IsCompared, IsComparisonOf}
+use Rattle.wsn_events.specs.Comparing.{DifferAt, IsAnAccepted, HasVerdict, IsAcceptedOf, IsComparedBy, IsComparisonOfBy}
 use Rattle.wsn_events.proofs.ComparedEvents.{differ_not_equal, differ_once}
 use Rattle.wsn_rules.proofs.NormalLaws.{accepted_meaning}
 
@@ -40,20 +40,20 @@ module _ (role : Role) (limits : Limits) where
   whole_of old new came all verdict received known has =
       whole_verdict role limits old new verdict all (came, record { received = received; answer = has.1.0 }) known
 
-  pub whole_comparison : (old new other_old other_new : Incoming) (compared : Compared) → IsCompared role limits old new other_old other_new (Ok compared)
-      → (all others : List ℕ) → old.remaining ≡ Some all → other_old.remaining ≡ Some others → IsComparisonOf role limits all others compared
-  whole_comparison old new other_old other_new Equal is all others known other_known =
+  pub whole_comparison : (part : List MeantEvent → List MeantEvent) (old new other_old other_new : Incoming) (compared : Compared) → IsComparedBy part role limits old new other_old other_new (Ok compared)
+      → (all others : List ℕ) → old.remaining ≡ Some all → other_old.remaining ≡ Some others → IsComparisonOfBy part role limits all others compared
+  whole_comparison part old new other_old other_new Equal is all others known other_known =
       let one = whole_accepted old new is.came all is.answer.0 is.received.consumed known is.answer.2 in
       let two = whole_accepted other_old other_new is.other_came others is.answer.1 is.other_received.consumed other_known is.answer.3 in
-      (one.0, two.0, one.1, two.1, sym one.2 ∙ is.answer.4 ∙ two.2)
-  whole_comparison old new other_old other_new (Different k) is all others known other_known =
+      (one.0, two.0, one.1, two.1, sym (ap part one.2) ∙ is.answer.4 ∙ ap part two.2)
+  whole_comparison part old new other_old other_new (Different k) is all others known other_known =
       let one = whole_accepted old new is.came all is.answer.0 is.received.consumed known is.answer.2 in
       let two = whole_accepted other_old other_new is.other_came others is.answer.1 is.other_received.consumed other_known is.answer.3 in
-      let differ : DifferAt k (meaning one.0) is.answer.1 = subst (λ (es : List MeantEvent). DifferAt k es is.answer.1) one.2 is.answer.4 in
-      (one.0, two.0, one.1, two.1, subst (λ (es : List MeantEvent). DifferAt k (meaning one.0) es) two.2 differ)
-  whole_comparison old new other_old other_new (NotAccepted false verdict) is all others known other_known =
+      let differ : DifferAt k (part (meaning one.0)) (part is.answer.1) = subst (λ (es : List MeantEvent). DifferAt k (part es) (part is.answer.1)) one.2 is.answer.4 in
+      (one.0, two.0, one.1, two.1, subst (λ (es : List MeantEvent). DifferAt k (part (meaning one.0)) (part es)) two.2 differ)
+  whole_comparison part old new other_old other_new (NotAccepted false verdict) is all others known other_known =
       (whole_of old new is.came all verdict is.received known is.answer.0, is.answer.1)
-  whole_comparison old new other_old other_new (NotAccepted true verdict) is all others known other_known =
+  whole_comparison part old new other_old other_new (NotAccepted true verdict) is all others known other_known =
       let one = whole_of old new is.came all (Accepted is.answer.0.0) is.received known is.answer.0.1 in
       ((one.0, one.1.0), whole_of other_old other_new is.other_came others verdict is.other_received other_known is.answer.1, is.answer.2)
 
@@ -67,27 +67,27 @@ module _ (role : Role) (limits : Limits) where
       none (subst (λ (v : Verdict). IsAnAccepted v) same.1 tt)
 
   -- the lists that differ are the meanings of the accepted streams
-  differ_of : (bytes others : List ℕ) (fs gs hs is : List Frame) (k : ℕ) → IsAccepted role limits bytes fs → IsAccepted role limits others gs → IsAccepted role limits bytes hs → IsAccepted role limits others is
-      → DifferAt k (meaning hs) (meaning is) → DifferAt k (meaning fs) (meaning gs)
-  differ_of bytes others fs gs hs is k one two three four differ =
-      let first : DifferAt k (meaning fs) (meaning is) = subst (λ (es : List MeantEvent). DifferAt k es (meaning is)) (accepted_meaning role limits bytes hs fs three one) differ in
-      subst (λ (es : List MeantEvent). DifferAt k (meaning fs) es) (accepted_meaning role limits others is gs four two) first
+  differ_of : (part : List MeantEvent → List MeantEvent) (bytes others : List ℕ) (fs gs hs is : List Frame) (k : ℕ) → IsAccepted role limits bytes fs → IsAccepted role limits others gs → IsAccepted role limits bytes hs → IsAccepted role limits others is
+      → DifferAt k (part (meaning hs)) (part (meaning is)) → DifferAt k (part (meaning fs)) (part (meaning gs))
+  differ_of part bytes others fs gs hs is k one two three four differ =
+      let first : DifferAt k (part (meaning fs)) (part (meaning is)) = subst (λ (es : List MeantEvent). DifferAt k (part es) (part (meaning is))) (accepted_meaning role limits bytes hs fs three one) differ in
+      subst (λ (es : List MeantEvent). DifferAt k (part (meaning fs)) (part es)) (accepted_meaning role limits others is gs four two) first
 
-  pub one_answer : (bytes others : List ℕ) (answer other : Compared) → IsComparisonOf role limits bytes others answer → IsComparisonOf role limits bytes others other → answer ≡ other
-  one_answer bytes others Equal Equal a b = refl
-  one_answer bytes others Equal (Different k) a b = absurd (differ_not_equal k (meaning a.0) (meaning a.1) (differ_of bytes others a.0 a.1 b.0 b.1 k a.2 a.3 b.2 b.3 b.4) a.4)
-  one_answer bytes others Equal (NotAccepted false v) a b = absurd (not_both bytes a.0 b.0.0 v a.2 b.0.1 b.1)
-  one_answer bytes others Equal (NotAccepted true v) a b = absurd (not_both others a.1 b.1.0 v a.3 b.1.1 b.2)
-  one_answer bytes others (Different k) Equal a b = absurd (differ_not_equal k (meaning b.0) (meaning b.1) (differ_of bytes others b.0 b.1 a.0 a.1 k b.2 b.3 a.2 a.3 a.4) b.4)
-  one_answer bytes others (Different k) (Different j) a b =
-      ap (λ (n : ℕ). Different n) (differ_once k j (meaning a.0) (meaning a.1) a.4 (differ_of bytes others a.0 a.1 b.0 b.1 j a.2 a.3 b.2 b.3 b.4))
-  one_answer bytes others (Different k) (NotAccepted false v) a b = absurd (not_both bytes a.0 b.0.0 v a.2 b.0.1 b.1)
-  one_answer bytes others (Different k) (NotAccepted true v) a b = absurd (not_both others a.1 b.1.0 v a.3 b.1.1 b.2)
-  one_answer bytes others (NotAccepted false v) Equal a b = absurd (not_both bytes b.0 a.0.0 v b.2 a.0.1 a.1)
-  one_answer bytes others (NotAccepted false v) (Different k) a b = absurd (not_both bytes b.0 a.0.0 v b.2 a.0.1 a.1)
-  one_answer bytes others (NotAccepted false v) (NotAccepted false w) a b = ap (λ (u : Verdict). NotAccepted false u) (one_verdict role limits bytes a.0.0 b.0.0 v w a.0.1 b.0.1).1
-  one_answer bytes others (NotAccepted false v) (NotAccepted true w) a b = absurd (not_both bytes b.0.0 a.0.0 v b.0.1 a.0.1 a.1)
-  one_answer bytes others (NotAccepted true v) Equal a b = absurd (not_both others b.1 a.1.0 v b.3 a.1.1 a.2)
-  one_answer bytes others (NotAccepted true v) (Different k) a b = absurd (not_both others b.1 a.1.0 v b.3 a.1.1 a.2)
-  one_answer bytes others (NotAccepted true v) (NotAccepted false w) a b = absurd (not_both bytes a.0.0 b.0.0 w a.0.1 b.0.1 b.1)
-  one_answer bytes others (NotAccepted true v) (NotAccepted true w) a b = ap (λ (u : Verdict). NotAccepted true u) (one_verdict role limits others a.1.0 b.1.0 v w a.1.1 b.1.1).1
+  pub one_answer : (part : List MeantEvent → List MeantEvent) (bytes others : List ℕ) (answer other : Compared) → IsComparisonOfBy part role limits bytes others answer → IsComparisonOfBy part role limits bytes others other → answer ≡ other
+  one_answer part bytes others Equal Equal a b = refl
+  one_answer part bytes others Equal (Different k) a b = absurd (differ_not_equal k (part (meaning a.0)) (part (meaning a.1)) (differ_of part bytes others a.0 a.1 b.0 b.1 k a.2 a.3 b.2 b.3 b.4) a.4)
+  one_answer part bytes others Equal (NotAccepted false v) a b = absurd (not_both bytes a.0 b.0.0 v a.2 b.0.1 b.1)
+  one_answer part bytes others Equal (NotAccepted true v) a b = absurd (not_both others a.1 b.1.0 v a.3 b.1.1 b.2)
+  one_answer part bytes others (Different k) Equal a b = absurd (differ_not_equal k (part (meaning b.0)) (part (meaning b.1)) (differ_of part bytes others b.0 b.1 a.0 a.1 k b.2 b.3 a.2 a.3 a.4) b.4)
+  one_answer part bytes others (Different k) (Different j) a b =
+      ap (λ (n : ℕ). Different n) (differ_once k j (part (meaning a.0)) (part (meaning a.1)) a.4 (differ_of part bytes others a.0 a.1 b.0 b.1 j a.2 a.3 b.2 b.3 b.4))
+  one_answer part bytes others (Different k) (NotAccepted false v) a b = absurd (not_both bytes a.0 b.0.0 v a.2 b.0.1 b.1)
+  one_answer part bytes others (Different k) (NotAccepted true v) a b = absurd (not_both others a.1 b.1.0 v a.3 b.1.1 b.2)
+  one_answer part bytes others (NotAccepted false v) Equal a b = absurd (not_both bytes b.0 a.0.0 v b.2 a.0.1 a.1)
+  one_answer part bytes others (NotAccepted false v) (Different k) a b = absurd (not_both bytes b.0 a.0.0 v b.2 a.0.1 a.1)
+  one_answer part bytes others (NotAccepted false v) (NotAccepted false w) a b = ap (λ (u : Verdict). NotAccepted false u) (one_verdict role limits bytes a.0.0 b.0.0 v w a.0.1 b.0.1).1
+  one_answer part bytes others (NotAccepted false v) (NotAccepted true w) a b = absurd (not_both bytes b.0.0 a.0.0 v b.0.1 a.0.1 a.1)
+  one_answer part bytes others (NotAccepted true v) Equal a b = absurd (not_both others b.1 a.1.0 v b.3 a.1.1 a.2)
+  one_answer part bytes others (NotAccepted true v) (Different k) a b = absurd (not_both others b.1 a.1.0 v b.3 a.1.1 a.2)
+  one_answer part bytes others (NotAccepted true v) (NotAccepted false w) a b = absurd (not_both bytes a.0.0 b.0.0 w a.0.1 b.0.1 b.1)
+  one_answer part bytes others (NotAccepted true v) (NotAccepted true w) a b = ap (λ (u : Verdict). NotAccepted true u) (one_verdict role limits others a.1.0 b.1.0 v w a.1.1 b.1.1).1

@@ -1,4 +1,5 @@
--- What comparing two streams of one role answers: whether both are accepted, and whether they mean the same.
+-- What comparing two streams of one role answers: whether both are accepted, and whether they mean the same. `part` is
+-- the part of a stream's events that is compared.
 use Rattle.std.specs.Prelude.{◌≡◌, ◌≢◌, ℕ, ◌+◌, ◌⊎◌, true, false, Option, None, Some, Result, Ok, Err, List, take, slice_get, ⊤}
 use Rattle.wsn_wire.specs.declared.endpoint.Role.{Role}
 use Rattle.wsn_wire.specs.Frame.{Frame}
@@ -58,52 +59,70 @@ abbrev pub HasStopped : Role → Limits → Incoming → List ℕ → Stop → T
 HasStopped role limits new came stop = (events : List MeantEvent) × IsHalted role limits new came events stop
 
 -- The answer is right for the bytes that came of both streams. With a verdict on each, it is the first that isn't
--- accepted, or else whether the events are equal or where they differ first. A stop is one of the streams'.
-abbrev pub IsComparison : Role → Limits → Incoming → List ℕ → Incoming → List ℕ → Result Compared Stop → Type 0
-IsComparison role limits new came other_new other_came (Ok Equal) =
+-- accepted, or else whether these parts of their events are equal or where they differ first. A stop is one of the
+-- streams'.
+abbrev pub IsComparisonBy : (List MeantEvent → List MeantEvent) → Role → Limits → Incoming → List ℕ → Incoming →
+    List ℕ → Result Compared Stop → Type 0
+IsComparisonBy part role limits new came other_new other_came (Ok Equal) =
     (events : List MeantEvent) × (others : List MeantEvent)
     × IsAcceptedOf role limits new came events × IsAcceptedOf role limits other_new other_came others
-    × (events ≡ others)
-IsComparison role limits new came other_new other_came (Ok (Different k)) =
+    × (part events ≡ part others)
+IsComparisonBy part role limits new came other_new other_came (Ok (Different k)) =
     (events : List MeantEvent) × (others : List MeantEvent)
     × IsAcceptedOf role limits new came events × IsAcceptedOf role limits other_new other_came others
-    × DifferAt k events others
-IsComparison role limits new came other_new other_came (Ok (NotAccepted false verdict)) =
+    × DifferAt k (part events) (part others)
+IsComparisonBy part role limits new came other_new other_came (Ok (NotAccepted false verdict)) =
     HasVerdict role limits new came verdict × (IsAnAccepted verdict → ⊥)
     × ((other : Verdict) × HasVerdict role limits other_new other_came other)
-IsComparison role limits new came other_new other_came (Ok (NotAccepted true verdict)) =
+IsComparisonBy part role limits new came other_new other_came (Ok (NotAccepted true verdict)) =
     ((summary : Summary) × HasVerdict role limits new came (Accepted summary))
     × HasVerdict role limits other_new other_came verdict × (IsAnAccepted verdict → ⊥)
-IsComparison role limits new came other_new other_came (Err stop) =
+IsComparisonBy part role limits new came other_new other_came (Err stop) =
     HasStopped role limits new came stop ⊎ HasStopped role limits other_new other_came stop
 
--- The answer is right for these verdicts and this first difference, whatever streams have them.
-abbrev pub IsComparisonOutcome : Verdict → Verdict → Option ℕ → Compared → Type 0
-IsComparisonOutcome verdict other difference answer =
+-- The answer is right for these verdicts and this first difference of the parts, whatever streams have them.
+abbrev pub IsComparisonOutcome : (List MeantEvent → List MeantEvent) → Verdict → Verdict → Option ℕ → Compared → Type 0
+IsComparisonOutcome part verdict other difference answer =
     (role : Role) (limits : Limits) (new : Incoming) (came : List ℕ) (events : List MeantEvent) (other_new : Incoming)
     (other_came : List ℕ) (others : List MeantEvent) →
     IsLast role limits new came events (Ok verdict) → IsLast role limits other_new other_came others (Ok other) →
-    IsFirstDifference difference events others → IsComparison role limits new came other_new other_came (Ok answer)
+    IsFirstDifference difference (part events) (part others) →
+    IsComparisonBy part role limits new came other_new other_came (Ok answer)
 
 -- These bytes came of each stream, at most one past its limit, and the answer is right for them.
-pub record IsCompared (role : Role) (limits : Limits) (old new other_old other_new : Incoming)
-    (result : Result Compared Stop) : Type 0 where
+pub record IsComparedBy (part : List MeantEvent → List MeantEvent) (role : Role) (limits : Limits)
+    (old new other_old other_new : Incoming) (result : Result Compared Stop) : Type 0 where
   pub came : List ℕ
   pub received : IsReceived (limits.input + 1) old new came
   pub other_came : List ℕ
   pub other_received : IsReceived (limits.input + 1) other_old other_new other_came
-  pub answer : IsComparison role limits new came other_new other_came result
+  pub answer : IsComparisonBy part role limits new came other_new other_came result
 
--- The answer is right for two streams with all of these bytes.
-abbrev pub IsComparisonOf : Role → Limits → List ℕ → List ℕ → Compared → Type 0
-IsComparisonOf role limits bytes others Equal =
+-- The answer is right for two streams with all of these bytes, by these parts of their meanings.
+abbrev pub IsComparisonOfBy : (List MeantEvent → List MeantEvent) → Role → Limits → List ℕ → List ℕ → Compared →
+    Type 0
+IsComparisonOfBy part role limits bytes others Equal =
     (fs : List Frame) × (gs : List Frame) × IsAccepted role limits bytes fs × IsAccepted role limits others gs
-    × (meaning fs ≡ meaning gs)
-IsComparisonOf role limits bytes others (Different k) =
+    × (part (meaning fs) ≡ part (meaning gs))
+IsComparisonOfBy part role limits bytes others (Different k) =
     (fs : List Frame) × (gs : List Frame) × IsAccepted role limits bytes fs × IsAccepted role limits others gs
-    × DifferAt k (meaning fs) (meaning gs)
-IsComparisonOf role limits bytes others (NotAccepted false verdict) =
+    × DifferAt k (part (meaning fs)) (part (meaning gs))
+IsComparisonOfBy part role limits bytes others (NotAccepted false verdict) =
     ((fs : List Frame) × IsVerdict role limits bytes fs verdict) × (IsAnAccepted verdict → ⊥)
-IsComparisonOf role limits bytes others (NotAccepted true verdict) =
+IsComparisonOfBy part role limits bytes others (NotAccepted true verdict) =
     ((fs : List Frame) × IsAccepted role limits bytes fs)
     × ((gs : List Frame) × IsVerdict role limits others gs verdict) × (IsAnAccepted verdict → ⊥)
+
+-- ---- all events
+
+-- all of the events
+abbrev pub all_events : List MeantEvent → List MeantEvent
+all_events events = events
+
+-- The comparison of all events.
+abbrev pub IsCompared : Role → Limits → Incoming → Incoming → Incoming → Incoming → Result Compared Stop → Type 0
+IsCompared = IsComparedBy all_events
+
+-- The answer is right for two streams with all of these bytes, by all of their events.
+abbrev pub IsComparisonOf : Role → Limits → List ℕ → List ℕ → Compared → Type 0
+IsComparisonOf = IsComparisonOfBy all_events

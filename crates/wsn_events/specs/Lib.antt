@@ -4,6 +4,7 @@ pub mod Reassembly
 pub mod Sources
 pub mod EventReaders
 pub mod TakenEvents
+pub mod LeavingOut
 pub mod Comparing
 pub mod Normalised
 -- for the clauses in src/

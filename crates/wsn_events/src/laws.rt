@@ -1,7 +1,10 @@
 //! Laws about this crate's answers and definitions. Each function does nothing: its contract is the law.
 
-ghost use Rattle.std.specs.Prelude.{◌≡◌, ◌≢◌, ℕ, List, ◌≤◌, Result, Ok, length};
-ghost use Rattle.wsn_events.specs.Words.{Role, Limits, InRange, MeantEvent, Compared, DifferAt, IsComparisonOf, Outgoing, IsWritten, Summary, Verdict, Accepted, Stop, IsNormalisedWhole, HasNoFailure};
+ghost use Rattle.std.specs.Prelude.{◌≡◌, ◌≢◌, ℕ, List, ◌≤◌, Result, Ok, length, false};
+ghost use Rattle.wsn_rules.specs.declared.without.Without.{Without};
+ghost use Rattle.wsn_rules.specs.declared.compared.Compared.TheVariants.{Equal};
+ghost use Rattle.wsn_rules.specs.LeftOut.{events_without};
+ghost use Rattle.wsn_events.specs.Words.{Role, Limits, InRange, MeantEvent, Compared, DifferAt, IsComparisonOf, IsComparisonOfBy, Outgoing, IsWritten, Summary, Verdict, Accepted, Stop, IsNormalisedWhole, HasNoFailure};
 
 pub use wsn_rules::laws::{
     law_canon, law_meaning_is_lawful, law_once, law_stays_refused, law_unique,
@@ -18,6 +21,20 @@ pub fn law_one_difference()
 pub fn law_one_comparison()
     ensures { (role : Role) (limits : Limits) (bytes others : List ℕ) (answer other : Compared) →
         IsComparisonOf role limits bytes others answer → IsComparisonOf role limits bytes others other → answer ≡ other }
+{}
+
+/// Without controls of some kinds two lists of bytes have at most one answer too. If they mean the same, they do so
+/// without these as well; if no kind is left out, the answer is that of the whole meanings.
+pub fn law_comparison_without()
+    ensures one { (without : Without) (role : Role) (limits : Limits) (bytes others : List ℕ) (answer other : Compared) →
+        IsComparisonOfBy (events_without without) role limits bytes others answer →
+        IsComparisonOfBy (events_without without) role limits bytes others other → answer ≡ other }
+    ensures equal { (without : Without) (role : Role) (limits : Limits) (bytes others : List ℕ) →
+        IsComparisonOf role limits bytes others Equal →
+        IsComparisonOfBy (events_without without) role limits bytes others Equal }
+    ensures nothing { (role : Role) (limits : Limits) (bytes others : List ℕ) (answer : Compared) →
+        IsComparisonOfBy (events_without (record { ping = false; pong = false; close = false })) role limits bytes others
+        answer → IsComparisonOf role limits bytes others answer }
 {}
 
 /// [`normalise`](crate::normalise) has one answer for an input whose bytes are known and writes one list of bytes, in

@@ -2,8 +2,9 @@
 //!
 //! An [`Event`] is a message, a ping, a pong or the close. A [`Source`] reads a stream's events, each at the frame that
 //! ends it, and then its verdict. [`put_event`] writes an event's normal form, which is one frame. [`normalise`] writes
-//! the normal form of a stream, and [`same`] compares what two streams mean. [`is_lawful`] checks whether a stream can
-//! mean an event, and [`control_of`] returns a control's opcode and body.
+//! the normal form of a stream. [`same`] compares what two streams mean, and [`same_without`] leaves out controls of some
+//! kinds. [`is_lawful`] checks whether a stream can mean an event, and [`control_of`] returns a control's opcode and
+//! body.
 //!
 //! `specs/EventsMeant.antt` defines what an [`Event`] means, `specs/Sources.antt` which events a source gives,
 //! `specs/Normalised.antt` what normalising writes, and `specs/Comparing.antt` what a comparison answers. Lawful events
@@ -16,15 +17,16 @@ mod event;
 mod event_reader;
 mod framing;
 pub mod laws;
+mod leaving_out;
 mod normal;
 mod putting;
 mod reassembly;
 mod source;
 
-pub use comparing::same;
+pub use comparing::{same, same_without};
 pub use event::{Event, Small, is_lawful};
 pub use framing::put_frame;
 pub use normal::normalise;
 pub use putting::{control_of, put_event};
 pub use source::{Next, Source};
-pub use wsn_rules::Compared;
+pub use wsn_rules::{Compared, Without};

@@ -10,6 +10,7 @@ pub mod LawfulAfter
 pub mod Meaning
 pub mod LawfulEvents
 pub mod NormalForm
+pub mod LeftOut
 -- the verdict on a stream
 pub mod Accepted
 pub mod Evidence

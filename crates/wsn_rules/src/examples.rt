@@ -1,13 +1,14 @@
 //! Examples of verdicts, computed from the definitions in `specs/`: for each reason, inputs that are refused for it,
 //! with the offset, and similar inputs that aren't; and how streams end.
 
-ghost use Rattle.std.specs.Prelude.{None, Some, [], ◌∷◌, replicate};
+ghost use Rattle.std.specs.Prelude.{◌≡◌, true, false, None, Some, [], ◌∷◌, replicate};
 ghost use Rattle.wsn_wire.specs.declared.endpoint.Role.TheVariants.{Client, Server};
 ghost use Rattle.wsn_wire.specs.declared.opcode.Op.TheVariants.{Close, Ping, Pong};
 ghost use Rattle.wsn_wire.specs.declared.opcode.Kind.TheVariants as kind;
 ghost use Rattle.wsn_wire.specs.declared.length_forms.Lengths.TheVariants.{Any};
 ghost use Rattle.wsn_wire.specs.declared.refusal.Reason.TheVariants.{CloseCode, CloseOneByte, CloseReason, ControlNotFinal, ControlTooLong, LengthNotMinimal, LengthTopBit, MaskMissing, MaskPresent, MessageOpen, MessageTooBig, NothingToContinue, ReservedBits, ReservedOpcode, TextBad, TextCut, TooManyFrames};
 ghost use Rattle.wsn_rules.specs.Meaning.{Message, Control};
+ghost use Rattle.wsn_rules.specs.LeftOut.{events_without};
 ghost use Rattle.wsn_rules.specs.Examples.{Judged, Means, greatest, RefusedAt, CutAt, AcceptedTo, Counts};
 
 /// An RSV bit.
@@ -284,6 +285,24 @@ pub fn meanings()
         (Message kind.Text (0x41 ∷ []) ∷ Message kind.Binary (0x42 ∷ []) ∷ []) }
     ensures empty { Means Server greatest (0x01 ∷ 0x00 ∷ 0x00 ∷ 0x00 ∷ 0x80 ∷ 0x00 ∷ []) (Message kind.Text [] ∷ []) }
     ensures nothing { Means Server greatest [] [] }
+{}
+
+/// What is left of events without pings, without pongs, and without Closes.
+pub fn left_out()
+    ensures pings { events_without (record { ping = true; pong = false; close = false })
+        (Control Ping [] ∷ Message kind.Text (0x41 ∷ []) ∷ Control Pong [] ∷ Control Ping (0x42 ∷ []) ∷ [])
+        ≡ Message kind.Text (0x41 ∷ []) ∷ Control Pong [] ∷ [] }
+    ensures pongs { events_without (record { ping = false; pong = true; close = false })
+        (Control Pong [] ∷ Control Ping [] ∷ Control Pong (0x42 ∷ []) ∷ Control Close [] ∷ [])
+        ≡ Control Ping [] ∷ Control Close [] ∷ [] }
+    ensures closes { events_without (record { ping = false; pong = false; close = true })
+        (Message kind.Binary [] ∷ Control Close (0x03 ∷ 0xe8 ∷ []) ∷ [])
+        ≡ Message kind.Binary [] ∷ [] }
+    ensures controls { events_without (record { ping = true; pong = true; close = true })
+        (Control Pong [] ∷ Message kind.Text [] ∷ Control Ping [] ∷ Control Close [] ∷ []) ≡ Message kind.Text [] ∷ [] }
+    ensures nothing { events_without (record { ping = false; pong = false; close = false })
+        (Control Pong [] ∷ Message kind.Text [] ∷ Control Ping [] ∷ Control Close [] ∷ [])
+        ≡ Control Pong [] ∷ Message kind.Text [] ∷ Control Ping [] ∷ Control Close [] ∷ [] }
 {}
 
 /// The longest payload whose length fits in the second byte, with that encoding and with two length bytes; and the

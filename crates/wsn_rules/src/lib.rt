@@ -30,6 +30,7 @@ mod step;
 pub mod uniform_plans;
 mod verdict;
 mod why;
+mod without;
 
 pub use compared::Compared;
 pub use detail::Detail;
@@ -39,3 +40,4 @@ pub use report::{Outcome, Report, Side};
 pub use step::Step;
 pub use verdict::{Refusal, Summary, Verdict};
 pub use why::Why;
+pub use without::Without;

@@ -1,5 +1,6 @@
+use Rattle.wsn_events.specs.Comparing.{all_events}
 use Rattle.wsn_events.proofs.WholeComparisons.{one_answer}
 use Rattle.wsn_events.proofs.laws.law_one_comparison.Goals as goal
 
 pub returns : goal.returns
-returns c = one_answer
+returns c role limits = one_answer role limits all_events

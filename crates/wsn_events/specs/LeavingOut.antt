@@ -1,0 +1,26 @@
+-- What an event source gives if controls of some kinds are left out.
+use Rattle.std.specs.Prelude.{◌≡◌, ℕ, Bool, false, Result, List, [], ◌++◌}
+use Rattle.wsn_wire.specs.declared.endpoint.Role.{Role}
+use Rattle.wsn_io.specs.declared.stop.Stop.{Stop}
+use Rattle.wsn_io.specs.Transfer.{Incoming}
+use Rattle.wsn_rules.specs.declared.without.Without.{Without}
+use Rattle.wsn_rules.specs.Limits.{Limits}
+use Rattle.wsn_rules.specs.LeftOut.{is_left_out, events_without}
+use Rattle.wsn_rules.specs.Meaning.{MeantEvent}
+use Rattle.wsn_events.specs.declared.event_reader.EventReader.{EventReader}
+use Rattle.wsn_events.specs.declared.source.Next.{Next}
+use Rattle.wsn_events.specs.declared.source.Next.TheVariants as nexts
+use Rattle.wsn_events.specs.EventsMeant.{meant}
+use Rattle.wsn_events.specs.EventReaders.{GoesOn}
+
+-- Whether it is an event that is left out.
+abbrev pub is_next_left_out : {A : Type 0} → Without → Next A → Bool
+is_next_left_out without (nexts.Event event) = is_left_out without (meant event)
+is_next_left_out without (nexts.Done verdict) = false
+
+-- A call has passed over these events, which are all left out, and its result is right after them.
+pub record GoesOnWithout {A : Type 0} (without : Without) (role : Role) (limits : Limits) (old new : Incoming)
+    (reading : EventReader A) (came : List ℕ) (given : List MeantEvent) (result : Result (Next A) Stop) : Type 0 where
+  pub passed : List MeantEvent
+  pub left_out : events_without without passed ≡ []
+  pub goes_on : GoesOn role limits old new reading came (given ++ passed) result
