@@ -8,7 +8,8 @@ use crate::explain::{explanation, list_of_words};
 use crate::help;
 use crate::options::{
     check_digits, file, file_of, format_of, limits_of, role, role_of, side_of, style_of,
-    with_capture, with_file, with_json, with_limits, with_role, with_view, with_wire,
+    with_capture, with_file, with_json, with_limits, with_role, with_view, with_wire, with_without,
+    without_of,
 };
 use crate::recut_options::{recut_of, with_recuts};
 use crate::request::{Request, Usage};
@@ -138,9 +139,10 @@ fn with_stream<'a>(alloc: Global, command: Command<'a>) -> Result<Command<'a>, A
     with_file(alloc, command)
 }
 
-/// Adds `--role`, `--capture` and the names of two files.
+/// Adds `--role`, `--capture`, `--without` and the names of two files.
 fn with_streams<'a>(alloc: Global, command: Command<'a>) -> Result<Command<'a>, AllocError> {
     let command = with_capture(alloc, with_role(alloc, command)?)?;
+    let command = with_without(alloc, command)?;
     let help = "The file with the first stream, or - for standard input";
     let command = command.arg(file(alloc, "first", "FIRST", help).required(true))?;
     let help = "The file with the second stream, or - for standard input";
@@ -267,6 +269,7 @@ fn same_of(alloc: Global, matches: &ArgMatches<'_>) -> Result<Request, Usage>
             comparison: Comparison {
                 role,
                 limits,
+                without: without_of(matches),
                 format: format_of(matches),
             },
             first,

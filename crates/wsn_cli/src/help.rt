@@ -87,6 +87,8 @@ line:
   first VERDICT   the first isn't accepted
   second VERDICT  the second isn't accepted, and the first is
 Either FIRST or SECOND may be -, which is standard input; ./- is a file named -.
+--without ping,pong leaves pings and pongs out of both: so a keepalive that came
+a message later is no difference. K then counts what is left.
 With --json it prints an object: {\"type\":\"comparison\",\"answer\":\"equal\"}, or with
 \"answer\":\"different\" and \"event\":K, or with \"answer\":\"first\" or \"second\" and the
 verdict as \"verdict\" ('wsn help judge').

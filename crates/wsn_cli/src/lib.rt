@@ -22,4 +22,6 @@ pub use escaped::Escaped;
 pub use hints::hint_on_run;
 pub use request::{Request, Usage};
 pub use wsn_hint::{Hint, capture_hint_of, hint_of, plan_hint_of};
-pub use wsn_job::{Comparison, Format, How, Job, run, run_on_side, run_same, run_same_on_sides};
+pub use wsn_job::{
+    Comparison, Format, How, Job, Without, run, run_on_side, run_same, run_same_on_sides,
+};

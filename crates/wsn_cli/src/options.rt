@@ -1,5 +1,5 @@
-ghost use Rattle.std.specs.Prelude.{◌≡◌, ◌↔◌, None, Some, IfOk, IfSome, codes};
-ghost use Rattle.clap.specs.Words.{found_of, first_value, one_text};
+ghost use Rattle.std.specs.Prelude.{◌≡◌, ◌↔◌, None, Some, IfOk, IfSome, false, codes};
+ghost use Rattle.clap.specs.Words.{found_of, first_value, matched_of, one_text};
 ghost use Rattle.wsn_wire.specs.declared.endpoint.Role.TheVariants.{Server};
 ghost use Rattle.wsn_wire.specs.declared.length_forms.Lengths.TheVariants.{Any};
 ghost use Rattle.wsn_rules.specs.declared.detail.Detail.TheVariants.{Events};
@@ -12,13 +12,15 @@ use clap::builder::ValueParser;
 use clap::{Arg, ArgAction, ArgMatches, Command, value_parser};
 use std::alloc::{AllocError, Global};
 use wsn_print::{Format, ViewLimit};
-use wsn_rules::{Detail, INPUT_MAX, Limits, MESSAGE_MAX};
+use wsn_rules::{Detail, INPUT_MAX, Limits, MESSAGE_MAX, Without};
 use wsn_show::Style;
 use wsn_wire::{Lengths, Role};
 
 static ROLES: [&str; 2] = ["client", "server"];
 
 static ENCODINGS: [&str; 2] = ["shortest", "any"];
+
+static CONTROLS: [&str; 3] = ["ping", "pong", "close"];
 
 /// The most bytes of a payload that are shown without `--view`: so that lines fit 80 columns.
 const VIEW_DEFAULT: u16 = 48;
@@ -79,6 +81,13 @@ pub fn with_wire<'a>(alloc: Global, command: Command<'a>) -> Result<Command<'a>,
         .long("wire")
         .action(ArgAction::SetTrue);
     command.arg(wire.help("Show frames, as frames lists them, in place of\nevents"))
+}
+
+/// Adds `--without`.
+pub fn with_without<'a>(alloc: Global, command: Command<'a>) -> Result<Command<'a>, AllocError> {
+    let help = "Leave these out of both, such as ping,pong:\nping, pong, close";
+    let without = option(alloc, "without", "KINDS", help).value_delimiter(',');
+    command.arg(one_of(without, &CONTROLS))
 }
 
 /// Adds `--json`.
@@ -170,6 +179,25 @@ pub fn limits_of(matches: &ArgMatches<'_>) -> Option<Limits>
     match matches.get_one::<u32>("frames") {
         Some(frames) => limits.with_frames(frames),
         None => Some(limits),
+    }
+}
+
+/// The controls that a comparison leaves out, from `--without`.
+pub fn without_of(matches: &ArgMatches<'_>) -> Without
+    ensures { (matched_of (found_of matches.now) (codes "without") ≡ None)
+        → (result ≡ record { ping = false; pong = false; close = false }) }
+{
+    let Some(kinds) = matches.get_strs("without") else {
+        return Without {
+            ping: false,
+            pong: false,
+            close: false,
+        };
+    };
+    Without {
+        ping: kinds.contains(&"ping"),
+        pong: kinds.contains(&"pong"),
+        close: kinds.contains(&"close"),
     }
 }
 

@@ -3,7 +3,7 @@
 
 use std::alloc::{AllocError, Global};
 use std::process::Abort;
-use wsn_cli::{Comparison, Format, How, Job, Request, Usage, asked};
+use wsn_cli::{Comparison, Format, How, Job, Request, Usage, Without, asked};
 use wsn_rules::{Detail, Limits};
 use wsn_show::Style;
 use wsn_wire::{Lengths, Role};
@@ -54,12 +54,14 @@ fn request_line(alloc: Global, request: &Request) -> Result<String, AllocError> 
             let Comparison {
                 role,
                 limits,
+                without,
                 format,
             } = comparison;
             let stream = stream_line(alloc, "same", *role, limits)?;
             let (first, second) = (name_of(first), name_of(second));
             let suffix = suffix_of(*format);
-            let line = format!(in alloc; "{stream}, {first} and {second}{suffix}")?;
+            let without = left_out(without);
+            let line = format!(in alloc; "{stream}, {first} and {second}{without}{suffix}")?;
             with_side(alloc, &line, *side)
         }
         Request::Help(_) => String::from_str(alloc, "help"),
@@ -151,6 +153,18 @@ fn style_line(alloc: Global, style: &Style) -> Result<String, AllocError> {
 fn with_format(alloc: Global, line: &String, format: Format) -> Result<String, AllocError> {
     let suffix = suffix_of(format);
     format!(in alloc; "{line}{suffix}")
+}
+
+/// What follows a line for the controls that are left out.
+fn left_out(without: &Without) -> &'static str {
+    match (without.ping, without.pong, without.close) {
+        (false, false, false) => "",
+        (true, false, false) => ", without pings",
+        (true, true, false) => ", without pings and pongs",
+        (false, false, true) => ", without Closes",
+        (true, true, true) => ", without controls",
+        _ => ", without others",
+    }
 }
 
 /// What follows a line for the format: nothing for text.

@@ -3,7 +3,7 @@
 use crate::answer_lines::expect_answer;
 
 /// A missing or unknown word, and a role or number out of its range.
-static WRONG: [&str; 41] = [
+static WRONG: [&str; 44] = [
     "wsn",
     "wsn other",
     "wsn judge",
@@ -25,6 +25,9 @@ static WRONG: [&str; 41] = [
     "wsn closing --role server",
     "wsn closing --view 5",
     "wsn show --capture",
+    "wsn same --role client a b --without text",
+    "wsn same --role client a b --without ping,text",
+    "wsn judge --role client --without ping",
     "wsn normal --role server --json",
     "wsn plan --role server --json",
     "wsn recut --role server --size 3 --json",

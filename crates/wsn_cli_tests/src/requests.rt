@@ -137,6 +137,36 @@ static JSON: [(&str, &str); 5] = [
     ),
 ];
 
+static WITHOUT: [(&str, &str); 5] = [
+    (
+        "wsn same --role client --without ping a b",
+        "same client 16777216 1099511627776 - shortest, a and b, without pings",
+    ),
+    (
+        "wsn same --role client --without ping,pong a b",
+        "same client 16777216 1099511627776 - shortest, a and b, without pings and pongs",
+    ),
+    (
+        "wsn same --role client a b --without=pong,ping --json",
+        "same client 16777216 1099511627776 - shortest, a and b, without pings and pongs, in JSON",
+    ),
+    (
+        "wsn same --role client --without close a b",
+        "same client 16777216 1099511627776 - shortest, a and b, without Closes",
+    ),
+    (
+        "wsn same --role client --without close,ping,pong a b",
+        "same client 16777216 1099511627776 - shortest, a and b, without controls",
+    ),
+];
+
+#[test]
+fn controls_are_left_out(rt: HostRuntime) {
+    for row in WITHOUT.iter() {
+        expect_answer(&rt, rt.alloc(), row.0, row.1);
+    }
+}
+
 #[test]
 fn json_is_asked_for(rt: HostRuntime) {
     for row in JSON.iter() {

@@ -6,7 +6,7 @@ use crate::readers::Chopped;
 use crate::writers::Narrow;
 use std::alloc::{Allocator, Global};
 use wsn_capture::SideReader;
-use wsn_job::{Comparison, Format, Job, run, run_on_side, run_same, run_same_on_sides};
+use wsn_job::{Comparison, Format, Job, Without, run, run_on_side, run_same, run_same_on_sides};
 use wsn_scan::Limits;
 use wsn_wire::{Input, Output, Role};
 
@@ -118,11 +118,19 @@ pub fn run_same_on<A: Allocator + Copy>(
     }
 }
 
+/// Nothing is left out.
+const NOTHING: Without = Without {
+    ping: false,
+    pong: false,
+    close: false,
+};
+
 /// A comparison of two streams of a server, whose answer is printed in words.
 fn text_of(limits: Limits) -> Comparison {
     Comparison {
         role: Role::Server,
         limits,
+        without: NOTHING,
         format: Format::Text,
     }
 }

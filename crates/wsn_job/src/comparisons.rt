@@ -5,7 +5,7 @@ ghost use Rattle.wsn_job.specs.Words.{Stop, Compared, IsComparisonPrinted, compa
 use crate::diagnostics::diagnose_if_stopped;
 use std::alloc::Allocator;
 use std::io::{Read, Write};
-use wsn_events::{Compared, same};
+use wsn_events::{Compared, Without, same_without};
 use wsn_print::{Format, put_compared_as, status_of_comparison};
 use wsn_scan::{Limits, Stop};
 use wsn_wire::{Input, Output, Role};
@@ -17,6 +17,8 @@ pub struct Comparison {
     pub role: Role,
     /// The limits for reading each of them.
     pub limits: Limits,
+    /// The controls that are left out of both meanings.
+    pub without: Without,
     /// The format of the answer.
     pub format: Format,
 }
@@ -40,7 +42,7 @@ pub fn run_same<A: Allocator + Copy, R: Read, S: Read, W: Write, E: Write>(
     requires second { second.old.failed ≡ false }
     requires writable { output.old.failed ≡ false }
     ensures done { (done : Result Compared Stop)
-        × IsComparisonPrinted comparison.format comparison.role comparison.limits (compared_channels first.old second.old output.old)
+        × IsComparisonPrinted comparison (compared_channels first.old second.old output.old)
         (compared_channels first.new second.new output.new) done
         × (result ≡ comparison_status done) × IsStopDiagnosed done errors.old errors.new }
     ensures status { (result ≡ 0) ⊎ (result ≡ 1) ⊎ (result ≡ 2) }
@@ -67,10 +69,16 @@ pub(crate) fn print_comparison<A: Allocator + Copy, R: Read, S: Read, W: Write>(
     requires first { first.old.failed ≡ false }
     requires second { second.old.failed ≡ false }
     requires writable { output.old.failed ≡ false }
-    ensures { IsComparisonPrinted comparison.format comparison.role comparison.limits (compared_channels first.old second.old output.old)
+    ensures { IsComparisonPrinted comparison (compared_channels first.old second.old output.old)
         (compared_channels first.new second.new output.new) result }
 {
-    let compared = same(alloc, first, second, comparison.role, comparison.limits)?;
-    put_compared_as(output, comparison.format, compared)?;
+    let Comparison {
+        role,
+        limits,
+        without,
+        format,
+    } = comparison;
+    let compared = same_without(alloc, first, second, role, limits, without)?;
+    put_compared_as(output, format, compared)?;
     Ok(compared)
 }

@@ -24,3 +24,4 @@ pub use job::{How, Job};
 pub use running::run;
 pub use sides::{run_on_side, run_same_on_sides};
 pub use wsn_print::Format;
+pub use wsn_rules::Without;

@@ -83,7 +83,7 @@ pub fn run_same_on_sides<A: Allocator + Copy, R: Read, S: Read, W: Write, E: Wri
     requires second { second.old.failed ≡ false }
     requires writable { output.old.failed ≡ false }
     ensures done { (done : Result Compared Stop)
-        × IsComparisonPrinted comparison.format comparison.role comparison.limits (compared_channels first.old second.old output.old)
+        × IsComparisonPrinted comparison (compared_channels first.old second.old output.old)
         (compared_channels first.new second.new output.new) done
         × (result ≡ comparison_status done) × IsSameDiagnosed first.new second.new done errors.old errors.new }
     ensures status { (result ≡ 0) ⊎ (result ≡ 1) ⊎ (result ≡ 2) }

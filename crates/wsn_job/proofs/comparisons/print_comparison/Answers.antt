@@ -4,11 +4,11 @@ use Rattle.wsn_job.proofs.comparisons.print_comparison.Goals as goal
 pub returns : goal.returns
 returns g c = search rules
 
-pub same-requires-clause-first : goal.same-requires-clause-first
-same-requires-clause-first g c = search rules
+pub same_without-requires-clause-first : goal.same_without-requires-clause-first
+same_without-requires-clause-first g c = search rules
 
-pub same-requires-clause-second : goal.same-requires-clause-second
-same-requires-clause-second g c = search rules
+pub same_without-requires-clause-second : goal.same_without-requires-clause-second
+same_without-requires-clause-second g c = search rules
 
 pub returns-in_err-compared : goal.returns-in_err-compared
 returns-in_err-compared g c = search rules
