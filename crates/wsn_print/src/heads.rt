@@ -1,10 +1,9 @@
-ghost use Rattle.std.specs.Prelude.{◌≡◌, ◌+◌, ◌<◌, ◌≤◌, ◌++◌, false, length, drop, codes, decimal, slice_index};
-ghost use Rattle.hex.specs.Hex.{encode_lower, lower_digits};
+ghost use Rattle.std.specs.Prelude.{◌≡◌, ◌+◌, ◌≤◌, ◌++◌, false, length, drop, codes, decimal};
 ghost use Rattle.wsn_io.specs.Stops.{IsWrittenOrStops};
 ghost use Rattle.wsn_print.specs.Fields.{fin_word, op_word, key_text, form_text};
 ghost use Rattle.wsn_print.specs.HeadText.{head_fields, head_line};
 
-use crate::line::Line;
+use crate::line::{Line, key_digits};
 use itoa::write_digits;
 use std::io::Write;
 use wsn_io::{Output, Stop, put_line};
@@ -96,33 +95,6 @@ fn lay_key(key: Option<[u8; 4]>, text: &mut [u8], end: usize) -> usize
             lay(&key_digits(key), text, end)
         }
     }
-}
-
-/// The eight lower-case hexadecimal digits of a key.
-#[inline(always)]
-fn key_digits(key: [u8; 4]) -> [u8; 8]
-    ensures { result ≡ encode_lower key }
-{
-    let [a, b, c, d] = key;
-    [
-        digit(a / 16),
-        digit(a % 16),
-        digit(b / 16),
-        digit(b % 16),
-        digit(c / 16),
-        digit(c % 16),
-        digit(d / 16),
-        digit(d % 16),
-    ]
-}
-
-/// A lower-case hexadecimal digit.
-#[inline(always)]
-fn digit(n: u8) -> u8
-    requires { n < 16 }
-    ensures { result ≡ slice_index lower_digits n }
-{
-    b"0123456789abcdef"[usize::from(n)]
 }
 
 /// Writes the word for an opcode between two spaces, at most 8 bytes.

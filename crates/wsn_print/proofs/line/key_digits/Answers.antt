@@ -1,6 +1,6 @@
 use Rattle.std.proofs.Common.{◌≡◌, ◌∷◌, [], ◌∙◌, sym, length, rules}
 use Rattle.wsn_print.proofs.HeadLines.{key_of_digits}
-use Rattle.wsn_print.proofs.heads.key_digits.Goals as goal
+use Rattle.wsn_print.proofs.line.key_digits.Goals as goal
 
 pub returns : goal.returns
 returns c =
