@@ -95,8 +95,8 @@ a message later is no difference. K then counts what is left.
                   event K
 With --json it prints an object: {\"type\":\"comparison\",\"answer\":\"equal\"}, or with
 \"answer\":\"different\" and \"event\":K, or with \"answer\":\"first\" or \"second\" and the
-verdict as \"verdict\" ('wsn help judge'). With --view the events' objects follow K
-as \"first\" and \"second\", or null ('wsn help show').
+verdict as \"verdict\" ('wsn help judge'). With --view the objects of both events,
+or null, follow K as \"first\" and \"second\" ('wsn help show').
 
 Example: one frame, and the same message in two
   $ printf '\\201\\002Hi' > one; printf '\\001\\001H\\200\\001i' > two
