@@ -79,7 +79,7 @@ its second byte is 0.
 RFC 6455, 5.1: a client masks every frame; a server must close the connection on
 one that isn't masked.
 Usual causes: --role names the wrong side (then OFFSET is 1); a whole capture
-that went through xxd -r -p, which reads C as a digit; a home-made client, or a
+that went through xxd -r -p, so both sides' bytes; a home-made client, or a
 server's library used as a client; a tool that recorded unmasked frames.
 Next: --role is the endpoint that sent the bytes: try --role server. Of a
 capture, add --capture and leave xxd out. If the client did send unmasked
