@@ -75,8 +75,8 @@ Next: ls -l FILE. In the printed name, \\x1b and the like are control characters
 hint: TEXT, on standard error: by its first bytes the input isn't what the
 command reads, and TEXT says what to do. Output and status are as without it.
 judge, frames and show --role give one for a stream that is empty, or refused at
-offset 0 or 1; each command for a malformed capture that begins like another
-file; recut for a plan with a byte order mark. With --json there is none.
+offset 0 or 1; each command but same for a malformed capture that begins like
+another file; recut for a plan with a byte order mark. None comes with --json.
 Next: do what it says, and run the command again. It is a guess by at most 16
 bytes: xxd -l 32 FILE shows them.
 ",
