@@ -1,0 +1,176 @@
+// The page: puts heading, tools and ladder together, filters, searches, saves.
+
+const KINDS = [["text", "text"], ["binary", "binary"], ["ping", "pings"], ["pong", "pongs"], ["close", "Closes"], ["fragment", "fragments"],
+  ["problem", "problems"], ["note", "ends, comments"]];
+const KEYS = [["↓ ↑ or j k", "next, previous row"], ["Enter", "a row's bytes"], ["n p", "next, previous problem"], ["/", "search"],
+  ["Esc", "close a row, or the search"], ["Home End", "first, last row"]];
+
+/** Keeps a row's name in the page's address, for a link to it. */
+function remember(row) {
+  try { history.replaceState(null, "", `#${row.name}`); } catch { /* Some viewers allow no address. */ }
+}
+
+/** Offers bytes as a file. */
+function offer(name, parts, type) {
+  const link = document.createElement("a"), url = URL.createObjectURL(new Blob(parts, { type }));
+  link.href = url;
+  link.download = name;
+  link.click();
+  setTimeout(() => URL.revokeObjectURL(url), 10000);
+}
+
+/** The page as it was built, with its capture. */
+function pageSource() {
+  const copy = document.documentElement.cloneNode(true);
+  copy.removeAttribute("data-theme");
+  copy.querySelector("#page").replaceChildren();
+  return `<!doctype html>${copy.outerHTML}`;
+}
+
+/** A file's name without what a system may not take. */
+function fileName(session, ending) {
+  return session.name.replace(/\.capture$/, "").replace(/[^\p{L}\p{N}._ -]/gu, "_") + ending;
+}
+
+function bytesOf(capture) {
+  return Uint8Array.from(capture, character => character.charCodeAt(0));
+}
+
+/** Goes from the system's theme to the other one, and back. */
+function switchTheme() {
+  const root = document.documentElement, dark = matchMedia("(prefers-color-scheme: dark)").matches;
+  if (root.dataset.theme) delete root.dataset.theme; else root.dataset.theme = dark ? "light" : "dark";
+}
+
+/** What a search looks in: a row's words, its payload's front, its digits without and with blanks. */
+function wordsOf(session, row) {
+  const view = row.type === "fragment" ? fragmentView(session, row)[0].textContent : "";
+  const label = labelOf(session, row).map(part => part.textContent ?? part).join("");
+  return row.words ??= [label, row.text, row.reason, row.hex, pairs(row.hex ?? ""), view].filter(Boolean).join("\n").toLowerCase();
+}
+
+/** The switches and the search, which choose the rows that are shown. */
+class Filter {
+  constructor(session, rows, ladder) {
+    Object.assign(this, { session, rows, ladder, off: new Set(), wanted: "" });
+    this.status = make("span", "dim");
+    this.status.setAttribute("role", "status");
+    this.search = make("input", "search");
+    this.search.type = "search";
+    this.search.placeholder = "Search  ( / )";
+    this.search.setAttribute("aria-label", "Search in payloads, kinds and digits");
+    let waiting;
+    this.search.addEventListener("input", () => { clearTimeout(waiting); waiting = setTimeout(() => this.apply(), 120); });
+    this.search.addEventListener("keydown", event => {
+      if (event.key === "Enter") { clearTimeout(waiting); this.apply(); this.ladder.go(this.ladder.current); }
+      if (event.key === "Escape") { this.search.value = ""; this.apply(); }
+    });
+    this.kinds = new Map();
+    for (const row of rows) if (row.type !== "silence") this.kinds.set(kindOf(row), (this.kinds.get(kindOf(row)) ?? 0) + 1);
+  }
+
+  /** A switch that hides what it names. */
+  toggle(name, label, className = "") {
+    const made = button(label, () => {
+      if (!this.off.delete(name)) this.off.add(name);
+      made.setAttribute("aria-pressed", String(!this.off.has(name)));
+      this.apply();
+    }, `switch ${className}`);
+    made.setAttribute("aria-pressed", "true");
+    return made;
+  }
+
+  controls() {
+    const sides = make("div", "switches", this.toggle("client", "▶ client", "client"), this.toggle("server", "◀ server", "server"));
+    const kinds = make("div", "switches", ...KINDS.filter(([kind]) => this.kinds.has(kind))
+      .map(([kind, name]) => this.toggle(kind, `${name} ${number(this.kinds.get(kind))}`, kind === "problem" ? "problem" : "")));
+    sides.setAttribute("role", "group");
+    sides.setAttribute("aria-label", "Sides that are shown");
+    kinds.setAttribute("role", "group");
+    kinds.setAttribute("aria-label", "Kinds that are shown");
+    return [this.search, sides, kinds, this.status];
+  }
+
+  keeps(row) {
+    if (row.type === "silence") return !this.wanted && !this.off.size;
+    if (this.off.has(row.side) || this.off.has(kindOf(row))) return false;
+    return !this.wanted || wordsOf(this.session, row).includes(this.wanted);
+  }
+
+  apply() {
+    this.wanted = this.search.value.trim().toLowerCase();
+    const shown = this.rows.filter(row => this.keeps(row)), named = rows => rows.filter(row => row.type !== "silence").length;
+    const all = named(this.rows), some = named(shown);
+    this.status.textContent = some === all ? count(all, "row") : `${number(some)} of ${count(all, "row")}`;
+    this.ladder.show(shown);
+  }
+}
+
+/** The line of the page's name and its buttons. */
+function barOf(session) {
+  const bar = make("header", "bar", make("span", "brand", "wsn"), make("span", "name", session.name), make("span", "gap"),
+    button("Save page", () => offer(fileName(session, ".html"), [pageSource()], "text/html")),
+    button("Save capture", () => offer(fileName(session, ".capture"), [bytesOf(session.capture)], "text/plain")),
+    button("Light / dark", switchTheme));
+  bar.querySelector("button").title = "Saves this page with its capture: one file for a ticket";
+  return bar;
+}
+
+/** How to read the ladder. */
+function helpOf() {
+  const keys = make("dl", "keys", ...KEYS.map(([key, does]) => make("div", "", make("dt", "", key), make("dd", "", does))));
+  const marks = make("p", "", "Each arrow is a frame, in the order of the capture's lines. A solid arrow ends a message or is a control frame; ",
+    "a dashed one is a fragment, and a bar at its sender's line joins the fragments of one message. ✕ marks where bytes are refused. ",
+    "An offset counts the bytes that one side sent, from 0.");
+  return make("details", "help", make("summary", "", "How to read this"), marks, keys);
+}
+
+/** The names above the ladder's columns. */
+function titlesOf() {
+  const lane = make("div", "lane titles", make("b", "client", "Client"), make("b", "server", "Server"));
+  const titles = make("div", "row titles", make("div", "line", "line"), make("div", "time", "seconds"), make("div", "offset", "offset"),
+    lane, make("div", "view", "payload"));
+  titles.setAttribute("role", "row");
+  for (const cell of titles.children) cell.setAttribute("role", "columnheader");
+  return titles;
+}
+
+/** Keys that work anywhere on the page. */
+function globalKeys(filter, ladder) {
+  addEventListener("keydown", event => {
+    if (event.ctrlKey || event.metaKey || event.altKey || event.target.matches("input, textarea")) return;
+    if (event.key === "/") { filter.search.focus(); filter.search.select(); }
+    else if (event.key === "n" || event.key === "p") ladder.go(ladder.further(event.key === "n" ? 1 : -1, row => kindOf(row) === "problem"));
+    else if ((event.key === "j" || event.key === "ArrowDown") && event.target === document.body) ladder.go(ladder.current);
+    else return;
+    event.preventDefault();
+  });
+}
+
+/** Lays a session out. A page with an engine inside calls this with what the engine says of another capture. */
+function layOut(parts) {
+  const session = new Session(parts), rows = rowsOf(session), page = document.getElementById("page");
+  const root = make("div", "rows"), ladder = new Ladder(session, rows, root), filter = new Filter(session, rows, ladder);
+  const grid = make("div", session.entries.some(entry => entry.time) ? "ladder" : "ladder timeless", titlesOf(), root);
+  grid.setAttribute("role", "treegrid");
+  grid.setAttribute("aria-label", "What both sides said, in order");
+  const visit = row => { if (ladder.go(row)) ladder.toggle(row, true); };
+  const refusal = side => rows.find(row => row.type === "refused" && (!side || row.side === side));
+  const tools = make("div", "tools", ...filter.controls());
+  new ResizeObserver(() => grid.style.setProperty("--tools", `${tools.offsetHeight}px`)).observe(tools);
+  page.replaceChildren(barOf(session), make("main", "", ...headingOf(session, side => visit(refusal(side))), helpOf(), tools, grid),
+    make("footer", "", `Made by ${session.version}, whose \`wsn show --json\` says all that this page says. It holds the capture, and fetches nothing.`));
+  filter.apply();
+  globalKeys(filter, ladder);
+  const named = () => rows.find(row => row.name && `#${row.name}` === decodeURIComponent(location.hash));
+  addEventListener("hashchange", () => visit(named()));
+  if (named()) visit(named()); else if (refusal()) ladder.toggle(refusal(), true);
+}
+
+/** What the page holds of a session: the capture's text, a character for each byte, and what the program said of it. */
+function held() {
+  const text = id => document.getElementById(id).textContent;
+  return { ...JSON.parse(text("session")), capture: JSON.parse(text("capture")), shown: text("shown"), wire: text("wire") };
+}
+
+layOut(held());
