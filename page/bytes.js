@@ -41,10 +41,11 @@ function byteLine(view, bytes, at, width) {
     const inPayload = !view.frame || (offset >= view.frame.payloadAt && offset < view.frame.end);
     const shown = key && inPayload ? byte ^ key[(offset - view.frame.payloadAt) % 4] : byte;
     const next = column + 1 < width && at + column + 1 < bytes.length ? markAt(view, offset + 1) : "";
-    const put = (run, text, as) => { run.put(text, as); run.put(column === width / 2 - 1 ? "  " : " ", next === as ? as : ""); };
+    const gap = column === width / 2 - 1 ? "  " : " ";
+    const put = (run, text, as) => { run.put(text, as); run.put(gap, next === as ? as : ""); };
     put(runs[0], digits(byte), mark);
     if (key) put(runs[1], inPayload ? digits(shown) : "··", inPayload ? mark : "none");
-    runs[last].put(inPayload && shown >= 0x20 && shown <= 0x7e ? String.fromCharCode(shown) : "·", inPayload ? mark : "none");
+    runs[last].put(inPayload && isPlain([shown]) ? String.fromCharCode(shown) : "·", inPayload ? mark : "none");
   }
   for (const run of runs) run.flush();
   return make("div", "byteline", make("span", "at", String(view.from + at)), ...cells);
@@ -62,7 +63,8 @@ function byteView(session, view) {
   box.tabIndex = 0;
   box.setAttribute("role", "group");
   box.setAttribute("aria-label", `Bytes ${view.from} to ${view.to - 1} of the ${view.side}`);
-  box.append(make("div", "byteline titles", make("span", "at", "offset"), ...titles.map((title, at) => make("span", names[at], title))));
+  const cells = titles.map((title, at) => make("span", names[at], title));
+  box.append(make("div", "byteline titles", make("span", "at", "offset"), ...cells));
   let drawn = 0;
   const draw = most => {
     const until = Math.min(view.to - view.from, drawn + most);
@@ -71,7 +73,8 @@ function byteView(session, view) {
     drawn = Math.min(drawn, bytes.length);
     const left = view.to - view.from - until;
     if (left <= 0) return;
-    const more = button(`Show ${count(Math.min(left, MORE_BYTES), "more byte")} of ${number(left)}`, () => { more.remove(); draw(MORE_BYTES); }, "more");
+    const label = `Show ${count(Math.min(left, MORE_BYTES), "more byte")} of ${number(left)}`;
+    const more = button(label, () => { more.remove(); draw(MORE_BYTES); }, "more");
     box.append(more);
   };
   draw(FIRST_BYTES);
@@ -83,6 +86,7 @@ function marksLegend(view) {
   const legend = make("p", "marks", make("span", "head", "head"));
   if (view.frame?.keyBytes) legend.append(" ", make("span", "key", "key"));
   if (view.frame) legend.append(" ", make("span", "payload", "payload"));
-  if (view.bad !== undefined) legend.append(" ", make("span", "bad", "offending byte"), " ", make("span", "rest", "after it: not read"));
+  if (view.bad === undefined) return legend;
+  legend.append(" ", make("span", "bad", "offending byte"), " ", make("span", "rest", "after it: not read"));
   return legend;
 }

@@ -2,6 +2,7 @@
 
 const WHOLE_TEXT = 65536; // The bytes of a text that are shown as text.
 const FIRST_FRAMES = 16; // The frames of a message whose bytes are shown at first.
+const LISTED_FRAMES = 500; // The frames of a message that are listed.
 const AROUND = 64; // The bytes before an offending byte that are shown, if its frame began long before.
 
 function heading(text, ...more) {
@@ -26,7 +27,7 @@ function textBlock(title, text) {
   let tidy = null;
   try {
     const value = JSON.parse(text);
-    if (value && typeof value === "object") tidy = JSON.stringify(value, null, 2);
+    if (value && typeof value === "object") tidy = indented(text);
   } catch { /* It is no JSON. */ }
   if (!tidy || tidy === text) return parts;
   const toggle = button("Lay out as JSON", () => {
@@ -43,18 +44,19 @@ function payloadParts(session, row) {
   const frames = row.list, bytes = session.joined(frames, WHOLE_TEXT);
   if (!bytes.length) return [];
   const left = row.bytes > WHOLE_TEXT ? `, the first ${count(WHOLE_TEXT, "byte")}` : "";
-  if (row.event === "text") return textBlock(`Text${left}`, decoded(bytes));
+  if (row.event === "text") return textBlock(`Text${left}`, decoded(bytes, row.type === "unfinished" || left !== ""));
   if (row.event === "close") return bytes.length > 2 ? textBlock("Reason", decoded(bytes.slice(2))) : [];
   return row.event !== "binary" && isPlain(bytes) ? textBlock("Payload", decoded(bytes)) : [];
 }
 
 /** A table of frames, as `wsn show --wire` lists them. */
 function frameTable(frames) {
-  const table = make("table", "frames"), row = (name, cells) => make("tr", "", ...cells.map(cell => make(name, "", cell)));
+  const table = make("table", "frames");
+  const row = (name, cells) => make("tr", "", ...cells.map(cell => make(name, "", cell)));
   table.append(row("th", ["frame", "offset", "FIN", "opcode", "key", "payload bytes", "length's encoding"]));
-  frames.slice(0, 500).forEach((frame, at) => table.append(row("td", [number(at + 1), String(frame.offset), frame.fin ? "fin" : "more",
-    frame.opcode, frame.key ?? "-", number(frame.length), frame.form])));
-  if (frames.length > 500) table.append(row("td", [`.. ${number(frames.length - 500)} more`]));
+  frames.slice(0, LISTED_FRAMES).forEach((frame, at) => table.append(row("td", [number(at + 1), String(frame.offset),
+    frame.fin ? "fin" : "more", frame.opcode, frame.key ?? "-", number(frame.length), frame.form])));
+  if (frames.length > LISTED_FRAMES) table.append(row("td", [`.. ${number(frames.length - LISTED_FRAMES)} more`]));
   return table;
 }
 
@@ -63,12 +65,14 @@ function frameViews(session, frames) {
   const box = make("div");
   const draw = (from, to) => {
     frames.slice(from, to).forEach((frame, at) => {
-      const view = { side: frame.side, from: frame.offset, to: Math.min(frame.end, session.sent[frame.side].length), frame };
-      const title = frames.length > 1 ? `Frame ${number(from + at + 1)} of ${number(frames.length)}` : "The frame's bytes";
+      const to = Math.min(frame.end, session.sent[frame.side].length), of = number(frames.length);
+      const view = { side: frame.side, from: frame.offset, to, frame };
+      const title = frames.length > 1 ? `Frame ${number(from + at + 1)} of ${of}` : "The frame's bytes";
       box.append(heading(title), marksLegend(view), byteView(session, view));
     });
     if (to >= frames.length) return;
-    const more = button(`Show ${count(Math.min(FIRST_FRAMES, frames.length - to), "more frame")}`, () => { more.remove(); draw(to, to + FIRST_FRAMES); }, "more");
+    const label = `Show ${count(Math.min(FIRST_FRAMES, frames.length - to), "more frame")}`;
+    const more = button(label, () => { more.remove(); draw(to, to + FIRST_FRAMES); }, "more");
     box.append(more);
   };
   draw(0, FIRST_FRAMES);
@@ -76,9 +80,10 @@ function frameViews(session, frames) {
 }
 
 function eventDetails(session, row) {
-  const what = row.event === "close" ? "Close" : row.event, frames = row.frames > 1 ? ` in ${number(row.frames)} frames` : "";
+  const what = { text: "text message", binary: "binary message", close: "Close" }[row.event] ?? row.event;
+  const size = count(row.bytes, "byte") + (row.frames > 1 ? ` in ${number(row.frames)} frames` : "");
   return [
-    make("p", "", `The ${row.side} sent this ${what}, ${count(row.bytes, "byte")}${frames}; complete in ${placeWords(row)}.`),
+    make("p", "", `The ${row.side} sent this ${what}, ${size}; complete in ${placeWords(row)}.`),
     ...payloadParts(session, row), frameTable(row.list), frameViews(session, row.list),
     ...(row.event === "close" && row.code ? explanations(session, row.code) : []),
   ];
@@ -93,8 +98,10 @@ function refusedViews(session, row, frame) {
 }
 
 function refusedDetails(session, row) {
-  const listed = session.frameAt(row.side, row.offset), frame = listed && row.place >= listed.payloadAt ? listed : undefined;
-  const seen = make("p", "", "Up to the offending byte: ", field("hex", "mono", (row.truncated ? ".." : "") + pairs(row.hex)), frame?.keyBytes ? ", unmasked." : ".");
+  const listed = session.frameAt(row.side, row.offset);
+  const frame = listed && row.place >= listed.payloadAt ? listed : undefined;
+  const hex = field("hex", "mono", (row.truncated ? ".." : "") + pairs(row.hex));
+  const seen = make("p", "", "Up to the offending byte: ", hex, frame?.keyBytes ? ", unmasked." : ".");
   const parts = [
     make("p", "", `In the frame at offset ${row.offset} of what the ${row.side} sent; ${placeWords(row)}. `
       + `The ${other(row.side)} should close with ${codeWords(session, row.code)}.`),
@@ -110,21 +117,24 @@ function unfinishedDetails(session, row) {
   parts.push(make("p", "", `What the ${row.side} sent of it by ${placeWords(row)}.`), ...payloadParts(session, row));
   if (row.list.length) parts.push(frameTable(row.list), frameViews(session, row.list));
   if (row.lacks === null) {
-    const from = listed.length ? listed[listed.length - 1].end : 0;
-    parts.push(heading("A part of the next frame's head"), byteView(session, { side: row.side, from, to: sent.length, payloadAt: sent.length }));
+    const from = listed.length ? listed[listed.length - 1].end : 0, to = sent.length;
+    const view = { side: row.side, from, to, payloadAt: to };
+    parts.push(heading("A part of the next frame's head"), byteView(session, view));
   }
   return [...parts, ...explanations(session, "lacks")];
 }
 
 function restDetails(session, row) {
-  const after = row.type === "tail" ? "its Close" : "the refusal", view = { side: row.side, from: row.offset, to: row.offset + row.bytes, payloadAt: row.offset };
-  return [make("p", "", `${count(row.bytes, "byte")} that the ${row.side} sent after ${after}. They aren't read as frames.`),
+  const after = row.type === "tail" ? "its Close" : "the refusal", size = count(row.bytes, "byte");
+  const view = { side: row.side, from: row.offset, to: row.offset + row.bytes, payloadAt: row.offset };
+  return [make("p", "", `${size} that the ${row.side} sent after ${after}. They aren't read as frames.`),
     byteView(session, view), ...explanations(session, row.type)];
 }
 
 function fragmentDetails(session, row) {
-  return [make("p", "", `Fragment ${number(row.number)} of the message at offset ${row.message.offset}; its head was complete in ${placeWords(row)}.`),
-    frameTable([row.frame]), frameViews(session, [row.frame])];
+  const words = `Fragment ${number(row.number)} of the message at offset ${row.message.offset}`;
+  const place = make("p", "", `${words}; its head was complete in ${placeWords(row)}.`);
+  return [place, frameTable([row.frame]), frameViews(session, [row.frame])];
 }
 
 const DETAILS = {

@@ -13,41 +13,53 @@ function withCode(session, state) {
 
 /** What is said of a refused side; its offset leads to the row. */
 function refusalSentence(session, side, go) {
-  const state = session.report[side], peer = session.report[other(side)], why = session.sentence(state.reason, state.offset);
+  const state = session.report[side], peer = session.report[other(side)];
+  const why = session.sentence(state.reason).replace("OFFSET", `offset ${state.offset}`);
   const link = button(`byte ${state.offset}`, () => go(side), "link");
-  const did = peer.state === "closed" ? (peer.code === state.code ? ", and did" : `; it closed ${withCode(session, peer)}`) : "";
-  return make("p", "", `The ${other(side)} must refuse `, link, ` of what the ${side} sent: `, make("b", "", state.reason), ...(why ? [` (${why})`] : []),
+  const closed = peer.code === state.code ? ", and did" : `; it closed ${withCode(session, peer)}`;
+  const did = peer.state === "closed" ? closed : "";
+  const sent = ` of what the ${side} sent: `, reason = make("b", "", state.reason);
+  return make("p", "", `The ${other(side)} must refuse `, link, sent, reason, why ? ` (${why})` : "",
     `. It should close with code ${codeWords(session, state.code)}${did}.`);
 }
 
 function closedSentence(session) {
   const { report } = session, first = report.first ?? "client", second = other(first);
   const answer = report.echo ? "with the same" : withCode(session, report[second]);
-  const ends = report.outcome === "clean" ? "Both directions then ended." : "That both directions ended isn't in the capture.";
-  return `The ${first} closed first, ${withCode(session, report[first])}, and the ${second} answered ${answer}. ${ends}`;
+  const ends = report.outcome === "clean" ? "Both directions then ended." : "The capture lacks the end of a direction.";
+  const closed = `The ${first} closed first, ${withCode(session, report[first])}`;
+  return `${closed}, and the ${second} answered ${answer}. ${ends}`;
 }
 
 function brokenSentence(session) {
   const words = { ended: "ended between two messages", cut: "ended inside a frame or a message" };
-  const parts = SIDES.filter(side => words[session.report[side].state]).map(side => `the ${side}'s direction ${words[session.report[side].state]}`);
-  const closed = SIDES.filter(side => session.report[side].state === "closed").map(side => ` The ${side} had sent a Close ${withCode(session, session.report[side])}.`);
+  const { report } = session, closers = SIDES.filter(side => report[side].state === "closed");
+  const parts = SIDES.filter(side => words[report[side].state])
+    .map(side => `the ${side}'s direction ${words[report[side].state]}`);
+  const closed = closers.map(side => ` The ${side} sent a Close ${withCode(session, report[side])}.`);
   return `${capital(parts.join(", and "))}, without a Close.${closed.join("")}`;
+}
+
+function halfSentence(session) {
+  const side = session.report.first, sent = `The ${side} sent a Close ${withCode(session, session.report[side])}`;
+  return `${sent}; no answer of the ${other(side)} is in the capture.`;
 }
 
 /** The outcome in a few words. */
 function titleOf({ report }) {
   const refused = SIDES.filter(side => report[side].state === "refused");
-  return TITLES[report.outcome] ?? (refused.length > 1 ? "Both sides broke the protocol" : `The ${refused[0]} broke the protocol`);
+  const who = refused.length > 1 ? "Both sides" : `The ${refused[0]}`;
+  return TITLES[report.outcome] ?? `${who} broke the protocol`;
 }
 
 /** The outcome in sentences. */
 function sentences(session, go) {
-  const { report } = session;
+  const { report } = session, refused = SIDES.filter(side => report[side].state === "refused");
   switch (report.outcome) {
-    case "failed": return SIDES.filter(side => report[side].state === "refused").map(side => refusalSentence(session, side, go));
+    case "failed": return refused.map(side => refusalSentence(session, side, go));
     case "clean": case "complete": return [make("p", "", closedSentence(session))];
     case "abnormal": return [make("p", "", brokenSentence(session))];
-    case "half": return [make("p", "", `The ${report.first} sent a Close ${withCode(session, report[report.first])}; no answer of the ${other(report.first)} is in the capture.`)];
+    case "half": return [make("p", "", halfSentence(session))];
     default: return [make("p", "", "Nothing is wrong so far: no side has closed, and no direction has ended.")];
   }
 }
@@ -60,7 +72,8 @@ function stateWords(state) {
 
 /** A fact of the report: its name, its value as it is printed, and what that means. */
 function fact(name, title, value, meaning = "") {
-  const shown = make("dd", "", field(name, "value", String(value ?? "-")), meaning ? make("span", "meaning", ` ${meaning}`) : "");
+  const more = meaning ? make("span", "meaning", ` ${meaning}`) : "";
+  const shown = make("dd", "", field(name, "value", String(value ?? "-")), more);
   return make("div", "fact", make("dt", "", title), shown);
 }
 
@@ -71,25 +84,28 @@ function seenWords(session, code) {
 /** How many events of which kinds a side sent. */
 function sideCounts(session, side) {
   const events = session.entries.filter(entry => entry.type === "event" && entry.side === side);
-  const messages = events.filter(event => event.event === "text" || event.event === "binary").length;
-  const pings = events.filter(event => event.event === "ping").length, pongs = events.filter(event => event.event === "pong").length;
-  return [count(messages, "message"), ...(pings ? [count(pings, "ping")] : []), ...(pongs ? [count(pongs, "pong")] : []), count(session.sent[side].length, "byte")].join(", ");
+  const of = (...kinds) => events.filter(each => kinds.includes(each.event)).length;
+  const words = [count(of("text", "binary"), "message")];
+  for (const kind of ["ping", "pong"]) if (of(kind)) words.push(count(of(kind), kind));
+  return [...words, count(session.sent[side].length, "byte")].join(", ");
 }
 
 function sideCard(session, side) {
   const { report } = session, state = report[side], bad = state.state === "refused" ? " bad" : "";
-  return make("section", `card ${side}${bad}`, make("h2", "", make("span", "way", side === "client" ? "▶" : "◀"), ` ${capital(side)}`),
-    make("p", "dim", sideCounts(session, side)),
-    make("dl", "", fact(side, "its stream", stateWords(state)),
-      fact(`${side}_sees`, "its application sees", report[`${side}_sees`], seenWords(session, report[`${side}_sees`]))));
+  const title = make("h2", "", make("span", "way", side === "client" ? "▶" : "◀"), ` ${capital(side)}`);
+  const sees = `${side}_sees`, facts = make("dl", "", fact(side, "its stream", stateWords(state)),
+    fact(sees, "its application sees", report[sees], seenWords(session, report[sees])));
+  return make("section", `card ${side}${bad}`, title, make("p", "dim", sideCounts(session, side)), facts);
 }
 
 function closingCard(session) {
   const { report } = session, echo = report.echo === null ? "-" : report.echo ? "yes" : "no";
   const last = session.entries.findLast(entry => entry.time);
-  return make("section", "card", make("h2", "", "Closing"), make("p", "dim", last ? `${last.time} s in the capture` : "no times in this capture"),
-    make("dl", "", fact("first", "closed first", report.first), fact("echo", "same code back", echo, report.echo === null ? "not both closed" : ""),
-      fact("outcome", "outcome", report.outcome)));
+  const times = make("p", "dim", last ? `${last.time} s in the capture` : "no times in this capture");
+  const facts = make("dl", "", fact("first", "closed first", report.first),
+    fact("echo", "same code back", echo, report.echo === null ? "not both closed" : ""),
+    fact("outcome", "outcome", report.outcome));
+  return make("section", "card", make("h2", "", "Closing"), times, facts);
 }
 
 /** The top of the page. */
@@ -98,5 +114,5 @@ function headingOf(session, go) {
   const verdict = make("section", `verdict ${outcome}`, make("span", "symbol", SYMBOLS[outcome]),
     make("div", "", make("h1", "", titleOf(session)), ...sentences(session, go)));
   verdict.querySelector(".symbol").setAttribute("aria-hidden", "true");
-  return [verdict, make("div", "cards", sideCard(session, "client"), sideCard(session, "server"), closingCard(session))];
+  return [verdict, make("div", "cards", ...SIDES.map(side => sideCard(session, side)), closingCard(session))];
 }

@@ -3,6 +3,7 @@
 
 const BLOCK = 50; // The rows of a block.
 const AT_ONCE = 1000; // Up to so many rows are all drawn at once, so that a browser's own search finds them.
+const PRINTED = 5000; // Up to so many rows are all printed.
 const VIEW_CHARACTERS = 200; // The characters of a payload in a row.
 
 /** What a row's payload looks like: a text or digits. */
@@ -12,7 +13,10 @@ function viewParts(row) {
     const [text, cut] = front(row.text, VIEW_CHARACTERS);
     return [field("text", "text", ...visible(text)), ...more(cut)];
   }
-  if (row.hex !== undefined) return [field("hex", "hex", pairs(row.hex.slice(0, VIEW_CHARACTERS))), ...more(row.hex.length > VIEW_CHARACTERS)];
+  if (row.hex !== undefined) {
+    const shown = row.hex.slice(0, VIEW_CHARACTERS);
+    return [field("hex", "hex", pairs(shown)), ...more(shown !== row.hex)];
+  }
   if (row.reason === undefined || row.event !== "close") return [];
   return [field("reason", "text", ...visible(row.reason))];
 }
@@ -20,7 +24,7 @@ function viewParts(row) {
 /** The view of a row: its payload, or what is to be said of it. */
 function viewOf(session, row) {
   switch (row.type) {
-    case "refused": return [make("span", "", "byte ", field("place", "", String(row.place)), ": ", session.sentence(row.reason, row.place) || row.reason)];
+    case "refused": return refusedView(session, row);
     case "unfinished": return [...lacksWords(row), " ", ...viewParts(row)];
     case "fragment": return fragmentView(session, row);
     case "comment": return [];
@@ -28,10 +32,18 @@ function viewOf(session, row) {
   }
 }
 
+/** What the program explains of a refusal in its first sentence, which may name the offset. */
+function refusedView(session, row) {
+  const words = session.sentence(row.reason) || row.reason, place = field("place", "", String(row.place));
+  const [before, after] = words.split("OFFSET");
+  return after === undefined ? ["byte ", place, ": ", words] : [before, "offset ", place, after];
+}
+
 function lacksWords(row) {
-  if (row.lacks === null) return [make("span", "dim", row.event === "head" ? "only a part of it came" : "only a part of the next head came:")];
-  if (row.lacks === 0) return [make("span", "dim", "no final frame came (", field("lacks", "", "0"), " bytes missing):")];
-  return [make("span", "dim", field("lacks", "", number(row.lacks)), ` byte${row.lacks === 1 ? "" : "s"} missing:`)];
+  const dim = (...words) => [make("span", "dim", ...words)], lacks = field("lacks", "", number(row.lacks ?? 0));
+  if (row.lacks === null) return dim(`only a part of ${row.event === "head" ? "it came" : "the next head came:"}`);
+  if (row.lacks === 0) return dim("no final frame came (", lacks, " bytes missing):");
+  return dim(lacks, ` byte${row.lacks === 1 ? "" : "s"} missing:`);
 }
 
 /** The first bytes of a fragment, unmasked: as text if they are a text's. */
@@ -41,32 +53,36 @@ function fragmentView(session, row) {
   return [make("span", "hex dim", pairs(Array.from(bytes, digits).join("")), ...more)];
 }
 
-function sizeWords(bytes) {
-  return [field("bytes", "", number(bytes)), bytes === 1 ? " byte" : " bytes"];
+function bytesWords(name, bytes) {
+  return [field(name, "", number(bytes)), bytes === 1 ? " byte" : " bytes"];
 }
 
+/** How large an event is, and in how many frames it came. */
+function sizeWords(row) {
+  const frames = row.frames > 1 ? [" in ", field("frames", "", number(row.frames)), " frames"] : [];
+  return [...bytesWords("bytes", row.bytes), ...frames];
+}
+
+const LABELS = {
+  event: row => row.event === "close"
+    ? [field("event", "kind", "close"), " ", field("code", "", row.code ?? "no code"), ", ", ...sizeWords(row)]
+    : [field("event", "kind", row.event), " ", ...sizeWords(row)],
+  fragment: row => [field("opcode", "kind", row.opcode), ` fragment ${number(row.number)}`,
+    row.message.type === "event" ? ` of ${number(row.message.frames)}, ` : ", ", ...bytesWords("length", row.length)],
+  refused: row => [make("span", "kind", "refused"), " ", field("reason", "", row.reason), " ",
+    field("code", "", String(row.code))],
+  unfinished: row => [make("span", "kind", "unfinished"), " ", field("event", "", row.event),
+    ...(row.event === "head" ? [] : [", ", ...sizeWords(row)])],
+  unread: row => [make("span", "kind", "unread"), " ", ...bytesWords("bytes", row.bytes)],
+  tail: row => [make("span", "kind", "tail"), " ", ...bytesWords("bytes", row.bytes), " after the Close"],
+  end: row => [`the ${row.side}'s direction ended`],
+  silence: row => [`${row.seconds.toFixed(1)} s of silence`],
+  comment: row => [field("text", "text", ...visible(row.text))],
+};
+
 /** What an arrow bears. */
-function labelOf(session, row) {
-  switch (row.type) {
-    case "event": {
-      const frames = row.frames > 1 ? [" in ", field("frames", "", number(row.frames)), " frames"] : [];
-      if (row.event === "close") return [field("event", "kind", "close"), " ", field("code", "code", row.code ?? "no code"), ", ", ...sizeWords(row.bytes)];
-      return [field("event", "kind", row.event), " ", ...sizeWords(row.bytes), ...frames];
-    }
-    case "fragment": {
-      const of = row.message.type === "event" ? ` of ${number(row.message.frames)}` : "";
-      return [field("opcode", "kind", row.opcode), ` fragment ${number(row.number)}${of}, `, field("length", "", number(row.length)), row.length === 1 ? " byte" : " bytes"];
-    }
-    case "refused": return [make("span", "kind", "refused"), " ", field("reason", "", row.reason), " ", field("code", "code", String(row.code))];
-    case "unfinished": {
-      const frames = row.frames > 1 ? [" in ", field("frames", "", number(row.frames)), " frames"] : [];
-      return [make("span", "kind", "unfinished"), " ", field("event", "", row.event), ...(row.event === "head" ? [] : [", ", ...sizeWords(row.bytes), ...frames])];
-    }
-    case "unread": case "tail": return [make("span", "kind", row.type), " ", ...sizeWords(row.bytes), row.type === "tail" ? " after the Close" : ""];
-    case "end": return [`the ${row.side}'s direction ended`];
-    case "silence": return [`${row.seconds.toFixed(1)} s of silence`];
-    default: return [field("text", "text", ...visible(row.text))];
-  }
+function labelOf(row) {
+  return LABELS[row.type](row);
 }
 
 /** The lane of a row: lifelines, bars of open messages, the arrow and what it bears. */
@@ -79,13 +95,14 @@ function laneOf(session, row) {
   }
   if (row.type === "end") lane.append(make("span", "stop"));
   const way = row.side ? spoken(row.type === "end" ? "" : `${row.side} to ${other(row.side)}: `) : "";
-  lane.append(make("span", "label", way, ...labelOf(session, row)));
+  lane.append(make("span", "label", way, ...labelOf(row)));
   return lane;
 }
 
 /** A row's element. */
 function rowElement(session, row) {
-  const kind = row.event ?? row.message?.event, element = make("div", ["row", row.type, kind && `kind-${kind}`, row.side].filter(Boolean).join(" "));
+  const kind = row.event ?? row.message?.event;
+  const element = make("div", ["row", row.type, kind && `kind-${kind}`, row.side].filter(Boolean).join(" "));
   const cells = [
     make("div", "line", row.line === undefined ? "" : field("line", "", String(row.line))),
     make("div", "time", row.time ? field("time", "", row.time) : ""),
@@ -103,7 +120,7 @@ function rowElement(session, row) {
 }
 
 class Ladder {
-  constructor(session, rows, root) {
+  constructor(session, rows, root, signal) {
     Object.assign(this, { session, rows, root, shown: [], blocks: [], current: null });
     this.observer = new IntersectionObserver(seen => {
       for (const each of seen) if (each.isIntersecting) this.draw(each.target);
@@ -111,7 +128,7 @@ class Ladder {
     root.addEventListener("click", event => this.clicked(event));
     root.addEventListener("keydown", event => this.typed(event));
     root.addEventListener("focusin", event => { if (event.target.row) this.choose(event.target.row); });
-    addEventListener("beforeprint", () => { if (this.shown.length <= 5 * AT_ONCE) this.blocks.forEach(block => this.draw(block)); });
+    addEventListener("beforeprint", () => { if (this.shown.length <= PRINTED) this.drawAll(); }, { signal });
   }
 
   /** Shows these rows, in blocks. */
@@ -129,9 +146,15 @@ class Ladder {
     }
     this.root.replaceChildren(...this.blocks);
     this.root.setAttribute("aria-rowcount", String(rows.length));
-    this.blocks.forEach((block, at) => { if (rows.length <= AT_ONCE || at < 2) this.draw(block); else this.observer.observe(block); });
+    if (rows.length <= AT_ONCE) this.drawAll();
+    this.blocks.slice(0, 2).forEach(block => this.draw(block));
+    this.blocks.slice(2).forEach(block => this.observer.observe(block));
     if (rows.length && !rows.includes(this.current)) this.choose(rows.find(row => row.type !== "silence") ?? rows[0]);
     else if (this.current) this.choose(this.current);
+  }
+
+  drawAll() {
+    this.blocks.forEach(block => this.draw(block));
   }
 
   /** Draws a block's rows, unless they are. */
@@ -172,6 +195,7 @@ class Ladder {
       const cell = make("div", "details", ...DETAILS[row.type](this.session, row));
       cell.setAttribute("role", "gridcell");
       row.more = make("div", `more ${row.type} ${row.side}`, cell);
+      row.more.of = row;
       row.more.setAttribute("role", "row");
       row.more.setAttribute("aria-level", "2");
       row.element.after(row.more);
@@ -201,7 +225,8 @@ class Ladder {
   }
 
   typed(event) {
-    const row = event.target.row;
+    const row = event.target.row, inside = event.target.closest(".more");
+    if (inside && event.key === "Escape") { this.go(inside.of); this.toggle(inside.of, false); }
     if (!row || event.ctrlKey || event.metaKey || event.altKey) return;
     const steps = { ArrowDown: 1, j: 1, ArrowUp: -1, k: -1, PageDown: 15, PageUp: -15, Home: -Infinity, End: Infinity };
     if (event.key in steps) this.go(this.further(steps[event.key]));

@@ -1,9 +1,13 @@
 // The page: puts heading, tools and ladder together, filters, searches, saves.
 
-const KINDS = [["text", "text"], ["binary", "binary"], ["ping", "pings"], ["pong", "pongs"], ["close", "Closes"], ["fragment", "fragments"],
-  ["problem", "problems"], ["note", "ends, comments"]];
-const KEYS = [["↓ ↑ or j k", "next, previous row"], ["Enter", "a row's bytes"], ["n p", "next, previous problem"], ["/", "search"],
-  ["Esc", "close a row, or the search"], ["Home End", "first, last row"]];
+const KINDS = {
+  text: "text", binary: "binary", ping: "pings", pong: "pongs", close: "Closes", fragment: "fragments",
+  problem: "problems", note: "ends, comments",
+};
+const KEYS = {
+  "↓ ↑ or j k": "next, previous row", "Enter": "a row's bytes", "n p": "next, previous problem", "/": "search",
+  "Esc": "close a row, or the search", "Home End": "first, last row",
+};
 
 /** Keeps a row's name in the page's address, for a link to it. */
 function remember(row) {
@@ -44,15 +48,18 @@ function switchTheme() {
 
 /** What a search looks in: a row's words, its payload's front, its digits without and with blanks. */
 function wordsOf(session, row) {
+  if (row.words !== undefined) return row.words;
   const view = row.type === "fragment" ? fragmentView(session, row)[0].textContent : "";
-  const label = labelOf(session, row).map(part => part.textContent ?? part).join("");
-  return row.words ??= [label, row.text, row.reason, row.hex, pairs(row.hex ?? ""), view].filter(Boolean).join("\n").toLowerCase();
+  const label = labelOf(row).map(part => part.textContent ?? part).join("");
+  const words = [label, row.text, row.reason, row.hex, pairs(row.hex ?? ""), view];
+  row.words = words.filter(Boolean).join("\n").toLowerCase();
+  return row.words;
 }
 
 /** The switches and the search, which choose the rows that are shown. */
 class Filter {
   constructor(session, rows, ladder) {
-    Object.assign(this, { session, rows, ladder, off: new Set(), wanted: "" });
+    Object.assign(this, { session, rows, ladder, off: new Set(), switches: [], wanted: "" });
     this.status = make("span", "dim");
     this.status.setAttribute("role", "status");
     this.search = make("input", "search");
@@ -60,13 +67,15 @@ class Filter {
     this.search.placeholder = "Search  ( / )";
     this.search.setAttribute("aria-label", "Search in payloads, kinds and digits");
     let waiting;
-    this.search.addEventListener("input", () => { clearTimeout(waiting); waiting = setTimeout(() => this.apply(), 120); });
+    const soon = () => { clearTimeout(waiting); waiting = setTimeout(() => this.apply(), 120); };
+    this.search.addEventListener("input", soon);
     this.search.addEventListener("keydown", event => {
       if (event.key === "Enter") { clearTimeout(waiting); this.apply(); this.ladder.go(this.ladder.current); }
       if (event.key === "Escape") { this.search.value = ""; this.apply(); }
     });
     this.kinds = new Map();
-    for (const row of rows) if (row.type !== "silence") this.kinds.set(kindOf(row), (this.kinds.get(kindOf(row)) ?? 0) + 1);
+    for (const kind of rows.filter(row => row.type !== "silence").map(kindOf))
+      this.kinds.set(kind, (this.kinds.get(kind) ?? 0) + 1);
   }
 
   /** A switch that hides what it names. */
@@ -77,13 +86,25 @@ class Filter {
       this.apply();
     }, `switch ${className}`);
     made.setAttribute("aria-pressed", "true");
+    if (SIDES.includes(name)) made.setAttribute("aria-label", name);
+    this.switches.push(made);
     return made;
   }
 
+  /** Shows all rows. */
+  clear() {
+    this.search.value = "";
+    this.off.clear();
+    for (const each of this.switches) each.setAttribute("aria-pressed", "true");
+    this.apply();
+  }
+
   controls() {
-    const sides = make("div", "switches", this.toggle("client", "▶ client", "client"), this.toggle("server", "◀ server", "server"));
-    const kinds = make("div", "switches", ...KINDS.filter(([kind]) => this.kinds.has(kind))
-      .map(([kind, name]) => this.toggle(kind, `${name} ${number(this.kinds.get(kind))}`, kind === "problem" ? "problem" : "")));
+    const named = { client: "▶ client", server: "◀ server" };
+    const sides = make("div", "switches", ...SIDES.map(side => this.toggle(side, named[side], side)));
+    const there = Object.entries(KINDS).filter(([kind]) => this.kinds.has(kind));
+    const kinds = make("div", "switches", ...there.map(([kind, name]) =>
+      this.toggle(kind, `${name} ${number(this.kinds.get(kind))}`, kind === "problem" ? "problem" : "")));
     sides.setAttribute("role", "group");
     sides.setAttribute("aria-label", "Sides that are shown");
     kinds.setAttribute("role", "group");
@@ -99,8 +120,8 @@ class Filter {
 
   apply() {
     this.wanted = this.search.value.trim().toLowerCase();
-    const shown = this.rows.filter(row => this.keeps(row)), named = rows => rows.filter(row => row.type !== "silence").length;
-    const all = named(this.rows), some = named(shown);
+    const shown = this.rows.filter(row => this.keeps(row)), counted = rows => rows.filter(row => row.name).length;
+    const all = counted(this.rows), some = counted(shown);
     this.status.textContent = some === all ? count(all, "row") : `${number(some)} of ${count(all, "row")}`;
     this.ladder.show(shown);
   }
@@ -108,7 +129,8 @@ class Filter {
 
 /** The line of the page's name and its buttons. */
 function barOf(session) {
-  const bar = make("header", "bar", make("span", "brand", "wsn"), make("span", "name", session.name), make("span", "gap"),
+  const names = [make("span", "brand", "wsn"), make("span", "name", session.name), make("span", "gap")];
+  const bar = make("header", "bar", ...names,
     button("Save page", () => offer(fileName(session, ".html"), [pageSource()], "text/html")),
     button("Save capture", () => offer(fileName(session, ".capture"), [bytesOf(session.capture)], "text/plain")),
     button("Light / dark", switchTheme));
@@ -118,59 +140,82 @@ function barOf(session) {
 
 /** How to read the ladder. */
 function helpOf() {
-  const keys = make("dl", "keys", ...KEYS.map(([key, does]) => make("div", "", make("dt", "", key), make("dd", "", does))));
-  const marks = make("p", "", "Each arrow is a frame, in the order of the capture's lines. A solid arrow ends a message or is a control frame; ",
-    "a dashed one is a fragment, and a bar at its sender's line joins the fragments of one message. ✕ marks where bytes are refused. ",
-    "An offset counts the bytes that one side sent, from 0.");
+  const entry = ([key, does]) => make("div", "", make("dt", "", key), make("dd", "", does));
+  const keys = make("dl", "keys", ...Object.entries(KEYS).map(entry));
+  const marks = make("p", "", "Each arrow is a frame, in the order of the capture's lines. A solid arrow ends a ",
+    "message or is a control frame; a dashed one is a fragment, and a bar at its sender's line joins the fragments of ",
+    "one message. ✕ marks where bytes are refused. An offset counts the bytes that one side sent, from 0.");
   return make("details", "help", make("summary", "", "How to read this"), marks, keys);
 }
 
 /** The names above the ladder's columns. */
 function titlesOf() {
   const lane = make("div", "lane titles", make("b", "client", "Client"), make("b", "server", "Server"));
-  const titles = make("div", "row titles", make("div", "line", "line"), make("div", "time", "seconds"), make("div", "offset", "offset"),
-    lane, make("div", "view", "payload"));
+  const before = [make("div", "line", "line"), make("div", "time", "seconds"), make("div", "offset", "offset")];
+  const titles = make("div", "row titles", ...before, lane, make("div", "view", "payload"));
   titles.setAttribute("role", "row");
   for (const cell of titles.children) cell.setAttribute("role", "columnheader");
   return titles;
 }
 
 /** Keys that work anywhere on the page. */
-function globalKeys(filter, ladder) {
+function globalKeys(filter, ladder, signal) {
+  const toProblem = by => ladder.go(ladder.further(by, row => kindOf(row) === "problem"));
   addEventListener("keydown", event => {
-    if (event.ctrlKey || event.metaKey || event.altKey || event.target.matches("input, textarea")) return;
-    if (event.key === "/") { filter.search.focus(); filter.search.select(); }
-    else if (event.key === "n" || event.key === "p") ladder.go(ladder.further(event.key === "n" ? 1 : -1, row => kindOf(row) === "problem"));
-    else if ((event.key === "j" || event.key === "ArrowDown") && event.target === document.body) ladder.go(ladder.current);
+    const { key, target } = event;
+    if (event.ctrlKey || event.metaKey || event.altKey || target.matches?.("input")) return;
+    if (key === "/") { filter.search.focus(); filter.search.select(); }
+    else if (key === "n" || key === "p") toProblem(key === "n" ? 1 : -1);
+    else if ((key === "j" || key === "ArrowDown") && target === document.body) ladder.go(ladder.current);
     else return;
     event.preventDefault();
-  });
+  }, { signal });
+}
+
+let laidOut = null; // Ends what listens for the session that is laid out.
+
+function footerOf(session) {
+  const made = `Made by ${session.version}: all that this page says is what its \`wsn show --json\` says.`;
+  return make("footer", "", `${made} The page holds the capture, and fetches nothing.`);
+}
+
+/** The ladder with the names of its columns. */
+function gridOf(session, rows) {
+  const timed = session.entries.some(entry => entry.time), grid = make("div", timed ? "ladder" : "ladder timeless");
+  grid.append(titlesOf(), rows);
+  grid.setAttribute("role", "treegrid");
+  grid.setAttribute("aria-label", "What both sides said, in order");
+  return grid;
 }
 
 /** Lays a session out. A page with an engine inside calls this with what the engine says of another capture. */
 function layOut(parts) {
-  const session = new Session(parts), rows = rowsOf(session), page = document.getElementById("page");
-  const root = make("div", "rows"), ladder = new Ladder(session, rows, root), filter = new Filter(session, rows, ladder);
-  const grid = make("div", session.entries.some(entry => entry.time) ? "ladder" : "ladder timeless", titlesOf(), root);
-  grid.setAttribute("role", "treegrid");
-  grid.setAttribute("aria-label", "What both sides said, in order");
-  const visit = row => { if (ladder.go(row)) ladder.toggle(row, true); };
+  laidOut?.abort();
+  laidOut = new AbortController();
+  const { signal } = laidOut, session = new Session(parts), rows = rowsOf(session), root = make("div", "rows");
+  const ladder = new Ladder(session, rows, root, signal), filter = new Filter(session, rows, ladder);
+  const tools = make("div", "tools", ...filter.controls()), grid = gridOf(session, root);
+  const visit = row => {
+    if (!ladder.go(row)) { filter.clear(); ladder.go(row); }
+    ladder.toggle(row, true);
+  };
   const refusal = side => rows.find(row => row.type === "refused" && (!side || row.side === side));
-  const tools = make("div", "tools", ...filter.controls());
+  const named = () => rows.find(row => row.name && `#${row.name}` === location.hash);
+  const heading = headingOf(session, side => visit(refusal(side)));
+  document.getElementById("page").replaceChildren(
+    barOf(session), make("main", "", ...heading, helpOf(), tools, grid), footerOf(session));
   new ResizeObserver(() => grid.style.setProperty("--tools", `${tools.offsetHeight}px`)).observe(tools);
-  page.replaceChildren(barOf(session), make("main", "", ...headingOf(session, side => visit(refusal(side))), helpOf(), tools, grid),
-    make("footer", "", `Made by ${session.version}, whose \`wsn show --json\` says all that this page says. It holds the capture, and fetches nothing.`));
   filter.apply();
-  globalKeys(filter, ladder);
-  const named = () => rows.find(row => row.name && `#${row.name}` === decodeURIComponent(location.hash));
-  addEventListener("hashchange", () => visit(named()));
+  globalKeys(filter, ladder, signal);
+  addEventListener("hashchange", () => { if (named()) visit(named()); }, { signal });
   if (named()) visit(named()); else if (refusal()) ladder.toggle(refusal(), true);
 }
 
 /** What the page holds of a session: the capture's text, a character for each byte, and what the program said of it. */
 function held() {
   const text = id => document.getElementById(id).textContent;
-  return { ...JSON.parse(text("session")), capture: JSON.parse(text("capture")), shown: text("shown"), wire: text("wire") };
+  const capture = JSON.parse(text("capture"));
+  return { ...JSON.parse(text("session")), capture, shown: text("shown"), wire: text("wire") };
 }
 
 layOut(held());

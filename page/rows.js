@@ -2,6 +2,7 @@
 // frame, and one where nothing was sent for a while.
 
 const SILENCE = 1; // Seconds without a line that get a row.
+const MESSAGES = new Set(["text", "binary"]);
 const PROBLEMS = new Set(["refused", "unfinished", "unread", "tail"]);
 
 /** A row's kind, by which it is filtered. */
@@ -18,7 +19,7 @@ function nameOf(row) {
   return row.type === "fragment" ? `${place[0]}${row.message.offset}.${row.number}` : `${place}-${row.type}`;
 }
 
-/** The frames of an entry that get a row of their own. The last one is the entry's row, unless it only lacks the next. */
+/** The frames of an entry that get a row of their own. The entry's row is the last one's, unless that is whole. */
 function fragmentsOf(session, entry) {
   const frames = session.framesOf(entry);
   if (entry.type === "unfinished" && entry.lacks === null) return entry.event === "head" ? [] : frames;
@@ -55,6 +56,11 @@ function merged(session) {
   return rows.concat(parts.slice(next));
 }
 
+/** Puts the part of a bar that a row has on its own side in place of one that goes through. */
+function setBar(row, part) {
+  row.bars = [...row.bars.filter(([side]) => side !== row.side), [row.side, part]];
+}
+
 /** Marks in each row which sides' messages are open, and which sides have ended. */
 function markLanes(rows) {
   const open = {}, ended = {};
@@ -62,10 +68,10 @@ function markLanes(rows) {
     row.ended = SIDES.filter(side => ended[side]);
     row.bars = Object.entries(open).map(([side]) => [side, "through"]);
     if (row.type === "fragment") {
-      row.bars = row.bars.filter(([side]) => side !== row.side).concat([[row.side, open[row.side] ? "middle" : "first"]]);
+      setBar(row, open[row.side] ? "middle" : "first");
       open[row.side] = true;
-    } else if ((row.type === "event" || row.type === "unfinished") && open[row.side] && ["text", "binary"].includes(row.event)) {
-      row.bars = row.bars.filter(([side]) => side !== row.side).concat([[row.side, "last"]]);
+    } else if (open[row.side] && (row.type === "event" || row.type === "unfinished") && MESSAGES.has(row.event)) {
+      setBar(row, "last");
       delete open[row.side];
     }
     if (row.type === "end") ended[row.side] = true;

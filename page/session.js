@@ -123,10 +123,10 @@ class Session {
     return bytes;
   }
 
-  /** The first sentence of what `wsn explain` says of a word, without the word; of an offset, if one is given. */
-  sentence(word, offset) {
+  /** The first sentence of what `wsn explain` says of a word, without the word. */
+  sentence(word) {
     const text = (this.explained[word] ?? "").split(/\.(?=\s+[A-Z0-9])/)[0].replace(/\n/g, " ");
-    return text.slice(text.indexOf(":") + 1).trim().replace("OFFSET", `offset ${offset}`);
+    return text.slice(text.indexOf(":") + 1).trim();
   }
 
   /** A close code's name. */

@@ -81,8 +81,21 @@ function isPlain(bytes) {
   return bytes.every(byte => byte >= 0x20 && byte <= 0x7e);
 }
 
-function decoded(bytes) {
-  return new TextDecoder().decode(bytes);
+/** Bytes as text. A character that the end cuts is left out if more of it is to come. */
+function decoded(bytes, goesOn = false) {
+  return new TextDecoder("utf-8", { ignoreBOM: true }).decode(bytes, { stream: goesOn });
+}
+
+/** A JSON text in lines, its strings and numbers as they are. */
+function indented(text) {
+  let out = "", depth = 0;
+  const line = () => "\n" + "  ".repeat(depth);
+  for (const [token] of text.matchAll(/"(?:[^"\\]|\\.)*"|[{[]\s*[}\]]|[{}[\],:]|[^\s{}[\],:"]+/g)) {
+    if (token === "{" || token === "[") { depth++; out += token + line(); }
+    else if (token === "}" || token === "]") { depth--; out += line() + token; }
+    else out += token === "," ? token + line() : token === ":" ? ": " : token;
+  }
+  return out;
 }
 
 /** A close code and its name. */

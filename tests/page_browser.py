@@ -84,7 +84,14 @@ def tree(text):
 def dumped(path):
     """The document of a page whose script has run."""
     with tempfile.TemporaryDirectory(ignore_cleanup_errors=True) as profile:
-        words = [chromium(), *WORDS, f"--user-data-dir={profile}", "--virtual-time-budget=4000", "--dump-dom", path.as_uri()]
+        words = [
+            chromium(),
+            *WORDS,
+            f"--user-data-dir={profile}",
+            "--virtual-time-budget=4000",
+            "--dump-dom",
+            path.as_uri(),
+        ]
         done = subprocess.run(words, capture_output=True, check=False, timeout=WAIT)
     return tree(done.stdout.decode())
 
@@ -100,7 +107,14 @@ class Browser:
         self.profile = tempfile.TemporaryDirectory(ignore_cleanup_errors=True)
         ours, theirs = os.pipe(), os.pipe()  # What it reads, and what it writes.
         high = [fcntl.fcntl(end, fcntl.F_DUPFD, 20) for end in (ours[0], theirs[1])]
-        words = [chromium(), *WORDS, *self.options, "--remote-debugging-pipe", f"--user-data-dir={self.profile.name}", "about:blank"]
+        words = [
+            chromium(),
+            *WORDS,
+            *self.options,
+            "--remote-debugging-pipe",
+            f"--user-data-dir={self.profile.name}",
+            "about:blank",
+        ]
 
         def pipes():
             os.dup2(high[0], 3)

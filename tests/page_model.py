@@ -1,6 +1,6 @@
 """What a page should show of a capture, worked out from the program's JSON and the capture's bytes alone; and captures.
 
-rows(shown, wire) gives the rows in order: pairs of a class and the fields that are shown. capture(seed) makes a capture.
+fields(entry) and fragment(frame) give the fields of a row, facts(report) the seven facts, capture(seed) a capture.
 """
 
 import json
@@ -57,7 +57,9 @@ def fields(entry):
     if entry["type"] == "comment":
         return {"line": str(entry["line"]), "text": visible(entry["text"])}
     found = {key: str(entry[key]) for key in ("line", "time", "offset") if entry.get(key) is not None}
-    found |= {key: f"{entry[key]:,}" if key == "lacks" else str(entry[key]) for key in NAMED if entry.get(key) is not None}
+    found |= {
+        key: f"{entry[key]:,}" if key == "lacks" else str(entry[key]) for key in NAMED if entry.get(key) is not None
+    }
     if "code" in entry:
         found["code"] = "no code" if entry["code"] is None else str(entry["code"])
     if "bytes" in entry and entry.get("event") != "head":
@@ -104,7 +106,9 @@ def facts(report):
     def state(side):
         if side["state"] == "closed":
             return f"closed {side['code'] or '-'}"
-        return f"refused {side['offset']} {side['reason']} {side['code']}" if side["state"] == "refused" else side["state"]
+        return (
+            f"refused {side['offset']} {side['reason']} {side['code']}" if side["state"] == "refused" else side["state"]
+        )
 
     echo = {True: "yes", False: "no", None: "-"}[report["echo"]]
     plain = {key: str(report[key] or "-") for key in ("first", "client_sees", "server_sees", "outcome")}
@@ -122,10 +126,20 @@ def sent(capture):
 
 # Captures
 
-TEXTS = ["Hello", "", "€ 😀", '{"a":[1,{"b":"<i>"}]}', "</script><script>document.title='owned'</script>", "<!-- <script>",
-         "line\nfeed\ttab\r", "\x1b[31m \u202e abc \u2066 \u2028", "x" * 199 + "😀😀", "שלום עולם", '"quoted" \\ back', "y" * 5000]  # fmt: skip
+TEXTS = ["Hello", "", "€ 😀", '{"a":[1,{"b":"<i>"}]}', "</script><script>document.title='owned'</script>",
+         "<!-- <script>", "line\nfeed\ttab\r", "\x1b[31m \u202e abc \u2066 \u2028", "x" * 199 + "😀😀",
+         "שלום עולם", '"quoted" \\ back', "y" * 5000, "\ufeffmark"]  # fmt: skip
 COMMENTS = [" a comment", "", " </script><b>x</b>", " \u202e turned", " 1.", " reset by the server"]
-FAULTS = [b"\xc1", b"\x83\x00", b"\x09\x00", b"\x80\x00", b"\x81\x05Gr\xfc\xdfe", b"\x88\x01", b"\x88\x02\x03\xec", b"\x82\xff"]
+FAULTS = [
+    b"\xc1",
+    b"\x83\x00",
+    b"\x09\x00",
+    b"\x80\x00",
+    b"\x81\x05Gr\xfc\xdfe",
+    b"\x88\x01",
+    b"\x88\x02\x03\xec",
+    b"\x82\xff",
+]
 
 
 class Maker:
@@ -152,7 +166,11 @@ class Maker:
     def message(self):
         """A message, in some frames, with controls between."""
         kind = self.chance.choice([1, 1, 2])
-        data = self.chance.choice(TEXTS).encode() if kind == 1 else self.chance.randbytes(self.chance.choice([0, 1, 7, 300, 70000]))
+        data = (
+            self.chance.choice(TEXTS).encode()
+            if kind == 1
+            else self.chance.randbytes(self.chance.choice([0, 1, 7, 300, 70000]))
+        )
         cuts = sorted(self.chance.randint(0, len(data)) for _ in range(self.chance.choice([0, 0, 1, 3])))
         out = b""
         for at, (begin, end) in enumerate(zip([0, *cuts], [*cuts, len(data)])):
@@ -162,7 +180,9 @@ class Maker:
 
     def stream(self):
         """What it sends: whole, refused, cut, or closed and going on."""
-        out = b"".join(self.message() if self.chance.random() < 0.7 else self.control() for _ in range(self.chance.randint(0, 8)))
+        out = b"".join(
+            self.message() if self.chance.random() < 0.7 else self.control() for _ in range(self.chance.randint(0, 8))
+        )
         end = self.chance.choice(["closed", "closed", "closed", "tail", "refused", "cut", "open", "interrupted"])
         if end == "refused":
             return out + self.chance.choice(FAULTS) + self.chance.randbytes(self.chance.choice([0, 5, 3000]))

@@ -9,7 +9,8 @@ import time
 from harness import SECONDS, TOP, WSN, Failed, needs, run, same, test, want
 
 FILES = ["bin/wsn", "share/bash-completion/completions/wsn", "share/man/man1/wsn.1", "share/zsh/site-functions/_wsn"]
-COMMANDS = {"wsn-check": "check", "wsn-inflate": "inflate", "wsn-pcap": "pcap2wsn", "wsn-record": "record"}
+COMMANDS = {"wsn-check": "recipes/check", "wsn-inflate": "recipes/inflate", "wsn-page": "page/build",
+            "wsn-pcap": "recipes/pcap2wsn", "wsn-record": "recipes/record"}  # fmt: skip
 
 
 def environment():
@@ -34,19 +35,22 @@ def files_in(folder):
 def install_copies_and_removes(folder):
     """Into a folder with a blank in its name, by a relative name too; again; and away, beside other files."""
     prefix = folder / "a prefix"
-    modules = sorted(path.name for path in (TOP / "recipes").glob("*.py"))
+    kinds = "recipes/*.py", "page/*.css", "page/*.html", "page/*.js"
+    parts = [str(path.relative_to(TOP)) for kind in kinds for path in TOP.glob(kind)]
     wanted = [*FILES, *(f"bin/{name}" for name in COMMANDS), "lib/wsn/made",
-              *(f"lib/wsn/{name}" for name in [*modules, *COMMANDS.values()])]  # fmt: skip
+              *(f"lib/wsn/{name.removeprefix('recipes/')}" for name in [*parts, *COMMANDS.values()])]  # fmt: skip
     for words in [prefix], ["a prefix/"]:
         run(TOP / "install", *words, cwd=folder, env=environment())
         found = [name for name in files_in(prefix) if (prefix / name).is_file()]
         same(found, sorted(wanted), "the files")
     same(run(prefix / "bin/wsn", "judge", "--role", "server", input=b"")[0][:8], b"accepted", "the program")
     for name, file in COMMANDS.items():
-        same(run(prefix / "bin" / name, "-h"), run(TOP / "recipes" / file, "-h"), name)
+        same(run(prefix / "bin" / name, "-h"), run(TOP / file, "-h"), name)
     kept = TOP / "tests/samples/basic.capture"
     out, _ = run("env", "-u", "WSN", prefix / "bin/wsn-check", kept, kept)
     same(out.splitlines()[0], b"basic.capture: equal", "the installed program, out of PATH")
+    page, _ = run("env", "-u", "WSN", prefix / "bin/wsn-page", kept)
+    same(page, run(TOP / "page/build", kept, env=environment())[0], "the installed page")
     (prefix / "bin/other").write_text("")
     run(TOP / "install", "--remove", "a prefix", cwd=folder)
     same(files_in(prefix), ["bin", "bin/other"], "what is left")

@@ -23,7 +23,7 @@ NEEDS = {"tls.pcap": "tshark", "tshark": "tshark", "text2pcap": "text2pcap", "so
          "mitmdump": "mitmdump", "xxd": "xxd"}  # fmt: skip
 
 # The names of what a command writes.
-WRITES = r"(?:> |-R |^recipes/record .* )([\w.]+)"
+WRITES = r"(?:> |--out |-R |^recipes/record .* )([\w.]+)"
 
 
 def parts_of(page):
@@ -54,7 +54,7 @@ class Page:
         self.skipped = {}
         self.missing = ""  # What the section's commands lack, once one was skipped.
         self.lost = set()  # Names of what skipped commands would have written.
-        for name in "recipes", "tests":
+        for name in "page", "recipes", "tests":
             (folder / name).symlink_to(TOP / name)
         (folder / "wsn").symlink_to(WSN)
 
