@@ -46,11 +46,15 @@ function lacksWords(row) {
   return dim(lacks, ` byte${row.lacks === 1 ? "" : "s"} missing:`);
 }
 
-/** The first bytes of a fragment, unmasked: as text if they are a text's. */
+/** The first bytes of a fragment, unmasked: as text if they are a text's, else in digits. */
+function fragmentWords(session, row) {
+  const bytes = session.payload(row.frame, VIEW_CHARACTERS);
+  return row.message.event === "text" ? decoded(bytes) : pairs(Array.from(bytes, digits).join(""));
+}
+
 function fragmentView(session, row) {
-  const bytes = session.payload(row.frame, VIEW_CHARACTERS), more = row.length > VIEW_CHARACTERS ? [" .."] : [];
-  if (row.message.event === "text") return [make("span", "text dim", ...visible(decoded(bytes)), ...more)];
-  return [make("span", "hex dim", pairs(Array.from(bytes, digits).join("")), ...more)];
+  const kind = row.message.event === "text" ? "text" : "hex", more = row.length > VIEW_CHARACTERS ? " .." : "";
+  return [make("span", `${kind} dim`, ...visible(fragmentWords(session, row)), more)];
 }
 
 function bytesWords(name, bytes) {

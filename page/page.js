@@ -49,9 +49,9 @@ function switchTheme() {
 /** What a search looks in: a row's words, its payload's front, its digits without and with blanks. */
 function wordsOf(session, row) {
   if (row.words !== undefined) return row.words;
-  const view = row.type === "fragment" ? fragmentView(session, row)[0].textContent : "";
-  const label = labelOf(row).map(part => part.textContent ?? part).join("");
-  const words = [label, row.text, row.reason, row.hex, pairs(row.hex ?? ""), view];
+  const { type, event, opcode, code, reason, hex } = row;
+  const text = type === "fragment" ? fragmentWords(session, row) : row.text;
+  const words = [type, event, opcode, code, reason, text, hex, hex && pairs(hex)];
   row.words = words.filter(Boolean).join("\n").toLowerCase();
   return row.words;
 }

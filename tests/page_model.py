@@ -115,6 +115,25 @@ def facts(report):
     return {"client": state(report["client"]), "server": state(report["server"]), "echo": echo, **plain}
 
 
+def outcome(report):
+    """Words that the page's sentences have for an outcome, beside its explanations."""
+    kind, words, sides = report["outcome"], [], {side: report[side] for side in ("client", "server")}
+    for side, other in ("client", "server"), ("server", "client"):
+        state = sides[side]
+        if state["state"] == "refused":
+            words.append(f"The {other} must refuse byte {state['offset']} of what the {side} sent: {state['reason']}")
+            words.append(f"It should close with code {state['code']}")
+        if kind == "abnormal" and state["state"] in ("ended", "cut"):
+            words.append(f"he {side}'s direction ended")
+        if kind == "abnormal" and state["state"] == "closed":
+            words.append(f"The {side} sent a Close")
+    if kind in ("clean", "complete", "half"):
+        code = sides[report["first"]]["code"]
+        words.append(f"The {report['first']} " + ("sent a Close" if kind == "half" else "closed first,"))
+        words.append("without a code" if code is None else f"with code {code}")
+    return words or ["Nothing is wrong so far"]
+
+
 def sent(capture):
     """The bytes of each side of a capture."""
     found = {"client": bytearray(), "server": bytearray()}
@@ -145,14 +164,14 @@ FAULTS = [
 class Maker:
     """Makes what one side sends, by chance."""
 
-    def __init__(self, chance, client):
-        self.chance, self.client = chance, client
+    def __init__(self, chance, client, longer):
+        self.chance, self.client, self.longer = chance, client, longer
 
     def frame(self, first, payload):
-        """A frame, with a key if a client sends it, sometimes with a longer length than it needs."""
+        """A frame, with a key if a client sends it; with `longer`, some lengths have more bytes than needed."""
         size, mask = len(payload), 0x80 if self.client else 0
         least = 0 if size < 126 else 2 if size < 65536 else 8
-        more = self.chance.choice([least, least, least, max(least, 2), 8])
+        more = self.chance.choice([least, least, max(least, 2), 8]) if self.longer and not first & 8 else least
         head = bytes([first, mask | {0: size, 2: 126, 8: 127}[more]]) + (size.to_bytes(more, "big") if more else b"")
         if not self.client:
             return head + payload
@@ -195,9 +214,9 @@ class Maker:
 
 
 def capture(seed):
-    """A capture of both sides, torn into lines, with times, comments, and ends or none."""
+    """A capture of both sides, torn into lines, with times, comments, ends or none."""
     chance = random.Random(seed)
-    left = {"C": Maker(chance, True).stream(), "S": Maker(chance, False).stream()}
+    left = {"C": Maker(chance, True, seed % 2).stream(), "S": Maker(chance, False, seed % 2).stream()}
     lines, time, end = [], 0.0, chance.choice(["\n", "\r\n"])
     timed = chance.random() < 0.7
     while any(left.values()):
