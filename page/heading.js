@@ -36,6 +36,7 @@ function brokenSentence(session) {
   const { report } = session, closers = SIDES.filter(side => report[side].state === "closed");
   const parts = SIDES.filter(side => words[report[side].state])
     .map(side => `the ${side}'s direction ${words[report[side].state]}`);
+  if (report.client.state === report.server.state) parts.splice(0, 2, `both directions ${words[report.client.state]}`);
   const closed = closers.map(side => ` The ${side} sent a Close ${withCode(session, report[side])}.`);
   return `${capital(parts.join(", and "))}, without a Close.${closed.join("")}`;
 }
@@ -48,8 +49,8 @@ function halfSentence(session) {
 /** The outcome in a few words. */
 function titleOf({ report }) {
   const refused = SIDES.filter(side => report[side].state === "refused");
-  const who = refused.length > 1 ? "Both sides" : `The ${refused[0]}`;
-  return TITLES[report.outcome] ?? `${who} broke the protocol`;
+  if (refused.length > 1) return "Both sides are refused";
+  return TITLES[report.outcome] ?? `The ${refused[0]} broke the protocol`;
 }
 
 /** The outcome in sentences. */
@@ -70,11 +71,13 @@ function stateWords(state) {
   return state.state === "refused" ? `refused ${state.offset} ${state.reason} ${state.code}` : state.state;
 }
 
-/** A fact of the report: its name, its value as it is printed, and what that means. */
+/** A fact of the report: its name there, a title, its value as it is printed, and what that means. */
 function fact(name, title, value, meaning = "") {
+  const term = make("dt", "", title);
+  term.title = `${name.replace("_", "-")}, as wsn closing prints it`;
   const more = meaning ? make("span", "meaning", ` ${meaning}`) : "";
   const shown = make("dd", "", field(name, "value", String(value ?? "-")), more);
-  return make("div", "fact", make("dt", "", title), shown);
+  return make("div", "fact", term, shown);
 }
 
 function seenWords(session, code) {
@@ -101,7 +104,7 @@ function sideCard(session, side) {
 function closingCard(session) {
   const { report } = session, echo = report.echo === null ? "-" : report.echo ? "yes" : "no";
   const last = session.entries.findLast(entry => entry.time);
-  const times = make("p", "dim", last ? `${last.time} s in the capture` : "no times in this capture");
+  const times = make("p", "dim", last ? `last time in the capture: ${last.time} s` : "no times in this capture");
   const facts = make("dl", "", fact("first", "closed first", report.first),
     fact("echo", "same code back", echo, report.echo === null ? "not both closed" : ""),
     fact("outcome", "outcome", report.outcome));
@@ -111,8 +114,11 @@ function closingCard(session) {
 /** The top of the page. */
 function headingOf(session, go) {
   const { outcome } = session.report;
+  const about = make("details", "", make("summary", "", `wsn explain ${outcome}`));
+  about.open = SIDES.every(side => session.report[side].state === "refused");
+  about.append(make("pre", "explained", session.explained[outcome].trimEnd()));
   const verdict = make("section", `verdict ${outcome}`, make("span", "symbol", SYMBOLS[outcome]),
-    make("div", "", make("h1", "", titleOf(session)), ...sentences(session, go)));
+    make("div", "", make("h1", "", titleOf(session)), ...sentences(session, go), about));
   verdict.querySelector(".symbol").setAttribute("aria-hidden", "true");
   return [verdict, make("div", "cards", ...SIDES.map(side => sideCard(session, side)), closingCard(session))];
 }

@@ -84,12 +84,12 @@ const LABELS = {
   comment: row => [field("text", "text", ...visible(row.text))],
 };
 
-/** What an arrow bears. */
+/** The words on an arrow. */
 function labelOf(row) {
   return LABELS[row.type](row);
 }
 
-/** The lane of a row: lifelines, bars of open messages, the arrow and what it bears. */
+/** The lane of a row: lifelines, bars of open messages, the arrow and its label. */
 function laneOf(session, row) {
   const lane = make("div", ["lane", ...row.ended.map(side => `without-${side}`)].join(" "));
   for (const [side, part] of row.bars) lane.append(make("span", `bar ${side} ${part}`));

@@ -175,8 +175,9 @@ function globalKeys(filter, ladder, signal) {
 let laidOut = null; // Ends what listens for the session that is laid out.
 
 function footerOf(session) {
-  const made = `Made by ${session.version}: all that this page says is what its \`wsn show --json\` says.`;
-  return make("footer", "", `${made} The page holds the capture, and fetches nothing.`);
+  const made = `Made by ${session.version}: all that this page says is what its `;
+  const more = " says. It holds the capture, and fetches nothing.";
+  return make("footer", "", made, make("code", "", "wsn show --json"), more);
 }
 
 /** The ladder with the names of its columns. */

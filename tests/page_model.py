@@ -124,7 +124,8 @@ def outcome(report):
             words.append(f"The {other} must refuse byte {state['offset']} of what the {side} sent: {state['reason']}")
             words.append(f"It should close with code {state['code']}")
         if kind == "abnormal" and state["state"] in ("ended", "cut"):
-            words.append(f"he {side}'s direction ended")
+            both = sides[other]["state"] == state["state"]
+            words.append("Both directions ended" if both else f"he {side}'s direction ended")
         if kind == "abnormal" and state["state"] == "closed":
             words.append(f"The {side} sent a Close")
     if kind in ("clean", "complete", "half"):
