@@ -65,8 +65,8 @@ function frameViews(session, frames) {
   const box = make("div");
   const draw = (from, to) => {
     frames.slice(from, to).forEach((frame, at) => {
-      const to = Math.min(frame.end, session.sent[frame.side].length), of = number(frames.length);
-      const view = { side: frame.side, from: frame.offset, to, frame };
+      const end = Math.min(frame.end, session.sent[frame.side].length), of = number(frames.length);
+      const view = { side: frame.side, from: frame.offset, to: end, frame };
       const title = frames.length > 1 ? `Frame ${number(from + at + 1)} of ${of}` : "The frame's bytes";
       box.append(heading(title), marksLegend(view), byteView(session, view));
     });
