@@ -114,11 +114,11 @@ def entries(lines: Iterable[bytes]) -> Iterator[Entry]:
     for number, line in enumerate(lines, 1):
         text = line.rstrip(b"\n").removesuffix(b"\r").decode("latin-1")
         side, mark, digits = text[:1], text[1:2], text[2:]
-        if text in ("", "#") or side == "#":
-            yield Entry(number, "", b"", text)
-            continue
         if len(text) > TEXT:
             raise Faulty(f"line {number}: too-long")
+        if text == "" or side == "#":
+            yield Entry(number, "", b"", text)
+            continue
         if side not in NAMES or mark not in (".", " ") or (mark == "." and digits):
             raise Faulty(f"line {number}: bad-form")
         data = decoded(digits)

@@ -64,7 +64,7 @@ class Session:
         self.hello = b""  # The first bytes of TLS.
         self.is_opened = False  # Keys have opened its TLS.
         self.locked: List[List[bytes]] = [[], []]  # Bytes in TLS after a gap that isn't closed yet.
-        self.ending: List[Tuple[int, int]] = []  # Directions that ended with the last packet, and its time.
+        self.ending: List[Tuple[int, int]] = []  # Directions that ended and have no end mark yet, and the time.
         self.reset_time = 0
         self.first = 0  # The direction that sent the first bytes, the time of these, and of the last packet with some.
         self.began = self.last = 0
@@ -175,9 +175,11 @@ class Session:
             self.notes.append(f"warning: the {name}'s first bytes can't begin a frame, so its verdict means nothing")
 
     def put_ends(self) -> None:
-        """Writes the end marks of directions that ended with the last packet."""
+        """Writes the end marks of directions that ended with the last packet, or before the handshake was whole."""
+        if self.lines is None or self.sides is None:
+            return
         for index, time in self.ending:
-            if self.lines is not None and self.sink is not None and self.sides is not None:
+            if self.sink is not None:
                 self.sink.put(self.lines.end(self.sides[index], time))
         self.ending = []
 

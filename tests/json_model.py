@@ -25,9 +25,11 @@ MEMBERS = {
     "accepted": ("type", "verdict", "used", "tail", "unfinished", *COUNTS, "close"),
     "cut": ("type", "verdict", "used", "unfinished", *COUNTS),
     "refused verdict": ("type", "verdict", "offset", "reason", "code"),
-    "comparison": ("type", "answer", "event", "verdict"),
+    "comparison": ("type", "answer", "event", "first", "second", "verdict"),
 }
 MAY_LACK = {"line", "side", "time", *VIEWED, "event", "verdict"}
+# The events of two streams that differ: in a comparison's object only with --view.
+EVENTS = ("first", "second")
 
 
 class Number(str):
@@ -58,11 +60,21 @@ def objects(out):
     for line in lines:
         read = json.loads(line, parse_int=Number, parse_float=Number)
         assert compact(read) == line, line
-        members = MEMBERS[kind_of(read)]
-        assert list(read) == [it for it in members if it in read], line
-        assert all(it in MAY_LACK or it in read for it in members), line
+        expect_members(read)
         found.append(read)
     return found
+
+
+def expect_members(read):
+    """Fails unless the object has the members of its type, in their order, and so has each event in it."""
+    members = MEMBERS[kind_of(read)]
+    compared = read["type"] == "comparison"
+    missing = {*MAY_LACK, *EVENTS} if compared else MAY_LACK
+    assert list(read) == [it for it in members if it in read], read
+    assert all(it in missing or it in read for it in members), read
+    for it in EVENTS if compared else ():
+        if read.get(it) is not None:
+            expect_members(read[it])
 
 
 def dashed(value):
@@ -114,10 +126,13 @@ def report_lines(read):
     ]
 
 
-def comparison_line(read):
-    if read["answer"] in ("first", "second"):
-        return f"{read['answer']} {verdict_line(read['verdict'])}"
-    return f"different {read['event']}" if read["answer"] == "different" else read["answer"]
+def comparison_lines(read, view):
+    if read["answer"] in EVENTS:
+        return [f"{read['answer']} {verdict_line(read['verdict'])}"]
+    if read["answer"] != "different":
+        return [read["answer"]]
+    events = [(it, "-" if read[it] is None else lines_of(read[it], view)[0]) for it in EVENTS if it in read]
+    return [f"different {read['event']}", *(f"{it} {line}" for it, line in events)]
 
 
 def entry_text(read, view):
@@ -144,7 +159,7 @@ def lines_of(read, view=48):
     if kind == "verdict":
         return [verdict_line(read)]
     if kind == "comparison":
-        return [comparison_line(read)]
+        return comparison_lines(read, view)
     if kind == "comment":
         return [f"#{show_model.escaped(read['text'])}"]
     if "side" not in read:

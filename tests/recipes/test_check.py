@@ -44,28 +44,46 @@ def check_of_a_difference(folder):
 
 
 @test
+def check_of_a_keepalive(folder):
+    """A pong that came a message later, or a ping more, is no difference; with --pings it is, and a Close always is."""
+    kept, new = folder / "kept.capture", folder / "new.capture"
+    kept.write_text("S 8900\nC 8a8000000000\nC 81810000000061\nC 888000000000\n")
+    new.write_text("S 8900\nC 81810000000061\nC 8a8000000000\nS 8900\nC 888000000000\n")
+    same(check(kept, new)[0][0], "new.capture: equal", "a keepalive")
+    lines, _ = check("--pings", kept, new, status=1)
+    same(lines[0], "new.capture: client different 0; server different 1", "with --pings")
+    new.write_text(new.read_text().replace("888000000000", "88820000000003e8"))
+    lines, _ = check(kept, new, status=1)
+    same(lines[0], "new.capture: client different 1; server equal", "a Close")
+
+
+@test
 def check_of_what_cannot_be_compared(folder):
     """Missing files, unreadable ones and those that are no captures: an error, status 2, never equal."""
     one, two = kept(folder / "one", "basic", "abort", "latin"), kept(folder / "two", "basic", "abort", "ipv6")
-    for name, text in ("basic", ""), ("abort", "810548656c6c6f\n"):
+    for name, text in ("basic", "# nothing\n"), ("abort", "810548656c6c6f\n"):
         for each in one, two:
             (each / f"{name}.capture").write_text(text)
+    for each in one, two:
+        (each / "late.capture").write_text("C 8100\n" if each == one else "C 8100\nC.\nC 8100\n")
     lines, _ = check(one, two, status=2)
     for line, words in zip(lines, (
         f"abort.capture: error: {one}/abort.capture is no capture: line 1: bad-form",
         f"basic.capture: error: {one}/basic.capture is no capture: it has no line of a side",
         f"ipv6.capture: error: can't read {one}/ipv6.capture: No such file",
+        f"late.capture: error: {two}/late.capture is no capture: line 3: after-end",
         f"latin.capture: error: can't read {two}/latin.capture: No such file",
-        "4 captures: 0 equal, 0 different, 4 in error",
+        "5 captures: 0 equal, 0 different, 5 in error",
     )):  # fmt: skip
         want(line.startswith(words), f"{line}, and not {words}")
-    same(len(lines), 5, "lines")
+    same(len(lines), 6, "lines")
     for words, wanted in (
         ([folder / "no", folder / "none"], "no: No such file"),
         ([one, two / "basic.capture"], "aren't both folders"),
         ([folder, folder], "has a file *.capture"),
-        ([one], "check KEPT NEW"),
-        (["-x", one], "check KEPT NEW"),
+        ([one], "check [--pings] KEPT NEW"),
+        (["-x", one], "check [--pings] KEPT NEW"),
+        (["--pings", one], "check [--pings] KEPT NEW"),
     ):
         lines, said = check(*words, status=2)
         want(wanted in said + "".join(lines), f"{words}: {said}")

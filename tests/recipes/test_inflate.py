@@ -64,8 +64,8 @@ def inflate_gives_the_examples_of_the_rfc(folder):
 @test
 def inflate_keeps_the_rest(folder):
     """Times, end marks, a Close and what follows it, a frame that is cut, one with a bit that isn't allowed."""
-    lines = [AGREED, "# path: /", "# warning: the server agreed on permessage-deflate", "# 0.001000", "S c107f248", "# 0.002000", "C 88820000000003e8", "S cdc9c90700",
-             "C c1ff", "C.", "S c105f200", "S."]  # fmt: skip
+    lines = [AGREED, "# path: /", "# warning: the server agreed on permessage-deflate", "# 0.001000", "S c107f248",
+             "# 0.002000", "C 88820000000003e8", "S cdc9c90700", "C c1ff", "C.", "S c105f200", "S."]  # fmt: skip
     wanted = ["# path: /", "# 0.001000", "# 0.002000", "C 88820000000003e8", "S 810548656c6c6f", "C c1ff", "C.",
               "S 81", "S."]  # fmt: skip
     first, *rest = inflate("\n".join(lines).encode())[0].decode().splitlines()
@@ -95,6 +95,7 @@ def inflate_refuses(folder):
         (capture(one, agreed=AGREED + "; x"), [], "permessage-deflate has no parameter x"),
         (b"S c1\nS.\nS 00\n", [], "line 3: after-end"),
         (b"X 00\n", [], "line 1: bad-form"),
+        (b"# " + bytes(8192) + b"\r\n#" + b"x" * 8194 + b"\n", [], "line 2: too-long"),
         (b"", ["--limit", "x"], "--limit is a number"),
         (b"", ["-x"], "there is no option -x"),
         (b"", [folder / "nowhere"], "nowhere: No such file"),

@@ -9,7 +9,8 @@ import time
 from harness import SECONDS, TOP, WSN, Failed, needs, run, same, test, want
 
 FILES = ["bin/wsn", "share/bash-completion/completions/wsn", "share/man/man1/wsn.1", "share/zsh/site-functions/_wsn"]
-COMMANDS = {"wsn-check": "check", "wsn-inflate": "inflate", "wsn-pcap": "pcap2wsn", "wsn-record": "record"}
+COMMANDS = {"wsn-check": "recipes/check", "wsn-inflate": "recipes/inflate", "wsn-page": "page/build",
+            "wsn-pcap": "recipes/pcap2wsn", "wsn-record": "recipes/record"}  # fmt: skip
 
 
 def environment():
@@ -34,19 +35,22 @@ def files_in(folder):
 def install_copies_and_removes(folder):
     """Into a folder with a blank in its name, by a relative name too; again; and away, beside other files."""
     prefix = folder / "a prefix"
-    modules = sorted(path.name for path in (TOP / "recipes").glob("*.py"))
+    kinds = "recipes/*.py", "page/*.css", "page/*.html", "page/*.js", "python/*.py"
+    parts = [str(path.relative_to(TOP)) for kind in kinds for path in TOP.glob(kind)]
     wanted = [*FILES, *(f"bin/{name}" for name in COMMANDS), "lib/wsn/made",
-              *(f"lib/wsn/{name}" for name in [*modules, *COMMANDS.values()])]  # fmt: skip
+              *(f"lib/wsn/{name.removeprefix('recipes/')}" for name in [*parts, *COMMANDS.values()])]  # fmt: skip
     for words in [prefix], ["a prefix/"]:
         run(TOP / "install", *words, cwd=folder, env=environment())
         found = [name for name in files_in(prefix) if (prefix / name).is_file()]
         same(found, sorted(wanted), "the files")
     same(run(prefix / "bin/wsn", "judge", "--role", "server", input=b"")[0][:8], b"accepted", "the program")
     for name, file in COMMANDS.items():
-        same(run(prefix / "bin" / name, "-h"), run(TOP / "recipes" / file, "-h"), name)
+        same(run(prefix / "bin" / name, "-h"), run(TOP / file, "-h"), name)
     kept = TOP / "tests/samples/basic.capture"
     out, _ = run("env", "-u", "WSN", prefix / "bin/wsn-check", kept, kept)
     same(out.splitlines()[0], b"basic.capture: equal", "the installed program, out of PATH")
+    page, _ = run("env", "-u", "WSN", prefix / "bin/wsn-page", kept)
+    same(page, run(TOP / "page/build", kept, env=environment())[0], "the installed page")
     (prefix / "bin/other").write_text("")
     run(TOP / "install", "--remove", "a prefix", cwd=folder)
     same(files_in(prefix), ["bin", "bin/other"], "what is left")
@@ -54,6 +58,23 @@ def install_copies_and_removes(folder):
         run(TOP / "install", *words, status=2, env=environment())
     (folder / "file").write_text("")
     run(TOP / "install", folder / "file", status=2, env=environment())
+
+
+@test
+def install_copies_the_library(folder):
+    """The library that LIBRARY names, its header, and the module, which finds it; and away."""
+    made = {"lib/libwsn.a": b"archive", "lib/libwsn.so": b"shared", "include/wsn.h": b"header"}
+    (folder / "built").mkdir()
+    for name, data in made.items():
+        (folder / "built" / os.path.basename(name)).write_bytes(data)
+    prefix = folder / "prefix"
+    run(TOP / "install", prefix, env={**environment(), "LIBRARY": str(folder / "built")})
+    same({name: (prefix / name).read_bytes() for name in made}, made, "the files")
+    place = "import wsn; print(wsn._places()[0])"
+    found, _ = run("python3", "-c", place, env={**os.environ, "PYTHONPATH": str(prefix / "lib/wsn/python")})
+    same(os.path.realpath(found.decode().strip()), str(prefix / "lib/libwsn.so"), "where the module looks")
+    run(TOP / "install", "--remove", prefix)
+    same(prefix.exists(), False, "what is left")
 
 
 @test

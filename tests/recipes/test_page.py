@@ -23,7 +23,7 @@ NEEDS = {"tls.pcap": "tshark", "tshark": "tshark", "text2pcap": "text2pcap", "so
          "mitmdump": "mitmdump", "xxd": "xxd"}  # fmt: skip
 
 # The names of what a command writes.
-WRITES = r"(?:> |-R |^recipes/record .* )([\w.]+)"
+WRITES = r"(?:> |--out |-R |^recipes/record .* )([\w.]+)"
 
 
 def parts_of(page):
@@ -54,7 +54,7 @@ class Page:
         self.skipped = {}
         self.missing = ""  # What the section's commands lack, once one was skipped.
         self.lost = set()  # Names of what skipped commands would have written.
-        for name in "recipes", "tests":
+        for name in "page", "recipes", "tests":
             (folder / name).symlink_to(TOP / name)
         (folder / "wsn").symlink_to(WSN)
 
@@ -183,8 +183,9 @@ def readme_says_what_its_lines_print(folder):
     (folder / "wsn").symlink_to(WSN)
     (folder / "recordings").mkdir()
     shutil.copy(SAMPLES / "latin.capture", folder / "recordings/0001.capture")
-    ((line, printed),) = indented(r"\./wsn frames ")
-    same(run("bash", "-c", line, status=None, cwd=folder), (printed.encode(), b""), line)
+    ((line, wanted),) = indented(r"\./wsn show ")
+    printed, said = run("bash", "-c", line, status=1, cwd=folder)
+    want(fits(printed.decode(), wanted) and said == b"", f"{line!r} prints {printed!r}, and README.md says {wanted!r}")
     ((line, _),) = indented("printf ")
     same(run("bash", "-c", line, cwd=folder), (b"81850000000048656c6c6f\n", b""), line)
     want("prints `81850000000048656c6c6f`" in (TOP / "README.md").read_text(encoding="utf-8"), "what it prints")

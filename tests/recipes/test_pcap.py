@@ -398,6 +398,22 @@ def pcap_has_the_ends_in_their_order(folder):
 
 
 @test
+def pcap_of_a_client_that_ends_before_the_answer(folder):
+    """Its end mark comes after the handshake, with a reset by it, as Chromium sends it, and without."""
+    packets = pcaps.session(HANDSHAKE, 40000, 80)
+    answer, client = packets[3:5]
+    one = pcaps.Segment(client)
+    reset = pcaps.packet((one.source, one.target), one.seq + 1, 0, 4)
+    for what, last, wanted in (
+        ("a reset", [reset], ["C.", "# reset by the client", "S."]),
+        ("an end", packets[5:], ["C.", "S."]),
+    ):
+        pcaps.write(folder / "ends.pcap", [*packets[:3], client, answer, *last])
+        out, said = pcap2wsn(folder / "ends.pcap", "0")
+        same((ends(out), said), (wanted, ""), what)
+
+
+@test
 def pcap_has_the_times(folder):
     """Seconds since the 101, before each line where a millisecond has passed; bytes within it are joined."""
     talk = [*HANDSHAKE, ("S", b"\x81\x01a"), ("S", b"\x81\x01b"), ("S", b"\x81\x01c"), ("C", b"\x81\x80abcd")]

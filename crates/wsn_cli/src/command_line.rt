@@ -7,16 +7,16 @@ use crate::escaped::Escaped;
 use crate::explain::{explanation, list_of_words};
 use crate::help;
 use crate::options::{
-    check_digits, file, file_of, format_of, limits_of, role, role_of, side_of, style_of,
-    with_capture, with_file, with_json, with_limits, with_role, with_view, with_wire, with_without,
-    without_of,
+    check_digits, comparison_of, file, file_of, format_of, limits_of, role, role_of, side_of,
+    style_of, with_capture, with_events_view, with_file, with_json, with_limits, with_role,
+    with_view, with_wire, with_without,
 };
 use crate::recut_options::{recut_of, with_recuts};
 use crate::request::{Request, Usage};
 use clap::error::ErrorKind;
 use clap::{Arg, ArgAction, ArgMatches, Command, Error};
 use std::alloc::{AllocError, Global};
-use wsn_job::{Comparison, Job};
+use wsn_job::Job;
 use wsn_rules::Limits;
 use wsn_show::Style;
 
@@ -139,10 +139,10 @@ fn with_stream<'a>(alloc: Global, command: Command<'a>) -> Result<Command<'a>, A
     with_file(alloc, command)
 }
 
-/// Adds `--role`, `--capture`, `--without` and the names of two files.
+/// Adds `--role`, `--capture`, `--without`, `--view` and the names of two files.
 fn with_streams<'a>(alloc: Global, command: Command<'a>) -> Result<Command<'a>, AllocError> {
     let command = with_capture(alloc, with_role(alloc, command)?)?;
-    let command = with_without(alloc, command)?;
+    let command = with_events_view(alloc, with_without(alloc, command)?)?;
     let help = "The file with the first stream, or - for standard input";
     let command = command.arg(file(alloc, "first", "FIRST", help).required(true))?;
     let help = "The file with the second stream, or - for standard input";
@@ -261,20 +261,14 @@ fn run_of(alloc: Global, name: &str, matches: &ArgMatches<'_>) -> Result<Request
 fn same_of(alloc: Global, matches: &ArgMatches<'_>) -> Result<Request, Usage>
     ensures { IfOk result CanBeDone }
 {
-    let role = role_of(matches);
     let first = file_of(alloc, matches, "first")?;
     let second = file_of(alloc, matches, "second")?;
-    match limits_of(matches) {
-        Some(limits) if first.is_some() || second.is_some() => Ok(Request::Same {
-            comparison: Comparison {
-                role,
-                limits,
-                without: without_of(matches),
-                format: format_of(matches),
-            },
+    match comparison_of(matches) {
+        Some(comparison) if first.is_some() || second.is_some() => Ok(Request::Same {
+            comparison,
             first,
             second,
-            side: side_of(matches, role),
+            side: side_of(matches, comparison.role),
         }),
         _ => Err(Usage::Own),
     }

@@ -89,9 +89,14 @@ line:
 Either FIRST or SECOND may be -, which is standard input; ./- is a file named -.
 --without ping,pong leaves pings and pongs out of both: so a keepalive that came
 a message later is no difference. K then counts what is left.
+--view BYTES shows what differs. Two lines follow 'different K':
+  first EVENT     event K of the first stream, as 'wsn show --role' prints it
+  second EVENT    that of the second; - in place of EVENT where a stream has no
+                  event K
 With --json it prints an object: {\"type\":\"comparison\",\"answer\":\"equal\"}, or with
 \"answer\":\"different\" and \"event\":K, or with \"answer\":\"first\" or \"second\" and the
-verdict as \"verdict\" ('wsn help judge').
+verdict as \"verdict\" ('wsn help judge'). With --view the objects of both events,
+or null, follow K as \"first\" and \"second\" ('wsn help show').
 
 Example: one frame, and the same message in two
   $ printf '\\201\\002Hi' > one; printf '\\001\\001H\\200\\001i' > two

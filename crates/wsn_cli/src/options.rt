@@ -11,6 +11,7 @@ use crate::request::Usage;
 use clap::builder::ValueParser;
 use clap::{Arg, ArgAction, ArgMatches, Command, value_parser};
 use std::alloc::{AllocError, Global};
+use wsn_job::Comparison;
 use wsn_print::{Format, ViewLimit};
 use wsn_rules::{Detail, INPUT_MAX, Limits, MESSAGE_MAX, Without};
 use wsn_show::Style;
@@ -71,8 +72,22 @@ fn with_message_limits<'a>(alloc: Global, command: Command<'a>) -> Result<Comman
 /// Adds `--view`.
 pub fn with_view<'a>(alloc: Global, command: Command<'a>) -> Result<Command<'a>, AllocError> {
     let help = "Maximum bytes of a payload to show, 0 to 4096\n[default: 48]";
+    command.arg(view(alloc, help))
+}
+
+/// Adds `--view` to a comparison, which shows no events without it.
+pub fn with_events_view<'a>(
+    alloc: Global,
+    command: Command<'a>,
+) -> Result<Command<'a>, AllocError> {
+    let help = "Also show the first events that differ, and of a\npayload so many bytes, 0 to 4096";
+    command.arg(view(alloc, help))
+}
+
+/// The option `--view`, with this help.
+fn view<'a>(alloc: Global, help: &'a str) -> Arg<'a> {
     let view = option(alloc, "view", "BYTES", help);
-    command.arg(view.value_parser(value_parser!(u16).range(0..4_097)))
+    view.value_parser(value_parser!(u16).range(0..4_097))
 }
 
 /// Adds `--wire`.
@@ -232,6 +247,27 @@ pub fn style_of(matches: &ArgMatches<'_>) -> Option<Style>
         view,
         detail,
         format,
+    })
+}
+
+/// How two streams are compared, from the options of `same`; `None` if a number is out of range. No events are shown
+/// without `--view`.
+pub fn comparison_of(matches: &ArgMatches<'_>) -> Option<Comparison>
+    ensures limits { IfSome result (λ comparison. AreAskedLimits comparison.limits) }
+    ensures view { (one_text (found_of matches.now) (codes "view") ≡ None)
+        → IfSome result (λ comparison. comparison.view ≡ None) }
+{
+    let limits = limits_of(matches)?;
+    let view = match matches.get_one::<u16>("view") {
+        Some(bytes) => Some(ViewLimit::new(bytes)?),
+        None => None,
+    };
+    Some(Comparison {
+        role: role_of(matches),
+        limits,
+        without: without_of(matches),
+        format: format_of(matches),
+        view,
     })
 }
 

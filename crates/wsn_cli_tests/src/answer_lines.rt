@@ -4,6 +4,7 @@
 use std::alloc::{AllocError, Global};
 use std::process::Abort;
 use wsn_cli::{Comparison, Format, How, Job, Request, Usage, Without, asked};
+use wsn_print::ViewLimit;
 use wsn_rules::{Detail, Limits};
 use wsn_show::Style;
 use wsn_wire::{Lengths, Role};
@@ -56,15 +57,28 @@ fn request_line(alloc: Global, request: &Request) -> Result<String, AllocError> 
                 limits,
                 without,
                 format,
+                view,
             } = comparison;
             let stream = stream_line(alloc, "same", *role, limits)?;
             let (first, second) = (name_of(first), name_of(second));
             let suffix = suffix_of(*format);
             let without = left_out(without);
-            let line = format!(in alloc; "{stream}, {first} and {second}{without}{suffix}")?;
+            let view = shown_events(alloc, *view)?;
+            let line = format!(in alloc; "{stream}, {first} and {second}{without}{view}{suffix}")?;
             with_side(alloc, &line, *side)
         }
         Request::Help(_) => String::from_str(alloc, "help"),
+    }
+}
+
+/// How much of a payload is shown of the events that differ; nothing if they aren't shown.
+fn shown_events(alloc: Global, view: Option<ViewLimit>) -> Result<String, AllocError> {
+    match view {
+        Some(view) => {
+            let bytes = view.bytes();
+            format!(in alloc; ", view {bytes}")
+        }
+        None => String::from_str(alloc, ""),
     }
 }
 

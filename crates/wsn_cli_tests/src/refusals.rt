@@ -3,7 +3,7 @@
 use crate::answer_lines::expect_answer;
 
 /// A missing or unknown word, and a role or number out of its range.
-static WRONG: [&str; 44] = [
+static WRONG: [&str; 46] = [
     "wsn",
     "wsn other",
     "wsn judge",
@@ -34,6 +34,8 @@ static WRONG: [&str; 44] = [
     "wsn show file other",
     "wsn show --view 4097",
     "wsn show --view -1",
+    "wsn same --role client a b --view 4097",
+    "wsn normal --role client --view 5",
     "wsn plan --role server --size 2",
     "wsn judge --role server --limit 16777217",
     "wsn closing --limit 16777217",
@@ -59,7 +61,7 @@ fn clap_refuses_wrong_words(rt: HostRuntime) {
 
 /// Options of `recut` that don't go together, a key that isn't eight digits, a number with a sign, and two inputs that
 /// are both standard input.
-static REFUSED: [&str; 22] = [
+static REFUSED: [&str; 23] = [
     "wsn recut --role server",
     "wsn recut --role server --plan p --size 2",
     "wsn recut --role server --plan p --weave",
@@ -75,6 +77,7 @@ static REFUSED: [&str; 22] = [
     "wsn judge --role server --limit +5",
     "wsn closing --limit=-0",
     "wsn show --view +5",
+    "wsn same --role client a b --view +5",
     "wsn same --role client --frames +1 a b",
     "wsn recut --role server --size +3",
     "wsn recut --role server --plan p --limit +5",

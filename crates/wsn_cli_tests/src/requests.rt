@@ -75,7 +75,7 @@ fn each_command_is_asked_for_by_its_words(rt: HostRuntime) {
 }
 
 /// The most bytes of a payload that are shown.
-static VIEWS: [(&str, &str); 7] = [
+static VIEWS: [(&str, &str); 10] = [
     (
         "wsn show --wire",
         "show 16777216 1099511627776 - shortest, frames view 48",
@@ -103,6 +103,18 @@ static VIEWS: [(&str, &str); 7] = [
     (
         "wsn show --limit 5 --view 3 --lengths any -",
         "show 5 1099511627776 - any, events view 3",
+    ),
+    (
+        "wsn same --role client a b",
+        "same client 16777216 1099511627776 - shortest, a and b",
+    ),
+    (
+        "wsn same --role client --view 0 a b",
+        "same client 16777216 1099511627776 - shortest, a and b, view 0",
+    ),
+    (
+        "wsn same --role server a b --without ping --view=4096 --json",
+        "same server 16777216 1099511627776 - shortest, a and b, without pings, view 4096, in JSON",
     ),
 ];
 

@@ -132,5 +132,6 @@ fn text_of(limits: Limits) -> Comparison {
         limits,
         without: NOTHING,
         format: Format::Text,
+        view: None,
     }
 }

@@ -130,8 +130,8 @@ module _ {A : Type 0} (role : Role) (limits : Limits) where
 
   -- ---- one round
 
-  module _ (without : Without) (old other_old new other_new : Incoming) (before reading other_before other : EventReader A) (given other_given : List MeantEvent) (next other_next : Next A)
-      (one : HasGivenNext without role limits old new before reading given next) (two : HasGivenNext without role limits other_old other_new other_before other other_given other_next) where
+  module _ (without : Without) (old other_old new other_new : Incoming) (before reading other_before other : EventReader A) (was other_was : List ℕ) (given other_given : List MeantEvent) (next other_next : Next A)
+      (one : HasGivenNext without role limits old new before reading was given next) (two : HasGivenNext without role limits other_old other_new other_before other other_was other_given other_next) where
     -- what is left of the events before the round, and with it
     abbrev left : List MeantEvent
     left = events_without without given

@@ -1,5 +1,5 @@
 -- One event source in a comparison: what a call gives after the events that it has given.
-use Rattle.std.proofs.Common.{◌≡◌, ℕ, ◌+◌, ◌<◌, ◌⊎◌, false, None, Some, Result, Ok, Err, IfOk, List, [], ◌∷◌, ◌++◌, inl, inr, refl, sym, ap, ◌∙◌, subst}
+use Rattle.std.proofs.Common.{◌≡◌, ℕ, ◌+◌, ◌<◌, ◌⊎◌, false, None, Some, Result, Ok, Err, IfOk, List, [], ◌∷◌, ◌++◌, length, inl, inr, refl, sym, ap, ◌∙◌, subst, append-nil}
 use Rattle.wsn_io.proofs.Received.{received_none, received_on}
 use Rattle.wsn_wire.specs.declared.endpoint.Role.{Role}
 use Rattle.wsn_io.specs.Transfer.{Incoming, IsReceived}
@@ -14,11 +14,13 @@ use Rattle.wsn_events.specs.declared.source.Next.{Next}
 use Rattle.wsn_events.specs.declared.source.Next.TheVariants as nexts
 use Rattle.wsn_events.specs.EventsMeant.{meant}
 use Rattle.wsn_events.specs.Sources.{IsLast}
-use Rattle.wsn_events.specs.EventReaders.{HasGiven, HasBegunOrEnded, IsNextEvent, IsEvent, answered, readings_left, next_of}
+use Rattle.wsn_events.specs.EventReaders.{HasGiven, HasBegunOrEnded, IsNextEvent, IsEvent, answered, offset_of, frames_of, readings_left, next_of}
 use Rattle.wsn_events.specs.LeavingOut.{is_next_left_out, GoesOnWithout}
 use Rattle.wsn_events.specs.Comparing.{HasStopped}
+use Rattle.wsn_events.specs.Excerpts.{IsLawfulNext}
 use Rattle.wsn_events.proofs.GivenSoFar.{begun_sound}
 use Rattle.wsn_events.proofs.LeftOut.{passed_over, one_more}
+use Rattle.wsn_events.proofs.StandingEvents.{StandsAt, given_stands}
 
 -- A source has not ended, and its input hasn't failed.
 abbrev pub IsGoing : {A : Type 0} → Role → Limits → Incoming → EventReader A → List ℕ → List MeantEvent → Type 0
@@ -44,13 +46,22 @@ abbrev pub IsLastNext : {A : Type 0} → Role → Limits → Incoming → List �
 IsLastNext role limits new came events (nexts.Event event) = Unit {0}
 IsLastNext role limits new came events (nexts.Done verdict) = IsLast role limits new came events (Ok verdict)
 
+-- An event stands behind those that are left of the events before.
+abbrev pub StandsNext : {A : Type 0} → Without → Role → Limits → EventReader A → List ℕ → List MeantEvent → Next A → Type 0
+StandsNext without role limits reading came given (nexts.Event event) = StandsAt without role limits came (length (events_without without given)) (offset_of reading) (meant event) (frames_of reading)
+StandsNext without role limits reading came given (nexts.Done verdict) = Unit {0}
+
 -- A round: the source has given its next event that isn't left out, or its verdict.
-pub record HasGivenNext {A : Type 0} (without : Without) (role : Role) (limits : Limits) (old new : Incoming) (before reading : EventReader A) (given : List MeantEvent) (next : Next A) : Type 0 where
+pub record HasGivenNext {A : Type 0} (without : Without) (role : Role) (limits : Limits) (old new : Incoming) (before reading : EventReader A) (was : List ℕ) (given : List MeantEvent) (next : Next A) : Type 0 where
   pub came : List ℕ
+  pub more : List ℕ
+  pub longer : came ≡ was ++ more
   pub events : List MeantEvent
   pub followed : HasFollowed role limits old new reading came events
   pub gives : Gives before reading (events_without without given) (events_without without events) next
   pub last : IsLastNext role limits new came events next
+  pub lawful : IsLawfulNext next
+  pub stands : StandsNext without role limits reading came given next
 
 module _ (without : Without) (role : Role) (limits : Limits) where
   pub begins : {A : Type 0} (input : Incoming) (reading : EventReader A) → HasGiven role limits reading [] [] → input.failed ≡ false → HasFollowed role limits input input reading [] []
@@ -79,27 +90,35 @@ module _ (without : Without) (role : Role) (limits : Limits) where
     received : (went : GoesOnWithout without role limits mid new reading came given result) → IsReceived (limits.input + 1) old new (came ++ went.goes_on.more)
     received went = received_on (limits.input + 1) old mid new came went.goes_on.more followed.received went.goes_on.consumed went.goes_on.few
 
-    goes_on : HasGiven role limits before came given → (n : Next A) → result ≡ Ok n → HasGivenNext without role limits old new before reading given n
+    goes_on : HasGiven role limits before came given → (n : Next A) → result ≡ Ok n → HasGivenNext without role limits old new before reading came given n
     goes_on has (nexts.Event event) is =
         let went = next has in
         let now = subst (λ (r : Result (Next A) Stop). IsNextEvent role limits new reading (came ++ went.goes_on.more) (given ++ went.passed) r) is went.goes_on.next in
         let kept : is_left_out without (meant event) ≡ false = subst (λ (r : Result (Next A) Stop). IfOk r (λ (n : Next A). is_next_left_out without n ≡ false)) is not_left_out in
         record {
           came = came ++ went.goes_on.more;
+          more = went.goes_on.more;
+          longer = refl;
           events = (given ++ went.passed) ++ meant event ∷ [];
           followed = record { received = received went; state = inl (now.0, now.2) };
           gives = (one_more without given went.passed (meant event) went.left_out kept, has.going, now.0.going, falls (subst (λ (r : Result (Next A) Stop). IsEvent r) (sym is) tt));
           last = tt;
+          lawful = now.1.lawful;
+          stands = given_stands without role limits reading (came ++ went.goes_on.more) given went.passed event now.1 went.left_out kept;
         }
     goes_on has (nexts.Done verdict) is =
         let went = next has in
         let now = subst (λ (r : Result (Next A) Stop). IsNextEvent role limits new reading (came ++ went.goes_on.more) (given ++ went.passed) r) is went.goes_on.next in
         record {
           came = came ++ went.goes_on.more;
+          more = went.goes_on.more;
+          longer = refl;
           events = given ++ went.passed;
           followed = record { received = received went; state = inr (verdict, (now.1, now.0)) };
           gives = (passed_over without given went.passed went.left_out, now.1);
           last = now.0;
+          lawful = tt;
+          stands = tt;
         }
 
     -- a source that is done has read nothing
@@ -107,7 +126,7 @@ module _ (without : Without) (role : Role) (limits : Limits) where
     same_state at now is_at is_now =
         subst (λ (i : Incoming). HasFollowed role limits old i at came given) (sym is_now) (subst (λ (r : EventReader A). HasFollowed role limits old mid r came given) (sym is_at) followed)
 
-    stays : (verdict : Verdict) → IsDone role limits mid before came given verdict → (n : Next A) → result ≡ Ok n → HasGivenNext without role limits old new before reading given n
+    stays : (verdict : Verdict) → IsDone role limits mid before came given verdict → (n : Next A) → result ≡ Ok n → HasGivenNext without role limits old new before reading came given n
     stays verdict done (nexts.Event event) is =
         let reported = again (Ok verdict) done.0 in
         let both : Ok (nexts.Event event) ≡ Ok (nexts.Done verdict) = sym is ∙ reported.0 in absurd cc
@@ -119,13 +138,17 @@ module _ (without : Without) (role : Role) (limits : Limits) where
         let last : IsLast role limits mid came given (Ok v) = subst (λ (w : Verdict). IsLast role limits mid came given (Ok w)) one done.1 in
         record {
           came = came;
+          more = [];
+          longer = sym (append-nil came);
           events = given;
           followed = same_state reading new reported.1 reported.2;
           gives = (refl, answer);
           last = subst (λ (i : Incoming). IsLast role limits i came given (Ok v)) (sym reported.2) last;
+          lawful = tt;
+          stands = tt;
         }
 
-    pub gives_next : (n : Next A) → result ≡ Ok n → HasGivenNext without role limits old new before reading given n
+    pub gives_next : (n : Next A) → result ≡ Ok n → HasGivenNext without role limits old new before reading came given n
     gives_next n is = elim followed.state [ inl going ↦ goes_on going.0 n is | inr done ↦ stays done.0 done.1 n is ]
 
     pub stops : (stop : Stop) → result ≡ Err stop → (all : List ℕ) × IsReceived (limits.input + 1) old new all × HasStopped role limits new all stop

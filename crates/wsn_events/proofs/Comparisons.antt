@@ -12,12 +12,12 @@ use Rattle.wsn_rules.specs.LeftOut.{events_without}
 use Rattle.wsn_rules.specs.Meaning.{MeantEvent}
 use Rattle.wsn_rules.specs.declared.compared.Compared.{Compared}
 use Rattle.wsn_rules.specs.declared.compared.Compared.TheVariants.{Equal, Different, NotAccepted}
-use Rattle.wsn_events.specs.declared.comparing.Round.TheVariants.{Over}
 use Rattle.wsn_events.specs.declared.event_reader.EventReader.{EventReader}
 use Rattle.wsn_events.specs.declared.source.Next.{Next}
 use Rattle.wsn_events.specs.declared.source.Next.TheVariants as nexts
 use Rattle.wsn_events.specs.Sources.{IsLast}
-use Rattle.wsn_events.specs.Comparing.{IsFirstDifference, IsRoundOf, IsAnAccepted, HasStopped, IsComparisonBy, IsComparedBy}
+use Rattle.wsn_events.specs.Comparing.{IsFirstDifference, IsAnAccepted, HasStopped, IsComparisonBy}
+use Rattle.wsn_events.specs.Excerpts.{IsContrasted}
 use Rattle.wsn_events.proofs.ComparedSources.{HasFollowed, HasGivenNext}
 use Rattle.wsn_events.proofs.ComparedRounds.{IsDifferenceSoFar}
 
@@ -40,48 +40,45 @@ same_difference given events other_given others difference is others_is first =
 
 module _ {A : Type 0} (without : Without) (role : Role) (limits : Limits) where
   -- both have their verdicts
-  pub compares : (old other_old new other_new : Incoming) (before reading other_before other : EventReader A) (given other_given : List MeantEvent) (next other_next : Next A)
-      → HasGivenNext without role limits old new before reading given next → HasGivenNext without role limits other_old other_new other_before other other_given other_next
+  pub answers : (old other_old new other_new : Incoming) (before reading other_before other : EventReader A) (was other_was : List ℕ) (given other_given : List MeantEvent) (v w : Verdict)
+      → (one : HasGivenNext without role limits old new before reading was given (nexts.Done v)) → (two : HasGivenNext without role limits other_old other_new other_before other other_was other_given (nexts.Done w))
       → (index : ℕ) (difference : Option ℕ) → IsDifferenceSoFar before other_before index (events_without without given) (events_without without other_given) difference
-      → (verdict other_verdict : Verdict) → IsRoundOf next other_next (Over verdict other_verdict)
-      → (result : Compared) → Compares (events_without without) verdict other_verdict difference result → IsComparedBy (events_without without) role limits old new other_old other_new (Ok result)
-  compares old other_old new other_new before reading other_before other given other_given (nexts.Done v) (nexts.Done w) one two index difference so_far verdict other_verdict is result reported =
+      → (verdict other_verdict : Verdict) → (verdict ≡ v) × (other_verdict ≡ w)
+      → (result : Compared) → Compares (events_without without) verdict other_verdict difference result → IsComparisonBy (events_without without) role limits new one.came other_new two.came (Ok result)
+  answers old other_old new other_new before reading other_before other was other_was given other_given v w one two index difference so_far verdict other_verdict is result reported =
       let last = subst (λ (x : Verdict). IsLast role limits new one.came one.events (Ok x)) (sym is.0) one.last in
       let other_last = subst (λ (x : Verdict). IsLast role limits other_new two.came two.events (Ok x)) (sym is.1) two.last in
       let first = first_difference before other_before index (events_without without given) (events_without without other_given) difference so_far in
-      record {
-        came = one.came;
-        received = one.followed.received;
-        other_came = two.came;
-        other_received = two.followed.received;
-        answer = reported role limits new one.came one.events other_new two.came two.events last other_last (same_difference (events_without without given) (events_without without one.events) (events_without without other_given) (events_without without two.events) difference one.gives.0 two.gives.0 first);
-      }
-  compares old other_old new other_new before reading other_before other given other_given (nexts.Done v) (nexts.Event event) one two index difference so_far verdict other_verdict is result reported = absurd is
-  compares old other_old new other_new before reading other_before other given other_given (nexts.Event event) (nexts.Done w) one two index difference so_far verdict other_verdict is result reported = absurd is
-  compares old other_old new other_new before reading other_before other given other_given (nexts.Event event) (nexts.Event that) one two index difference so_far verdict other_verdict is result reported = absurd is
+      reported role limits new one.came one.events other_new two.came two.events last other_last (same_difference (events_without without given) (events_without without one.events) (events_without without other_given) (events_without without two.events) difference one.gives.0 two.gives.0 first)
 
   -- the first stream has stopped
   pub first_stops : (old new other_old other_new : Incoming) (other : EventReader A) (other_came : List ℕ) (other_given : List MeantEvent) → HasFollowed role limits other_old other_new other other_came other_given
       → (stop : Stop) → (all : List ℕ) × IsReceived (limits.input + 1) old new all × HasStopped role limits new all stop
-      → IsComparedBy (events_without without) role limits old new other_old other_new (Err stop)
+      → IsContrasted without role limits old new other_old other_new (Err stop)
   first_stops old new other_old other_new other other_came other_given followed stop stops = record {
-    came = stops.0;
-    received = stops.1;
-    other_came = other_came;
-    other_received = followed.received;
-    answer = inl stops.2;
+    compared = record {
+      came = stops.0;
+      received = stops.1;
+      other_came = other_came;
+      other_received = followed.received;
+      answer = inl stops.2;
+    };
+    excerpts = tt;
   }
 
   -- the second stream has stopped
-  pub second_stops : (old new other_old other_new : Incoming) (before reading : EventReader A) (given : List MeantEvent) (next : Next A) → HasGivenNext without role limits old new before reading given next
+  pub second_stops : (old new other_old other_new : Incoming) (before reading : EventReader A) (was : List ℕ) (given : List MeantEvent) (next : Next A) → HasGivenNext without role limits old new before reading was given next
       → (stop : Stop) → (all : List ℕ) × IsReceived (limits.input + 1) other_old other_new all × HasStopped role limits other_new all stop
-      → IsComparedBy (events_without without) role limits old new other_old other_new (Err stop)
-  second_stops old new other_old other_new before reading given next one stop stops = record {
-    came = one.came;
-    received = one.followed.received;
-    other_came = stops.0;
-    other_received = stops.1;
-    answer = inr stops.2;
+      → IsContrasted without role limits old new other_old other_new (Err stop)
+  second_stops old new other_old other_new before reading was given next one stop stops = record {
+    compared = record {
+      came = one.came;
+      received = one.followed.received;
+      other_came = stops.0;
+      other_received = stops.1;
+      answer = inr stops.2;
+    };
+    excerpts = tt;
   }
 
 -- ---- the answer, by the verdicts

@@ -2,9 +2,12 @@ pub mod CloseBodies
 pub mod NormalBytes
 pub mod LeftOut
 pub mod ComparedEvents
+pub mod ExcerptViews
+pub mod StandingEvents
 pub mod ComparedSources
 pub mod ComparedRounds
 pub mod Comparisons
+pub mod KeptExcerpts
 pub mod WholeComparisons
 pub mod NothingLeftOut
 pub mod ReassembledFrames

@@ -1,20 +1,23 @@
 -- One whole frame more in the reassembly.
-use Rattle.std.proofs.Common.{◌≡◌, ◌≢◌, ℕ, Bool, true, false, not, List, [], ◌∷◌, ◌++◌, refl, sym, ap, ◌∙◌, subst}
+use Rattle.std.proofs.Common.{◌≡◌, ◌≢◌, ℕ, ◌+◌, ◌⊎◌, Bool, true, false, not, List, [], ◌∷◌, ◌++◌, length, inl, inr, refl, sym, ap, ◌∙◌, subst, length-append}
+use Rattle.std.proofs.lemmas.Bool.{cases_Bool, cond-true, cond-false}
 use Rattle.wsn_wire.specs.declared.endpoint.Role.{Role}
 use Rattle.wsn_wire.specs.declared.opcode.Op.{Op}
 use Rattle.wsn_wire.specs.declared.opcode.Op.TheVariants.{Continue, Text, Binary, Close, Ping, Pong}
 use Rattle.wsn_wire.specs.declared.opcode.Kind.{Kind}
-use Rattle.wsn_wire.specs.Frame.{Frame, is_control}
+use Rattle.wsn_wire.specs.Frame.{Frame, is_control, stream}
 use Rattle.wsn_rules.specs.Limits.{Limits}
 use Rattle.wsn_rules.specs.Group.{unfinished, kind_at, kind_of, payload_of}
 use Rattle.wsn_rules.specs.Lawful.{LawAt, IsLawful}
 use Rattle.wsn_rules.specs.Meaning.{Message, Control, event_at}
-use Rattle.wsn_rules.proofs.Groups.{unfinished_control, unfinished_final, unfinished_more}
+use Rattle.wsn_rules.specs.ShownStream.{open_offset}
+use Rattle.wsn_rules.proofs.Groups.{unfinished_control, unfinished_final, unfinished_more, data_kind}
+use Rattle.wsn_rules.proofs.OpenOffsets.{offset_of_none, offset_after_control, offset_after_fragment}
 use Rattle.wsn_rules.proofs.LawfulLists.{law_at_split}
 use Rattle.wsn_rules.proofs.MessageText.{text_of_push}
 use Rattle.wsn_events.specs.declared.reassembly.Reassembly.{Reassembly}
 use Rattle.wsn_rules.specs.LawfulEvents.{IsLawfulControl}
-use Rattle.wsn_events.specs.Reassembly.{IsBetweenFrames, IsInFrame}
+use Rattle.wsn_events.specs.Reassembly.{HasBegun, IsBetweenFrames, IsInFrame, IsPlacedAt}
 use Rattle.wsn_rules.proofs.LawfulMeaning.{event_of_control, event_of_data}
 
 module _ {A : Type 0} (role : Role) (limits : Limits) (g : Reassembly A) (done : List Frame) (f : Frame) (lawful : IsLawful role limits (done ++ f ∷ [])) (within : IsInFrame g done f.op f.payload) where
@@ -47,6 +50,41 @@ module _ {A : Type 0} (role : Role) (limits : Limits) (g : Reassembly A) (done :
           let unended : unfinished done ≢ [] = λ none. let both : h ∷ hs ≡ [] = sym some ∙ none in cc in
           within.continued ((law.group (ap not other)).continues.1 unended) unended ∙ ap kind_of some ∙ ap (λ (gs : List Frame). kind_of (gs ++ f ∷ [])) (sym some)
 
+  -- the message of a data frame has begun
+  begun : is_control f.op ≡ false → HasBegun g (open_offset done) (length (unfinished done) + 1)
+  begun other = by (unfinished done) refl
+    where
+      by : (earlier : List Frame) → unfinished done ≡ earlier → HasBegun g (open_offset done) (length (unfinished done) + 1)
+      by [] none =
+          let has = within.first (data_kind f.op (ap not other) (λ is. (law.group (ap not other)).continues.0 is none)) in
+          record {
+            offset_is = has.offset_is ∙ sym (offset_of_none done none);
+            count_is = has.count_is ∙ ap (λ (gs : List Frame). length gs + 1) (sym none);
+          }
+      by (h ∷ hs) some =
+          let unended : unfinished done ≢ [] = λ none. let both : h ∷ hs ≡ [] = sym some ∙ none in cc in
+          within.further ((law.group (ap not other)).continues.1 unended) unended
+
+  -- where the frame's event is, if it ends one
+  pub placed : IsPlacedAt g done f
+  placed = elim (cases_Bool (is_control f.op)) [
+    | inl control ↦
+        let own = ap is_control within.op ∙ control in
+        record {
+          offset = cond-true (is_control g.op) g.place g.start own ∙ within.place ∙ sym (cond-true (is_control f.op) (length (stream done)) (open_offset done) control);
+          count = cond-true (is_control g.op) 1 g.frames own ∙ sym (cond-true (is_control f.op) 1 (length (unfinished done ++ f ∷ [])) control);
+        }
+    | inr other ↦
+        let own = ap is_control within.op ∙ other in
+        let has = begun other in
+        record {
+          offset = cond-false (is_control g.op) g.place g.start own ∙ has.offset_is ∙ sym (cond-false (is_control f.op) (length (stream done)) (open_offset done) other);
+          count =
+              cond-false (is_control g.op) 1 g.frames own ∙ has.count_is ∙ sym (length-append (unfinished done) (f ∷ []))
+              ∙ sym (cond-false (is_control f.op) 1 (length (unfinished done ++ f ∷ [])) other);
+        }
+  ]
+
   -- a fragment is added to the open message
   pub fragment : f.fin ≡ false → IsBetweenFrames g (done ++ f ∷ [])
   fragment more =
@@ -55,6 +93,12 @@ module _ {A : Type 0} (role : Role) (limits : Limits) (g : Reassembly A) (done :
       record {
         message = within.message other ∙ sym (text_of_push (unfinished done) f) ∙ ap payload_of (sym on);
         kind = λ some. kind_is other ∙ ap kind_of (sym on);
+        begun = λ some.
+            let has = begun other in
+            record {
+              offset_is = has.offset_is ∙ sym (offset_after_fragment done f (ap not other) more);
+              count_is = has.count_is ∙ sym (length-append (unfinished done) (f ∷ [])) ∙ ap (λ (gs : List Frame). length gs) (sym on);
+            };
       }
 
   -- a control leaves the open message unchanged
@@ -65,6 +109,13 @@ module _ {A : Type 0} (role : Role) (limits : Limits) (g : Reassembly A) (done :
       record {
         message = between.message ∙ ap payload_of (sym same);
         kind = λ some. between.kind (λ none. some (same ∙ none)) ∙ ap kind_of (sym same);
+        begun = λ some.
+            let before : unfinished done ≢ [] = λ none. some (same ∙ none) in
+            let has = between.begun before in
+            record {
+              offset_is = has.offset_is ∙ sym (offset_after_control done f (ap not is) before);
+              count_is = has.count_is ∙ ap (λ (gs : List Frame). length gs) (sym same);
+            };
       }
 
   pub control_event : is_control f.op ≡ true → Control g.op g.body.items ≡ event_at done f
@@ -94,4 +145,5 @@ message_ended g done f other final none =
     record {
       message = none ∙ ap payload_of (sym nothing);
       kind = λ some. absurd (some nothing);
+      begun = λ some. absurd (some nothing);
     }

@@ -1,5 +1,6 @@
 -- What a call of an event source reads and returns, notice by notice.
-use Rattle.std.proofs.Common.{◌≡◌, ℕ, ◌+◌, ◌≤◌, Bool, true, false, cond, arith, Option, None, Some, Result, Ok, Err, List, [], ◌∷◌, ◌++◌, length, drop, refl, sym, ap, ◌∙◌, subst, append_assoc, append-nil}
+use Rattle.std.proofs.Common.{◌≡◌, ℕ, ◌+◌, ◌<◌, ◌≤◌, ◌^◌, Bool, true, false, cond, arith, Option, None, Some, Result, Ok, Err, List, [], ◌∷◌, ◌++◌, length, take, drop, refl, sym, ap, ◌∙◌, subst, append_assoc, append-nil, length-append}
+use Rattle.std.proofs.lemmas.List.{length-take}
 use Rattle.wsn_wire.specs.declared.endpoint.Role.{Role}
 use Rattle.wsn_wire.specs.declared.opcode.Op.{Op}
 use Rattle.wsn_wire.specs.Frame.{Frame, is_control, stream}
@@ -23,6 +24,7 @@ use Rattle.wsn_io.specs.declared.stop.Stop.TheVariants as stops
 use Rattle.wsn_scan.specs.ReportedFrames.{Position, BetweenFrames, InFrame, IsReportedOf}
 use Rattle.wsn_scan.specs.NoticeReaders.{HasReported, IsReading, held_payload}
 use Rattle.wsn_scan.specs.ReadNotices.{ReadsOn, ReportsEnd, IsHaltedAt, IsNotice, IsNextNotice}
+use Rattle.wsn_scan.proofs.FrameEnds.{unfinished_few}
 use Rattle.wsn_scan.proofs.ReaderReports.{reported_of}
 use Rattle.wsn_events.specs.declared.event.Event.{Event}
 use Rattle.wsn_events.specs.declared.event_reader.EventReader.{EventReader}
@@ -31,7 +33,7 @@ use Rattle.wsn_events.specs.declared.source.Next.{Next}
 use Rattle.wsn_events.specs.declared.source.Next.TheVariants as nexts
 use Rattle.wsn_events.specs.EventsMeant.{meant}
 use Rattle.wsn_events.specs.EventReaders.{HasGiven, IsAtWork, IsNextEvent, GoesOn, answered, held_of, next_of, IsEvent}
-use Rattle.wsn_events.specs.Reassembly.{IsReassembled, IsBetweenFrames, IsInFrame, IsEventOf}
+use Rattle.wsn_events.specs.Reassembly.{IsReassembled, IsBetweenFrames, IsInFrame, IsEventOf, IsPlacedAt}
 use Rattle.wsn_events.specs.Sources.{IsLast, IsHalted}
 use Rattle.wsn_events.proofs.GivenSoFar.{all_came, given_first, data_came, begun_sound}
 use Rattle.wsn_events.proofs.ReassembledFrames.{lawful_body}
@@ -123,10 +125,13 @@ module _ {A : Type 0} (role : Role) (limits : Limits) (old : Incoming) (came : L
 
     -- ---- notices after which the call goes on
 
-    pub head : (info : HeadInfo) → result ≡ Ok (notices.Head info) → (g : Reassembly A) → ((before : List Frame) → IsBetweenFrames reading.reassembly before → IsInFrame g before info.op []) → HasRead role limits old new (moved g) came given
+    pub head : (info : HeadInfo) → result ≡ Ok (notices.Head info) → (g : Reassembly A) → ((before : List Frame) → length (unfinished before) + 1 < 2 ^ 64 → info.place ≡ length (stream before) → IsBetweenFrames reading.reassembly before → IsInFrame g before info.op []) → HasRead role limits old new (moved g) came given
     head info is g begin =
         let reports = (has_reported (Ok (notices.Head info)) is).0 in
-        goes_on g done (InFrame info []) reports.1 (begin done (was_at BetweenFrames reports.0)) read.has.events
+        let scanned = reported_of role limits reader now done (InFrame info []) reports.1 in
+        let size : length (take limits.input now) ≡ length (stream done) + length scanned.rest = ap (λ (bs : List ℕ). length bs) scanned.whole ∙ length-append (stream done) scanned.rest in
+        let few : length (unfinished done) + 1 < 2 ^ 64 = omega (arith, unfinished_few done, size, length-take limits.input now, scanned.in_range.input) in
+        goes_on g done (InFrame info []) reports.1 (begin done few scanned.begun.2.0.place (was_at BetweenFrames reports.0)) read.has.events
 
     pub payload : result ≡ Ok notices.Payload → (g : Reassembly A)
         → ((before : List Frame) (op : Op) (front : List ℕ) → IsInFrame reading.reassembly before op front → IsInFrame g before op (front ++ held_payload reader)) → HasRead role limits old new (moved g) came given
@@ -183,8 +188,8 @@ module _ {A : Type 0} (role : Role) (limits : Limits) (old : Incoming) (came : L
       end_lawful control = lawful_body role limits reading.reassembly done frame has_scanned.lawful whole control
 
       module _ (g : Reassembly A) (outcome : Option (Event A))
-          (end : (before : List Frame) (f : Frame) → f.fin ≡ event → IsLawful role limits (before ++ f ∷ []) → IsInFrame reading.reassembly before f.op f.payload → IsEventOf before f outcome × IsBetweenFrames g (before ++ f ∷ [])) where
-        ends_it : IsEventOf done frame outcome × IsBetweenFrames g ended
+          (end : (before : List Frame) (f : Frame) → f.fin ≡ event → IsLawful role limits (before ++ f ∷ []) → IsInFrame reading.reassembly before f.op f.payload → IsEventOf before f outcome × IsBetweenFrames g (before ++ f ∷ []) × IsPlacedAt g before f) where
+        ends_it : IsEventOf done frame outcome × IsBetweenFrames g ended × IsPlacedAt g done frame
         ends_it = end done frame reports.1 has_scanned.lawful whole
 
         pub fragment : outcome ≡ None → HasRead role limits old new (moved g) came given
@@ -209,6 +214,8 @@ module _ {A : Type 0} (role : Role) (limits : Limits) (old : Incoming) (came : L
                 rest = has_scanned.rest ++ drop limits.input now;
                 whole = all_came role limits now ended BetweenFrames has_scanned;
                 ends = record { before = done; frame = frame; last = refl; final = of.0; ended = of.1 };
+                offset = ends_it.2.offset;
+                count = ends_it.2.count;
                 last = means;
                 first = given_first role limits now ended BetweenFrames has_scanned (given ++ meant e ∷ []) means;
                 held = held;

@@ -43,6 +43,7 @@ takes_after role limits reading reader came given has took =
         reassembly = record {
           message = was.message ∙ ap payload_of (took.none_before ∙ sym took.none_open);
           kind = λ some. absurd (some took.none_open);
+          begun = λ some. absurd (some took.none_open);
         };
         events = ap (λ (es : List MeantEvent). es ++ took.events) has.events ∙ sym took.means;
         going = has.going;

@@ -9,6 +9,7 @@ use Rattle.wsn_rules.specs.Lawful.{IsLawful}
 use Rattle.wsn_rules.specs.LawfulEvents.{IsLawfulEvent}
 use Rattle.wsn_rules.specs.Limits.{Limits}
 use Rattle.wsn_rules.specs.Meaning.{MeantEvent, event_at, meaning}
+use Rattle.wsn_rules.specs.ShownStream.{event_offset, event_frames}
 use Rattle.wsn_io.specs.declared.stop.Stop.{Stop}
 use Rattle.wsn_scan.specs.ReportedFrames.{Position}
 use Rattle.wsn_scan.specs.NoticeReaders.{HasReported}
@@ -18,7 +19,7 @@ use Rattle.wsn_events.specs.declared.event_reader.EventReader.{EventReader}
 use Rattle.wsn_events.specs.declared.source.Next.{Next}
 use Rattle.wsn_events.specs.declared.source.Next.TheVariants as nexts
 use Rattle.wsn_events.specs.EventsMeant.{meant}
-use Rattle.wsn_events.specs.Reassembly.{IsReassembled}
+use Rattle.wsn_events.specs.Reassembly.{IsReassembled, offset_given, frames_given}
 use Rattle.wsn_events.specs.Sources.{AreFirstOf, IsLast}
 
 -- It has read the bytes that came, given the events of the frames that were reported to their ends, and not ended.
@@ -47,6 +48,14 @@ answered reading = reading.answer
 abbrev pub held_of : {A : Type 0} → EventReader A → ℕ
 held_of reading = length reading.reassembly.message.items
 
+-- the offset of the first frame of the event that a source gave last
+abbrev pub offset_of : {A : Type 0} → EventReader A → ℕ
+offset_of reading = offset_given reading.reassembly
+
+-- the number of its frames
+abbrev pub frames_of : {A : Type 0} → EventReader A → ℕ
+frames_of reading = frames_given reading.reassembly
+
 -- a bound on how many events can still come
 abbrev pub readings_left : {A : Type 0} → EventReader A → ℕ
 readings_left reading = readers.notices_left reading.reader
@@ -73,8 +82,9 @@ pub record EndsEvent (frames : List Frame) (event : MeantEvent) : Type 0 where
   pub final : frame.fin ≡ true
   pub ended : event ≡ event_at before frame
 
--- The event is lawful, is the next of the meaning after those given, and comes at the frame that ends it. Of a message
--- that is open after that frame the source holds all that came, which is within the limit.
+-- The event is lawful, is the next of the meaning after those given, and comes at the frame that ends it. The source has
+-- its offset and the number of its frames. Of a message that is open after that frame the source holds all that came,
+-- which is within the limit.
 pub record IsGiven {A : Type 0} (role : Role) (limits : Limits) (reading : EventReader A) (came : List ℕ)
     (given : List MeantEvent) (event : Event A) : Type 0 where
   pub lawful : IsLawfulEvent (meant event)
@@ -83,6 +93,8 @@ pub record IsGiven {A : Type 0} (role : Role) (limits : Limits) (reading : Event
   pub rest : List ℕ
   pub whole : came ≡ stream frames ++ rest
   pub ends : EndsEvent frames (meant event)
+  pub offset : offset_of reading ≡ event_offset ends.before ends.frame
+  pub count : frames_of reading ≡ event_frames ends.before ends.frame
   pub last : given ++ meant event ∷ [] ≡ meaning frames
   pub first : AreFirstOf role limits (take limits.input came) (given ++ meant event ∷ [])
   pub held : held_of reading ≡ length (payload_of (unfinished frames))

@@ -6,6 +6,7 @@ pub mod EventReaders
 pub mod TakenEvents
 pub mod LeavingOut
 pub mod Comparing
+pub mod Excerpts
 pub mod Normalised
 -- for the clauses in src/
 pub mod Words

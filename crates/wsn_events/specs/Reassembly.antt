@@ -1,13 +1,14 @@
 -- What an event source keeps: the open message so far, and the frame that has begun.
-use Rattle.std.specs.Prelude.{◌≡◌, ◌≢◌, ℕ, ◌≤◌, true, false, Option, None, Some, List, [], ◌++◌, length}
+use Rattle.std.specs.Prelude.{◌≡◌, ◌≢◌, ℕ, ◌+◌, ◌≤◌, ◌⊎◌, true, false, Option, None, Some, List, [], ◌++◌, length, if◌then◌else◌}
 use Rattle.wsn_wire.specs.declared.opcode.Op.{Op}
 use Rattle.wsn_wire.specs.declared.opcode.Op.TheVariants as ops
 use Rattle.wsn_wire.specs.declared.opcode.Kind.{Kind}
 use Rattle.wsn_wire.specs.declared.opcode.Kind.TheVariants as kinds
-use Rattle.wsn_wire.specs.Frame.{Frame, is_control}
+use Rattle.wsn_wire.specs.Frame.{Frame, is_control, stream}
 use Rattle.wsn_scan.specs.ReportedFrames.{Position, BetweenFrames, InFrame}
 use Rattle.wsn_rules.specs.Group.{unfinished, kind_of, payload_of}
 use Rattle.wsn_rules.specs.Meaning.{event_at}
+use Rattle.wsn_rules.specs.ShownStream.{open_offset, event_offset, event_frames}
 use Rattle.wsn_events.specs.declared.event.Event.{Event}
 use Rattle.wsn_events.specs.declared.reassembly.Reassembly.{Reassembly}
 use Rattle.wsn_events.specs.EventsMeant.{meant}
@@ -16,10 +17,16 @@ use Rattle.wsn_events.specs.EventsMeant.{meant}
 abbrev pub IsKindOf : Kind → List Frame → Type 0
 IsKindOf k group = group ≢ [] → k ≡ kind_of group
 
+-- The open message begins at this offset, and has this many frames.
+pub record HasBegun {A : Type 0} (g : Reassembly A) (offset count : ℕ) : Type 0 where
+  pub offset_is : g.start ≡ offset
+  pub count_is : g.frames ≡ count
+
 -- Between frames, the open message is the joined payload of its frames so far.
 pub record IsBetweenFrames {A : Type 0} (g : Reassembly A) (done : List Frame) : Type 0 where
   pub message : g.message.items ≡ payload_of (unfinished done)
   pub kind : IsKindOf g.kind (unfinished done)
+  pub begun : unfinished done ≢ [] → HasBegun g (open_offset done) (length (unfinished done))
 
 -- In a frame with this opcode and this payload so far: a control's payload of at most 125 bytes is kept apart, and a
 -- data frame's is appended to the open message.
@@ -31,6 +38,10 @@ pub record IsInFrame {A : Type 0} (g : Reassembly A) (done : List Frame) (o : Op
   pub text : o ≡ ops.Text → g.kind ≡ kinds.Text
   pub binary : o ≡ ops.Binary → g.kind ≡ kinds.Binary
   pub continued : o ≡ ops.Continue → IsKindOf g.kind (unfinished done)
+  pub place : g.place ≡ length (stream done)
+  pub first : (o ≡ ops.Text) ⊎ (o ≡ ops.Binary) → HasBegun g (length (stream done)) 1
+  pub further :
+      o ≡ ops.Continue → unfinished done ≢ [] → HasBegun g (open_offset done) (length (unfinished done) + 1)
 
 -- After the frames that are done, at this position.
 abbrev pub IsReassembled : {A : Type 0} → Reassembly A → List Frame → Position → Type 0
@@ -41,3 +52,16 @@ IsReassembled g done (InFrame info payload) = IsInFrame g done info.op payload
 abbrev pub IsEventOf : {A : Type 0} → List Frame → Frame → Option (Event A) → Type 0
 IsEventOf done f None = f.fin ≡ false
 IsEventOf done f (Some event) = (f.fin ≡ true) × (meant event ≡ event_at done f)
+
+-- The offset of the first frame of the event that ended last.
+abbrev pub offset_given : {A : Type 0} → Reassembly A → ℕ
+offset_given g = if is_control g.op then g.place else g.start
+
+-- The number of its frames.
+abbrev pub frames_given : {A : Type 0} → Reassembly A → ℕ
+frames_given g = if is_control g.op then 1 else g.frames
+
+-- If the frame ends an event after those that are done, its first frame is at this offset, and it has this many frames.
+pub record IsPlacedAt {A : Type 0} (g : Reassembly A) (done : List Frame) (f : Frame) : Type 0 where
+  pub offset : offset_given g ≡ event_offset done f
+  pub count : frames_given g ≡ event_frames done f

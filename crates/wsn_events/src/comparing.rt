@@ -5,9 +5,11 @@ ghost use Rattle.wsn_rules.specs.Limits.{Limits};
 ghost use Rattle.wsn_rules.specs.Meaning.{MeantEvent};
 ghost use Rattle.wsn_events.specs.Sources.{IsLast};
 ghost use Rattle.wsn_rules.specs.LeftOut.{events_without};
-ghost use Rattle.wsn_events.specs.Comparing.{IsComparisonOutcome, IsRoundOf, IsComparedBy, IsCompared, IsComparisonOfBy, IsComparisonOf};
+ghost use Rattle.wsn_events.specs.Excerpts.{IsContrasted, IsLawfulNext, KeepsFirst, KeepsOf, index_in};
+ghost use Rattle.wsn_events.specs.Comparing.{IsComparisonOutcome, IsAnAccepted, IsRoundOf, IsComparedBy, IsCompared, IsComparisonOfBy, IsComparisonOf};
 
 use crate::event::is_same;
+use crate::first_difference::{FirstDifference, excerpt_of};
 use crate::leaving_out::next_without;
 use crate::source::{Next, Source};
 use std::alloc::Allocator;
@@ -67,6 +69,27 @@ pub fn same_without<A: Allocator + Copy, R: Read, S: Read>(
         second.old.remaining ≡ Some others →
         IsComparisonOfBy (events_without without) role limits all others compared) }
 {
+    let (compared, _difference) = contrast(alloc, first, second, role, limits, without)?;
+    Ok(compared)
+}
+
+/// Compares what two streams mean, as [`same_without`] does. If they differ, it also returns what is needed to show the
+/// first events that do.
+///
+/// Errors: as [`same`].
+#[tactic(none)]
+pub fn contrast<A: Allocator + Copy, R: Read, S: Read>(
+    alloc: A,
+    first: &mut Input<R>,
+    second: &mut Input<S>,
+    role: Role,
+    limits: Limits,
+    without: Without,
+) -> Result<(Compared, Option<FirstDifference>), Stop>
+    requires first { first.old.failed ≡ false }
+    requires second { second.old.failed ≡ false }
+    ensures { IsContrasted without role limits first.old first.new second.old second.new result }
+{
     let mut events = Source::new(alloc, role, limits);
     let mut others = Source::new(alloc, role, limits);
     let mut index = 0;
@@ -74,16 +97,73 @@ pub fn same_without<A: Allocator + Copy, R: Read, S: Read>(
     loop {
         let next = next_without(&mut events, first, without)?;
         let other = next_without(&mut others, second, without)?;
-        match round_of(next, other) {
-            Round::Alike => {}
-            Round::Unlike => difference = difference.or(Some(index)),
-            Round::Over(verdict, other) => return Ok(outcome(verdict, other, difference)),
+        let round = end_round(&mut difference, index, &events, next, &others, other);
+        if let Round::Over(verdict, other) = round {
+            let compared = outcome(verdict, other, index_of(&difference));
+            return Ok((compared, difference));
         }
         index += 1;
     }
 }
 
+/// The round that these two results make. It frees their events, and keeps of the first that differ what shows them.
+fn end_round<A: Allocator + Copy>(
+    difference: &mut Option<FirstDifference>,
+    index: u64,
+    events: &Source<A>,
+    next: Next<A>,
+    others: &Source<A>,
+    other: Next<A>,
+) -> Round
+    requires next { IsLawfulNext next }
+    requires other { IsLawfulNext other }
+    ensures round { IsRoundOf next other result }
+    ensures kept { KeepsOf result index events.now next others.now other difference.old difference.new }
+{
+    let round = round_of(&next, &other);
+    if let Round::Unlike = round {
+        keep_first(difference, index, events, &next, others, &other);
+    }
+    round
+}
+
+/// Keeps what shows the events that the sources gave last, unless a difference is kept already.
+#[tactic(none)]
+fn keep_first<A: Allocator + Copy>(
+    difference: &mut Option<FirstDifference>,
+    index: u64,
+    events: &Source<A>,
+    next: &Next<A>,
+    others: &Source<A>,
+    other: &Next<A>,
+)
+    requires next { IsLawfulNext next.now }
+    requires other { IsLawfulNext other.now }
+    ensures { KeepsFirst index events.now next.now others.now other.now difference.old difference.new }
+{
+    if difference.is_some() {
+        return;
+    }
+    *difference = Some(FirstDifference {
+        index,
+        first: excerpt_of(events, next),
+        second: excerpt_of(others, other),
+    });
+}
+
+/// The index of a difference, if there is one.
+#[tactic(none)]
+fn index_of(difference: &Option<FirstDifference>) -> Option<u64>
+    ensures { result ≡ index_in difference.now }
+{
+    match difference {
+        Some(difference) => Some(difference.index),
+        None => None,
+    }
+}
+
 /// The results of both streams in one round.
+#[derive(Clone, Copy)]
 enum Round {
     /// The same event.
     Alike,
@@ -93,12 +173,12 @@ enum Round {
     Over(Verdict, Verdict),
 }
 
-/// The round that these two results make. It frees their events.
+/// The round that these two results make.
 #[tactic(none)]
-fn round_of<A: Allocator>(next: Next<A>, other: Next<A>) -> Round
-    ensures { IsRoundOf next other result }
+fn round_of<A: Allocator>(next: &Next<A>, other: &Next<A>) -> Round
+    ensures { IsRoundOf next.now other.now result }
 {
-    match (&next, &other) {
+    match (next, other) {
         (Next::Done(verdict), Next::Done(other)) => Round::Over(*verdict, *other),
         (Next::Event(event), Next::Event(other)) if is_same(event, other) => Round::Alike,
         _ => Round::Unlike,
@@ -108,7 +188,10 @@ fn round_of<A: Allocator>(next: Next<A>, other: Next<A>) -> Round
 /// The answer, by both verdicts and the index of the first difference.
 #[tactic(none)]
 fn outcome(verdict: Verdict, other: Verdict, difference: Option<u64>) -> Compared
-    ensures { (part : List MeantEvent → List MeantEvent) → IsComparisonOutcome part verdict other difference result }
+    ensures answer { (part : List MeantEvent → List MeantEvent) →
+        IsComparisonOutcome part verdict other difference result }
+    ensures differs { (k : ℕ) → result ≡ Compared.Different k →
+        (difference ≡ Some k) × IsAnAccepted verdict × IsAnAccepted other }
 {
     let Verdict::Accepted(_) = verdict else {
         return Compared::NotAccepted {

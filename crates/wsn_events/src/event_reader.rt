@@ -16,7 +16,7 @@ pub struct EventReader<A: Allocator> {
 
 impl<A: Allocator + Copy> EventReader<A> {
     ghost use Rattle.std.specs.Prelude.{◌≡◌, ℕ, ◌<◌, ◌≤◌, List, [], None, Some, true, false};
-    ghost use Rattle.wsn_events.specs.Words.{Role, MeantEvent, HasGiven, IsAtWork, GoesOn, IsEvent, answered, held_of, readings_left, next_of, TakesEventsAfter, held_bytes};
+    ghost use Rattle.wsn_events.specs.Words.{Role, MeantEvent, HasGiven, IsAtWork, GoesOn, IsEvent, answered, held_of, offset_of, frames_of, readings_left, next_of, TakesEventsAfter, held_bytes};
 
     /// A source that has read nothing.
     #[tactic(none)]
@@ -36,6 +36,20 @@ impl<A: Allocator + Copy> EventReader<A> {
         ensures { result ≡ held_of self.now }
     {
         self.reassembly.held()
+    }
+
+    /// The offset of the first frame of the event that it gave last.
+    pub fn offset(&self) -> u64
+        ensures { result ≡ offset_of self.now }
+    {
+        self.reassembly.offset()
+    }
+
+    /// The number of frames of the event that it gave last.
+    pub fn frames(&self) -> u64
+        ensures { result ≡ frames_of self.now }
+    {
+        self.reassembly.frames()
     }
 
     /// The verdict or stop that it has ended with, if it has ended.
@@ -58,7 +72,7 @@ impl<A: Allocator + Copy> EventReader<A> {
     {
         loop {
             match self.reader.next(input) {
-                Ok(NextNotice::Head(head)) => self.reassembly.begin(head.op),
+                Ok(NextNotice::Head(head)) => self.reassembly.begin(head.op, head.place),
                 Ok(NextNotice::Payload) => {
                     if !self.reassembly.take(self.reader.payload()) {
                         return self.finish(Err(Stop::Memory));

@@ -3,18 +3,20 @@
 //! An [`Event`] is a message, a ping, a pong or the close. A [`Source`] reads a stream's events, each at the frame that
 //! ends it, and then its verdict. [`put_event`] writes an event's normal form, which is one frame. [`normalise`] writes
 //! the normal form of a stream. [`same`] compares what two streams mean, and [`same_without`] leaves out controls of some
-//! kinds. [`is_lawful`] checks whether a stream can mean an event, and [`control_of`] returns a control's opcode and
+//! kinds; [`contrast`] also returns the first events that differ. [`is_lawful`] checks whether a stream can mean an event, and [`control_of`] returns a control's opcode and
 //! body.
 //!
 //! `specs/EventsMeant.antt` defines what an [`Event`] means, `specs/Sources.antt` which events a source gives,
-//! `specs/Normalised.antt` what normalising writes, and `specs/Comparing.antt` what a comparison answers. Lawful events
-//! and the normal form are defined in `wsn_rules` (`specs/LawfulEvents.antt`, `specs/NormalForm.antt`). [`laws`] has
+//! `specs/Normalised.antt` what normalising writes, `specs/Comparing.antt` what a comparison answers, and
+//! `specs/Excerpts.antt` what is kept of the events that differ. Lawful events and the normal form are defined in `wsn_rules` (`specs/LawfulEvents.antt`, `specs/NormalForm.antt`). [`laws`] has
 //! the laws about them.
 #![tactic(auto)]
 
 mod comparing;
 mod event;
 mod event_reader;
+mod excerpt;
+mod first_difference;
 mod framing;
 pub mod laws;
 mod leaving_out;
@@ -23,8 +25,10 @@ mod putting;
 mod reassembly;
 mod source;
 
-pub use comparing::{same, same_without};
+pub use comparing::{contrast, same, same_without};
 pub use event::{Event, Small, is_lawful};
+pub use excerpt::Excerpt;
+pub use first_difference::FirstDifference;
 pub use framing::put_frame;
 pub use normal::normalise;
 pub use putting::{control_of, put_event};

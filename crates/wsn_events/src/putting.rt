@@ -91,7 +91,7 @@ fn body_of_close(held: &Option<(u16, Small)>) -> Small
 }
 
 /// The opcode that begins a message of this kind.
-fn op_of(kind: Kind) -> Op
+pub(crate) fn op_of(kind: Kind) -> Op
     ensures op { result ≡ op_of kind }
     ensures data { is_control result ≡ false }
 {

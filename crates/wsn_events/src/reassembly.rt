@@ -7,14 +7,22 @@ use wsn_wire::{Kind, Op};
 #[derive(Drop)]
 pub struct Reassembly<A: Allocator> {
     op: Op,
+    /// The offset of that frame.
+    place: u64,
     kind: Kind,
     message: Vec<u8, A>,
+    /// The offset of the open message's first frame.
+    start: u64,
+    /// The number of the open message's frames, with the one that has begun.
+    frames: u64,
     body: Small,
 }
 
 impl<A: Allocator + Copy> Reassembly<A> {
-    ghost use Rattle.std.specs.Prelude.{◌≡◌, ℕ, ◌+◌, List, [], ◌∷◌, ◌++◌, true, false, length};
-    ghost use Rattle.wsn_events.specs.Words.{Role, Frame, is_control, IsLawful, IsLawfulControl, IsBetweenFrames, IsInFrame, IsEventOf};
+    ghost use Rattle.std.specs.Prelude.{◌≡◌, ℕ, ◌+◌, ◌<◌, ◌^◌, List, [], ◌∷◌, ◌++◌, true, false, length};
+    ghost use Rattle.wsn_rules.specs.Group.{unfinished};
+    ghost use Rattle.wsn_wire.specs.Frame.{stream};
+    ghost use Rattle.wsn_events.specs.Words.{Role, Frame, is_control, IsLawful, IsLawfulControl, IsBetweenFrames, IsInFrame, IsEventOf, offset_given, frames_given, IsPlacedAt};
 
     /// Nothing has come yet.
     pub fn new(alloc: A) -> Self
@@ -22,8 +30,11 @@ impl<A: Allocator + Copy> Reassembly<A> {
     {
         Reassembly {
             op: Op::Continue,
+            place: 0,
             kind: Kind::Binary,
             message: Vec::new(alloc),
+            start: 0,
+            frames: 0,
             body: Small::new(),
         }
     }
@@ -35,6 +46,24 @@ impl<A: Allocator + Copy> Reassembly<A> {
         self.message.len()
     }
 
+    /// The offset of the first frame of the event that ended last.
+    pub fn offset(&self) -> u64
+        ensures { result ≡ offset_given self.now }
+    {
+        if self.op.is_control() {
+            self.place
+        } else {
+            self.start
+        }
+    }
+
+    /// The number of frames of the event that ended last.
+    pub fn frames(&self) -> u64
+        ensures { result ≡ frames_given self.now }
+    {
+        if self.op.is_control() { 1 } else { self.frames }
+    }
+
     /// Frees the open message.
     #[tactic(none)]
     pub fn release(&mut self)
@@ -43,18 +72,33 @@ impl<A: Allocator + Copy> Reassembly<A> {
         self.message = Vec::new(*self.message.allocator());
     }
 
-    /// Begins a frame with this opcode.
+    /// Begins a frame with this opcode at this offset.
     #[tactic(none)]
-    pub fn begin(&mut self, op: Op)
-        ensures { (done : List Frame) → IsBetweenFrames self.old done → IsInFrame self.new done op [] }
+    pub fn begin(&mut self, op: Op, place: u64)
+        ensures { (done : List Frame) → length (unfinished done) + 1 < 2 ^ 64 → place ≡ length (stream done) →
+            IsBetweenFrames self.old done → IsInFrame self.new done op [] }
     {
         self.op = op;
+        self.place = place;
         self.body.clear();
         match op {
-            Op::Text => self.kind = Kind::Text,
-            Op::Binary => self.kind = Kind::Binary,
+            Op::Text => self.begin_message(Kind::Text),
+            Op::Binary => self.begin_message(Kind::Binary),
+            Op::Continue => self.frames = self.frames.saturating_add(1),
             _ => {}
         }
+    }
+
+    /// Begins a message with the frame that has begun.
+    fn begin_message(&mut self, kind: Kind)
+        ensures kind { self.new.kind ≡ kind }
+        ensures begun { (self.new.start ≡ self.old.place) × (self.new.frames ≡ 1) }
+        ensures same { (self.new.op ≡ self.old.op) × (self.new.place ≡ self.old.place)
+            × (self.new.message ≡ self.old.message) × (self.new.body ≡ self.old.body) }
+    {
+        self.kind = kind;
+        self.start = self.place;
+        self.frames = 1;
     }
 
     /// Adds payload of the frame. Returns false if an allocation fails; only a data frame allocates.
@@ -79,7 +123,7 @@ impl<A: Allocator + Copy> Reassembly<A> {
         ensures { (role : Role) (limits : _) (done : List Frame) (f : Frame) → f.fin ≡ final_frame →
             IsLawful role limits (done ++ f ∷ []) →
             IsInFrame self.old done f.op f.payload → IsEventOf done f result
-            × IsBetweenFrames self.new (done ++ f ∷ []) }
+            × IsBetweenFrames self.new (done ++ f ∷ []) × IsPlacedAt self.new done f }
     {
         if !final_frame {
             return None;

@@ -35,7 +35,7 @@ impl<A: Allocator> Model for Source<A> {
 }
 
 impl<A: Allocator + Copy> Source<A> {
-    ghost use Rattle.wsn_events.specs.Words.{Role, MeantEvent, Verdict, Stop, HasGiven, GoesOn, IsEvent, answered, held_of, readings_left, next_of, TakesEventsAfter, held_bytes};
+    ghost use Rattle.wsn_events.specs.Words.{Role, MeantEvent, Verdict, Stop, HasGiven, GoesOn, IsEvent, answered, held_of, offset_of, frames_of, readings_left, next_of, TakesEventsAfter, held_bytes};
 
     /// A source that has read nothing. `role` is the endpoint that sent the stream. It allocates no memory.
     pub fn new(alloc: A, role: Role, limits: Limits) -> Self
@@ -51,6 +51,21 @@ impl<A: Allocator + Copy> Source<A> {
         ensures { result ≡ held_of self.now }
     {
         self.reading.held()
+    }
+
+    /// The offset of the first frame of the event that it gave last; any number if it gave none, or its frames were taken
+    /// by [`Source::take_events`].
+    pub(crate) fn offset(&self) -> u64
+        ensures { result ≡ offset_of self.now }
+    {
+        self.reading.offset()
+    }
+
+    /// The number of frames of that event.
+    pub(crate) fn frames(&self) -> u64
+        ensures { result ≡ frames_of self.now }
+    {
+        self.reading.frames()
     }
 
     /// Reads on from the input and returns the next event, or the verdict if there is none.

@@ -3,7 +3,6 @@ ghost use Rattle.std.specs.Io.KnownBytes.{Appends, IsAtEnd, Keeps, prepend_known
 ghost use Rattle.wsn_io.specs.Blocks.{all_of};
 
 use crate::output::Output;
-use arrayvec::ArrayVec;
 use std::io::{self, Read, Write};
 use std::marker::Model;
 
@@ -75,15 +74,20 @@ impl<R: Read> Read for BlockReader<R> {
 #[derive(Drop)]
 pub struct BlockWriter<W: Write> {
     output: Output<W>,
-    pending: ArrayVec<u8, PENDING>,
+    block: [u8; PENDING],
+    /// The first `len` bytes of the block are buffered.
+    len: usize,
 }
 
 impl<W: Write> Model for BlockWriter<W> {
+    ghost use Rattle.std.specs.Prelude.{◌≤◌, take};
     ghost use Rattle.wsn_io.specs.Blocks.{BlockOutput};
 
     ghost Value = { BlockOutput };
 
-    ghost view = { λ w. record { written = w.output.written; pending = w.pending.items; failed = w.output.failed } };
+    ghost view = { λ w. record { written = w.output.written; pending = take w.len w.block; failed = w.output.failed } };
+
+    ghost invariant = { λ w. w.len ≤ 8192 };
 }
 
 impl<W: Write> BlockWriter<W> {
@@ -96,7 +100,8 @@ impl<W: Write> BlockWriter<W> {
     {
         BlockWriter {
             output: Output::new(writer),
-            pending: ArrayVec::new(),
+            block: [0; PENDING],
+            len: 0,
         }
     }
 
@@ -115,10 +120,28 @@ impl<W: Write> BlockWriter<W> {
         if self.output.failed() {
             return false;
         }
-        match self.pending.try_extend_from_slice(bytes) {
-            Ok(()) => true,
-            Err(_) => self.flush() && self.put_first(bytes),
+        if self.hold(bytes) {
+            return true;
         }
+        self.flush() && self.put_first(bytes)
+    }
+
+    /// Appends the bytes to the buffer if they fit.
+    #[inline(always)]
+    #[tactic(none)]
+    fn hold(&mut self, bytes: &[u8]) -> bool
+        ensures held { result ≡ true → self.new.pending ≡ self.old.pending ++ bytes.now }
+        ensures full { result ≡ false → self.new ≡ self.old }
+        ensures written { self.new.written ≡ self.old.written }
+        ensures failed { self.new.failed ≡ self.old.failed }
+    {
+        if bytes.len() > PENDING - self.len {
+            return false;
+        }
+        let end = self.len + bytes.len();
+        self.block[self.len..end].copy_from_slice(bytes);
+        self.len = end;
+        true
     }
 
     /// Like `put`, on an empty buffer. Bytes that don't fit into the buffer are written at once.
@@ -132,10 +155,10 @@ impl<W: Write> BlockWriter<W> {
         ensures failed { self.new.failed ≡ not result }
         ensures prefix { result ≡ false → (k : ℕ) × Appends self.old.written self.new.written (take k bytes.now) }
     {
-        match self.pending.try_extend_from_slice(bytes) {
-            Ok(()) => true,
-            Err(_) => self.output.put(bytes),
+        if self.hold(bytes) {
+            return true;
         }
+        self.output.put(bytes)
     }
 
     /// Writes all buffered bytes. `false` if a write fails now or has failed before. If it fails now, a prefix of the
@@ -149,10 +172,10 @@ impl<W: Write> BlockWriter<W> {
         ensures for_good { self.old.failed ≡ true → (result ≡ false) × (self.new ≡ self.old) }
         ensures prefix { result ≡ false → (k : ℕ) × Appends self.old.written self.new.written (take k self.old.pending) }
     {
-        if self.output.failed() || !self.output.put(self.pending.as_slice()) {
+        if self.output.failed() || !self.output.put(&self.block[..self.len]) {
             return false;
         }
-        self.pending.clear();
+        self.len = 0;
         true
     }
 }

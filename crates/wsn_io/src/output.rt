@@ -41,6 +41,14 @@ impl<W: Write> Output<W> {
         self.failed
     }
 
+    /// The writer, in the state in which the last write left it.
+    #[tactic(none)]
+    pub fn into_writer(self) -> W
+        ensures { W.contents result ≡ self.written }
+    {
+        self.writer
+    }
+
     /// Calls the writer until it has accepted all the bytes; without bytes it makes no call. `false` at the writer's
     /// first error, of any kind, or if it accepts no byte: a proper prefix of the bytes has been written.
     #[tactic(none)]

@@ -1,2 +1,3 @@
 pub mod Runs
 pub mod SideRuns
+pub mod AnswerTexts

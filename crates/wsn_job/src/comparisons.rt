@@ -1,34 +1,27 @@
-ghost use Rattle.std.specs.Prelude.{◌≡◌, ◌⊎◌, false, true, Result};
+ghost use Rattle.std.specs.Prelude.{◌≡◌, ◌⊎◌, ℕ, false, true, List, Result, Ok, Some};
 ghost use Rattle.wsn_job.specs.Channels.{compared_channels};
+ghost use Rattle.wsn_io.specs.Stops.{IsWrittenOrStops};
+ghost use Rattle.wsn_events.specs.Excerpts.{HasExcerpts};
+ghost use Rattle.wsn_job.specs.Comparisons.{IsAnswerText};
 ghost use Rattle.wsn_job.specs.Words.{Stop, Compared, IsComparisonPrinted, comparison_status, IsStopDiagnosed};
 
+use crate::comparison::Comparison;
 use crate::diagnostics::diagnose_if_stopped;
 use std::alloc::Allocator;
 use std::io::{Read, Write};
-use wsn_events::{Compared, Without, same_without};
-use wsn_print::{Format, put_compared_as, status_of_comparison};
-use wsn_scan::{Limits, Stop};
-use wsn_wire::{Input, Output, Role};
+use wsn_events::{Compared, FirstDifference, contrast};
+use wsn_print::{ViewLimit, put_compared_as, put_difference_as, status_of_comparison};
+use wsn_scan::Stop;
+use wsn_wire::{Input, Output};
 
-/// How two streams are compared, and how the answer is printed.
-#[derive(Clone, Copy)]
-pub struct Comparison {
-    /// The endpoint that sent the streams.
-    pub role: Role,
-    /// The limits for reading each of them.
-    pub limits: Limits,
-    /// The controls that are left out of both meanings.
-    pub without: Without,
-    /// The format of the answer.
-    pub format: Format,
-}
-
-/// Compares the meaning of two streams that endpoints of one role sent, prints the answer as one line, and returns the
-/// program's exit status.
+/// Compares the meaning of two streams that endpoints of one role sent, prints the answer, and returns the program's exit
+/// status.
 ///
-/// In words, the line is `equal`, with status 0; `different K`, with status 1, where K is the index, from 0, of the first event
-/// that differs; or, for a stream that isn't accepted, `first ` or `second ` and its verdict's line, with status 1. A
-/// stop gives status 2 and one line on `errors`; what can't be written there is dropped.
+/// In words, the answer is the line `equal`, with status 0; `different K`, with status 1, where K is the index, from 0, of
+/// the first event that differs; or, for a stream that isn't accepted, `first ` or `second ` and its verdict's line, with
+/// status 1. With a view, the lines `first ` and `second ` follow `different K`, each with the stream's event as `show`
+/// prints it, or a dash if the stream has no such event. A stop gives status 2 and one line on `errors`; what can't be
+/// written there is dropped.
 #[tactic(none)]
 pub fn run_same<A: Allocator + Copy, R: Read, S: Read, W: Write, E: Write>(
     alloc: A,
@@ -76,9 +69,60 @@ pub(crate) fn print_comparison<A: Allocator + Copy, R: Read, S: Read, W: Write>(
         role,
         limits,
         without,
-        format,
+        ..
     } = comparison;
-    let compared = same_without(alloc, first, second, role, limits, without)?;
-    put_compared_as(output, format, compared)?;
+    let (compared, difference) = contrast(alloc, first, second, role, limits, without)?;
+    put_answer(output, comparison, compared, &difference)?;
     Ok(compared)
+}
+
+/// Prints an answer, and if the comparison has a view the first events that differ.
+#[tactic(none)]
+fn put_answer<W: Write>(
+    output: &mut Output<W>,
+    comparison: Comparison,
+    compared: Compared,
+    difference: &Option<FirstDifference>,
+) -> Result<(), Stop>
+    requires { output.old.failed ≡ false }
+    ensures { (bytes others : List ℕ) →
+        HasExcerpts comparison.without comparison.role comparison.limits bytes others (Ok (compared, difference.now)) →
+        (text : List ℕ) × IsAnswerText comparison bytes others compared text
+        × IsWrittenOrStops output.old output.new text result }
+{
+    let Compared::Different(_) = compared else {
+        return put_compared_as(output, comparison.format, compared);
+    };
+    match comparison.view {
+        Some(view) => put_seen(output, comparison, view, compared, difference),
+        None => put_compared_as(output, comparison.format, compared),
+    }
+}
+
+/// Prints that the streams differ, and the first events that do, of whose payloads so much is shown.
+#[tactic(none)]
+fn put_seen<W: Write>(
+    output: &mut Output<W>,
+    comparison: Comparison,
+    view: ViewLimit,
+    compared: Compared,
+    difference: &Option<FirstDifference>,
+) -> Result<(), Stop>
+    requires writable { output.old.failed ≡ false }
+    requires seen { comparison.view ≡ Some view }
+    ensures { (bytes others : List ℕ) (k : ℕ) → compared ≡ Compared.Different k →
+        HasExcerpts comparison.without comparison.role comparison.limits bytes others (Ok (compared, difference.now)) →
+        (text : List ℕ) × IsAnswerText comparison bytes others compared text
+        × IsWrittenOrStops output.old output.new text result }
+{
+    match difference {
+        Some(difference) => put_difference_as(
+            output,
+            comparison.format,
+            view,
+            comparison.role,
+            &difference.shown(),
+        ),
+        None => put_compared_as(output, comparison.format, compared),
+    }
 }

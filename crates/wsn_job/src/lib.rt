@@ -8,6 +8,7 @@
 #![tactic(auto)]
 
 mod closings;
+mod comparison;
 mod comparisons;
 mod diagnostics;
 mod done;
@@ -19,7 +20,8 @@ mod sides;
 pub mod status_examples;
 mod verdicts;
 
-pub use comparisons::{Comparison, run_same};
+pub use comparison::Comparison;
+pub use comparisons::run_same;
 pub use job::{How, Job};
 pub use running::run;
 pub use sides::{run_on_side, run_same_on_sides};

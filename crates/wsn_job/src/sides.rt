@@ -3,7 +3,8 @@ ghost use Rattle.wsn_job.specs.Channels.{channels, compared_channels};
 ghost use Rattle.wsn_job.specs.Sides.{MayRunOnSide, IsRunOnSide, IsFaultySide, IsFirstFaultySide, IsSameDiagnosed};
 ghost use Rattle.wsn_job.specs.Words.{Stop, Compared, IsComparisonPrinted, comparison_status};
 
-use crate::comparisons::{Comparison, print_comparison};
+use crate::comparison::Comparison;
+use crate::comparisons::print_comparison;
 use crate::diagnostics::{diagnose_if_stopped, diagnose_line_fault};
 use crate::job::Job;
 use crate::running::work;

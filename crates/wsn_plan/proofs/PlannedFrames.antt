@@ -24,7 +24,7 @@ use Rattle.wsn_io.specs.declared.stop.Stop.{Stop}
 use Rattle.wsn_io.specs.declared.stop.Stop.TheVariants as stop
 use Rattle.wsn_scan.specs.ReportedFrames.{Position, BetweenFrames, InFrame, IsReportedOf}
 use Rattle.wsn_scan.specs.NoticeReaders.{HasReported, IsReading, held_payload}
-use Rattle.wsn_scan.specs.ReadNotices.{ReadsOn, IsHaltedAt}
+use Rattle.wsn_scan.specs.ReadNotices.{ReadsOn, IsHaltedAt, ReportsFrame}
 use Rattle.wsn_scan.proofs.ReaderReports.{reported_of}
 use Rattle.wsn_events.specs.Normalised.{IsWithinLimit}
 use Rattle.wsn_events.proofs.GivenSoFar.{all_came}
@@ -75,6 +75,18 @@ no_frame : (before : List Frame) (f : Frame) → before ++ f ∷ [] ≡ [] → �
 no_frame [] f is = cc
 no_frame (b ∷ before) f is = cc
 
+-- A frame that was reported to its end is a whole one.
+whole_frame_came : (role : Role) (limits : Limits) (reader : NoticeReader) (came : List ℕ) (done : List Frame) (f : Frame) → HasReported role limits reader came (done ++ f ∷ []) BetweenFrames → HasWholeFrame role limits came
+whole_frame_came role limits reader came done f has_reported =
+    let is : IsReportedOf role limits came (done ++ f ∷ []) BetweenFrames = reported_of role limits reader came (done ++ f ∷ []) BetweenFrames has_reported in
+    record {
+      frames = done ++ f ∷ [];
+      lawful = is.lawful;
+      some = no_frame done f;
+      rest = is.rest ++ drop limits.input came;
+      whole = all_came role limits came (done ++ f ∷ []) BetweenFrames is;
+    }
+
 module _ (role : Role) (limits : Limits) (old : Incoming) where
   pub begins : (reader : NoticeReader) → HasReported role limits reader [] [] BetweenFrames → old.failed ≡ false → HasPlanned role limits old old reader [] None
   begins reader has_reported readable = record {
@@ -95,6 +107,32 @@ module _ (role : Role) (limits : Limits) (old : Incoming) where
     -- the reader's next answer, after the bytes that had come
     abbrev Answers : Result NextNotice Stop → Type 0
     Answers result = ReadsOn role limits mid new next planned.came planned.done planned.at result
+
+    -- a frame that was reported to its end at once: its step is kept or isn't
+    module _ (info : HeadInfo) (took : ReportsFrame role limits next planned.came planned.done planned.at info) where
+      abbrev taken : List Frame
+      taken = planned.done ++ took.0 ∷ []
+
+      pub takes_frame : (step : Step) (kept : List Step) → step ≡ step_of_head info → kept ≡ plan ++ step ∷ [] → HasPlanned role limits old mid next kept begun
+      takes_frame step kept is more = record {
+        came = planned.came;
+        done = taken;
+        at = BetweenFrames;
+        has_reported = took.3;
+        received = planned.received;
+        steps =
+            let same : step ≡ step_of took.0 = is ∙ ap (λ (i : HeadInfo). step_of_head i) took.2 in
+            more ∙ ap (λ (s : Step). plan ++ s ∷ []) same ∙ ap (λ (steps : List Step). steps ++ step_of took.0 ∷ []) planned.steps ∙ sym (map-append step_of planned.done (took.0 ∷ []));
+        step = tt;
+        readable = planned.readable;
+      }
+
+      pub no_memory_taken : {A : Type 0} → IsPlanned {A = A} role limits old mid (Err stop.Memory)
+      no_memory_taken = record {
+        came = planned.came;
+        received = planned.received;
+        of_bytes = (whole_frame_came role limits next planned.came planned.done took.0 took.3, planned.readable);
+      }
 
     received : (result : Result NextNotice Stop) (on : Answers result) → IsReceived (limits.input + 1) old new (planned.came ++ on.more)
     received result on = received_on (limits.input + 1) old mid new planned.came on.more planned.received on.consumed on.few
@@ -161,17 +199,8 @@ module _ (role : Role) (limits : Limits) (old : Incoming) where
         readable = on.next.1;
       }
 
-      has_scanned : IsReportedOf role limits (planned.came ++ on.more) ended BetweenFrames
-      has_scanned = reported_of role limits next (planned.came ++ on.more) ended BetweenFrames on.next.0.3
-
       has_frame : HasWholeFrame role limits (planned.came ++ on.more)
-      has_frame = record {
-        frames = ended;
-        lawful = has_scanned.lawful;
-        some = no_frame planned.done frame;
-        rest = has_scanned.rest ++ drop limits.input (planned.came ++ on.more);
-        whole = all_came role limits (planned.came ++ on.more) ended BetweenFrames has_scanned;
-      }
+      has_frame = whole_frame_came role limits next (planned.came ++ on.more) planned.done frame on.next.0.3
 
       pub no_memory : {A : Type 0} → IsPlanned {A = A} role limits old new (Err stop.Memory)
       no_memory = record {

@@ -42,6 +42,10 @@ pub fn plan_of<A: Allocator + Copy, R: Read>(
     let mut plan = Plan::new(alloc);
     let mut begun = None;
     loop {
+        if let Some(head) = reader.take_frame() {
+            plan.push(step_of(&head))?;
+            continue;
+        }
         match reader.next(input)? {
             NextNotice::Head(head) => begun = Some(step_of(&head)),
             NextNotice::Payload => {}

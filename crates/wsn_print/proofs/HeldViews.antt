@@ -1,7 +1,8 @@
 -- The views of bytes of which a part is held.
-use Rattle.std.proofs.Common.{◌≡◌, ◌≢◌, ℕ, suc, zero, ◌+◌, ◌*◌, ◌-◌, ◌/◌, ◌≤◌, inl, inr, Bool, false, nat_lt, ◌==◌, ◌&&◌, if◌then◌else◌, Option, List, [], ◌∷◌, ◌++◌, length, take, drop, get_or, refl, sym, ap, ◌∙◌, codes, decimal, append_assoc, arith, length-drop}
+use Rattle.std.proofs.Common.{◌≡◌, ◌≢◌, ℕ, suc, zero, ◌+◌, ◌*◌, ◌-◌, ◌/◌, ◌≤◌, ◌⊎◌, min, inl, inr, Bool, false, nat_lt, ◌==◌, ◌&&◌, if◌then◌else◌, Option, List, [], ◌∷◌, ◌++◌, length, take, drop, get_or, refl, sym, ap, ◌∙◌, codes, decimal, append_assoc, arith, length-drop}
 use Rattle.std.proofs.Math.Seq.{take-length, take-add}
-use Rattle.std.proofs.lemmas.List.{length-take, length-take-le, take-take, take-append-drop, take_all, drop-drop}
+use Rattle.std.proofs.lemmas.List.{length-take, length-take-le, take-take, take-append-drop, take_all, take_min, drop-drop}
+use Rattle.std.proofs.lemmas.Bool.{cases_lt}
 use Rattle.std.proofs.lemmas.Bool.Decides.{nat_tests}
 use Rattle.std.proofs.lemmas.Str.{utf8_valid_len_le, utf8_valid_len-IsUtf8}
 use Rattle.std.specs.Str.{IsUtf8}
@@ -16,6 +17,19 @@ use Rattle.wsn_print.specs.ShownParts.{HoldsFirst, HoldsLast, remainder_word, it
 -- All bytes are held.
 pub all_held : (n : ℕ) (all : List ℕ) → HoldsFirst n all all
 all_held n all = (sym (take-length all), inr refl)
+
+-- The first 4,096 bytes are enough for each view.
+pub first_held : (n : ℕ) (all held : List ℕ) → n ≤ 4096 → held ≡ take 4096 all → HoldsFirst n all held
+first_held n all held few is =
+    let size : length held ≡ min 4096 (length all) = ap (λ (bs : List ℕ). length bs) is ∙ length-take 4096 all in
+    (is ∙ sym (take_min 4096 all) ∙ ap (λ (m : ℕ). take m all) (sym size), enough (length held) (length all) size)
+  where
+    enough : (a b : ℕ) → a ≡ min 4096 b → (n ≤ a) ⊎ (a ≡ b)
+    enough a b size =
+        elim (cases_lt b 4096) [
+          | inl less ↦ inr (omega (arith, size, less))
+          | inr more ↦ inl (omega (arith, size, more, few))
+        ]
 
 -- The first bytes of those that are held.
 pub take_held : (n : ℕ) (all held : List ℕ) → HoldsFirst n all held → take n held ≡ take n all

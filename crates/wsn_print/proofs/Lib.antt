@@ -8,3 +8,5 @@ pub mod PlainTexts
 pub mod VisibleLines
 pub mod Appended
 pub mod ObjectPieces
+pub mod PlacedItems
+pub mod HeadLines

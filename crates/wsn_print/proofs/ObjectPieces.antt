@@ -26,6 +26,12 @@ of_five front offset a b d z = simp append_assoc
 pub of_three : (front offset a z : List ℕ) → front ++ (offset ++ (a ++ z)) ≡ front ++ offset ++ a ++ z
 of_three front offset a z = simp append_assoc
 
+pub of_members : (front offset a b : List ℕ) → front ++ ((offset ++ a) ++ b) ≡ front ++ offset ++ (a ++ b)
+of_members front offset a b = simp append_assoc
+
+pub with_end : (front offset a z : List ℕ) → (front ++ offset ++ a) ++ z ≡ front ++ offset ++ a ++ z
+with_end front offset a z = simp append_assoc
+
 word_is : (op : Op) (payload : List ℕ) → op_word op ≡ event_word (event_of op payload)
 word_is Continue payload = refl
 word_is Text payload = refl

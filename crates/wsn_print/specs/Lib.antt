@@ -13,6 +13,7 @@ pub mod ShownText
 pub mod ShownObjects
 pub mod ShownParts
 pub mod Formats
+pub mod DifferenceText
 pub mod QuotedTexts
 -- for the examples
 pub mod Examples

@@ -1,16 +1,17 @@
 -- What the arguments of the functions that write entries stand for: times, and bytes of which only a part is held.
-use Rattle.std.specs.Prelude.{◌≡◌, ℕ, ◌-◌, ◌≤◌, ◌⊎◌, ⊤, Option, option_copied, List, length, take, drop, codes}
+use Rattle.std.specs.Prelude.{◌≡◌, ℕ, ◌-◌, ◌≤◌, ◌⊎◌, ⊤, Option, None, Some, option_copied, List, length, take, drop, codes}
 use Rattle.std.specs.Str.{IsUtf8}
 use Rattle.wsn_wire.specs.declared.opcode.Kind.TheVariants as kinds
 use Rattle.wsn_wire.specs.declared.opcode.Op.{Op}
 use Rattle.wsn_wire.specs.declared.opcode.Op.TheVariants as ops
 use Rattle.wsn_rules.specs.Meaning.{MeantEvent, Message, Control}
 use Rattle.wsn_rules.specs.ShownStream.{Item}
-use Rattle.wsn_rules.specs.ShownStream.Item.{Unread, Tail}
+use Rattle.wsn_rules.specs.ShownStream.Item.{Event, Unread, Tail}
 use Rattle.wsn_print.specs.declared.shown.Front.{Front}
 use Rattle.wsn_print.specs.declared.shown.Origin.{Origin}
 use Rattle.wsn_print.specs.declared.shown.Origin.TheVariants as origins
 use Rattle.wsn_print.specs.declared.shown.ShownEvent.{ShownEvent}
+use Rattle.wsn_print.specs.declared.shown.PlacedEvent.{PlacedEvent}
 use Rattle.wsn_print.specs.declared.shown.HeldBytes.{HeldBytes}
 use Rattle.wsn_print.specs.declared.shown.Remainder.{Remainder}
 use Rattle.wsn_print.specs.declared.shown.Remainder.TheVariants as remainders
@@ -67,6 +68,19 @@ pub record Represents (n : ℕ) (shown : ShownEvent) (event : MeantEvent) : Type
 abbrev pub HasTextReason : MeantEvent → Type 0
 HasTextReason (Control ops.Close body) = IsUtf8 (drop 2 body)
 HasTextReason event = ⊤
+
+-- For a view of n bytes this stands for the event of these frames at this offset.
+pub record IsPlaced (n : ℕ) (placed : PlacedEvent) (offset : ℕ) (event : MeantEvent) (frames : ℕ) : Type 0 where
+  pub offset_is : placed.offset ≡ offset
+  pub frames_are : placed.event.frames ≡ frames
+  pub represents : Represents n placed.event event
+  pub reason : HasTextReason event
+
+-- For a view of n bytes this stands for the item, which is an event; or there is neither.
+abbrev pub StandsFor : ℕ → Option PlacedEvent → Option Item → Type 0
+StandsFor n None None = ⊤
+StandsFor n (Some placed) (Some (Event offset event frames)) = IsPlaced n placed offset event frames
+StandsFor n placed item = ⊥
 
 -- The word for bytes that belong to no frame.
 abbrev pub remainder_word : Remainder → List ℕ

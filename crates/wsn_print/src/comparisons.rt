@@ -10,7 +10,7 @@ use wsn_io::{Output, Stop, put_line};
 use wsn_rules::{Compared, Verdict};
 
 /// The maximum length in bytes of the line of a difference, with a number of twenty digits.
-const DIFFERENCE_LINE_MAX: usize = 31;
+pub(crate) const DIFFERENCE_LINE_MAX: usize = 31;
 
 /// Writes a comparison in one line: `equal`, `different 2`, or `first ` or `second ` and the line of the verdict of a
 /// stream that isn't accepted. `Stop::Write` if the writer fails: a prefix of the line was written.
@@ -41,7 +41,8 @@ fn put_verdict_of<W: Write>(
     put_verdict(output, &verdict)
 }
 
-fn line_of_difference(index: u64) -> Line<DIFFERENCE_LINE_MAX>
+/// The line of a difference.
+pub(crate) fn line_of_difference(index: u64) -> Line<DIFFERENCE_LINE_MAX>
     ensures { result ≡ comparison_line (Compared.Different index) }
 {
     let mut line = Line::new();

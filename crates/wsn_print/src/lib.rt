@@ -12,17 +12,18 @@
 //!
 //! Each answer and each entry can also be a JSON object in one line: `put_.._object` writes it, and [`put_verdict_as`],
 //! [`put_head_as`], [`put_report_as`] and [`put_compared_as`] write an answer in a [`Format`]. An [`EntryFront`] says
-//! where an entry is.
+//! where an entry is. [`put_difference_as`] writes a difference with the events that differ.
 //!
 //! `specs/Fields.antt` defines the fields of lines; `VerdictText`, `HeadText`, `ReportText`, `ComparisonText`,
 //! `FaultText`, `StopText` and `ShownText` define the lines, `Json`, `Objects` and `ShownObjects` the objects, `Formats`
-//! the texts in each format, and `Statuses` the exit statuses. `ShownParts` says what the arguments of the functions
+//! the texts in each format, `DifferenceText` a difference with its events, and `Statuses` the exit statuses. `ShownParts` says what the arguments of the functions
 //! that show an entry stand for, `QuotedTexts` what a quoted text is ([`quoted_laws`]).
 //! [`printed_lines`], [`printed_entries`] and [`printed_objects`] have examples of printed lines, computed from the
 //! definitions.
 #![tactic(auto)]
 
 mod comparisons;
+mod differences;
 mod entries;
 mod faults;
 mod format;
@@ -45,6 +46,7 @@ mod verdicts;
 mod views;
 
 pub use comparisons::put_compared;
+pub use differences::put_difference_as;
 pub use entries::{
     put_end, put_event, put_frame, put_refused, put_remainder, put_unfinished, put_unfinished_head,
 };
@@ -57,7 +59,10 @@ pub use line::Line;
 pub use objects::{put_compared_object, put_frame_object, put_report_object, put_verdict_object};
 pub use quoted::put_comment;
 pub use reports::put_report;
-pub use shown::{EntryFront, Front, HeldBytes, Origin, Remainder, ShownEvent, VIEW_MAX, ViewLimit};
+pub use shown::{
+    Difference, EntryFront, Front, HeldBytes, Origin, PlacedEvent, Remainder, ShownEvent, VIEW_MAX,
+    ViewLimit,
+};
 pub use shown_objects::{
     put_comment_object, put_end_object, put_event_object, put_refused_object, put_remainder_object,
     put_shown_frame_object, put_unfinished_head_object, put_unfinished_object,

@@ -1,5 +1,5 @@
-ghost use Rattle.std.specs.Prelude.{◌≡◌, ℕ, ◌+◌, ◌*◌, ◌≤◌, List, [], ◌∷◌, ◌++◌, length, decimal};
-ghost use Rattle.hex.specs.Hex.{encode_lower};
+ghost use Rattle.std.specs.Prelude.{◌≡◌, ℕ, ◌+◌, ◌*◌, ◌<◌, ◌≤◌, List, [], ◌∷◌, ◌++◌, length, decimal, slice_index};
+ghost use Rattle.hex.specs.Hex.{encode_lower, lower_digits};
 ghost use Rattle.wsn_print.specs.Fields.{number_text, refusal_text, key_text, form_text};
 
 use arrayvec::ArrayVec;
@@ -22,6 +22,7 @@ impl<const MAX: usize> Model for Line<MAX> {
 
 impl<const MAX: usize> Line<MAX> {
     /// An empty line.
+    #[inline(always)]
     #[tactic(none)]
     pub fn new() -> Self
         ensures { result ≡ [] }
@@ -32,6 +33,7 @@ impl<const MAX: usize> Line<MAX> {
     }
 
     /// The bytes so far.
+    #[inline(always)]
     #[tactic(none)]
     pub fn bytes(&self) -> &[u8]
         ensures { result.now ≡ self.now }
@@ -40,6 +42,7 @@ impl<const MAX: usize> Line<MAX> {
     }
 
     /// Appends a text.
+    #[inline(always)]
     #[tactic(none)]
     pub fn push(&mut self, text: &str)
         requires { length self.old + length text.now ≤ MAX }
@@ -73,6 +76,7 @@ impl<const MAX: usize> Line<MAX> {
     }
 
     /// Appends a key's four bytes as eight lower-case hexadecimal digits, or a dash for `None`.
+    #[inline(always)]
     #[tactic(none)]
     pub fn push_key(&mut self, key: Option<[u8; 4]>)
         requires { length self.old + 8 ≤ MAX }
@@ -83,9 +87,7 @@ impl<const MAX: usize> Line<MAX> {
             self.push("-");
             return;
         };
-        let mut digits = [0; 8];
-        let _fits = hex::encode_to_slice(key, &mut digits);
-        let _fits = self.text.try_extend_from_slice(&digits);
+        let _fits = self.text.try_extend_from_slice(&key_digits(key));
     }
 
     /// Appends a byte as it is.
@@ -113,6 +115,7 @@ impl<const MAX: usize> Line<MAX> {
 
     /// Appends ` two` or ` eight` for a length in a longer encoding, and nothing for the shortest (RFC 6455 section
     /// 5.2).
+    #[inline(always)]
     #[tactic(none)]
     pub fn push_form(&mut self, form: Form)
         requires { length self.old + 6 ≤ MAX }
@@ -141,4 +144,32 @@ impl<const MAX: usize> Line<MAX> {
         self.push(" ");
         self.push_number(u64::from(reason.code()));
     }
+}
+
+/// The eight lower-case hexadecimal digits of a key.
+#[inline(always)]
+pub(crate) fn key_digits(key: [u8; 4]) -> [u8; 8]
+    ensures { result ≡ encode_lower key }
+{
+    let [a, b, c, d] = key;
+    [
+        digit(a / 16),
+        digit(a % 16),
+        digit(b / 16),
+        digit(b % 16),
+        digit(c / 16),
+        digit(c % 16),
+        digit(d / 16),
+        digit(d % 16),
+    ]
+}
+
+/// A lower-case hexadecimal digit.
+#[inline(always)]
+#[tactic(none)]
+fn digit(n: u8) -> u8
+    requires { n < 16 }
+    ensures { result ≡ slice_index lower_digits n }
+{
+    b"0123456789abcdef"[usize::from(n)]
 }

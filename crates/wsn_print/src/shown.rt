@@ -121,6 +121,26 @@ pub struct ShownEvent<'a> {
     pub held: &'a [u8],
 }
 
+/// An event to be shown, and where it is.
+#[derive(Clone, Copy)]
+pub struct PlacedEvent<'a> {
+    /// The offset of its first frame in the endpoint's stream, from 0.
+    pub offset: u64,
+    /// The event.
+    pub event: ShownEvent<'a>,
+}
+
+/// Where two streams differ first.
+#[derive(Clone, Copy)]
+pub struct Difference<'a> {
+    /// The index of the event, from 0.
+    pub index: u64,
+    /// The first stream's event; `None` if it has no more events.
+    pub first: Option<PlacedEvent<'a>>,
+    /// The second stream's event; `None` if it has no more events.
+    pub second: Option<PlacedEvent<'a>>,
+}
+
 /// Bytes of which only the first or only the last are held.
 #[derive(Clone, Copy)]
 pub struct HeldBytes<'a> {

@@ -1,11 +1,11 @@
-ghost use Rattle.std.specs.Prelude.{◌≡◌, ℕ, ◌+◌, ◌/◌, ◌≤◌, ◌++◌, false, List, codes, drop, length};
+ghost use Rattle.std.specs.Prelude.{◌≡◌, ℕ, ◌+◌, ◌/◌, ◌≤◌, ◌++◌, false, IfOk, List, codes, drop, length};
 ghost use Rattle.wsn_io.specs.Stops.{IsWrittenOrStops};
 ghost use Rattle.wsn_rules.specs.Meaning.{MeantEvent};
 ghost use Rattle.wsn_rules.specs.ShownStream.Item.{Event, Unfinished, UnfinishedHead, RefusedFrame};
 ghost use Rattle.wsn_print.specs.Fields.{op_word};
 ghost use Rattle.wsn_print.specs.Json.{number_field, number_or_null_field, string_field};
 ghost use Rattle.wsn_print.specs.Objects.{head_fields, refusal_fields};
-ghost use Rattle.wsn_print.specs.ShownObjects.{item_object, shown_frame_object, end_object, comment_object, object_front, event_fields, line_field, side_word, time_key, time_value};
+ghost use Rattle.wsn_print.specs.ShownObjects.{item_object, item_fields, shown_frame_object, end_object, comment_object, object_front, event_fields, line_field, side_word, time_key, time_value};
 ghost use Rattle.wsn_print.specs.ShownParts.{position_of, Represents, HasTextReason, IsFrontOf, IsEndOf, item_of_remainder, remainder_word};
 
 use crate::entries::remainder_word;
@@ -51,10 +51,27 @@ pub fn put_event_object<W: Write>(
         IsWrittenOrStops to.old to.new (item_object view front.now.role (position_of front.now.origin)
         (Event front.now.offset e event.now.frames)) result }
 {
+    put_event_members(to, view, front, event)?;
+    put_line(to, b"}\n")
+}
+
+/// Writes the object of a complete event without its end. `Stop::Write` if the writer fails: a prefix of it was written.
+pub(crate) fn put_event_members<W: Write>(
+    to: &mut Output<W>,
+    view: ViewLimit,
+    front: &EntryFront<'_>,
+    event: &ShownEvent<'_>,
+) -> Result<(), Stop>
+    requires { to.old.failed ≡ false }
+    ensures text { (e : MeantEvent) → Represents view event.now e → HasTextReason e →
+        IsWrittenOrStops to.old to.new (object_front (codes "event") front.now.role (position_of front.now.origin)
+        ++ number_field (codes "offset") front.now.offset
+        ++ item_fields view (Event front.now.offset e event.now.frames)) result }
+    ensures unfailed { IfOk result (λ done. to.new.failed ≡ false) }
+{
     put_front(to, "event", front.role, &front.origin)?;
     put_line(to, line_of_event(front.offset, event).bytes())?;
-    put_event_view_fields(to, view, event)?;
-    put_line(to, b"}\n")
+    put_event_view_fields(to, view, event)
 }
 
 /// Writes an event that isn't complete as a JSON object in one line: as that of a complete one, and how many bytes its

@@ -27,5 +27,7 @@ pub mod Outcomes
 pub mod ComputedReports
 pub mod OneHead
 pub mod HeadsGoOn
+pub mod OpenOffsets
 pub mod ShownStreams
 pub mod ShownLines
+pub mod ShownEvents

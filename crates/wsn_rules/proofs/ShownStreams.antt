@@ -138,7 +138,7 @@ events_at before f =
       | inr more ↦ ap events_shown (cond-false f.fin items [] more) ∙ sym (cond-false f.fin (event_at before f ∷ []) [] more)
     ]
 
-events_of : (before fs : List Frame) → events_shown (shown_of before fs) ≡ events_after before fs
+pub events_of : (before fs : List Frame) → events_shown (shown_of before fs) ≡ events_after before fs
 events_of before [] = refl
 events_of before (f ∷ fs) =
     flat_map-append (λ (s : Shown). event_in s.item) (shown_at before f) (shown_of (before ++ f ∷ []) fs)

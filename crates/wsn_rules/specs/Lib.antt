@@ -36,6 +36,7 @@ pub mod Sides
 pub mod Reports
 -- what is shown of a stream, and of a capture
 pub mod ShownStream
+pub mod ShownEvents
 pub mod ShownCapture
 -- for the examples
 pub mod Examples

@@ -1,15 +1,18 @@
 //! Laws of what is shown of a stream and of a capture. The functions do nothing when called; their contracts are proved.
 
-ghost use Rattle.std.specs.Prelude.{◌≡◌, ℕ, ◌<◌, ◌≤◌, List, [], ◌++◌, length, map};
+ghost use Rattle.std.specs.Prelude.{◌≡◌, ℕ, ◌<◌, ◌≤◌, Option, List, [], ◌++◌, length, map, slice_get};
 ghost use Rattle.std.specs.List.{AllByRecursion};
 ghost use Rattle.wsn_rules.specs.Words.{Role, Frame, Limits, Verdict, IsVerdict, meaning};
 ghost use Rattle.wsn_rules.specs.declared.detail.Detail.{Detail};
 ghost use Rattle.wsn_rules.specs.declared.detail.Detail.TheVariants.{Events, Frames};
 ghost use Rattle.wsn_rules.specs.declared.head_info.HeadInfo.{HeadInfo};
+ghost use Rattle.wsn_rules.specs.declared.without.Without.{Without};
 ghost use Rattle.wsn_rules.specs.Entries.{Entry};
 ghost use Rattle.wsn_rules.specs.Heads.{AreHeads};
+ghost use Rattle.wsn_rules.specs.LeftOut.{events_without};
 ghost use Rattle.wsn_rules.specs.Sides.{sent};
-ghost use Rattle.wsn_rules.specs.ShownStream.{Shown, IsShownStream, events_shown, heads_shown};
+ghost use Rattle.wsn_rules.specs.ShownStream.{Item, Shown, IsShownStream, events_shown, heads_shown};
+ghost use Rattle.wsn_rules.specs.ShownEvents.{IsShownAt, ShowsEvent};
 ghost use Rattle.wsn_rules.specs.ShownCapture.{beyond, ShownLine, AreShownAfter, items_with_bytes};
 
 /// One list of items is shown of a stream in each detail. Its events are the meaning of the stream's frames, in order;
@@ -25,6 +28,17 @@ pub fn law_shown_stream()
         (heads : List HeadInfo) (shown : List Shown) →
         IsVerdict role limits bytes fs verdict → AreHeads role limits bytes fs heads →
         IsShownStream Frames role limits bytes shown → heads_shown shown ≡ heads }
+{}
+
+/// One event at most is shown with an index, and it is the event with this index in the meaning of the stream's frames,
+/// without those that are left out.
+pub fn law_shown_event()
+    ensures one { (without : Without) (role : Role) (limits : Limits) (bytes : List ℕ) (k : ℕ) (item other : Option Item) →
+        IsShownAt without role limits bytes k item → IsShownAt without role limits bytes k other → item ≡ other }
+    ensures meant { (without : Without) (role : Role) (limits : Limits) (bytes : List ℕ) (fs : List Frame)
+        (verdict : Verdict) (k : ℕ) (item : Option Item) →
+        IsVerdict role limits bytes fs verdict → IsShownAt without role limits bytes k item →
+        ShowsEvent item (slice_get (events_without without (meaning fs)) k) }
 {}
 
 /// With more bytes a stream shows the same items and perhaps more, which are shown with the new bytes.

@@ -3,7 +3,7 @@ use Rattle.std.proofs.Common.{◌≡◌, ◌↔◌, ℕ, suc, ◌+◌, ◌-◌, 
 use Rattle.std.specs.Prelude.{IsSome, IfSome}
 use Rattle.std.proofs.lemmas.List.{take_all, take-append-le, length-take-le}
 use Rattle.std.proofs.Math.Seq.{take-append-add, drop-append-add}
-use borrow.Rule.Slice.PartMut.{mid_of, put_mid, mid_len, take_put}
+use borrow.Rule.Slice.PartMut.{mid_of, put_mid, take_put}
 use Rattle.wsn_wire.specs.declared.endpoint.Role.{Role}
 use Rattle.wsn_wire.specs.declared.endpoint.Role.TheVariants.{Client, Server}
 use Rattle.wsn_wire.specs.declared.opcode.Op.{Op}
@@ -16,7 +16,7 @@ use Rattle.wsn_frame.specs.declared.partial_head.Head.{Head}
 use Rattle.wsn_frame.specs.declared.payload_check.PayloadCheck.{PayloadCheck}
 use Rattle.wsn_frame.specs.PartialHeads.{IsHead, encoded_form}
 use Rattle.wsn_frame.specs.Payloads.{unmasked_by, HoldsPayload}
-use Rattle.wsn_frame.proofs.FramesAtOnce.{kept_after_frame, payload_after, head_and_payload}
+use Rattle.wsn_frame.proofs.FramesAtOnce.{kept_after_frame, payload_after}
 use Rattle.wsn_rules.specs.Limits.{Limits, InRange}
 use Rattle.wsn_rules.specs.Group.{unfinished, kind_at, kind_of, payload_of}
 use Rattle.wsn_rules.specs.Lawful.{LawAt, IsLawful}

@@ -23,9 +23,8 @@ use Rattle.wsn_rules.proofs.Walk.{stream-append, stream_push}
 use Rattle.wsn_scan.specs.declared.scan.Scan.{Scan}
 use Rattle.wsn_scan.specs.declared.stage.Stage.{Stage}
 use Rattle.wsn_scan.specs.declared.stage.Stage.TheVariants as stages
-use Rattle.wsn_scan.specs.EventFrames.{EndsEventAt, IsEventFrame, IsIdle, TakesEvents, ConsumesEvents, reported_of}
-use Rattle.wsn_scan.specs.Scans.{HasConsumed, HasScanned, IsAt}
-use Rattle.wsn_scan.specs.Reports.{Reported}
+use Rattle.wsn_scan.specs.EventFrames.{IsEventFrame, IsIdle, TakesEvents, reported_of}
+use Rattle.wsn_scan.specs.Scans.{IsAt}
 use Rattle.wsn_scan.proofs.FrameEnds.{frames_few}
 use Rattle.wsn_scan.proofs.HeadBytes.{bytes_taken}
 

@@ -44,11 +44,11 @@ same_push (z ∷ xs) (w ∷ ys) x y same =
     let first : z ≡ w = cc in
     (ap (λ (a : _). a ∷ xs) first ∙ ap (λ (zs : List _). w ∷ zs) rest.0, rest.1)
 
-same_front : {A : Type 0} (xs ys zs : List A) → xs ++ ys ≡ xs ++ zs → ys ≡ zs
+pub same_front : {A : Type 0} (xs ys zs : List A) → xs ++ ys ≡ xs ++ zs → ys ≡ zs
 same_front [] ys zs same = same
 same_front (x ∷ xs) ys zs same = same_front xs ys zs cc
 
-length-ends : (fs : List Frame) → length (ends_of fs) ≡ length fs
+pub length-ends : (fs : List Frame) → length (ends_of fs) ≡ length fs
 length-ends [] = refl
 length-ends (f ∷ fs) = ap suc (length-ends fs)
 

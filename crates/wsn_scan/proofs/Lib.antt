@@ -7,6 +7,8 @@ pub mod FrameEnds
 pub mod EventFrames
 pub mod EventRuns
 pub mod ReaderEvents
+pub mod WholeFrames
+pub mod ReaderFrames
 pub mod Refusals
 pub mod MoreBytes
 pub mod FedPieces

@@ -1,9 +1,9 @@
 -- Frames that each end an event, reported at once by a reader of notices.
 use Rattle.std.specs.List.{slice_range}
-use Rattle.std.proofs.Common.{◌≡◌, ℕ, ◌+◌, ◌-◌, ◌*◌, ◌<◌, ◌≤◌, Bool, Option, None, List, [], ◌++◌, length, take, drop, refl, sym, ap, ◌∙◌, subst, arith, append_assoc, append-nil, take-append-drop}
+use Rattle.std.proofs.Common.{◌≡◌, ℕ, ◌+◌, ◌-◌, ◌≤◌, Bool, Option, None, List, [], ◌++◌, take, drop, refl, sym, ap, ◌∙◌, subst, arith, append_assoc, append-nil, take-append-drop}
 use Rattle.std.proofs.lemmas.List.{take-take}
 use Rattle.wsn_wire.specs.declared.endpoint.Role.{Role}
-use Rattle.wsn_wire.specs.Frame.{Frame, stream}
+use Rattle.wsn_wire.specs.Frame.{Frame}
 use Rattle.wsn_frame.specs.declared.open_message.OpenMessage.{OpenMessage}
 use Rattle.wsn_frame.specs.OpenMessages.{IsOpenMessage}
 use Rattle.wsn_rules.specs.Limits.{Limits}
@@ -15,10 +15,10 @@ use Rattle.wsn_scan.specs.declared.stage.Stage.{Stage}
 use Rattle.wsn_scan.specs.declared.stage.Stage.TheVariants as stages
 use Rattle.wsn_scan.specs.EventFrames.{TakesEvents, IsIdle, reported_of}
 use Rattle.wsn_scan.specs.ReportedEvents.{ReportsEvents}
-use Rattle.wsn_scan.specs.ReportedFrames.{Position, BetweenFrames}
-use Rattle.wsn_scan.specs.NoticeReaders.{HasReported, IsBuffered, unread, held_payload, notices_left}
+use Rattle.wsn_scan.specs.ReportedFrames.{Position}
+use Rattle.wsn_scan.specs.NoticeReaders.{HasReported, unread, held_payload}
 use Rattle.wsn_scan.specs.Refill.{chunk_size, count_past}
-use Rattle.wsn_scan.specs.Scans.{HasScannedAt, room_of, refusal_in, ends_pending}
+use Rattle.wsn_scan.specs.Scans.{HasScannedAt, refusal_in}
 use Rattle.wsn_scan.proofs.FramesReported.{reported_at}
 use Rattle.wsn_scan.proofs.ReaderBuffers.{range_after}
 

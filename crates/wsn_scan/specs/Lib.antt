@@ -12,5 +12,6 @@ pub mod Scans
 pub mod Refill
 pub mod ReaderSteps
 pub mod EventFrames
+pub mod WholeFrames
 -- for the clauses in src/
 pub mod Words

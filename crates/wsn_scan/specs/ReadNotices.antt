@@ -34,6 +34,12 @@ ReportsEnd role limits reader came done at event =
     (f : Frame) × (f.fin ≡ event) × (at ≡ InFrame (info_of (length (stream done)) f) f.payload)
     × HasReported role limits reader came (done ++ f ∷ []) BetweenFrames
 
+-- It reports the next frame to its end, all at once: the frame has this head.
+abbrev pub ReportsFrame : Role → Limits → NoticeReader → List ℕ → List Frame → Position → HeadInfo → Type 0
+ReportsFrame role limits reader came done at info =
+    (f : Frame) × (at ≡ BetweenFrames) × (info ≡ info_of (length (stream done)) f)
+    × HasReported role limits reader came (done ++ f ∷ []) BetweenFrames
+
 -- All of these bytes are reported: each whole frame to its end, and each head.
 abbrev pub AllReported : Role → Limits → List ℕ → List Frame → Position → Type 0
 AllReported role limits bytes done at = AreHeads role limits bytes done (heads_of done ++ begun_at at)

@@ -17,8 +17,9 @@ pub use Rattle.wsn_scan.specs.ReportedFrames.{Position, IsReportedOf, BetweenFra
 pub use Rattle.wsn_scan.specs.Judging.{IsJudged, IsUnrefused}
 pub use Rattle.wsn_scan.specs.Listing.{IsEnded, IsListedChunk, IsListedRun, IsListed, IsListedAs, IsListedWhole, IsListedWholeAs}
 pub use Rattle.wsn_scan.specs.NoticeReaders.{HasReported, IsReading, notices_left, held_payload}
-pub use Rattle.wsn_scan.specs.ReadNotices.{ReadsOn, IsNotice}
+pub use Rattle.wsn_scan.specs.ReadNotices.{ReadsOn, IsNotice, ReportsFrame}
 pub use Rattle.wsn_scan.specs.ReportedEvents.{ReportsEvents}
+pub use Rattle.wsn_scan.specs.WholeFrames.{TakesFrame, TakesToEnd, after_end}
 pub use Rattle.wsn_scan.specs.ReaderSteps.{ReportsStep, Progresses, IsUsed, IsFilled}
 pub use Rattle.wsn_scan.specs.Refill.{IsRefilled}
 pub use Rattle.wsn_scan.specs.Reports.{Reported, IsReportedSoFar, IsPayloadSoFar, AnswersByCase, nothing_reported, refusal_in_notice}

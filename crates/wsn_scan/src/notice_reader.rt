@@ -1,9 +1,10 @@
-ghost use Rattle.std.specs.Prelude.{◌≡◌, ℕ, ◌+◌, ◌-◌, ◌<◌, ◌≤◌, List, [], None, Ok, true, false, length};
+ghost use Rattle.std.specs.Prelude.{◌≡◌, ℕ, ◌+◌, ◌-◌, ◌<◌, ◌≤◌, List, [], None, Ok, true, false, length, IfSome, IfNone};
 ghost use Rattle.std.specs.List.{slice_range};
 ghost use Rattle.wsn_wire.specs.Frame.{Frame, IsBytes};
 ghost use Rattle.wsn_scan.specs.Refill.{chunk_size};
 ghost use Rattle.wsn_scan.specs.Scans.{Advances, ConsumesFromPiece, room_of, refusal_in};
 ghost use Rattle.wsn_scan.specs.EventFrames.{TakesEvents, IsIdle};
+ghost use Rattle.wsn_scan.specs.WholeFrames.{TakesToEnd};
 ghost use Rattle.wsn_scan.specs.Reports.{refusal_in_notice};
 
 use crate::notice::Notice;
@@ -46,7 +47,7 @@ pub struct NoticeReader {
 }
 
 impl NoticeReader {
-    ghost use Rattle.wsn_scan.specs.Words.{Role, Position, BetweenFrames, HasReported, IsReading, notices_left, held_payload, ReadsOn, IsNotice, ReportsStep, Progresses, IsUsed, IsFilled, ReportsEvents};
+    ghost use Rattle.wsn_scan.specs.Words.{Role, Position, BetweenFrames, HasReported, IsReading, notices_left, held_payload, ReadsOn, IsNotice, ReportsStep, Progresses, IsUsed, IsFilled, ReportsEvents, ReportsFrame};
 
     /// A reader that has read nothing. `role` is the endpoint that sent the stream. It allocates no memory.
     #[tactic(none)]
@@ -121,6 +122,25 @@ impl NoticeReader {
         true
     }
 
+    /// Takes the frame that comes next if it is whole in the buffer, its payload isn't empty and it is valid, and reports
+    /// it to its end: returns its head. Otherwise nothing changes. It reads nothing.
+    #[inline(always)]
+    pub fn take_frame(&mut self) -> Option<HeadInfo>
+        requires { IsReading self.old }
+        ensures taken { IfSome result (λ head. (role : Role) (limits : _) (came : List ℕ) (done : List Frame)
+            (at : Position) → HasReported role limits self.old came done at →
+            ReportsFrame role limits self.new came done at head) }
+        ensures none { IfNone result (self.new ≡ self.old) }
+        ensures falls { IfSome result (λ _. notices_left self.new < notices_left self.old) }
+    {
+        let from = self.at;
+        let (count, head) = frame_in_part(&mut self.scan, &mut self.buffer, from, self.end)?;
+        let at = from + count;
+        self.at = at;
+        self.from = at;
+        Some(head)
+    }
+
     /// Calls the scan once.
     fn step(&mut self) -> Notice
         requires begun { IsReading self.old }
@@ -189,4 +209,27 @@ fn take_part(scan: &mut Scan, buffer: &mut [u8], at: usize, end: usize) -> usize
     ensures none { result ≡ 0 → (scan.new ≡ scan.old) × (buffer.new ≡ buffer.old) }
 {
     scan.take_events(&mut buffer[at..end])
+}
+
+/// Passes `buffer[at..end]` to the scan, which takes a frame to its end. The bytes after those consumed don't change.
+#[inline(always)]
+fn frame_in_part(
+    scan: &mut Scan,
+    buffer: &mut [u8],
+    at: usize,
+    end: usize,
+) -> Option<(usize, HeadInfo)>
+    requires within { (at ≤ end) × (end ≤ length buffer.old) }
+    requires fits { end ≤ room_of scan.old + at }
+    ensures taken { IfSome result (λ found.
+        TakesToEnd scan.old scan.new (slice_range buffer.old at end) found.0 found.1) }
+    ensures within { IfSome result (λ found. (0 < found.0) × (at + found.0 ≤ end)) }
+    ensures kept { IfSome result (λ found.
+        slice_range buffer.new (at + found.0) end ≡ slice_range buffer.old (at + found.0) end) }
+    ensures room { IfSome result (λ found. room_of scan.new + found.0 ≡ room_of scan.old) }
+    ensures reported { IfSome result (λ _. refusal_in scan.new ≡ None) }
+    ensures none { IfNone result ((scan.new ≡ scan.old) × (buffer.new ≡ buffer.old)) }
+{
+    let found = scan.take_to_end(&mut buffer[at..end])?;
+    Some(found)
 }

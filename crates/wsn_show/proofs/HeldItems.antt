@@ -17,6 +17,7 @@ use Rattle.wsn_rules.proofs.LawfulLists.{law_at_split, lawful_front}
 use Rattle.wsn_rules.proofs.MessageText.{text_of_push, reason_is_text}
 use Rattle.wsn_print.specs.declared.shown.ShownEvent.{ShownEvent}
 use Rattle.wsn_print.specs.declared.shown.HeldBytes.{HeldBytes}
+use Rattle.wsn_print.proofs.HeldViews.{first_held}
 use Rattle.wsn_print.specs.ShownParts.{HoldsFirst, IsFrontOf, IsEndOf, event_of, Represents, HasTextReason}
 use Rattle.wsn_show.specs.declared.first_bytes.FirstBytes.{FirstBytes}
 use Rattle.wsn_show.specs.declared.evidence.Evidence.{Evidence}
@@ -25,19 +26,6 @@ use Rattle.wsn_show.specs.HeldParts.{HasFirst, IsEvidence}
 use Rattle.wsn_show.specs.StreamParts.{KeepsMessage, HasJoined}
 
 -- ---- bytes
-
--- The first 4,096 bytes are enough for each view.
-pub first_held : (n : ℕ) (all held : List ℕ) → n ≤ 4096 → held ≡ take 4096 all → HoldsFirst n all held
-first_held n all held few is =
-    let size : length held ≡ min 4096 (length all) = ap (λ (bs : List ℕ). length bs) is ∙ length-take 4096 all in
-    (is ∙ sym (take_min 4096 all) ∙ ap (λ (m : ℕ). take m all) (sym size), enough (length held) (length all) size)
-  where
-    enough : (a b : ℕ) → a ≡ min 4096 b → (n ≤ a) ⊎ (a ≡ b)
-    enough a b size =
-        elim (cases_lt b 4096) [
-          | inl less ↦ inr (omega (arith, size, less))
-          | inr more ↦ inl (omega (arith, size, more, few))
-        ]
 
 -- The first bytes of `all` among the first 4,096 bytes of `all` and of more.
 pub front_held : (n count : ℕ) (all more held : List ℕ) → n ≤ 4096 → held ≡ take 4096 (all ++ more) → count ≡ length all → HoldsFirst n all (take (min count (length held)) held)

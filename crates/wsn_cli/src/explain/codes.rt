@@ -7,8 +7,8 @@ static CODES: [Entry; 16] = [
         text: "\
 1000, normal closure: the session did what it was made for.
 RFC 6455, 7.4.1.
-Usual causes: the application called close(), often without naming a code; a
-library's default when a program ends its connection in the usual way.
+Usual causes: the application closed with 1000; a library's default for close()
+without a code, or when a program ends its connection in the usual way.
 Next: if it came unexpectedly, the side in the line 'first' of 'wsn closing'
 decided to close: read its log.
 ",
@@ -115,8 +115,8 @@ didn't agree on an extension that it requires.
 RFC 6455, 7.4.1: only a client sends it; the reason should list the extensions.
 Usual causes: a proxy that removes Sec-WebSocket-Extensions from the handshake,
 as recipes/record --plain does; a server without compression.
-Next: record without --plain, and compare the handshake's two headers. Most
-clients never require an extension.
+Next: record without --plain: the capture's comment '# extensions: ..' has what
+the server agreed on; without it, nothing. Most clients require no extension.
 ",
     },
     Entry {
@@ -179,7 +179,7 @@ documents of the library that sent it; many codes in use aren't registered.
 on.
 RFC 6455, 7.4.2.
 Next: look in the service's documentation. The reason in the Close, if it has
-one, is a hint: 'wsn frames' has its offset and length.
+one, says more: 'wsn show CAPTURE' prints it after the code.
 ",
     },
 ];

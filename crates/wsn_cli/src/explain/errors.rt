@@ -8,7 +8,8 @@ static ERRORS: [Entry; 7] = [
 usage: the words of the command line don't go together, or one isn't UTF-8.
 Usual causes, at recut: neither or both of --plan and --size; --weave or --key
 with --plan; --key with --role server; a key that isn't 8 hexadecimal digits.
-At any command: a file name with bytes that aren't UTF-8.
+At same and recut: two inputs that are both standard input. At any command: a
+number with a sign (+5); a file name with bytes that aren't UTF-8.
 Next: 'wsn help recut' has an example of each form. A file of any name can be
 given by its descriptor: wsn same --role R /dev/fd/3 b.bin 3< \"$file\"
 ",
@@ -48,7 +49,7 @@ begins with a message can be judged alone; 'wsn frames' prints the offsets.
         words: &["out of memory"],
         text: "\
 out of memory: the system refused to give wsn memory.
-judge, frames and closing need little, whatever the input. normal and same hold
+judge, frames, show and closing need little, always. normal and same hold
 one message, at most --limit bytes. plan holds a step for each frame; recut
 holds the whole meaning of the stream, and its plan.
 Usual causes: a limit on the process (ulimit -v, a container's); a recut of a
@@ -73,9 +74,9 @@ Next: ls -l FILE. In the printed name, \\x1b and the like are control characters
         text: "\
 hint: TEXT, on standard error: by its first bytes the input isn't what the
 command reads, and TEXT says what to do. Output and status are as without it.
-judge and frames give one for a stream that is empty, or refused at offset 0 or
-1; each command for a capture whose first line is malformed; recut for a plan
-with a byte order mark. Other faults have none.
+judge, frames and show --role give one for a stream that is empty, or refused at
+offset 0 or 1; each command but same for a malformed capture that begins like
+another file; recut for a plan with a byte order mark. None comes with --json.
 Next: do what it says, and run the command again. It is a guess by at most 16
 bytes: xxd -l 32 FILE shows them.
 ",

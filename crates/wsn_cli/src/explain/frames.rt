@@ -41,7 +41,9 @@ OFFSET -l 64 FILE shows the frame; a client's payload is masked.
         text: "\
 binary: a binary frame (opcode 2), the first or only frame of a binary message.
 RFC 6455, 5.6: its bytes mean what both applications agree on.
-If a receiver answers a binary message with 1003, it takes text alone.
+In 'wsn show': binary BYTES FRAMES HEX, a whole message, unmasked.
+Next: 'wsn show --view 4096 CAPTURE' prints its first 2048 bytes. If a receiver
+answers a binary message with 1003, it takes text alone.
 ",
     },
     Entry {
@@ -50,9 +52,9 @@ If a receiver answers a binary message with 1003, it takes text alone.
 close: a Close frame (opcode 8). It is the last frame that is listed; a payload
 of 0 bytes has no code, one of 2 a code alone, a longer one also a reason.
 RFC 6455, 5.5.1: the other side answers with a Close, unless it sent one before;
-then the server ends the TCP connection first.
-Next: 'wsn closing' on a capture of both sides prints the codes. 'wsn explain
-1000' and its like explain them.
+7.1.1: then the server ends the TCP connection first.
+Next: 'wsn show CAPTURE' prints the code and the reason, 'wsn closing CAPTURE'
+the codes of both sides. 'wsn explain 1000' and its like explain them.
 ",
     },
     Entry {
@@ -98,6 +100,8 @@ unfinished -: no message was open when the Close came.
 closed -: the Close has no code. first -: neither side sent a Close.
 echo -: only one side or none sent a Close that counts.
 client-sees -, server-sees -: the other side may still send a Close.
+In 'wsn show', the second field: the capture has no times; the last: there is
+nothing to see; lacks -: a part of the next frame's head came.
 ",
     },
 ];

@@ -5,8 +5,8 @@ static LINES: [Entry; 12] = [
     Entry {
         words: &["line"],
         text: "\
-line N: WORD, from 'wsn closing' or with --capture: line N of the capture,
-counted from 1, is malformed. Reading ends there, and the status is 2.
+line N: WORD, from 'wsn show', 'wsn closing' or with --capture: line N of the
+capture, counted from 1, is malformed. Reading ends there; the status is 2.
 A line is 'C HEX' or 'S HEX' (bytes that the client or the server sent), 'C.' or
 'S.' (its direction ended), empty, or a comment that begins with #.
 Next: see the line: sed -n 'Np' FILE | cut -c 1-80 (N is the number). Then 'wsn

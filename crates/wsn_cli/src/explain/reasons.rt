@@ -8,13 +8,13 @@ static REASONS: [Entry; 17] = [
 reserved-bits, code 1002: a reserved bit (hex 40, 20 or 10) is set in the byte
 where a frame should begin.
 RFC 6455, 5.2: these bits are 0 unless an agreed extension gives them a meaning.
-Usual causes: compression (permessage-deflate sets 40; RFC 7692). At offset 0,
-the file is no stream of frames: ASCII text (an HTTP head, a capture, hex
-digits), a pcap, TLS and gzip all look like this. Later on, an earlier length is
-wrong, bytes are missing, or a program wrote text into the socket.
-Next: xxd -s OFFSET -l 32 FILE shows what it is. Compression: record again with
-recipes/record --plain. A pcap: recipes/pcap2wsn. A capture: add --capture. An
-HTTP head: LC_ALL=C sed '1,/^\\r$/d' FILE.
+Usual causes: compression (permessage-deflate sets 40; RFC 7692). At offset 0
+also a file that is no stream of frames: ASCII text (an HTTP head, a capture,
+hex digits), a pcap, TLS, gzip. Later on, an earlier length is wrong, bytes are
+missing, or a program wrote text into the socket.
+Next: xxd -s OFFSET -l 32 FILE shows what it is. Compression: recipes/inflate
+CAPTURE, or record with recipes/record --plain. A pcap: recipes/pcap2wsn. A
+capture: add --capture. An HTTP head: LC_ALL=C sed '1,/^\\r$/d' FILE.
 ",
     },
     Entry {
@@ -79,7 +79,7 @@ its second byte is 0.
 RFC 6455, 5.1: a client masks every frame; a server must close the connection on
 one that isn't masked.
 Usual causes: --role names the wrong side (then OFFSET is 1); a whole capture
-that went through xxd -r -p, which reads C as a digit; a home-made client, or a
+that went through xxd -r -p, so both sides' bytes; a home-made client, or a
 server's library used as a client; a tool that recorded unmasked frames.
 Next: --role is the endpoint that sent the bytes: try --role server. Of a
 capture, add --capture and leave xxd out. If the client did send unmasked
@@ -160,8 +160,8 @@ and finds what else is wrong. Correct the sender: up to 125 use one byte, up to
 message-too-big, code 1009: with this frame's length the message exceeds the
 limit. OFFSET is the last byte of the length. The limit is wsn's own: --limit
 BYTES, by default 16777216, which is the maximum.
-RFC 6455, 10.4: an endpoint should limit the size of its messages; 7.4.1: 1009
-is the code for one that is too big.
+RFC 6455, 10.4: a receiver should limit the size of a message; 7.4.1: 1009 is
+the code for one that is too big.
 Usual causes: an upload or a whole table in one message; a wrong length, which
 shows as an absurd number.
 Next: set --limit to your receiver's limit to find the message that it refuses.

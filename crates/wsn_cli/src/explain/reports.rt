@@ -98,7 +98,7 @@ outcome failed: a side sent bytes that the other must refuse.
 RFC 6455, 7.1.7: the receiver fails the connection: it should send a Close with
 a code and must not read on. wsn reports that its application sees 1006.
 Usual causes: those of the reason. If both sides are refused early as
-reserved-bits, compression was on.
+reserved-bits, compression was on: recipes/inflate CAPTURE > inflated.capture.
 Next: the line with 'refused' names side, offset and reason: 'wsn explain
 REASON'. 'wsn show CAPTURE' prints what was said before it; to list the side's
 frames: wsn frames --role server --capture CAPTURE (or --role client).
@@ -146,8 +146,8 @@ time, it is a timeout: ping more often.
         words: &["half"],
         text: "\
 outcome half: one side sent a Close; the other neither answered nor ended.
-RFC 6455, 5.5.1: it must answer as soon as it can, at the latest when it has
-sent the rest of its current message.
+RFC 6455, 5.5.1: it must answer, and should as soon as it can; it may first send
+the rest of its current message.
 Usual causes: the recording stopped, or lost the answer; a peer that doesn't
 read, because a handler blocks it; one that sends a long message first.
 Next: record for longer. If no answer comes, 'wsn show CAPTURE' prints what the

@@ -25,7 +25,7 @@ frame begins among them is unknown.
 RFC 6455, 7.1.7: an endpoint that fails the connection must not process what
 comes after that, not even a Close.
 Next: the line 'refused' before it has the reason: 'wsn explain REASON'. If HEX
-begins as a frame does (81, 82, 88 ..), only the frame before it was wrong.
+begins as a frame does (81, 82, 88 ..), perhaps only the frame before is wrong.
 ",
     },
     Entry {

@@ -93,12 +93,12 @@ Next: to compare how they are framed, run diff on the output of 'wsn plan' (or
 different K: both streams are accepted, and event K is the first that differs.
 An event is a message, a ping, a pong or a Close; K counts from 0. One stream
 may also have ended before event K.
-Usual causes: a keepalive that came earlier or later in one run; a timestamp or
-an identifier in a message; another close code or reason.
-Next: of two captures, run diff on what 'wsn show CAPTURE' prints of this side.
-Of two streams, run for each:
-  wsn normal --role R < a.bin | tee a.normal | wsn frames --role R > a.frames
-Line K + 1 of the list has the event's offset and length in the normal form.
+Usual causes: a keepalive that came earlier or later in one run (--without
+ping,pong leaves these out, and K counts the rest); a timestamp or an identifier
+in a message; another close code or reason.
+Next: run it again with --view 48: it shows event K of both, with the offset of
+its first frame. To see all differences, run diff on what 'wsn show --role R'
+prints of each stream.
 ",
     },
     Entry {

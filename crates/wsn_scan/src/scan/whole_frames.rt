@@ -1,12 +1,13 @@
 //! Frames that are whole in a piece, each consumed in one step.
 
 use super::Scan;
+use crate::stage::Stage;
 use wsn_frame::{PayloadCheck, unmask, whole_head};
 use wsn_rules::HeadInfo;
 
 impl Scan {
     ghost use Rattle.std.specs.Prelude.{◌≡◌, ◌+◌, ◌-◌, ◌<◌, ◌≤◌, List, [], ◌∷◌, None, length, drop, IfSome, IfNone};
-    ghost use Rattle.wsn_scan.specs.Words.{HeadInfo, ConsumesPrefix, IsBytes, ConsumesFromPiece, room_of, refusal_in};
+    ghost use Rattle.wsn_scan.specs.Words.{HeadInfo, ConsumesPrefix, IsBytes, ConsumesFromPiece, room_of, refusal_in, TakesFrame, TakesToEnd, after_end};
 
     /// Consumes frames at the start of the piece, up to the first that [`Scan::take_frame`] leaves, and returns the
     /// number of bytes. It reports nothing; a caller that reads notices uses `next`.
@@ -36,7 +37,7 @@ impl Scan {
     pub(crate) fn take_frame(&mut self, piece: &mut [u8]) -> Option<(usize, HeadInfo)>
         requires { length piece.old ≤ room_of self.old }
         ensures taken { IfSome result (λ found. IsBytes piece.old →
-            ConsumesPrefix self.old self.new piece.old found.0 (found.1 ∷ [])) }
+            TakesFrame self.old self.new piece.old found.0 found.1) }
         ensures within { IfSome result (λ found. (0 < found.0) × (found.0 ≤ length piece.old)) }
         ensures kept { IfSome result (λ found. drop found.0 piece.new ≡ drop found.0 piece.old) }
         ensures room { IfSome result (λ found. room_of self.new + found.0 ≡ room_of self.old) }
@@ -65,6 +66,40 @@ impl Scan {
                 unmask(head.key, 0, &mut piece[start..end]);
                 None
             }
+        }
+    }
+
+    /// Does what [`Scan::take_frame`] does, if the ends of the frames so far are reported, and reports the frame's end.
+    #[inline(always)]
+    #[tactic(none)]
+    pub(crate) fn take_to_end(&mut self, piece: &mut [u8]) -> Option<(usize, HeadInfo)>
+        requires { length piece.old ≤ room_of self.old }
+        ensures taken { IfSome result (λ found. IsBytes piece.old →
+            TakesToEnd self.old self.new piece.old found.0 found.1) }
+        ensures within { IfSome result (λ found. (0 < found.0) × (found.0 ≤ length piece.old)) }
+        ensures kept { IfSome result (λ found. drop found.0 piece.new ≡ drop found.0 piece.old) }
+        ensures room { IfSome result (λ found. room_of self.new + found.0 ≡ room_of self.old) }
+        ensures reported { IfSome result (λ _. refusal_in self.new ≡ None) }
+        ensures none { IfNone result ((self.new ≡ self.old) × (piece.new ≡ piece.old)) }
+    {
+        if !matches!(self.stage, Stage::Between) {
+            return None;
+        }
+        let found = self.take_frame(piece)?;
+        self.report_end();
+        Some(found)
+    }
+
+    /// Takes the end of the last frame as reported.
+    #[inline(always)]
+    #[tactic(none)]
+    fn report_end(&mut self)
+        ensures { self.new ≡ record self.old { stage = after_end self.old.stage } }
+    {
+        match self.stage {
+            Stage::Ended(_) => self.stage = Stage::Between,
+            Stage::CloseEnded(code) => self.stage = Stage::Closed(code),
+            _ => {}
         }
     }
 }

@@ -7,5 +7,11 @@ returns-in-Done-Done g c = search rules
 pub returns-in-Event-Event : goal.returns-in-Event-Event
 returns-in-Event-Event g c = search rules
 
-pub returns : goal.returns
-returns g c = search rules
+pub returns-in_default : goal.returns-in_default
+returns-in_default g c = search rules
+
+pub returns-in_default-2 : goal.returns-in_default-2
+returns-in_default-2 g c = search rules
+
+pub returns-in_default-3 : goal.returns-in_default-3
+returns-in_default-3 g c = search rules

@@ -1,4 +1,4 @@
-use Rattle.std.proofs.Common.{◌≡◌, ℕ, ◌-◌, List, length, map, drop, ap, refl, subst}
+use Rattle.std.proofs.Common.{◌≡◌, ℕ, ◌-◌, List, length, map, drop, ap, subst}
 use Rattle.std.proofs.Math.Seq.{map-set_same}
 use Rattle.wsn_wire.specs.Frame.{FormFits}
 use Rattle.wsn_rules.specs.Meaning.{MeantEvent}

@@ -7,26 +7,26 @@ use Rattle.wsn_rules.specs.ShownStream.Item.{Event}
 use Rattle.wsn_print.proofs.Pieces.{first_stops, second_stops, third_stops, four_pieces}
 use Rattle.wsn_print.proofs.entries.put_event.Goals as goal
 
-pub returns-in_err-put_front : goal.returns-in_err-put_front
-returns-in_err-put_front g c = λ e shows reason.
+pub returns-in_err-put_front-clause-text : goal.returns-in_err-put_front-clause-text
+returns-in_err-put_front-clause-text g c = λ e shows reason.
     let n = c.args.view in
     let frames = c.args.event.now.frames in
     first_stops c.args.to.now c.put_front.new.to (front_text c.args.front.now.role (time_of c.args.front.now) c.args.front.now.offset) ((event_text e frames ++ codes " ") ++ ((event_view n e) ++ (codes "\n"))) (item_line n c.args.front.now.role (time_of c.args.front.now) (Event c.args.front.now.offset e frames)) c.in_err-put_front.field-0.0 c.from_residual.result (simp append_assoc) (c.in_err-put_front.ensures) c.from_residual.ensures.1
 
-pub returns-in_err-put_line : goal.returns-in_err-put_line
-returns-in_err-put_line g c = λ e shows reason.
+pub returns-in_err-put_line-clause-text : goal.returns-in_err-put_line-clause-text
+returns-in_err-put_line-clause-text g c = λ e shows reason.
     let n = c.args.view in
     let frames = c.args.event.now.frames in
     second_stops c.args.to.now c.put_front.new.to c.put_line.new.to (front_text c.args.front.now.role (time_of c.args.front.now) c.args.front.now.offset) (event_text e frames ++ codes " ") ((event_view n e) ++ (codes "\n")) (item_line n c.args.front.now.role (time_of c.args.front.now) (Event c.args.front.now.offset e frames)) c.in_err-put_line.field-0.0 c.from_residual-in_err-put_line.result (simp append_assoc) (c.in_ok-put_front.ensures) (subst (λ (t : List ℕ). (c.in_err-put_line.field-0.0 ≡ stop.Write) × IsPartlyWritten c.put_front.new.to c.put_line.new.to t) (c.bytes.ensures ∙ c.line_of_event.ensures n e shows) c.in_err-put_line.ensures) c.from_residual-in_err-put_line.ensures.1
 
-pub returns-in_err-put_event_view : goal.returns-in_err-put_event_view
-returns-in_err-put_event_view g c = λ e shows reason.
+pub returns-in_err-put_event_view-clause-text : goal.returns-in_err-put_event_view-clause-text
+returns-in_err-put_event_view-clause-text g c = λ e shows reason.
     let n = c.args.view in
     let frames = c.args.event.now.frames in
     third_stops c.args.to.now c.put_front.new.to c.put_line.new.to c.put_event_view.new.to (front_text c.args.front.now.role (time_of c.args.front.now) c.args.front.now.offset) (event_text e frames ++ codes " ") (event_view n e) (codes "\n") (item_line n c.args.front.now.role (time_of c.args.front.now) (Event c.args.front.now.offset e frames)) c.in_err-put_event_view.field-0.0 c.from_residual-in_err-put_event_view.result (simp append_assoc) (c.in_ok-put_front.ensures) (subst (IsWritten c.put_front.new.to c.put_line.new.to) (c.bytes.ensures ∙ c.line_of_event.ensures n e shows) c.in_ok-put_line.ensures) (c.in_err-put_event_view.ensures.text e shows reason) c.from_residual-in_err-put_event_view.ensures.1
 
-pub returns : goal.returns
-returns g c = λ e shows reason.
+pub returns-clause-text : goal.returns-clause-text
+returns-clause-text g c = λ e shows reason.
     let n = c.args.view in
     let frames = c.args.event.now.frames in
     four_pieces c.args.to.now c.put_front.new.to c.put_line.new.to c.put_event_view.new.to c.put_line-2.new.to (front_text c.args.front.now.role (time_of c.args.front.now) c.args.front.now.offset) (event_text e frames ++ codes " ") (event_view n e) (codes "\n") (item_line n c.args.front.now.role (time_of c.args.front.now) (Event c.args.front.now.offset e frames)) c.put_line-2.result (simp append_assoc) (c.in_ok-put_front.ensures) (subst (IsWritten c.put_front.new.to c.put_line.new.to) (c.bytes.ensures ∙ c.line_of_event.ensures n e shows) c.in_ok-put_line.ensures) (c.in_ok-put_event_view.ensures.text e shows reason) (c.put_line-2.ensures)

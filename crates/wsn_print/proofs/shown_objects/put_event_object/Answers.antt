@@ -1,47 +1,30 @@
-use Rattle.std.proofs.Common.{◌≡◌, ℕ, List, ◌++◌, codes, ◌∙◌, subst, ap}
-use Rattle.wsn_io.specs.Transfer.{IsWritten, IsPartlyWritten}
-use Rattle.wsn_io.specs.declared.stop.Stop.TheVariants as stop
-use Rattle.wsn_print.specs.ShownText.{event_word, event_size}
-use Rattle.wsn_print.specs.ShownObjects.{object_front, item_object, event_fields, event_view_fields}
+use Rattle.std.proofs.Common.{◌++◌, codes}
+use Rattle.wsn_print.specs.ShownObjects.{object_front, item_object, item_fields}
 use Rattle.wsn_print.specs.Json.{number_field}
 use Rattle.wsn_print.specs.ShownParts.{position_of}
 use Rattle.wsn_rules.specs.ShownStream.Item.{Event}
-use Rattle.wsn_print.proofs.ObjectPieces.{of_four, represented}
-use Rattle.wsn_print.proofs.Pieces.{first_stops, four_pieces, second_stops, third_stops}
+use Rattle.wsn_print.proofs.ObjectPieces.{with_end}
+use Rattle.wsn_print.proofs.Pieces.{first_stops, two_pieces}
 use Rattle.wsn_print.proofs.shown_objects.put_event_object.Goals as goal
 
-pub returns-in_err-put_front : goal.returns-in_err-put_front
-returns-in_err-put_front g c = λ e shows reason.
+pub returns-in_err-put_event_members : goal.returns-in_err-put_event_members
+returns-in_err-put_event_members g c = λ e shows reason.
     let n = c.args.view in
-    let frames = c.args.event.now.frames in
     let role = c.args.front.now.role in
     let at = position_of c.args.front.now.origin in
+    let front = object_front (codes "event") role at in
     let offset = number_field (codes "offset") c.args.front.now.offset in
-    first_stops c.args.to.now c.put_front.new.to (object_front (codes "event") role at) ((offset ++ event_fields (event_word e) (event_size e) frames) ++ ((event_view_fields n e) ++ (codes "}\n"))) (item_object n role at (Event c.args.front.now.offset e frames)) c.in_err-put_front.field-0.0 c.from_residual.result (of_four (object_front (codes "event") role at) offset (event_fields (event_word e) (event_size e) frames) (event_view_fields n e) (codes "}\n")) (c.in_err-put_front.ensures) c.from_residual.ensures.1
-
-pub returns-in_err-put_line : goal.returns-in_err-put_line
-returns-in_err-put_line g c = λ e shows reason.
-    let n = c.args.view in
-    let frames = c.args.event.now.frames in
-    let role = c.args.front.now.role in
-    let at = position_of c.args.front.now.origin in
-    let offset = number_field (codes "offset") c.args.front.now.offset in
-    second_stops c.args.to.now c.put_front.new.to c.put_line.new.to (object_front (codes "event") role at) (offset ++ event_fields (event_word e) (event_size e) frames) ((event_view_fields n e) ++ (codes "}\n")) (item_object n role at (Event c.args.front.now.offset e frames)) c.in_err-put_line.field-0.0 c.from_residual-in_err-put_line.result (of_four (object_front (codes "event") role at) offset (event_fields (event_word e) (event_size e) frames) (event_view_fields n e) (codes "}\n")) (c.in_ok-put_front.ensures) (subst (λ (t : List ℕ). (c.in_err-put_line.field-0.0 ≡ stop.Write) × IsPartlyWritten c.put_front.new.to c.put_line.new.to t) (c.bytes.ensures ∙ c.line_of_event.ensures ∙ ap (λ (t : List ℕ). offset ++ t) (represented n c.args.event.now e frames shows)) c.in_err-put_line.ensures) c.from_residual-in_err-put_line.ensures.1
-
-pub returns-in_err-put_event_view_fields : goal.returns-in_err-put_event_view_fields
-returns-in_err-put_event_view_fields g c = λ e shows reason.
-    let n = c.args.view in
-    let frames = c.args.event.now.frames in
-    let role = c.args.front.now.role in
-    let at = position_of c.args.front.now.origin in
-    let offset = number_field (codes "offset") c.args.front.now.offset in
-    third_stops c.args.to.now c.put_front.new.to c.put_line.new.to c.put_event_view_fields.new.to (object_front (codes "event") role at) (offset ++ event_fields (event_word e) (event_size e) frames) (event_view_fields n e) (codes "}\n") (item_object n role at (Event c.args.front.now.offset e frames)) c.in_err-put_event_view_fields.field-0.0 c.from_residual-in_err-put_event_view_fields.result (of_four (object_front (codes "event") role at) offset (event_fields (event_word e) (event_size e) frames) (event_view_fields n e) (codes "}\n")) (c.in_ok-put_front.ensures) (subst (IsWritten c.put_front.new.to c.put_line.new.to) (c.bytes.ensures ∙ c.line_of_event.ensures ∙ ap (λ (t : List ℕ). offset ++ t) (represented n c.args.event.now e frames shows)) c.in_ok-put_line.ensures) (c.in_err-put_event_view_fields.ensures.text e shows reason) c.from_residual-in_err-put_event_view_fields.ensures.1
+    let item = Event c.args.front.now.offset e c.args.event.now.frames in
+    first_stops c.args.to.now c.put_event_members.new.to (front ++ offset ++ item_fields n item) (codes "}\n") (item_object n role at item) c.in_err-put_event_members.field-0.0 c.from_residual.result
+    (with_end front offset (item_fields n item) (codes "}\n")) (c.in_err-put_event_members.ensures.text e shows reason) c.from_residual.ensures.1
 
 pub returns : goal.returns
 returns g c = λ e shows reason.
     let n = c.args.view in
-    let frames = c.args.event.now.frames in
     let role = c.args.front.now.role in
     let at = position_of c.args.front.now.origin in
+    let front = object_front (codes "event") role at in
     let offset = number_field (codes "offset") c.args.front.now.offset in
-    four_pieces c.args.to.now c.put_front.new.to c.put_line.new.to c.put_event_view_fields.new.to c.put_line-2.new.to (object_front (codes "event") role at) (offset ++ event_fields (event_word e) (event_size e) frames) (event_view_fields n e) (codes "}\n") (item_object n role at (Event c.args.front.now.offset e frames)) c.put_line-2.result (of_four (object_front (codes "event") role at) offset (event_fields (event_word e) (event_size e) frames) (event_view_fields n e) (codes "}\n")) (c.in_ok-put_front.ensures) (subst (IsWritten c.put_front.new.to c.put_line.new.to) (c.bytes.ensures ∙ c.line_of_event.ensures ∙ ap (λ (t : List ℕ). offset ++ t) (represented n c.args.event.now e frames shows)) c.in_ok-put_line.ensures) (c.in_ok-put_event_view_fields.ensures.text e shows reason) (c.put_line-2.ensures)
+    let item = Event c.args.front.now.offset e c.args.event.now.frames in
+    two_pieces c.args.to.now c.put_event_members.new.to c.put_line.new.to (front ++ offset ++ item_fields n item) (codes "}\n") (item_object n role at item) c.put_line.result
+    (with_end front offset (item_fields n item) (codes "}\n")) (c.in_ok-put_event_members.ensures.text e shows reason) c.put_line.ensures

@@ -5,6 +5,7 @@ use Rattle.wsn_io.specs.Transfer.{IsWrittenUpToFailure}
 use Rattle.wsn_print.specs.Formats.{heads_text}
 use Rattle.wsn_scan.specs.declared.scan.Scan.{Scan}
 use Rattle.wsn_scan.specs.Listing.{IsListedRun}
+use Rattle.wsn_scan.proofs.WholeFrames.{prefix_of_frame}
 use Rattle.wsn_scan.proofs.FedPieces.{bytes_below, bytes_after, share_is, kept_after, same_further, takes_none, takes_further}
 use Rattle.wsn_scan.proofs.Printing.{heads_text-append}
 use Rattle.wsn_scan.proofs.listing.list_frames.Goals as goal
@@ -37,7 +38,7 @@ loop-taken-preserved g c =
     let is : share ≡ drop at piece = share_is at here ∙ known.kept in
     let size : length share ≡ length (drop at piece) = ap (λ (bs : List ℕ). length bs) is in
     let same_size : length c.take_frame.new.piece ≡ length share = c.take_frame.auto.piece in
-    let more = found.taken (subst IsBytes (sym is) (bytes_after at piece known.in_bytes)) in
+    let more = prefix_of_frame c.loop-taken.scan c.take_frame.new.self share taken head (found.taken (subst IsBytes (sym is) (bytes_after at piece known.in_bytes))) in
     let lines = heads_text c.args.format known.run.heads in
     record {
       in_bytes = known.in_bytes;

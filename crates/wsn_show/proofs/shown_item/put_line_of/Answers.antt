@@ -11,7 +11,7 @@ pub returns-in-Event : goal.returns-in-Event
 returns-in-Event g c shown is =
     let item = subst (λ (i : ShownItem). IsItem c.args.view c.args.front.now.offset i shown) c.in-Event.is is in
     subst (λ (i : Item). IsWrittenOrStops c.args.output.now c.put_event.new.to (item_line c.args.view c.args.front.now.role (time_of c.args.front.now) i) c.put_event.result) (sym item.3)
-    (c.put_event.ensures item.0 item.1 item.2)
+    (c.put_event.ensures.text item.0 item.1 item.2)
 
 pub returns-in-Frame : goal.returns-in-Frame
 returns-in-Frame g c shown is =

@@ -10,5 +10,8 @@ clear-requires g c = search rules
 pub returns-in-Binary : goal.returns-in-Binary
 returns-in-Binary g c = search rules
 
+pub returns-in-Continue : goal.returns-in-Continue
+returns-in-Continue g c = search rules
+
 pub returns-in_default : goal.returns-in_default
 returns-in_default g c = search rules

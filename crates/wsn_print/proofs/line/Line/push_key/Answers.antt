@@ -13,9 +13,6 @@ returns-in_default-clause-text c = search rules
 pub returns-in_default-clause-len : goal.returns-in_default-clause-len
 returns-in_default-clause-len c = search rules
 
-pub slice_bounds-encode_to_slice-end : goal.slice_bounds-encode_to_slice-end
-slice_bounds-encode_to_slice-end c = search rules
-
 pub slice_bounds-try_extend_from_slice-end : goal.slice_bounds-try_extend_from_slice-end
 slice_bounds-try_extend_from_slice-end c = search rules
 

@@ -1,4 +1,4 @@
-use Rattle.std.proofs.Common.{◌+◌, refl, arith}
+use Rattle.std.proofs.Common.{refl, arith}
 use Rattle.wsn_scan.proofs.ReaderEvents.{reports_events}
 use Rattle.wsn_scan.proofs.notice_reader.NoticeReader.take_events.Goals as goal
 

@@ -6,7 +6,7 @@ use Rattle.wsn_wire.specs.Frame.{IsBytes, first_byte}
 use Rattle.wsn_wire.proofs.FrameLemmas.{first_byte_fields, IsBytes-right}
 use Rattle.wsn_rules.specs.Limits.{Limits}
 use Rattle.wsn_rules.specs.Group.{unfinished}
-use Rattle.wsn_frame.specs.PartialHeads.{IsHead, info_at}
+use Rattle.wsn_frame.specs.PartialHeads.{IsHead}
 use Rattle.wsn_frame.specs.PayloadChecks.{IsChecked}
 use Rattle.wsn_frame.specs.Payloads.{unmasked_by}
 use Rattle.wsn_scan.specs.Reports.{Reported, ends_of}
@@ -18,16 +18,15 @@ use Rattle.wsn_scan.proofs.MoreBytes.{knows_more}
 use Rattle.wsn_scan.proofs.scan.Scan.take_frame.Goals as goal
 
 pub returns-in-Ok-clause-taken : goal.returns-in-Ok-clause-taken
-returns-in-Ok-clause-taken c in_piece role limits bytes heads taken =
+returns-in-Ok-clause-taken c in_piece role limits bytes since fs reported has_scanned =
     let head = c.in_ok-start.head in
     let start = c.in_ok-start.start in
     let end = start + head.len in
     let piece = c.args.piece.now in
-    let fs = taken.frames in
     let group = unfinished fs in
-    let has_consumed = taken.has_scanned.has_consumed in
+    let has_consumed = has_scanned.has_consumed in
     let found = c.in_ok-start.ensures in
-    let between = c.is_between.ensures.between c.if-not-is_between.false role limits bytes taken.since fs _ taken.has_scanned.at in
+    let between = c.is_between.ensures.between c.if-not-is_between.false role limits bytes since fs reported has_scanned.at in
     let head_bytes = take start piece in
     let wire = mid_of start (end - start) piece in
     let came = take end piece in
@@ -43,14 +42,14 @@ returns-in-Ok-clause-taken c in_piece role limits bytes heads taken =
     let all : IsChecked group (first_byte head.first.fin head.first.op) head.len [] (unmasked_by head.key 0 wire) (Ok c.in-Ok.check) =
     fed_at_once group (first_byte head.first.fin head.first.op) head.len head.key wire _ (Ok c.in-Ok.check) fed_is size
     (c.in-Ok.ensures.checked group (first_byte head.first.fin head.first.op) head.len [] checked (first_byte_fields head.first.fin head.first.op).fin_is) in
-    let rest_is : taken.since ++ came ≡ head_bytes ++ wire = ap (λ (bs : List ℕ). bs ++ came) between.1 ∙ parts in
-    let holds = holds_at_once role limits group head c.new-check.result c.in-Ok.check head_bytes wire (taken.since ++ came) rest_is in_wire is_head checked (omega (arith, c.if-head-eq0.false)) size all in
-    let reported : Reported = record { heads = heads ++ c.info-info.result ∷ []; payload = unmasked_by head.key 0 wire; ends = ends_of fs } in
+    let rest_is : since ++ came ≡ head_bytes ++ wire = ap (λ (bs : List ℕ). bs ++ came) between.1 ∙ parts in
+    let holds = holds_at_once role limits group head c.new-check.result c.in-Ok.check head_bytes wire (since ++ came) rest_is in_wire is_head checked (omega (arith, c.if-head-eq0.false)) size all in
+    let after : Reported = record { heads = reported.heads ++ c.info-info.result ∷ []; payload = unmasked_by head.key 0 wire; ends = ends_of fs } in
     let size_came : length came ≡ end = length-take-le end piece within in
-    let ends = c.end.ensures.taken role limits (bytes ++ came) (taken.since ++ came) wire fs reported
-    (knows_more role limits c.args.self.now _ bytes taken.since came fs (record { sender = refl; under = refl; room = omega (arith, c.requires, within, size_came); used = refl; counts = refl; message = refl }) in_came has_consumed)
-    between.0 holds size (heads_with head fs heads c.args.self.now.used c.info-info.result between.2 has_consumed.used c.info-info.ensures) refl refl in
-    record { frames = fs ++ ends.frame ∷ []; since = []; payload = reported.payload; ends = reported.ends; has_scanned = ends.has_scanned }
+    let ends = c.end.ensures.taken role limits (bytes ++ came) (since ++ came) wire fs after
+    (knows_more role limits c.args.self.now _ bytes since came fs (record { sender = refl; under = refl; room = omega (arith, c.requires, within, size_came); used = refl; counts = refl; message = refl }) in_came has_consumed)
+    between.0 holds size (heads_with head fs reported.heads c.args.self.now.used c.info-info.result between.2 has_consumed.used c.info-info.ensures) refl refl in
+    record { frame = ends.frame; payload = after.payload; has_scanned = ends.has_scanned }
 
 pub returns-in-Ok-clause-kept : goal.returns-in-Ok-clause-kept
 returns-in-Ok-clause-kept c =

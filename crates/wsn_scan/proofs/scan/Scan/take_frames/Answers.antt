@@ -3,6 +3,7 @@ use borrow.Rule.Slice.PartMut.{mid_of, same_len_mid}
 use Rattle.wsn_wire.specs.Frame.{IsBytes}
 use Rattle.wsn_scan.specs.declared.scan.Scan.{Scan}
 use Rattle.wsn_scan.specs.Feeding.{ConsumesPrefix}
+use Rattle.wsn_scan.proofs.WholeFrames.{prefix_of_frame}
 use Rattle.wsn_scan.proofs.FedPieces.{bytes_below, bytes_after, share_is, kept_after, same_further, takes_none, takes_further}
 use Rattle.wsn_scan.proofs.scan.Scan.take_frames.Goals as goal
 
@@ -30,7 +31,7 @@ loop-taken-preserved c =
     let is : share ≡ drop at piece = share_is at here ∙ known.kept in
     let size : length share ≡ length (drop at piece) = ap (λ (bs : List ℕ). length bs) is in
     let same_size : length c.take_frame.new.piece ≡ length share = c.take_frame.auto.piece in
-    let more = found.taken (subst IsBytes (sym is) (bytes_after at piece known.in_bytes)) in
+    let more = prefix_of_frame c.loop-taken.self c.take_frame.new.self share taken c.in-Some._head (found.taken (subst IsBytes (sym is) (bytes_after at piece known.in_bytes))) in
     record {
       in_bytes = known.in_bytes;
       within = omega (arith, length-drop at piece, size, found.within.1);

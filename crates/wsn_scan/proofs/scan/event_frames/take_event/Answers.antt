@@ -1,7 +1,6 @@
-use Rattle.std.proofs.Common.{◌≡◌, ◌+◌, ◌-◌, ◌≤◌, ℕ, Option, None, Ok, List, [], ◌++◌, length, take, drop, refl, sym, ap, ◌∙◌, subst, arith, rules, append-nil}
-use Rattle.std.proofs.lemmas.List.{length-take-le}
-use borrow.Rule.Slice.PartMut.{mid_of, put_mid, mid_len}
-use Rattle.wsn_wire.specs.Frame.{Frame, IsBytes, first_byte}
+use Rattle.std.proofs.Common.{◌≡◌, ◌+◌, ◌-◌, ◌≤◌, Option, Ok, [], ◌++◌, length, take, refl, sym, ◌∙◌, subst, arith, rules}
+use borrow.Rule.Slice.PartMut.{mid_of, mid_len}
+use Rattle.wsn_wire.specs.Frame.{IsBytes, first_byte}
 use Rattle.wsn_wire.proofs.FrameLemmas.{first_byte_fields, IsBytes-right}
 use Rattle.wsn_frame.specs.declared.open_message.OpenMessage.{OpenMessage}
 use Rattle.wsn_rules.specs.Group.{unfinished}
@@ -10,8 +9,7 @@ use Rattle.wsn_frame.specs.PartialHeads.{IsHead}
 use Rattle.wsn_frame.specs.PayloadChecks.{IsChecked}
 use Rattle.wsn_frame.specs.Payloads.{unmasked_by}
 use Rattle.wsn_frame.proofs.FrameStarts.{goes_on, begins}
-use Rattle.wsn_frame.proofs.FramesAtOnce.{kept_after_frame, payload_after, masked_back, head_and_payload, fed_at_once, holds_at_once}
-use Rattle.wsn_scan.specs.EventFrames.{with_key_cleared}
+use Rattle.wsn_frame.proofs.FramesAtOnce.{payload_after, masked_back, head_and_payload, fed_at_once, holds_at_once}
 use Rattle.wsn_scan.proofs.EventFrames.{ends_event, key_fits, key_room, written_after, kept_before}
 use Rattle.wsn_scan.proofs.HeadBytes.{bytes_taken}
 use Rattle.wsn_scan.proofs.scan.event_frames.take_event.Goals as goal

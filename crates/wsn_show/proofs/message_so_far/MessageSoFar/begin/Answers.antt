@@ -1,5 +1,6 @@
 use Rattle.std.proofs.Common.{sym}
-use Rattle.wsn_show.proofs.OpenMessages.{none_open, joined_first}
+use Rattle.wsn_rules.proofs.OpenOffsets.{none_open}
+use Rattle.wsn_show.proofs.OpenMessages.{joined_first}
 use Rattle.wsn_show.proofs.message_so_far.MessageSoFar.begin.Goals as goal
 
 pub returns-then-self-eq0-clause-joined : goal.returns-then-self-eq0-clause-joined

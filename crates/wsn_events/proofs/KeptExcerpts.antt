@@ -1,0 +1,186 @@
+-- What is kept of the first difference in a comparison, round by round.
+use Rattle.std.proofs.Common.{◌≡◌, ℕ, ◌+◌, ◌<◌, ◌≤◌, true, false, Option, None, Some, Result, Ok, Err, List, length, refl, sym, ap, ◌∙◌, subst, arith}
+use Rattle.std.specs.Option.{option_or}
+use Rattle.std.specs.Prelude.{is_some}
+use Rattle.wsn_wire.specs.declared.endpoint.Role.{Role}
+use Rattle.wsn_io.specs.Transfer.{Incoming}
+use Rattle.wsn_rules.specs.declared.verdict.Summary.{Summary}
+use Rattle.wsn_rules.specs.declared.verdict.Verdict.{Verdict}
+use Rattle.wsn_rules.specs.declared.verdict.Verdict.TheVariants.{Accepted, Cut, Refused}
+use Rattle.wsn_rules.specs.declared.compared.Compared.{Compared}
+use Rattle.wsn_rules.specs.declared.compared.Compared.TheVariants.{Equal, Different, NotAccepted}
+use Rattle.wsn_io.specs.declared.stop.Stop.{Stop}
+use Rattle.wsn_rules.specs.declared.without.Without.{Without}
+use Rattle.wsn_rules.specs.Limits.{Limits}
+use Rattle.wsn_rules.specs.LeftOut.{events_without}
+use Rattle.wsn_rules.specs.Meaning.{MeantEvent}
+use Rattle.wsn_events.specs.declared.comparing.Round.{Round}
+use Rattle.wsn_events.specs.declared.comparing.Round.TheVariants.{Alike, Unlike, Over}
+use Rattle.wsn_events.specs.declared.event_reader.EventReader.{EventReader}
+use Rattle.wsn_events.specs.declared.excerpt.Excerpt.{Excerpt}
+use Rattle.wsn_events.specs.declared.first_difference.FirstDifference.{FirstDifference}
+use Rattle.wsn_events.specs.declared.source.Next.{Next}
+use Rattle.wsn_events.specs.declared.source.Next.TheVariants as nexts
+use Rattle.wsn_events.specs.EventsMeant.{meant}
+use Rattle.wsn_events.specs.EventReaders.{answered, offset_of, frames_of}
+use Rattle.wsn_events.specs.Sources.{IsLast}
+use Rattle.wsn_events.specs.Comparing.{IsRoundOf, IsAnAccepted, IsComparedBy}
+use Rattle.wsn_events.specs.Excerpts.{IsKeptOf, HasKept, KeepsFirst, KeepsOf, index_in, AreExcerptsAt, HasExcerpts, answer_in, IsContrasted}
+use Rattle.wsn_events.proofs.StandingEvents.{StandsAt, Stands, stands_longer, excerpt_at}
+use Rattle.wsn_events.proofs.ComparedSources.{HasGivenNext}
+use Rattle.wsn_events.proofs.ComparedRounds.{IsDifferenceSoFar, pending, on_alike, on_unlike}
+use Rattle.wsn_events.proofs.Comparisons.{Compares, answers}
+
+-- What is kept of a difference, if there is one, stands in both streams.
+abbrev pub AreKept : {A : Type 0} → Without → Role → Limits → EventReader A → List ℕ → List MeantEvent → EventReader A → List ℕ → List MeantEvent → Option FirstDifference → Type 0
+AreKept without role limits reading came events other other_came others None = Unit {0}
+AreKept without role limits reading came events other other_came others (Some d) =
+    Stands without role limits reading came events d.index d.first × Stands without role limits other other_came others d.index d.second
+
+accepted_last : (role : Role) (limits : Limits) (new : Incoming) (came : List ℕ) (events : List MeantEvent) (v : Verdict) → IsAnAccepted v → IsLast role limits new came events (Ok v) → (summary : Summary) × IsLast role limits new came events (Ok (Accepted summary))
+accepted_last role limits new came events (Accepted summary) is last = (summary, last)
+accepted_last role limits new came events (Cut summary) is last = absurd is
+accepted_last role limits new came events (Refused refusal) is last = absurd is
+
+module _ {A : Type 0} (without : Without) (role : Role) (limits : Limits) where
+  -- ---- of one source, with one result more
+
+  stands_on : (old new : Incoming) (before reading : EventReader A) (was : List ℕ) (given : List MeantEvent) (next : Next A) (one : HasGivenNext without role limits old new before reading was given next) (k : ℕ) (excerpt : Option Excerpt)
+      → Stands without role limits before was given k excerpt → Stands without role limits reading one.came one.events k excerpt
+  stands_on old new before reading was given next one k (Some excerpt) s = (
+    s.0,
+    s.1,
+    s.2,
+    s.3,
+    subst (λ (bs : List ℕ). StandsAt without role limits bs k s.0 s.1 s.2) (sym one.longer) (stands_longer without role limits was one.more k s.0 s.1 s.2 s.4),
+  )
+  stands_on old new before reading was given (nexts.Event event) one k None s = let both : Some (Ok s.0.0) ≡ None = sym s.0.1 ∙ one.gives.1 in absurd cc
+  stands_on old new before reading was given (nexts.Done verdict) one k None s = ((verdict, one.gives.1), subst (λ (es : List MeantEvent). length es ≤ k) (sym one.gives.0) s.1)
+
+  stands_first : (old new : Incoming) (before reading : EventReader A) (was : List ℕ) (given : List MeantEvent) (next : Next A) (one : HasGivenNext without role limits old new before reading was given next) (k : ℕ)
+      → k ≡ length (events_without without given) → (excerpt : Option Excerpt) → IsKeptOf reading next excerpt → Stands without role limits reading one.came one.events k excerpt
+  stands_first old new before reading was given (nexts.Event event) one k index (Some excerpt) is =
+      (offset_of reading, meant event, frames_of reading, is, subst (λ (n : ℕ). StandsAt without role limits one.came n (offset_of reading) (meant event) (frames_of reading)) (sym index) one.stands)
+  stands_first old new before reading was given (nexts.Event event) one k index None is = absurd is
+  stands_first old new before reading was given (nexts.Done verdict) one k index (Some excerpt) is = absurd is
+  stands_first old new before reading was given (nexts.Done verdict) one k index None is = ((verdict, one.gives.1), let sizes = ap (λ (es : List MeantEvent). length es) one.gives.0 in omega (arith, sizes, index))
+
+  -- ---- of both, in one round
+
+  module _ (old other_old new other_new : Incoming) (before reading other_before other : EventReader A) (was_came other_was : List ℕ) (given other_given : List MeantEvent) (next other_next : Next A)
+      (one : HasGivenNext without role limits old new before reading was_came given next) (two : HasGivenNext without role limits other_old other_new other_before other other_was other_given other_next) where
+    kept_on : (difference : Option FirstDifference) → AreKept without role limits before was_came given other_before other_was other_given difference → AreKept without role limits reading one.came one.events other two.came two.events difference
+    kept_on None kept = tt
+    kept_on (Some d) kept = (stands_on old new before reading was_came given next one d.index d.first kept.0, stands_on other_old other_new other_before other other_was other_given other_next two d.index d.second kept.1)
+
+    kept_first : (index : ℕ) (now : Option FirstDifference) → index ≡ length (events_without without given) → index ≡ length (events_without without other_given) → HasKept index reading next other other_next now
+        → AreKept without role limits reading one.came one.events other two.came two.events now
+    kept_first index None at other_at has = absurd has
+    kept_first index (Some d) at other_at has = (
+      stands_first old new before reading was_came given next one d.index (has.index_is ∙ at) d.first has.first,
+      stands_first other_old other_new other_before other other_was other_given other_next two d.index (has.index_is ∙ other_at) d.second has.second,
+    )
+
+    kept_unlike : (index : ℕ) (was now : Option FirstDifference) → KeepsFirst index reading next other other_next was now
+        → IsDifferenceSoFar before other_before index (events_without without given) (events_without without other_given) (index_in was)
+        → AreKept without role limits before was_came given other_before other_was other_given was → AreKept without role limits reading one.came one.events other two.came two.events now
+    kept_unlike index (Some d) now keeps so_far kept = subst (λ (x : Option FirstDifference). AreKept without role limits reading one.came one.events other two.came two.events x) (sym keeps) (kept_on (Some d) kept)
+    kept_unlike index None now keeps so_far kept = kept_first index now (sym so_far.3) (sym so_far.3 ∙ ap (λ (es : List MeantEvent). length es) so_far.2) keeps
+
+    has_index : (index : ℕ) (now : Option FirstDifference) → HasKept index reading next other other_next now → index_in now ≡ Some index
+    has_index index None has = absurd has
+    has_index index (Some d) has = ap (λ (n : ℕ). Some n) has.index_is
+
+    index_after : (index : ℕ) (was now : Option FirstDifference) → KeepsFirst index reading next other other_next was now → index_in now ≡ option_or (index_in was) (Some index)
+    index_after index (Some d) now keeps = ap index_in keeps
+    index_after index None now keeps = has_index index now keeps
+
+    -- What holds after a round in which not both have their verdicts.
+    pub record GoesOn (index : ℕ) (now : Option FirstDifference) : Type 0 where
+      pub difference : IsDifferenceSoFar reading other (index + 1) (events_without without one.events) (events_without without two.events) (index_in now)
+      pub falls : pending reading + pending other < pending before + pending other_before
+      pub kept : AreKept without role limits reading one.came one.events other two.came two.events now
+
+    pub goes_on : (index : ℕ) (was now : Option FirstDifference) (round : Round) → IsRoundOf next other_next round → ((v w : Verdict) → round ≡ Over v w → ⊥) → KeepsOf round index reading next other other_next was now
+        → IsDifferenceSoFar before other_before index (events_without without given) (events_without without other_given) (index_in was)
+        → AreKept without role limits before was_came given other_before other_was other_given was → GoesOn index now
+    goes_on index was now Alike is not_over keeps so_far kept =
+        let step = on_alike role limits without old other_old new other_new before reading other_before other was_came other_was given other_given next other_next one two index (index_in was) (index_in now) so_far (ap index_in keeps) is in
+        record {
+          difference = step.0;
+          falls = step.1;
+          kept = subst (λ (x : Option FirstDifference). AreKept without role limits reading one.came one.events other two.came two.events x) (sym keeps) (kept_on was kept);
+        }
+    goes_on index was now Unlike is not_over keeps so_far kept =
+        let step = on_unlike role limits without old other_old new other_new before reading other_before other was_came other_was given other_given next other_next one two index (index_in was) (index_in now) so_far (index_after index was now keeps) is in
+        record { difference = step.0; falls = step.1; kept = kept_unlike index was now keeps so_far kept }
+    goes_on index was now (Over v w) is not_over keeps so_far kept = absurd (not_over v w refl)
+
+  -- ---- the answer
+
+  -- both have their verdicts
+  pub contrasts : (old other_old new other_new : Incoming) (before reading other_before other : EventReader A) (was other_was : List ℕ) (given other_given : List MeantEvent) (next other_next : Next A)
+      → HasGivenNext without role limits old new before reading was given next → HasGivenNext without role limits other_old other_new other_before other other_was other_given other_next
+      → (index : ℕ) (difference : Option FirstDifference) → IsDifferenceSoFar before other_before index (events_without without given) (events_without without other_given) (index_in difference)
+      → AreKept without role limits before was given other_before other_was other_given difference
+      → (verdict other_verdict : Verdict) → IsRoundOf next other_next (Over verdict other_verdict)
+      → (result : Compared) → Compares (events_without without) verdict other_verdict (index_in difference) result
+      → ((k : ℕ) → result ≡ Different k → (index_in difference ≡ Some k) × IsAnAccepted verdict × IsAnAccepted other_verdict)
+      → IsContrasted without role limits old new other_old other_new (Ok (result, difference))
+  contrasts old other_old new other_new before reading other_before other was other_was given other_given (nexts.Event event) other_next one two index difference so_far kept verdict other_verdict is result reported differs = absurd (no_event other_next is)
+    where
+      no_event : (n : Next A) → IsRoundOf (nexts.Event event) n (Over verdict other_verdict) → ⊥
+      no_event (nexts.Event that) round = round
+      no_event (nexts.Done w) round = round
+  contrasts old other_old new other_new before reading other_before other was other_was given other_given (nexts.Done v) (nexts.Event event) one two index difference so_far kept verdict other_verdict is result reported differs = absurd is
+  contrasts old other_old new other_new before reading other_before other was other_was given other_given (nexts.Done v) (nexts.Done w) one two index difference so_far kept verdict other_verdict is result reported differs = record {
+    compared = record {
+      came = one.came;
+      received = one.followed.received;
+      other_came = two.came;
+      other_received = two.followed.received;
+      answer = answers without role limits old other_old new other_new before reading other_before other was other_was given other_given v w one two index (index_in difference) so_far verdict other_verdict is result reported;
+    };
+    excerpts = by_result result difference differs (kept_on old other_old new other_new before reading other_before other was other_was given other_given (nexts.Done v) (nexts.Done w) one two difference kept);
+  }
+    where
+      at_index : (k : ℕ) (d : FirstDifference) → (index_in (Some d) ≡ Some k) × IsAnAccepted verdict × IsAnAccepted other_verdict
+          → Stands without role limits reading one.came one.events d.index d.first × Stands without role limits other two.came two.events d.index d.second → AreExcerptsAt without role limits one.came two.came k d
+      at_index k d found stand =
+          let same : d.index ≡ k = cc in
+          let last = accepted_last role limits new one.came one.events v (subst (λ (x : Verdict). IsAnAccepted x) is.0 found.1) one.last in
+          let other_last = accepted_last role limits other_new two.came two.events w (subst (λ (x : Verdict). IsAnAccepted x) is.1 found.2) two.last in
+          record {
+            index_is = same;
+            first = excerpt_at without role limits reading new one.came one.events last.0 k d.first last.1 (subst (λ (n : ℕ). Stands without role limits reading one.came one.events n d.first) same stand.0);
+            second = excerpt_at without role limits other other_new two.came two.events other_last.0 k d.second other_last.1 (subst (λ (n : ℕ). Stands without role limits other two.came two.events n d.second) same stand.1);
+          }
+
+      by_result : (r : Compared) (d : Option FirstDifference) → ((k : ℕ) → r ≡ Different k → (index_in d ≡ Some k) × IsAnAccepted verdict × IsAnAccepted other_verdict)
+          → AreKept without role limits reading one.came one.events other two.came two.events d → HasExcerpts without role limits one.came two.came (Ok (r, d))
+      by_result (Different k) None found stand = let both : None ≡ Some k = (found k refl).0 in absurd cc
+      by_result (Different k) (Some d) found stand = at_index k d (found k refl) stand
+      by_result Equal d found stand = tt
+      by_result (NotAccepted second verdict) d found stand = tt
+
+-- ---- the answer alone
+
+module _ (without : Without) (role : Role) (limits : Limits) (old new other_old other_new : Incoming) (result : Result (Compared × Option FirstDifference) Stop) (is : IsContrasted without role limits old new other_old other_new result) where
+  pub answered_with : (answer : Compared × Option FirstDifference) → result ≡ Ok answer → IsComparedBy (events_without without) role limits old new other_old other_new (Ok answer.0)
+  answered_with answer was = subst (λ (r : Result (Compared × Option FirstDifference) Stop). IsComparedBy (events_without without) role limits old new other_old other_new (answer_in r)) was is.compared
+
+  pub stopped_at : (stop : Stop) → result ≡ Err stop → (other : Result Compared Stop) → other ≡ Err stop → IsComparedBy (events_without without) role limits old new other_old other_new other
+  stopped_at stop was other same =
+      subst (λ (r : Result Compared Stop). IsComparedBy (events_without without) role limits old new other_old other_new r) (sym same)
+      (subst (λ (r : Result (Compared × Option FirstDifference) Stop). IsComparedBy (events_without without) role limits old new other_old other_new (answer_in r)) was is.compared)
+
+-- a difference that was kept stays
+pub keeps_first : {A : Type 0} (index : ℕ) (reading : EventReader A) (next : Next A) (other : EventReader A) (other_next : Next A) (was : Option FirstDifference) → is_some was ≡ true → KeepsFirst index reading next other other_next was was
+keeps_first index reading next other other_next None some = cc
+keeps_first index reading next other other_next (Some d) some = refl
+
+-- or these are kept
+pub keeps_new : {A : Type 0} (index : ℕ) (reading : EventReader A) (next : Next A) (other : EventReader A) (other_next : Next A) (was : Option FirstDifference) (d : FirstDifference) → is_some was ≡ false
+    → d.index ≡ index → IsKeptOf reading next d.first → IsKeptOf other other_next d.second → KeepsFirst index reading next other other_next was (Some d)
+keeps_new index reading next other other_next None d none index_is first second = record { index_is = index_is; first = first; second = second }
+keeps_new index reading next other other_next (Some before) d none index_is first second = cc

@@ -1,0 +1,117 @@
+-- Where an event stands in a stream, as more bytes come and where the stream is accepted.
+use Rattle.std.proofs.Common.{◌≡◌, ℕ, ◌+◌, ◌≤◌, Bool, true, false, cond, Option, None, Some, Result, Ok, List, [], ◌∷◌, ◌++◌, length, refl, sym, ap, ◌∙◌, subst, append_assoc, length-append, arith}
+use Rattle.wsn_wire.specs.declared.endpoint.Role.{Role}
+use Rattle.wsn_wire.specs.Frame.{Frame, stream}
+use Rattle.wsn_io.specs.Transfer.{Incoming}
+use Rattle.wsn_rules.specs.declared.verdict.Summary.{Summary}
+use Rattle.wsn_rules.specs.declared.verdict.Verdict.{Verdict}
+use Rattle.wsn_rules.specs.declared.verdict.Verdict.TheVariants.{Accepted}
+use Rattle.wsn_rules.specs.declared.without.Without.{Without}
+use Rattle.wsn_rules.specs.Lawful.{IsLawful}
+use Rattle.wsn_rules.specs.LeftOut.{is_left_out, events_without}
+use Rattle.wsn_rules.specs.Limits.{Limits}
+use Rattle.wsn_rules.specs.Meaning.{MeantEvent, event_at, meaning}
+use Rattle.wsn_rules.specs.Verdict.{IsVerdict}
+use Rattle.wsn_rules.specs.ShownStream.{Item, event_offset, event_frames}
+use Rattle.wsn_rules.specs.ShownStream.Item.{Event}
+use Rattle.wsn_rules.specs.ShownEvents.{IsShownAt}
+use Rattle.wsn_rules.proofs.Groups.{meaning_push}
+use Rattle.wsn_rules.proofs.Prefixes.{same_front}
+use Rattle.wsn_rules.proofs.ShownEvents.{shown_in_accepted, none_in_accepted}
+use Rattle.wsn_io.specs.declared.stop.Stop.{Stop}
+use Rattle.wsn_events.specs.declared.event.Event as code
+use Rattle.wsn_events.specs.declared.event_reader.EventReader.{EventReader}
+use Rattle.wsn_events.specs.declared.excerpt.Excerpt.{Excerpt}
+use Rattle.wsn_events.specs.EventsMeant.{meant}
+use Rattle.wsn_events.specs.EventReaders.{IsGiven, answered, offset_of, frames_of}
+use Rattle.wsn_events.specs.Excerpts.{IsExcerptOf, IsExcerptAt}
+use Rattle.wsn_events.specs.Sources.{IsLast}
+use Rattle.wsn_events.proofs.LeftOut.{passed_over}
+
+-- Among the events that aren't left out this one has the index k. It is not left out; its first frame is at this offset,
+-- and it has this many frames.
+pub record StandsAt (without : Without) (role : Role) (limits : Limits) (came : List ℕ) (k offset : ℕ) (event : MeantEvent) (count : ℕ) : Type 0 where
+  pub before : List Frame
+  pub frame : Frame
+  pub lawful : IsLawful role limits (before ++ frame ∷ [])
+  pub rest : List ℕ
+  pub whole : came ≡ stream (before ++ frame ∷ []) ++ rest
+  pub final : frame.fin ≡ true
+  pub index : k ≡ length (events_without without (meaning before))
+  pub kept : is_left_out without event ≡ false
+  pub is : event ≡ event_at before frame
+  pub offset_is : offset ≡ event_offset before frame
+  pub count_is : count ≡ event_frames before frame
+
+-- What is kept of the event with the index k: where it stands; or nothing, since the source has ended before.
+abbrev pub Stands : {A : Type 0} → Without → Role → Limits → EventReader A → List ℕ → List MeantEvent → ℕ → Option Excerpt → Type 0
+Stands without role limits reading came events k (Some excerpt) =
+    (offset : ℕ) × (event : MeantEvent) × (count : ℕ) × IsExcerptOf excerpt offset event count × StandsAt without role limits came k offset event count
+Stands without role limits reading came events k None =
+    ((verdict : Verdict) × (answered reading ≡ Some (Ok verdict))) × (length (events_without without events) ≤ k)
+
+module _ (without : Without) (role : Role) (limits : Limits) where
+  pub stands_longer : (came more : List ℕ) (k offset : ℕ) (event : MeantEvent) (count : ℕ) → StandsAt without role limits came k offset event count → StandsAt without role limits (came ++ more) k offset event count
+  stands_longer came more k offset event count s = record {
+    before = s.before;
+    frame = s.frame;
+    lawful = s.lawful;
+    rest = s.rest ++ more;
+    whole = ap (λ (bs : List ℕ). bs ++ more) s.whole ∙ append_assoc (stream (s.before ++ s.frame ∷ [])) s.rest more;
+    final = s.final;
+    index = s.index;
+    kept = s.kept;
+    is = s.is;
+    offset_is = s.offset_is;
+    count_is = s.count_is;
+  }
+
+  -- the events before the one that a source gives
+  before_given : (events : List MeantEvent) (event : MeantEvent) (before : List Frame) (frame : Frame) → frame.fin ≡ true → events ++ event ∷ [] ≡ meaning (before ++ frame ∷ []) → events ≡ meaning before
+  before_given events event before frame final is =
+      let both : events ++ event ∷ [] ≡ meaning before ++ event_at before frame ∷ [] =
+      is ∙ meaning_push before frame ∙ ap (λ (b : Bool). meaning before ++ cond b (event_at before frame ∷ []) []) final in
+      let sizes = ap (λ (es : List MeantEvent). length es) both in
+      let one = length-append events (event ∷ []) in
+      let other = length-append (meaning before) (event_at before frame ∷ []) in
+      (same_front events (meaning before) (event ∷ []) (event_at before frame ∷ []) (omega (arith, sizes, one, other)) both).0
+
+  -- the event that a source gives, after those that were passed over
+  pub given_stands : {A : Type 0} (reading : EventReader A) (came : List ℕ) (given passed : List MeantEvent) (event : code.Event A) → IsGiven role limits reading came (given ++ passed) event
+      → events_without without passed ≡ [] → is_left_out without (meant event) ≡ false → StandsAt without role limits came (length (events_without without given)) (offset_of reading) (meant event) (frames_of reading)
+  given_stands reading came given passed event g none kept = record {
+    before = g.ends.before;
+    frame = g.ends.frame;
+    lawful = subst (λ (fs : List Frame). IsLawful role limits fs) g.ends.last g.are_lawful;
+    rest = g.rest;
+    whole = g.whole ∙ ap (λ (fs : List Frame). stream fs ++ g.rest) g.ends.last;
+    final = g.ends.final;
+    index =
+        sym (ap (λ (es : List MeantEvent). length es) (passed_over without given passed none))
+        ∙ ap (λ (es : List MeantEvent). length (events_without without es))
+        (before_given (given ++ passed) (meant event) g.ends.before g.ends.frame g.ends.final (g.last ∙ ap (λ (fs : List Frame). meaning fs) g.ends.last));
+    kept = kept;
+    is = g.ends.ended;
+    offset_is = g.offset;
+    count_is = g.count;
+  }
+
+  -- ---- of an accepted stream
+
+  pub excerpt_at : {A : Type 0} (reading : EventReader A) (new : Incoming) (came : List ℕ) (events : List MeantEvent) (summary : Summary) (k : ℕ) (excerpt : Option Excerpt)
+      → IsLast role limits new came events (Ok (Accepted summary)) → Stands without role limits reading came events k excerpt → IsExcerptAt without role limits came k excerpt
+  excerpt_at reading new came events summary k (Some excerpt) last s =
+      let at = s.4 in
+      let own = last.1 in
+      let event_is : s.1 ≡ event_at at.before at.frame = at.is in (
+        Some (Event (event_offset at.before at.frame) (event_at at.before at.frame) (event_frames at.before at.frame)),
+        shown_in_accepted without role limits came own.0 summary own.1 at.before at.frame at.rest k at.lawful at.whole at.final (subst (λ (e : MeantEvent). is_left_out without e ≡ false) event_is at.kept) at.index,
+        subst (λ (n : ℕ). IsExcerptOf excerpt n (event_at at.before at.frame) (event_frames at.before at.frame)) at.offset_is
+            (subst (λ (e : MeantEvent). IsExcerptOf excerpt s.0 e (event_frames at.before at.frame)) event_is (subst (λ (n : ℕ). IsExcerptOf excerpt s.0 s.1 n) at.count_is s.3)),
+      )
+  excerpt_at reading new came events summary k None last s =
+      let own = last.1 in (
+        None,
+        none_in_accepted without role limits came own.0 summary own.1 k (subst (λ (es : List MeantEvent). length (events_without without es) ≤ k) own.2 s.1),
+        tt,
+      )

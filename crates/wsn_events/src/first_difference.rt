@@ -1,0 +1,58 @@
+ghost use Rattle.std.specs.Prelude.{◌≡◌, ℕ, ◌≤◌, Option};
+ghost use Rattle.wsn_rules.specs.ShownStream.{Item};
+ghost use Rattle.wsn_print.specs.ShownParts.{StandsFor};
+ghost use Rattle.wsn_events.specs.Excerpts.{IsExcerptIn, IsLawfulNext, IsKeptOf};
+
+use crate::excerpt::Excerpt;
+use crate::source::{Next, Source};
+use std::alloc::Allocator;
+use wsn_print::{Difference, PlacedEvent};
+
+/// The first events of two streams that differ.
+#[derive(Drop)]
+pub struct FirstDifference {
+    /// Their index, from 0.
+    pub index: u64,
+    /// What is kept of the first stream's event; `None` if it has no more events.
+    pub first: Option<Excerpt>,
+    /// What is kept of the second stream's event; `None` if it has no more events.
+    pub second: Option<Excerpt>,
+}
+
+impl FirstDifference {
+    /// The events as they are printed, for each view.
+    pub fn shown(&self) -> Difference<'_>
+        ensures index { result.index ≡ self.now.index }
+        ensures first { (n : ℕ) (item : Option Item) → n ≤ 4096 → IsExcerptIn self.now.first item →
+            StandsFor n result.first item }
+        ensures second { (n : ℕ) (item : Option Item) → n ≤ 4096 → IsExcerptIn self.now.second item →
+            StandsFor n result.second item }
+    {
+        Difference {
+            index: self.index,
+            first: placed_in(&self.first),
+            second: placed_in(&self.second),
+        }
+    }
+}
+
+/// The event as it is printed, if there is one.
+fn placed_in(excerpt: &Option<Excerpt>) -> Option<PlacedEvent<'_>>
+    ensures { (n : ℕ) (item : Option Item) → n ≤ 4096 → IsExcerptIn excerpt.now item → StandsFor n result item }
+{
+    match excerpt {
+        Some(excerpt) => Some(excerpt.placed()),
+        None => None,
+    }
+}
+
+/// What is kept of the result that the source gave last.
+pub(crate) fn excerpt_of<A: Allocator + Copy>(source: &Source<A>, next: &Next<A>) -> Option<Excerpt>
+    requires { IsLawfulNext next.now }
+    ensures { IsKeptOf source.now next.now result }
+{
+    match next {
+        Next::Event(event) => Some(Excerpt::new(event, source.offset(), source.frames())),
+        Next::Done(_) => None,
+    }
+}

@@ -1,0 +1,77 @@
+-- A frame that a reader of notices reports to its end at once.
+use Rattle.std.specs.List.{slice_range}
+use Rattle.std.proofs.Common.{◌≡◌, ℕ, ◌+◌, ◌*◌, ◌<◌, ◌≤◌, Bool, None, List, [], ◌∷◌, ◌++◌, length, take, refl, sym, ap, ◌∙◌, subst, arith, append_assoc, append-nil, take-append-drop}
+use Rattle.wsn_wire.specs.declared.endpoint.Role.{Role}
+use Rattle.wsn_wire.specs.Frame.{Frame, stream}
+use Rattle.wsn_rules.specs.declared.head_info.HeadInfo.{HeadInfo}
+use Rattle.wsn_rules.specs.Limits.{Limits}
+use Rattle.wsn_rules.specs.Heads.{info_of, heads_of}
+use Rattle.wsn_scan.specs.declared.notice_reader.NoticeReader.{NoticeReader}
+use Rattle.wsn_scan.specs.declared.scan.Scan.{Scan}
+use Rattle.wsn_scan.specs.declared.stage.Stage.{Stage}
+use Rattle.wsn_scan.specs.declared.stage.Stage.TheVariants as stages
+use Rattle.wsn_scan.specs.EventFrames.{reported_of}
+use Rattle.wsn_scan.specs.WholeFrames.{TakesToEnd}
+use Rattle.wsn_scan.specs.ReadNotices.{ReportsFrame}
+use Rattle.wsn_scan.specs.ReportedFrames.{Position, BetweenFrames}
+use Rattle.wsn_scan.specs.NoticeReaders.{HasReported, unread}
+use Rattle.wsn_scan.specs.Refill.{chunk_size, count_past}
+use Rattle.wsn_scan.specs.Scans.{HasScannedAt, room_of, refusal_in, ends_pending}
+use Rattle.wsn_scan.proofs.FedPieces.{untold_few}
+use Rattle.wsn_scan.proofs.FramesReported.{reported_at}
+use Rattle.wsn_scan.proofs.ReaderBuffers.{range_after}
+
+-- A call of the scan, which got the unscanned part of the buffer and consumed n bytes of it: a frame, to its end.
+pub record IsFrame (old new : NoticeReader) (n : ℕ) (head : HeadInfo) : Type 0 where
+  pub takes : TakesToEnd old.scan new.scan (unread old) n head
+  pub kept : slice_range new.buffer (old.at + n) old.end ≡ slice_range old.buffer (old.at + n) old.end
+  pub reported : refusal_in new.scan ≡ None
+  pub at_is : new.at ≡ old.at + n
+  pub end_is : new.end ≡ old.end
+  pub past_is : new.past ≡ old.past
+
+pub reports_frame : (role : Role) (limits : Limits) (old new : NoticeReader) (n : ℕ) (head : HeadInfo) (came : List ℕ) (done : List Frame) (at : Position) → HasReported role limits old came done at → IsFrame old new n head
+    → ReportsFrame role limits new came done at head
+reports_frame role limits old new n head came done at h call =
+    let share = take n (unread old) in
+    let some : old.at + n ≤ old.end = let left = new.left in omega (arith, left, call.at_is, call.end_is) in
+    let said = reported_at role limits old.scan h.scanned h.since h.frames h.reported h.has_scanned done at h.ended stages.Between
+    (subst (λ (stage : Stage). HasScannedAt role limits old.scan stage h.scanned h.frames h.since h.reported) call.takes.between h.has_scanned) in
+    let took = call.takes.takes role limits h.scanned h.since h.frames h.reported h.has_scanned in
+    let f = took.frame in
+    let parts : unread old ≡ share ++ unread new =
+    sym (take-append-drop n (unread old))
+    ∙ ap (λ (bs : List ℕ). share ++ bs) (sym (range_after old.at old.end n old.buffer old.left (let held = old.held in let size = old.size in omega (arith, held, size)) some) ∙ sym call.kept
+    ∙ ap (λ (m : ℕ). slice_range new.buffer m old.end) (sym call.at_is) ∙ ap (λ (m : ℕ). slice_range new.buffer new.at m) (sym call.end_is)) in
+    let all : done ++ f ∷ [] ≡ h.frames ++ f ∷ [] = ap (λ (fs : List Frame). fs ++ f ∷ []) said.0 in
+    let has_reported : HasReported role limits new came (h.frames ++ f ∷ []) BetweenFrames = record {
+      scanned = h.scanned ++ share;
+      frames = h.frames ++ f ∷ [];
+      since = [];
+      reported = reported_of (h.frames ++ f ∷ []);
+      has_scanned = took.has_scanned;
+      unrefused = call.reported;
+      ended = record {
+        lawful = took.has_scanned.has_consumed.lawful;
+        rest = [];
+        whole = took.has_scanned.has_consumed.whole;
+        ends = refl;
+        heads = sym (append-nil (heads_of (h.frames ++ f ∷ [])));
+        payload = tt;
+      };
+      buffered = record {
+        within = h.buffered.within ∙ ap (λ (bs : List ℕ). h.scanned ++ bs) parts ∙ sym (append_assoc h.scanned share (unread new));
+        past = h.buffered.past ∙ sym call.past_is;
+        few = h.buffered.few;
+        small = subst (λ (past : Bool). new.end + count_past past ≤ chunk_size) (sym call.past_is) (omega (arith, h.buffered.small, call.end_is));
+        in_bytes = h.buffered.in_bytes;
+      };
+    } in (
+      f,
+      said.1,
+      took.head_is ∙ ap (λ (fs : List Frame). info_of (length (stream fs)) f) (sym said.0),
+      subst (λ (fs : List Frame). HasReported role limits new came fs BetweenFrames) (sym all) has_reported,
+    )
+
+pub fewer_left : (old new : Scan) (n : ℕ) → room_of new + n ≡ room_of old → 0 < n → 2 * room_of new + ends_pending new < 2 * room_of old + ends_pending old
+fewer_left old new n room some = let few = untold_few new.stage in omega (arith, few, room, some)
