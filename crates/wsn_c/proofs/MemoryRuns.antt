@@ -1,0 +1,71 @@
+-- A run over bytes in memory, from what its input and its outputs are before and after it.
+use Rattle.std.specs.Prelude.{◌≡◌, ◌++◌, ◌∷◌, ℕ, false, List, [], Option, None, Some, IfSome, Result}
+use Rattle.std.specs.Io.KnownBytes.{Consumes}
+use Rattle.std.specs.declared.alloc.Global.{Global}
+use Rattle.std.proofs.Common.{rules, subst}
+use Rattle.wsn_io.specs.Transfer.{Incoming, Outgoing}
+use Rattle.wsn_job.specs.declared.job.Job.{Job}
+use Rattle.wsn_job.specs.Jobs.{IsRun}
+use Rattle.wsn_io.specs.declared.stop.Stop.{Stop}
+use Rattle.wsn_rules.specs.declared.compared.Compared.{Compared}
+use Rattle.wsn_print.specs.Statuses.{comparison_status}
+use Rattle.wsn_job.specs.Channels.{channels, compared_channels}
+use Rattle.wsn_job.specs.Comparisons.{IsComparisonPrinted}
+use Rattle.wsn_job.specs.Diagnostics.{IsStopDiagnosed}
+use Rattle.wsn_job.specs.declared.comparison.Comparison.{Comparison}
+use Rattle.wsn_c.specs.declared.options.Options.{Options}
+use Rattle.wsn_c.specs.declared.options.Asked.{Asked}
+use Rattle.wsn_c.specs.Asking.{AreInRange, IsAsked}
+use Rattle.wsn_c.specs.Calls.{Call, IsRunOver, IsComparedOver, GivesRun, IsCalled, input_of, output_of}
+
+pub runs_over : (job : Job Global) (bytes text said : List ℕ) (exit : ℕ) (left first : Incoming) (o o' e e' : Outgoing)
+    → first ≡ input_of bytes → o ≡ output_of [] false → e ≡ output_of [] false
+    → o' ≡ output_of text o'.failed → e' ≡ output_of said e'.failed
+    → IsRun job (channels first o e) (channels left o' e') exit → IsRunOver job bytes text said exit
+runs_over job bytes text said exit left first o o' e e' is_input is_output is_errors printed told run =
+    let i : Incoming = input_of bytes in let none : Outgoing = output_of [] false in
+    let run1 = subst (λ (x : Incoming). IsRun job (channels x o e) (channels left o' e') exit) is_input run in
+    let run2 = subst (λ (x : Outgoing). IsRun job (channels i x e) (channels left o' e') exit) is_output run1 in
+    let run3 = subst (λ (x : Outgoing). IsRun job (channels i none x) (channels left o' e') exit) is_errors run2 in
+    let run4 = subst (λ (x : Outgoing). IsRun job (channels i none none) (channels left x e') exit) printed run3 in
+    record {
+      left = left;
+      printing_failed = o'.failed;
+      saying_failed = e'.failed;
+      run = subst (λ (x : Outgoing). IsRun job (channels i none none) (channels left (output_of text o'.failed) x) exit) told run4;
+    }
+
+pub compares_over : (comparison : Comparison) (first second text said : List ℕ) (answer : Result Compared Stop) (exit : ℕ)
+    (f f' s s' : Incoming) (o o' e e' : Outgoing)
+    → f ≡ input_of first → s ≡ input_of second → o ≡ output_of [] false → e ≡ output_of [] false
+    → o' ≡ output_of text o'.failed → e' ≡ output_of said e'.failed
+    → IsComparisonPrinted comparison (compared_channels f s o) (compared_channels f' s' o') answer
+    → exit ≡ comparison_status answer → IsStopDiagnosed answer e e' → IsComparedOver comparison first second text said exit
+compares_over comparison first second text said answer exit f f' s s' o o' e e' is_first is_second is_output is_errors printed told done status stop =
+    let one : Incoming = input_of first in let two : Incoming = input_of second in let none : Outgoing = output_of [] false in
+    let done1 = subst (λ (x : Incoming). IsComparisonPrinted comparison (compared_channels x s o) (compared_channels f' s' o') answer) is_first done in
+    let done2 = subst (λ (x : Incoming). IsComparisonPrinted comparison (compared_channels one x o) (compared_channels f' s' o') answer) is_second done1 in
+    let done3 = subst (λ (x : Outgoing). IsComparisonPrinted comparison (compared_channels one two x) (compared_channels f' s' o') answer) is_output done2 in
+    let stop1 = subst (λ (x : Outgoing). IsStopDiagnosed answer x e') is_errors stop in
+    record {
+      first_left = f';
+      second_left = s';
+      printing_failed = o'.failed;
+      saying_failed = e'.failed;
+      answer = answer;
+      printed = subst (λ (x : Outgoing). IsComparisonPrinted comparison (compared_channels one two none) (compared_channels f' s' x) answer) printed done3;
+      status = status;
+      diagnosed = subst (λ (x : Outgoing). IsStopDiagnosed answer none x) told stop1;
+    }
+
+-- What a call does for its options, once they are in range.
+pub called : (options : Options) (job : Asked → Job Global) (bytes : List ℕ) (done : Call) (asked : Asked)
+    → IsAsked options asked → AreInRange options → GivesRun (job asked) bytes done → IsCalled options job bytes done
+called options job bytes done asked is_asked in_range gives =
+    record { run = λ _. (asked, is_asked, gives); usage = λ out. absurd (out in_range) }
+
+-- A side of which all that is left is a sentinel is what came of it, and the sentinel.
+pub before_sentinel : (side came : List ℕ) (left : Option (List ℕ)) (sentinel : ℕ) → Consumes (Some side) left came
+    → IfSome left (λ left. left ≡ sentinel ∷ []) → side ≡ came ++ sentinel ∷ []
+before_sentinel side came None sentinel consumed is_left = absurd consumed
+before_sentinel side came (Some left) sentinel consumed is_left = search rules

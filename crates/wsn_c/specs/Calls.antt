@@ -1,0 +1,115 @@
+-- What the calls answer.
+use Rattle.std.specs.Prelude.{◌≡◌, ◌++◌, ℕ, Bool, false, Result, List, [], None, Some, length, take, drop, codes}
+use Rattle.std.specs.declared.alloc.Global.{Global}
+use Rattle.wsn_io.specs.Transfer.{Incoming, Outgoing}
+use Rattle.wsn_job.specs.declared.job.Job.{Job}
+use Rattle.wsn_job.specs.Jobs.{IsRun}
+use Rattle.wsn_job.specs.Channels.{channels, compared_channels}
+use Rattle.wsn_job.specs.Comparisons.{IsComparisonPrinted}
+use Rattle.wsn_job.specs.Diagnostics.{IsStopDiagnosed}
+use Rattle.wsn_job.specs.declared.comparison.Comparison.{Comparison}
+use Rattle.wsn_print.specs.Statuses.{comparison_status}
+use Rattle.wsn_rules.specs.declared.compared.Compared.{Compared}
+use Rattle.wsn_io.specs.declared.stop.Stop.{Stop}
+use Rattle.wsn_c.specs.declared.answer.Answer.{Answer}
+use Rattle.wsn_c.specs.declared.options.Options.{Options}
+use Rattle.wsn_c.specs.declared.options.Asked.{Asked}
+use Rattle.wsn_c.specs.Asking.{AreInRange, IsAsked}
+
+-- ---- rooms
+
+-- A call's rooms, as it found them and as it leaves them, and its answer.
+pub record Call : Type 0 where
+  pub output_before : List ℕ
+  pub output_after : List ℕ
+  pub message_before : List ℕ
+  pub message_after : List ℕ
+  pub answer : Answer
+
+-- a call, from each by itself
+abbrev pub call : List ℕ → List ℕ → List ℕ → List ℕ → Answer → Call
+call output_before output_after message_before message_after answer = record {
+  output_before = output_before;
+  output_after = output_after;
+  message_before = message_before;
+  message_after = message_after;
+  answer = answer;
+}
+
+-- a room with as much of a text at its front as fits
+abbrev pub fitted : List ℕ → List ℕ → List ℕ
+fitted text room = take (length room) text ++ drop (length text) room
+
+-- The call gives this text, this message and this exit status.
+pub record Gives (done : Call) (text said : List ℕ) (exit : ℕ) : Type 0 where
+  pub output : done.output_after ≡ fitted text done.output_before
+  pub output_size : done.answer.output ≡ length text
+  pub message : done.message_after ≡ fitted said done.message_before
+  pub message_size : done.answer.message ≡ length said
+  pub status : done.answer.status ≡ exit
+
+-- ---- runs
+
+-- an input of these bytes, none of which has come
+abbrev pub input_of : List ℕ → Incoming
+input_of bytes = record { remaining = Some bytes; count = 0; failed = false }
+
+-- an output that holds these bytes
+abbrev pub output_of : List ℕ → Bool → Outgoing
+output_of bytes failed = record { written = Some bytes; failed = failed }
+
+-- The command's run over these bytes prints this text on standard output, this message on standard error, and has this
+-- exit status. A write fails only if memory is refused.
+pub record IsRunOver (job : Job Global) (bytes text said : List ℕ) (exit : ℕ) : Type 0 where
+  pub left : Incoming
+  pub printing_failed : Bool
+  pub saying_failed : Bool
+  pub run : IsRun job (channels (input_of bytes) (output_of [] false) (output_of [] false))
+      (channels left (output_of text printing_failed) (output_of said saying_failed)) exit
+
+-- The call gives what the command's run over these bytes prints.
+abbrev pub GivesRun : Job Global → List ℕ → Call → Type 0
+GivesRun job bytes done = (text said : List ℕ) × (exit : ℕ) × IsRunOver job bytes text said exit × Gives done text said exit
+
+-- The call tells that what it was asked is out of range.
+abbrev pub GivesUsage : Call → Type 0
+GivesUsage done = Gives done [] (codes "usage\n") 2
+
+-- The comparison of these bytes prints this text on standard output, this message on standard error, and has this exit
+-- status.
+pub record IsComparedOver (comparison : Comparison) (first second text said : List ℕ) (exit : ℕ) : Type 0 where
+  pub first_left : Incoming
+  pub second_left : Incoming
+  pub printing_failed : Bool
+  pub saying_failed : Bool
+  pub answer : Result Compared Stop
+  pub printed : IsComparisonPrinted comparison (compared_channels (input_of first) (input_of second) (output_of [] false))
+      (compared_channels first_left second_left (output_of text printing_failed)) answer
+  pub status : exit ≡ comparison_status answer
+  pub diagnosed : IsStopDiagnosed answer (output_of [] false) (output_of said saying_failed)
+
+-- The comparison that is asked for.
+pub record IsComparisonAsked (asked : Asked) (comparison : Comparison) : Type 0 where
+  pub role : comparison.role ≡ asked.role
+  pub limits : comparison.limits ≡ asked.limits
+  pub without : comparison.without ≡ asked.without
+  pub format : comparison.format ≡ asked.style.format
+  pub view : comparison.view ≡ None
+
+-- The call gives what the comparison of these bytes prints that is asked for.
+abbrev pub GivesComparison : Asked → List ℕ → List ℕ → Call → Type 0
+GivesComparison asked first second done = (comparison : Comparison) × IsComparisonAsked asked comparison
+    × (text : List ℕ) × (said : List ℕ) × (exit : ℕ) × IsComparedOver comparison first second text said exit
+    × Gives done text said exit
+
+-- The call does for its options what the program does: the command's run that they ask for. Options out of range are
+-- told.
+pub record IsCalled (options : Options) (job : Asked → Job Global) (bytes : List ℕ) (done : Call) : Type 0 where
+  pub run : AreInRange options → (asked : Asked) × IsAsked options asked × GivesRun (job asked) bytes done
+  pub usage : ¬ AreInRange options → GivesUsage done
+
+-- The call compares for its options as the program does. Options out of range are told.
+pub record IsCompared (options : Options) (first second : List ℕ) (done : Call) : Type 0 where
+  pub run : AreInRange options → (asked : Asked) × IsAsked options asked
+      × GivesComparison asked first second done
+  pub usage : ¬ AreInRange options → GivesUsage done

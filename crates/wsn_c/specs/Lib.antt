@@ -1,0 +1,5 @@
+pub mod Asking
+pub mod Calls
+pub mod Numbers
+pub mod Recuts
+pub mod Sides

@@ -1,0 +1,65 @@
+ghost use Rattle.wsn_c.specs.Calls.{IsCompared, GivesComparison, call};
+
+use crate::answer::Answer;
+use crate::options::{Asked, Options};
+use crate::running::{give, give_usage};
+use std::alloc::Global;
+use wsn_io::{Input, Output};
+use wsn_job::{Comparison, run_same};
+
+/// Compares what two streams mean, as `wsn same` does. Both were sent by endpoints of the role that the options name.
+#[unsafe(no_mangle)]
+pub extern "C" fn wsn_same(
+    alloc: Global,
+    options: &Options,
+    first: &[u8],
+    second: &[u8],
+    output: &mut [u8],
+    message: &mut [u8],
+) -> Answer
+    ensures { IsCompared options.now first.now second.now
+        (call output.old output.new message.old message.new result) }
+{
+    match options.asked() {
+        Some(asked) => compare(alloc, &asked, first, second, output, message),
+        None => give_usage(output, message),
+    }
+}
+
+/// Compares what two streams mean.
+fn compare(
+    alloc: Global,
+    asked: &Asked,
+    first: &[u8],
+    second: &[u8],
+    output: &mut [u8],
+    message: &mut [u8],
+) -> Answer
+    ensures { GivesComparison asked.now first.now second.now
+        (call output.old output.new message.old message.new result) }
+{
+    let comparison = Comparison {
+        role: asked.role,
+        limits: asked.limits,
+        without: asked.without,
+        format: asked.style.format,
+        view: None,
+    };
+    let mut printed = Output::new(Vec::new(alloc));
+    let mut said = Output::new(Vec::new(alloc));
+    let status = run_same(
+        alloc,
+        &mut Input::new(first),
+        &mut Input::new(second),
+        comparison,
+        &mut printed,
+        &mut said,
+    );
+    give(
+        status,
+        printed.into_writer().as_slice(),
+        said.into_writer().as_slice(),
+        output,
+        message,
+    )
+}

@@ -1,0 +1,113 @@
+ghost use Rattle.wsn_job.specs.declared.job.Job.TheVariants.{Judge, Frames, Normal, Plan, ShowStream};
+ghost use Rattle.wsn_c.specs.Calls.{IsCalled, call};
+
+use crate::answer::Answer;
+use crate::options::Options;
+use crate::running::{give_usage, run_over};
+use std::alloc::Global;
+use wsn_job::Job;
+
+/// Judges the stream, as `wsn judge` does: prints the verdict.
+#[unsafe(no_mangle)]
+pub extern "C" fn wsn_judge(
+    alloc: Global,
+    options: &Options,
+    stream: &[u8],
+    output: &mut [u8],
+    message: &mut [u8],
+) -> Answer
+    ensures { IsCalled options.now (λ asked. Judge asked.role asked.limits asked.style.format) stream.now
+        (call output.old output.new message.old message.new result) }
+{
+    match options.asked() {
+        Some(asked) => {
+            let job = Job::Judge(asked.role, asked.limits, asked.style.format);
+            run_over(alloc, &job, stream, output, message)
+        }
+        None => give_usage(output, message),
+    }
+}
+
+/// Lists the stream's frames and then its verdict, as `wsn frames` does.
+#[unsafe(no_mangle)]
+pub extern "C" fn wsn_frames(
+    alloc: Global,
+    options: &Options,
+    stream: &[u8],
+    output: &mut [u8],
+    message: &mut [u8],
+) -> Answer
+    ensures { IsCalled options.now (λ asked. Frames asked.role asked.limits asked.style.format) stream.now
+        (call output.old output.new message.old message.new result) }
+{
+    match options.asked() {
+        Some(asked) => {
+            let job = Job::Frames(asked.role, asked.limits, asked.style.format);
+            run_over(alloc, &job, stream, output, message)
+        }
+        None => give_usage(output, message),
+    }
+}
+
+/// Writes the normal form of what the stream means, as `wsn normal` does.
+#[unsafe(no_mangle)]
+pub extern "C" fn wsn_normal(
+    alloc: Global,
+    options: &Options,
+    stream: &[u8],
+    output: &mut [u8],
+    message: &mut [u8],
+) -> Answer
+    ensures { IsCalled options.now (λ asked. Normal asked.role asked.limits) stream.now
+        (call output.old output.new message.old message.new result) }
+{
+    match options.asked() {
+        Some(asked) => {
+            let job = Job::Normal(asked.role, asked.limits);
+            run_over(alloc, &job, stream, output, message)
+        }
+        None => give_usage(output, message),
+    }
+}
+
+/// Prints how the stream is framed, as `wsn plan` does.
+#[unsafe(no_mangle)]
+pub extern "C" fn wsn_plan(
+    alloc: Global,
+    options: &Options,
+    stream: &[u8],
+    output: &mut [u8],
+    message: &mut [u8],
+) -> Answer
+    ensures { IsCalled options.now (λ asked. Plan asked.role asked.limits) stream.now
+        (call output.old output.new message.old message.new result) }
+{
+    match options.asked() {
+        Some(asked) => {
+            let job = Job::Plan(asked.role, asked.limits);
+            run_over(alloc, &job, stream, output, message)
+        }
+        None => give_usage(output, message),
+    }
+}
+
+/// Shows what the stream says, in order, as `wsn show --role` does.
+#[unsafe(no_mangle)]
+pub extern "C" fn wsn_show_stream(
+    alloc: Global,
+    options: &Options,
+    stream: &[u8],
+    output: &mut [u8],
+    message: &mut [u8],
+) -> Answer
+    ensures { IsCalled options.now (λ asked. ShowStream asked.role asked.limits asked.style) stream.now
+        (call output.old output.new message.old message.new result) }
+{
+    match options.asked() {
+        Some(asked) => {
+            let job = Job::ShowStream(asked.role, asked.limits, asked.style);
+            run_over(alloc, &job, stream, output, message)
+        }
+        None => give_usage(output, message),
+    }
+}
