@@ -45,7 +45,7 @@ fn lay_out(head: &HeadInfo, text: &mut [u8]) -> usize
 
 /// Writes a part of a line so that it ends at `end`, and returns where it begins.
 #[inline(always)]
-fn lay(part: &[u8], text: &mut [u8], end: usize) -> usize
+pub(crate) fn lay(part: &[u8], text: &mut [u8], end: usize) -> usize
     requires { (length part.now ≤ end) × (end ≤ length text.old) }
     ensures start { result + length part.now ≡ end }
     ensures written { drop result text.new ≡ part.now ++ drop end text.old }
@@ -58,7 +58,7 @@ fn lay(part: &[u8], text: &mut [u8], end: usize) -> usize
 /// Writes a number in decimal digits, at most 20.
 #[inline(always)]
 #[tactic(none)]
-fn lay_number(n: u64, text: &mut [u8], end: usize) -> usize
+pub(crate) fn lay_number(n: u64, text: &mut [u8], end: usize) -> usize
     requires { (20 ≤ end) × (end ≤ length text.old) }
     ensures start { (result ≤ end) × (end ≤ result + 20) }
     ensures written { drop result text.new ≡ decimal n ++ drop end text.old }

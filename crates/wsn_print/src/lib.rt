@@ -27,6 +27,7 @@ mod differences;
 mod entries;
 mod faults;
 mod format;
+mod frame_objects;
 mod heads;
 mod json;
 mod line;
@@ -54,9 +55,10 @@ pub use faults::{line_of_line_fault, line_of_recut_fault, line_of_unfinished};
 pub use format::{
     Format, put_comment_as, put_compared_as, put_end_as, put_head_as, put_report_as, put_verdict_as,
 };
+pub use frame_objects::put_frame_object;
 pub use heads::put_head;
 pub use line::Line;
-pub use objects::{put_compared_object, put_frame_object, put_report_object, put_verdict_object};
+pub use objects::{put_compared_object, put_report_object, put_verdict_object};
 pub use quoted::put_comment;
 pub use reports::put_report;
 pub use shown::{
