@@ -1,8 +1,9 @@
 use arrayvec::ArrayVec;
 use memchr::memchr;
+use std::marker::Model;
 
 /// A line of this many bytes is too long, whatever follows and whether or not a CR ends it.
-pub(crate) const BEGUN_MAX: usize = 8196;
+pub const BEGUN_MAX: usize = 8196;
 
 /// Splits the chunks of a text into lines. It holds one line.
 #[derive(Drop)]
@@ -10,13 +11,21 @@ pub struct Lines {
     begun: ArrayVec<u8, BEGUN_MAX>,
 }
 
+impl Model for Lines {
+    ghost use Rattle.std.specs.Prelude.{ℕ, List};
+
+    ghost Value = { List ℕ };
+
+    ghost view = { λ lines. lines.begun.items };
+}
+
 impl Lines {
     ghost use Rattle.std.specs.Prelude.{◌≡◌, ◌<◌, ◌≤◌, [], length, false, true};
-    ghost use Rattle.wsn_show.specs.SplitLines.{GoesOn, EndsLine};
+    ghost use Rattle.wsn_capture.specs.SplitLines.{GoesOn, EndsLine};
 
     /// No line has begun.
     pub fn new() -> Lines
-        ensures { result.begun.items ≡ [] }
+        ensures { result ≡ [] }
     {
         Lines {
             begun: ArrayVec::new(),
@@ -27,10 +36,10 @@ impl Lines {
     /// whether the line has ended or is too long; then [`Lines::line`] returns it, without its LF.
     pub fn take(&mut self, piece: &[u8]) -> (usize, bool)
         requires some { 0 < length piece.now }
-        requires short { length self.old.begun.items < BEGUN_MAX }
+        requires short { length self.old < BEGUN_MAX }
         ensures within { (0 < result.0) × (result.0 ≤ length piece.now) }
-        ensures goes_on { result.1 ≡ false → GoesOn self.old.begun.items self.new.begun.items piece.now result.0 }
-        ensures ends { result.1 ≡ true → EndsLine self.old.begun.items self.new.begun.items piece.now result.0 }
+        ensures goes_on { result.1 ≡ false → GoesOn self.old self.new piece.now result.0 }
+        ensures ends { result.1 ≡ true → EndsLine self.old self.new piece.now result.0 }
     {
         let room = BEGUN_MAX - self.begun.len();
         let front = &piece[..room.min(piece.len())];
@@ -46,16 +55,16 @@ impl Lines {
         }
     }
 
-    /// The line.
+    /// The line that has begun or ended.
     pub fn line(&self) -> &[u8]
-        ensures { result.now ≡ self.now.begun.items }
+        ensures { result.now ≡ self.now }
     {
         self.begun.as_slice()
     }
 
     /// Forgets the line.
     pub fn clear(&mut self)
-        ensures { self.new.begun.items ≡ [] }
+        ensures { self.new ≡ [] }
     {
         self.begun.clear();
     }

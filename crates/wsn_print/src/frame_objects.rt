@@ -4,8 +4,9 @@ ghost use Rattle.wsn_print.specs.Json.{field, string_field, boolean};
 ghost use Rattle.wsn_print.specs.Fields.{op_word};
 ghost use Rattle.wsn_print.specs.Objects.{key_value, form_word, head_fields, frame_object};
 
-use crate::heads::{lay, lay_number, op_word};
+use crate::heads::op_word;
 use crate::json::{push_field, push_number_field, push_string_field};
+use crate::laid::{lay, lay_number};
 use crate::line::{Line, key_digits};
 use std::io::Write;
 use wsn_io::{Output, Stop, put_line};

@@ -1,17 +1,14 @@
 use Rattle.std.proofs.Common.{rules}
-use Rattle.wsn_print.proofs.heads.lay_key.Goals as goal
+use Rattle.wsn_print.proofs.laid.lay_key.Goals as goal
 
 pub lay-requires : goal.lay-requires
 lay-requires c = search rules
 
-pub lay-end-requires : goal.lay-end-requires
-lay-end-requires c = search rules
-
-pub slice_bounds-lay-end-in-Some-2 : goal.slice_bounds-lay-end-in-Some-2
-slice_bounds-lay-end-in-Some-2 c = search rules
-
 pub lay-requires-in-Some : goal.lay-requires-in-Some
 lay-requires-in-Some c = search rules
+
+pub slice_bounds-lay-end-in-Some : goal.slice_bounds-lay-end-in-Some
+slice_bounds-lay-end-in-Some c = search rules
 
 pub returns-in-None-clause-start : goal.returns-in-None-clause-start
 returns-in-None-clause-start c = search rules
