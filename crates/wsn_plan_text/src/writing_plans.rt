@@ -22,11 +22,20 @@ pub fn write_plan<W: Write, A: Allocator>(
     ensures { IsWrittenOrStops output.old output.new (plan_text plan.now) result }
 {
     for step in plan.steps() {
-        let mut text = [0; STEP_LINE_MAX];
-        let start = lay_out(*step, &mut text);
-        put_line(output, &text[start..])?;
+        put_step(output, *step)?;
     }
     Ok(())
+}
+
+/// Writes the line of a step.
+#[inline(always)]
+fn put_step<W: Write>(output: &mut Output<W>, step: Step) -> Result<(), Stop>
+    requires { output.old.failed ≡ false }
+    ensures { IsWrittenOrStops output.old output.new (step_line step) result }
+{
+    let mut text = [0; STEP_LINE_MAX];
+    let start = lay_out(step, &mut text);
+    put_line(output, &text[start..])
 }
 
 /// Writes the line of a step at the end of `text`, and returns where it begins.
