@@ -24,6 +24,7 @@ mod normal;
 mod putting;
 mod reassembly;
 mod source;
+mod turn;
 
 pub use comparing::{contrast, same, same_without};
 pub use event::{Event, Small, is_lawful};
