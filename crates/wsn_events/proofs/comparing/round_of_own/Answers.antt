@@ -1,5 +1,5 @@
 use Rattle.std.proofs.Common.{rules}
-use Rattle.wsn_events.proofs.comparing.round_of.Goals as goal
+use Rattle.wsn_events.proofs.comparing.round_of_own.Goals as goal
 
 pub returns-in-Done-Done : goal.returns-in-Done-Done
 returns-in-Done-Done g c = search rules
