@@ -119,5 +119,5 @@ module _ {A : Type 0} (role : Role) (limits : Limits) (reading : EventReader A) 
 pub at_work_after : {A : Type 0} (old new : EventReader A) (lent : Option Kind) → IsAtWork old
     → IfSome lent (λ kind. (role : Role) (limits : Limits) (came : List ℕ) (given : List MeantEvent) → HasGiven role limits old came given → LendsMessage role limits new came given kind) → IfNone lent (new ≡ old)
     → IsAtWork new
-at_work_after old new (Some kind) b taken none = begun_sound b.role b.limits new b.came (b.given ++ lent_message new kind ∷ []) (taken b.role b.limits b.came b.given b.has).has
-at_work_after {A} old new None b taken none = subst (λ (r : EventReader A). IsAtWork r) (sym none) b
+at_work_after old now (Some kind) b taken none = begun_sound b.role b.limits now b.came (b.given ++ lent_message now kind ∷ []) (taken b.role b.limits b.came b.given b.has).has
+at_work_after {A} old now None b taken none = subst (λ (r : EventReader A). IsAtWork r) (sym none) b

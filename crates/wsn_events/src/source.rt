@@ -107,7 +107,7 @@ impl<A: Allocator + Copy> Source<A> {
     /// and encodes its length shortest. Returns its kind; [`Source::taken`] then returns its bytes. Otherwise, and once
     /// the source has ended, nothing changes. It reads nothing and allocates nothing.
     #[inline(always)]
-    pub(crate) fn take_message(&mut self) -> Option<Kind>
+    pub fn take_message(&mut self) -> Option<Kind>
         ensures taken { IfSome result (λ kind. (role : Role) (limits : _) (came : List ℕ) (given : List MeantEvent) →
             HasGiven role limits self.old came given → LendsMessage role limits self.new came given kind) }
         ensures going { IfSome result (λ _. answered self.old ≡ None) }
@@ -121,7 +121,7 @@ impl<A: Allocator + Copy> Source<A> {
     }
 
     /// The normal form of the events that were taken last, or the bytes of the message.
-    pub(crate) fn taken(&self) -> &[u8]
+    pub fn taken(&self) -> &[u8]
         ensures { result.now ≡ held_bytes self.now }
     {
         self.reading.taken()
