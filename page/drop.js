@@ -48,6 +48,12 @@ function judgeLine({ verdict, used, tail, unfinished, offset, reason, code }) {
   return verdict === "cut" ? `cut ${used}` : `accepted ${used} tail ${tail} unfinished ${unfinished ?? "-"}`;
 }
 
+/** What is said of a stream's verdict. A key that is missing, or that is there, may tell that the role is wrong. */
+function judgedWords(verdict, side) {
+  const role = /^mask-/.test(verdict.reason) ? ` Was it sent by the ${other(side)}?` : "";
+  return ` wsn judge --role ${side} prints: ${judgeLine(verdict)}.${role}`;
+}
+
 /** Says why nothing is shown. */
 function complain(error) {
   const parts = [make("p", "", `${given ? `${given.name}: ` : ""}${error.message}`)];
@@ -69,7 +75,7 @@ async function present() {
   const { name, form, stream } = given, side = chosenSide(), code = await engine;
   there("side").hidden = !stream;
   const capture = stream ? captureOfStream(stream, side) : given.capture, parts = partsOf({ name, capture }, code);
-  const judged = stream ? ` wsn judge --role ${side} prints: ${judgeLine(code.judge(stream, side))}.` : "";
+  const judged = stream ? judgedWords(code.judge(stream, side), side) : "";
   there("trouble").replaceChildren();
   there("drop").classList.add("done");
   document.title = titleFor(name);
