@@ -14,5 +14,4 @@ mod settings;
 
 pub use answer::Answer;
 pub use calls::{wsn_page_show, wsn_page_show_stream};
-pub use room::Room;
 pub use settings::Settings;

@@ -3,7 +3,7 @@ use std::marker::Model;
 
 /// A writer into memory that a caller lends. What doesn't fit is an error, and nothing of it is written.
 #[derive(Drop)]
-pub struct Room<'a> {
+pub(crate) struct Room<'a> {
     memory: &'a mut [u8],
     /// The first `len` bytes of the memory are written.
     len: usize,
@@ -23,14 +23,14 @@ impl<'a> Room<'a> {
     ghost use Rattle.std.specs.Prelude.{◌≡◌, []};
 
     /// A room in which nothing is written.
-    pub fn new(memory: &'a mut [u8]) -> Self
+    pub(crate) fn new(memory: &'a mut [u8]) -> Self
         ensures { result ≡ [] }
     {
         Room { memory, len: 0 }
     }
 
     /// All that was written.
-    pub fn text(&self) -> &[u8]
+    pub(crate) fn text(&self) -> &[u8]
         ensures { result.now ≡ self.now }
     {
         &self.memory[..self.len]
