@@ -4,6 +4,7 @@ import functools
 import os
 import pathlib
 import shutil
+import subprocess
 from typing import List
 
 
@@ -13,8 +14,16 @@ def program() -> List[str]:
     if os.environ.get("WSN"):
         return [os.path.abspath(os.environ["WSN"])]
     here = pathlib.Path(__file__).resolve().parent
-    for beside in here.parent / "wsn", here.parent.parent / "bin/wsn":
-        if beside.is_file():
-            return [str(beside)]
+    if (here.parent / "wsn").is_file():
+        return built(str(here.parent / "wsn"))
+    if (here.parent.parent / "bin/wsn").is_file():
+        return [str(here.parent.parent / "bin/wsn")]
     found = shutil.which("wsn")
     return [found] if found else []
+
+
+def built(launcher: str) -> List[str]:
+    """The words that run the repository's program; none if it can't be built. A build takes minutes, so what it says
+    on standard error is shown, unlike that of later calls."""
+    is_built = subprocess.run([launcher, "--version"], stdout=subprocess.DEVNULL, check=False).returncode == 0
+    return [launcher] if is_built else []

@@ -7,6 +7,7 @@ from typing import BinaryIO, List, Optional, Tuple
 
 from captures import NAMES, Lines, comment, front, time_of_day
 from handshake import Head, Malformed, Opening
+from names import named
 from packets import FIN, RST, Segment, nodes
 from streams import Connection, Direction, Lack
 from tshark import Record
@@ -158,7 +159,8 @@ class Session:
         self.open(time, front(time, request, answer))
         if self.extensions != "-":
             self.notes.append(f"warning: the server agreed on {self.extensions}")
-            self.notes.append("warning: frames that use it are refused; recipes/inflate takes permessage-deflate away")
+            inflate = named("recipes/inflate")
+            self.notes.append(f"warning: frames that use it are refused; {inflate} takes permessage-deflate away")
         for each in "CS":
             if self.opening.held[each]:
                 self.take(each, self.opening.held[each], time)

@@ -89,3 +89,34 @@ def check_of_what_cannot_be_compared(folder):
         want(wanted in said + "".join(lines), f"{words}: {said}")
     lines, said = run("env", f"WSN={folder}/none", TOP / "recipes/check", one, two, status=2)
     want(b"none" in said, "without the program")
+
+
+# A launcher that builds at its first call.
+LAUNCHER = """#!/bin/sh
+cd "${0%/*}"
+echo "$1" >>calls
+[ ! -e wrong ] || exit 2
+[ -e built ] || { echo 'wsn: building the program' >&2; touch built; }
+echo equal
+"""
+
+
+@test
+def a_build_is_said_before_it_begins(folder):
+    """On standard error, by check and by pcap2wsn --all; a build that fails isn't begun again."""
+    shutil.copytree(TOP / "recipes", folder / "recipes")
+    (folder / "wsn").write_text(LAUNCHER)
+    (folder / "wsn").chmod(0o755)
+    kept = SAMPLES / "basic.capture"
+    away = ["env", "-u", "WSN"]
+    for count, said in enumerate([b"wsn: building the program\n", b""]):
+        same(run(*away, folder / "recipes/check", kept, kept)[1], said, f"call {count}")
+    (folder / "built").unlink()
+    words = [folder / "recipes/pcap2wsn", "--all", SAMPLES / "basic.pcap"]
+    said = run(*away, *words, folder / "one")[1]
+    want(said.startswith(b"wsn: building the program\n"), f"pcap2wsn says {said!r}")
+    (folder / "wrong").write_text("")
+    (folder / "calls").unlink()
+    run(*away, folder / "recipes/check", kept, kept, status=2)
+    run(*away, *words, folder / "two")
+    same((folder / "calls").read_text(), "--version\n" * 2, "the calls of a program that can't be built")

@@ -4,6 +4,7 @@ import os
 import pty
 import re
 import select
+import shutil
 import time
 
 from harness import SECONDS, TOP, WSN, Failed, needs, run, same, test, want
@@ -44,8 +45,6 @@ def install_copies_and_removes(folder):
         found = [name for name in files_in(prefix) if (prefix / name).is_file()]
         same(found, sorted(wanted), "the files")
     same(run(prefix / "bin/wsn", "judge", "--role", "server", input=b"")[0][:8], b"accepted", "the program")
-    for name, file in COMMANDS.items():
-        same(run(prefix / "bin" / name, "-h"), run(TOP / file, "-h"), name)
     kept = TOP / "tests/samples/basic.capture"
     out, _ = run("env", "-u", "WSN", prefix / "bin/wsn-check", kept, kept)
     same(out.splitlines()[0], b"basic.capture: equal", "the installed program, out of PATH")
@@ -58,6 +57,27 @@ def install_copies_and_removes(folder):
         run(TOP / "install", *words, status=2, env=environment())
     (folder / "file").write_text("")
     run(TOP / "install", folder / "file", status=2, env=environment())
+
+
+@test
+def recipes_say_the_names_that_they_were_called_by(folder):
+    """In their help and in what is wrong with a command line, as they are installed and here."""
+    run(TOP / "install", folder, env={**os.environ, "WSN": shutil.which("true")})
+    for name, file in COMMANDS.items():
+        for path, own in (folder / "bin" / name, name), (TOP / file, os.path.basename(file)):
+            text = (run(path, "-h")[0] + run(path, "--wrong", status=2)[1]).decode()
+            want(f"{own}: " in text and f"{own} -h for help" in text, f"{own} doesn't say its name: {text}")
+            want(re.search(rf"^ *(recipes/)?{own} \S", text, re.MULTILINE), f"{own} doesn't begin its help: {text}")
+            if own == name:
+                want(not re.search("recipes/|page/build|pcap2wsn", text), f"{own} says another name: {text}")
+    same(named(folder / "bin/wsn-pcap"), "wsn-inflate", "another recipe, where they are installed")
+    same(named("recipes/pcap2wsn"), "recipes/inflate", "another recipe, here")
+
+
+def named(called):
+    """What a recipe that was called by this name calls recipes/inflate."""
+    line = f"import sys; sys.argv[0] = {str(called)!r}; from names import named; print(named('recipes/inflate'))"
+    return run("python3", "-c", line, env={**os.environ, "PYTHONPATH": str(TOP / "recipes")})[0].decode().strip()
 
 
 @test

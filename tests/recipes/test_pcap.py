@@ -368,6 +368,7 @@ def ends(out):
 @test
 def pcap_has_the_ends_in_their_order(folder):
     """Each end mark is where its FIN was; a reset's are last, its sender's first, after a comment."""
+    needs("tshark")
     talk = [*HANDSHAKE, ("C", b"\x88\x80abcd")]
     begin = pcaps.session([*talk, ("S", b"\x88\x00")], 40000, 80)
     client, server = begin[-3], begin[-2]
@@ -416,6 +417,7 @@ def pcap_of_a_client_that_ends_before_the_answer(folder):
 @test
 def pcap_has_the_times(folder):
     """Seconds since the 101, before each line where a millisecond has passed; bytes within it are joined."""
+    needs("tshark")
     talk = [*HANDSHAKE, ("S", b"\x81\x01a"), ("S", b"\x81\x01b"), ("S", b"\x81\x01c"), ("C", b"\x81\x80abcd")]
     at = [0, 10, 20, 30_000, 30_400, 30_900, 31_400, 31_500, 3_000_000_000, 3_000_000_500]
     packets = pcaps.session(talk, 40000, 80)
@@ -474,6 +476,7 @@ def pcap_list_that_is_incomplete(folder):
 @test
 def pcap_writes_all(folder):
     """Each connection as a file of its own, as it is written alone, and a list of them."""
+    needs("tshark")
     talk = [("S", b"\x81\x02Hi"), ("C", b"\x88\x80abcd"), ("S", b"\x88\x00")]
     both = [pcaps.session([*HANDSHAKE, *talk], 40000, 80), pcaps.session([*HANDSHAKE, *talk[:1]], 40001, 80)]
     mixed = [each for pair in zip(*both) for each in pair] + both[0][len(both[1]) :]

@@ -32,12 +32,12 @@ module _ (limits : Limits) (old mid new : Incoming) (splitter : LineSplitter) (r
   stopped keeps failed = record {
     came = read.came;
     received = received_of (1000001 * 8196 + 4095) old new read.came (consumed_kept old mid new read.came read.consumed keeps) (omega (arith, bounded));
-    answer = (failed, unfaulted limits splitter.capture splitter.begun.items read.came read.split);
+    answer = (failed, unfaulted limits splitter.capture splitter.begun read.came read.split);
   }
 
   at_end : (result : Result Report CaptureStop) → IsAtEnd new.remaining → new.failed ≡ false → IsCaptureAnswerOf limits read.came result → IsCaptureAnswer limits new read.came result
   at_end (Ok report) ends unfailed is = (is, ends, unfailed)
-  at_end (Err (Line number fault)) ends unfailed is = (inr (is, unfaulted limits splitter.capture splitter.begun.items read.came read.split, ends), unfailed)
+  at_end (Err (Line number fault)) ends unfailed is = (inr (is, unfaulted limits splitter.capture splitter.begun read.came read.split, ends), unfailed)
   at_end (Err Read) ends unfailed is = absurd is
 
   -- the input ended

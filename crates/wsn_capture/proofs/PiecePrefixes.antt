@@ -1,5 +1,5 @@
 -- The prefix of a piece that belongs to one line.
-use Rattle.std.proofs.Common.{◌≡◌, ℕ, zero, suc, ◌+◌, ◌-◌, ◌<◌, ◌==◌, true, List, [], ◌∷◌, ◌++◌, length, take, drop, get_or, slice_index, refl, sym, ap, ◌∙◌, subst, append_assoc, length-append, take-append-drop, length-drop, arith, eq-eqb}
+use Rattle.std.proofs.Common.{◌≡◌, ℕ, zero, suc, ◌+◌, ◌-◌, ◌<◌, ◌≤◌, ◌==◌, inl, inr, true, List, [], ◌∷◌, ◌++◌, length, take, drop, get_or, slice_index, refl, sym, ap, ◌∙◌, subst, append_assoc, length-append, take-append-drop, length-drop, arith, eq-eqb}
 use Rattle.std.proofs.Math.Seq.{drop-cons, take-nil, take-add}
 use Rattle.std.proofs.lemmas.Bool.{eqb-true}
 use Rattle.std.proofs.lemmas.List.{take_all, take_at, length-take-le}
@@ -9,22 +9,11 @@ use Rattle.wsn_capture.specs.declared.capture_stop.CaptureStop.{CaptureStop}
 use Rattle.wsn_rules.specs.TextLines.{IsLine}
 use Rattle.wsn_capture.specs.Captures.{HasAcceptedLines}
 use Rattle.wsn_capture.specs.CaptureAnswers.{IsUnfaulted}
+use Rattle.wsn_capture.specs.SplitLines.{GoesOn, EndsLine}
 use Rattle.wsn_capture.specs.LineSplitters.{HasPassedOn, IsStopAt, IsStopBy, IsStopWithin}
-use Rattle.wsn_capture.proofs.SplitLines.{split_line, stop_line, stop_at_most}
+use Rattle.wsn_capture.proofs.SplitLines.{split_more, no_long, split_line, stop_line, stop_at_most}
 
 -- ---- lists
-
--- bytes of which none is an LF
-pub no_lf : (bytes : List ℕ) (n : ℕ) → ((k : ℕ) → k < n → (slice_index bytes k == 10) ≡ true → ⊥) → IsLine (take n bytes)
-no_lf [] n none = subst IsLine (sym (take-nil n)) tt
-no_lf (b ∷ bytes) zero none = tt
-no_lf (b ∷ bytes) (suc n) none = ((λ is. none 0 (omega arith) (eq-eqb b 10 is)), no_lf bytes n (λ k within. none (suc k) (omega (arith, within))))
-
-pub parted : (xs : List ℕ) (i : ℕ) → i < length xs → xs ≡ take i xs ++ get_or xs i 0 ∷ drop (suc i) xs
-parted xs i within = sym (take-append-drop i xs) ∙ ap (λ (ys : List ℕ). take i xs ++ ys) (drop-cons xs i 0 within)
-
-pub no_lf_in : (bytes : List ℕ) → ((k : ℕ) → k < length bytes → (slice_index bytes k == 10) ≡ true → ⊥) → IsLine bytes
-no_lf_in bytes none = subst IsLine (take_all (length bytes) bytes (omega arith)) (no_lf bytes (length bytes) none)
 
 last_of : (bytes : List ℕ) → 0 < length bytes → (earlier : List ℕ) × (last : ℕ) × (bytes ≡ earlier ++ last ∷ [])
 last_of [] some = absurd (omega arith)
@@ -75,51 +64,55 @@ stop_in_rest limits came piece at stop within =
     subst (λ (bs : List ℕ). IsStopWithin limits came bs stop) (ap (λ (bs : List ℕ). take at piece ++ bs) (rest_is piece at) ∙ take-append-drop at piece)
     (stop_after limits came (take at piece) (take (length piece - at) (drop at piece)) stop within)
 
-module _ (limits : Limits) (old : Capture) (begun came : List ℕ) (split : HasPassedOn limits old begun came) (piece : List ℕ) (most : ℕ) where
-  -- ---- the prefix has an LF
+-- ---- a prefix of a piece
 
-  module _ (end : ℕ) (within : end < length (take most piece)) (before : (k : ℕ) → k < end → (slice_index (take most piece) k == 10) ≡ true → ⊥) (lf : (slice_index (take most piece) end == 10) ≡ true) (fits : length begun + end < 8196) where
-    abbrev bytes : List ℕ
-    bytes = take end (take most piece)
+module _ (limits : Limits) (old : Capture) (begun came : List ℕ) (split : HasPassedOn limits old begun came) where
+  -- it goes on with the line
+  pub goes_on : (after piece : List ℕ) (count : ℕ) → GoesOn begun after piece count → HasPassedOn limits old after (came ++ take count piece)
+  goes_on after piece count goes =
+      subst (λ (bs : List ℕ). HasPassedOn limits old bs (came ++ take count piece)) (sym goes.is)
+      (split_more limits old begun came split (take count piece) goes.in_line
+      (omega (arith, goes.short, ap (λ (bs : List ℕ). length bs) goes.is, length-append begun (take count piece))))
 
-    cut_there : (ahead : List ℕ) × (piece ≡ bytes ++ 10 ∷ ahead)
-    cut_there =
-        let front = take most piece in
-        let parts = parted front end within in
-        let is_lf : get_or front end 0 ≡ 10 = eqb-true (slice_index front end) 10 lf in (
-          drop (suc end) front ++ drop most piece,
-          sym (take-append-drop most piece)
-              ∙ ap (λ (bs : List ℕ). bs ++ drop most piece) (parts ∙ ap (λ (b : ℕ). bytes ++ b ∷ drop (suc end) front) is_lf)
-              ∙ append_assoc bytes (10 ∷ drop (suc end) front) (drop most piece),
-        )
+  module _ (line piece : List ℕ) (count : ℕ) (ends : EndsLine begun line piece count) where
+    size : length line ≡ length begun + length ends.bytes
+    size = ap (λ (bs : List ℕ). length bs) ends.is ∙ length-append begun ends.bytes
 
-    size : length bytes ≡ end
-    size = length-take-le end (take most piece) (omega (arith, within))
+    -- it ends the line
+    pub ends_line : (new : Capture) → HasAcceptedLines limits new (split.lines ++ line ∷ []) → HasPassedOn limits new [] (came ++ take count piece)
+    ends_line new consumes =
+        elim ends.ends [
+          | inl lf ↦
+              subst (λ (bs : List ℕ). HasPassedOn limits new [] (came ++ bs)) (sym lf.0)
+              (split_line limits old begun came split ends.bytes new ends.in_line (omega (arith, size, lf.1)) (subst (λ (bs : List ℕ). HasAcceptedLines limits new (split.lines ++ bs ∷ [])) ends.is consumes))
+          | inr long ↦ absurd (no_long limits old begun came split new line long.1 consumes)
+        ]
 
-    short : length begun + length bytes < 8196
-    short = omega (arith, size, fits)
+    -- the line that it ends isn't accepted
+    pub stops_at_line : (stop : CaptureStop) → IsStopAt limits split.lines line stop → IsStopWithin limits came piece stop
+    stops_at_line stop stops =
+        let ahead = drop count piece in
+        let here = subst (λ (bs : List ℕ). IsStopAt limits split.lines bs stop) ends.is stops in
+        elim ends.ends [
+          | inl lf ↦
+              subst (λ (bs : List ℕ). IsStopWithin limits came bs stop)
+              (sym (append_assoc ends.bytes (10 ∷ []) ahead) ∙ ap (λ (bs : List ℕ). bs ++ ahead) (sym lf.0) ∙ take-append-drop count piece)
+              (stop_line limits old begun came split ends.bytes ahead stop ends.in_line (omega (arith, size, lf.1)) here)
+          | inr long ↦
+              let sizes : length begun + length ends.bytes ≡ 8196 = sym size ∙ long.1 in
+              let parts = last_of ends.bytes (omega (arith, sizes, split.short)) in
+              subst (λ (bs : List ℕ). IsStopWithin limits came bs stop) (ap (λ (bs : List ℕ). bs ++ ahead) (sym long.0) ∙ take-append-drop count piece)
+              (subst (λ (bs : List ℕ). IsLine bs → length begun + length bs ≡ 8196 → IsStopAt limits split.lines (begun ++ bs) stop → IsStopWithin limits came (bs ++ ahead) stop) (sym parts.2)
+              (stop_at_most limits old begun came split parts.0 parts.1 ahead stop) ends.in_line sizes here)
+        ]
 
-    taken_line : take (end + 1) piece ≡ bytes ++ 10 ∷ []
-    taken_line =
-        ap (take (end + 1)) (cut_there.1 ∙ sym (append_assoc bytes (10 ∷ []) cut_there.0))
-        ∙ take_at (bytes ++ 10 ∷ []) cut_there.0 (end + 1) (omega (arith, size, length-append bytes (10 ∷ [])))
-
-    pub line_split : (new : Capture) (left : List ℕ) → left ≡ [] → HasAcceptedLines limits new (split.lines ++ (begun ++ take end (take most piece)) ∷ []) → HasPassedOn limits new left (came ++ take (end + 1) piece)
-    line_split new left none consumes =
-        subst (λ (bs : List ℕ). HasPassedOn limits new bs (came ++ take (end + 1) piece)) (sym none)
-        (subst (λ (bs : List ℕ). HasPassedOn limits new [] (came ++ bs)) (sym taken_line)
-        (split_line limits old begun came split bytes new (no_lf (take most piece) end before) short consumes))
-
-    pub line_stops : (stop : CaptureStop) → IsStopAt limits split.lines (begun ++ take end (take most piece)) stop → IsStopWithin limits came piece stop
-    line_stops stop stops =
-        subst (λ (bs : List ℕ). IsStopWithin limits came bs stop) (sym cut_there.1)
-        (stop_line limits old begun came split bytes cut_there.0 stop (no_lf (take most piece) end before) short stops)
-
-  -- ---- the prefix has none
-
-  pub full_stops : (stop : CaptureStop) → IsLine (take most piece) → length begun + length (take most piece) ≡ 8196 → IsStopAt limits split.lines (begun ++ take most piece) stop → IsStopWithin limits came piece stop
-  full_stops stop line size stops =
-      let parts = last_of (take most piece) (omega (arith, size, split.short)) in
-      subst (λ (bs : List ℕ). IsStopWithin limits came bs stop) (take-append-drop most piece)
-      (subst (λ (bs : List ℕ). IsLine bs → length begun + length bs ≡ 8196 → IsStopAt limits split.lines (begun ++ bs) stop → IsStopWithin limits came (bs ++ drop most piece) stop) (sym parts.2)
-      (stop_at_most limits old begun came split parts.0 parts.1 (drop most piece) stop) line size stops)
+-- The line and the bytes consumed are no more than a line may hold.
+pub room_for_line : (begun line piece : List ℕ) (count : ℕ) → count ≤ length piece → EndsLine begun line piece count → length begun + count ≤ 8196
+room_for_line begun line piece count within ends =
+    let size = length-take-le count piece within in
+    let whole = length-append begun ends.bytes in
+    let is = ap (λ (bs : List ℕ). length bs) ends.is in
+    elim ends.ends [
+      | inl lf ↦ omega (arith, size, whole, is, lf.1, ap (λ (bs : List ℕ). length bs) lf.0, length-append ends.bytes (10 ∷ []))
+      | inr long ↦ omega (arith, size, whole, is, long.1, ap (λ (bs : List ℕ). length bs) long.0)
+    ]

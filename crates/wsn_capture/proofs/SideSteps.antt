@@ -1,5 +1,5 @@
 -- The lines of a side as they are taken.
-use Rattle.std.proofs.Common.{◌≡◌, ℕ, ◌+◌, ◌-◌, ◌<◌, ◌≤◌, false, Option, None, List, [], ◌∷◌, ◌++◌, length, take, drop, slice_range, get_or, slice_index, ◌==◌, true, length-append, inl, inr, refl, sym, ap, ◌∙◌, subst, append_assoc, append-nil, suc, take-append-drop, drop-drop, arith}
+use Rattle.std.proofs.Common.{◌≡◌, ℕ, ◌+◌, ◌-◌, ◌*◌, ◌<◌, ◌≤◌, false, Option, None, List, [], ◌∷◌, ◌++◌, length, take, drop, slice_range, get_or, slice_index, ◌==◌, true, length-append, inl, inr, refl, sym, ap, ◌∙◌, subst, append_assoc, append-nil, suc, take-append-drop, drop-drop, arith}
 use Rattle.std.proofs.lemmas.Bool.{cases_lt, eqb-true}
 use Rattle.std.proofs.lemmas.List.{drop-take, take_at, drop_at, length-take-le}
 use Rattle.wsn_wire.specs.declared.endpoint.Role.{Role}
@@ -15,11 +15,11 @@ use Rattle.wsn_capture.specs.LineFaults.{line_most, lines_most}
 use Rattle.wsn_capture.specs.SideTexts.{text_entry, ended_before, entry_unless_ended, with_entry, sent_in_lines}
 use Rattle.wsn_capture.specs.declared.side_bytes.FaultyLine.{FaultyLine}
 use Rattle.wsn_capture.specs.declared.side_bytes.SideBytes.{SideBytes}
-use Rattle.wsn_capture.specs.SideStates.{TextGivesBytes, unless_faulty, side_left}
+use Rattle.wsn_capture.specs.SplitLines.{EndsLine}
+use Rattle.wsn_capture.specs.SideStates.{TextGivesBytes, unless_faulty, side_left, IsReady, lines_ahead, lines_ahead_by}
 use Rattle.wsn_capture.proofs.SideEntries.{mark_text, mark_going, too_many_lines, too_long_line}
 use Rattle.wsn_capture.proofs.SideLaws.{side-fault}
-use Rattle.wsn_capture.proofs.SplitLines.{too_long}
-use Rattle.wsn_capture.proofs.PiecePrefixes.{parted}
+use Rattle.wsn_capture.proofs.SplitLines.{too_long, line_join}
 
 no_bytes : (role other : Role) → [] ≡ bytes_in role (Mark other)
 no_bytes Client other = refl
@@ -94,17 +94,25 @@ line_text side begun bytes later is =
 pub last_text : (side : SideBytes) (begun : List ℕ) → IsLine begun → (begun ≡ [] → ⊥) → side_left side (begun ∷ []) ≡ side_left side (lines_of (begun ++ []))
 last_text side begun is some = ap (side_left side) (sym (ap lines_of (append-nil begun) ∙ one_line begun is some))
 
--- a chunk up to its first LF
-pub chunk_at : (chunk : List ℕ) (most end : ℕ) → end < length (take most chunk) → (slice_index (take most chunk) end == 10) ≡ true → chunk ≡ take end (take most chunk) ++ 10 ∷ drop (end + 1) chunk
-chunk_at chunk most end within lf =
-    let front = take most chunk in
-    let bytes = take end front in
-    let ahead = drop (suc end) front ++ drop most chunk in
-    let is_lf : get_or front end 0 ≡ 10 = eqb-true (slice_index front end) 10 lf in
-    let whole : chunk ≡ bytes ++ 10 ∷ ahead =
-    sym (take-append-drop most chunk)
-    ∙ ap (λ (bs : List ℕ). bs ++ drop most chunk) (parted front end within ∙ ap (λ (b : ℕ). bytes ++ b ∷ drop (suc end) front) is_lf)
-    ∙ append_assoc bytes (10 ∷ drop (suc end) front) (drop most chunk) in
-    let size : length (bytes ++ 10 ∷ []) ≡ end + 1 = omega (arith, length-append bytes (10 ∷ []), length-take-le end front (omega (arith, within))) in
-    let rest : drop (end + 1) chunk ≡ ahead = ap (drop (end + 1)) (whole ∙ sym (append_assoc bytes (10 ∷ []) ahead)) ∙ drop_at (bytes ++ 10 ∷ []) ahead (end + 1) size in
-    whole ∙ ap (λ (bs : List ℕ). bytes ++ 10 ∷ bs) (sym rest)
+-- a chunk up to the end of a line
+pub ended_text : (side : SideBytes) (begun line chunk later : List ℕ) (count : ℕ) → IsLine begun → EndsLine begun line chunk count
+    → side_left side (line ∷ lines_of (drop count chunk ++ later)) ≡ side_left side (lines_of (begun ++ (chunk ++ later)))
+ended_text side begun line chunk later count is ends =
+    let rest = drop count chunk ++ later in
+    let whole : (front : List ℕ) → take count chunk ≡ front → front ++ rest ≡ chunk ++ later =
+    λ front same. ap (λ (bs : List ℕ). bs ++ rest) (sym same) ∙ sym (append_assoc (take count chunk) (drop count chunk) later) ∙ ap (λ (bs : List ℕ). bs ++ later) (take-append-drop count chunk) in
+    let joined : IsLine (begun ++ ends.bytes) = line_join begun ends.bytes is ends.in_line in
+    elim ends.ends [
+      | inl lf ↦
+          ap (λ (l : List ℕ). side_left side (l ∷ lines_of rest)) ends.is ∙ line_text side begun ends.bytes rest joined
+          ∙ ap (λ (bs : List ℕ). side_left side (lines_of (begun ++ bs))) (sym (append_assoc ends.bytes (10 ∷ []) rest) ∙ whole (ends.bytes ++ 10 ∷ []) lf.0)
+      | inr long ↦
+          long_text side line rest (lines_of rest) (subst IsLine (sym ends.is) joined) (omega (arith, long.1))
+          ∙ ap (λ (bs : List ℕ). side_left side (lines_of bs)) (ap (λ (bs : List ℕ). bs ++ rest) ends.is ∙ append_assoc begun ends.bytes rest ∙ ap (λ (bs : List ℕ). begun ++ bs) (whole ends.bytes long.0))
+    ]
+
+-- A line that goes on leaves fewer bytes ahead.
+pub fewer_ahead : (side : SideBytes) (begun after : List ℕ) → IsReady side → length after < 8196 → length begun < length after → lines_ahead side * 8197 - length after < lines_ahead side * 8197 - length begun
+fewer_ahead side begun after ready short more =
+    let some : 1 ≤ lines_ahead side = subst (λ (f : Option FaultyLine). 1 ≤ lines_ahead_by f side.before.count) (sym ready.unfaulted) (omega arith) in
+    omega (arith, some, short, more)

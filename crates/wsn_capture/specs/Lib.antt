@@ -1,6 +1,7 @@
 -- The files in reading order.
 pub mod LineFaults
 pub mod CaptureAnswers
+pub mod SplitLines
 pub mod SideTexts
 -- how the state of the code is related to these
 pub mod LineForms

@@ -23,7 +23,7 @@ pub record HasPassedOn (limits : Limits) (capture : Capture) (begun came : List 
 
 -- The splitter has consumed these bytes.
 abbrev pub HasSplit : Limits → LineSplitter → List ℕ → Type 0
-HasSplit limits splitter came = HasPassedOn limits splitter.capture splitter.begun.items came
+HasSplit limits splitter came = HasPassedOn limits splitter.capture splitter.begun came
 
 -- The stop is at the line after these lines.
 abbrev pub IsStopAt : Limits → List (List ℕ) → List ℕ → CaptureStop → Type 0
@@ -37,7 +37,7 @@ IsStopBy limits came Read = ⊥
 
 -- the number of bytes that may still come
 abbrev pub bytes_left : LineSplitter → ℕ
-bytes_left splitter = (1000001 - count_of splitter.capture) * begun_most - length splitter.begun.items
+bytes_left splitter = (1000001 - count_of splitter.capture) * begun_most - length splitter.begun
 
 -- The stop is certain from one byte of the piece on, which comes after the bytes `came`: this byte ends its line, or
 -- makes it too long.

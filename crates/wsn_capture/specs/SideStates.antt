@@ -59,11 +59,11 @@ lines_ahead side = lines_ahead_by side.fault side.before.count
 
 -- What is left of the endpoint's bytes if this text is to come. It continues the unfinished line.
 abbrev pub text_left : SideLines → List ℕ → List ℕ
-text_left lines text = side_left lines.side (lines_of (lines.begun.items ++ text))
+text_left lines text = side_left lines.side (lines_of (lines.begun ++ text))
 
 -- an upper bound on the number of bytes that may still come
 abbrev pub bytes_ahead : SideLines → ℕ
-bytes_ahead lines = lines_ahead lines.side * 8197 - length lines.begun.items
+bytes_ahead lines = lines_ahead lines.side * 8197 - length lines.begun
 
 -- ---- readers
 

@@ -15,14 +15,14 @@
 //!
 //! [`judge_capture`] reads a text and returns the [`Report`] of its lines, or the first line that isn't accepted. A
 //! [`Capture`] accepts lines one by one and reports on those that it has accepted. [`put_report`] prints a report. A
-//! [`SideReader`] is one endpoint's stream as a reader: an engine reads it as it reads any stream. None of them
-//! allocates memory, and at most one line is held.
+//! [`SideReader`] is one endpoint's stream as a reader: an engine reads it as it reads any stream. [`Lines`] splits the
+//! chunks of a text into lines. None of them allocates memory, and at most one line is held.
 //!
 //! In `wsn_rules`, `specs/TextLines.antt` defines the lines of a text, `specs/Entries.antt` what a line gives,
 //! `specs/Sides.antt` what became of each stream and `specs/Reports.antt` the report; in `wsn_print`,
 //! `specs/ReportText.antt` defines how a report is printed. Here, `specs/LineFaults.antt` defines which lines aren't
 //! accepted, `specs/CaptureAnswers.antt` the answer to a text, `specs/SideTexts.antt` one endpoint's stream as a function
-//! of a text, and `specs/Captures.antt` how a [`Capture`]'s state is related to the lines that it has accepted. [`laws`]
+//! of a text, `specs/SplitLines.antt` how a chunk goes on with a line or ends it, and `specs/Captures.antt` how a [`Capture`]'s state is related to the lines that it has accepted. [`laws`]
 //! has what follows from these definitions, and [`line_fault_examples`] lines with their first faults.
 #![tactic(auto)]
 
@@ -36,6 +36,7 @@ mod line_fault;
 pub mod line_fault_examples;
 pub mod line_form;
 mod line_splitter;
+mod lines;
 mod lines_before;
 mod sent_stream;
 mod side_bytes;
@@ -48,6 +49,7 @@ pub use capture::Capture;
 pub use capture_stop::CaptureStop;
 pub use judging::judge_capture;
 pub use line_fault::LineFault;
+pub use lines::{BEGUN_MAX, Lines};
 pub use side_reader::SideReader;
 pub use wsn_print::put_report;
 pub use wsn_rules::{Outcome, Report, Side};

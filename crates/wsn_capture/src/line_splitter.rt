@@ -5,18 +5,14 @@ ghost use Rattle.wsn_capture.specs.LineSplitters.{IsStopAt};
 
 use crate::capture::Capture;
 use crate::capture_stop::CaptureStop;
-use arrayvec::ArrayVec;
-use memchr::memchr;
+use crate::lines::{BEGUN_MAX, Lines};
 use wsn_rules::{Limits, Report};
-
-/// A line of this many bytes is too long, whatever follows and whether or not a CR ends it.
-pub(crate) const BEGUN_MAX: usize = 8196;
 
 /// Splits the chunks of a text into lines and passes each to a capture. It holds the line that isn't finished.
 #[derive(Drop)]
 pub struct LineSplitter {
     capture: Capture,
-    begun: ArrayVec<u8, BEGUN_MAX>,
+    begun: Lines,
 }
 
 impl LineSplitter {
@@ -27,11 +23,11 @@ impl LineSplitter {
     pub fn new(limits: Limits) -> LineSplitter
         ensures split { HasSplit limits result [] }
         ensures few { count_of result.capture ≤ 1000000 }
-        ensures short { length result.begun.items < BEGUN_MAX }
+        ensures short { length result.begun < BEGUN_MAX }
     {
         LineSplitter {
             capture: Capture::new(limits),
-            begun: ArrayVec::new(),
+            begun: Lines::new(),
         }
     }
 
@@ -39,13 +35,13 @@ impl LineSplitter {
     /// byte ends the line or makes it too long.
     pub fn take(&mut self, piece: &[u8]) -> Result<(), CaptureStop>
         requires few { count_of self.old.capture ≤ 1000000 }
-        requires short { length self.old.begun.items < BEGUN_MAX }
+        requires short { length self.old.begun < BEGUN_MAX }
         ensures split { OnOk result ((limits : Limits) (came : List ℕ) →
             HasSplit limits self.old came → HasSplit limits self.new (came ++ piece.now)) }
         ensures stop { IfErr result (λ stop. (limits : Limits) (came : List ℕ) →
             HasSplit limits self.old came → IsStopWithin limits came piece.now stop) }
         ensures few { OnOk result (count_of self.new.capture ≤ 1000000) }
-        ensures short { OnOk result (length self.new.begun.items < BEGUN_MAX) }
+        ensures short { OnOk result (length self.new.begun < BEGUN_MAX) }
         ensures left { OnOk result (bytes_left self.new + length piece.now ≤ bytes_left self.old) }
     {
         let mut taken = 0;
@@ -57,87 +53,38 @@ impl LineSplitter {
 
     /// Consumes a prefix of a piece, to the end of a line or as much as one line may hold, and returns its length in
     /// bytes.
-    #[tactic(none)]
     fn take_prefix(&mut self, piece: &[u8]) -> Result<usize, CaptureStop>
         requires some { 0 < length piece.now }
         requires few { count_of self.old.capture ≤ 1000000 }
-        requires short { length self.old.begun.items < BEGUN_MAX }
+        requires short { length self.old.begun < BEGUN_MAX }
         ensures within { IfOk result (λ count. (0 < count) × (count ≤ length piece.now)) }
         ensures split { IfOk result (λ count. (limits : Limits) (came : List ℕ) →
             HasSplit limits self.old came → HasSplit limits self.new (came ++ take count piece.now)) }
         ensures stop { IfErr result (λ stop. (limits : Limits) (came : List ℕ) →
             HasSplit limits self.old came → IsStopWithin limits came piece.now stop) }
         ensures few { OnOk result (count_of self.new.capture ≤ 1000000) }
-        ensures short { OnOk result (length self.new.begun.items < BEGUN_MAX) }
+        ensures short { OnOk result (length self.new.begun < BEGUN_MAX) }
         ensures left { IfOk result (λ count. bytes_left self.new + count ≤ bytes_left self.old) }
     {
-        let room = BEGUN_MAX - self.begun.len();
-        let front = &piece[..room.min(piece.len())];
-        match memchr(b'\n', front) {
-            Some(end) => {
-                self.end_line(&front[..end])?;
-                Ok(end + 1)
-            }
-            None => {
-                self.go_on(front)?;
-                Ok(front.len())
-            }
+        let (count, ended) = self.begun.take(piece);
+        if ended {
+            self.end_line()?;
         }
+        Ok(count)
     }
 
-    /// Ends the line with these bytes, which an LF follows, and passes it to the capture.
-    fn end_line(&mut self, bytes: &[u8]) -> Result<(), CaptureStop>
+    /// Passes the line to the capture.
+    fn end_line(&mut self) -> Result<(), CaptureStop>
         requires few { count_of self.old.capture ≤ 1000000 }
-        requires fits { length self.old.begun.items + length bytes.now < BEGUN_MAX }
         ensures taken { OnOk result ((limits : Limits) (lines : List (List ℕ)) → HasAcceptedLines limits self.old.capture lines
-            → HasAcceptedLines limits self.new.capture (lines ++ (self.old.begun.items ++ bytes.now) ∷ [])) }
+            → HasAcceptedLines limits self.new.capture (lines ++ self.old.begun ∷ [])) }
         ensures stop { IfErr result (λ stop. (limits : Limits) (lines : List (List ℕ)) →
-            HasAcceptedLines limits self.old.capture lines
-            → IsStopAt limits lines (self.old.begun.items ++ bytes.now) stop) }
-        ensures begun { OnOk result (self.new.begun.items ≡ []) }
+            HasAcceptedLines limits self.old.capture lines → IsStopAt limits lines self.old.begun stop) }
+        ensures begun { OnOk result (self.new.begun ≡ []) }
         ensures count { OnOk result ((count_of self.new.capture ≡ count_of self.old.capture + 1)
             × (count_of self.new.capture ≤ 1000000)) }
     {
-        if self.begun.is_empty() {
-            return pass_on(&mut self.capture, bytes);
-        }
-        let _fits = self.begun.try_extend_from_slice(bytes);
-        self.end_begun()
-    }
-
-    /// Appends bytes to the line. A line that they make too long is passed to the capture.
-    #[tactic(none)]
-    fn go_on(&mut self, bytes: &[u8]) -> Result<(), CaptureStop>
-        requires few { count_of self.old.capture ≤ 1000000 }
-        requires fits { length self.old.begun.items + length bytes.now ≤ BEGUN_MAX }
-        ensures split { OnOk result ((limits : Limits) (came : List ℕ) → IsLine bytes.now →
-            HasSplit limits self.old came → HasSplit limits self.new (came ++ bytes.now)) }
-        ensures stop { IfErr result (λ stop. (length self.old.begun.items + length bytes.now ≡ BEGUN_MAX)
-            × ((limits : Limits) (lines : List (List ℕ)) → HasAcceptedLines limits self.old.capture lines
-            → IsStopAt limits lines (self.old.begun.items ++ bytes.now) stop)) }
-        ensures few { OnOk result (count_of self.new.capture ≤ 1000000) }
-        ensures short { OnOk result (length self.new.begun.items < BEGUN_MAX) }
-        ensures left { OnOk result (bytes_left self.new + length bytes.now ≤ bytes_left self.old) }
-    {
-        let _fits = self.begun.try_extend_from_slice(bytes);
-        if self.begun.is_full() {
-            return self.end_begun();
-        }
-        Ok(())
-    }
-
-    /// Passes the unfinished line to the capture.
-    fn end_begun(&mut self) -> Result<(), CaptureStop>
-        requires few { count_of self.old.capture ≤ 1000000 }
-        ensures taken { OnOk result ((limits : Limits) (lines : List (List ℕ)) → HasAcceptedLines limits self.old.capture lines
-            → HasAcceptedLines limits self.new.capture (lines ++ self.old.begun.items ∷ [])) }
-        ensures stop { IfErr result (λ stop. (limits : Limits) (lines : List (List ℕ)) →
-            HasAcceptedLines limits self.old.capture lines → IsStopAt limits lines self.old.begun.items stop) }
-        ensures begun { OnOk result (self.new.begun.items ≡ []) }
-        ensures count { OnOk result ((count_of self.new.capture ≡ count_of self.old.capture + 1)
-            × (count_of self.new.capture ≤ 1000000)) }
-    {
-        pass_on(&mut self.capture, self.begun.as_slice())?;
+        pass_on(&mut self.capture, self.begun.line())?;
         self.begun.clear();
         Ok(())
     }
@@ -148,10 +95,10 @@ impl LineSplitter {
         requires few { count_of self.capture ≤ 1000000 }
         ensures { (limits : Limits) (came : List ℕ) → HasSplit limits self came → IsCaptureAnswerOf limits came result }
     {
-        if self.begun.is_empty() {
+        if self.begun.line().is_empty() {
             return Ok(self.capture.report());
         }
-        self.end_begun()?;
+        self.end_line()?;
         Ok(self.capture.report())
     }
 }

@@ -18,8 +18,8 @@ pub struct SideSource<R> {
     pub lines: SideLines,
     ghost ordered: { start ≤ end },
     ghost within: { end ≤ 4096 },
-    ghost short: { length lines.begun.items < 8196 },
-    ghost in_line: { IsLine lines.begun.items } by { Prim.hlevel props },
+    ghost short: { length lines.begun < 8196 },
+    ghost in_line: { IsLine lines.begun } by { Prim.hlevel props },
 }
 
 impl<R: Read> SideSource<R> {

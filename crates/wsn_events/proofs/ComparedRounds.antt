@@ -12,9 +12,7 @@ use Rattle.wsn_rules.specs.Meaning.{MeantEvent}
 use Rattle.wsn_scan.proofs.ReaderReports.{left_few}
 use Rattle.wsn_events.specs.declared.comparing.Round.TheVariants.{Alike, Unlike}
 use Rattle.wsn_events.specs.declared.event_reader.EventReader.{EventReader}
-use Rattle.wsn_events.specs.declared.source.Next.{Next}
-use Rattle.wsn_events.specs.declared.source.Next.TheVariants as nexts
-use Rattle.wsn_events.specs.EventsMeant.{meant}
+use Rattle.wsn_events.specs.Turns.{MeantTurn, OfEvent, OfVerdict}
 use Rattle.wsn_events.specs.EventReaders.{HasGiven, answered, readings_left}
 use Rattle.wsn_events.specs.Comparing.{DifferAt, IsRoundOf}
 use Rattle.wsn_events.proofs.ComparedEvents.{differ_sym, differ_more, differ_next, differ_end, differ_first}
@@ -35,15 +33,32 @@ IsDifferenceSoFar reading other index events others None =
 IsDifferenceSoFar reading other index events others (Some k) =
     DifferAt k events others × (answered reading ≡ None → k < length events) × (answered other ≡ None → k < length others)
 
+-- 1 for an event, 0 for a verdict
+abbrev falls_by : MeantTurn → ℕ
+falls_by (OfEvent event) = 1
+falls_by (OfVerdict verdict) = 0
+
+-- an event or two
+some_alike : (turn other : MeantTurn) → IsRoundOf turn other Alike → 0 < falls_by turn + falls_by other
+some_alike (OfEvent event) (OfEvent other) is = omega arith
+some_alike (OfEvent event) (OfVerdict verdict) is = omega arith
+some_alike (OfVerdict verdict) (OfEvent event) is = absurd is
+some_alike (OfVerdict verdict) (OfVerdict other) is = absurd is
+
+some_unlike : (turn other : MeantTurn) → IsRoundOf turn other Unlike → 0 < falls_by turn + falls_by other
+some_unlike (OfEvent event) other is = omega arith
+some_unlike (OfVerdict verdict) (OfEvent event) is = omega arith
+some_unlike (OfVerdict verdict) (OfVerdict other) is = absurd is
+
 module _ {A : Type 0} (role : Role) (limits : Limits) where
   -- the first difference stays
-  differ_on : (before reading : EventReader A) (given events others : List MeantEvent) (next : Next A) (k : ℕ)
-      → Gives before reading given events next → (answered before ≡ None → k < length given) → DifferAt k given others
+  differ_on : (before reading : EventReader A) (given events others : List MeantEvent) (turn : MeantTurn) (k : ℕ)
+      → Gives before reading given events turn → (answered before ≡ None → k < length given) → DifferAt k given others
       → DifferAt k events others × (answered reading ≡ None → k < length events)
-  differ_on before reading given events others (nexts.Event event) k gives within differ =
-      let more = differ_more k given others (meant event ∷ []) (within gives.1) differ in
-      (subst (λ (es : List MeantEvent). DifferAt k es others) (sym gives.0) more, λ going. omega (arith, within gives.1, ap (λ (es : List MeantEvent). length es) gives.0, length-append given (meant event ∷ [])))
-  differ_on before reading given events others (nexts.Done verdict) k gives within differ =
+  differ_on before reading given events others (OfEvent event) k gives within differ =
+      let more = differ_more k given others (event ∷ []) (within gives.1) differ in
+      (subst (λ (es : List MeantEvent). DifferAt k es others) (sym gives.0) more, λ going. omega (arith, within gives.1, ap (λ (es : List MeantEvent). length es) gives.0, length-append given (event ∷ [])))
+  differ_on before reading given events others (OfVerdict verdict) k gives within differ =
       (subst (λ (es : List MeantEvent). DifferAt k es others) (sym gives.0) differ, λ going. let both : Some (Ok verdict) ≡ None = sym gives.1 ∙ going in absurd cc)
 
   -- ---- rounds
@@ -59,79 +74,62 @@ module _ {A : Type 0} (role : Role) (limits : Limits) where
   few_rounds reading has =
       omega (arith, pending_going reading has.going, left_few role limits reading.reader [] has.done has.at has.has_reported, has.has_reported.has_scanned.has_consumed.in_range.input)
 
-  -- 1 for an event, 0 for a verdict
-  abbrev falls_by : Next A → ℕ
-  falls_by (nexts.Event event) = 1
-  falls_by (nexts.Done verdict) = 0
-
-  falls : (before reading : EventReader A) (given events : List MeantEvent) (next : Next A)
-      → Gives before reading given events next → pending reading + falls_by next ≤ pending before
-  falls before reading given events (nexts.Event event) gives = omega (arith, pending_going before gives.1, pending_going reading gives.2, gives.3)
-  falls before reading given events (nexts.Done verdict) gives = omega (arith, pending_done reading (Ok verdict) gives.1)
-
-  -- an event or two
-  some_alike : (next other : Next A) → IsRoundOf next other Alike → 0 < falls_by next + falls_by other
-  some_alike (nexts.Event event) (nexts.Event other) is = omega arith
-  some_alike (nexts.Event event) (nexts.Done verdict) is = omega arith
-  some_alike (nexts.Done verdict) (nexts.Event event) is = absurd is
-  some_alike (nexts.Done verdict) (nexts.Done other) is = absurd is
-
-  some_unlike : (next other : Next A) → IsRoundOf next other Unlike → 0 < falls_by next + falls_by other
-  some_unlike (nexts.Event event) other is = omega arith
-  some_unlike (nexts.Done verdict) (nexts.Event event) is = omega arith
-  some_unlike (nexts.Done verdict) (nexts.Done other) is = absurd is
+  falls : (before reading : EventReader A) (given events : List MeantEvent) (turn : MeantTurn)
+      → Gives before reading given events turn → pending reading + falls_by turn ≤ pending before
+  falls before reading given events (OfEvent event) gives = omega (arith, pending_going before gives.1, pending_going reading gives.2, gives.3)
+  falls before reading given events (OfVerdict verdict) gives = omega (arith, pending_done reading (Ok verdict) gives.1)
 
   -- ---- what comes after the same events, or after a difference
 
   -- both sides of a first difference
-  differ_still : (before reading other_before other : EventReader A) (given events other_given others : List MeantEvent) (next other_next : Next A) (k : ℕ)
-      → Gives before reading given events next → Gives other_before other other_given others other_next
+  differ_still : (before reading other_before other : EventReader A) (given events other_given others : List MeantEvent) (turn other_turn : MeantTurn) (k : ℕ)
+      → Gives before reading given events turn → Gives other_before other other_given others other_turn
       → DifferAt k given other_given → (answered before ≡ None → k < length given) → (answered other_before ≡ None → k < length other_given)
       → DifferAt k events others × (answered reading ≡ None → k < length events) × (answered other ≡ None → k < length others)
-  differ_still before reading other_before other given events other_given others next other_next k gives other_gives differ within other_within =
-      let one = differ_on before reading given events other_given next k gives within differ in
-      let two = differ_on other_before other other_given others events other_next k other_gives other_within (differ_sym k events other_given one.0) in
+  differ_still before reading other_before other given events other_given others turn other_turn k gives other_gives differ within other_within =
+      let one = differ_on before reading given events other_given turn k gives within differ in
+      let two = differ_on other_before other other_given others events other_turn k other_gives other_within (differ_sym k events other_given one.0) in
       (differ_sym k others events two.0, one.1, two.1)
 
-  same_next : (before reading other_before other : EventReader A) (given events other_given others : List MeantEvent) (next other_next : Next A) (index : ℕ)
-      → Gives before reading given events next → Gives other_before other other_given others other_next
-      → given ≡ other_given → length given ≡ index → IsRoundOf next other_next Alike → IsDifferenceSoFar reading other (index + 1) events others None
-  same_next before reading other_before other given events other_given others (nexts.Event event) (nexts.Event that) index gives other_gives same size is = (
+  same_next : (before reading other_before other : EventReader A) (given events other_given others : List MeantEvent) (turn other_turn : MeantTurn) (index : ℕ)
+      → Gives before reading given events turn → Gives other_before other other_given others other_turn
+      → given ≡ other_given → length given ≡ index → IsRoundOf turn other_turn Alike → IsDifferenceSoFar reading other (index + 1) events others None
+  same_next before reading other_before other given events other_given others (OfEvent event) (OfEvent that) index gives other_gives same size is = (
     gives.2,
     other_gives.2,
-    gives.0 ∙ ap (λ (es : List MeantEvent). es ++ meant event ∷ []) same ∙ ap (λ (e : MeantEvent). other_given ++ e ∷ []) is ∙ sym other_gives.0,
-    omega (arith, ap (λ (es : List MeantEvent). length es) gives.0, length-append given (meant event ∷ [])),
+    gives.0 ∙ ap (λ (es : List MeantEvent). es ++ event ∷ []) same ∙ ap (λ (e : MeantEvent). other_given ++ e ∷ []) is ∙ sym other_gives.0,
+    omega (arith, ap (λ (es : List MeantEvent). length es) gives.0, length-append given (event ∷ [])),
   )
-  same_next before reading other_before other given events other_given others (nexts.Event event) (nexts.Done verdict) index gives other_gives same size is = absurd is
-  same_next before reading other_before other given events other_given others (nexts.Done verdict) (nexts.Event that) index gives other_gives same size is = absurd is
-  same_next before reading other_before other given events other_given others (nexts.Done verdict) (nexts.Done that) index gives other_gives same size is = absurd is
+  same_next before reading other_before other given events other_given others (OfEvent event) (OfVerdict verdict) index gives other_gives same size is = absurd is
+  same_next before reading other_before other given events other_given others (OfVerdict verdict) (OfEvent that) index gives other_gives same size is = absurd is
+  same_next before reading other_before other given events other_given others (OfVerdict verdict) (OfVerdict that) index gives other_gives same size is = absurd is
 
-  unlike_next : (before reading other_before other : EventReader A) (given events other_given others : List MeantEvent) (next other_next : Next A) (index : ℕ)
-      → Gives before reading given events next → Gives other_before other other_given others other_next
-      → given ≡ other_given → length given ≡ index → IsRoundOf next other_next Unlike → IsDifferenceSoFar reading other (index + 1) events others (Some index)
-  unlike_next before reading other_before other given events other_given others (nexts.Event event) (nexts.Event that) index gives other_gives same size is = (
-    differ_first given events other_given others (meant event ∷ []) (meant that ∷ []) index gives.0 other_gives.0 same size (differ_next given (meant event) (meant that) is),
-    λ going. omega (arith, ap (λ (es : List MeantEvent). length es) gives.0, length-append given (meant event ∷ [])),
-    λ going. omega (arith, ap (λ (es : List MeantEvent). length es) other_gives.0, length-append other_given (meant that ∷ []), ap (λ (es : List MeantEvent). length es) same),
+  unlike_next : (before reading other_before other : EventReader A) (given events other_given others : List MeantEvent) (turn other_turn : MeantTurn) (index : ℕ)
+      → Gives before reading given events turn → Gives other_before other other_given others other_turn
+      → given ≡ other_given → length given ≡ index → IsRoundOf turn other_turn Unlike → IsDifferenceSoFar reading other (index + 1) events others (Some index)
+  unlike_next before reading other_before other given events other_given others (OfEvent event) (OfEvent that) index gives other_gives same size is = (
+    differ_first given events other_given others (event ∷ []) (that ∷ []) index gives.0 other_gives.0 same size (differ_next given event that is),
+    λ going. omega (arith, ap (λ (es : List MeantEvent). length es) gives.0, length-append given (event ∷ [])),
+    λ going. omega (arith, ap (λ (es : List MeantEvent). length es) other_gives.0, length-append other_given (that ∷ []), ap (λ (es : List MeantEvent). length es) same),
   )
-  unlike_next before reading other_before other given events other_given others (nexts.Event event) (nexts.Done verdict) index gives other_gives same size is = (
-    differ_first given events other_given others (meant event ∷ []) [] index gives.0 (other_gives.0 ∙ sym (append-nil other_given)) same size
-        (subst (λ (es : List MeantEvent). DifferAt (length given) (given ++ meant event ∷ []) es) (sym (append-nil given)) (differ_end given (meant event))),
-    λ going. omega (arith, ap (λ (es : List MeantEvent). length es) gives.0, length-append given (meant event ∷ [])),
+  unlike_next before reading other_before other given events other_given others (OfEvent event) (OfVerdict verdict) index gives other_gives same size is = (
+    differ_first given events other_given others (event ∷ []) [] index gives.0 (other_gives.0 ∙ sym (append-nil other_given)) same size
+        (subst (λ (es : List MeantEvent). DifferAt (length given) (given ++ event ∷ []) es) (sym (append-nil given)) (differ_end given event)),
+    λ going. omega (arith, ap (λ (es : List MeantEvent). length es) gives.0, length-append given (event ∷ [])),
     λ going. let both : Some (Ok verdict) ≡ None = sym other_gives.1 ∙ going in absurd cc,
   )
-  unlike_next before reading other_before other given events other_given others (nexts.Done verdict) (nexts.Event that) index gives other_gives same size is = (
-    differ_first given events other_given others [] (meant that ∷ []) index (gives.0 ∙ sym (append-nil given)) other_gives.0 same size
-        (subst (λ (es : List MeantEvent). DifferAt (length given) es (given ++ meant that ∷ [])) (sym (append-nil given)) (differ_sym (length given) (given ++ meant that ∷ []) given (differ_end given (meant that)))),
+  unlike_next before reading other_before other given events other_given others (OfVerdict verdict) (OfEvent that) index gives other_gives same size is = (
+    differ_first given events other_given others [] (that ∷ []) index (gives.0 ∙ sym (append-nil given)) other_gives.0 same size
+        (subst (λ (es : List MeantEvent). DifferAt (length given) es (given ++ that ∷ [])) (sym (append-nil given)) (differ_sym (length given) (given ++ that ∷ []) given (differ_end given that))),
     λ going. let both : Some (Ok verdict) ≡ None = sym gives.1 ∙ going in absurd cc,
-    λ going. omega (arith, ap (λ (es : List MeantEvent). length es) other_gives.0, length-append other_given (meant that ∷ []), ap (λ (es : List MeantEvent). length es) same),
+    λ going. omega (arith, ap (λ (es : List MeantEvent). length es) other_gives.0, length-append other_given (that ∷ []), ap (λ (es : List MeantEvent). length es) same),
   )
-  unlike_next before reading other_before other given events other_given others (nexts.Done verdict) (nexts.Done that) index gives other_gives same size is = absurd is
+  unlike_next before reading other_before other given events other_given others (OfVerdict verdict) (OfVerdict that) index gives other_gives same size is = absurd is
 
   -- ---- one round
 
-  module _ (without : Without) (old other_old new other_new : Incoming) (before reading other_before other : EventReader A) (was other_was : List ℕ) (given other_given : List MeantEvent) (next other_next : Next A)
-      (one : HasGivenNext without role limits old new before reading was given next) (two : HasGivenNext without role limits other_old other_new other_before other other_was other_given other_next) where
+  module _ (without : Without) (old other_old new other_new : Incoming) (before reading other_before other : EventReader A) (was other_was : List ℕ) (given other_given : List MeantEvent) (turn other_turn : MeantTurn)
+      (one : HasGivenNext without role limits old new before reading was given turn) (two : HasGivenNext without role limits other_old other_new other_before other other_was other_given other_turn) where
     -- what is left of the events before the round, and with it
     abbrev left : List MeantEvent
     left = events_without without given
@@ -145,31 +143,31 @@ module _ {A : Type 0} (role : Role) (limits : Limits) where
     abbrev other_left_now : List MeantEvent
     other_left_now = events_without without two.events
 
-    fewer : 0 < falls_by next + falls_by other_next → pending reading + pending other < pending before + pending other_before
-    fewer some = omega (arith, some, falls before reading left left_now next one.gives, falls other_before other other_left other_left_now other_next two.gives)
+    fewer : 0 < falls_by turn + falls_by other_turn → pending reading + pending other < pending before + pending other_before
+    fewer some = omega (arith, some, falls before reading left left_now turn one.gives, falls other_before other other_left other_left_now other_turn two.gives)
 
-    alike_on : (index : ℕ) (difference : Option ℕ) → IsDifferenceSoFar before other_before index left other_left difference → IsRoundOf next other_next Alike
+    alike_on : (index : ℕ) (difference : Option ℕ) → IsDifferenceSoFar before other_before index left other_left difference → IsRoundOf turn other_turn Alike
         → IsDifferenceSoFar reading other (index + 1) left_now other_left_now difference
-    alike_on index None so_far is = same_next before reading other_before other left left_now other_left other_left_now next other_next index one.gives two.gives so_far.2 so_far.3 is
-    alike_on index (Some k) so_far is = differ_still before reading other_before other left left_now other_left other_left_now next other_next k one.gives two.gives so_far.0 so_far.1 so_far.2
+    alike_on index None so_far is = same_next before reading other_before other left left_now other_left other_left_now turn other_turn index one.gives two.gives so_far.2 so_far.3 is
+    alike_on index (Some k) so_far is = differ_still before reading other_before other left left_now other_left other_left_now turn other_turn k one.gives two.gives so_far.0 so_far.1 so_far.2
 
-    unlike_on : (index : ℕ) (difference : Option ℕ) → IsDifferenceSoFar before other_before index left other_left difference → IsRoundOf next other_next Unlike
+    unlike_on : (index : ℕ) (difference : Option ℕ) → IsDifferenceSoFar before other_before index left other_left difference → IsRoundOf turn other_turn Unlike
         → IsDifferenceSoFar reading other (index + 1) left_now other_left_now (option_or difference (Some index))
-    unlike_on index None so_far is = unlike_next before reading other_before other left left_now other_left other_left_now next other_next index one.gives two.gives so_far.2 so_far.3 is
-    unlike_on index (Some k) so_far is = differ_still before reading other_before other left left_now other_left other_left_now next other_next k one.gives two.gives so_far.0 so_far.1 so_far.2
+    unlike_on index None so_far is = unlike_next before reading other_before other left left_now other_left other_left_now turn other_turn index one.gives two.gives so_far.2 so_far.3 is
+    unlike_on index (Some k) so_far is = differ_still before reading other_before other left left_now other_left other_left_now turn other_turn k one.gives two.gives so_far.0 so_far.1 so_far.2
 
     -- the same event on both sides
-    pub on_alike : (index : ℕ) (difference now : Option ℕ) → IsDifferenceSoFar before other_before index left other_left difference → now ≡ difference → IsRoundOf next other_next Alike
+    pub on_alike : (index : ℕ) (difference now : Option ℕ) → IsDifferenceSoFar before other_before index left other_left difference → now ≡ difference → IsRoundOf turn other_turn Alike
         → IsDifferenceSoFar reading other (index + 1) left_now other_left_now now × (pending reading + pending other < pending before + pending other_before)
     on_alike index difference now so_far is round = (
       subst (λ (d : Option ℕ). IsDifferenceSoFar reading other (index + 1) left_now other_left_now d) (sym is) (alike_on index difference so_far round),
-      fewer (some_alike next other_next round),
+      fewer (some_alike turn other_turn round),
     )
 
     -- two events, or an event where the other side has none
     pub on_unlike : (index : ℕ) (difference now : Option ℕ) → IsDifferenceSoFar before other_before index left other_left difference → now ≡ option_or difference (Some index)
-        → IsRoundOf next other_next Unlike → IsDifferenceSoFar reading other (index + 1) left_now other_left_now now × (pending reading + pending other < pending before + pending other_before)
+        → IsRoundOf turn other_turn Unlike → IsDifferenceSoFar reading other (index + 1) left_now other_left_now now × (pending reading + pending other < pending before + pending other_before)
     on_unlike index difference now so_far is round = (
       subst (λ (d : Option ℕ). IsDifferenceSoFar reading other (index + 1) left_now other_left_now d) (sym is) (unlike_on index difference so_far round),
-      fewer (some_unlike next other_next round),
+      fewer (some_unlike turn other_turn round),
     )

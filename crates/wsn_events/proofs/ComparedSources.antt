@@ -14,10 +14,10 @@ use Rattle.wsn_events.specs.declared.source.Next.{Next}
 use Rattle.wsn_events.specs.declared.source.Next.TheVariants as nexts
 use Rattle.wsn_events.specs.EventsMeant.{meant}
 use Rattle.wsn_events.specs.Sources.{IsLast}
-use Rattle.wsn_events.specs.EventReaders.{HasGiven, HasBegunOrEnded, IsNextEvent, IsEvent, answered, offset_of, frames_of, readings_left, next_of}
-use Rattle.wsn_events.specs.LeavingOut.{is_next_left_out, GoesOnWithout}
+use Rattle.wsn_events.specs.EventReaders.{HasGiven, HasBegunOrEnded, IsNextEvent, IsEvent, answered, offset_of, frames_of, readings_left}
+use Rattle.wsn_events.specs.LeavingOut.{is_next_left_out, GoesOnWithout, ReadsNext}
 use Rattle.wsn_events.specs.Comparing.{HasStopped}
-use Rattle.wsn_events.specs.Excerpts.{IsLawfulNext}
+use Rattle.wsn_events.specs.Turns.{MeantTurn, OfEvent, OfVerdict, IsLawfulTurn, meant_next}
 use Rattle.wsn_events.proofs.GivenSoFar.{begun_sound}
 use Rattle.wsn_events.proofs.LeftOut.{passed_over, one_more}
 use Rattle.wsn_events.proofs.StandingEvents.{StandsAt, given_stands}
@@ -36,32 +36,32 @@ pub record HasFollowed {A : Type 0} (role : Role) (limits : Limits) (old now : I
   pub state : IsGoing role limits now reading came given ⊎ ((verdict : Verdict) × IsDone role limits now reading came given verdict)
 
 -- What a source gave in a round, after the events that are compared so far.
-abbrev pub Gives : {A : Type 0} → EventReader A → EventReader A → List MeantEvent → List MeantEvent → Next A → Type 0
-Gives old reading given events (nexts.Event event) =
-    (events ≡ given ++ meant event ∷ []) × (answered old ≡ None) × (answered reading ≡ None) × (readings_left reading < readings_left old)
-Gives old reading given events (nexts.Done verdict) = (events ≡ given) × (answered reading ≡ Some (Ok verdict))
+abbrev pub Gives : {A : Type 0} → EventReader A → EventReader A → List MeantEvent → List MeantEvent → MeantTurn → Type 0
+Gives old reading given events (OfEvent event) =
+    (events ≡ given ++ event ∷ []) × (answered old ≡ None) × (answered reading ≡ None) × (readings_left reading < readings_left old)
+Gives old reading given events (OfVerdict verdict) = (events ≡ given) × (answered reading ≡ Some (Ok verdict))
 
 -- With a verdict these are all of its events.
-abbrev pub IsLastNext : {A : Type 0} → Role → Limits → Incoming → List ℕ → List MeantEvent → Next A → Type 0
-IsLastNext role limits new came events (nexts.Event event) = Unit {0}
-IsLastNext role limits new came events (nexts.Done verdict) = IsLast role limits new came events (Ok verdict)
+abbrev pub IsLastTurn : Role → Limits → Incoming → List ℕ → List MeantEvent → MeantTurn → Type 0
+IsLastTurn role limits new came events (OfEvent event) = Unit {0}
+IsLastTurn role limits new came events (OfVerdict verdict) = IsLast role limits new came events (Ok verdict)
 
 -- An event stands behind those that are left of the events before.
-abbrev pub StandsNext : {A : Type 0} → Without → Role → Limits → EventReader A → List ℕ → List MeantEvent → Next A → Type 0
-StandsNext without role limits reading came given (nexts.Event event) = StandsAt without role limits came (length (events_without without given)) (offset_of reading) (meant event) (frames_of reading)
-StandsNext without role limits reading came given (nexts.Done verdict) = Unit {0}
+abbrev pub StandsNext : {A : Type 0} → Without → Role → Limits → EventReader A → List ℕ → List MeantEvent → MeantTurn → Type 0
+StandsNext without role limits reading came given (OfEvent event) = StandsAt without role limits came (length (events_without without given)) (offset_of reading) event (frames_of reading)
+StandsNext without role limits reading came given (OfVerdict verdict) = Unit {0}
 
 -- A round: the source has given its next event that isn't left out, or its verdict.
-pub record HasGivenNext {A : Type 0} (without : Without) (role : Role) (limits : Limits) (old new : Incoming) (before reading : EventReader A) (was : List ℕ) (given : List MeantEvent) (next : Next A) : Type 0 where
+pub record HasGivenNext {A : Type 0} (without : Without) (role : Role) (limits : Limits) (old new : Incoming) (before reading : EventReader A) (was : List ℕ) (given : List MeantEvent) (turn : MeantTurn) : Type 0 where
   pub came : List ℕ
   pub more : List ℕ
   pub longer : came ≡ was ++ more
   pub events : List MeantEvent
   pub followed : HasFollowed role limits old new reading came events
-  pub gives : Gives before reading (events_without without given) (events_without without events) next
-  pub last : IsLastNext role limits new came events next
-  pub lawful : IsLawfulNext next
-  pub stands : StandsNext without role limits reading came given next
+  pub gives : Gives before reading (events_without without given) (events_without without events) turn
+  pub last : IsLastTurn role limits new came events turn
+  pub lawful : IsLawfulTurn turn
+  pub stands : StandsNext without role limits reading came given turn
 
 module _ (without : Without) (role : Role) (limits : Limits) where
   pub begins : {A : Type 0} (input : Incoming) (reading : EventReader A) → HasGiven role limits reading [] [] → input.failed ≡ false → HasFollowed role limits input input reading [] []
@@ -82,26 +82,25 @@ module _ (without : Without) (role : Role) (limits : Limits) where
 
   -- One call of a source.
   module _ {A : Type 0} (old mid new : Incoming) (before reading : EventReader A) (came : List ℕ) (given : List MeantEvent) (result : Result (Next A) Stop)
-      (followed : HasFollowed role limits old mid before came given)
-      (next : HasGiven role limits before came given → GoesOnWithout without role limits mid new reading came given result)
-      (not_left_out : IfOk result (λ (n : Next A). is_next_left_out without n ≡ false))
-      (falls : IsEvent result → readings_left reading < readings_left before)
-      (again : (answer : Result Verdict Stop) → answered before ≡ Some answer → (result ≡ next_of answer) × (reading ≡ before) × (new ≡ mid)) where
+      (followed : HasFollowed role limits old mid before came given) (reads : ReadsNext without mid new before reading result) where
+    next : HasGiven role limits before came given → GoesOnWithout without role limits mid new reading came given result
+    next = reads.next role limits came given
+
     received : (went : GoesOnWithout without role limits mid new reading came given result) → IsReceived (limits.input + 1) old new (came ++ went.goes_on.more)
     received went = received_on (limits.input + 1) old mid new came went.goes_on.more followed.received went.goes_on.consumed went.goes_on.few
 
-    goes_on : HasGiven role limits before came given → (n : Next A) → result ≡ Ok n → HasGivenNext without role limits old new before reading came given n
+    goes_on : HasGiven role limits before came given → (n : Next A) → result ≡ Ok n → HasGivenNext without role limits old new before reading came given (meant_next n)
     goes_on has (nexts.Event event) is =
         let went = next has in
         let now = subst (λ (r : Result (Next A) Stop). IsNextEvent role limits new reading (came ++ went.goes_on.more) (given ++ went.passed) r) is went.goes_on.next in
-        let kept : is_left_out without (meant event) ≡ false = subst (λ (r : Result (Next A) Stop). IfOk r (λ (n : Next A). is_next_left_out without n ≡ false)) is not_left_out in
+        let kept : is_left_out without (meant event) ≡ false = subst (λ (r : Result (Next A) Stop). IfOk r (λ (n : Next A). is_next_left_out without n ≡ false)) is reads.not_left_out in
         record {
           came = came ++ went.goes_on.more;
           more = went.goes_on.more;
           longer = refl;
           events = (given ++ went.passed) ++ meant event ∷ [];
           followed = record { received = received went; state = inl (now.0, now.2) };
-          gives = (one_more without given went.passed (meant event) went.left_out kept, has.going, now.0.going, falls (subst (λ (r : Result (Next A) Stop). IsEvent r) (sym is) tt));
+          gives = (one_more without given went.passed (meant event) went.left_out kept, has.going, now.0.going, reads.falls (subst (λ (r : Result (Next A) Stop). IsEvent r) (sym is) tt));
           last = tt;
           lawful = now.1.lawful;
           stands = given_stands without role limits reading (came ++ went.goes_on.more) given went.passed event now.1 went.left_out kept;
@@ -126,12 +125,12 @@ module _ (without : Without) (role : Role) (limits : Limits) where
     same_state at now is_at is_now =
         subst (λ (i : Incoming). HasFollowed role limits old i at came given) (sym is_now) (subst (λ (r : EventReader A). HasFollowed role limits old mid r came given) (sym is_at) followed)
 
-    stays : (verdict : Verdict) → IsDone role limits mid before came given verdict → (n : Next A) → result ≡ Ok n → HasGivenNext without role limits old new before reading came given n
+    stays : (verdict : Verdict) → IsDone role limits mid before came given verdict → (n : Next A) → result ≡ Ok n → HasGivenNext without role limits old new before reading came given (meant_next n)
     stays verdict done (nexts.Event event) is =
-        let reported = again (Ok verdict) done.0 in
+        let reported = reads.again (Ok verdict) done.0 in
         let both : Ok (nexts.Event event) ≡ Ok (nexts.Done verdict) = sym is ∙ reported.0 in absurd cc
     stays verdict done (nexts.Done v) is =
-        let reported = again (Ok verdict) done.0 in
+        let reported = reads.again (Ok verdict) done.0 in
         let both : Ok (nexts.Done v) ≡ Ok (nexts.Done verdict) = sym is ∙ reported.0 in
         let one : verdict ≡ v = cc in
         let answer : answered reading ≡ Some (Ok v) = ap (λ (r : EventReader A). answered r) reported.1 ∙ done.0 ∙ ap (λ (w : Verdict). Some (Ok w)) one in
@@ -148,7 +147,7 @@ module _ (without : Without) (role : Role) (limits : Limits) where
           stands = tt;
         }
 
-    pub gives_next : (n : Next A) → result ≡ Ok n → HasGivenNext without role limits old new before reading came given n
+    pub gives_next : (n : Next A) → result ≡ Ok n → HasGivenNext without role limits old new before reading came given (meant_next n)
     gives_next n is = elim followed.state [ inl going ↦ goes_on going.0 n is | inr done ↦ stays done.0 done.1 n is ]
 
     pub stops : (stop : Stop) → result ≡ Err stop → (all : List ℕ) × IsReceived (limits.input + 1) old new all × HasStopped role limits new all stop
@@ -162,5 +161,5 @@ module _ (without : Without) (role : Role) (limits : Limits) where
 
         never : (verdict : Verdict) → IsDone role limits mid before came given verdict → (all : List ℕ) × IsReceived (limits.input + 1) old new all × HasStopped role limits new all stop
         never verdict done =
-            let reported = again (Ok verdict) done.0 in
+            let reported = reads.again (Ok verdict) done.0 in
             let both : Err stop ≡ Ok (nexts.Done verdict) = sym is ∙ reported.0 in absurd cc

@@ -13,8 +13,7 @@ use Rattle.wsn_rules.specs.Meaning.{MeantEvent}
 use Rattle.wsn_rules.specs.declared.compared.Compared.{Compared}
 use Rattle.wsn_rules.specs.declared.compared.Compared.TheVariants.{Equal, Different, NotAccepted}
 use Rattle.wsn_events.specs.declared.event_reader.EventReader.{EventReader}
-use Rattle.wsn_events.specs.declared.source.Next.{Next}
-use Rattle.wsn_events.specs.declared.source.Next.TheVariants as nexts
+use Rattle.wsn_events.specs.Turns.{MeantTurn, OfVerdict}
 use Rattle.wsn_events.specs.Sources.{IsLast}
 use Rattle.wsn_events.specs.Comparing.{IsFirstDifference, IsAnAccepted, HasStopped, IsComparisonBy}
 use Rattle.wsn_events.specs.Excerpts.{IsContrasted}
@@ -41,7 +40,7 @@ same_difference given events other_given others difference is others_is first =
 module _ {A : Type 0} (without : Without) (role : Role) (limits : Limits) where
   -- both have their verdicts
   pub answers : (old other_old new other_new : Incoming) (before reading other_before other : EventReader A) (was other_was : List ℕ) (given other_given : List MeantEvent) (v w : Verdict)
-      → (one : HasGivenNext without role limits old new before reading was given (nexts.Done v)) → (two : HasGivenNext without role limits other_old other_new other_before other other_was other_given (nexts.Done w))
+      → (one : HasGivenNext without role limits old new before reading was given (OfVerdict v)) → (two : HasGivenNext without role limits other_old other_new other_before other other_was other_given (OfVerdict w))
       → (index : ℕ) (difference : Option ℕ) → IsDifferenceSoFar before other_before index (events_without without given) (events_without without other_given) difference
       → (verdict other_verdict : Verdict) → (verdict ≡ v) × (other_verdict ≡ w)
       → (result : Compared) → Compares (events_without without) verdict other_verdict difference result → IsComparisonBy (events_without without) role limits new one.came other_new two.came (Ok result)
@@ -67,10 +66,10 @@ module _ {A : Type 0} (without : Without) (role : Role) (limits : Limits) where
   }
 
   -- the second stream has stopped
-  pub second_stops : (old new other_old other_new : Incoming) (before reading : EventReader A) (was : List ℕ) (given : List MeantEvent) (next : Next A) → HasGivenNext without role limits old new before reading was given next
+  pub second_stops : (old new other_old other_new : Incoming) (before reading : EventReader A) (was : List ℕ) (given : List MeantEvent) (turn : MeantTurn) → HasGivenNext without role limits old new before reading was given turn
       → (stop : Stop) → (all : List ℕ) × IsReceived (limits.input + 1) other_old other_new all × HasStopped role limits other_new all stop
       → IsContrasted without role limits old new other_old other_new (Err stop)
-  second_stops old new other_old other_new before reading was given next one stop stops = record {
+  second_stops old new other_old other_new before reading was given turn one stop stops = record {
     compared = record {
       came = one.came;
       received = one.followed.received;

@@ -19,10 +19,8 @@ use Rattle.wsn_events.specs.declared.comparing.Round.TheVariants.{Alike, Unlike,
 use Rattle.wsn_events.specs.declared.event_reader.EventReader.{EventReader}
 use Rattle.wsn_events.specs.declared.excerpt.Excerpt.{Excerpt}
 use Rattle.wsn_events.specs.declared.first_difference.FirstDifference.{FirstDifference}
-use Rattle.wsn_events.specs.declared.source.Next.{Next}
-use Rattle.wsn_events.specs.declared.source.Next.TheVariants as nexts
-use Rattle.wsn_events.specs.EventsMeant.{meant}
-use Rattle.wsn_events.specs.EventReaders.{answered, offset_of, frames_of}
+use Rattle.wsn_events.specs.Turns.{MeantTurn, OfEvent, OfVerdict}
+use Rattle.wsn_events.specs.EventReaders.{offset_of, frames_of}
 use Rattle.wsn_events.specs.Sources.{IsLast}
 use Rattle.wsn_events.specs.Comparing.{IsRoundOf, IsAnAccepted, IsComparedBy}
 use Rattle.wsn_events.specs.Excerpts.{IsKeptOf, HasKept, KeepsFirst, KeepsOf, index_in, AreExcerptsAt, HasExcerpts, answer_in, IsContrasted}
@@ -45,53 +43,53 @@ accepted_last role limits new came events (Refused refusal) is last = absurd is
 module _ {A : Type 0} (without : Without) (role : Role) (limits : Limits) where
   -- ---- of one source, with one result more
 
-  stands_on : (old new : Incoming) (before reading : EventReader A) (was : List ℕ) (given : List MeantEvent) (next : Next A) (one : HasGivenNext without role limits old new before reading was given next) (k : ℕ) (excerpt : Option Excerpt)
+  stands_on : (old new : Incoming) (before reading : EventReader A) (was : List ℕ) (given : List MeantEvent) (turn : MeantTurn) (one : HasGivenNext without role limits old new before reading was given turn) (k : ℕ) (excerpt : Option Excerpt)
       → Stands without role limits before was given k excerpt → Stands without role limits reading one.came one.events k excerpt
-  stands_on old new before reading was given next one k (Some excerpt) s = (
+  stands_on old new before reading was given turn one k (Some excerpt) s = (
     s.0,
     s.1,
     s.2,
     s.3,
     subst (λ (bs : List ℕ). StandsAt without role limits bs k s.0 s.1 s.2) (sym one.longer) (stands_longer without role limits was one.more k s.0 s.1 s.2 s.4),
   )
-  stands_on old new before reading was given (nexts.Event event) one k None s = let both : Some (Ok s.0.0) ≡ None = sym s.0.1 ∙ one.gives.1 in absurd cc
-  stands_on old new before reading was given (nexts.Done verdict) one k None s = ((verdict, one.gives.1), subst (λ (es : List MeantEvent). length es ≤ k) (sym one.gives.0) s.1)
+  stands_on old new before reading was given (OfEvent event) one k None s = let both : Some (Ok s.0.0) ≡ None = sym s.0.1 ∙ one.gives.1 in absurd cc
+  stands_on old new before reading was given (OfVerdict verdict) one k None s = ((verdict, one.gives.1), subst (λ (es : List MeantEvent). length es ≤ k) (sym one.gives.0) s.1)
 
-  stands_first : (old new : Incoming) (before reading : EventReader A) (was : List ℕ) (given : List MeantEvent) (next : Next A) (one : HasGivenNext without role limits old new before reading was given next) (k : ℕ)
-      → k ≡ length (events_without without given) → (excerpt : Option Excerpt) → IsKeptOf reading next excerpt → Stands without role limits reading one.came one.events k excerpt
-  stands_first old new before reading was given (nexts.Event event) one k index (Some excerpt) is =
-      (offset_of reading, meant event, frames_of reading, is, subst (λ (n : ℕ). StandsAt without role limits one.came n (offset_of reading) (meant event) (frames_of reading)) (sym index) one.stands)
-  stands_first old new before reading was given (nexts.Event event) one k index None is = absurd is
-  stands_first old new before reading was given (nexts.Done verdict) one k index (Some excerpt) is = absurd is
-  stands_first old new before reading was given (nexts.Done verdict) one k index None is = ((verdict, one.gives.1), let sizes = ap (λ (es : List MeantEvent). length es) one.gives.0 in omega (arith, sizes, index))
+  stands_first : (old new : Incoming) (before reading : EventReader A) (was : List ℕ) (given : List MeantEvent) (turn : MeantTurn) (one : HasGivenNext without role limits old new before reading was given turn) (k : ℕ)
+      → k ≡ length (events_without without given) → (excerpt : Option Excerpt) → IsKeptOf reading turn excerpt → Stands without role limits reading one.came one.events k excerpt
+  stands_first old new before reading was given (OfEvent event) one k index (Some excerpt) is =
+      (offset_of reading, event, frames_of reading, is, subst (λ (n : ℕ). StandsAt without role limits one.came n (offset_of reading) event (frames_of reading)) (sym index) one.stands)
+  stands_first old new before reading was given (OfEvent event) one k index None is = absurd is
+  stands_first old new before reading was given (OfVerdict verdict) one k index (Some excerpt) is = absurd is
+  stands_first old new before reading was given (OfVerdict verdict) one k index None is = ((verdict, one.gives.1), let sizes = ap (λ (es : List MeantEvent). length es) one.gives.0 in omega (arith, sizes, index))
 
   -- ---- of both, in one round
 
-  module _ (old other_old new other_new : Incoming) (before reading other_before other : EventReader A) (was_came other_was : List ℕ) (given other_given : List MeantEvent) (next other_next : Next A)
-      (one : HasGivenNext without role limits old new before reading was_came given next) (two : HasGivenNext without role limits other_old other_new other_before other other_was other_given other_next) where
+  module _ (old other_old new other_new : Incoming) (before reading other_before other : EventReader A) (was_came other_was : List ℕ) (given other_given : List MeantEvent) (turn other_turn : MeantTurn)
+      (one : HasGivenNext without role limits old new before reading was_came given turn) (two : HasGivenNext without role limits other_old other_new other_before other other_was other_given other_turn) where
     kept_on : (difference : Option FirstDifference) → AreKept without role limits before was_came given other_before other_was other_given difference → AreKept without role limits reading one.came one.events other two.came two.events difference
     kept_on None kept = tt
-    kept_on (Some d) kept = (stands_on old new before reading was_came given next one d.index d.first kept.0, stands_on other_old other_new other_before other other_was other_given other_next two d.index d.second kept.1)
+    kept_on (Some d) kept = (stands_on old new before reading was_came given turn one d.index d.first kept.0, stands_on other_old other_new other_before other other_was other_given other_turn two d.index d.second kept.1)
 
-    kept_first : (index : ℕ) (now : Option FirstDifference) → index ≡ length (events_without without given) → index ≡ length (events_without without other_given) → HasKept index reading next other other_next now
+    kept_first : (index : ℕ) (now : Option FirstDifference) → index ≡ length (events_without without given) → index ≡ length (events_without without other_given) → HasKept index reading turn other other_turn now
         → AreKept without role limits reading one.came one.events other two.came two.events now
     kept_first index None at other_at has = absurd has
     kept_first index (Some d) at other_at has = (
-      stands_first old new before reading was_came given next one d.index (has.index_is ∙ at) d.first has.first,
-      stands_first other_old other_new other_before other other_was other_given other_next two d.index (has.index_is ∙ other_at) d.second has.second,
+      stands_first old new before reading was_came given turn one d.index (has.index_is ∙ at) d.first has.first,
+      stands_first other_old other_new other_before other other_was other_given other_turn two d.index (has.index_is ∙ other_at) d.second has.second,
     )
 
-    kept_unlike : (index : ℕ) (was now : Option FirstDifference) → KeepsFirst index reading next other other_next was now
+    kept_unlike : (index : ℕ) (was now : Option FirstDifference) → KeepsFirst index reading turn other other_turn was now
         → IsDifferenceSoFar before other_before index (events_without without given) (events_without without other_given) (index_in was)
         → AreKept without role limits before was_came given other_before other_was other_given was → AreKept without role limits reading one.came one.events other two.came two.events now
     kept_unlike index (Some d) now keeps so_far kept = subst (λ (x : Option FirstDifference). AreKept without role limits reading one.came one.events other two.came two.events x) (sym keeps) (kept_on (Some d) kept)
     kept_unlike index None now keeps so_far kept = kept_first index now (sym so_far.3) (sym so_far.3 ∙ ap (λ (es : List MeantEvent). length es) so_far.2) keeps
 
-    has_index : (index : ℕ) (now : Option FirstDifference) → HasKept index reading next other other_next now → index_in now ≡ Some index
+    has_index : (index : ℕ) (now : Option FirstDifference) → HasKept index reading turn other other_turn now → index_in now ≡ Some index
     has_index index None has = absurd has
     has_index index (Some d) has = ap (λ (n : ℕ). Some n) has.index_is
 
-    index_after : (index : ℕ) (was now : Option FirstDifference) → KeepsFirst index reading next other other_next was now → index_in now ≡ option_or (index_in was) (Some index)
+    index_after : (index : ℕ) (was now : Option FirstDifference) → KeepsFirst index reading turn other other_turn was now → index_in now ≡ option_or (index_in was) (Some index)
     index_after index (Some d) now keeps = ap index_in keeps
     index_after index None now keeps = has_index index now keeps
 
@@ -101,39 +99,39 @@ module _ {A : Type 0} (without : Without) (role : Role) (limits : Limits) where
       pub falls : pending reading + pending other < pending before + pending other_before
       pub kept : AreKept without role limits reading one.came one.events other two.came two.events now
 
-    pub goes_on : (index : ℕ) (was now : Option FirstDifference) (round : Round) → IsRoundOf next other_next round → ((v w : Verdict) → round ≡ Over v w → ⊥) → KeepsOf round index reading next other other_next was now
+    pub goes_on : (index : ℕ) (was now : Option FirstDifference) (round : Round) → IsRoundOf turn other_turn round → ((v w : Verdict) → round ≡ Over v w → ⊥) → KeepsOf round index reading turn other other_turn was now
         → IsDifferenceSoFar before other_before index (events_without without given) (events_without without other_given) (index_in was)
         → AreKept without role limits before was_came given other_before other_was other_given was → GoesOn index now
     goes_on index was now Alike is not_over keeps so_far kept =
-        let step = on_alike role limits without old other_old new other_new before reading other_before other was_came other_was given other_given next other_next one two index (index_in was) (index_in now) so_far (ap index_in keeps) is in
+        let step = on_alike role limits without old other_old new other_new before reading other_before other was_came other_was given other_given turn other_turn one two index (index_in was) (index_in now) so_far (ap index_in keeps) is in
         record {
           difference = step.0;
           falls = step.1;
           kept = subst (λ (x : Option FirstDifference). AreKept without role limits reading one.came one.events other two.came two.events x) (sym keeps) (kept_on was kept);
         }
     goes_on index was now Unlike is not_over keeps so_far kept =
-        let step = on_unlike role limits without old other_old new other_new before reading other_before other was_came other_was given other_given next other_next one two index (index_in was) (index_in now) so_far (index_after index was now keeps) is in
+        let step = on_unlike role limits without old other_old new other_new before reading other_before other was_came other_was given other_given turn other_turn one two index (index_in was) (index_in now) so_far (index_after index was now keeps) is in
         record { difference = step.0; falls = step.1; kept = kept_unlike index was now keeps so_far kept }
     goes_on index was now (Over v w) is not_over keeps so_far kept = absurd (not_over v w refl)
 
   -- ---- the answer
 
   -- both have their verdicts
-  pub contrasts : (old other_old new other_new : Incoming) (before reading other_before other : EventReader A) (was other_was : List ℕ) (given other_given : List MeantEvent) (next other_next : Next A)
-      → HasGivenNext without role limits old new before reading was given next → HasGivenNext without role limits other_old other_new other_before other other_was other_given other_next
+  pub contrasts : (old other_old new other_new : Incoming) (before reading other_before other : EventReader A) (was other_was : List ℕ) (given other_given : List MeantEvent) (turn other_turn : MeantTurn)
+      → HasGivenNext without role limits old new before reading was given turn → HasGivenNext without role limits other_old other_new other_before other other_was other_given other_turn
       → (index : ℕ) (difference : Option FirstDifference) → IsDifferenceSoFar before other_before index (events_without without given) (events_without without other_given) (index_in difference)
       → AreKept without role limits before was given other_before other_was other_given difference
-      → (verdict other_verdict : Verdict) → IsRoundOf next other_next (Over verdict other_verdict)
+      → (verdict other_verdict : Verdict) → IsRoundOf turn other_turn (Over verdict other_verdict)
       → (result : Compared) → Compares (events_without without) verdict other_verdict (index_in difference) result
       → ((k : ℕ) → result ≡ Different k → (index_in difference ≡ Some k) × IsAnAccepted verdict × IsAnAccepted other_verdict)
       → IsContrasted without role limits old new other_old other_new (Ok (result, difference))
-  contrasts old other_old new other_new before reading other_before other was other_was given other_given (nexts.Event event) other_next one two index difference so_far kept verdict other_verdict is result reported differs = absurd (no_event other_next is)
+  contrasts old other_old new other_new before reading other_before other was other_was given other_given (OfEvent event) other_turn one two index difference so_far kept verdict other_verdict is result reported differs = absurd (no_event other_turn is)
     where
-      no_event : (n : Next A) → IsRoundOf (nexts.Event event) n (Over verdict other_verdict) → ⊥
-      no_event (nexts.Event that) round = round
-      no_event (nexts.Done w) round = round
-  contrasts old other_old new other_new before reading other_before other was other_was given other_given (nexts.Done v) (nexts.Event event) one two index difference so_far kept verdict other_verdict is result reported differs = absurd is
-  contrasts old other_old new other_new before reading other_before other was other_was given other_given (nexts.Done v) (nexts.Done w) one two index difference so_far kept verdict other_verdict is result reported differs = record {
+      no_event : (n : MeantTurn) → IsRoundOf (OfEvent event) n (Over verdict other_verdict) → ⊥
+      no_event (OfEvent that) round = round
+      no_event (OfVerdict w) round = round
+  contrasts old other_old new other_new before reading other_before other was other_was given other_given (OfVerdict v) (OfEvent event) one two index difference so_far kept verdict other_verdict is result reported differs = absurd is
+  contrasts old other_old new other_new before reading other_before other was other_was given other_given (OfVerdict v) (OfVerdict w) one two index difference so_far kept verdict other_verdict is result reported differs = record {
     compared = record {
       came = one.came;
       received = one.followed.received;
@@ -141,7 +139,7 @@ module _ {A : Type 0} (without : Without) (role : Role) (limits : Limits) where
       other_received = two.followed.received;
       answer = answers without role limits old other_old new other_new before reading other_before other was other_was given other_given v w one two index (index_in difference) so_far verdict other_verdict is result reported;
     };
-    excerpts = by_result result difference differs (kept_on old other_old new other_new before reading other_before other was other_was given other_given (nexts.Done v) (nexts.Done w) one two difference kept);
+    excerpts = by_result result difference differs (kept_on old other_old new other_new before reading other_before other was other_was given other_given (OfVerdict v) (OfVerdict w) one two difference kept);
   }
     where
       at_index : (k : ℕ) (d : FirstDifference) → (index_in (Some d) ≡ Some k) × IsAnAccepted verdict × IsAnAccepted other_verdict
@@ -175,12 +173,12 @@ module _ (without : Without) (role : Role) (limits : Limits) (old new other_old 
       (subst (λ (r : Result (Compared × Option FirstDifference) Stop). IsComparedBy (events_without without) role limits old new other_old other_new (answer_in r)) was is.compared)
 
 -- a difference that was kept stays
-pub keeps_first : {A : Type 0} (index : ℕ) (reading : EventReader A) (next : Next A) (other : EventReader A) (other_next : Next A) (was : Option FirstDifference) → is_some was ≡ true → KeepsFirst index reading next other other_next was was
-keeps_first index reading next other other_next None some = cc
-keeps_first index reading next other other_next (Some d) some = refl
+pub keeps_first : {A : Type 0} (index : ℕ) (reading : EventReader A) (turn : MeantTurn) (other : EventReader A) (other_turn : MeantTurn) (was : Option FirstDifference) → is_some was ≡ true → KeepsFirst index reading turn other other_turn was was
+keeps_first index reading turn other other_turn None some = cc
+keeps_first index reading turn other other_turn (Some d) some = refl
 
 -- or these are kept
-pub keeps_new : {A : Type 0} (index : ℕ) (reading : EventReader A) (next : Next A) (other : EventReader A) (other_next : Next A) (was : Option FirstDifference) (d : FirstDifference) → is_some was ≡ false
-    → d.index ≡ index → IsKeptOf reading next d.first → IsKeptOf other other_next d.second → KeepsFirst index reading next other other_next was (Some d)
-keeps_new index reading next other other_next None d none index_is first second = record { index_is = index_is; first = first; second = second }
-keeps_new index reading next other other_next (Some before) d none index_is first second = cc
+pub keeps_new : {A : Type 0} (index : ℕ) (reading : EventReader A) (turn : MeantTurn) (other : EventReader A) (other_turn : MeantTurn) (was : Option FirstDifference) (d : FirstDifference) → is_some was ≡ false
+    → d.index ≡ index → IsKeptOf reading turn d.first → IsKeptOf other other_turn d.second → KeepsFirst index reading turn other other_turn was (Some d)
+keeps_new index reading turn other other_turn None d none index_is first second = record { index_is = index_is; first = first; second = second }
+keeps_new index reading turn other other_turn (Some before) d none index_is first second = cc

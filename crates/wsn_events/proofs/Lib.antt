@@ -5,6 +5,7 @@ pub mod ComparedEvents
 pub mod ExcerptViews
 pub mod StandingEvents
 pub mod ComparedSources
+pub mod ComparedTurns
 pub mod ComparedRounds
 pub mod Comparisons
 pub mod KeptExcerpts
@@ -16,4 +17,5 @@ pub mod SourceCalls
 pub mod PassedOver
 pub mod Normalising
 pub mod TakenEvents
+pub mod LentMessages
 pub mod WholeNormalForms

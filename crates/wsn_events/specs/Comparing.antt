@@ -2,6 +2,7 @@
 -- the part of a stream's events that is compared.
 use Rattle.std.specs.Prelude.{◌≡◌, ◌≢◌, ℕ, ◌+◌, ◌⊎◌, true, false, Option, None, Some, Result, Ok, Err, List, take, slice_get, ⊤}
 use Rattle.wsn_wire.specs.declared.endpoint.Role.{Role}
+use Rattle.wsn_wire.specs.declared.opcode.Kind.{Kind}
 use Rattle.wsn_wire.specs.Frame.{Frame}
 use Rattle.wsn_io.specs.Transfer.{Incoming, IsReceived}
 use Rattle.wsn_rules.specs.declared.verdict.Summary.{Summary}
@@ -16,10 +17,10 @@ use Rattle.wsn_rules.specs.declared.compared.Compared.{Compared}
 use Rattle.wsn_rules.specs.declared.compared.Compared.TheVariants.{Equal, Different, NotAccepted}
 use Rattle.wsn_events.specs.declared.comparing.Round.{Round}
 use Rattle.wsn_events.specs.declared.comparing.Round.TheVariants.{Alike, Unlike, Over}
-use Rattle.wsn_events.specs.declared.source.Next.{Next}
-use Rattle.wsn_events.specs.declared.source.Next.TheVariants as nexts
-use Rattle.wsn_events.specs.EventsMeant.{meant}
 use Rattle.wsn_events.specs.Sources.{IsLast, IsHalted}
+use Rattle.wsn_events.specs.declared.event_reader.EventReader.{EventReader}
+use Rattle.wsn_events.specs.TakenEvents.{held_bytes}
+use Rattle.wsn_events.specs.Turns.{MeantTurn, OfEvent, OfVerdict}
 
 -- The first k events are the same, and then the lists differ: in the next event, or one list has ended.
 pub record DifferAt (k : ℕ) (events others : List MeantEvent) : Type 0 where
@@ -31,14 +32,22 @@ abbrev pub IsFirstDifference : Option ℕ → List MeantEvent → List MeantEven
 IsFirstDifference None events others = events ≡ others
 IsFirstDifference (Some k) events others = DifferAt k events others
 
--- The round that two results make: the same event, two results that differ, or both verdicts.
-abbrev pub IsRoundOf : {A : Type 0} → Next A → Next A → Round → Type 0
-IsRoundOf (nexts.Event event) (nexts.Event other) Alike = meant event ≡ meant other
-IsRoundOf (nexts.Event event) (nexts.Event other) Unlike = meant event ≢ meant other
-IsRoundOf (nexts.Event event) (nexts.Done verdict) Unlike = ⊤
-IsRoundOf (nexts.Done verdict) (nexts.Event event) Unlike = ⊤
-IsRoundOf (nexts.Done verdict) (nexts.Done other) (Over v w) = (v ≡ verdict) × (w ≡ other)
-IsRoundOf next other round = ⊥
+-- The round that two turns make: the same event, two turns that differ, or both verdicts.
+abbrev pub IsRoundOf : MeantTurn → MeantTurn → Round → Type 0
+IsRoundOf (OfEvent event) (OfEvent other) Alike = event ≡ other
+IsRoundOf (OfEvent event) (OfEvent other) Unlike = event ≢ other
+IsRoundOf (OfEvent event) (OfVerdict verdict) Unlike = ⊤
+IsRoundOf (OfVerdict verdict) (OfEvent event) Unlike = ⊤
+IsRoundOf (OfVerdict verdict) (OfVerdict other) (Over v w) = (v ≡ verdict) × (w ≡ other)
+IsRoundOf turn other round = ⊥
+
+-- Both sources lend a message, and these are the same.
+pub record AreLentAlike {A : Type 0} (reading : EventReader A) (lent : Option Kind) (other : EventReader A)
+    (other_lent : Option Kind) : Type 0 where
+  pub kind : Kind
+  pub is : lent ≡ Some kind
+  pub other_is : other_lent ≡ Some kind
+  pub same : held_bytes reading ≡ held_bytes other
 
 -- The verdict is accepted.
 abbrev pub IsAnAccepted : Verdict → Type 0

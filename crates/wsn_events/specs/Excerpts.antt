@@ -1,5 +1,5 @@
 -- What is kept of the events that differ first, to show them.
-use Rattle.std.specs.Prelude.{◌≡◌, ℕ, ◌≤◌, Option, None, Some, Result, Ok, Err, List, length, take, ⊤}
+use Rattle.std.specs.Prelude.{◌≡◌, ℕ, Option, None, Some, Result, Ok, Err, List, length, take, ⊤}
 use Rattle.wsn_wire.specs.declared.endpoint.Role.{Role}
 use Rattle.wsn_wire.specs.declared.opcode.Op.{Op}
 use Rattle.wsn_io.specs.Transfer.{Incoming}
@@ -20,11 +20,9 @@ use Rattle.wsn_events.specs.declared.comparing.Round.TheVariants.{Unlike}
 use Rattle.wsn_events.specs.declared.event_reader.EventReader.{EventReader}
 use Rattle.wsn_events.specs.declared.excerpt.Excerpt.{Excerpt}
 use Rattle.wsn_events.specs.declared.first_difference.FirstDifference.{FirstDifference}
-use Rattle.wsn_events.specs.declared.source.Next.{Next}
-use Rattle.wsn_events.specs.declared.source.Next.TheVariants as nexts
-use Rattle.wsn_events.specs.EventsMeant.{meant}
 use Rattle.wsn_events.specs.EventReaders.{offset_of, frames_of}
 use Rattle.wsn_events.specs.Comparing.{IsComparedBy}
+use Rattle.wsn_events.specs.Turns.{MeantTurn, OfEvent, OfVerdict}
 
 -- ---- of one event
 
@@ -50,48 +48,43 @@ IsExcerptIn None None = ⊤
 IsExcerptIn (Some excerpt) (Some (Event offset event frames)) = IsExcerptOf excerpt offset event frames
 IsExcerptIn excerpt item = ⊥
 
--- ---- of a source's results
+-- ---- of a source's turns
 
--- An event is lawful.
-abbrev pub IsLawfulNext : {A : Type 0} → Next A → Type 0
-IsLawfulNext (nexts.Event event) = IsLawfulEvent (meant event)
-IsLawfulNext (nexts.Done verdict) = ⊤
+-- This is kept of the source's last turn: its event, or nothing of a verdict.
+abbrev pub IsKeptOf : {A : Type 0} → EventReader A → MeantTurn → Option Excerpt → Type 0
+IsKeptOf reading (OfEvent event) (Some excerpt) =
+    IsExcerptOf excerpt (offset_of reading) event (frames_of reading)
+IsKeptOf reading (OfVerdict verdict) None = ⊤
+IsKeptOf reading turn excerpt = ⊥
 
--- This is kept of the source's last result: its event, or nothing of a verdict.
-abbrev pub IsKeptOf : {A : Type 0} → EventReader A → Next A → Option Excerpt → Type 0
-IsKeptOf reading (nexts.Event event) (Some excerpt) =
-    IsExcerptOf excerpt (offset_of reading) (meant event) (frames_of reading)
-IsKeptOf reading (nexts.Done verdict) None = ⊤
-IsKeptOf reading next excerpt = ⊥
-
--- This is kept of the last results of both sources.
-pub record IsKeptOfBoth {A : Type 0} (index : ℕ) (reading : EventReader A) (next : Next A) (other : EventReader A)
-    (other_next : Next A) (difference : FirstDifference) : Type 0 where
+-- This is kept of the last turns of both sources.
+pub record IsKeptOfBoth {A : Type 0} (index : ℕ) (reading : EventReader A) (turn : MeantTurn) (other : EventReader A)
+    (other_turn : MeantTurn) (difference : FirstDifference) : Type 0 where
   pub index_is : difference.index ≡ index
-  pub first : IsKeptOf reading next difference.first
-  pub second : IsKeptOf other other_next difference.second
+  pub first : IsKeptOf reading turn difference.first
+  pub second : IsKeptOf other other_turn difference.second
 
 -- There is a difference, and this is kept of it.
-abbrev pub HasKept : {A : Type 0} → ℕ → EventReader A → Next A → EventReader A → Next A → Option FirstDifference →
+abbrev pub HasKept : {A : Type 0} → ℕ → EventReader A → MeantTurn → EventReader A → MeantTurn → Option FirstDifference →
     Type 0
-HasKept index reading next other other_next None = ⊥
-HasKept index reading next other other_next (Some difference) =
-    IsKeptOfBoth index reading next other other_next difference
+HasKept index reading turn other other_turn None = ⊥
+HasKept index reading turn other other_turn (Some difference) =
+    IsKeptOfBoth index reading turn other other_turn difference
 
 -- A difference that was kept stays; otherwise this is kept.
-abbrev pub KeepsFirst : {A : Type 0} → ℕ → EventReader A → Next A → EventReader A → Next A → Option FirstDifference →
+abbrev pub KeepsFirst : {A : Type 0} → ℕ → EventReader A → MeantTurn → EventReader A → MeantTurn → Option FirstDifference →
     Option FirstDifference →
     Type 0
-KeepsFirst index reading next other other_next None now = HasKept index reading next other other_next now
-KeepsFirst index reading next other other_next (Some difference) now = now ≡ Some difference
+KeepsFirst index reading turn other other_turn None now = HasKept index reading turn other other_turn now
+KeepsFirst index reading turn other other_turn (Some difference) now = now ≡ Some difference
 
--- What is kept changes only in a round whose results differ.
-abbrev pub KeepsOf : {A : Type 0} → Round → ℕ → EventReader A → Next A → EventReader A → Next A →
+-- What is kept changes only in a round whose turns differ.
+abbrev pub KeepsOf : {A : Type 0} → Round → ℕ → EventReader A → MeantTurn → EventReader A → MeantTurn →
     Option FirstDifference →
     Option FirstDifference →
     Type 0
-KeepsOf Unlike index reading next other other_next was now = KeepsFirst index reading next other other_next was now
-KeepsOf round index reading next other other_next was now = now ≡ was
+KeepsOf Unlike index reading turn other other_turn was now = KeepsFirst index reading turn other other_turn was now
+KeepsOf round index reading turn other other_turn was now = now ≡ was
 
 -- the index of a difference, if there is one
 abbrev pub index_in : Option FirstDifference → Option ℕ

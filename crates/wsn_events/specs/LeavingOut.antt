@@ -1,8 +1,9 @@
 -- What an event source gives if controls of some kinds are left out.
-use Rattle.std.specs.Prelude.{◌≡◌, ℕ, Bool, false, Result, List, [], ◌++◌}
+use Rattle.std.specs.Prelude.{◌≡◌, ℕ, ◌<◌, Bool, false, Some, Result, IfOk, List, [], ◌++◌}
 use Rattle.wsn_wire.specs.declared.endpoint.Role.{Role}
 use Rattle.wsn_io.specs.declared.stop.Stop.{Stop}
 use Rattle.wsn_io.specs.Transfer.{Incoming}
+use Rattle.wsn_rules.specs.declared.verdict.Verdict.{Verdict}
 use Rattle.wsn_rules.specs.declared.without.Without.{Without}
 use Rattle.wsn_rules.specs.Limits.{Limits}
 use Rattle.wsn_rules.specs.LeftOut.{is_left_out, events_without}
@@ -11,7 +12,7 @@ use Rattle.wsn_events.specs.declared.event_reader.EventReader.{EventReader}
 use Rattle.wsn_events.specs.declared.source.Next.{Next}
 use Rattle.wsn_events.specs.declared.source.Next.TheVariants as nexts
 use Rattle.wsn_events.specs.EventsMeant.{meant}
-use Rattle.wsn_events.specs.EventReaders.{GoesOn}
+use Rattle.wsn_events.specs.EventReaders.{HasGiven, GoesOn, IsEvent, answered, readings_left, next_of}
 
 -- Whether it is an event that is left out.
 abbrev pub is_next_left_out : {A : Type 0} → Without → Next A → Bool
@@ -24,3 +25,15 @@ pub record GoesOnWithout {A : Type 0} (without : Without) (role : Role) (limits 
   pub passed : List MeantEvent
   pub left_out : events_without without passed ≡ []
   pub goes_on : GoesOn role limits old new reading came (given ++ passed) result
+
+-- What a call of `next_without` does: whatever the source has given, it goes on to the next event that isn't left out. A
+-- source that has ended stays as it is.
+pub record ReadsNext {A : Type 0} (without : Without) (old new : Incoming) (before reading : EventReader A)
+    (result : Result (Next A) Stop) : Type 0 where
+  pub next : (role : Role) (limits : Limits) (came : List ℕ) (given : List MeantEvent) →
+      HasGiven role limits before came given
+      → GoesOnWithout without role limits old new reading came given result
+  pub not_left_out : IfOk result (λ next. is_next_left_out without next ≡ false)
+  pub falls : IsEvent result → readings_left reading < readings_left before
+  pub again : (answer : Result Verdict Stop) → answered before ≡ Some answer →
+      (result ≡ next_of answer) × (reading ≡ before) × (new ≡ old)

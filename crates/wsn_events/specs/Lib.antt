@@ -4,7 +4,9 @@ pub mod Reassembly
 pub mod Sources
 pub mod EventReaders
 pub mod TakenEvents
+pub mod LentMessages
 pub mod LeavingOut
+pub mod Turns
 pub mod Comparing
 pub mod Excerpts
 pub mod Normalised

@@ -21,3 +21,4 @@ pub use Rattle.wsn_events.specs.EventReaders.{HasGiven, IsAtWork, GoesOn, IsEven
 pub use Rattle.wsn_events.specs.Reassembly.{IsBetweenFrames, IsInFrame, IsEventOf, offset_given, frames_given, IsPlacedAt}
 pub use Rattle.wsn_rules.specs.declared.compared.Compared.{Compared}
 pub use Rattle.wsn_events.specs.TakenEvents.{TakesEventsAfter, PutsTaken, held_bytes}
+pub use Rattle.wsn_events.specs.LentMessages.{LendsMessage}

@@ -1,22 +1,23 @@
-ghost use Rattle.std.specs.Prelude.{◌≡◌, ℕ, List, Some, IfOk, false, Ok};
+ghost use Rattle.std.specs.Prelude.{◌≡◌, ℕ, List, Some, IfOk, true, false, Ok};
 ghost use Rattle.wsn_wire.specs.declared.endpoint.Role.{Role};
 ghost use Rattle.wsn_io.specs.Transfer.{Incoming};
 ghost use Rattle.wsn_rules.specs.Limits.{Limits};
-ghost use Rattle.wsn_rules.specs.Meaning.{MeantEvent};
+ghost use Rattle.wsn_rules.specs.Meaning.{MeantEvent, Message};
 ghost use Rattle.wsn_events.specs.Sources.{IsLast};
 ghost use Rattle.wsn_rules.specs.LeftOut.{events_without};
-ghost use Rattle.wsn_events.specs.Excerpts.{IsContrasted, IsLawfulNext, KeepsFirst, KeepsOf, index_in};
-ghost use Rattle.wsn_events.specs.Comparing.{IsComparisonOutcome, IsAnAccepted, IsRoundOf, IsComparedBy, IsCompared, IsComparisonOfBy, IsComparisonOf};
+ghost use Rattle.wsn_events.specs.Excerpts.{IsContrasted, KeepsFirst, KeepsOf, index_in};
+ghost use Rattle.wsn_events.specs.Comparing.{IsComparisonOutcome, IsAnAccepted, IsRoundOf, AreLentAlike, IsComparedBy, IsCompared, IsComparisonOfBy, IsComparisonOf};
+ghost use Rattle.wsn_events.specs.Turns.{OfEvent, IsLawfulTurn, meant_next, meant_turn};
 
-use crate::event::is_same;
+use crate::event::{is_message, is_same};
 use crate::first_difference::{FirstDifference, excerpt_of};
-use crate::leaving_out::next_without;
 use crate::source::{Next, Source};
+use crate::turn::{Turn, turn_of};
 use std::alloc::Allocator;
 use std::io::Read;
 use wsn_rules::{Compared, Without};
 use wsn_scan::{Limits, Stop, Verdict};
-use wsn_wire::{Input, Role};
+use wsn_wire::{Input, Kind, Role};
 
 /// Compares what two streams mean, however they are framed and masked (RFC 6455 sections 5.3 and 5.4). `role` is the
 /// endpoint that sent them. Both are read to their verdicts, and one event of each is held at a time. Returns whether
@@ -95,9 +96,15 @@ pub fn contrast<A: Allocator + Copy, R: Read, S: Read>(
     let mut index = 0;
     let mut difference = None;
     loop {
-        let next = next_without(&mut events, first, without)?;
-        let other = next_without(&mut others, second, without)?;
-        let round = end_round(&mut difference, index, &events, next, &others, other);
+        let lent = events.take_message();
+        let other_lent = others.take_message();
+        if are_lent_alike(&events, lent, &others, other_lent) {
+            index += 1;
+            continue;
+        }
+        let turn = turn_of(lent, &mut events, first, without)?;
+        let other = turn_of(other_lent, &mut others, second, without)?;
+        let round = end_round(&mut difference, index, &events, turn, &others, other);
         if let Round::Over(verdict, other) = round {
             let compared = outcome(verdict, other, index_of(&difference));
             return Ok((compared, difference));
@@ -106,23 +113,40 @@ pub fn contrast<A: Allocator + Copy, R: Read, S: Read>(
     }
 }
 
-/// The round that these two results make. It frees their events, and keeps of the first that differ what shows them.
+/// Whether both sources lend a message, and these are the same.
+#[inline(always)]
+fn are_lent_alike<A: Allocator + Copy>(
+    events: &Source<A>,
+    lent: Option<Kind>,
+    others: &Source<A>,
+    other: Option<Kind>,
+) -> bool
+    ensures { result ≡ true → AreLentAlike events.now lent others.now other }
+{
+    match (lent, other) {
+        (Some(kind), Some(other)) => kind == other && events.taken() == others.taken(),
+        _ => false,
+    }
+}
+
+/// The round that these two turns make. It frees their events, and keeps of the first that differ what shows them.
 fn end_round<A: Allocator + Copy>(
     difference: &mut Option<FirstDifference>,
     index: u64,
     events: &Source<A>,
-    next: Next<A>,
+    turn: Turn<A>,
     others: &Source<A>,
-    other: Next<A>,
+    other: Turn<A>,
 ) -> Round
-    requires next { IsLawfulNext next }
-    requires other { IsLawfulNext other }
-    ensures round { IsRoundOf next other result }
-    ensures kept { KeepsOf result index events.now next others.now other difference.old difference.new }
+    requires turn { IsLawfulTurn (meant_turn events.now turn) }
+    requires other { IsLawfulTurn (meant_turn others.now other) }
+    ensures round { IsRoundOf (meant_turn events.now turn) (meant_turn others.now other) result }
+    ensures kept { KeepsOf result index events.now (meant_turn events.now turn) others.now
+        (meant_turn others.now other) difference.old difference.new }
 {
-    let round = round_of(&next, &other);
+    let round = round_of(events, &turn, others, &other);
     if let Round::Unlike = round {
-        keep_first(difference, index, events, &next, others, &other);
+        keep_first(difference, index, events, &turn, others, &other);
     }
     round
 }
@@ -133,20 +157,21 @@ fn keep_first<A: Allocator + Copy>(
     difference: &mut Option<FirstDifference>,
     index: u64,
     events: &Source<A>,
-    next: &Next<A>,
+    turn: &Turn<A>,
     others: &Source<A>,
-    other: &Next<A>,
+    other: &Turn<A>,
 )
-    requires next { IsLawfulNext next.now }
-    requires other { IsLawfulNext other.now }
-    ensures { KeepsFirst index events.now next.now others.now other.now difference.old difference.new }
+    requires turn { IsLawfulTurn (meant_turn events.now turn.now) }
+    requires other { IsLawfulTurn (meant_turn others.now other.now) }
+    ensures { KeepsFirst index events.now (meant_turn events.now turn.now) others.now
+        (meant_turn others.now other.now) difference.old difference.new }
 {
     if difference.is_some() {
         return;
     }
     *difference = Some(FirstDifference {
         index,
-        first: excerpt_of(events, next),
+        first: excerpt_of(events, turn),
         second: excerpt_of(others, other),
     });
 }
@@ -162,7 +187,7 @@ fn index_of(difference: &Option<FirstDifference>) -> Option<u64>
     }
 }
 
-/// The results of both streams in one round.
+/// The turns of both streams in one round.
 #[derive(Clone, Copy)]
 enum Round {
     /// The same event.
@@ -173,14 +198,48 @@ enum Round {
     Over(Verdict, Verdict),
 }
 
+/// The round that these two turns make.
+fn round_of<A: Allocator + Copy>(
+    events: &Source<A>,
+    turn: &Turn<A>,
+    others: &Source<A>,
+    other: &Turn<A>,
+) -> Round
+    ensures { IsRoundOf (meant_turn events.now turn.now) (meant_turn others.now other.now) result }
+{
+    match (turn, other) {
+        (Turn::Own(next), Turn::Own(other)) => round_of_own(next, other),
+        (Turn::Own(next), Turn::Lent(kind)) => round_with(next, *kind, others.taken()),
+        (Turn::Lent(kind), Turn::Own(next)) => round_with(next, *kind, events.taken()),
+        (Turn::Lent(kind), Turn::Lent(other)) => {
+            if kind == other && events.taken() == others.taken() {
+                Round::Alike
+            } else {
+                Round::Unlike
+            }
+        }
+    }
+}
+
 /// The round that these two results make.
 #[tactic(none)]
-fn round_of<A: Allocator>(next: &Next<A>, other: &Next<A>) -> Round
-    ensures { IsRoundOf next.now other.now result }
+fn round_of_own<A: Allocator>(next: &Next<A>, other: &Next<A>) -> Round
+    ensures { IsRoundOf (meant_next next.now) (meant_next other.now) result }
 {
     match (next, other) {
         (Next::Done(verdict), Next::Done(other)) => Round::Over(*verdict, *other),
         (Next::Event(event), Next::Event(other)) if is_same(event, other) => Round::Alike,
+        _ => Round::Unlike,
+    }
+}
+
+/// The round that this result makes with this message, whichever of the two is the first stream's.
+fn round_with<A: Allocator>(next: &Next<A>, kind: Kind, text: &[u8]) -> Round
+    ensures first { IsRoundOf (meant_next next.now) (OfEvent (Message kind text.now)) result }
+    ensures second { IsRoundOf (OfEvent (Message kind text.now)) (meant_next next.now) result }
+{
+    match next {
+        Next::Event(event) if is_message(event, kind, text) => Round::Alike,
         _ => Round::Unlike,
     }
 }

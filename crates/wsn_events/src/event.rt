@@ -1,7 +1,7 @@
 ghost use Rattle.std.specs.Prelude.{◌≡◌, ◌≢◌, ◌<◌, ◌≤◌, ◌^◌, ◌↔◌, ◌++◌, length, IsTrue};
 ghost use Rattle.std.specs.Int.{to_be_bytes, w16};
 ghost use Rattle.wsn_text.specs.Utf8.{IsText};
-ghost use Rattle.wsn_rules.specs.Meaning.{Control};
+ghost use Rattle.wsn_rules.specs.Meaning.{Message, Control};
 ghost use Rattle.wsn_rules.specs.LawfulEvents.{IsLawfulEvent, IsLawfulMessage, IsLawfulControl};
 ghost use Rattle.wsn_events.specs.EventsMeant.{meant, close_body};
 
@@ -116,5 +116,15 @@ pub(crate) fn is_same<A: Allocator, B: Allocator>(one: &Event<A>, other: &Event<
             code == other_code && reason == other_reason
         }
         _ => false,
+    }
+}
+
+/// Whether the event is this message.
+pub(crate) fn is_message<A: Allocator>(event: &Event<A>, kind: Kind, text: &[u8]) -> bool
+    ensures { IsTrue result ↔ (meant event.now ≡ Message kind text.now) }
+{
+    match event {
+        Event::Message(own_kind, own_text) => *own_kind == kind && own_text.as_slice() == text,
+        Event::Ping(_) | Event::Pong(_) | Event::Close(_) => false,
     }
 }

@@ -4,7 +4,7 @@ use crate::source::Next;
 use std::alloc::Allocator;
 use std::io::Read;
 use wsn_scan::{Limits, NextNotice, NoticeReader, Stop, Verdict};
-use wsn_wire::{Input, Role};
+use wsn_wire::{Input, Kind, Role};
 
 /// The state of an event source: its reader, the open message so far, and the answer that it has ended with.
 #[derive(Drop)]
@@ -15,8 +15,8 @@ pub struct EventReader<A: Allocator> {
 }
 
 impl<A: Allocator + Copy> EventReader<A> {
-    ghost use Rattle.std.specs.Prelude.{◌≡◌, ℕ, ◌<◌, ◌≤◌, List, [], None, Some, true, false};
-    ghost use Rattle.wsn_events.specs.Words.{Role, MeantEvent, HasGiven, IsAtWork, GoesOn, IsEvent, answered, held_of, offset_of, frames_of, readings_left, next_of, TakesEventsAfter, held_bytes};
+    ghost use Rattle.std.specs.Prelude.{◌≡◌, ℕ, ◌<◌, ◌≤◌, List, [], None, Some, IfSome, IfNone, true, false};
+    ghost use Rattle.wsn_events.specs.Words.{Role, MeantEvent, HasGiven, IsAtWork, GoesOn, IsEvent, answered, held_of, offset_of, frames_of, readings_left, next_of, TakesEventsAfter, held_bytes, LendsMessage};
 
     /// A source that has read nothing.
     #[tactic(none)]
@@ -101,7 +101,22 @@ impl<A: Allocator + Copy> EventReader<A> {
         self.reader.take_events()
     }
 
-    /// The normal form of the events that were taken last.
+    /// Takes the next event if it is a message that [`NoticeReader::take_message`] takes, and returns its kind.
+    /// [`EventReader::taken`] then returns its bytes.
+    #[inline(always)]
+    pub fn take_message(&mut self) -> Option<Kind>
+        requires { IsAtWork self.old }
+        ensures taken { IfSome result (λ kind. (role : Role) (limits : _) (came : List ℕ) (given : List MeantEvent) →
+            HasGiven role limits self.old came given → LendsMessage role limits self.new came given kind) }
+        ensures none { IfNone result (self.new ≡ self.old) }
+        ensures falls { IfSome result (λ _. readings_left self.new < readings_left self.old) }
+    {
+        let (op, place) = self.reader.take_message()?;
+        self.reassembly.begin(op, place);
+        Some(self.reassembly.kind())
+    }
+
+    /// The normal form of the events that were taken last, or the bytes of the message.
     pub fn taken(&self) -> &[u8]
         ensures { result.now ≡ held_bytes self.now }
     {

@@ -1,6 +1,6 @@
 ghost use Rattle.std.specs.Prelude.{◌≡◌, ℕ, ◌<◌, ◌≤◌, ◌^◌, length, take};
 ghost use Rattle.wsn_rules.specs.LawfulEvents.{IsLawfulEvent};
-ghost use Rattle.wsn_rules.specs.Meaning.{MeantEvent};
+ghost use Rattle.wsn_rules.specs.Meaning.{MeantEvent, Message};
 ghost use Rattle.wsn_events.specs.EventsMeant.{meant};
 
 use crate::event::Event;
@@ -8,7 +8,7 @@ use crate::putting::{control_of, op_of};
 use arrayvec::ArrayVec;
 use std::alloc::Allocator;
 use wsn_print::{PlacedEvent, ShownEvent};
-use wsn_wire::Op;
+use wsn_wire::{Kind, Op};
 
 /// The most bytes of a payload that an [`Excerpt`] has.
 const EXCERPT_MAX: usize = 4_096;
@@ -38,12 +38,21 @@ impl Excerpt {
         ensures { IsExcerptOf result offset (meant event.now) frames }
     {
         match event {
-            Event::Message(kind, text) => Excerpt::of_payload(op_of(*kind), text, offset, frames),
+            Event::Message(kind, text) => Excerpt::of_message(*kind, text, offset, frames),
             Event::Ping(_) | Event::Pong(_) | Event::Close(_) => {
                 let (op, body) = control_of(event);
                 Excerpt::of_payload(op, &body, offset, frames)
             }
         }
+    }
+
+    /// What is kept of a message.
+    pub(crate) fn of_message(kind: Kind, text: &[u8], offset: u64, frames: u64) -> Excerpt
+        requires size { length text.now < 2 ^ 63 }
+        requires lawful { IsLawfulEvent (Message kind text.now) }
+        ensures { IsExcerptOf result offset (Message kind text.now) frames }
+    {
+        Excerpt::of_payload(op_of(kind), text, offset, frames)
     }
 
     fn of_payload(op: Op, payload: &[u8], offset: u64, frames: u64) -> Excerpt

@@ -1,10 +1,12 @@
 ghost use Rattle.std.specs.Prelude.{◌≡◌, ℕ, ◌≤◌, Option};
 ghost use Rattle.wsn_rules.specs.ShownStream.{Item};
 ghost use Rattle.wsn_print.specs.ShownParts.{StandsFor};
-ghost use Rattle.wsn_events.specs.Excerpts.{IsExcerptIn, IsLawfulNext, IsKeptOf};
+ghost use Rattle.wsn_events.specs.Excerpts.{IsExcerptIn, IsKeptOf};
+ghost use Rattle.wsn_events.specs.Turns.{IsLawfulTurn, meant_turn};
 
 use crate::excerpt::Excerpt;
 use crate::source::{Next, Source};
+use crate::turn::Turn;
 use std::alloc::Allocator;
 use wsn_print::{Difference, PlacedEvent};
 
@@ -46,13 +48,15 @@ fn placed_in(excerpt: &Option<Excerpt>) -> Option<PlacedEvent<'_>>
     }
 }
 
-/// What is kept of the result that the source gave last.
-pub(crate) fn excerpt_of<A: Allocator + Copy>(source: &Source<A>, next: &Next<A>) -> Option<Excerpt>
-    requires { IsLawfulNext next.now }
-    ensures { IsKeptOf source.now next.now result }
+/// What is kept of the source's last turn.
+pub(crate) fn excerpt_of<A: Allocator + Copy>(source: &Source<A>, turn: &Turn<A>) -> Option<Excerpt>
+    requires { IsLawfulTurn (meant_turn source.now turn.now) }
+    ensures { IsKeptOf source.now (meant_turn source.now turn.now) result }
 {
-    match next {
-        Next::Event(event) => Some(Excerpt::new(event, source.offset(), source.frames())),
-        Next::Done(_) => None,
+    let (offset, frames) = (source.offset(), source.frames());
+    match turn {
+        Turn::Lent(kind) => Some(Excerpt::of_message(*kind, source.taken(), offset, frames)),
+        Turn::Own(Next::Event(event)) => Some(Excerpt::new(event, offset, frames)),
+        Turn::Own(Next::Done(_)) => None,
     }
 }

@@ -7,7 +7,7 @@
 //! body.
 //!
 //! `specs/EventsMeant.antt` defines what an [`Event`] means, `specs/Sources.antt` which events a source gives,
-//! `specs/Normalised.antt` what normalising writes, `specs/Comparing.antt` what a comparison answers, and
+//! `specs/Normalised.antt` what normalising writes, `specs/LentMessages.antt` which message a source lends, `specs/Comparing.antt` what a comparison answers, and
 //! `specs/Excerpts.antt` what is kept of the events that differ. Lawful events and the normal form are defined in `wsn_rules` (`specs/LawfulEvents.antt`, `specs/NormalForm.antt`). [`laws`] has
 //! the laws about them.
 #![tactic(auto)]
@@ -24,6 +24,7 @@ mod normal;
 mod putting;
 mod reassembly;
 mod source;
+mod turn;
 
 pub use comparing::{contrast, same, same_without};
 pub use event::{Event, Small, is_lawful};

@@ -46,6 +46,13 @@ impl<A: Allocator + Copy> Reassembly<A> {
         self.message.len()
     }
 
+    /// The kind of the message that began last.
+    pub fn kind(&self) -> Kind
+        ensures { result ≡ self.now.kind }
+    {
+        self.kind
+    }
+
     /// The offset of the first frame of the event that ended last.
     pub fn offset(&self) -> u64
         ensures { result ≡ offset_given self.now }

@@ -1,4 +1,4 @@
-ghost use Rattle.std.specs.Prelude.{◌≡◌, ℕ, ◌<◌, ◌≤◌, List, [], None, Some, Result, true, false};
+ghost use Rattle.std.specs.Prelude.{◌≡◌, ℕ, ◌<◌, ◌≤◌, List, [], None, Some, IfSome, IfNone, Result, true, false};
 ghost use Rattle.wsn_events.specs.declared.event_reader.EventReader.{EventReader};
 ghost use Rattle.wsn_events.specs.EventReaders.{HasBegunOrEnded};
 
@@ -8,7 +8,7 @@ use std::alloc::{Allocator, Global};
 use std::io::Read;
 use std::marker::Model;
 use wsn_scan::{Limits, Stop, Verdict};
-use wsn_wire::{Input, Role};
+use wsn_wire::{Input, Kind, Role};
 
 /// What [`Source::next`] returns.
 #[derive(Drop)]
@@ -35,7 +35,7 @@ impl<A: Allocator> Model for Source<A> {
 }
 
 impl<A: Allocator + Copy> Source<A> {
-    ghost use Rattle.wsn_events.specs.Words.{Role, MeantEvent, Verdict, Stop, HasGiven, GoesOn, IsEvent, answered, held_of, offset_of, frames_of, readings_left, next_of, TakesEventsAfter, held_bytes};
+    ghost use Rattle.wsn_events.specs.Words.{Role, MeantEvent, Verdict, Stop, HasGiven, GoesOn, IsEvent, answered, held_of, offset_of, frames_of, readings_left, next_of, TakesEventsAfter, held_bytes, LendsMessage};
 
     /// A source that has read nothing. `role` is the endpoint that sent the stream. It allocates no memory.
     pub fn new(alloc: A, role: Role, limits: Limits) -> Self
@@ -103,8 +103,25 @@ impl<A: Allocator + Copy> Source<A> {
         self.reading.take_events()
     }
 
-    /// The normal form of the events that were taken last.
-    pub(crate) fn taken(&self) -> &[u8]
+    /// Takes the next event if it is a message of one frame that is whole in the chunk that was read last, has payload,
+    /// and encodes its length shortest. Returns its kind; [`Source::taken`] then returns its bytes. Otherwise, and once
+    /// the source has ended, nothing changes. It reads nothing and allocates nothing.
+    #[inline(always)]
+    pub fn take_message(&mut self) -> Option<Kind>
+        ensures taken { IfSome result (λ kind. (role : Role) (limits : _) (came : List ℕ) (given : List MeantEvent) →
+            HasGiven role limits self.old came given → LendsMessage role limits self.new came given kind) }
+        ensures going { IfSome result (λ _. answered self.old ≡ None) }
+        ensures none { IfNone result (self.new ≡ self.old) }
+        ensures falls { IfSome result (λ _. readings_left self.new < readings_left self.old) }
+    {
+        if self.reading.answer().is_some() {
+            return None;
+        }
+        self.reading.take_message()
+    }
+
+    /// The normal form of the events that were taken last, or the bytes of the message.
+    pub fn taken(&self) -> &[u8]
         ensures { result.now ≡ held_bytes self.now }
     {
         self.reading.taken()

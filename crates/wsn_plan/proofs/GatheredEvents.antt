@@ -1,7 +1,10 @@
 -- All of a stream's events, kept, at each answer of their source.
-use Rattle.std.proofs.Common.{◌≡◌, ℕ, ◌+◌, Result, Ok, Err, false, List, [], ◌∷◌, ◌++◌, map, inl, inr, sym, ap, ◌∙◌, subst}
+use Rattle.std.proofs.Common.{◌≡◌, ℕ, ◌+◌, Option, None, Some, refl, Result, Ok, Err, false, List, [], ◌∷◌, ◌++◌, map, inl, inr, sym, ap, ◌∙◌, subst}
+use Rattle.std.specs.Prelude.{IfNone}
 use Rattle.wsn_io.proofs.Received.{received_none, received_on}
 use Rattle.wsn_wire.specs.declared.endpoint.Role.{Role}
+use Rattle.wsn_wire.specs.declared.opcode.Kind.{Kind}
+use Rattle.wsn_wire.specs.Frame.{Frame}
 use Rattle.wsn_io.specs.Transfer.{Incoming, IsReceived}
 use Rattle.wsn_rules.specs.declared.verdict.Verdict.{Verdict}
 use Rattle.wsn_rules.specs.Limits.{Limits}
@@ -14,6 +17,7 @@ use Rattle.wsn_events.specs.declared.source.Next.{Next}
 use Rattle.wsn_events.specs.declared.source.Next.TheVariants as nexts
 use Rattle.wsn_events.specs.EventsMeant.{meant}
 use Rattle.wsn_events.specs.EventReaders.{HasGiven, GoesOn, IsGiven}
+use Rattle.wsn_events.specs.LentMessages.{LendsMessage, lent_message}
 use Rattle.wsn_events.specs.Sources.{IsLast}
 use Rattle.wsn_plan.specs.declared.gathering.Gathered.{Gathered}
 use Rattle.wsn_plan.specs.declared.kept.Kept.{Kept}
@@ -27,6 +31,15 @@ pub record HasGathered {A : Type 0} (role : Role) (limits : Limits) (old new : I
   pub received : IsReceived (limits.input + 1) old new came
   pub readable : new.failed ≡ false
 
+-- a source that lends nothing is unchanged
+pub unchanged : {A : Type 0} (lent : Option Kind) (source next : EventReader A) → ((kind : Kind) → lent ≡ Some kind → ⊥) → IfNone lent (next ≡ source) → next ≡ source
+unchanged None source next none same = same
+unchanged (Some kind) source next none same = absurd (none kind refl)
+
+nothing_is_frames : (before : List Frame) (f : Frame) → before ++ f ∷ [] ≡ [] → ⊥
+nothing_is_frames [] f is = cc
+nothing_is_frames (b ∷ before) f is = cc
+
 nothing_is_meant : (before : List MeantEvent) (e : MeantEvent) → before ++ e ∷ [] ≡ [] → ⊥
 nothing_is_meant [] e is = cc
 nothing_is_meant (b ∷ before) e is = cc
@@ -39,6 +52,9 @@ module _ {A : Type 0} (role : Role) (limits : Limits) (old : Incoming) where
     received = received_none (limits.input + 1) old;
     readable = readable;
   }
+
+  pub still : (mid : Incoming) (source next : EventReader A) (events : List (Kept A)) → next ≡ source → HasGathered role limits old mid source events → HasGathered role limits old mid next events
+  still mid source next events same gathered = subst (λ (s : EventReader A). HasGathered role limits old mid s events) (sym same) gathered
 
   module _ (mid new : Incoming) (source next : EventReader A) (events : List (Kept A)) (gathered : HasGathered role limits old mid source events) where
     -- the source's next answer, after the bytes that had come
@@ -102,4 +118,37 @@ module _ {A : Type 0} (role : Role) (limits : Limits) (old : Incoming) where
         received = all_received (Ok (nexts.Event event)) on;
         range = gathered.has.has_reported.has_scanned.has_consumed.in_range;
         of_bytes = (inr (has_frame on.next.1), on.next.2);
+      }
+
+    -- a message that the source lends, which is kept or isn't
+    module _ (kind : Kind) (lends : (role : Role) (limits : Limits) (came : List ℕ) (given : List MeantEvent) → HasGiven role limits source came given → LendsMessage role limits next came given kind) where
+      lent : LendsMessage role limits next gathered.came (map kept_meant events) kind
+      lent = lends role limits gathered.came (map kept_meant events) gathered.has
+
+      pub goes_on_lent : (kept : List (Kept A)) → map kept_meant kept ≡ map kept_meant events ++ lent_message next kind ∷ [] → HasGathered role limits old mid next kept
+      goes_on_lent kept more = record {
+        came = gathered.came;
+        has = subst (λ (given : List MeantEvent). HasGiven role limits next gathered.came given) (sym more) lent.has;
+        received = gathered.received;
+        readable = gathered.readable;
+      }
+
+      no_frames : lent.before ++ lent.frame ∷ [] ≡ [] → ⊥
+      no_frames = nothing_is_frames lent.before lent.frame
+
+      pub no_memory_lent : IsGathered {A = A} role limits old mid (Err stop.Memory)
+      no_memory_lent = record {
+        came = gathered.came;
+        received = gathered.received;
+        range = gathered.has.has_reported.has_scanned.has_consumed.in_range;
+        of_bytes = (
+          inr (record {
+            frames = lent.before ++ lent.frame ∷ [];
+            lawful = lent.are_lawful;
+            some = no_frames;
+            rest = lent.rest;
+            whole = lent.whole;
+          }),
+          gathered.readable,
+        );
       }

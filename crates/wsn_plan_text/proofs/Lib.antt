@@ -14,3 +14,4 @@ pub mod WrittenPlans
 pub mod ReadPlans
 pub mod PlanFiles
 mod HeldPlans
+pub mod StepLines

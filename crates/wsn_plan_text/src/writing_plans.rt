@@ -1,11 +1,11 @@
-ghost use Rattle.std.specs.Prelude.{◌≡◌, false};
+ghost use Rattle.std.specs.Prelude.{◌≡◌, ◌≤◌, false, length, drop};
 ghost use Rattle.wsn_plan_text.specs.Words.{IsWrittenOrStops, plan_text, step_line};
 
 use crate::plan::Plan;
 use std::alloc::Allocator;
 use std::io::Write;
 use wsn_io::{Output, Stop, put_line};
-use wsn_print::Line;
+use wsn_print::{lay, lay_form, lay_key, lay_number};
 use wsn_rules::Step;
 
 /// The maximum size of a line in bytes: a piece with a number of twenty digits, a key and ` eight`.
@@ -22,33 +22,46 @@ pub fn write_plan<W: Write, A: Allocator>(
     ensures { IsWrittenOrStops output.old output.new (plan_text plan.now) result }
 {
     for step in plan.steps() {
-        put_line(output, line_of(*step).bytes())?;
+        put_step(output, *step)?;
     }
     Ok(())
 }
 
-fn line_of(step: Step) -> Line<STEP_LINE_MAX>
-    ensures { result ≡ step_line step }
+/// Writes the line of a step.
+#[inline(always)]
+fn put_step<W: Write>(output: &mut Output<W>, step: Step) -> Result<(), Stop>
+    requires { output.old.failed ≡ false }
+    ensures { IsWrittenOrStops output.old output.new (step_line step) result }
 {
-    let mut line = Line::new();
+    let mut text = [0; STEP_LINE_MAX];
+    let start = lay_out(step, &mut text);
+    put_line(output, &text[start..])
+}
+
+/// Writes the line of a step at the end of `text`, and returns where it begins.
+#[inline(always)]
+fn lay_out(step: Step, text: &mut [u8]) -> usize
+    requires { length text.old ≡ 42 }
+    ensures within { result ≤ 42 }
+    ensures line { drop result text.new ≡ step_line step }
+{
     match step {
         Step::Piece { len, key, form } => {
-            line.push("piece ");
-            line.push_number(len);
-            line.push(" ");
-            line.push_key(key);
-            line.push_form(form);
+            let end = lay_form(form, text, STEP_LINE_MAX);
+            let end = lay_key(key, text, end);
+            let end = lay(b" ", text, end);
+            let end = lay_number(len, text, end);
+            lay(b"piece ", text, end)
         }
         Step::Last { key, form } => {
-            line.push("last ");
-            line.push_key(key);
-            line.push_form(form);
+            let end = lay_form(form, text, STEP_LINE_MAX);
+            let end = lay_key(key, text, end);
+            lay(b"last ", text, end)
         }
         Step::Control { key } => {
-            line.push("control ");
-            line.push_key(key);
+            let end = lay(b"\n", text, STEP_LINE_MAX);
+            let end = lay_key(key, text, end);
+            lay(b"control ", text, end)
         }
     }
-    line.push("\n");
-    line
 }

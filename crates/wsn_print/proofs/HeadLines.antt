@@ -28,10 +28,10 @@ joined : (place space fields end : List ℕ) → place ++ space ++ fields ++ end
 joined place space fields end = append_assoc (place ++ space) fields end ∙ append_assoc place space (fields ++ end)
 
 -- The texts after each part, from the last.
-pub line_of_parts : (h : HeadInfo) (form len key op fin place nothing : List ℕ) → nothing ≡ [] → form ≡ form_text h.form ++ (codes "\n" ++ nothing) → len ≡ decimal h.len ++ form
-    → key ≡ key_text h.key ++ (codes " " ++ len) → op ≡ codes " " ++ (op_word h.op ++ (codes " " ++ key)) → fin ≡ codes " " ++ (fin_word h.fin ++ op) → place ≡ decimal h.place ++ fin
+pub line_of_parts : (h : HeadInfo) (form len space key op fin place nothing : List ℕ) → nothing ≡ [] → form ≡ form_text h.form ++ (codes "\n" ++ nothing) → len ≡ decimal h.len ++ form
+    → space ≡ codes " " ++ len → key ≡ key_text h.key ++ space → op ≡ codes " " ++ (op_word h.op ++ (codes " " ++ key)) → fin ≡ codes " " ++ (fin_word h.fin ++ op) → place ≡ decimal h.place ++ fin
     → place ≡ head_line h
-line_of_parts h form len key op fin place nothing none form_is len_is key_is op_is fin_is place_is =
-    place_is ∙ ap (λ (t : List ℕ). decimal h.place ++ t) (fin_is ∙ ap (λ (t : List ℕ). codes " " ++ (fin_word h.fin ++ t)) (op_is ∙ ap (λ (t : List ℕ). codes " " ++ (op_word h.op ++ (codes " " ++ t))) (key_is ∙ ap (λ (t : List ℕ). key_text h.key ++ (codes " " ++ t)) (len_is ∙ ap (λ (t : List ℕ). decimal h.len ++ t) (form_is ∙ ap (λ (t : List ℕ). form_text h.form ++ (codes "\n" ++ t)) none)))))
+line_of_parts h form len space key op fin place nothing none form_is len_is space_is key_is op_is fin_is place_is =
+    place_is ∙ ap (λ (t : List ℕ). decimal h.place ++ t) (fin_is ∙ ap (λ (t : List ℕ). codes " " ++ (fin_word h.fin ++ t)) (op_is ∙ ap (λ (t : List ℕ). codes " " ++ (op_word h.op ++ (codes " " ++ t))) (key_is ∙ ap (λ (t : List ℕ). key_text h.key ++ t) (space_is ∙ ap (λ (t : List ℕ). codes " " ++ t) (len_is ∙ ap (λ (t : List ℕ). decimal h.len ++ t) (form_is ∙ ap (λ (t : List ℕ). form_text h.form ++ (codes "\n" ++ t)) none))))))
     ∙ sym (joined (decimal h.place) (codes " ") (head_fields h) (codes "\n")
     ∙ ap (λ (t : List ℕ). decimal h.place ++ (codes " " ++ t)) (nine (fin_word h.fin) (codes " ") (op_word h.op) (codes " ") (key_text h.key) (codes " ") (decimal h.len) (form_text h.form) (codes "\n")))

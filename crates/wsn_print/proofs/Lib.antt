@@ -8,5 +8,6 @@ pub mod PlainTexts
 pub mod VisibleLines
 pub mod Appended
 pub mod ObjectPieces
+pub mod FrameObjects
 pub mod PlacedItems
 pub mod HeadLines

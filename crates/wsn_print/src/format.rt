@@ -5,10 +5,9 @@ ghost use Rattle.wsn_print.specs.ShownParts.{position_of};
 
 use crate::comparisons::put_compared;
 use crate::entries::put_end;
+use crate::frame_objects::put_frame_object;
 use crate::heads::put_head;
-use crate::objects::{
-    put_compared_object, put_frame_object, put_report_object, put_verdict_object,
-};
+use crate::objects::{put_compared_object, put_report_object, put_verdict_object};
 use crate::quoted::put_comment;
 use crate::reports::put_report;
 use crate::shown::EntryFront;

@@ -1,14 +1,14 @@
-ghost use Rattle.std.specs.Prelude.{◌≡◌, ◌+◌, ◌≤◌, ◌++◌, false, length, drop, codes, decimal};
+ghost use Rattle.std.specs.Prelude.{◌≡◌, ◌+◌, ◌≤◌, ◌++◌, false, length, drop, codes};
 ghost use Rattle.wsn_io.specs.Stops.{IsWrittenOrStops};
-ghost use Rattle.wsn_print.specs.Fields.{fin_word, op_word, key_text, form_text};
+ghost use Rattle.wsn_print.specs.Fields.{fin_word, op_word};
 ghost use Rattle.wsn_print.specs.HeadText.{head_fields, head_line};
 
-use crate::line::{Line, key_digits};
-use itoa::write_digits;
+use crate::laid::{lay, lay_form, lay_key, lay_number};
+use crate::line::Line;
 use std::io::Write;
 use wsn_io::{Output, Stop, put_line};
 use wsn_rules::HeadInfo;
-use wsn_wire::{Form, Op};
+use wsn_wire::Op;
 
 /// The maximum length in bytes of the line of a head, with two numbers of twenty digits.
 const HEAD_LINE_MAX: usize = 69;
@@ -37,64 +37,11 @@ fn lay_out(head: &HeadInfo, text: &mut [u8]) -> usize
 {
     let end = lay_form(head.form, text, HEAD_LINE_MAX);
     let end = lay_number(head.len, text, end);
+    let end = lay(b" ", text, end);
     let end = lay_key(head.key, text, end);
     let end = lay_op(head.op, text, end);
     let end = lay_fin(head.fin, text, end);
     lay_number(head.place, text, end)
-}
-
-/// Writes a part of a line so that it ends at `end`, and returns where it begins.
-#[inline(always)]
-fn lay(part: &[u8], text: &mut [u8], end: usize) -> usize
-    requires { (length part.now ≤ end) × (end ≤ length text.old) }
-    ensures start { result + length part.now ≡ end }
-    ensures written { drop result text.new ≡ part.now ++ drop end text.old }
-{
-    let start = end - part.len();
-    text[start..end].copy_from_slice(part);
-    start
-}
-
-/// Writes a number in decimal digits, at most 20.
-#[inline(always)]
-#[tactic(none)]
-fn lay_number(n: u64, text: &mut [u8], end: usize) -> usize
-    requires { (20 ≤ end) × (end ≤ length text.old) }
-    ensures start { (result ≤ end) × (end ≤ result + 20) }
-    ensures written { drop result text.new ≡ decimal n ++ drop end text.old }
-{
-    write_digits(n, text, end)
-}
-
-/// Writes the form of a length and the LF, at most 7 bytes.
-#[inline(always)]
-fn lay_form(form: Form, text: &mut [u8], end: usize) -> usize
-    requires { (7 ≤ end) × (end ≤ length text.old) }
-    ensures start { (result ≤ end) × (end ≤ result + 7) }
-    ensures written { drop result text.new ≡ form_text form ++ (codes "\n" ++ drop end text.old) }
-{
-    match form {
-        Form::Shortest => lay(b"\n", text, end),
-        Form::Two => lay(b" two\n", text, end),
-        Form::Eight => lay(b" eight\n", text, end),
-    }
-}
-
-/// Writes a key or a dash, and a space: at most 9 bytes.
-#[inline(always)]
-#[tactic(none)]
-fn lay_key(key: Option<[u8; 4]>, text: &mut [u8], end: usize) -> usize
-    requires { (9 ≤ end) × (end ≤ length text.old) }
-    ensures start { (result ≤ end) × (end ≤ result + 9) }
-    ensures written { drop result text.new ≡ key_text key ++ (codes " " ++ drop end text.old) }
-{
-    match key {
-        None => lay(b"- ", text, end),
-        Some(key) => {
-            let end = lay(b" ", text, end);
-            lay(&key_digits(key), text, end)
-        }
-    }
 }
 
 /// Writes the word for an opcode between two spaces, at most 8 bytes.

@@ -3,7 +3,7 @@
 //!
 //! [`put_verdict`] writes the line of a verdict, [`put_head`] the line of a frame, [`put_compared`] the line of a
 //! comparison, and [`put_report`] the seven lines of a report. The lines of faults and stops are built as a [`Line`], a
-//! text in a fixed array. The `status_of_..` functions return the exit status of an answer. Nothing here allocates.
+//! text in a fixed array. [`lay`] and its kin write the parts of a line in place, from the last to the first. The `status_of_..` functions return the exit status of an answer. Nothing here allocates.
 //!
 //! Of what is shown, [`put_event`] writes the line of a complete event, [`put_frame`] that of a frame,
 //! [`put_unfinished`] and [`put_unfinished_head`] that of what isn't complete, [`put_refused`] that of a refusal,
@@ -27,8 +27,10 @@ mod differences;
 mod entries;
 mod faults;
 mod format;
+mod frame_objects;
 mod heads;
 mod json;
+mod laid;
 mod line;
 mod object_views;
 mod objects;
@@ -54,9 +56,11 @@ pub use faults::{line_of_line_fault, line_of_recut_fault, line_of_unfinished};
 pub use format::{
     Format, put_comment_as, put_compared_as, put_end_as, put_head_as, put_report_as, put_verdict_as,
 };
+pub use frame_objects::put_frame_object;
 pub use heads::put_head;
+pub use laid::{lay, lay_form, lay_key, lay_number};
 pub use line::Line;
-pub use objects::{put_compared_object, put_frame_object, put_report_object, put_verdict_object};
+pub use objects::{put_compared_object, put_report_object, put_verdict_object};
 pub use quoted::put_comment;
 pub use reports::put_report;
 pub use shown::{

@@ -1,22 +1,18 @@
 ghost use Rattle.std.specs.Prelude.{◌≡◌, ◌+◌, ◌≤◌, ◌++◌, codes, false, length};
 ghost use Rattle.wsn_io.specs.Stops.{IsWrittenOrStops};
-ghost use Rattle.wsn_print.specs.Json.{field, string_field, number_or_null_field, boolean};
-ghost use Rattle.wsn_print.specs.Objects.{count_fields, close_value, refusal_fields, verdict_members, verdict_object, key_value, form_word, head_fields, frame_object, side_object, first_value, echo_value, report_object, comparison_object};
+ghost use Rattle.wsn_print.specs.Json.{field, string_field, number_or_null_field};
+ghost use Rattle.wsn_print.specs.Objects.{count_fields, close_value, refusal_fields, verdict_members, verdict_object, side_object, first_value, echo_value, report_object, comparison_object};
 
-use crate::heads::op_word;
 use crate::json::{push_field, push_number_field, push_number_or_null, push_string_field};
 use crate::line::Line;
 use crate::reports::outcome_word;
 use std::io::Write;
 use wsn_io::{Output, Stop, put_line};
-use wsn_rules::{Compared, HeadInfo, Refusal, Report, Side, Summary, Verdict};
-use wsn_wire::{Form, Role};
+use wsn_rules::{Compared, Refusal, Report, Side, Summary, Verdict};
+use wsn_wire::Role;
 
 /// The space for the object of a verdict in bytes: of an accepted stream, with eight numbers of twenty digits.
 const VERDICT_MAX: usize = 320;
-
-/// The space for the object of a frame in bytes, with two numbers of twenty digits.
-const FRAME_MAX: usize = 180;
 
 /// The space for the object of a report in bytes: two refused streams, with offsets of twenty digits, fit.
 const REPORT_MAX: usize = 520;
@@ -32,16 +28,6 @@ pub fn put_verdict_object<W: Write>(to: &mut Output<W>, verdict: &Verdict) -> Re
     ensures { IsWrittenOrStops to.old to.new (verdict_object verdict.now) result }
 {
     put_line(to, line_of_verdict(verdict).bytes())
-}
-
-/// Writes a frame's head as a JSON object in one line, such as `{"type":"frame","offset":0,"fin":true,"opcode":"text",
-/// "key":null,"length":5,"form":"shortest"}` (without the space). `Stop::Write` if the writer fails: a prefix of the
-/// line was written.
-pub fn put_frame_object<W: Write>(to: &mut Output<W>, head: &HeadInfo) -> Result<(), Stop>
-    requires { to.old.failed ≡ false }
-    ensures { IsWrittenOrStops to.old to.new (frame_object head.now) result }
-{
-    put_line(to, line_of_frame(head).bytes())
 }
 
 /// Writes a report as a JSON object in one line, with an object for each side. `Stop::Write` if the writer fails: a
@@ -168,63 +154,6 @@ pub(crate) fn push_refusal<const MAX: usize>(line: &mut Line<MAX>, key: &str, re
     push_number_field(line, key, refusal.place);
     push_string_field(line, "reason", reason.word());
     push_number_field(line, "code", u64::from(reason.code()));
-}
-
-fn line_of_frame(head: &HeadInfo) -> Line<FRAME_MAX>
-    ensures { result ≡ frame_object head.now }
-{
-    let mut line = Line::new();
-    line.push("{\"type\":\"frame\"");
-    push_head(&mut line, head);
-    line.push("}\n");
-    line
-}
-
-/// Appends the members of a frame's head.
-pub(crate) fn push_head<const MAX: usize>(line: &mut Line<MAX>, head: &HeadInfo)
-    requires { length line.old + 150 ≤ MAX }
-    ensures text { line.new ≡ line.old ++ head_fields head.now }
-    ensures len { length line.new ≤ length line.old + 150 }
-{
-    push_number_field(line, "offset", head.place);
-    push_field(line, "fin", boolean(head.fin));
-    push_string_field(line, "opcode", op_word(head.op));
-    push_key(line, head.key);
-    push_number_field(line, "length", head.len);
-    push_string_field(line, "form", form_word(head.form));
-}
-
-fn push_key<const MAX: usize>(line: &mut Line<MAX>, key: Option<[u8; 4]>)
-    requires { length line.old + 20 ≤ MAX }
-    ensures text { line.new ≡ line.old ++ field (codes "key") (key_value key) }
-    ensures len { length line.new ≤ length line.old + 20 }
-{
-    match key {
-        Some(key) => {
-            line.push(",\"key\":\"");
-            line.push_key(Some(key));
-            line.push("\"");
-        }
-        None => push_field(line, "key", "null"),
-    }
-}
-
-fn boolean(holds: bool) -> &'static str
-    ensures text { result.now ≡ boolean holds }
-    ensures short { length result.now ≤ 5 }
-{
-    if holds { "true" } else { "false" }
-}
-
-fn form_word(form: Form) -> &'static str
-    ensures word { result.now ≡ form_word form }
-    ensures short { length result.now ≤ 8 }
-{
-    match form {
-        Form::Shortest => "shortest",
-        Form::Two => "two",
-        Form::Eight => "eight",
-    }
 }
 
 fn line_of_report(report: &Report) -> Line<REPORT_MAX>

@@ -9,13 +9,14 @@ ghost use Rattle.wsn_print.specs.ShownObjects.{item_object, item_fields, shown_f
 ghost use Rattle.wsn_print.specs.ShownParts.{position_of, Represents, HasTextReason, IsFrontOf, IsEndOf, item_of_remainder, remainder_word};
 
 use crate::entries::remainder_word;
+use crate::frame_objects::push_head;
 use crate::heads::op_word;
 use crate::json::{push_number_field, push_number_or_null_field, push_string_field};
 use crate::line::Line;
 use crate::object_views::{
     put_end_fields, put_event_view_fields, put_hex_fields, put_unfinished_view_fields,
 };
-use crate::objects::{push_head, push_refusal};
+use crate::objects::push_refusal;
 use crate::quoted::put_comment_characters;
 use crate::shown::{EntryFront, HeldBytes, Origin, Remainder, ShownEvent, ViewLimit};
 use std::io::Write;

@@ -31,3 +31,4 @@ pub mod OpenOffsets
 pub mod ShownStreams
 pub mod ShownLines
 pub mod ShownEvents
+pub mod ShownBytes

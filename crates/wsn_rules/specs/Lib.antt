@@ -37,6 +37,7 @@ pub mod Reports
 -- what is shown of a stream, and of a capture
 pub mod ShownStream
 pub mod ShownEvents
+pub mod ShownBytes
 pub mod ShownCapture
 -- for the examples
 pub mod Examples

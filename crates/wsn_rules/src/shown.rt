@@ -11,7 +11,8 @@ ghost use Rattle.wsn_rules.specs.Entries.{Entry};
 ghost use Rattle.wsn_rules.specs.Heads.{AreHeads};
 ghost use Rattle.wsn_rules.specs.LeftOut.{events_without};
 ghost use Rattle.wsn_rules.specs.Sides.{sent};
-ghost use Rattle.wsn_rules.specs.ShownStream.{Item, Shown, IsShownStream, events_shown, heads_shown};
+ghost use Rattle.wsn_rules.specs.ShownStream.{Item, Shown, IsShownStream, IsLeftOver, events_shown, heads_shown};
+ghost use Rattle.wsn_rules.specs.ShownBytes.{AreSharedOut};
 ghost use Rattle.wsn_rules.specs.ShownEvents.{IsShownAt, ShowsEvent};
 ghost use Rattle.wsn_rules.specs.ShownCapture.{beyond, ShownLine, AreShownAfter, items_with_bytes};
 
@@ -39,6 +40,14 @@ pub fn law_shown_event()
         (verdict : Verdict) (k : ℕ) (item : Option Item) →
         IsVerdict role limits bytes fs verdict → IsShownAt without role limits bytes k item →
         ShowsEvent item (slice_get (events_without without (meaning fs)) k) }
+{}
+
+/// Every byte of a stream is in exactly one of its items: those that are shown of it in the detail of events, and those
+/// that are left over where it ends.
+pub fn law_shown_bytes()
+    ensures { (role : Role) (limits : Limits) (bytes : List ℕ) (shown : List Shown) (left : List Item) →
+        IsShownStream Events role limits bytes shown → IsLeftOver role limits bytes left →
+        AreSharedOut bytes (map (λ s. s.item) shown ++ left) }
 {}
 
 /// With more bytes a stream shows the same items and perhaps more, which are shown with the new bytes.

@@ -1,9 +1,9 @@
 -- Frames that are whole in a piece and each end an event, with the event's normal frame written in their place.
-use Rattle.std.specs.Prelude.{◌≡◌, ◌≢◌, ℕ, ◌-◌, true, Option, None, Some, List, [], ◌∷◌, ◌++◌, length, take}
+use Rattle.std.specs.Prelude.{◌≡◌, ◌≢◌, ℕ, ◌-◌, true, Option, None, Some, List, [], ◌∷◌, ◌++◌, length, take, drop, false}
 use Rattle.wsn_wire.specs.declared.endpoint.Role.{Role}
 use Rattle.wsn_wire.specs.declared.opcode.Op.{Op}
 use Rattle.wsn_wire.specs.declared.opcode.Op.TheVariants.{Close}
-use Rattle.wsn_wire.specs.Frame.{Frame, frame_bytes}
+use Rattle.wsn_wire.specs.Frame.{Frame, is_control, frame_bytes}
 use Rattle.wsn_rules.specs.Limits.{Limits, InRange}
 use Rattle.wsn_rules.specs.Group.{unfinished}
 use Rattle.wsn_rules.specs.Lawful.{LawAt, IsLawful}
@@ -23,22 +23,23 @@ abbrev pub with_key_cleared : Option (List ℕ) → List ℕ → List ℕ
 with_key_cleared None head = head
 with_key_cleared (Some key) head = take (length head - 4) head ++ (0 ∷ 0 ∷ 0 ∷ 0 ∷ [])
 
--- The first n bytes of the piece are a final frame with this opcode, which is lawful after these. `after` begins with
--- the normal frame of the event that it ends.
-pub record EndsEventAt (role : Role) (limits : Limits) (fs : List Frame) (piece after : List ℕ) (op : Op) (n : ℕ)
+-- The first n bytes of the piece are a final frame with this opcode and `len` bytes of payload, which is lawful after
+-- these. `after` begins with the normal frame of the event that it ends.
+pub record EndsEventAt (role : Role) (limits : Limits) (fs : List Frame) (piece after : List ℕ) (op : Op) (n len : ℕ)
     : Type 0 where
   pub frame : Frame
   pub bytes_are : frame_bytes frame ≡ take n piece
   pub law : LawAt role limits fs frame
   pub final : frame.fin ≡ true
   pub op_is : frame.op ≡ op
+  pub size : length frame.payload ≡ len
   pub normal : take n after ≡ frame_bytes (normal_frame role (event_at fs frame))
 
 -- The same after any lawful frames without a Close that leave no message open. The frame is no Close.
-abbrev pub IsEventFrame : Role → Limits → List ℕ → List ℕ → Op → ℕ → Type 0
-IsEventFrame role limits piece after op n =
+abbrev pub IsEventFrame : Role → Limits → List ℕ → List ℕ → Op → ℕ → ℕ → Type 0
+IsEventFrame role limits piece after op n len =
     (op ≢ Close) × ((fs : List Frame) → InRange limits → IsLawful role limits fs → HasNoClose fs →
-    unfinished fs ≡ [] → EndsEventAt role limits fs piece after op n)
+    unfinished fs ≡ [] → EndsEventAt role limits fs piece after op n len)
 
 -- ---- a run of frames
 
@@ -64,6 +65,28 @@ TakesEvents old new piece after n =
     (role : Role) (limits : Limits) (bytes since : List ℕ) (fs : List Frame) (reported : Reported) →
     HasScanned role limits old bytes fs since reported
     → ConsumesEvents role limits new (bytes ++ take n piece) fs (take n after)
+
+-- ---- one message
+
+-- After the frames fs, which leave no message open, the scan has consumed one frame more, up to the end of these bytes,
+-- and reported it. The frame is a message by itself, with this opcode and this payload.
+pub record ConsumesMessage (role : Role) (limits : Limits) (new : Scan) (bytes : List ℕ) (fs : List Frame) (op : Op)
+    (payload : List ℕ) : Type 0 where
+  pub none_before : unfinished fs ≡ []
+  pub frame : Frame
+  pub has_scanned : HasScanned role limits new bytes (fs ++ frame ∷ []) [] (reported_of (fs ++ frame ∷ []))
+  pub final : frame.fin ≡ true
+  pub op_is : frame.op ≡ op
+  pub of_data : is_control op ≡ false
+  pub payload_is : payload ≡ frame.payload
+
+-- Whatever the scan has consumed and reported, it consumes the first n bytes of the piece, which are such a frame. The
+-- last `len` of them are its payload, unmasked.
+abbrev pub TakesMessage : Scan → Scan → List ℕ → List ℕ → Op → ℕ → ℕ → Type 0
+TakesMessage old new piece after op n len =
+    (role : Role) (limits : Limits) (bytes since : List ℕ) (fs : List Frame) (reported : Reported) →
+    HasScanned role limits old bytes fs since reported
+    → ConsumesMessage role limits new (bytes ++ take n piece) fs op (drop (n - len) (take n after))
 
 -- The scan is between frames, all of which were reported to their ends, and no message is open.
 abbrev pub IsIdle : Scan → Type 0

@@ -1,7 +1,8 @@
--- The events that a reader of notices reports at once, by their normal form.
-use Rattle.std.specs.Prelude.{◌≡◌, ℕ, List, [], ◌++◌}
+-- The events that a reader of notices reports at once, by their normal form, and a message by its payload.
+use Rattle.std.specs.Prelude.{◌≡◌, ℕ, true, false, List, [], ◌∷◌, ◌++◌, length}
 use Rattle.wsn_wire.specs.declared.endpoint.Role.{Role}
-use Rattle.wsn_wire.specs.Frame.{Frame}
+use Rattle.wsn_wire.specs.declared.opcode.Op.{Op}
+use Rattle.wsn_wire.specs.Frame.{Frame, is_control, stream}
 use Rattle.wsn_rules.specs.Limits.{Limits}
 use Rattle.wsn_rules.specs.Group.{unfinished}
 use Rattle.wsn_rules.specs.Meaning.{MeantEvent, meaning}
@@ -22,3 +23,18 @@ pub record ReportsEvents (role : Role) (limits : Limits) (new : NoticeReader) (c
   pub none_open : unfinished frames ≡ []
   pub means : meaning frames ≡ meaning done ++ events
   pub normal_is : held_payload new ≡ normal_form role events
+
+-- After the frames that were reported, between frames and with no message open, the reader has reported one frame more
+-- to its end, which begins at this offset. The frame is a message by itself, with this opcode, and the reader holds its
+-- payload, unmasked.
+pub record ReportsMessage (role : Role) (limits : Limits) (new : NoticeReader) (came : List ℕ) (done : List Frame)
+    (at : Position) (op : Op) (place : ℕ) : Type 0 where
+  pub between : at ≡ BetweenFrames
+  pub none_before : unfinished done ≡ []
+  pub frame : Frame
+  pub has_reported : HasReported role limits new came (done ++ frame ∷ []) BetweenFrames
+  pub final : frame.fin ≡ true
+  pub op_is : frame.op ≡ op
+  pub of_data : is_control op ≡ false
+  pub place_is : place ≡ length (stream done)
+  pub payload_is : held_payload new ≡ frame.payload

@@ -3,17 +3,17 @@ ghost use Rattle.std.specs.List.{slice_range};
 ghost use Rattle.wsn_wire.specs.Frame.{Frame, IsBytes};
 ghost use Rattle.wsn_scan.specs.Refill.{chunk_size};
 ghost use Rattle.wsn_scan.specs.Scans.{Advances, ConsumesFromPiece, room_of, refusal_in};
-ghost use Rattle.wsn_scan.specs.EventFrames.{TakesEvents, IsIdle};
+ghost use Rattle.wsn_scan.specs.EventFrames.{TakesEvents, TakesMessage, IsIdle};
 ghost use Rattle.wsn_scan.specs.WholeFrames.{TakesToEnd};
 ghost use Rattle.wsn_scan.specs.Reports.{refusal_in_notice};
 
 use crate::notice::Notice;
 use crate::refill::{CHUNK, refill};
-use crate::scan::Scan;
+use crate::scan::{EventFrame, Scan};
 use std::io::Read;
 use wsn_io::Stop;
 use wsn_rules::{HeadInfo, Limits, Verdict};
-use wsn_wire::{Input, Role};
+use wsn_wire::{Input, Op, Role};
 
 /// What [`NoticeReader::next`] returns.
 #[derive(Clone, Copy)]
@@ -47,7 +47,7 @@ pub struct NoticeReader {
 }
 
 impl NoticeReader {
-    ghost use Rattle.wsn_scan.specs.Words.{Role, Position, BetweenFrames, HasReported, IsReading, notices_left, held_payload, ReadsOn, IsNotice, ReportsStep, Progresses, IsUsed, IsFilled, ReportsEvents, ReportsFrame};
+    ghost use Rattle.wsn_scan.specs.Words.{Role, Position, BetweenFrames, HasReported, IsReading, notices_left, held_payload, ReadsOn, IsNotice, ReportsStep, Progresses, IsUsed, IsFilled, ReportsEvents, ReportsMessage, ReportsFrame};
 
     /// A reader that has read nothing. `role` is the endpoint that sent the stream. It allocates no memory.
     #[tactic(none)]
@@ -120,6 +120,27 @@ impl NoticeReader {
         self.at += count;
         self.from = from;
         true
+    }
+
+    /// Takes the frame that comes next if [`take_events`](NoticeReader::take_events) would and it is a message. Returns
+    /// its opcode and its offset; [`payload`](NoticeReader::payload) then returns the message, unmasked (RFC 6455
+    /// section 5.3). Otherwise nothing changes. It reads nothing.
+    #[inline(always)]
+    pub fn take_message(&mut self) -> Option<(Op, u64)>
+        requires { IsReading self.old }
+        ensures taken { IfSome result (λ message. (role : Role) (limits : _) (came : List ℕ) (done : List Frame)
+            (at : Position) → HasReported role limits self.old came done at →
+            ReportsMessage role limits self.new came done at message.0 message.1) }
+        ensures none { IfNone result (self.new ≡ self.old) }
+        ensures falls { IfSome result (λ _. notices_left self.new < notices_left self.old) }
+    {
+        let start = self.at;
+        let place = self.scan.used();
+        let frame = message_in_part(&mut self.scan, &mut self.buffer, start, self.end)?;
+        let at = start + frame.size;
+        self.at = at;
+        self.from = at - frame.len;
+        Some((frame.op, place))
     }
 
     /// Takes the frame that comes next if it is whole in the buffer, its payload isn't empty and it is valid, and reports
@@ -209,6 +230,26 @@ fn take_part(scan: &mut Scan, buffer: &mut [u8], at: usize, end: usize) -> usize
     ensures none { result ≡ 0 → (scan.new ≡ scan.old) × (buffer.new ≡ buffer.old) }
 {
     scan.take_events(&mut buffer[at..end])
+}
+
+/// Passes `buffer[at..end]` to the scan, which takes a message. The bytes after those consumed don't change.
+#[inline(always)]
+fn message_in_part(scan: &mut Scan, buffer: &mut [u8], at: usize, end: usize) -> Option<EventFrame>
+    requires within { (at ≤ end) × (end ≤ length buffer.old) }
+    requires fits { end ≤ room_of scan.old + at }
+    ensures taken { IfSome result (λ frame. TakesMessage scan.old scan.new (slice_range buffer.old at end)
+        (slice_range buffer.new at end) frame.op frame.size frame.len) }
+    ensures idle { IfSome result (λ _. IsIdle scan.old) }
+    ensures within { IfSome result (λ frame. (0 < frame.size) × (at + frame.size ≤ end)
+        × (frame.len ≤ frame.size)) }
+    ensures kept { IfSome result (λ frame.
+        slice_range buffer.new (at + frame.size) end ≡ slice_range buffer.old (at + frame.size) end) }
+    ensures room { IfSome result (λ frame. room_of scan.new + frame.size ≡ room_of scan.old) }
+    ensures reported { IfSome result (λ _. refusal_in scan.old ≡ None → refusal_in scan.new ≡ None) }
+    ensures none { IfNone result ((scan.new ≡ scan.old) × (buffer.new ≡ buffer.old)) }
+{
+    let frame = scan.take_message(&mut buffer[at..end])?;
+    Some(frame)
 }
 
 /// Passes `buffer[at..end]` to the scan, which takes a frame to its end. The bytes after those consumed don't change.

@@ -6,6 +6,7 @@ mod whole_frames;
 
 use crate::notice::Notice;
 use crate::stage::Stage;
+pub(crate) use event_frames::EventFrame;
 use std::fmt::{self, Debug, Formatter};
 use std::mem;
 use wsn_frame::{Counts, FrameContext, PartialHead};
@@ -62,6 +63,13 @@ impl Scan {
             Stage::Refused(refusal) => Some(refusal),
             _ => None,
         }
+    }
+
+    /// The number of bytes of the whole frames that it has consumed.
+    pub(crate) fn used(&self) -> u64
+        ensures { result ≡ self.now.used }
+    {
+        self.used
     }
 
     /// How many bytes it has consumed.

@@ -24,7 +24,7 @@ use Rattle.wsn_show.specs.declared.showing.ShowStop.{ShowStop}
 use Rattle.wsn_show.specs.declared.showing.ShowStop.TheVariants as stop
 use Rattle.wsn_show.specs.CaptureViews.{ShowsLine}
 use Rattle.wsn_show.specs.Showing.{IsTextOfLines, BeginWithLines, IsTextOf}
-use Rattle.wsn_show.specs.SplitLines.{GoesOn, EndsLine}
+use Rattle.wsn_capture.specs.SplitLines.{GoesOn, EndsLine}
 use Rattle.wsn_show.specs.PassedLines.{HasPrinted, StopsAtLine, StopsWithin}
 
 -- ---- lists
@@ -253,16 +253,6 @@ module _ (limits : Limits) (style : Style) (first : Outgoing) (view : CaptureVie
             (whole_part now after (styled_line style shows.shown) works shows.printed))
         | inr long ↦ absurd (not_long limits style first view begun now came has new line ends.bytes after ends.is ends.in_line long.1 shows)
       ]
-
-pub room_for_line : (begun line piece : List ℕ) (k : ℕ) → k ≤ length piece → EndsLine begun line piece k → length begun + k ≤ 8196
-room_for_line begun line piece k within ends =
-    let size = length-take-le k piece within in
-    let whole = length-append begun ends.bytes in
-    let is = ap (λ (bs : List ℕ). length bs) ends.is in
-    elim ends.ends [
-      | inl lf ↦ omega (arith, size, whole, is, lf.1, ap (λ (bs : List ℕ). length bs) lf.0, length-append ends.bytes (10 ∷ []))
-      | inr long ↦ omega (arith, size, whole, is, long.1, ap (λ (bs : List ℕ). length bs) long.0)
-    ]
 
 -- ---- the rest of a piece
 

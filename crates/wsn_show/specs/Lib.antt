@@ -7,7 +7,6 @@ pub mod ShownItems
 pub mod ShownSoFar
 pub mod StreamViews
 pub mod Times
-pub mod SplitLines
 pub mod CaptureViews
 pub mod Showing
 pub mod PassedLines

@@ -21,7 +21,6 @@ mod first_bytes;
 mod following;
 mod frame_so_far;
 mod last_bytes;
-mod lines;
 mod message_so_far;
 mod printing;
 mod scan_calls;

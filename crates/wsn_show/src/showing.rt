@@ -10,10 +10,9 @@ ghost use Rattle.wsn_show.specs.Showing.{IsShown};
 ghost use Rattle.wsn_show.specs.PassedLines.{HasPrinted, HasPrintedLines, IsPrinting, StopsAtLine, StopsWithin, EndsShowing, bytes_ahead};
 
 use crate::capture_view::CaptureView;
-use crate::lines::{BEGUN_MAX, Lines};
 use crate::style::Style;
 use std::io::{Read, Write};
-use wsn_capture::{CaptureStop, Report};
+use wsn_capture::{BEGUN_MAX, CaptureStop, Lines, Report};
 use wsn_io::{Input, Output};
 use wsn_print::put_report_as;
 use wsn_rules::Limits;
@@ -99,21 +98,21 @@ fn show_piece<W: Write>(
     piece: &[u8],
     output: &mut Output<W>,
 ) -> Result<(), ShowStop>
-    requires printing { IsPrinting view.old lines.old.begun.items output.old }
+    requires printing { IsPrinting view.old lines.old output.old }
     requires few { count_of view.old.capture ≤ 1000000 }
-    requires short { length lines.old.begun.items < BEGUN_MAX }
+    requires short { length lines.old < BEGUN_MAX }
     requires writable { output.old.failed ≡ false }
     ensures printed { OnOk result ((limits : Limits) (style : Style) (first : Outgoing) (came : List ℕ) →
-        HasPrinted limits style first view.old lines.old.begun.items output.old came →
-        HasPrinted limits style first view.new lines.new.begun.items output.new (came ++ piece.now)) }
+        HasPrinted limits style first view.old lines.old output.old came →
+        HasPrinted limits style first view.new lines.new output.new (came ++ piece.now)) }
     ensures stop { IfErr result (λ stop. (limits : Limits) (style : Style) (first : Outgoing) (came : List ℕ) →
-        HasPrinted limits style first view.old lines.old.begun.items output.old came →
+        HasPrinted limits style first view.old lines.old output.old came →
         StopsWithin limits style first output.new came piece.now stop) }
     ensures few { OnOk result (count_of view.new.capture ≤ 1000000) }
-    ensures short { OnOk result (length lines.new.begun.items < BEGUN_MAX) }
+    ensures short { OnOk result (length lines.new < BEGUN_MAX) }
     ensures writable { OnOk result (output.new.failed ≡ false) }
-    ensures left { OnOk result (bytes_ahead view.new lines.new.begun.items + length piece.now
-        ≤ bytes_ahead view.old lines.old.begun.items) }
+    ensures left { OnOk result (bytes_ahead view.new lines.new + length piece.now
+        ≤ bytes_ahead view.old lines.old) }
 {
     let mut taken = 0;
     while taken < piece.len() {

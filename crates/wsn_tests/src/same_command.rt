@@ -37,7 +37,7 @@ impl Pair {
     }
 }
 
-pub static PAIRS: [Pair; 10] = [
+pub static PAIRS: [Pair; 13] = [
     Pair {
         first: b"\x01\x03Hel\x89\x00\x80\x02lo",
         second: b"\x89\x00\x81\x05Hello",
@@ -87,6 +87,24 @@ pub static PAIRS: [Pair; 10] = [
         messages: 2,
     },
     Pair {
+        first: b"\x89\x00\x81\x02AB\x81\x01C",
+        second: b"\x89\x00\x81\x02AB\x01\x00\x80\x01C",
+        line: "equal",
+        messages: 2,
+    },
+    Pair {
+        first: b"\x89\x00\x81\x02AB\x81\x02CD",
+        second: b"\x89\x00\x81\x02AB\x82\x02CD",
+        line: "different 2",
+        messages: 2,
+    },
+    Pair {
+        first: b"\x89\x00\x81\x02AB\x8a\x00",
+        second: b"\x89\x00\x81\x02AC\x8a\x00",
+        line: "different 1",
+        messages: 2,
+    },
+    Pair {
         first: b"\x81",
         second: b"\xc1",
         line: "first cut 1",
@@ -120,6 +138,11 @@ fn streams_are_compared_by_what_they_mean(rt: HostRuntime) {
             let (first, second) = (
                 Chopped::new(pair.first, at_most),
                 Chopped::new(pair.second, 1),
+            );
+            expect_compared(&rt, rt.alloc(), first, second, pair.line);
+            let (first, second) = (
+                Chopped::new(pair.first, at_most),
+                Chopped::new(pair.second, at_most),
             );
             expect_compared(&rt, rt.alloc(), first, second, pair.line);
         }

@@ -1,8 +1,8 @@
 //! Frames that are whole in a piece and each end an event, with the event's normal frame written in their place.
-ghost use Rattle.std.specs.Prelude.{◌≡◌, ◌≢◌, ◌+◌, ◌<◌, ◌≤◌, true, None, length, drop, IsTrue, IfSome, IfNone};
-ghost use Rattle.wsn_wire.specs.Frame.{IsBytes};
+ghost use Rattle.std.specs.Prelude.{◌≡◌, ◌≢◌, ◌+◌, ◌<◌, ◌≤◌, true, false, None, length, drop, IsTrue, IfSome, IfNone};
+ghost use Rattle.wsn_wire.specs.Frame.{IsBytes, is_control};
 ghost use Rattle.wsn_frame.specs.PartialHeads.{encoded_form};
-ghost use Rattle.wsn_scan.specs.EventFrames.{IsEventFrame, TakesEvents, IsIdle, with_key_cleared};
+ghost use Rattle.wsn_scan.specs.EventFrames.{IsEventFrame, TakesEvents, TakesMessage, IsIdle, with_key_cleared};
 ghost use Rattle.wsn_scan.specs.Scans.{room_of, refusal_in};
 
 use super::Scan;
@@ -12,10 +12,12 @@ use wsn_wire::{Form, Op};
 
 /// A frame that ends an event.
 #[derive(Clone, Copy)]
-struct EventFrame {
-    op: Op,
+pub(crate) struct EventFrame {
+    pub(crate) op: Op,
     /// The number of the frame's bytes.
-    size: usize,
+    pub(crate) size: usize,
+    /// The number of the payload's bytes, the last of these.
+    pub(crate) len: usize,
 }
 
 impl Scan {
@@ -38,7 +40,7 @@ impl Scan {
         }
         let mut counts = self.counts;
         let mut at = 0;
-        while let Some(frame) = take_event(&self.context, &mut piece[at..]) {
+        while let Some(frame) = take_event(&self.context, false, &mut piece[at..]) {
             counts = counts.with(true, frame.op);
             at += frame.size;
         }
@@ -49,6 +51,32 @@ impl Scan {
         self.room -= at as u64;
         self.used = self.taken();
         at
+    }
+
+    /// Consumes the frame at the start of the piece if [`take_event`] takes it and it is a message, and writes the
+    /// message's normal frame in its place. It does so if the scan is between frames, their ends are reported, and no
+    /// message is open. Otherwise it returns `None`, and nothing changes.
+    #[inline(always)]
+    pub(crate) fn take_message(&mut self, piece: &mut [u8]) -> Option<EventFrame>
+        requires { length piece.old ≤ room_of self.old }
+        ensures taken { IfSome result (λ frame. IsBytes piece.old →
+            TakesMessage self.old self.new piece.old piece.new frame.op frame.size frame.len) }
+        ensures idle { IfSome result (λ _. IsIdle self.old) }
+        ensures within { IfSome result (λ frame. (0 < frame.size) × (frame.size ≤ length piece.old)
+            × (frame.len ≤ frame.size)) }
+        ensures kept { IfSome result (λ frame. drop frame.size piece.new ≡ drop frame.size piece.old) }
+        ensures room { IfSome result (λ frame. room_of self.new + frame.size ≡ room_of self.old) }
+        ensures reported { IfSome result (λ _. refusal_in self.old ≡ None → refusal_in self.new ≡ None) }
+        ensures none { IfNone result ((self.new ≡ self.old) × (piece.new ≡ piece.old)) }
+    {
+        if !self.is_idle() {
+            return None;
+        }
+        let frame = take_event(&self.context, true, piece)?;
+        self.counts = self.counts.with(true, frame.op);
+        self.room -= frame.size as u64;
+        self.used = self.taken();
+        Some(frame)
     }
 
     /// Whether it is between frames whose ends are reported, and no message is open.
@@ -62,20 +90,26 @@ impl Scan {
 
 /// Writes the normal frame of an event in place of the frame that ends it, at the start of the piece, and returns that
 /// frame. It does so if no message is open, the piece has the whole frame, and the frame is valid, final and no Close,
-/// has payload, and encodes its length shortest. Otherwise it returns `None`, and nothing changes.
+/// has payload, and encodes its length shortest; and, with `message`, is no control. Otherwise it returns `None`, and
+/// nothing changes.
 #[inline(always)]
 #[tactic(none)]
-fn take_event(context: &FrameContext, piece: &mut [u8]) -> Option<EventFrame>
+fn take_event(context: &FrameContext, message: bool, piece: &mut [u8]) -> Option<EventFrame>
     requires { context.now.message ≡ None }
     ensures taken { IfSome result (λ frame. IsBytes piece.old →
-        IsEventFrame context.now.role context.now.limits piece.old piece.new frame.op frame.size) }
-    ensures within { IfSome result (λ frame. (0 < frame.size) × (frame.size ≤ length piece.old)) }
+        IsEventFrame context.now.role context.now.limits piece.old piece.new frame.op frame.size frame.len) }
+    ensures data { IfSome result (λ frame. message ≡ true → is_control frame.op ≡ false) }
+    ensures within { IfSome result (λ frame. (0 < frame.size) × (frame.size ≤ length piece.old)
+        × (frame.len ≤ frame.size)) }
     ensures kept { IfSome result (λ frame. drop frame.size piece.new ≡ drop frame.size piece.old) }
     ensures none { IfNone result (piece.new ≡ piece.old) }
 {
     let (start, head) = whole_head(piece, context)?;
     let room = (piece.len() - start) as u64;
     if head.len == 0 || head.len > room || !is_plain(&head) {
+        return None;
+    }
+    if message && head.first.op.is_control() {
         return None;
     }
     let end = start + head.len as usize;
@@ -87,6 +121,7 @@ fn take_event(context: &FrameContext, piece: &mut [u8]) -> Option<EventFrame>
             Some(EventFrame {
                 op: head.first.op,
                 size: end,
+                len: head.len as usize,
             })
         }
         Err(_) => {

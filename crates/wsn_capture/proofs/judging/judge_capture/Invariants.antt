@@ -10,7 +10,7 @@ invariant-loop-count g l = record {
   read : HasRead l.fn.limits l.fn.input l.input l.lines;
   unfailed : l.input.failed ≡ false;
   few : count_of l.lines.capture ≤ 1000000;
-  short : length l.lines.begun.items < 8196;
+  short : length l.lines.begun < 8196;
   size : length l.piece ≡ 4096;
 }
 

@@ -1,19 +1,22 @@
-use Rattle.std.proofs.Common.{◌≡◌, ℕ, ◌+◌, ◌<◌, [], Option, Some, Ok, Err, refl, sym, ◌∙◌, arith, rules, ap, subst}
+use Rattle.std.proofs.Common.{◌≡◌, ℕ, [], Option, Some, Ok, Err, refl, sym, ◌∙◌, arith, rules, ap, subst}
 use Rattle.std.proofs.lemmas.Result.{err_from_is_err_and}
 use Rattle.wsn_rules.specs.LeftOut.{events_without}
 use Rattle.wsn_events.specs.declared.first_difference.FirstDifference.{FirstDifference}
 use Rattle.wsn_events.specs.declared.comparing.Round.{Round}
-use Rattle.wsn_events.specs.declared.comparing.Round.TheVariants.{Over}
+use Rattle.wsn_events.specs.declared.comparing.Round.TheVariants.{Alike, Over}
 use Rattle.wsn_events.specs.Comparing.{IsAnAccepted, IsRoundOf}
+use Rattle.wsn_events.specs.LentMessages.{lent_message}
+use Rattle.wsn_events.specs.Turns.{OfEvent, meant_turn}
 use Rattle.wsn_events.specs.Excerpts.{KeepsOf, index_in, IsContrasted}
-use Rattle.wsn_events.proofs.ComparedSources.{begins, begun, readable, gives_next, stops}
-use Rattle.wsn_events.proofs.ComparedRounds.{IsDifferenceSoFar, few_rounds, pending, on_alike, on_unlike}
+use Rattle.wsn_events.proofs.ComparedSources.{begins}
+use Rattle.wsn_events.proofs.ComparedTurns.{MayLend, after_begun, after_readable, lends, gives_turn, turn_stops, same_message}
+use Rattle.wsn_events.proofs.ComparedRounds.{few_rounds}
 use Rattle.wsn_events.proofs.Comparisons.{Compares, first_stops, second_stops}
 use Rattle.wsn_events.proofs.KeptExcerpts.{contrasts, goes_on}
 use Rattle.wsn_events.proofs.comparing.contrast.Goals as goal
 
-pub loop-others-init : goal.loop-others-init
-loop-others-init g c = record {
+pub loop-lent-init : goal.loop-lent-init
+loop-lent-init g c = record {
   came = [];
   given = [];
   followed = begins c.args.without c.args.role c.args.limits c.args.first.now c.new-events.result c.new-events.ensures c.requires.first;
@@ -25,74 +28,118 @@ loop-others-init g c = record {
   rounds = omega (arith, few_rounds c.args.role c.args.limits c.new-events.result c.new-events.ensures, few_rounds c.args.role c.args.limits c.new-others.result c.new-others.ensures);
 }
 
-pub returns-in_err-next : goal.returns-in_err-next
-returns-in_err-next g c =
+pub turn_of-requires-clause-begun : goal.turn_of-requires-clause-begun
+turn_of-requires-clause-begun g c =
+    let at = c.loop-lent.invariant in
+    let e = c.take_message-lent.ensures in
+    let may : MayLend c.loop-lent.events c.take_message-lent.new.self c.take_message-lent.result = record { taken = e.taken; going = e.going; none = e.none; falls = e.falls } in
+    after_begun c.args.without c.args.role c.args.limits c.args.first.now c.loop-lent.first c.loop-lent.events c.take_message-lent.new.self at.came at.given c.take_message-lent.result at.followed may
+
+pub turn_of-requires-clause-readable : goal.turn_of-requires-clause-readable
+turn_of-requires-clause-readable g c =
+    let at = c.loop-lent.invariant in
+    let e = c.take_message-lent.ensures in
+    let may : MayLend c.loop-lent.events c.take_message-lent.new.self c.take_message-lent.result = record { taken = e.taken; going = e.going; none = e.none; falls = e.falls } in
+    after_readable c.args.without c.args.role c.args.limits c.args.first.now c.loop-lent.first c.loop-lent.events c.take_message-lent.new.self at.came at.given c.take_message-lent.result at.followed may
+
+pub turn_of-requires-in-loop-lent-clause-begun : goal.turn_of-requires-in-loop-lent-clause-begun
+turn_of-requires-in-loop-lent-clause-begun g c =
+    let at = c.loop-lent.invariant in
+    let d = c.take_message-other_lent.ensures in
+    let other_may : MayLend c.loop-lent.others c.take_message-other_lent.new.self c.take_message-other_lent.result = record { taken = d.taken; going = d.going; none = d.none; falls = d.falls } in
+    after_begun c.args.without c.args.role c.args.limits c.args.second.now c.loop-lent.second c.loop-lent.others c.take_message-other_lent.new.self at.other_came at.other_given c.take_message-other_lent.result at.other_followed other_may
+
+pub turn_of-requires-in-loop-lent-clause-readable : goal.turn_of-requires-in-loop-lent-clause-readable
+turn_of-requires-in-loop-lent-clause-readable g c =
+    let at = c.loop-lent.invariant in
+    let d = c.take_message-other_lent.ensures in
+    let other_may : MayLend c.loop-lent.others c.take_message-other_lent.new.self c.take_message-other_lent.result = record { taken = d.taken; going = d.going; none = d.none; falls = d.falls } in
+    after_readable c.args.without c.args.role c.args.limits c.args.second.now c.loop-lent.second c.loop-lent.others c.take_message-other_lent.new.self at.other_came at.other_given c.take_message-other_lent.result at.other_followed other_may
+
+pub returns-in_err-turn : goal.returns-in_err-turn
+returns-in_err-turn g c =
     let out = err_from_is_err_and c.from_residual.result c.from_residual.ensures.1 in
-    let is : c.from_residual.result ≡ Err c.in_err-next.field-0.0 = out.1 ∙ ap Err out.2 in
-    let at = c.loop-others.invariant in
-    let next = c.next_without.ensures.next c.args.role c.args.limits at.came at.given in
-    let stopped = stops c.args.without c.args.role c.args.limits c.args.first.now c.loop-others.first c.next_without.new.input c.loop-others.events c.next_without.new.source at.came at.given c.next_without.result
-    at.followed next c.next_without.ensures.not_left_out c.next_without.ensures.falls c.next_without.ensures.again c.in_err-next.field-0.0 c.in_err-next.was in
+    let is : c.from_residual.result ≡ Err c.in_err-turn.field-0.0 = out.1 ∙ ap Err out.2 in
+    let at = c.loop-lent.invariant in
+    let e = c.take_message-lent.ensures in
+    let may : MayLend c.loop-lent.events c.take_message-lent.new.self c.take_message-lent.result = record { taken = e.taken; going = e.going; none = e.none; falls = e.falls } in
+    let stopped = turn_stops c.args.without c.args.role c.args.limits c.args.first.now c.loop-lent.first c.loop-lent.events c.take_message-lent.new.self at.came at.given c.take_message-lent.result at.followed may c.turn_of.new.input c.turn_of.new.source c.turn_of.result c.turn_of.ensures.lent c.turn_of.ensures.own c.in_err-turn.field-0.0 c.in_err-turn.was in
     rw is
-    (first_stops c.args.without c.args.role c.args.limits c.args.first.now c.next_without.new.input c.args.second.now c.loop-others.second c.loop-others.others at.other_came at.other_given at.other_followed c.in_err-next.field-0.0 stopped)
+    (first_stops c.args.without c.args.role c.args.limits c.args.first.now c.turn_of.new.input c.args.second.now c.loop-lent.second c.loop-lent.others at.other_came at.other_given at.other_followed c.in_err-turn.field-0.0 stopped)
 
 pub returns-in_err-other : goal.returns-in_err-other
 returns-in_err-other g c =
     let out = err_from_is_err_and c.from_residual-in_err-other.result c.from_residual-in_err-other.ensures.1 in
     let is : c.from_residual-in_err-other.result ≡ Err c.in_err-other.field-0.0 = out.1 ∙ ap Err out.2 in
-    let at = c.loop-others.invariant in
-    let next = c.next_without.ensures.next c.args.role c.args.limits at.came at.given in
-    let one = gives_next c.args.without c.args.role c.args.limits c.args.first.now c.loop-others.first c.next_without.new.input c.loop-others.events c.next_without.new.source at.came at.given c.next_without.result
-    at.followed next c.next_without.ensures.not_left_out c.next_without.ensures.falls c.next_without.ensures.again c.in_ok-next.next c.in_ok-next.was in
-    let other_next = c.next_without-in-loop-others.ensures.next c.args.role c.args.limits at.other_came at.other_given in
-    let stopped = stops c.args.without c.args.role c.args.limits c.args.second.now c.loop-others.second c.next_without-in-loop-others.new.input c.loop-others.others c.next_without-in-loop-others.new.source at.other_came at.other_given c.next_without-in-loop-others.result
-    at.other_followed other_next c.next_without-in-loop-others.ensures.not_left_out c.next_without-in-loop-others.ensures.falls c.next_without-in-loop-others.ensures.again c.in_err-other.field-0.0 c.in_err-other.was in
+    let at = c.loop-lent.invariant in
+    let e = c.take_message-lent.ensures in
+    let may : MayLend c.loop-lent.events c.take_message-lent.new.self c.take_message-lent.result = record { taken = e.taken; going = e.going; none = e.none; falls = e.falls } in
+    let d = c.take_message-other_lent.ensures in
+    let other_may : MayLend c.loop-lent.others c.take_message-other_lent.new.self c.take_message-other_lent.result = record { taken = d.taken; going = d.going; none = d.none; falls = d.falls } in
+    let one = gives_turn c.args.without c.args.role c.args.limits c.args.first.now c.loop-lent.first c.loop-lent.events c.take_message-lent.new.self at.came at.given c.take_message-lent.result at.followed may c.turn_of.new.input c.turn_of.new.source c.turn_of.result c.turn_of.ensures.lent c.turn_of.ensures.own c.in_ok-turn.turn c.in_ok-turn.was in
+    let stopped = turn_stops c.args.without c.args.role c.args.limits c.args.second.now c.loop-lent.second c.loop-lent.others c.take_message-other_lent.new.self at.other_came at.other_given c.take_message-other_lent.result at.other_followed other_may c.turn_of-in-loop-lent.new.input c.turn_of-in-loop-lent.new.source c.turn_of-in-loop-lent.result c.turn_of-in-loop-lent.ensures.lent c.turn_of-in-loop-lent.ensures.own c.in_err-other.field-0.0 c.in_err-other.was in
     rw is
-    (second_stops c.args.without c.args.role c.args.limits c.args.first.now c.next_without.new.input c.args.second.now c.next_without-in-loop-others.new.input c.loop-others.events c.next_without.new.source at.came at.given c.in_ok-next.next one c.in_err-other.field-0.0 stopped)
+    (second_stops c.args.without c.args.role c.args.limits c.args.first.now c.turn_of.new.input c.args.second.now c.turn_of-in-loop-lent.new.input c.loop-lent.events c.turn_of.new.source at.came at.given (meant_turn c.turn_of.new.source c.in_ok-turn.turn) one c.in_err-other.field-0.0 stopped)
+
+pub end_round-round-requires-clause-turn : goal.end_round-round-requires-clause-turn
+end_round-round-requires-clause-turn g c =
+    let at = c.loop-lent.invariant in
+    let e = c.take_message-lent.ensures in
+    let may : MayLend c.loop-lent.events c.take_message-lent.new.self c.take_message-lent.result = record { taken = e.taken; going = e.going; none = e.none; falls = e.falls } in
+    let one = gives_turn c.args.without c.args.role c.args.limits c.args.first.now c.loop-lent.first c.loop-lent.events c.take_message-lent.new.self at.came at.given c.take_message-lent.result at.followed may c.turn_of.new.input c.turn_of.new.source c.turn_of.result c.turn_of.ensures.lent c.turn_of.ensures.own c.in_ok-turn.turn c.in_ok-turn.was in
+    one.lawful
+
+pub end_round-round-requires-clause-other : goal.end_round-round-requires-clause-other
+end_round-round-requires-clause-other g c =
+    let at = c.loop-lent.invariant in
+    let d = c.take_message-other_lent.ensures in
+    let other_may : MayLend c.loop-lent.others c.take_message-other_lent.new.self c.take_message-other_lent.result = record { taken = d.taken; going = d.going; none = d.none; falls = d.falls } in
+    let two = gives_turn c.args.without c.args.role c.args.limits c.args.second.now c.loop-lent.second c.loop-lent.others c.take_message-other_lent.new.self at.other_came at.other_given c.take_message-other_lent.result at.other_followed other_may c.turn_of-in-loop-lent.new.input c.turn_of-in-loop-lent.new.source c.turn_of-in-loop-lent.result c.turn_of-in-loop-lent.ensures.lent c.turn_of-in-loop-lent.ensures.own c.in_ok-other.other c.in_ok-other.was in
+    two.lawful
 
 pub returns-in-Over : goal.returns-in-Over
 returns-in-Over g c =
-    let at = c.loop-others.invariant in
-    let next = c.next_without.ensures.next c.args.role c.args.limits at.came at.given in
-    let one = gives_next c.args.without c.args.role c.args.limits c.args.first.now c.loop-others.first c.next_without.new.input c.loop-others.events c.next_without.new.source at.came at.given c.next_without.result
-    at.followed next c.next_without.ensures.not_left_out c.next_without.ensures.falls c.next_without.ensures.again c.in_ok-next.next c.in_ok-next.was in
-    let other_next = c.next_without-in-loop-others.ensures.next c.args.role c.args.limits at.other_came at.other_given in
-    let two = gives_next c.args.without c.args.role c.args.limits c.args.second.now c.loop-others.second c.next_without-in-loop-others.new.input c.loop-others.others c.next_without-in-loop-others.new.source at.other_came at.other_given c.next_without-in-loop-others.result
-    at.other_followed other_next c.next_without-in-loop-others.ensures.not_left_out c.next_without-in-loop-others.ensures.falls c.next_without-in-loop-others.ensures.again c.in_ok-other.other c.in_ok-other.was in
-    let round : IsRoundOf c.in_ok-next.next c.in_ok-other.other (Over c.in-Over.verdict c.in-Over.other) = subst (λ (r : Round). IsRoundOf c.in_ok-next.next c.in_ok-other.other r) c.in-Over.is c.end_round-round.ensures.round in
-    let same : c.end_round-round.new.difference ≡ c.loop-others.difference =
-    subst (λ (r : Round). KeepsOf r c.loop-others.index c.next_without.new.source c.in_ok-next.next c.next_without-in-loop-others.new.source c.in_ok-other.other c.loop-others.difference c.end_round-round.new.difference) c.in-Over.is c.end_round-round.ensures.kept in
-    let index : c.index_of.result ≡ index_in c.loop-others.difference = c.index_of.ensures ∙ ap index_in same in
-    subst (λ (d : Option FirstDifference). IsContrasted c.args.without c.args.role c.args.limits c.args.first.now c.next_without.new.input c.args.second.now c.next_without-in-loop-others.new.input (Ok (c.outcome-compared.result, d))) (sym same)
-    (contrasts c.args.without c.args.role c.args.limits c.args.first.now c.args.second.now c.next_without.new.input c.next_without-in-loop-others.new.input c.loop-others.events c.next_without.new.source c.loop-others.others c.next_without-in-loop-others.new.source
-    at.came at.other_came at.given at.other_given c.in_ok-next.next c.in_ok-other.other one two c.loop-others.index c.loop-others.difference at.difference at.kept c.in-Over.verdict c.in-Over.other round c.outcome-compared.result
+    let at = c.loop-lent.invariant in
+    let e = c.take_message-lent.ensures in
+    let may : MayLend c.loop-lent.events c.take_message-lent.new.self c.take_message-lent.result = record { taken = e.taken; going = e.going; none = e.none; falls = e.falls } in
+    let d = c.take_message-other_lent.ensures in
+    let other_may : MayLend c.loop-lent.others c.take_message-other_lent.new.self c.take_message-other_lent.result = record { taken = d.taken; going = d.going; none = d.none; falls = d.falls } in
+    let one = gives_turn c.args.without c.args.role c.args.limits c.args.first.now c.loop-lent.first c.loop-lent.events c.take_message-lent.new.self at.came at.given c.take_message-lent.result at.followed may c.turn_of.new.input c.turn_of.new.source c.turn_of.result c.turn_of.ensures.lent c.turn_of.ensures.own c.in_ok-turn.turn c.in_ok-turn.was in
+    let two = gives_turn c.args.without c.args.role c.args.limits c.args.second.now c.loop-lent.second c.loop-lent.others c.take_message-other_lent.new.self at.other_came at.other_given c.take_message-other_lent.result at.other_followed other_may c.turn_of-in-loop-lent.new.input c.turn_of-in-loop-lent.new.source c.turn_of-in-loop-lent.result c.turn_of-in-loop-lent.ensures.lent c.turn_of-in-loop-lent.ensures.own c.in_ok-other.other c.in_ok-other.was in
+    let round : IsRoundOf (meant_turn c.turn_of.new.source c.in_ok-turn.turn) (meant_turn c.turn_of-in-loop-lent.new.source c.in_ok-other.other) (Over c.in-Over.verdict c.in-Over.other) = subst (λ (r : Round). IsRoundOf (meant_turn c.turn_of.new.source c.in_ok-turn.turn) (meant_turn c.turn_of-in-loop-lent.new.source c.in_ok-other.other) r) c.in-Over.is c.end_round-round.ensures.round in
+    let same : c.end_round-round.new.difference ≡ c.loop-lent.difference =
+    subst (λ (r : Round). KeepsOf r c.loop-lent.index c.turn_of.new.source (meant_turn c.turn_of.new.source c.in_ok-turn.turn) c.turn_of-in-loop-lent.new.source (meant_turn c.turn_of-in-loop-lent.new.source c.in_ok-other.other) c.loop-lent.difference c.end_round-round.new.difference) c.in-Over.is c.end_round-round.ensures.kept in
+    let index : c.index_of.result ≡ index_in c.loop-lent.difference = c.index_of.ensures ∙ ap index_in same in
+    subst (λ (d : Option FirstDifference). IsContrasted c.args.without c.args.role c.args.limits c.args.first.now c.turn_of.new.input c.args.second.now c.turn_of-in-loop-lent.new.input (Ok (c.outcome-compared.result, d))) (sym same)
+    (contrasts c.args.without c.args.role c.args.limits c.args.first.now c.args.second.now c.turn_of.new.input c.turn_of-in-loop-lent.new.input c.loop-lent.events c.turn_of.new.source c.loop-lent.others c.turn_of-in-loop-lent.new.source
+    at.came at.other_came at.given at.other_given (meant_turn c.turn_of.new.source c.in_ok-turn.turn) (meant_turn c.turn_of-in-loop-lent.new.source c.in_ok-other.other) one two c.loop-lent.index c.loop-lent.difference at.difference at.kept c.in-Over.verdict c.in-Over.other round c.outcome-compared.result
     (subst (λ (d : Option ℕ). Compares (events_without c.args.without) c.in-Over.verdict c.in-Over.other d c.outcome-compared.result) index (c.outcome-compared.ensures.answer (events_without c.args.without)))
     (λ k is. subst (λ (d : Option ℕ). (d ≡ Some k) × IsAnAccepted c.in-Over.verdict × IsAnAccepted c.in-Over.other) index (c.outcome-compared.ensures.differs k is)))
 
-pub loop-others-smaller : goal.loop-others-smaller
-loop-others-smaller g c =
-    let at = c.loop-others.invariant in
-    let next = c.next_without.ensures.next c.args.role c.args.limits at.came at.given in
-    let one = gives_next c.args.without c.args.role c.args.limits c.args.first.now c.loop-others.first c.next_without.new.input c.loop-others.events c.next_without.new.source at.came at.given c.next_without.result
-    at.followed next c.next_without.ensures.not_left_out c.next_without.ensures.falls c.next_without.ensures.again c.in_ok-next.next c.in_ok-next.was in
-    let other_next = c.next_without-in-loop-others.ensures.next c.args.role c.args.limits at.other_came at.other_given in
-    let two = gives_next c.args.without c.args.role c.args.limits c.args.second.now c.loop-others.second c.next_without-in-loop-others.new.input c.loop-others.others c.next_without-in-loop-others.new.source at.other_came at.other_given c.next_without-in-loop-others.result
-    at.other_followed other_next c.next_without-in-loop-others.ensures.not_left_out c.next_without-in-loop-others.ensures.falls c.next_without-in-loop-others.ensures.again c.in_ok-other.other c.in_ok-other.was in
-    let on = goes_on c.args.without c.args.role c.args.limits c.args.first.now c.args.second.now c.next_without.new.input c.next_without-in-loop-others.new.input c.loop-others.events c.next_without.new.source c.loop-others.others c.next_without-in-loop-others.new.source
-    at.came at.other_came at.given at.other_given c.in_ok-next.next c.in_ok-other.other one two c.loop-others.index c.loop-others.difference c.end_round-round.new.difference c.end_round-round.result c.end_round-round.ensures.round c.in_default.not-Over c.end_round-round.ensures.kept at.difference at.kept in
+pub loop-lent-smaller : goal.loop-lent-smaller
+loop-lent-smaller g c =
+    let at = c.loop-lent.invariant in
+    let e = c.take_message-lent.ensures in
+    let may : MayLend c.loop-lent.events c.take_message-lent.new.self c.take_message-lent.result = record { taken = e.taken; going = e.going; none = e.none; falls = e.falls } in
+    let d = c.take_message-other_lent.ensures in
+    let other_may : MayLend c.loop-lent.others c.take_message-other_lent.new.self c.take_message-other_lent.result = record { taken = d.taken; going = d.going; none = d.none; falls = d.falls } in
+    let one = gives_turn c.args.without c.args.role c.args.limits c.args.first.now c.loop-lent.first c.loop-lent.events c.take_message-lent.new.self at.came at.given c.take_message-lent.result at.followed may c.turn_of.new.input c.turn_of.new.source c.turn_of.result c.turn_of.ensures.lent c.turn_of.ensures.own c.in_ok-turn.turn c.in_ok-turn.was in
+    let two = gives_turn c.args.without c.args.role c.args.limits c.args.second.now c.loop-lent.second c.loop-lent.others c.take_message-other_lent.new.self at.other_came at.other_given c.take_message-other_lent.result at.other_followed other_may c.turn_of-in-loop-lent.new.input c.turn_of-in-loop-lent.new.source c.turn_of-in-loop-lent.result c.turn_of-in-loop-lent.ensures.lent c.turn_of-in-loop-lent.ensures.own c.in_ok-other.other c.in_ok-other.was in
+    let on = goes_on c.args.without c.args.role c.args.limits c.args.first.now c.args.second.now c.turn_of.new.input c.turn_of-in-loop-lent.new.input c.loop-lent.events c.turn_of.new.source c.loop-lent.others c.turn_of-in-loop-lent.new.source
+    at.came at.other_came at.given at.other_given (meant_turn c.turn_of.new.source c.in_ok-turn.turn) (meant_turn c.turn_of-in-loop-lent.new.source c.in_ok-other.other) one two c.loop-lent.index c.loop-lent.difference c.end_round-round.new.difference c.end_round-round.result c.end_round-round.ensures.round c.in_default.not-Over c.end_round-round.ensures.kept at.difference at.kept in
     on.falls
 
-pub loop-others-preserved : goal.loop-others-preserved
-loop-others-preserved g c =
-    let at = c.loop-others.invariant in
-    let next = c.next_without.ensures.next c.args.role c.args.limits at.came at.given in
-    let one = gives_next c.args.without c.args.role c.args.limits c.args.first.now c.loop-others.first c.next_without.new.input c.loop-others.events c.next_without.new.source at.came at.given c.next_without.result
-    at.followed next c.next_without.ensures.not_left_out c.next_without.ensures.falls c.next_without.ensures.again c.in_ok-next.next c.in_ok-next.was in
-    let other_next = c.next_without-in-loop-others.ensures.next c.args.role c.args.limits at.other_came at.other_given in
-    let two = gives_next c.args.without c.args.role c.args.limits c.args.second.now c.loop-others.second c.next_without-in-loop-others.new.input c.loop-others.others c.next_without-in-loop-others.new.source at.other_came at.other_given c.next_without-in-loop-others.result
-    at.other_followed other_next c.next_without-in-loop-others.ensures.not_left_out c.next_without-in-loop-others.ensures.falls c.next_without-in-loop-others.ensures.again c.in_ok-other.other c.in_ok-other.was in
-    let on = goes_on c.args.without c.args.role c.args.limits c.args.first.now c.args.second.now c.next_without.new.input c.next_without-in-loop-others.new.input c.loop-others.events c.next_without.new.source c.loop-others.others c.next_without-in-loop-others.new.source
-    at.came at.other_came at.given at.other_given c.in_ok-next.next c.in_ok-other.other one two c.loop-others.index c.loop-others.difference c.end_round-round.new.difference c.end_round-round.result c.end_round-round.ensures.round c.in_default.not-Over c.end_round-round.ensures.kept at.difference at.kept in
+pub loop-lent-preserved : goal.loop-lent-preserved
+loop-lent-preserved g c =
+    let at = c.loop-lent.invariant in
+    let e = c.take_message-lent.ensures in
+    let may : MayLend c.loop-lent.events c.take_message-lent.new.self c.take_message-lent.result = record { taken = e.taken; going = e.going; none = e.none; falls = e.falls } in
+    let d = c.take_message-other_lent.ensures in
+    let other_may : MayLend c.loop-lent.others c.take_message-other_lent.new.self c.take_message-other_lent.result = record { taken = d.taken; going = d.going; none = d.none; falls = d.falls } in
+    let one = gives_turn c.args.without c.args.role c.args.limits c.args.first.now c.loop-lent.first c.loop-lent.events c.take_message-lent.new.self at.came at.given c.take_message-lent.result at.followed may c.turn_of.new.input c.turn_of.new.source c.turn_of.result c.turn_of.ensures.lent c.turn_of.ensures.own c.in_ok-turn.turn c.in_ok-turn.was in
+    let two = gives_turn c.args.without c.args.role c.args.limits c.args.second.now c.loop-lent.second c.loop-lent.others c.take_message-other_lent.new.self at.other_came at.other_given c.take_message-other_lent.result at.other_followed other_may c.turn_of-in-loop-lent.new.input c.turn_of-in-loop-lent.new.source c.turn_of-in-loop-lent.result c.turn_of-in-loop-lent.ensures.lent c.turn_of-in-loop-lent.ensures.own c.in_ok-other.other c.in_ok-other.was in
+    let on = goes_on c.args.without c.args.role c.args.limits c.args.first.now c.args.second.now c.turn_of.new.input c.turn_of-in-loop-lent.new.input c.loop-lent.events c.turn_of.new.source c.loop-lent.others c.turn_of-in-loop-lent.new.source
+    at.came at.other_came at.given at.other_given (meant_turn c.turn_of.new.source c.in_ok-turn.turn) (meant_turn c.turn_of-in-loop-lent.new.source c.in_ok-other.other) one two c.loop-lent.index c.loop-lent.difference c.end_round-round.new.difference c.end_round-round.result c.end_round-round.ensures.round c.in_default.not-Over c.end_round-round.ensures.kept at.difference at.kept in
     record {
       came = one.came;
       given = one.events;
@@ -105,36 +152,60 @@ loop-others-preserved g c =
       rounds = let falls = on.falls in omega (arith, falls, at.rounds);
     }
 
-pub next_without-requires : goal.next_without-requires
-next_without-requires g c = record { begun = begun c.args.without c.args.role c.args.limits c.args.first.now c.loop-others.first c.loop-others.events c.loop-others.invariant.came c.loop-others.invariant.given c.loop-others.invariant.followed; readable = readable c.args.without c.args.role c.args.limits c.args.first.now c.loop-others.first c.loop-others.events c.loop-others.invariant.came c.loop-others.invariant.given c.loop-others.invariant.followed }
+pub loop-lent-smaller-then-are_lent_alike : goal.loop-lent-smaller-then-are_lent_alike
+loop-lent-smaller-then-are_lent_alike g c =
+    let at = c.loop-lent.invariant in
+    let e = c.take_message-lent.ensures in
+    let may : MayLend c.loop-lent.events c.take_message-lent.new.self c.take_message-lent.result = record { taken = e.taken; going = e.going; none = e.none; falls = e.falls } in
+    let d = c.take_message-other_lent.ensures in
+    let other_may : MayLend c.loop-lent.others c.take_message-other_lent.new.self c.take_message-other_lent.result = record { taken = d.taken; going = d.going; none = d.none; falls = d.falls } in
+    let alike = c.are_lent_alike.ensures c.if-are_lent_alike.true in
+    let one = lends c.args.without c.args.role c.args.limits c.args.first.now c.loop-lent.first c.loop-lent.events c.take_message-lent.new.self at.came at.given c.take_message-lent.result at.followed may alike.kind alike.is in
+    let two = lends c.args.without c.args.role c.args.limits c.args.second.now c.loop-lent.second c.loop-lent.others c.take_message-other_lent.new.self at.other_came at.other_given c.take_message-other_lent.result at.other_followed other_may alike.kind alike.other_is in
+    let on = goes_on c.args.without c.args.role c.args.limits c.args.first.now c.args.second.now c.loop-lent.first c.loop-lent.second c.loop-lent.events c.take_message-lent.new.self c.loop-lent.others c.take_message-other_lent.new.self
+    at.came at.other_came at.given at.other_given (OfEvent (lent_message c.take_message-lent.new.self alike.kind)) (OfEvent (lent_message c.take_message-other_lent.new.self alike.kind)) one two c.loop-lent.index c.loop-lent.difference c.loop-lent.difference Alike
+    (same_message c.take_message-lent.new.self c.take_message-lent.result c.take_message-other_lent.new.self c.take_message-other_lent.result alike) (λ v w over. absurd cc) refl at.difference at.kept in
+    on.falls
 
-pub same-others : goal.same-others
-same-others g c = search rules
-
-pub next_without-requires-in-loop-others : goal.next_without-requires-in-loop-others
-next_without-requires-in-loop-others g c = record { begun = begun c.args.without c.args.role c.args.limits c.args.second.now c.loop-others.second c.loop-others.others c.loop-others.invariant.other_came c.loop-others.invariant.other_given c.loop-others.invariant.other_followed; readable = readable c.args.without c.args.role c.args.limits c.args.second.now c.loop-others.second c.loop-others.others c.loop-others.invariant.other_came c.loop-others.invariant.other_given c.loop-others.invariant.other_followed }
+pub loop-lent-preserved-then-are_lent_alike : goal.loop-lent-preserved-then-are_lent_alike
+loop-lent-preserved-then-are_lent_alike g c =
+    let at = c.loop-lent.invariant in
+    let e = c.take_message-lent.ensures in
+    let may : MayLend c.loop-lent.events c.take_message-lent.new.self c.take_message-lent.result = record { taken = e.taken; going = e.going; none = e.none; falls = e.falls } in
+    let d = c.take_message-other_lent.ensures in
+    let other_may : MayLend c.loop-lent.others c.take_message-other_lent.new.self c.take_message-other_lent.result = record { taken = d.taken; going = d.going; none = d.none; falls = d.falls } in
+    let alike = c.are_lent_alike.ensures c.if-are_lent_alike.true in
+    let one = lends c.args.without c.args.role c.args.limits c.args.first.now c.loop-lent.first c.loop-lent.events c.take_message-lent.new.self at.came at.given c.take_message-lent.result at.followed may alike.kind alike.is in
+    let two = lends c.args.without c.args.role c.args.limits c.args.second.now c.loop-lent.second c.loop-lent.others c.take_message-other_lent.new.self at.other_came at.other_given c.take_message-other_lent.result at.other_followed other_may alike.kind alike.other_is in
+    let on = goes_on c.args.without c.args.role c.args.limits c.args.first.now c.args.second.now c.loop-lent.first c.loop-lent.second c.loop-lent.events c.take_message-lent.new.self c.loop-lent.others c.take_message-other_lent.new.self
+    at.came at.other_came at.given at.other_given (OfEvent (lent_message c.take_message-lent.new.self alike.kind)) (OfEvent (lent_message c.take_message-other_lent.new.self alike.kind)) one two c.loop-lent.index c.loop-lent.difference c.loop-lent.difference Alike
+    (same_message c.take_message-lent.new.self c.take_message-lent.result c.take_message-other_lent.new.self c.take_message-other_lent.result alike) (λ v w over. absurd cc) refl at.difference at.kept in
+    record {
+      came = one.came;
+      given = one.events;
+      followed = one.followed;
+      other_came = two.came;
+      other_given = two.events;
+      other_followed = two.followed;
+      difference = on.difference;
+      kept = on.kept;
+      rounds = let falls = on.falls in omega (arith, falls, at.rounds);
+    }
 
 pub overflow_add-index : goal.overflow_add-index
 overflow_add-index g c = search rules
 
+pub same-others : goal.same-others
+same-others g c = search rules
+
 pub same-events : goal.same-events
 same-events g c = search rules
 
-pub same-others-in-loop-others : goal.same-others-in-loop-others
-same-others-in-loop-others g c = search rules
+pub overflow_add-index-in-loop-lent : goal.overflow_add-index-in-loop-lent
+overflow_add-index-in-loop-lent g c = search rules
 
-pub end_round-round-requires-clause-next : goal.end_round-round-requires-clause-next
-end_round-round-requires-clause-next g c =
-    let at = c.loop-others.invariant in
-    let next = c.next_without.ensures.next c.args.role c.args.limits at.came at.given in
-    let one = gives_next c.args.without c.args.role c.args.limits c.args.first.now c.loop-others.first c.next_without.new.input c.loop-others.events c.next_without.new.source at.came at.given c.next_without.result
-    at.followed next c.next_without.ensures.not_left_out c.next_without.ensures.falls c.next_without.ensures.again c.in_ok-next.next c.in_ok-next.was in
-    one.lawful
+pub same-others-in-loop-lent : goal.same-others-in-loop-lent
+same-others-in-loop-lent g c = search rules
 
-pub end_round-round-requires-clause-other : goal.end_round-round-requires-clause-other
-end_round-round-requires-clause-other g c =
-    let at = c.loop-others.invariant in
-    let other_next = c.next_without-in-loop-others.ensures.next c.args.role c.args.limits at.other_came at.other_given in
-    let two = gives_next c.args.without c.args.role c.args.limits c.args.second.now c.loop-others.second c.next_without-in-loop-others.new.input c.loop-others.others c.next_without-in-loop-others.new.source at.other_came at.other_given c.next_without-in-loop-others.result
-    at.other_followed other_next c.next_without-in-loop-others.ensures.not_left_out c.next_without-in-loop-others.ensures.falls c.next_without-in-loop-others.ensures.again c.in_ok-other.other c.in_ok-other.was in
-    two.lawful
+pub same-others-in-loop-lent-2 : goal.same-others-in-loop-lent-2
+same-others-in-loop-lent-2 g c = search rules

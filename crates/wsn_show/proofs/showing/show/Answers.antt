@@ -11,7 +11,7 @@ use Rattle.wsn_show.proofs.showing.show.Goals as goal
 
 pub loop-count-init : goal.loop-count-init
 loop-count-init g c = record {
-  read = begins c.args.limits c.args.style c.args.input.now c.args.output.now c.new-capture.result c.new-lines.result.begun.items c.new-lines.ensures
+  read = begins c.args.limits c.args.style c.args.input.now c.args.output.now c.new-capture.result c.new-lines.result c.new-lines.ensures
       (c.new-capture.ensures) c.requires.writable;
   unfailed = c.requires.readable;
   writable = c.requires.writable;
@@ -29,7 +29,7 @@ read-requires g c = search rules
 pub returns-in_default : goal.returns-in_default
 returns-in_default g c =
     let inv = c.loop-count.invariant in
-    stopped c.args.limits c.args.style c.args.input.now c.loop-count.input c.read.new.self c.args.output.now c.loop-count.capture c.loop-count.lines.begun.items c.loop-count.output
+    stopped c.args.limits c.args.style c.args.input.now c.loop-count.input c.read.new.self c.args.output.now c.loop-count.capture c.loop-count.lines c.loop-count.output
     inv.read inv.few c.in_default.ensures.none.1 c.in_default.ensures.none.0
 
 pub end-requires-clause-printing : goal.end-requires-clause-printing
@@ -50,7 +50,7 @@ returns-then-count-eq0 g c =
     let came = consumed_read c.loop-count.input c.read.new.self c.read.new.into c.in-Some.count c.in-Some.ensures.within c.in-Some.ensures.bytes c.in-Some.ensures.counted in
     let nothing = subst (λ (n : ℕ). IsConsumed c.loop-count.input c.read.new.self (take n c.read.new.into)) c.if-count-eq0.true came in
     let printed = subst (λ (bs : List ℕ). HasPrinted c.args.limits c.args.style c.args.output.now c.loop-count.capture bs c.loop-count.output inv.read.came) (sym c.line.ensures) inv.read.printed in
-    ended c.args.limits c.args.style c.args.input.now c.loop-count.input c.read.new.self c.args.output.now c.loop-count.capture c.loop-count.lines.begun.items c.loop-count.output
+    ended c.args.limits c.args.style c.args.input.now c.loop-count.input c.read.new.self c.args.output.now c.loop-count.capture c.loop-count.lines c.loop-count.output
     inv.read inv.few c.end.result c.end.new.output nothing (c.in-Some.ensures.end c.if-count-eq0.true) (c.in-Some.ensures.some ∙ inv.unfailed)
     (c.end.ensures c.args.limits c.args.style c.args.output.now inv.read.came printed)
 
@@ -81,8 +81,8 @@ pub loop-count-preserved : goal.loop-count-preserved
 loop-count-preserved g c =
     let inv = c.loop-count.invariant in
     record {
-      read = goes_on c.args.limits c.args.style c.args.input.now c.loop-count.input c.read.new.self c.args.output.now c.loop-count.capture c.loop-count.lines.begun.items c.loop-count.output
-          inv.read inv.few (take c.in-Some.count c.read.new.into) c.show_piece.new.view c.show_piece.new.lines.begun.items c.show_piece.new.output
+      read = goes_on c.args.limits c.args.style c.args.input.now c.loop-count.input c.read.new.self c.args.output.now c.loop-count.capture c.loop-count.lines c.loop-count.output
+          inv.read inv.few (take c.in-Some.count c.read.new.into) c.show_piece.new.view c.show_piece.new.lines c.show_piece.new.output
           (consumed_read c.loop-count.input c.read.new.self c.read.new.into c.in-Some.count c.in-Some.ensures.within c.in-Some.ensures.bytes c.in-Some.ensures.counted)
           (c.in_ok-show_piece.ensures.printed c.args.limits c.args.style c.args.output.now inv.read.came inv.read.printed);
       unfailed = c.in-Some.ensures.some ∙ inv.unfailed;
@@ -99,7 +99,7 @@ returns-in_err-show_piece g c =
     let is : c.from_residual.result ≡ Err c.in_err-show_piece.field-0.0 = out.1 ∙ ap Err out.2 in
     let size : length (take c.in-Some.count c.read.new.into) ≤ 4096 = omega (arith, length-take-le c.in-Some.count c.read.new.into c.in-Some.ensures.within, c.in-Some.ensures.within, c.read.auto.into) in
     subst (λ (r : Result Report ShowStop). IsShown c.args.limits c.args.style c.args.input.now c.read.new.self c.args.output.now c.show_piece.new.output r) (sym is)
-    (stops_here c.args.limits c.args.style c.args.input.now c.loop-count.input c.read.new.self c.args.output.now c.loop-count.capture c.loop-count.lines.begun.items c.loop-count.output
+    (stops_here c.args.limits c.args.style c.args.input.now c.loop-count.input c.read.new.self c.args.output.now c.loop-count.capture c.loop-count.lines c.loop-count.output
     inv.read inv.few (take c.in-Some.count c.read.new.into) c.in_err-show_piece.field-0.0 c.show_piece.new.output
     (consumed_read c.loop-count.input c.read.new.self c.read.new.into c.in-Some.count c.in-Some.ensures.within c.in-Some.ensures.bytes c.in-Some.ensures.counted) size (c.in-Some.ensures.some ∙ inv.unfailed)
     (c.in_err-show_piece.ensures.stop c.args.limits c.args.style c.args.output.now inv.read.came inv.read.printed))

@@ -10,13 +10,13 @@ use Rattle.wsn_show.proofs.showing.show_piece.Given as goal
 abbrev pub invariant-loop-taken : goal.invariant-loop-taken
 invariant-loop-taken g l = record {
   within : l.taken ≤ length l.piece;
-  printing : IsPrinting l.view l.lines.begun.items l.output;
+  printing : IsPrinting l.view l.lines l.output;
   few : count_of l.view.capture ≤ 1000000;
-  short : length l.lines.begun.items < 8196;
+  short : length l.lines < 8196;
   writable : l.output.failed ≡ false;
-  printed : (limits : Limits) (style : Style) (first : Outgoing) (came : List ℕ) → HasPrinted limits style first l.fn.view l.fn.lines.begun.items l.fn.output came
-      → HasPrinted limits style first l.view l.lines.begun.items l.output (came ++ take l.taken l.piece);
-  left : bytes_ahead l.view l.lines.begun.items + l.taken ≤ bytes_ahead l.fn.view l.fn.lines.begun.items;
+  printed : (limits : Limits) (style : Style) (first : Outgoing) (came : List ℕ) → HasPrinted limits style first l.fn.view l.fn.lines l.fn.output came
+      → HasPrinted limits style first l.view l.lines l.output (came ++ take l.taken l.piece);
+  left : bytes_ahead l.view l.lines + l.taken ≤ bytes_ahead l.fn.view l.fn.lines;
 }
 
 abbrev pub decreases-loop-taken : goal.decreases-loop-taken

@@ -9,7 +9,7 @@ abbrev pub invariant-loop-taken : goal.invariant-loop-taken
 invariant-loop-taken l = record {
   within : l.taken ≤ length l.piece;
   few : count_of l.self.capture ≤ 1000000;
-  short : length l.self.begun.items < 8196;
+  short : length l.self.begun < 8196;
   split : (limits : Limits) (came : List ℕ) → HasSplit limits l.fn.self came → HasSplit limits l.self (came ++ take l.taken l.piece);
   left : bytes_left l.self + l.taken ≤ bytes_left l.fn.self;
 }

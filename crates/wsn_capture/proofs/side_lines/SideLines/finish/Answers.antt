@@ -1,5 +1,5 @@
 use Rattle.std.proofs.lemmas.Grind.{common_steps}
-use Rattle.std.proofs.Common.{arith, rules, [], sym, ◌∙◌}
+use Rattle.std.proofs.Common.{ℕ, ◌==◌, List, length, ap, arith, rules, [], sym, ◌∙◌}
 use Rattle.wsn_capture.proofs.SplitLines.{empty_is, not_empty}
 use Rattle.wsn_capture.proofs.SideSteps.{last_text}
 use Rattle.wsn_capture.proofs.side_lines.SideLines.finish.Goals as goal
@@ -7,13 +7,13 @@ use Rattle.wsn_capture.proofs.side_lines.SideLines.finish.Goals as goal
 pub returns-then-not-is_empty-clause-left : goal.returns-then-not-is_empty-clause-left
 returns-then-not-is_empty-clause-left c =
     let old = c.args.self.now in
-    c.end_begun.ensures.left [] ∙ last_text old.side old.begun.items c.requires.in_line (not_empty old.begun.items (sym c.is_empty.ensures ∙ c.if-not-is_empty.true))
+    c.end_line.ensures.left [] ∙ last_text old.side old.begun c.requires.in_line (not_empty old.begun (ap (λ (bs : List ℕ). length bs == 0) (sym c.line.ensures) ∙ sym c.is_empty.ensures ∙ c.if-not-is_empty.true))
 
 pub is_empty-requires : goal.is_empty-requires
 is_empty-requires c = search rules
 
-pub end_begun-requires : goal.end_begun-requires
-end_begun-requires c = search rules
+pub end_line-requires : goal.end_line-requires
+end_line-requires c = search rules
 
 pub returns-then-not-is_empty-clause-begun : goal.returns-then-not-is_empty-clause-begun
 returns-then-not-is_empty-clause-begun c = search rules
@@ -22,4 +22,4 @@ pub returns-else-not-is_empty-clause-left : goal.returns-else-not-is_empty-claus
 returns-else-not-is_empty-clause-left c = grind (arith, common_steps)
 
 pub returns-else-not-is_empty-clause-begun : goal.returns-else-not-is_empty-clause-begun
-returns-else-not-is_empty-clause-begun c = empty_is c.args.self.now.begun.items (sym c.is_empty.ensures ∙ c.if-not-is_empty.false)
+returns-else-not-is_empty-clause-begun c = empty_is c.args.self.now.begun (ap (λ (bs : List ℕ). length bs == 0) (sym c.line.ensures) ∙ sym c.is_empty.ensures ∙ c.if-not-is_empty.false)

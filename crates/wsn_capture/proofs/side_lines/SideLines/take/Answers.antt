@@ -1,94 +1,50 @@
-use Rattle.std.proofs.Common.{◌≡◌, ◌+◌, ◌++◌, ◌∷◌, ℕ, List, length, take, drop, sym, ap, ◌∙◌, rules, arith, append_assoc, take-append-drop, length-take-le}
+use Rattle.std.proofs.Common.{◌≡◌, ◌+◌, ◌++◌, ◌∷◌, [], ℕ, List, length, take, drop, inl, inr, sym, ap, ◌∙◌, subst, arith, append_assoc, take-append-drop, length-append, length-take-le}
 use Rattle.wsn_rules.specs.TextLines.{IsLine, lines_of}
 use Rattle.wsn_capture.specs.SideStates.{side_left, text_left}
 use Rattle.wsn_capture.proofs.SplitLines.{line_join}
-use Rattle.wsn_capture.proofs.PiecePrefixes.{no_lf, no_lf_in}
-use Rattle.wsn_capture.proofs.SideSteps.{line_text, chunk_at}
+use Rattle.wsn_capture.proofs.SideSteps.{ended_text, fewer_ahead}
 use Rattle.wsn_capture.proofs.side_lines.SideLines.take.Goals as goal
 
-pub returns-in-Some-clause-left : goal.returns-in-Some-clause-left
-returns-in-Some-clause-left c later =
+pub returns-then-ended-clause-left : goal.returns-then-ended-clause-left
+returns-then-ended-clause-left c later =
     let old = c.args.self.now in
     let chunk = c.args.chunk.now in
-    let end = c.in-Some.end in
-    let front = take c.min.result chunk in
-    let bytes = take end front in
-    let rest = drop (end + 1) chunk in
-    let in_line : IsLine (old.begun.items ++ bytes) = line_join old.begun.items bytes c.requires.in_line (no_lf front end (λ k within. c.in-Some.ensures.0.before k (omega arith) within)) in
-    let whole : chunk ≡ bytes ++ 10 ∷ rest = chunk_at chunk c.min.result end c.in-Some.ensures.0.high c.in-Some.ensures.1 in
-    ap (λ (bs : List ℕ). side_left c.end_line.new.self.side (lines_of (bs ++ (rest ++ later)))) c.end_line.ensures.begun
-    ∙ c.end_line.ensures.left (lines_of (rest ++ later))
-    ∙ line_text old.side old.begun.items bytes (rest ++ later) in_line
-    ∙ ap (text_left old) (sym (append_assoc bytes (10 ∷ rest) later) ∙ ap (λ (bs : List ℕ). bs ++ later) (sym whole))
+    let count = c.take-count.result.0 in
+    let ends = c.take-count.ensures.ends c.if-ended.true in
+    ap (λ (bs : List ℕ). side_left c.end_line.new.self.side (lines_of (bs ++ (drop count chunk ++ later)))) c.end_line.ensures.begun
+    ∙ c.end_line.ensures.left (lines_of (drop count chunk ++ later))
+    ∙ ended_text old.side old.begun c.take-count.new.self chunk later count c.requires.in_line ends
 
-pub returns-in-None-clause-left : goal.returns-in-None-clause-left
-returns-in-None-clause-left c later =
+pub returns-then-ended-clause-short : goal.returns-then-ended-clause-short
+returns-then-ended-clause-short c =
+    let none : length c.end_line.new.self.begun ≡ 0 = ap (λ (bs : List ℕ). length bs) c.end_line.ensures.begun in
+    omega (arith, none)
+
+pub returns-then-ended-clause-in_line : goal.returns-then-ended-clause-in_line
+returns-then-ended-clause-in_line c = subst IsLine (sym c.end_line.ensures.begun) tt
+
+pub returns-else-ended-clause-left : goal.returns-else-ended-clause-left
+returns-else-ended-clause-left c later =
+    let old = c.args.self.now in
     let chunk = c.args.chunk.now in
-    let count = c.min.result in
-    let size : length (take count chunk) ≡ count = length-take-le count chunk (omega arith) in
-    ap (λ (n : ℕ). text_left c.go_on.new.self (drop n chunk ++ later)) size
-    ∙ c.go_on.ensures.left (drop count chunk ++ later)
-    ∙ ap (text_left c.args.self.now) (sym (append_assoc (take count chunk) (drop count chunk) later) ∙ ap (λ (bs : List ℕ). bs ++ later) (take-append-drop count chunk))
+    let count = c.take-count.result.0 in
+    let goes = c.take-count.ensures.goes_on c.if-ended.false in
+    ap (λ (bs : List ℕ). side_left old.side (lines_of bs))
+    (ap (λ (bs : List ℕ). bs ++ (drop count chunk ++ later)) goes.is ∙ append_assoc old.begun (take count chunk) (drop count chunk ++ later)
+    ∙ ap (λ (bs : List ℕ). old.begun ++ bs) (sym (append_assoc (take count chunk) (drop count chunk) later) ∙ ap (λ (bs : List ℕ). bs ++ later) (take-append-drop count chunk)))
 
-pub len-room-requires : goal.len-room-requires
-len-room-requires c = search rules
+pub returns-else-ended-clause-short : goal.returns-else-ended-clause-short
+returns-else-ended-clause-short c = (c.take-count.ensures.goes_on c.if-ended.false).short
 
-pub overflow_sub-room : goal.overflow_sub-room
-overflow_sub-room c = search rules
+pub returns-else-ended-clause-in_line : goal.returns-else-ended-clause-in_line
+returns-else-ended-clause-in_line c =
+    let goes = c.take-count.ensures.goes_on c.if-ended.false in
+    subst IsLine (sym goes.is) (line_join c.args.self.now.begun (take c.take-count.result.0 c.args.chunk.now) c.requires.in_line goes.in_line)
 
-pub slice_bounds-front-end : goal.slice_bounds-front-end
-slice_bounds-front-end c = search rules
-
-pub slice_bounds-end_line-end : goal.slice_bounds-end_line-end
-slice_bounds-end_line-end c = search rules
-
-pub end_line-requires-clause-ready : goal.end_line-requires-clause-ready
-end_line-requires-clause-ready c = search rules
-
-pub end_line-requires-clause-fits : goal.end_line-requires-clause-fits
-end_line-requires-clause-fits c = search rules
-
-pub overflow_add-result : goal.overflow_add-result
-overflow_add-result c = search rules
-
-pub go_on-requires-clause-some : goal.go_on-requires-clause-some
-go_on-requires-clause-some c = search rules
-
-pub go_on-requires-clause-ready : goal.go_on-requires-clause-ready
-go_on-requires-clause-ready c = search rules
-
-pub go_on-requires-clause-fits : goal.go_on-requires-clause-fits
-go_on-requires-clause-fits c = search rules
-
-pub go_on-requires-clause-in_line : goal.go_on-requires-clause-in_line
-go_on-requires-clause-in_line c = line_join c.args.self.now.begun.items (take c.min.result c.args.chunk.now) c.requires.in_line (no_lf_in (take c.min.result c.args.chunk.now) (λ k within. c.in-None.ensures k (omega arith) within))
-
-pub returns-in-Some-clause-more : goal.returns-in-Some-clause-more
-returns-in-Some-clause-more c = search rules
-
-pub returns-in-Some-clause-within : goal.returns-in-Some-clause-within
-returns-in-Some-clause-within c = search rules
-
-pub returns-in-Some-clause-fewer : goal.returns-in-Some-clause-fewer
-returns-in-Some-clause-fewer c = search rules
-
-pub returns-in-Some-clause-short : goal.returns-in-Some-clause-short
-returns-in-Some-clause-short c = search rules
-
-pub returns-in-Some-clause-in_line : goal.returns-in-Some-clause-in_line
-returns-in-Some-clause-in_line c = search rules
-
-pub returns-in-None-clause-more : goal.returns-in-None-clause-more
-returns-in-None-clause-more c = search rules
-
-pub returns-in-None-clause-within : goal.returns-in-None-clause-within
-returns-in-None-clause-within c = search rules
-
-pub returns-in-None-clause-fewer : goal.returns-in-None-clause-fewer
-returns-in-None-clause-fewer c = search rules
-
-pub returns-in-None-clause-short : goal.returns-in-None-clause-short
-returns-in-None-clause-short c = search rules
-
-pub returns-in-None-clause-in_line : goal.returns-in-None-clause-in_line
-returns-in-None-clause-in_line c = search rules
+pub returns-else-ended-clause-fewer : goal.returns-else-ended-clause-fewer
+returns-else-ended-clause-fewer c =
+    let goes = c.take-count.ensures.goes_on c.if-ended.false in
+    let whole : length c.take-count.new.self ≡ length (c.args.self.now.begun ++ take c.take-count.result.0 c.args.chunk.now) = ap (λ (bs : List ℕ). length bs) goes.is in
+    let sizes = length-append c.args.self.now.begun (take c.take-count.result.0 c.args.chunk.now) in
+    let size = length-take-le c.take-count.result.0 c.args.chunk.now c.take-count.ensures.within.1 in
+    fewer_ahead c.args.self.now.side c.args.self.now.begun c.take-count.new.self c.requires.ready (omega (arith, goes.short)) (omega (arith, whole, sizes, size, c.take-count.ensures.within.0))

@@ -26,10 +26,10 @@ returns-clause-bytes g c =
     let known = g.R.Read.remaining found.reader in
     let chunk = slice_range found.chunk found.start found.end in
     let keeps = subst (λ (r : SideReading). Keeps r.remaining (source_left g.R.Read.remaining found)) c.self.view_is c.read_on.ensures.left in (
-      given_consumes found.ended known c.args.self.now.remaining found.lines.begun.items chunk (take c.copy_to.result c.copy_to.new.into) found.lines.side c.copy_to.new.self keeps c.copy_to.ensures.left,
+      given_consumes found.ended known c.args.self.now.remaining found.lines.begun chunk (take c.copy_to.result c.copy_to.new.into) found.lines.side c.copy_to.new.self keeps c.copy_to.ensures.left,
       λ none some.
           let ready = c.copy_to.ensures.none none some in
-          nothing_given found.ended known found.lines.begun.items chunk c.copy_to.new.into c.copy_to.result found.lines.side c.copy_to.new.self (c.in_default.ensures.found ready) ready none c.copy_to.ensures.left,
+          nothing_given found.ended known found.lines.begun chunk c.copy_to.new.into c.copy_to.result found.lines.side c.copy_to.new.self (c.in_default.ensures.found ready) ready none c.copy_to.ensures.left,
     )
 
 pub returns-clause-same : goal.returns-clause-same

@@ -7,4 +7,4 @@ returns-clause-taken c is role limits came done at h =
     let e = c.take_part-count.ensures in
     let took = e.taken (omega (arith, c.if-count-eq0.false)) in
     reports_events role limits c.args.self.now _ c.take_part-count.result came done at h
-    (record { idle = took.0; takes = took.1; kept = e.kept; reported = e.reported; from_is = refl; at_is = refl; end_is = refl; past_is = refl })
+    (record { idle = took.0; takes = took.1; reported = e.reported; from_is = refl; moved = record { kept = e.kept; at_is = refl; end_is = refl; past_is = refl } })

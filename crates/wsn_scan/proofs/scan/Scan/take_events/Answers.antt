@@ -39,7 +39,7 @@ loop-frame-preserved c =
       size = same_len_mid at (length here - at) here c.take_event.new.piece same_size ∙ known.size;
       kept = kept_after at (length here - at) n here c.take_event.new.piece in_here found.within.1 same_size found.kept
           ∙ same_further at n here piece in_here known.within known.kept;
-      takes = goes_on c.args.self.now known.idle piece here share c.take_event.new.piece _ at n c.loop-frame.counts c.with-counts.result c.in-Some.frame.op known.takes
+      takes = goes_on c.args.self.now known.idle piece here share c.take_event.new.piece _ at n c.in-Some.frame.len c.loop-frame.counts c.with-counts.result c.in-Some.frame.op known.takes
           is found.within.1 (omega (arith, c.requires, length-drop at piece, size, found.within.1)) in_share (found.taken in_share)
           c.with-counts.ensures (taken_with at n here c.take_event.new.piece in_here (omega (arith, same_size, found.within.1)));
     }

@@ -142,3 +142,12 @@ returns-in-Ok-clause-within c = search rules
 
 pub shape_of-piece-in-Err : goal.shape_of-piece-in-Err
 shape_of-piece-in-Err c = search rules
+
+pub returns-in_err-start-clause-data : goal.returns-in_err-start-clause-data
+returns-in_err-start-clause-data c = search rules
+
+pub returns-then-is_control-clause-none : goal.returns-then-is_control-clause-none
+returns-then-is_control-clause-none c = search rules
+
+pub returns-in-Ok-clause-data : goal.returns-in-Ok-clause-data
+returns-in-Ok-clause-data c = search rules

@@ -1,0 +1,71 @@
+use arrayvec::ArrayVec;
+use memchr::memchr;
+use std::marker::Model;
+
+/// A line of this many bytes is too long, whatever follows and whether or not a CR ends it.
+pub const BEGUN_MAX: usize = 8196;
+
+/// Splits the chunks of a text into lines. It holds one line.
+#[derive(Drop)]
+pub struct Lines {
+    begun: ArrayVec<u8, BEGUN_MAX>,
+}
+
+impl Model for Lines {
+    ghost use Rattle.std.specs.Prelude.{ℕ, List};
+
+    ghost Value = { List ℕ };
+
+    ghost view = { λ lines. lines.begun.items };
+}
+
+impl Lines {
+    ghost use Rattle.std.specs.Prelude.{◌≡◌, ◌<◌, ◌≤◌, [], length, false, true};
+    ghost use Rattle.wsn_capture.specs.SplitLines.{GoesOn, EndsLine};
+
+    /// No line has begun.
+    pub fn new() -> Lines
+        ensures { result ≡ [] }
+    {
+        Lines {
+            begun: ArrayVec::new(),
+        }
+    }
+
+    /// Consumes a prefix of a piece, to the end of a line or as much as one line may hold. Returns the number of bytes, and
+    /// whether the line has ended or is too long; then [`Lines::line`] returns it, without its LF.
+    pub fn take(&mut self, piece: &[u8]) -> (usize, bool)
+        requires some { 0 < length piece.now }
+        requires short { length self.old < BEGUN_MAX }
+        ensures within { (0 < result.0) × (result.0 ≤ length piece.now) }
+        ensures goes_on { result.1 ≡ false → GoesOn self.old self.new piece.now result.0 }
+        ensures ends { result.1 ≡ true → EndsLine self.old self.new piece.now result.0 }
+    {
+        let room = BEGUN_MAX - self.begun.len();
+        let front = &piece[..room.min(piece.len())];
+        match memchr(b'\n', front) {
+            Some(end) => {
+                let _fits = self.begun.try_extend_from_slice(&front[..end]);
+                (end + 1, true)
+            }
+            None => {
+                let _fits = self.begun.try_extend_from_slice(front);
+                (front.len(), self.begun.is_full())
+            }
+        }
+    }
+
+    /// The line that has begun or ended.
+    pub fn line(&self) -> &[u8]
+        ensures { result.now ≡ self.now }
+    {
+        self.begun.as_slice()
+    }
+
+    /// Forgets the line.
+    pub fn clear(&mut self)
+        ensures { self.new ≡ [] }
+    {
+        self.begun.clear();
+    }
+}

@@ -1,0 +1,34 @@
+-- A message that an event source lends: one whole frame, whose payload the source's reader holds.
+use Rattle.std.specs.Prelude.{◌≡◌, ℕ, true, List, [], ◌∷◌, ◌++◌}
+use Rattle.wsn_wire.specs.declared.endpoint.Role.{Role}
+use Rattle.wsn_wire.specs.declared.opcode.Kind.{Kind}
+use Rattle.wsn_wire.specs.Frame.{Frame, stream}
+use Rattle.wsn_rules.specs.Lawful.{IsLawful}
+use Rattle.wsn_rules.specs.LawfulEvents.{IsLawfulEvent}
+use Rattle.wsn_rules.specs.Limits.{Limits}
+use Rattle.wsn_rules.specs.Meaning.{MeantEvent, Message, event_at, meaning}
+use Rattle.wsn_rules.specs.ShownStream.{event_offset, event_frames}
+use Rattle.wsn_events.specs.declared.event_reader.EventReader.{EventReader}
+use Rattle.wsn_events.specs.EventReaders.{HasGiven, offset_of, frames_of}
+use Rattle.wsn_events.specs.TakenEvents.{held_bytes}
+
+-- the message of this kind whose payload is the bytes that a source holds
+abbrev pub lent_message : {A : Type 0} → EventReader A → Kind → MeantEvent
+lent_message reading kind = Message kind (held_bytes reading)
+
+-- After the events given the source has given one more, which it lends: a message of this kind. It is lawful, and is the
+-- next event of the bytes that came, at the frame that ends it. The source has its offset and the number of its frames.
+pub record LendsMessage {A : Type 0} (role : Role) (limits : Limits) (reading : EventReader A) (came : List ℕ)
+    (given : List MeantEvent) (kind : Kind) : Type 0 where
+  pub has : HasGiven role limits reading came (given ++ lent_message reading kind ∷ [])
+  pub lawful : IsLawfulEvent (lent_message reading kind)
+  pub before : List Frame
+  pub frame : Frame
+  pub are_lawful : IsLawful role limits (before ++ frame ∷ [])
+  pub rest : List ℕ
+  pub whole : came ≡ stream (before ++ frame ∷ []) ++ rest
+  pub final : frame.fin ≡ true
+  pub first : given ≡ meaning before
+  pub ended : lent_message reading kind ≡ event_at before frame
+  pub offset : offset_of reading ≡ event_offset before frame
+  pub count : frames_of reading ≡ event_frames before frame
