@@ -31,6 +31,8 @@ function pageSource() {
   return `<!doctype html>${copy.outerHTML}`;
 }
 
+const SAVE = { label: "Save page", source: pageSource };
+
 /** A file's name without what a system may not take. */
 function fileName(session, ending) {
   return session.name.replace(/\.capture$/, "").replace(/[^\p{L}\p{N}._ -]/gu, "_") + ending;
@@ -128,10 +130,10 @@ class Filter {
 }
 
 /** The line of the page's name and its buttons. */
-function barOf(session) {
+function barOf(session, save) {
   const names = [make("span", "brand", "wsn"), make("span", "name", session.name), make("span", "gap")];
   const bar = make("header", "bar", ...names,
-    button("Save page", () => offer(fileName(session, ".html"), [pageSource()], "text/html")),
+    button(save.label, () => offer(fileName(session, ".html"), [save.source()], "text/html")),
     button("Save capture", () => offer(fileName(session, ".capture"), [bytesOf(session.capture)], "text/plain")),
     button("Light / dark", switchTheme));
   bar.querySelector("button").title = "Saves this page with its capture: one file for a ticket";
@@ -163,7 +165,7 @@ function globalKeys(filter, ladder, signal) {
   const toProblem = by => ladder.go(ladder.further(by, row => kindOf(row) === "problem"));
   addEventListener("keydown", event => {
     const { key, target } = event;
-    if (event.ctrlKey || event.metaKey || event.altKey || target.matches?.("input")) return;
+    if (event.ctrlKey || event.metaKey || event.altKey || target.matches?.("input, textarea")) return;
     if (key === "/") { filter.search.focus(); filter.search.select(); }
     else if (key === "n" || key === "p") toProblem(key === "n" ? 1 : -1);
     else if ((key === "j" || key === "ArrowDown") && target === document.body) ladder.go(ladder.current);
@@ -189,8 +191,8 @@ function gridOf(session, rows) {
   return grid;
 }
 
-/** Lays a session out. A page with an engine inside calls this with what the engine says of another capture. */
-function layOut(parts) {
+/** Lays a session out. `wsn.html` calls this with what its engine says of a capture, and with how its page is saved. */
+function layOut(parts, save = SAVE) {
   laidOut?.abort();
   laidOut = new AbortController();
   const { signal } = laidOut, session = new Session(parts), rows = rowsOf(session), root = make("div", "rows");
@@ -204,7 +206,7 @@ function layOut(parts) {
   const named = () => rows.find(row => row.name && `#${row.name}` === location.hash);
   const heading = headingOf(session, side => visit(refusal(side)));
   document.getElementById("page").replaceChildren(
-    barOf(session), make("main", "", ...heading, helpOf(), tools, grid), footerOf(session));
+    barOf(session, save), make("main", "", ...heading, helpOf(), tools, grid), footerOf(session));
   new ResizeObserver(() => grid.style.setProperty("--tools", `${tools.offsetHeight}px`)).observe(tools);
   filter.apply();
   globalKeys(filter, ladder, signal);
@@ -219,4 +221,4 @@ function held() {
   return { ...JSON.parse(text("session")), capture, shown: text("shown"), wire: text("wire") };
 }
 
-layOut(held());
+if (document.getElementById("session")) layOut(held());

@@ -98,6 +98,21 @@ def install_copies_the_library(folder):
 
 
 @test
+def install_copies_the_page(folder):
+    """The page on which captures are dropped, with the engine that ENGINE names; wsn-page makes it again; and away."""
+    (folder / "code.wasm").write_bytes(b"engine")
+    prefix = folder / "prefix"
+    run(TOP / "install", prefix, env={**environment(), "ENGINE": str(folder / "code.wasm")})
+    page = (prefix / "share/wsn/wsn.html").read_bytes()
+    same(page.count(b'id="engine">ZW5naW5l<'), 1, "the engine in the page")
+    same((prefix / "lib/wsn/page/engine.wasm").read_bytes(), b"engine", "the engine")
+    made, _ = run("env", "-u", "WSN", prefix / "bin/wsn-page")
+    same(made, page, "the page that the installed command makes")
+    run(TOP / "install", "--remove", prefix)
+    same(prefix.exists(), False, "what is left")
+
+
+@test
 def install_removes_only_what_it_made(folder):
     """A folder that was there stays, also an empty one; those that were made go, and the prefix with them."""
     (folder / "old/share/man").mkdir(parents=True)

@@ -1,0 +1,58 @@
+ghost use Rattle.wsn_job.specs.declared.job.Job.TheVariants.{Show, ShowStream};
+ghost use Rattle.wsn_page.specs.Asking.{limits_asked, role_asked};
+ghost use Rattle.wsn_page.specs.Calls.{GivesShown, call};
+
+use crate::answer::Answer;
+use crate::giving::{give_shown, give_stream};
+use crate::room::Room;
+use crate::settings::Settings;
+use wsn_io::{Input, Output};
+use wsn_show::{show, show_stream};
+
+/// Shows what both sides of a capture said, in order, as `wsn show` does. The role counts for nothing. The text is
+/// composed in `scratch`; a write that doesn't fit there fails.
+#[unsafe(no_mangle)]
+pub extern "C" fn wsn_page_show(
+    settings: &Settings,
+    capture: &[u8],
+    scratch: &mut [u8],
+    output: &mut [u8],
+    message: &mut [u8],
+) -> Answer
+    ensures { GivesShown settings.now (λ style. Show (limits_asked settings.now) style) capture.now
+        (call output.old output.new message.old message.new result) }
+{
+    let mut printed = Output::new(Room::new(scratch));
+    let done = show(
+        &mut Input::new(capture),
+        &mut printed,
+        settings.limits(),
+        settings.style(),
+    );
+    give_shown(done, printed.into_writer().text(), output, message)
+}
+
+/// Shows what the stream of one endpoint says, in order, and its verdict, as `wsn show --role` does. The text is composed
+/// in `scratch`; a write that doesn't fit there fails.
+#[unsafe(no_mangle)]
+pub extern "C" fn wsn_page_show_stream(
+    settings: &Settings,
+    stream: &[u8],
+    scratch: &mut [u8],
+    output: &mut [u8],
+    message: &mut [u8],
+) -> Answer
+    ensures { GivesShown settings.now
+        (λ style. ShowStream (role_asked settings.now) (limits_asked settings.now) style) stream.now
+        (call output.old output.new message.old message.new result) }
+{
+    let mut printed = Output::new(Room::new(scratch));
+    let done = show_stream(
+        &mut Input::new(stream),
+        &mut printed,
+        settings.role(),
+        settings.limits(),
+        settings.style(),
+    );
+    give_stream(done, printed.into_writer().text(), output, message)
+}

@@ -1,0 +1,80 @@
+ghost use Rattle.std.specs.Prelude.{◌≡◌};
+ghost use Rattle.wsn_page.specs.Calls.{Gives, call, fitted, shown_message, stream_message};
+ghost use Rattle.wsn_job.specs.Closings.{closing_status};
+ghost use Rattle.wsn_print.specs.Statuses.{verdict_status};
+
+use crate::answer::Answer;
+use wsn_capture::{CaptureStop, Report};
+use wsn_io::Stop;
+use wsn_print::{line_of_line_fault, line_of_stop, status_of_outcome, status_of_verdict};
+use wsn_rules::Verdict;
+use wsn_show::ShowStop;
+
+/// Gives what was shown of a capture, and how that ended.
+pub(crate) fn give_shown(
+    done: Result<Report, ShowStop>,
+    text: &[u8],
+    output: &mut [u8],
+    message: &mut [u8],
+) -> Answer
+    ensures { Gives (call output.old output.new message.old message.new result) text.now (shown_message done)
+        (closing_status done) }
+{
+    match done {
+        Ok(report) => give(
+            status_of_outcome(report.outcome),
+            text,
+            b"",
+            output,
+            message,
+        ),
+        Err(ShowStop::Capture(CaptureStop::Line { number, fault })) => {
+            let line = line_of_line_fault(number, fault.word());
+            give(2, text, line.bytes(), output, message)
+        }
+        Err(ShowStop::Capture(CaptureStop::Read)) => {
+            give(2, text, line_of_stop(Stop::Read).bytes(), output, message)
+        }
+        Err(ShowStop::Write) => {
+            give(2, text, line_of_stop(Stop::Write).bytes(), output, message)
+        }
+    }
+}
+
+/// Gives what was shown of a stream, and how that ended.
+pub(crate) fn give_stream(
+    done: Result<Verdict, Stop>,
+    text: &[u8],
+    output: &mut [u8],
+    message: &mut [u8],
+) -> Answer
+    ensures { Gives (call output.old output.new message.old message.new result) text.now (stream_message done)
+        (verdict_status done) }
+{
+    let status = status_of_verdict(done);
+    match done {
+        Ok(_) => give(status, text, b"", output, message),
+        Err(stop) => give(status, text, line_of_stop(stop).bytes(), output, message),
+    }
+}
+
+/// Puts a text and a message into the caller's rooms.
+fn give(status: u8, text: &[u8], said: &[u8], output: &mut [u8], message: &mut [u8]) -> Answer
+    ensures { Gives (call output.old output.new message.old message.new result) text.now said.now status }
+{
+    put_front(text, output);
+    put_front(said, message);
+    Answer {
+        output: text.len(),
+        message: said.len(),
+        status,
+    }
+}
+
+/// Puts as much of a text at a room's front as fits.
+fn put_front(text: &[u8], room: &mut [u8])
+    ensures { room.new ≡ fitted text.now room.old }
+{
+    let count = text.len().min(room.len());
+    room[..count].copy_from_slice(&text[..count]);
+}

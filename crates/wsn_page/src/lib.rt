@@ -1,0 +1,17 @@
+//! What a session is shown as, over memory that the caller lends: the engine of the page `wsn.html`, which runs it as
+//! WebAssembly. Nothing here allocates.
+//!
+//! Each call does what `wsn show --json --view 4096` does. It puts as much of the text as fits into the caller's room, and
+//! answers with the exit status and with the size of the whole text. `specs/Calls.antt` defines this by the run of the
+//! command (`wsn_job`), and `specs/Asking.antt` what settings ask for.
+#![tactic(auto)]
+
+mod answer;
+mod calls;
+mod giving;
+mod room;
+mod settings;
+
+pub use answer::Answer;
+pub use calls::{wsn_page_show, wsn_page_show_stream};
+pub use settings::Settings;

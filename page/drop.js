@@ -1,0 +1,152 @@
+// `wsn.html`: a session is dropped, chosen or pasted, the engine says what it holds, and the page lays it out.
+
+const there = id => document.getElementById(id);
+const kept = JSON.parse(there("kept").textContent); // The template, the version, the explanations, the limits.
+const engine = Engine.start(there("engine").textContent, kept.limits).catch(lackEngine); // Nothing if it can't run.
+let given = null; // What was given last: its name, its form, and its capture or stream.
+
+/** The words and codes in objects that are explained in a page. */
+function wordsIn(objects) {
+  const found = new Set(), keys = ["reason", "code", "outcome", "client_sees", "server_sees"];
+  for (const object of objects) {
+    const { type, code, client, server } = object;
+    if (type === "event") found.add(code); else for (const key of keys) found.add(object[key]);
+    if (["unfinished", "unread", "tail"].includes(type)) found.add(type === "unfinished" ? "lacks" : type);
+    for (const side of [client, server]) if (side) found.add(side.reason).add(side.code);
+  }
+  return [...found].filter(Boolean).map(String).sort();
+}
+
+/** What `wsn explain` prints of a word. Codes from 3000 are explained by thousands. */
+function explanation(word) {
+  return kept.explained[/^[34]\d{3}$/.test(word) ? `${word[0]}000` : word];
+}
+
+/** A session as `layOut` takes it. Throws an Error if a line isn't accepted. */
+function partsOf({ name, capture }, code) {
+  const bytes = bytesOf(capture), [shown, wire] = [false, true].map(frames => code.show(bytes, frames));
+  if (shown.status === 2) throw new LineError(shown.message, capture);
+  const words = wordsIn(objectsOf(shown.text));
+  const explained = Object.fromEntries(words.map(word => [word, explanation(word)]));
+  return { name, version: kept.version, explained, capture, shown: shown.text, wire: wire.text };
+}
+
+/** Why a capture isn't shown: its first line that isn't accepted. */
+class LineError extends Error {
+  constructor(message, capture) {
+    const [, line, word] = /^line (\d+): (.*)\n$/.exec(message) ?? [];
+    super(line ? `Line ${number(Number(line))} of the capture isn't accepted: ${word}.` : message.trim());
+    if (!line) return;
+    this.line = capture.split("\n", line)[line - 1] ?? "";
+    this.explained = explanation(word);
+  }
+}
+
+/** The verdict's line as `wsn judge` prints it. */
+function judgeLine({ verdict, used, tail, unfinished, offset, reason, code }) {
+  if (verdict === "refused") return `refused ${offset} ${reason} ${code}`;
+  return verdict === "cut" ? `cut ${used}` : `accepted ${used} tail ${tail} unfinished ${unfinished ?? "-"}`;
+}
+
+/** What is said of a stream's verdict. A key that is missing, or that is there, may tell that the role is wrong. */
+function judgedWords(verdict, side) {
+  const role = /^mask-/.test(verdict.reason) ? ` Was it sent by the ${other(side)}?` : "";
+  return ` wsn judge --role ${side} prints: ${judgeLine(verdict)}.${role}`;
+}
+
+/** Says why nothing is shown. */
+function complain(error) {
+  const parts = [make("p", "", `${given ? `${given.name}: ` : ""}${error.message}`)];
+  if (error.line !== undefined) parts.push(make("pre", "", ...visible(front(error.line, 200)[0])));
+  if (error.explained) parts.push(make("pre", "explained", error.explained.trimEnd()));
+  there("trouble").replaceChildren(...parts);
+  there("page").replaceChildren();
+  there("status").replaceChildren();
+  there("drop").classList.remove("done");
+}
+
+/** The endpoint that sent the stream, as it was chosen. */
+function chosenSide() {
+  return document.querySelector("input[name=side]:checked").value;
+}
+
+/** Shows what was given. */
+async function present() {
+  const { name, form, stream } = given, side = chosenSide(), code = await engine;
+  there("side").hidden = !stream;
+  const capture = stream ? captureOfStream(stream, side) : given.capture, parts = partsOf({ name, capture }, code);
+  const judged = stream ? judgedWords(code.judge(stream, side), side) : "";
+  there("trouble").replaceChildren();
+  there("drop").classList.add("done");
+  document.title = titleFor(name);
+  layOut(parts, { label: "Save with this capture", source: () => pageOf(kept.template, parts) });
+  there("status").replaceChildren(`${name} was read as ${form}.${judged}`);
+}
+
+/** Does something, and says why if it can't be done. */
+async function attempt(work) {
+  there("drop").ariaBusy = "true";
+  try {
+    await work();
+  } catch (error) {
+    complain(error instanceof RangeError ? new Error("It needs more memory than this browser gives.") : error);
+  }
+  there("drop").ariaBusy = "false";
+}
+
+/** Takes a file or a text. What was given before, and isn't shown yet, is forgotten. */
+function take(name, blob) {
+  const taken = { name: visibleName(name) };
+  given = taken;
+  there("side").hidden = true;
+  return attempt(async () => {
+    refuseOver(MOST, blob.size);
+    Object.assign(taken, recognized(new Uint8Array(await blob.arrayBuffer())));
+    if (!await engine || given !== taken) return;
+    forgetRow();
+    await present();
+  });
+}
+
+/** Takes the row of another session out of the page's address. */
+function forgetRow() {
+  try { history.replaceState(null, "", location.pathname); } catch { /* Some viewers allow no address. */ }
+}
+
+/** Takes what was dropped or pasted. */
+function takeTransfer(event, transfer, name) {
+  const [file] = transfer.files, text = transfer.getData("text/plain");
+  if (!file && !text) return;
+  event.preventDefault();
+  take(file?.name ?? name, file ?? new Blob([text]));
+}
+
+/** Says that the browser can't run the engine. */
+function lackEngine(error) {
+  const needs = "This browser can't run the engine of this page, which needs WebAssembly with 64-bit memory.";
+  const words = [needs, " Chrome and Edge have it from version 133, Firefox from 134. Without it, ",
+    make("code", "", "page/build CAPTURE"), " makes a page of a capture, which any browser shows. (", error.message, ")"];
+  there("trouble").replaceChildren(make("p", "", ...words));
+  for (const control of document.querySelectorAll("#drop button, #drop input, #drop textarea")) control.disabled = true;
+}
+
+function listen() {
+  const over = is => document.documentElement.classList.toggle("over", is);
+  addEventListener("dragover", event => { event.preventDefault(); over(true); });
+  addEventListener("dragleave", event => { if (!event.relatedTarget) over(false); });
+  addEventListener("drop", event => {
+    over(false);
+    event.preventDefault();
+    takeTransfer(event, event.dataTransfer, "dropped text");
+  });
+  addEventListener("paste", event => {
+    if (!event.target.matches?.("input, textarea")) takeTransfer(event, event.clipboardData, "pasted text");
+  });
+  there("file").addEventListener("click", ({ target }) => { target.value = ""; });
+  there("file").addEventListener("change", ({ target: { files } }) => { if (files[0]) take(files[0].name, files[0]); });
+  there("show").addEventListener("click", () => take("pasted text", new Blob([there("text").value])));
+  for (const input of document.querySelectorAll("input[name=side]"))
+    input.addEventListener("change", () => attempt(present));
+}
+
+listen();
