@@ -27,9 +27,9 @@ function bytesOfDigits(text) {
   return found ? Uint8Array.from({ length: found.length / 2 }, byteAt) : null;
 }
 
-/** A capture of one endpoint's stream. */
+/** A capture of one endpoint's stream. Its comment says so where the capture or its page is kept. */
 function captureOfStream(stream, side) {
-  const letter = side === "client" ? "C" : "S", lines = [];
+  const letter = side === "client" ? "C" : "S", lines = [`# only what the ${side} sent is known\n`];
   for (let at = 0; at < stream.length; at += LINE_BYTES)
     lines.push(`${letter} ${Array.from(stream.subarray(at, at + LINE_BYTES), digits).join("")}\n`);
   return lines.join("");
