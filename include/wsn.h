@@ -16,17 +16,24 @@
  *     else
  *         fwrite(text, 1, answer.output, stdout);
  *
- * Rooms. A call puts as much of its text into `output` as fits, and answers
- * with the size of all of it: where answer.output is over output_size, call
- * again with a room of answer.output bytes. The same holds of `message`, what
- * the program prints on standard error: one line, at most WSN_MESSAGE bytes.
- * Nothing ends in a NUL. No pointer may be NULL, even of a room of size 0;
- * rooms don't overlap with each other or with what is read.
+ * A verdict always fits in 256 bytes, so this example doesn't compare
+ * answer.output with sizeof text. The other calls may print any number of
+ * bytes: after them, compare.
  *
- * A call keeps nothing, and calls in several threads don't disturb each other.
- * Its text is built in memory from malloc. It isn't for signal handlers.
+ * Buffers. A call puts as much of its text into `output` as fits, and answers
+ * with the size of all of it: where answer.output is over output_size, only
+ * output_size bytes are there, and a second call with a buffer of answer.output
+ * bytes gives everything. The same holds of `message`, what the program prints
+ * on standard error: one line, at most WSN_MESSAGE bytes. Nothing ends in a
+ * NUL. No pointer may be NULL, even of a buffer of size 0; output and message
+ * don't overlap with each other or with what is read.
  *
- * Link with libwsn.a, or with libwsn.so.
+ * A call keeps nothing: the caller owns all buffers, and what is read stays as
+ * it is. Calls in several threads don't disturb each other. The text is built
+ * in memory from malloc, which is free again when the call returns. No call is
+ * for signal handlers.
+ *
+ * Link with libwsn.a, or with libwsn.so: cc -I FOLDER program.c FOLDER/libwsn.a
  */
 #ifndef WSN_H
 #define WSN_H
@@ -61,9 +68,9 @@ typedef struct wsn_options {
     uint8_t without_pings;   /* 0; 1 to compare without pings */
     uint8_t without_pongs;   /* 0 */
     uint8_t without_closes;  /* 0 */
-    uint16_t view;           /* 48: bytes of a payload that are shown, to 4,096 */
-    uint32_t limit;          /* 16,777,216: most bytes of a message, and to it */
-    uint32_t frames;         /* 0: any; else the most frames of a message */
+    uint16_t view;           /* 48, to 4,096: bytes of a payload in show */
+    uint32_t limit;          /* 16,777,216, the maximum: bytes of a message */
+    uint32_t frames;         /* 0: no maximum; else that of a message */
 } wsn_options;
 
 typedef struct wsn_answer {
@@ -74,13 +81,15 @@ typedef struct wsn_answer {
 
 /*
  * Statuses. 0: accepted; there is a plan; the recut is done; the streams mean
- * the same; the connection closed clean or complete. 1: any other answer. 2: no
- * answer: `message` says why: "usage" if an option or argument is out of range,
- * "out of memory", "write failed" if memory for the text was refused, or the
- * first faulty line of a capture or plan.
+ * the same; the connection closed clean or complete. 1: any other answer; it is
+ * in `output`, but that of wsn_normal, wsn_plan and both recuts in `message`.
+ * 2: no answer; `message` says why: "usage" if an option or argument is out of
+ * range, "input limit" (more than 2^40 bytes), "out of memory", "write failed"
+ * if memory for the text was refused, or the first faulty line of a capture or
+ * plan, such as "line 3: bad-hex". `output` may have what was printed before.
  */
 
-/* The options that stand beside each field above, for a client's stream. */
+/* The default options: the values in the comments of wsn_options. */
 wsn_options wsn_defaults(void);
 
 /* Judges a stream: the verdict, with the offset of the offending byte. */
@@ -119,7 +128,7 @@ wsn_answer wsn_sent(const wsn_options *options,
                     void *output, size_t output_size,
                     void *message, size_t message_size);
 
-/* Compares what two streams of endpoints of one role mean. */
+/* Compares what two streams of endpoints of one role mean; shows no events. */
 wsn_answer wsn_same(const wsn_options *options,
                     const void *first, size_t first_size,
                     const void *second, size_t second_size,
@@ -147,7 +156,7 @@ wsn_answer wsn_recut(const wsn_options *options,
 
 /*
  * Writes what a stream means in frames of `size` bytes. `weave`, 0 or 1: the
- * first frame of a message comes before the controls in front of it. `key`: the
+ * controls directly before a split message go after its first frame. `key`: the
  * four bytes of each frame's key, or no bytes: for a client a key of zeros; a
  * server has none.
  */

@@ -3,6 +3,7 @@
 const there = id => document.getElementById(id);
 const kept = JSON.parse(there("kept").textContent); // The template, the version, the explanations, the limits.
 const engine = Engine.start(there("engine").textContent, kept.limits).catch(lackEngine); // Nothing if it can't run.
+const TITLE = document.title; // While no session is shown.
 let given = null; // What was given last: its name, its form, and its capture or stream.
 
 /** The words and codes in objects that are explained in a page. */
@@ -59,6 +60,7 @@ function complain(error) {
   const parts = [make("p", "", `${given ? `${given.name}: ` : ""}${error.message}`)];
   if (error.line !== undefined) parts.push(make("pre", "", ...visible(front(error.line, 200)[0])));
   if (error.explained) parts.push(make("pre", "explained", error.explained.trimEnd()));
+  document.title = TITLE;
   there("trouble").replaceChildren(...parts);
   there("page").replaceChildren();
   there("status").replaceChildren();

@@ -46,6 +46,14 @@ function halfSentence(session) {
   return `${sent}; no answer of the ${other(side)} is in the capture.`;
 }
 
+/** What undoes compression, if a side is refused for it and a comment of the capture names the extension. */
+function compressedSentence({ entries, report }) {
+  const isAgreed = ({ type, text }) => type === "comment" && /^ extensions: .*permessage-deflate/.test(text);
+  if (SIDES.every(side => report[side].reason !== "reserved-bits") || !entries.some(isAgreed)) return [];
+  return [make("p", "", "A comment in the capture says that the session is compressed, and compression isn't read here: ",
+    make("code", "", "recipes/inflate CAPTURE > inflated.capture"), " undoes it.")];
+}
+
 /** The outcome in a few words. */
 function titleOf({ report }) {
   const refused = SIDES.filter(side => report[side].state === "refused");
@@ -57,7 +65,7 @@ function titleOf({ report }) {
 function sentences(session, go) {
   const { report } = session, refused = SIDES.filter(side => report[side].state === "refused");
   switch (report.outcome) {
-    case "failed": return refused.map(side => refusalSentence(session, side, go));
+    case "failed": return [...refused.map(side => refusalSentence(session, side, go)), ...compressedSentence(session)];
     case "clean": case "complete": return [make("p", "", closedSentence(session))];
     case "abnormal": return [make("p", "", brokenSentence(session))];
     case "half": return [make("p", "", halfSentence(session))];

@@ -6,9 +6,11 @@
 
 Each call does what the command of `wsn` with its name does, over bytes (or any buffer: a `memoryview`, an `mmap`; nothing
 is copied) in the place of files, by the proved library `libwsn.so`. It is looked for where the environment variable
-`WSN_LIBRARY` says, else beside this module, where ./install puts it, and where the system looks for libraries.
+`WSN_LIBRARY` says, else beside this module, where ./install puts it, and where the system looks for libraries. If it isn't
+found, each call is an `OSError`: `./library FOLDER` builds it.
 
-Wrong arguments are a `ValueError`. Nothing is printed.
+Wrong arguments are a `ValueError`, and so are `FaultyCapture` and `Fault`; `NotAccepted` and `Stopped` aren't. Calls in
+several threads don't disturb each other. Nothing is printed.
 """
 
 import ctypes
@@ -50,7 +52,7 @@ class FaultyCapture(ValueError):
 
 
 class Fault(ValueError):
-    """A plan is faulty, or it doesn't fit the stream; the text says where and how."""
+    """A plan is faulty or doesn't fit the stream, or a stream has no plan. The text is the line that `wsn` prints."""
 
 
 @dataclasses.dataclass(frozen=True)
@@ -155,8 +157,10 @@ class Report:
 class Entry:
     """What `show` prints in one line. type: "event", "frame", "refused", "unfinished", "unread", "tail", "end", "comment".
 
-    line: the capture's line in which it stands, from 1. side: "client" or "server". time: seconds, from the capture's
-    comments. offset: in that side's stream. The other fields are those of the type (`wsn help show`); None elsewhere.
+    line: the capture's line in which it is, from 1. side: "client" or "server". time: seconds, from the capture's
+    comments. offset: in that side's stream; of a refused frame that of its first byte, and place that of the offending one.
+    event: "text", "binary", "ping", "pong" or "close". bytes: of the payload. text or hex: its first bytes, and truncated if
+    there are more; a Close has code and reason. The other fields are those of the type (`wsn help show`); None elsewhere.
     """
 
     type: str
@@ -409,7 +413,8 @@ def frames(data: Any, role: str, **limits: Any) -> Frames:
 def show(data: Any, role: Optional[str] = None, *, view: int = 48, wire: bool = False, **limits: Any) -> Session:
     """Shows what both sides of a capture said, in order; with a role, what the stream of that endpoint says.
 
-    view: the most bytes of a payload that an entry has, 0 to 4,096. wire: frames in the place of events.
+    view: the most bytes of a payload that an entry has, 0 to 4,096. wire: frames in the place of events. The limits are
+    those of `judge`.
     """
     options = _options(role or "client", view=view, wire=wire, **limits)
     with _Lent(data) as given:
@@ -435,7 +440,8 @@ def sent(capture: Any, role: str) -> bytes:
 def same(first: Any, second: Any, role: str, *, without: Collection[str] = (), **limits: Any) -> Comparison:
     """Compares what two streams mean, however they are framed and masked.
 
-    without: any of "ping", "pong", "close"; events of these kinds are left out of both.
+    without: any of "ping", "pong", "close"; events of these kinds are left out of both. The limits are those of `judge`.
+    It doesn't show the events that differ: `show` each stream with its role, and compare the entries.
     """
     options = _options(role, without=without, **limits)
     with _Lent(first) as one, _Lent(second) as other:
@@ -471,8 +477,8 @@ def recut(
 ) -> bytes:
     """Returns what a stream means in other frames: by a plan, or in frames of one size.
 
-    weave and key go with size: weave puts the first frame of a message in front of the controls before it; key has the
-    four bytes of a client's key. `NotAccepted` if the stream isn't accepted; `Fault` if the plan doesn't fit.
+    weave and key require size: weave puts the controls directly before a split message after its first frame; key has
+    the four bytes of a client's key. `NotAccepted` if the stream isn't accepted; `Fault` if the plan doesn't fit.
     """
     options = _options(role, json_lines=False, **limits)
     if (plan is None) == (size is None):
