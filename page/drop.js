@@ -67,18 +67,27 @@ function complain(error) {
   there("drop").classList.remove("done");
 }
 
-/** The endpoint that sent the stream, as it was chosen. */
+/** The endpoint that sent the stream, as it was chosen; nothing before. */
 function chosenSide() {
-  return document.querySelector("input[name=side]:checked").value;
+  return document.querySelector("input[name=side]:checked")?.value;
+}
+
+/** Asks who sent a stream, before anything is said of it. */
+function askSide({ name, form }) {
+  document.title = TITLE;
+  there("page").replaceChildren();
+  there("status").replaceChildren(`${name} was read as ${form}. Who sent it?`);
+  document.querySelector("input[name=side]").focus();
 }
 
 /** Shows what was given. */
 async function present() {
   const { name, form, stream } = given, side = chosenSide(), code = await engine;
   there("side").hidden = !stream;
+  there("trouble").replaceChildren();
+  if (stream && !side) return askSide(given);
   const capture = stream ? captureOfStream(stream, side) : given.capture, parts = partsOf({ name, capture }, code);
   const judged = stream ? judgedWords(code.judge(stream, side), side) : "";
-  there("trouble").replaceChildren();
   there("drop").classList.add("done");
   document.title = titleFor(name);
   layOut(parts, { label: "Save with this capture", source: () => pageOf(kept.template, parts) });
@@ -101,6 +110,7 @@ function take(name, blob) {
   const taken = { name: visibleName(name) };
   given = taken;
   there("side").hidden = true;
+  for (const input of document.querySelectorAll("input[name=side]")) input.checked = false;
   return attempt(async () => {
     refuseOver(MOST, blob.size);
     Object.assign(taken, recognized(new Uint8Array(await blob.arrayBuffer())));
