@@ -102,27 +102,27 @@ zip2-masked key start [] = refl
 zip2-masked key start (b ∷ bs) = rw (xor_zero_l (get_or key (start % 4) 0)) (ap (λ bytes. bit_xor b (get_or key (start % 4) 0) ∷ bytes) (zip2-masked key (start + 1) bs))
 
 -- A prefix longer by a block.
-pub masked_front-put_chunk : (key : List ℕ) (start : ℕ) (bytes : List ℕ) (at : ℕ) → at + 32 ≤ length bytes → at % 4 ≡ 0 →
-    put_chunk at (masked_front key start bytes at) (zip2 bit_xor (chunk at 32 (masked_front key start bytes at)) (masked key start (replicate 32 0)))
-    ≡ masked_front key start bytes (at + 32)
-masked_front-put_chunk key start bytes at within round =
+pub masked_front-put_chunk : (key : List ℕ) (start : ℕ) (bytes : List ℕ) (at size : ℕ) → at + size ≤ length bytes → at % 4 ≡ 0 →
+    put_chunk at (masked_front key start bytes at) (zip2 bit_xor (chunk at size (masked_front key start bytes at)) (masked key start (replicate size 0)))
+    ≡ masked_front key start bytes (at + size)
+masked_front-put_chunk key start bytes at size within round =
     let front = masked key start (take at bytes) in
     let front_length = length-front key start bytes at (omega arith) in
     let now = masked_front key start bytes at in
-    let block = take 32 (drop at bytes) in
-    let block_length : length block ≡ 32 = length-take-le 32 (drop at bytes) (rw length-drop (omega arith)) in
+    let block = take size (drop at bytes) in
+    let block_length : length block ≡ size = length-take-le size (drop at bytes) (rw length-drop (omega arith)) in
     let following : drop at now ≡ drop at bytes = drop_at front (drop at bytes) at front_length in
-    let masked_block : zip2 bit_xor (chunk at 32 now) (masked key start (replicate 32 0)) ≡ masked key start block =
-    ap (λ bs. zip2 bit_xor (take 32 bs) (masked key start (replicate 32 0))) following
+    let masked_block : zip2 bit_xor (chunk at size now) (masked key start (replicate size 0)) ≡ masked key start block =
+    ap (λ bs. zip2 bit_xor (take size bs) (masked key start (replicate size 0))) following
     ∙ (ap (λ n. zip2 bit_xor block (masked key start (replicate n 0))) (sym block_length) ∙ zip2-masked key start block) in
-    let masked_length : length (masked key start block) ≡ 32 = length-masked key start block ∙ block_length in
+    let masked_length : length (masked key start block) ≡ size = length-masked key start block ∙ block_length in
     let now_length : length now ≡ length bytes = omega (arith, length-append front (drop at bytes), length-drop at bytes, front_length) in
-    let written : put_chunk at now (masked key start block) ≡ front ++ (masked key start block ++ drop (at + 32) bytes) =
+    let written : put_chunk at now (masked key start block) ≡ front ++ (masked key start block ++ drop (at + size) bytes) =
     put_chunk_is at now (masked key start block) (omega (arith, now_length, masked_length))
     ∙ (λ i. take_at front (drop at bytes) at front_length i ++ (masked key start block ++ drop (masked_length i) (following i)))
-    ∙ ap (λ bs. front ++ (masked key start block ++ bs)) (drop-drop 32 at bytes) in
+    ∙ ap (λ bs. front ++ (masked key start block ++ bs)) (drop-drop size at bytes) in
     ap (λ bs. put_chunk at now bs) masked_block
-    ∙ (written ∙ sym (masked_front-append key start bytes at 32 (omega arith) ∙ ap (λ bs. front ++ (bs ++ drop (at + 32) bytes)) (masked-round key start at block round)))
+    ∙ (written ∙ sym (masked_front-append key start bytes at size (omega arith) ∙ ap (λ bs. front ++ (bs ++ drop (at + size) bytes)) (masked-round key start at block round)))
 
 -- All remaining bytes.
 pub masked_front-rest : (key : List ℕ) (start : ℕ) (bytes now rest : List ℕ) (at : ℕ) → at ≤ length bytes → now ≡ masked_front key start bytes at →
@@ -140,6 +140,15 @@ masked_front-rest key start bytes now rest at within is rest_is =
     ap (λ bs. masked key start bs) (sym (take-append-drop at bytes))
     ∙ (masked-append key start (take at bytes) (drop at bytes) ∙ ap (λ n. front ++ masked key n (drop at bytes)) place) in
     (λ i. before i ++ (rest_all i ++ nothing i)) ∙ (ap (λ bs. front ++ bs) (append-nil (masked key (start + at) (drop at bytes))) ∙ sym whole)
+
+-- One round of the key has the bytes of masked zeros.
+pub round-masked : (key : List ℕ) (start : ℕ) → get_or key (start % 4) 0 ∷ get_or key ((start % 4 + 1) % 4) 0 ∷ get_or key ((start % 4 + 2) % 4) 0 ∷ get_or key ((start % 4 + 3) % 4) 0 ∷ [] ≡ masked key start (replicate 4 0)
+round-masked key start =
+    let byte0 : get_or key (start % 4) 0 ≡ bit_xor 0 (get_or key (start % 4) 0) = sym (xor_zero_l (get_or key (start % 4) 0)) in
+    let byte1 : get_or key ((start % 4 + 1) % 4) 0 ≡ bit_xor 0 (get_or key ((start + 1) % 4) 0) = let turn : (start + 1) % 4 ≡ (start % 4 + 1) % 4 = omega arith in rw (turn, xor_zero_l (get_or key ((start % 4 + 1) % 4) 0)) refl in
+    let byte2 : get_or key ((start % 4 + 2) % 4) 0 ≡ bit_xor 0 (get_or key ((start + 1 + 1) % 4) 0) = let turn : (start + 1 + 1) % 4 ≡ (start % 4 + 2) % 4 = omega arith in rw (turn, xor_zero_l (get_or key ((start % 4 + 2) % 4) 0)) refl in
+    let byte3 : get_or key ((start % 4 + 3) % 4) 0 ≡ bit_xor 0 (get_or key ((start + 1 + 1 + 1) % 4) 0) = let turn : (start + 1 + 1 + 1) % 4 ≡ (start % 4 + 3) % 4 = omega arith in rw (turn, xor_zero_l (get_or key ((start % 4 + 3) % 4) 0)) refl in
+    λ i. byte0 i ∷ byte1 i ∷ byte2 i ∷ byte3 i ∷ []
 
 -- One round of the key in a word of four bytes, the lowest first: the bytes of masked zeros.
 pub word-masked : (key : List ℕ) (start word rest count : ℕ) (zeros : List ℕ) →

@@ -1,10 +1,13 @@
-ghost use Rattle.std.specs.Prelude.{◌≡◌, ◌+◌, ◌<◌, ◌^◌, length, replicate};
-ghost use Rattle.wsn_wire.specs.Frame.{masked};
+ghost use Rattle.std.specs.Prelude.{◌≡◌, ◌+◌, ◌<◌, ◌^◌, ◌%◌, [], ◌∷◌, length, replicate, slice_index};
+ghost use Rattle.wsn_wire.specs.Frame.{IsBytes, masked};
 
 use std::simd::prelude::*;
 
 // The number of bytes in a vector.
 const BLOCK: usize = 32;
+
+// The number of bytes in one round of the key.
+const WORD: usize = 4;
 
 /// Masks or unmasks part of a payload in place: byte i XOR key byte `(start + i) % 4` (RFC 6455 section 5.3). `start`
 /// is the offset of the part in the payload, from 0.
@@ -14,7 +17,7 @@ pub fn mask(key: [u8; 4], start: u64, bytes: &mut [u8])
     ensures { bytes.new ≡ masked key start bytes.old }
 {
     if bytes.len() < BLOCK {
-        mask_each(key, start, bytes);
+        mask_words(key, start, bytes);
         return;
     }
     let lanes = key_lanes(key, start);
@@ -24,6 +27,22 @@ pub fn mask(key: [u8; 4], start: u64, bytes: &mut [u8])
         block.copy_to_slice(&mut bytes[at..]);
         at += BLOCK;
     }
+    mask_words(key, start + at as u64, &mut bytes[at..]);
+}
+
+// Like `mask`, by rounds of the key.
+#[tactic(none)]
+fn mask_words(key: [u8; 4], start: u64, bytes: &mut [u8])
+    requires { start + length bytes.old < 2 ^ 64 }
+    ensures { bytes.new ≡ masked key start bytes.old }
+{
+    let lanes = u8x4::from_array(key_round(key, start));
+    let mut at = 0;
+    while bytes.len() - at >= WORD {
+        let word = u8x4::from_slice(&bytes[at..]) ^ lanes;
+        word.copy_to_slice(&mut bytes[at..]);
+        at += WORD;
+    }
     mask_each(key, start + at as u64, &mut bytes[at..]);
 }
 
@@ -31,14 +50,22 @@ pub fn mask(key: [u8; 4], start: u64, bytes: &mut [u8])
 fn key_lanes(key: [u8; 4], start: u64) -> u8x32
     ensures { result ≡ masked key start (replicate BLOCK 0) }
 {
+    u32x8::splat(u32::from_le_bytes(key_round(key, start))).to_le_bytes()
+}
+
+// One round of the key, from this offset in the payload on.
+fn key_round(key: [u8; 4], start: u64) -> [u8; 4]
+    ensures bytes { IsBytes result }
+    ensures round { result ≡ slice_index key (start % 4) ∷ slice_index key ((start % 4 + 1) % 4)
+        ∷ slice_index key ((start % 4 + 2) % 4) ∷ slice_index key ((start % 4 + 3) % 4) ∷ [] }
+{
     let turn = (start % 4) as usize;
-    let round = u32::from_le_bytes([
+    [
         key[turn],
         key[(turn + 1) % 4],
         key[(turn + 2) % 4],
         key[(turn + 3) % 4],
-    ]);
-    u32x8::splat(round).to_le_bytes()
+    ]
 }
 
 // Like `mask`, but byte by byte.

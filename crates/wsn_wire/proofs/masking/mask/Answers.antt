@@ -16,16 +16,16 @@ loop-bytes-preserved c =
       front =
           ap (λ bytes. put_chunk at bytes (zip2 bit_xor (take 32 (drop at bytes)) c.key_lanes-lanes.result)) known.front
           ∙ (ap (λ lanes. put_chunk at (masked_front key start c.args.bytes.now at) (zip2 bit_xor (take 32 (drop at (masked_front key start c.args.bytes.now at))) lanes)) c.key_lanes-lanes.ensures
-          ∙ masked_front-put_chunk key start c.args.bytes.now at (omega arith) known.round);
+          ∙ masked_front-put_chunk key start c.args.bytes.now at 32 (omega arith) known.round);
     }
 
 pub returns : goal.returns
 returns c =
-    masked_front-rest c.args.key c.args.start c.args.bytes.now c.loop-bytes.bytes c.mask_each-2.new.bytes c.loop-bytes.at (omega arith)
-    c.loop-bytes.invariant.front c.mask_each-2.ensures
+    masked_front-rest c.args.key c.args.start c.args.bytes.now c.loop-bytes.bytes c.mask_words-2.new.bytes c.loop-bytes.at (omega arith)
+    c.loop-bytes.invariant.front c.mask_words-2.ensures
 
-pub mask_each-requires : goal.mask_each-requires
-mask_each-requires c = search rules
+pub mask_words-requires : goal.mask_words-requires
+mask_words-requires c = search rules
 
 pub returns-then-bytes-lt-BLOCK : goal.returns-then-bytes-lt-BLOCK
 returns-then-bytes-lt-BLOCK c = search rules
@@ -51,14 +51,14 @@ loop-bytes-smaller c = search rules
 pub overflow_add-start : goal.overflow_add-start
 overflow_add-start c = search rules
 
-pub slice_bounds-mask_each-count : goal.slice_bounds-mask_each-count
-slice_bounds-mask_each-count c = search rules
+pub slice_bounds-mask_words-count : goal.slice_bounds-mask_words-count
+slice_bounds-mask_words-count c = search rules
 
-pub slice_bounds-mask_each-start : goal.slice_bounds-mask_each-start
-slice_bounds-mask_each-start c = search rules
+pub slice_bounds-mask_words-start : goal.slice_bounds-mask_words-start
+slice_bounds-mask_words-start c = search rules
 
-pub slice_bounds-mask_each-end : goal.slice_bounds-mask_each-end
-slice_bounds-mask_each-end c = search rules
+pub slice_bounds-mask_words-end : goal.slice_bounds-mask_words-end
+slice_bounds-mask_words-end c = search rules
 
-pub mask_each-requires-2 : goal.mask_each-requires-2
-mask_each-requires-2 c = search rules
+pub mask_words-requires-2 : goal.mask_words-requires-2
+mask_words-requires-2 c = search rules
