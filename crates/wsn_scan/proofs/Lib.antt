@@ -8,6 +8,7 @@ pub mod EventFrames
 pub mod EventRuns
 pub mod ReaderEvents
 pub mod WholeFrames
+pub mod FrameStarts
 pub mod ReaderFrames
 pub mod Refusals
 pub mod MoreBytes

@@ -1,5 +1,6 @@
 mod event_frames;
 mod feeding;
+mod frame_starts;
 mod stages;
 mod verdicts;
 mod whole_frames;

@@ -24,6 +24,7 @@ impl Scan {
                 return Some(refusal);
             }
             at += self.take_frames(&mut piece[at..]);
+            at += self.take_start(&mut piece[at..]);
         }
         self.refusal()
     }

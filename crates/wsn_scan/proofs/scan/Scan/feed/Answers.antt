@@ -50,9 +50,14 @@ loop-at-smaller c =
     let there = put_mid at (length here - at) here c.next-taken.new.piece in
     let next = fed_further c.args.self.now c.loop-at.self mid piece here c.next-taken.new.piece at taken fed c.next-taken.ensures.within c.next-taken.auto.piece c.next-taken.ensures.kept c.next-taken.ensures.room
     (λ in_bytes. (heads_in c.next-taken.result.1, takes_by c.loop-at.self mid c.next-taken.result.1 share c.next-taken.new.piece taken c.next-taken.ensures.taken in_bytes)) in
-    let more = c.take_frames-at.result in
-    let all = share_is (at + taken) there ∙ next.kept in
-    falls_further mid c.take_frames-at.new.self (at + taken) more (length piece) _ (omega (arith, next.within, length-drop (at + taken) piece, ap (λ (bs : List ℕ). length bs) all, c.take_frames-at.ensures.within)) first c.take_frames-at.ensures.none
+    let frames = c.take_frames-at in
+    let more = frames.result in
+    let whole = fed_further c.args.self.now mid frames.new.self piece there frames.new.piece (at + taken) more next frames.ensures.within frames.auto.piece frames.ensures.kept frames.ensures.room frames.ensures.taken in
+    let last = put_mid (at + taken) (length there - (at + taken)) there frames.new.piece in
+    let in_frames = ap (λ (bs : List ℕ). length bs) (share_is (at + taken) there ∙ next.kept) in
+    let in_start = ap (λ (bs : List ℕ). length bs) (share_is (at + taken + more) last ∙ whole.kept) in
+    let second = falls_further mid frames.new.self (at + taken) more (length piece) _ (omega (arith, next.within, length-drop (at + taken) piece, in_frames, frames.ensures.within)) first frames.ensures.none in
+    falls_further frames.new.self c.take_start-at.new.self (at + taken + more) c.take_start-at.result (length piece) _ (omega (arith, whole.within, length-drop (at + taken + more) piece, in_start, c.take_start-at.ensures.within)) second c.take_start-at.ensures.none
 
 pub loop-at-preserved : goal.loop-at-preserved
 loop-at-preserved c =
@@ -68,14 +73,17 @@ loop-at-preserved c =
     let next = fed_further c.args.self.now c.loop-at.self mid piece here c.next-taken.new.piece at taken fed c.next-taken.ensures.within c.next-taken.auto.piece c.next-taken.ensures.kept c.next-taken.ensures.room
     (λ in_bytes. (heads_in c.next-taken.result.1, takes_by c.loop-at.self mid c.next-taken.result.1 share c.next-taken.new.piece taken c.next-taken.ensures.taken in_bytes)) in
     let frames = c.take_frames-at in
-    let last = fed_further c.args.self.now mid frames.new.self piece there frames.new.piece (at + taken) frames.result next frames.ensures.within frames.auto.piece frames.ensures.kept frames.ensures.room frames.ensures.taken in
+    let whole = fed_further c.args.self.now mid frames.new.self piece there frames.new.piece (at + taken) frames.result next frames.ensures.within frames.auto.piece frames.ensures.kept frames.ensures.room frames.ensures.taken in
+    let last = put_mid (at + taken) (length there - (at + taken)) there frames.new.piece in
+    let start = c.take_start-at in
+    let all = fed_further c.args.self.now frames.new.self start.new.self piece last start.new.piece (at + taken + frames.result) start.result whole start.ensures.within start.auto.piece start.ensures.kept start.ensures.room start.ensures.taken in
     record {
-      in_bytes = last.in_bytes;
-      within = last.within;
-      size = last.size;
-      kept = last.kept;
-      room = last.room;
-      consumes = last.consumes;
+      in_bytes = all.in_bytes;
+      within = all.within;
+      size = all.size;
+      kept = all.kept;
+      room = all.room;
+      consumes = all.consumes;
     }
 
 pub returns : goal.returns
@@ -110,3 +118,18 @@ take_frames-at-requires c = search rules
 
 pub overflow_add-at-in-loop-at : goal.overflow_add-at-in-loop-at
 overflow_add-at-in-loop-at c = search rules
+
+pub slice_bounds-take_start-count : goal.slice_bounds-take_start-count
+slice_bounds-take_start-count c = search rules
+
+pub slice_bounds-take_start-start : goal.slice_bounds-take_start-start
+slice_bounds-take_start-start c = search rules
+
+pub slice_bounds-take_start-end : goal.slice_bounds-take_start-end
+slice_bounds-take_start-end c = search rules
+
+pub take_start-at-requires : goal.take_start-at-requires
+take_start-at-requires c = search rules
+
+pub overflow_add-at-in-loop-at-2 : goal.overflow_add-at-in-loop-at-2
+overflow_add-at-in-loop-at-2 c = search rules
