@@ -1,7 +1,7 @@
 -- A call of a scan with the first bytes of a piece.
 use Rattle.std.proofs.Common.{◌≡◌, ℕ, ◌≤◌, List, ◌++◌, length, take, drop, min, inl, inr, sym, ap, ◌∙◌, subst, append-nil, arith}
 use Rattle.std.proofs.lemmas.Bool.{cases_lt}
-use Rattle.std.proofs.lemmas.List.{take_all, take_at, take_min, take-take, take-append-drop, drop_all, drop-append-le, length-take, length-take-le}
+use Rattle.std.proofs.lemmas.List.{take_all, take_at, take_min, take-take, take-append-drop, drop_all, drop-append-le, length-take, length-take-le, take-append-le}
 use Rattle.wsn_wire.specs.Frame.{IsBytes}
 use Rattle.wsn_wire.proofs.FrameLemmas.{IsBytes-left}
 
@@ -28,10 +28,11 @@ kept_after size count piece after within same size_is =
     drop-append-le count after (drop size piece) within ∙ ap (λ (bs : List ℕ). bs ++ drop size piece) same
     ∙ sym (drop-append-le count (take size piece) (drop size piece) (omega (arith, within, size_is))) ∙ ap (λ (bs : List ℕ). drop count bs) (take-append-drop size piece)
 
--- The bytes that a call consumed, of those that were copied before it.
-pub consumed_of : (size count : ℕ) (piece copied items : List ℕ) → size ≡ min (length piece) 2048 → copied ≡ take size piece → items ≡ take count copied → count ≤ length (take size piece) → (items ≡ take count piece) × (length items ≡ count)
-consumed_of size count piece copied items is copies truncated within =
-    let own : items ≡ take count (take size piece) = truncated ∙ ap (λ (bs : List ℕ). take count bs) copies in (
+-- The bytes that a call consumed, of those that were copied before it to the front of a buffer.
+pub consumed_of : (size count : ℕ) (piece copied rest : List ℕ) → size ≡ min (length piece) 2048 → copied ≡ take size piece → count ≤ length (take size piece) → (take count (copied ++ rest) ≡ take count piece) × (length (take count (copied ++ rest)) ≡ count)
+consumed_of size count piece copied rest is copies within =
+    let own : take count (copied ++ rest) ≡ take count (take size piece) =
+    ap (λ (bs : List ℕ). take count (bs ++ rest)) copies ∙ take-append-le count (take size piece) rest within in (
       own ∙ take-take count size piece (omega (arith, within, size_of_part size piece is)),
       ap (λ (bs : List ℕ). length bs) own ∙ length-take-le count (take size piece) within,
     )

@@ -30,20 +30,20 @@ impl StreamParts {
     #[tactic(none)]
     pub fn follow<W: Write>(
         &mut self,
-        consumed: &Consumed,
+        consumed: &Consumed<'_>,
         payload: &[u8],
         output: &mut Output<W>,
         context: &EntryContext<'_>,
     )
         ensures { (role : Role) (limits : Limits) (old new : Scan) (piece after came : List ℕ) (shown : List Shown) →
-            IsCall old new piece after (length consumed.now.bytes.items) consumed.now.notice →
-            consumed.now.bytes.items ≡ take (length consumed.now.bytes.items) piece →
-            payload.now ≡ take (length consumed.now.bytes.items) after →
+            IsCall old new piece after (length consumed.now.bytes.now) consumed.now.notice →
+            consumed.now.bytes.now ≡ take (length consumed.now.bytes.now) piece →
+            payload.now ≡ take (length consumed.now.bytes.now) after →
             HasShownFrames context.now.style.detail role limits old self.old came shown →
             ShowsMore role limits new self.new context.now output.old output.new (length piece)
-            (came ++ consumed.now.bytes.items) shown }
+            (came ++ consumed.now.bytes.now) shown }
     {
-        self.add_bytes(consumed.bytes.as_slice());
+        self.add_bytes(consumed.bytes);
         match &consumed.notice {
             Notice::More => {}
             Notice::Closed => {}

@@ -130,6 +130,8 @@ impl StreamParts {
 
     /// Prints the refusal of the frame at the last byte that came, and before it the message that it interrupts.
     /// `count` payload bytes came that were not added to the payload.
+    #[cold]
+    #[inline(never)]
     #[tactic(none)]
     pub fn put_refused<W: Write>(
         &self,

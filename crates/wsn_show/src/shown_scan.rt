@@ -1,4 +1,5 @@
 use crate::entry_context::EntryContext;
+use crate::last_bytes::LAST_MAX;
 use crate::scan_calls::next_bytes;
 use crate::stream_parts::StreamParts;
 use std::io::Write;
@@ -13,6 +14,8 @@ use wsn_wire::Role;
 pub struct ShownScan {
     pub scan: Scan,
     pub parts: StreamParts,
+    /// A copy of the bytes that a call of the scan consumes.
+    copy: [u8; LAST_MAX],
 }
 
 impl ShownScan {
@@ -35,6 +38,7 @@ impl ShownScan {
         ShownScan {
             scan: Scan::new(role, limits),
             parts: StreamParts::new(),
+            copy: [0; LAST_MAX],
         }
     }
 
@@ -69,7 +73,7 @@ impl ShownScan {
             (0 < result) ⊎ (ends_pending self.new.scan < ends_pending self.old.scan)
             ⊎ (refusal_in self.new.scan ≢ None) }
     {
-        let consumed = next_bytes(&mut self.scan, piece);
+        let consumed = next_bytes(&mut self.scan, piece, &mut self.copy);
         let count = consumed.bytes.len();
         self.parts
             .follow(&consumed, &piece[..count], output, context);

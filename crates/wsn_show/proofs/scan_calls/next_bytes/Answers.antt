@@ -1,20 +1,17 @@
 use Rattle.std.proofs.Common.{◌≡◌, ℕ, List, [], ◌++◌, length, take, drop, sym, ap, ◌∙◌, subst, arith}
+use borrow.Rule.Slice.PartMut.{post_of}
 use Rattle.wsn_wire.specs.Frame.{IsBytes}
 use Rattle.wsn_scan.specs.Scans.{MakesProgress}
 use Rattle.wsn_show.specs.FollowedScans.{IsCall}
-use Rattle.wsn_show.proofs.MoreBytesHeld.{extended}
 use Rattle.wsn_show.proofs.ScanCalls.{part_is, size_of_part, after_is, bytes_of_part, kept_after, consumed_of}
 use Rattle.wsn_show.proofs.scan_calls.next_bytes.Goals as goal
 
 -- The bytes that were copied, and how many of them the call consumed.
-copied : (c : goal.After-truncate) → (c.truncate.new.self.items ≡ take c.next-count.result.0 c.args.piece.now) × (length c.truncate.new.self.items ≡ c.next-count.result.0)
+copied : (c : goal.After-result-1) →
+    (take c.next-count.result.0 (c.copy_from_slice.new.self ++ post_of 0 c.min-size.result c.args.copy.now) ≡ take c.next-count.result.0 c.args.piece.now)
+    × (length (take c.next-count.result.0 (c.copy_from_slice.new.self ++ post_of 0 c.min-size.result c.args.copy.now)) ≡ c.next-count.result.0)
 copied c =
-    let size = c.min-size.ensures in
-    let none : c.new-bytes.result.items ≡ [] = c.new-bytes.ensures in
-    let fits = extended c.try_extend_from_slice-fits.result c.try_extend_from_slice-fits.ensures.variant
-    (omega (arith, ap (λ (bs : List ℕ). length bs) none, size_of_part c.min-size.result c.args.piece.now size, size)) c.try_extend_from_slice-fits.ensures.ok in
-    consumed_of c.min-size.result c.next-count.result.0 c.args.piece.now c.try_extend_from_slice-fits.new.self.items c.truncate.new.self.items size
-    (fits ∙ ap (λ (bs : List ℕ). bs ++ take c.min-size.result c.args.piece.now) none) c.truncate.ensures.items c.next-count.ensures.within
+    consumed_of c.min-size.result c.next-count.result.0 c.args.piece.now c.copy_from_slice.new.self (post_of 0 c.min-size.result c.args.copy.now) c.min-size.ensures c.copy_from_slice.ensures.after c.next-count.ensures.within
 
 pub returns-clause-call : goal.returns-clause-call
 returns-clause-call c all_bytes =
