@@ -204,6 +204,16 @@ fn comparison(rt: &impl Abort, format: Format) -> Comparison {
     }
 }
 
+/// The hint on a comparison of two streams, in words.
+fn on_streams(rt: &impl Abort, first: &[u8], second: &[u8], status: u8) -> Option<ComparedHint> {
+    hint_on_streams(comparison(rt, Format::Text), first, second, status)
+}
+
+/// The hint on a comparison of two captures, in words.
+fn on_sides(rt: &impl Abort, failed: &[u8], is_second: bool, said: &[u8]) -> Option<ComparedHint> {
+    hint_on_sides(comparison(rt, Format::Text), failed, is_second, said)
+}
+
 fn expect_line(rt: &impl Abort, alloc: Global, hint: Option<ComparedHint>, expected: &str) {
     let hint = hint.expect(rt, "a hint");
     let line = format!(in alloc; "{hint}").expect(rt, "memory");
@@ -214,27 +224,26 @@ fn expect_line(rt: &impl Abort, alloc: Global, hint: Option<ComparedHint>, expec
 #[test]
 fn a_hint_says_which_of_two_streams_it_is_about(rt: HostRuntime) {
     let (ping, masked, empty) = ([0x89, 0x00], [0x89, 0x80], []);
-    let text = comparison(&rt, Format::Text);
     expect_line(
         &rt,
         rt.alloc(),
-        hint_on_streams(text, &empty, &masked, 1),
+        on_streams(&rt, &empty, &masked, 1),
         "hint: FIRST is empty: check it, or the command before the pipe",
     );
     expect_line(
         &rt,
         rt.alloc(),
-        hint_on_streams(text, &ping, &masked, 1),
+        on_streams(&rt, &ping, &masked, 1),
         "hint: SECOND is masked: did a client send it? --role client",
     );
     expect_line(
         &rt,
         rt.alloc(),
-        hint_on_streams(text, "GET / HTTP/1.1".as_bytes(), &ping, 1),
+        on_streams(&rt, "GET / HTTP/1.1".as_bytes(), &ping, 1),
         "hint: FIRST begins with an HTTP head: remove it, LC_ALL=C sed '1,/^\\r$/d'",
     );
-    assert_eq!(rt; hint_on_streams(text, &ping, &ping, 0), None);
-    assert_eq!(rt; hint_on_streams(text, &empty, &masked, 2), None);
+    assert_eq!(rt; on_streams(&rt, &ping, &ping, 0), None);
+    assert_eq!(rt; on_streams(&rt, &empty, &masked, 2), None);
     let json = comparison(&rt, Format::Json);
     assert_eq!(rt; hint_on_streams(json, &empty, &masked, 1), None);
 }
@@ -243,21 +252,20 @@ fn a_hint_says_which_of_two_streams_it_is_about(rt: HostRuntime) {
 fn a_hint_says_which_of_two_captures_has_the_line(rt: HostRuntime) {
     let (capture, stream) = ("S 8900\nS 8\n".as_bytes(), [0x89, 0x00]);
     let said = "line 2: bad-hex\n".as_bytes();
-    let text = comparison(&rt, Format::Text);
     expect_line(
         &rt,
         rt.alloc(),
-        hint_on_sides(text, capture, true, said),
+        on_sides(&rt, capture, true, said),
         "hint: this line is in SECOND",
     );
     expect_line(
         &rt,
         rt.alloc(),
-        hint_on_sides(text, &stream, false, said),
+        on_sides(&rt, &stream, false, said),
         "hint: FIRST is what one endpoint sent, and no capture: leave out --capture",
     );
     let stop = "read failed\n".as_bytes();
-    assert_eq!(rt; hint_on_sides(text, capture, false, stop), None);
+    assert_eq!(rt; on_sides(&rt, capture, false, stop), None);
     let json = comparison(&rt, Format::Json);
     assert_eq!(rt; hint_on_sides(json, &stream, false, said), None);
 }
