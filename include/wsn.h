@@ -45,6 +45,9 @@
 extern "C" {
 #endif
 
+/* The version of this header and its library, which wsn --version prints. */
+#define WSN_VERSION "0.1.0"
+
 /* Room for every message. */
 #define WSN_MESSAGE 128
 

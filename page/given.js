@@ -37,10 +37,11 @@ function captureOfStream(stream, side) {
 
 // What no accepted stream begins with, and what to do about it, mostly as `wsn` hints.
 const MISTAKES = [
-  [/^(?:\xa1\xb2(?:\xc3\xd4|<M)|(?:\xd4\xc3|M<)\xb2\xa1)/, "It is a pcap file: recipes/pcap2wsn FILE 0 makes a capture of it."],
-  [/^\n\r\r\n/, "It is a pcapng file: recipes/pcap2wsn FILE 0 makes a capture of it."],
+  [/^(?:\xa1\xb2(?:\xc3\xd4|<M)|(?:\xd4\xc3|M<)\xb2\xa1)/,
+    "It is a pcap file: recipes/pcap2wsn FILE 0 or wsn-pcap FILE 0 makes a capture of it."],
+  [/^\n\r\r\n/, "It is a pcapng file: recipes/pcap2wsn FILE 0 or wsn-pcap FILE 0 makes a capture of it."],
   [/^\x1f\x8b\x08/, "It is compressed by gzip: unpack it first."],
-  [/^[\x14-\x17]\x03[\0-\x04]/, "It is TLS: recipes/pcap2wsn PCAP 0 KEYLOG decrypts it, from its pcap."],
+  [/^[\x14-\x17]\x03[\0-\x04]/, "It is TLS: recipes/pcap2wsn (or wsn-pcap) PCAP 0 KEYLOG decrypts it, from its pcap."],
   [/^(?:HTTP\/1\.|(?:GET|HEAD|POST|PUT|DELETE|CONNECT|OPTIONS|TRACE|PATCH) )/,
     "It begins with an HTTP head: remove it, LC_ALL=C sed '1,/^\\r$/d' FILE."],
   [/^\xef\xbb\xbf/, "It begins with a byte order mark: remove it, tail -c +4 FILE."],

@@ -25,6 +25,8 @@ __all__ = [
     "Session", "Side", "Stopped", "Verdict", "closing", "frames", "judge", "normal", "plan", "recut", "same", "sent", "show",
 ]
 
+__version__ = "0.1.0"  # That of wsn.h and of wsn --version.
+
 ROLES = ("client", "server")
 LENGTHS = ("shortest", "any")
 CONTROLS = ("ping", "pong", "close")

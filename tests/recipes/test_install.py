@@ -5,6 +5,7 @@ import pty
 import re
 import select
 import shutil
+import subprocess
 import time
 
 from harness import SECONDS, TOP, WSN, Failed, needs, run, same, test, want
@@ -14,9 +15,10 @@ COMMANDS = {"wsn-check": "recipes/check", "wsn-inflate": "recipes/inflate", "wsn
             "wsn-pcap": "recipes/pcap2wsn", "wsn-record": "recipes/record"}  # fmt: skip
 
 
-def environment():
-    """Where the program is built already."""
-    return {**os.environ, "WSN": str(program())}
+def environment(**more):
+    """Where the program is built already, and nothing else but what is named."""
+    kept = {name: value for name, value in os.environ.items() if name not in ("ENGINE", "LIBRARY")}
+    return {**kept, "WSN": str(program()), **more}
 
 
 def program():
@@ -36,12 +38,13 @@ def files_in(folder):
 def install_copies_and_removes(folder):
     """Into a folder with a blank in its name, by a relative name too; again; and away, beside other files."""
     prefix = folder / "a prefix"
-    kinds = "recipes/*.py", "page/*.css", "page/*.html", "page/*.js", "python/*.py"
+    kinds = "recipes/*.py", "page/*.css", "page/*.html", "page/*.js"
     parts = [str(path.relative_to(TOP)) for kind in kinds for path in TOP.glob(kind)]
     wanted = [*FILES, *(f"bin/{name}" for name in COMMANDS), "lib/wsn/made",
               *(f"lib/wsn/{name.removeprefix('recipes/')}" for name in [*parts, *COMMANDS.values()])]  # fmt: skip
     for words in [prefix], ["a prefix/"]:
-        run(TOP / "install", *words, cwd=folder, env=environment())
+        said = run(TOP / "install", *words, cwd=folder, env=environment())[1]
+        want(b"the library and its Python module are left out" in said, f"what is left out isn't said: {said}")
         found = [name for name in files_in(prefix) if (prefix / name).is_file()]
         same(found, sorted(wanted), "the files")
     same(run(prefix / "bin/wsn", "judge", "--role", "server", input=b"")[0][:8], b"accepted", "the program")
@@ -62,7 +65,7 @@ def install_copies_and_removes(folder):
 @test
 def recipes_say_the_names_that_they_were_called_by(folder):
     """In their help and in what is wrong with a command line, as they are installed and here."""
-    run(TOP / "install", folder, env={**os.environ, "WSN": shutil.which("true")})
+    run(TOP / "install", folder, env=environment(WSN=shutil.which("true")))
     for name, file in COMMANDS.items():
         for path, own in (folder / "bin" / name, name), (TOP / file, os.path.basename(file)):
             text = (run(path, "-h")[0] + run(path, "--wrong", status=2)[1]).decode()
@@ -88,7 +91,7 @@ def install_copies_the_library(folder):
     for name, data in made.items():
         (folder / "built" / os.path.basename(name)).write_bytes(data)
     prefix = folder / "prefix"
-    run(TOP / "install", prefix, env={**environment(), "LIBRARY": str(folder / "built")})
+    run(TOP / "install", prefix, env=environment(LIBRARY=str(folder / "built")))
     same({name: (prefix / name).read_bytes() for name in made}, made, "the files")
     place = "import wsn; print(wsn._places()[0])"
     found, _ = run("python3", "-c", place, env={**os.environ, "PYTHONPATH": str(prefix / "lib/wsn/python")})
@@ -102,11 +105,11 @@ def install_copies_the_page(folder):
     """The page on which captures are dropped, with the engine that ENGINE names; wsn-page makes it again; and away."""
     (folder / "code.wasm").write_bytes(b"engine")
     prefix = folder / "prefix"
-    run(TOP / "install", prefix, env={**environment(), "ENGINE": str(folder / "code.wasm")})
+    run(TOP / "install", prefix, env=environment(ENGINE=str(folder / "code.wasm")))
     page = (prefix / "share/wsn/wsn.html").read_bytes()
     same(page.count(b'id="engine">ZW5naW5l<'), 1, "the engine in the page")
     same((prefix / "lib/wsn/page/engine.wasm").read_bytes(), b"engine", "the engine")
-    made, _ = run("env", "-u", "WSN", prefix / "bin/wsn-page")
+    made, _ = run("env", "-u", "WSN", prefix / "bin/wsn-page", stdin=subprocess.DEVNULL)
     same(made, page, "the page that the installed command makes")
     run(TOP / "install", "--remove", prefix)
     same(prefix.exists(), False, "what is left")

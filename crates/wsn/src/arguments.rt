@@ -4,13 +4,13 @@ use std::alloc::Global;
 use std::env::FillError;
 use std::rt::Env;
 use std::str;
-use wsn_cli::Usage;
+use wsn_cli::{Mistake, Usage};
 
 /// The number of bytes that a word is first given room for.
 const WORD: usize = 4_096;
 
-/// The words of the command line, with `wsn` instead of the name by which the program was called. The error is `Own`
-/// for a word that isn't UTF-8.
+/// The words of the command line, with `wsn` instead of the name by which the program was called. The error is
+/// `NotUtf8` for a word that isn't UTF-8.
 pub fn words<E: Env>(alloc: Global, env: &E) -> Result<Vec<String>, Usage> {
     let mut words = Vec::new(alloc);
     words.push(String::from_str(alloc, "wsn")?)?;
@@ -20,7 +20,7 @@ pub fn words<E: Env>(alloc: Global, env: &E) -> Result<Vec<String>, Usage> {
             break;
         };
         let Ok(word) = str::from_utf8(&bytes[..len]) else {
-            return Err(Usage::Own);
+            return Err(Usage::Own(Mistake::NotUtf8));
         };
         words.push(String::from_str(alloc, word)?)?;
     }

@@ -3,29 +3,35 @@ ghost use Rattle.wsn_job.specs.Jobs.{MayRun};
 ghost use Rattle.wsn_cli.specs.Requests.{IsOwnSide};
 
 use crate::FAULT;
+use crate::pipe::Pipe;
 use crate::source::Source;
 use arrayvec::ArrayVec;
 use std::alloc::Allocator;
 use std::cell::RefCell;
-use std::io::{self, Read, Write};
+use std::fs::OpenFile;
+use std::io::{self, ErrorKind, Read, Write};
 use std::rt::Runtime;
 use std::{fs, str};
 use wsn_capture::SideReader;
-use wsn_cli::{
-    Comparison, Escaped, Hint, How, Job, hint_on_run, plan_hint_of, run, run_on_side, run_same,
-    run_same_on_sides,
-};
+use wsn_cli::{Escaped, Hint, How, Job, Mistake, hint_on_run, plan_hint_of, run, run_on_side};
 use wsn_io::{BlockReader, BlockWriter, FirstBytes, Input, Output, Stop, TiedReader, TiedWriter};
 use wsn_plan::{PlanFileFault, read_plan_file};
 use wsn_rules::Limits;
 use wsn_wire::Role;
 
 /// A line to be printed later, on standard error: a verdict or a fault.
-type OneLine = ArrayVec<u8, 128>;
+pub type OneLine = ArrayVec<u8, 128>;
 
 /// Prints a text on standard error and returns the exit status for a fault. What can't be written is dropped.
 pub fn diagnose<R: Eprint>(rt: &R, text: &str) -> u8 {
     let _ = rt.eprint(text);
+    FAULT
+}
+
+/// Reports words that break a rule of the command line, and which rule, and returns the exit status for a fault.
+pub fn diagnose_usage<R: Eprint>(rt: &R, mistake: Mistake) -> u8 {
+    let hint = mistake.line();
+    let _ = eprintln!(rt; "usage\n{hint}");
     FAULT
 }
 
@@ -35,10 +41,13 @@ pub fn diagnose_stop<R: Eprint>(rt: &R, stop: Stop) -> u8 {
     FAULT
 }
 
-/// Prints a text on standard output and returns the exit status.
+/// Prints a text on standard output and returns the exit status. Nothing is reported if nobody reads it.
 pub fn show<R: Print + Eprint>(rt: &R, text: &str) -> u8 {
-    if rt.print(text).is_ok() {
-        0
+    let Err(error) = rt.print(text) else {
+        return 0;
+    };
+    if error.kind() == ErrorKind::BrokenPipe {
+        FAULT
     } else {
         diagnose_stop(rt, Stop::Write)
     }
@@ -62,24 +71,39 @@ pub fn perform<R: Runtime + AllocGlobal>(
 }
 
 /// Opens an input: the file with this name, or standard input. The error is the exit status for a file that can't be
-/// opened, which is reported as `cannot read` with its name.
-fn open<R: Runtime>(rt: &R, file: &Option<String>) -> Result<Source<R::Reader, R::File>, u8> {
+/// opened, or is a folder, which is reported as `cannot read` with its name.
+pub fn open<R: Runtime>(rt: &R, file: &Option<String>) -> Result<Source<R::Reader, R::File>, u8> {
     let Some(name) = file else {
         return Ok(Source::StandardInput(rt.reader()));
     };
     match fs::open(rt, name) {
-        Ok(file) => Ok(Source::File(file)),
+        Ok(file) => {
+            if is_folder(&file) {
+                Err(diagnose_unread(rt, name.as_str()))
+            } else {
+                Ok(Source::File(file))
+            }
+        }
         Err(_) => Err(diagnose_unread(rt, name.as_str())),
+    }
+}
+
+/// Whether an open file is a folder, whose reading would fail.
+fn is_folder<F: OpenFile>(file: &F) -> bool {
+    match file.metadata() {
+        Ok(metadata) => metadata.is_dir(),
+        Err(_) => false,
     }
 }
 
 /// Keeps standard input that is closed from being read as a file that is opened: the system would give the file its
 /// descriptor, and now gives it to a folder, whose reading fails.
-fn hold_standard_input<R: Runtime>(rt: &R) -> io::Result<R::File> {
+pub fn hold_standard_input<R: Runtime>(rt: &R) -> io::Result<R::File> {
     fs::open(rt, "/")
 }
 
-/// Does a command's work over an input and standard output, and returns the exit status.
+/// Does a command's work over an input and standard output, and returns the exit status. Nothing is reported if nobody
+/// reads standard output.
 fn perform_on<R: Runtime + AllocGlobal, S: Read + Drop>(
     rt: &R,
     job: &Job,
@@ -91,10 +115,21 @@ fn perform_on<R: Runtime + AllocGlobal, S: Read + Drop>(
 {
     let mut first = FirstBytes::new(input);
     let mut diagnosed = OneLine::new();
-    let output = io::writer(rt);
-    match work(rt.alloc(), job, &mut first, side, output, &mut diagnosed) {
+    let mut output = Pipe::new(io::writer(rt));
+    let done = work(
+        rt.alloc(),
+        job,
+        &mut first,
+        side,
+        &mut output,
+        &mut diagnosed,
+    );
+    if output.has_no_reader() {
+        return FAULT;
+    }
+    match done {
         Some(status) => {
-            finish(rt, &diagnosed, status);
+            finish(rt, &diagnosed);
             let said = diagnosed.as_slice();
             give_hint(rt, hint_on_run(job, side, first.kept(), status, said));
             status
@@ -211,77 +246,6 @@ fn name_of(file: &Option<String>) -> &str {
     }
 }
 
-/// Compares the streams in two files and returns the exit status. Both are opened before either is read.
-pub fn compare<R: Runtime + AllocGlobal>(
-    rt: &R,
-    comparison: Comparison,
-    first: &Option<String>,
-    second: &Option<String>,
-    side: Option<Role>,
-) -> u8 {
-    let _held = hold_standard_input(rt);
-    let first = match open(rt, first) {
-        Ok(input) => input,
-        Err(status) => return status,
-    };
-    let second = match open(rt, second) {
-        Ok(input) => input,
-        Err(status) => return status,
-    };
-    let mut diagnosed = OneLine::new();
-    let output = io::writer(rt);
-    match compare_inputs(
-        rt.alloc(),
-        first,
-        second,
-        comparison,
-        side,
-        output,
-        &mut diagnosed,
-    ) {
-        Some(status) => finish(rt, &diagnosed, status),
-        None => diagnose_stop(rt, Stop::Write),
-    }
-}
-
-/// Compares the streams on two inputs, or one side of the captures on them. Prints the answer, puts what is to be printed
-/// on standard error into the given line, and returns the exit status; `None` if the output failed.
-fn compare_inputs<A: Allocator + Copy, R: Read + Drop, S: Read + Drop, W: Write + Drop>(
-    alloc: A,
-    first: R,
-    second: S,
-    comparison: Comparison,
-    side: Option<Role>,
-    output: W,
-    diagnosed: &mut OneLine,
-) -> Option<u8> {
-    let mut first = BlockReader::new(first);
-    let mut second = BlockReader::new(second);
-    let output = RefCell::new(BlockWriter::new(output));
-    let mut writer = TiedWriter::new(&output);
-    let mut printed = Output::new(&mut writer);
-    let mut errors = Output::new(diagnosed);
-    let status = match side {
-        None => run_same(
-            alloc,
-            &mut Input::new(&mut first),
-            &mut Input::new(&mut second),
-            comparison,
-            &mut printed,
-            &mut errors,
-        ),
-        Some(side) => run_same_on_sides(
-            alloc,
-            &mut Input::new(SideReader::new(&mut first, side)),
-            &mut Input::new(SideReader::new(&mut second, side)),
-            comparison,
-            &mut printed,
-            &mut errors,
-        ),
-    };
-    writer.flush().is_ok().then_some(status)
-}
-
 /// Reports a file that can't be read, and returns the exit status for a fault.
 fn diagnose_unread<R: Eprint>(rt: &R, file: &str) -> u8 {
     let name = Escaped::new(file);
@@ -289,10 +253,9 @@ fn diagnose_unread<R: Eprint>(rt: &R, file: &str) -> u8 {
     FAULT
 }
 
-/// Prints on standard error what was kept until standard output was written, and returns the exit status.
-fn finish<R: Eprint>(rt: &R, diagnosed: &OneLine, status: u8) -> u8 {
+/// Prints on standard error what was kept until standard output was written.
+pub fn finish<R: Eprint>(rt: &R, diagnosed: &OneLine) {
     if let Ok(text) = str::from_utf8(diagnosed.as_slice()) {
         let _ = rt.eprint(text);
     }
-    status
 }

@@ -6,6 +6,7 @@ use crate::error_words::shown_in_errors;
 use crate::escaped::Escaped;
 use crate::explain::{explanation, list_of_words};
 use crate::help;
+use crate::mistake::Mistake;
 use crate::options::{
     check_digits, comparison_of, file, file_of, format_of, limits_of, role, role_of, side_of,
     style_of, with_capture, with_events_view, with_file, with_json, with_limits, with_role,
@@ -200,7 +201,7 @@ fn answered(alloc: Global, words: &[String], error: &Error) -> Result<Request, U
 /// The rule that the words break: clap's text, or `Own` if clap finds none.
 fn refusal(alloc: Global, words: &[String]) -> Result<Usage, AllocError> {
     let error = match program(alloc)?.try_get_matches_from(words) {
-        Ok(_matches) => return Ok(Usage::Own),
+        Ok(_matches) => return Ok(Usage::Own(Mistake::Other)),
         Err(error) => error,
     };
     if error.kind() == ErrorKind::OutOfMemory {
@@ -243,7 +244,7 @@ fn run_of(alloc: Global, name: &str, matches: &ArgMatches<'_>) -> Result<Request
     ensures { IfOk result CanBeDone }
 {
     let Some(job) = job_of(name, matches) else {
-        return Err(Usage::Own);
+        return Err(Usage::Own(Mistake::Other));
     };
     let side = match job.role() {
         Some(role) => side_of(matches, role),
@@ -256,7 +257,7 @@ fn run_of(alloc: Global, name: &str, matches: &ArgMatches<'_>) -> Result<Request
     })
 }
 
-/// The request of `same`: two inputs, and how they are compared. The error is `Own` if both are
+/// The request of `same`: two inputs, and how they are compared. The error is `TwoStandardInputs` if both are
 /// standard input.
 fn same_of(alloc: Global, matches: &ArgMatches<'_>) -> Result<Request, Usage>
     ensures { IfOk result CanBeDone }
@@ -270,7 +271,8 @@ fn same_of(alloc: Global, matches: &ArgMatches<'_>) -> Result<Request, Usage>
             second,
             side: side_of(matches, comparison.role),
         }),
-        _ => Err(Usage::Own),
+        Some(_) => Err(Usage::Own(Mistake::TwoStandardInputs)),
+        None => Err(Usage::Own(Mistake::Other)),
     }
 }
 
@@ -308,7 +310,7 @@ pub fn asked(alloc: Global, words: &[String]) -> Result<Request, Usage>
         Err(error) => return answered(alloc, words, &error),
     };
     let Some((name, command)) = matches.subcommand() else {
-        return Err(Usage::Own);
+        return Err(Usage::Own(Mistake::Other));
     };
     check_digits(command)?;
     match name {

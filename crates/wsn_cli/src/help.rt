@@ -1,6 +1,7 @@
 //! Help texts, at most 80 columns wide.
 
-/// What `--version` prints after the program's name: the version, and what it was proved with.
+/// What `--version` prints after the program's name: the version, and what it was proved with. The version is also in
+/// `include/wsn.h` and `python/wsn.py`; `tests/program` compares the three.
 pub const VERSION: &str = "0.1.0\nproved with rattle's logic dac8208d650f15bf";
 
 pub const PROGRAM: &str = "\
@@ -296,5 +297,6 @@ Exit status:
   2  no answer; a line on standard error says why: read failed, write failed,
      input limit (more than 2^40 bytes came), out of memory, cannot read FILE,
      line N: WORD (a malformed line of a capture: 'wsn help closing'), usage;
-     or several lines, if the command line is wrong
+     or several lines, if the command line is wrong; or none, if the reader of
+     standard output has ended, as head does
 ";

@@ -3,23 +3,28 @@
 //! [`asked`] reads the words, with clap, and returns a [`Request`], or a [`Usage`] that says why there is none. A
 //! request to run holds a [`Job`], which [`run`] does over any reader and writers; [`run_same`] compares two streams.
 //! [`run_on_side`] and [`run_same_on_sides`] do so over one side of a capture. [`Escaped`] prints a word from outside so
-//! that a terminal isn't changed by it. [`hint_on_run`] says which everyday mistake an input looks like.
+//! that a terminal isn't changed by it. [`hint_on_run`] says which everyday mistake an input looks like,
+//! [`hint_on_streams`] and [`hint_on_sides`] which of two.
 //! `specs/Inputs.antt` defines which input a word names, `specs/Requests.antt` which requests can be carried out.
 #![tactic(auto)]
 
 mod command_line;
+mod compared_hint;
 mod error_words;
 mod escaped;
 mod explain;
 mod help;
 mod hints;
+mod mistake;
 mod options;
 mod recut_options;
 mod request;
 
 pub use command_line::asked;
+pub use compared_hint::ComparedHint;
 pub use escaped::Escaped;
-pub use hints::hint_on_run;
+pub use hints::{hint_on_run, hint_on_sides, hint_on_streams};
+pub use mistake::Mistake;
 pub use request::{Request, Usage};
 pub use wsn_hint::{Hint, capture_hint_of, hint_of, plan_hint_of};
 pub use wsn_job::{

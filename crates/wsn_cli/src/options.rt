@@ -7,6 +7,7 @@ ghost use Rattle.wsn_print.specs.declared.format.Format.TheVariants as formats;
 ghost use Rattle.wsn_cli.specs.Inputs.{IsInputNamed};
 ghost use Rattle.wsn_cli.specs.Requests.{AreAskedLimits};
 
+use crate::mistake::Mistake;
 use crate::request::Usage;
 use clap::builder::ValueParser;
 use clap::{Arg, ArgAction, ArgMatches, Command, value_parser};
@@ -276,7 +277,7 @@ pub fn check_digits(matches: &ArgMatches<'_>) -> Result<(), Usage> {
     for option in ["limit", "frames", "size", "view"] {
         let value = matches.get_str(option).unwrap_or("");
         if !value.bytes().all(|byte| byte.is_ascii_digit()) {
-            return Err(Usage::Own);
+            return Err(Usage::Own(Mistake::SignedNumber));
         }
     }
     Ok(())

@@ -1,6 +1,7 @@
 ghost use Rattle.std.specs.Prelude.{IfOk};
 ghost use Rattle.wsn_cli.specs.Requests.{CanBeDone};
 
+use crate::mistake::Mistake;
 use crate::options::{
     file_of, limits_of, option, role_of, side_of, with_capture, with_file, with_role,
 };
@@ -45,8 +46,8 @@ fn with_frames<'a>(alloc: Global, command: Command<'a>) -> Result<Command<'a>, A
     command.arg(weave)?.arg(option(alloc, "key", "HEX", help))
 }
 
-/// The request of `recut`. The error is `Own` unless exactly one of a plan and a size is given, and for `--weave` or
-/// `--key` with a plan, a key with a server, and a key that isn't 8 hexadecimal digits.
+/// The request of `recut`. It has exactly one of a plan and a size, and `--weave` and `--key` only with a size; a key is 8
+/// hexadecimal digits, and a server has none. The error is the first of these rules that is broken.
 pub fn recut_of(alloc: Global, matches: &ArgMatches<'_>) -> Result<Request, Usage>
     ensures { IfOk result CanBeDone }
 {
@@ -54,12 +55,15 @@ pub fn recut_of(alloc: Global, matches: &ArgMatches<'_>) -> Result<Request, Usag
     let key = matches.get_str("key");
     match (matches.get_str("plan"), matches.get_one::<u32>("size")) {
         (Some(_), None) if !weave && key.is_none() => recut_by_plan(alloc, matches),
+        (Some(_), None) => Err(Usage::Own(Mistake::SizeOptionWithPlan)),
         (None, Some(size)) => recut_by_size(alloc, matches, size, weave, key_of(key)?),
-        _ => Err(Usage::Own),
+        (Some(_), Some(_)) => Err(Usage::Own(Mistake::PlanAndSize)),
+        (None, None) => Err(Usage::Own(Mistake::NoPlanOrSize)),
     }
 }
 
-/// The request of `recut` by a plan. The error is `Own` if the plan and the stream are both on standard input.
+/// The request of `recut` by a plan. The error is `TwoStandardInputs` if the plan and the stream are both on standard
+/// input.
 fn recut_by_plan(alloc: Global, matches: &ArgMatches<'_>) -> Result<Request, Usage>
     ensures { IfOk result CanBeDone }
 {
@@ -74,11 +78,12 @@ fn recut_by_plan(alloc: Global, matches: &ArgMatches<'_>) -> Result<Request, Usa
             file,
             side: side_of(matches, role),
         }),
-        _ => Err(Usage::Own),
+        Some(_) => Err(Usage::Own(Mistake::TwoStandardInputs)),
+        None => Err(Usage::Own(Mistake::Other)),
     }
 }
 
-/// The request of `recut` by size. The error is `Own` for a key with a server.
+/// The request of `recut` by size. The error is `KeyOfServer` for a key with a server.
 fn recut_by_size(
     alloc: Global,
     matches: &ArgMatches<'_>,
@@ -89,9 +94,11 @@ fn recut_by_size(
     ensures { IfOk result CanBeDone }
 {
     let role = role_of(matches);
-    let (Some(limits), Some(how)) = (limits_of(matches), How::by_size(role, size, weave, key))
-    else {
-        return Err(Usage::Own);
+    let Some(limits) = limits_of(matches) else {
+        return Err(Usage::Own(Mistake::Other));
+    };
+    let Some(how) = How::by_size(role, size, weave, key) else {
+        return Err(Usage::Own(Mistake::KeyOfServer));
     };
     Ok(Request::Run {
         job: Job::Recut(role, limits, how),
@@ -107,6 +114,6 @@ fn key_of(digits: Option<&str>) -> Result<Option<[u8; 4]>, Usage> {
     };
     match <[u8; 4] as FromHex>::from_hex(digits.as_bytes()) {
         Ok(key) => Ok(Some(key)),
-        Err(_) => Err(Usage::Own),
+        Err(_) => Err(Usage::Own(Mistake::BadKey)),
     }
 }

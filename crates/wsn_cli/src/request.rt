@@ -1,3 +1,4 @@
+use crate::mistake::Mistake;
 use std::alloc::{AllocError, AllocFailed};
 use wsn_job::{Comparison, Job};
 use wsn_rules::Limits;
@@ -37,8 +38,8 @@ pub enum Request {
 pub enum Usage {
     /// They break a rule of the command line; the text says which.
     Clap(String),
-    /// They break a rule that clap doesn't check; the line `usage` reports it.
-    Own,
+    /// They break a rule that clap doesn't check; the line `usage` reports it, and a hint says which.
+    Own(Mistake),
     /// An allocation failed.
     Memory,
 }

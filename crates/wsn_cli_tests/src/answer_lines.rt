@@ -23,7 +23,7 @@ fn answer_to(alloc: Global, line: &str) -> Result<String, AllocError> {
     match &asked(alloc, words.as_slice()) {
         Ok(request) => request_line(alloc, request),
         Err(Usage::Clap(_)) => String::from_str(alloc, "clap"),
-        Err(Usage::Own) => String::from_str(alloc, "own"),
+        Err(Usage::Own(mistake)) => format!(in alloc; "{mistake:?}"),
         Err(Usage::Memory) => String::from_str(alloc, "memory"),
     }
 }

@@ -1,7 +1,11 @@
 //! Hints: each everyday mistake by the first bytes of its format, and what has none.
 
+use std::alloc::Global;
 use std::process::Abort;
-use wsn_cli::{Hint, capture_hint_of, hint_of, plan_hint_of};
+use wsn_cli::{
+    ComparedHint, Comparison, Format, Hint, Without, capture_hint_of, hint_of, hint_on_sides,
+    hint_on_streams, plan_hint_of,
+};
 use wsn_rules::{INPUT_MAX, Limits, MESSAGE_MAX};
 use wsn_wire::Role;
 
@@ -183,6 +187,87 @@ fn a_plan_has_a_hint_for_a_byte_order_mark_alone(rt: HostRuntime) {
     assert_eq!(rt; plan_hint_of("last -\r\n".as_bytes()), None);
     assert_eq!(rt; plan_hint_of(&[0xd4, 0xc3, 0xb2, 0xa1]), None);
     assert_eq!(rt; plan_hint_of(&[0xef, 0xbb]), None);
+}
+
+/// A comparison of two servers' streams under the greatest limits.
+fn comparison(rt: &impl Abort, format: Format) -> Comparison {
+    Comparison {
+        role: Role::Server,
+        limits: limits(rt, MESSAGE_MAX),
+        without: Without {
+            ping: false,
+            pong: false,
+            close: false,
+        },
+        format,
+        view: None,
+    }
+}
+
+/// The hint on a comparison of two streams, in words.
+fn on_streams(rt: &impl Abort, first: &[u8], second: &[u8], status: u8) -> Option<ComparedHint> {
+    hint_on_streams(comparison(rt, Format::Text), first, second, status)
+}
+
+/// The hint on a comparison of two captures, in words.
+fn on_sides(rt: &impl Abort, failed: &[u8], is_second: bool, said: &[u8]) -> Option<ComparedHint> {
+    hint_on_sides(comparison(rt, Format::Text), failed, is_second, said)
+}
+
+fn expect_line(rt: &impl Abort, alloc: Global, hint: Option<ComparedHint>, expected: &str) {
+    let hint = hint.expect(rt, "a hint");
+    let line = format!(in alloc; "{hint}").expect(rt, "memory");
+    assert_eq!(rt; line.as_str(), expected);
+}
+
+/// A server's ping and a client's, an empty stream, and an HTTP head.
+#[test]
+fn a_hint_says_which_of_two_streams_it_is_about(rt: HostRuntime) {
+    let (ping, masked, empty) = ([0x89, 0x00], [0x89, 0x80], []);
+    expect_line(
+        &rt,
+        rt.alloc(),
+        on_streams(&rt, &empty, &masked, 1),
+        "hint: FIRST is empty: check it, or the command before the pipe",
+    );
+    expect_line(
+        &rt,
+        rt.alloc(),
+        on_streams(&rt, &ping, &masked, 1),
+        "hint: SECOND is masked: did a client send it? --role client",
+    );
+    expect_line(
+        &rt,
+        rt.alloc(),
+        on_streams(&rt, "GET / HTTP/1.1".as_bytes(), &ping, 1),
+        "hint: FIRST begins with an HTTP head: remove it, LC_ALL=C sed '1,/^\\r$/d'",
+    );
+    assert_eq!(rt; on_streams(&rt, &ping, &ping, 0), None);
+    assert_eq!(rt; on_streams(&rt, &empty, &masked, 2), None);
+    let json = comparison(&rt, Format::Json);
+    assert_eq!(rt; hint_on_streams(json, &empty, &masked, 1), None);
+}
+
+#[test]
+fn a_hint_says_which_of_two_captures_has_the_line(rt: HostRuntime) {
+    let (capture, stream) = ("S 8900\nS 8\n".as_bytes(), [0x89, 0x00]);
+    let said = "line 2: bad-hex\n".as_bytes();
+    expect_line(
+        &rt,
+        rt.alloc(),
+        on_sides(&rt, capture, true, said),
+        "hint: this line is in SECOND",
+    );
+    expect_line(
+        &rt,
+        rt.alloc(),
+        on_sides(&rt, &stream, false, said),
+        "hint: FIRST is what one endpoint sent, and no capture: leave out --capture",
+    );
+    let stop = "read failed\n".as_bytes();
+    assert_eq!(rt; on_sides(&rt, capture, false, stop), None);
+    let json = comparison(&rt, Format::Json);
+    assert_eq!(rt; hint_on_sides(json, &stream, false, said), None);
 }
 
 /// The next number of a generator with a fixed seed (Numerical Recipes' constants).

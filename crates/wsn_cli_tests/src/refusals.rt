@@ -60,36 +60,48 @@ fn clap_refuses_wrong_words(rt: HostRuntime) {
 }
 
 /// Options of `recut` that don't go together, a key that isn't eight digits, a number with a sign, and two inputs that
-/// are both standard input.
-static REFUSED: [&str; 23] = [
-    "wsn recut --role server",
-    "wsn recut --role server --plan p --size 2",
-    "wsn recut --role server --plan p --weave",
-    "wsn recut --role client --plan p --key 00000000",
-    "wsn recut --role server --size 3 --key 00000000",
-    "wsn recut --role server --weave",
-    "wsn recut --role client --key 00000000",
-    "wsn recut --role client --size 2 --key 0102030",
-    "wsn recut --role client --size 2 --key 010203040",
-    "wsn recut --role client --size 2 --key 0102030g",
-    "wsn recut --role client --size 2 --key -",
-    "wsn recut --role client --size 2 --key ",
-    "wsn judge --role server --limit +5",
-    "wsn closing --limit=-0",
-    "wsn show --view +5",
-    "wsn same --role client a b --view +5",
-    "wsn same --role client --frames +1 a b",
-    "wsn recut --role server --size +3",
-    "wsn recut --role server --plan p --limit +5",
-    "wsn same --role server - -",
-    "wsn same --role server --capture - -",
-    "wsn recut --role server --plan -",
-    "wsn recut --role server --plan - -",
+/// are both standard input: with each the mistake.
+static REFUSED: [(&str, &str); 23] = [
+    ("wsn recut --role server", "NoPlanOrSize"),
+    ("wsn recut --role server --plan p --size 2", "PlanAndSize"),
+    (
+        "wsn recut --role server --plan p --weave",
+        "SizeOptionWithPlan",
+    ),
+    (
+        "wsn recut --role client --plan p --key 00000000",
+        "SizeOptionWithPlan",
+    ),
+    (
+        "wsn recut --role server --size 3 --key 00000000",
+        "KeyOfServer",
+    ),
+    ("wsn recut --role server --weave", "NoPlanOrSize"),
+    ("wsn recut --role client --key 00000000", "NoPlanOrSize"),
+    ("wsn recut --role client --size 2 --key 0102030", "BadKey"),
+    ("wsn recut --role client --size 2 --key 010203040", "BadKey"),
+    ("wsn recut --role client --size 2 --key 0102030g", "BadKey"),
+    ("wsn recut --role client --size 2 --key -", "BadKey"),
+    ("wsn recut --role client --size 2 --key ", "BadKey"),
+    ("wsn judge --role server --limit +5", "SignedNumber"),
+    ("wsn closing --limit=-0", "SignedNumber"),
+    ("wsn show --view +5", "SignedNumber"),
+    ("wsn same --role client a b --view +5", "SignedNumber"),
+    ("wsn same --role client --frames +1 a b", "SignedNumber"),
+    ("wsn recut --role server --size +3", "SignedNumber"),
+    (
+        "wsn recut --role server --plan p --limit +5",
+        "SignedNumber",
+    ),
+    ("wsn same --role server - -", "TwoStandardInputs"),
+    ("wsn same --role server --capture - -", "TwoStandardInputs"),
+    ("wsn recut --role server --plan -", "TwoStandardInputs"),
+    ("wsn recut --role server --plan - -", "TwoStandardInputs"),
 ];
 
 #[test]
 fn the_program_refuses_what_clap_accepts(rt: HostRuntime) {
-    for words in REFUSED.iter() {
-        expect_answer(&rt, rt.alloc(), words, "own");
+    for row in REFUSED.iter() {
+        expect_answer(&rt, rt.alloc(), row.0, row.1);
     }
 }

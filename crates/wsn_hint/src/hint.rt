@@ -51,20 +51,20 @@ impl Hint {
             }
             Hint::HexDump => "hint: this is a dump by xxd: make bytes of it, xxd -r FILE",
             Hint::Pcap => {
-                "hint: this is a pcap file: recipes/pcap2wsn FILE 0 makes a capture of it"
+                "hint: a pcap file; recipes/pcap2wsn FILE 0 or wsn-pcap FILE 0 makes a capture"
             }
             Hint::PcapNg => {
-                "hint: this is a pcapng file: recipes/pcap2wsn FILE 0 makes a capture of it"
+                "hint: a pcapng file; recipes/pcap2wsn FILE 0 or wsn-pcap FILE 0 makes a capture"
             }
             Hint::Gzip => "hint: this is compressed by gzip: unpack it, gzip -dc FILE",
             Hint::Tls => {
-                "hint: this is TLS: recipes/pcap2wsn PCAP 0 KEYLOG decrypts it, from its pcap"
+                "hint: this is TLS: recipes/pcap2wsn (or wsn-pcap) PCAP 0 KEYLOG decrypts it"
             }
             Hint::ByteOrderMark => {
                 "hint: this begins with a byte order mark: remove it, tail -c +4 FILE"
             }
             Hint::Compressed => {
-                "hint: a compressed frame: recipes/inflate CAPTURE, or recipes/record --plain"
+                "hint: compressed: recipes/inflate CAPTURE or wsn-inflate CAPTURE; record --plain"
             }
             Hint::OtherRole(Role::Client) => {
                 "hint: masked, as a client's frames are: did a client send this? --role client"
@@ -75,6 +75,28 @@ impl Hint {
             Hint::Stream => {
                 "hint: this is what one endpoint sent, and no capture: wsn judge --role R FILE"
             }
+        }
+    }
+    /// What the hint says of one of two inputs, after the input's name: at most 68 bytes, so that `hint: SECOND` and
+    /// this are at most 80.
+    pub fn after_name(&self) -> &'static str
+        ensures { length result.now ≤ 68 }
+    {
+        match self {
+            Hint::Empty => " is empty: check it, or the command before the pipe",
+            Hint::HttpHead => " begins with an HTTP head: remove it, LC_ALL=C sed '1,/^\\r$/d'",
+            Hint::Capture => " looks like a capture of both sides: add --capture",
+            Hint::Hexadecimal => " is in hexadecimal digits: make bytes of them, xxd -r -p",
+            Hint::HexDump => " is a dump by xxd: make bytes of it, xxd -r",
+            Hint::Pcap => " is a pcap file: recipes/pcap2wsn or wsn-pcap makes a capture",
+            Hint::PcapNg => " is a pcapng file: recipes/pcap2wsn or wsn-pcap makes a capture",
+            Hint::Gzip => " is compressed by gzip: unpack it, gzip -dc",
+            Hint::Tls => " is TLS: recipes/pcap2wsn or wsn-pcap decrypts it, from its pcap",
+            Hint::ByteOrderMark => " begins with a byte order mark: remove it, tail -c +4",
+            Hint::Compressed => " is compressed: recipes/inflate or wsn-inflate, on its capture",
+            Hint::OtherRole(Role::Client) => " is masked: did a client send it? --role client",
+            Hint::OtherRole(Role::Server) => " isn't masked: did a server send it? --role server",
+            Hint::Stream => " is what one endpoint sent, and no capture: leave out --capture",
         }
     }
 }

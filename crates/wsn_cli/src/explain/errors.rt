@@ -5,7 +5,8 @@ static ERRORS: [Entry; 7] = [
     Entry {
         words: &["usage"],
         text: "\
-usage: the words of the command line don't go together, or one isn't UTF-8.
+usage: the words of the command line don't go together, or one isn't UTF-8; the
+line 'hint: ..' after it says what is wrong.
 Usual causes, at recut: neither or both of --plan and --size; --weave or --key
 with --plan; --key with --role server; a key that isn't 8 hexadecimal digits.
 At same and recut: two inputs that are both standard input. At any command: a
@@ -19,8 +20,8 @@ given by its descriptor: wsn same --role R /dev/fd/3 b.bin 3< \"$file\"
         text: "\
 read failed: the system reported an error while wsn read its input; what was
 printed before is right for the bytes that came.
-Usual causes: the input is a directory, or standard input that is closed (<&-);
-a network file system or a disk that fails; a terminal that went away.
+Usual causes: standard input is a directory, or is closed (<&-); a network file
+system or a disk that fails; a terminal that went away.
 Next: try cat FILE > /dev/null, which names the system's error. A pipe whose
 writer ends is no failure, but the end of the input.
 ",
@@ -29,9 +30,9 @@ writer ends is no failure, but the end of the input.
         words: &["write failed"],
         text: "\
 write failed: the system accepted no more of the output, which is incomplete.
-Usual causes: a full disk or quota; standard output is closed (>&-); a reader in
-the pipeline that ended, such as head, where signals are ignored (otherwise wsn
-just ends, by SIGPIPE).
+Usual causes: a full disk or quota; standard output is closed (>&-). A reader in
+the pipeline that ended, such as head, isn't reported: wsn just ends, with
+status 2.
 Next: df -h . for the disk. Don't use the output: run the command again.
 ",
     },
@@ -61,10 +62,9 @@ stream between two messages, where 'wsn frames' prints offsets.
     Entry {
         words: &["cannot read"],
         text: "\
-cannot read FILE: the file can't be opened; or it is a plan whose reading fails
-(of other files that is 'read failed').
-Usual causes: a misspelt name; the file is in another folder; missing rights; a
-plan that is a directory.
+cannot read FILE: the file can't be opened, or is a directory; or it is a plan
+whose reading fails (of other files that is 'read failed').
+Usual causes: a misspelt name; the file is in another folder; missing rights.
 Next: ls -l FILE. In the printed name, \\x1b and the like are control characters,
 \\u202e and the like are characters that change how a terminal shows text.
 ",
@@ -74,9 +74,10 @@ Next: ls -l FILE. In the printed name, \\x1b and the like are control characters
         text: "\
 hint: TEXT, on standard error: by its first bytes the input isn't what the
 command reads, and TEXT says what to do. Output and status are as without it.
-judge, frames and show --role give one for a stream that is empty, or refused at
-offset 0 or 1; each command but same for a malformed capture that begins like
-another file; recut for a plan with a byte order mark. None comes with --json.
+Each command has one for a stream that is empty, or refused at offset 0 or 1,
+and for a malformed capture that begins like another file; of two inputs it
+names FIRST or SECOND; recut has one for a plan with a byte order mark. None
+comes with --json. After 'usage' a hint says what is wrong with the words.
 Next: do what it says, and run the command again. It is a guess by at most 16
 bytes: xxd -l 32 FILE shows them.
 ",

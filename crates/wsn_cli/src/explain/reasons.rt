@@ -13,8 +13,8 @@ also a file that is no stream of frames: ASCII text (an HTTP head, a capture,
 hex digits), a pcap, TLS, gzip. Later on, an earlier length is wrong, bytes are
 missing, or a program wrote text into the socket.
 Next: xxd -s OFFSET -l 32 FILE shows what it is. Compression: recipes/inflate
-CAPTURE, or record with recipes/record --plain. A pcap: recipes/pcap2wsn. A
-capture: add --capture. An HTTP head: LC_ALL=C sed '1,/^\\r$/d' FILE.
+CAPTURE, or record with recipes/record --plain. A pcap: recipes/pcap2wsn or
+wsn-pcap. A capture: add --capture. An HTTP head: LC_ALL=C sed '1,/^\\r$/d' FILE.
 ",
     },
     Entry {
@@ -40,7 +40,8 @@ Usual causes: a sender or proxy that fragments every frame; a home-made sender
 that forgets FIN (hex 80). Or no frame begins here: 0a is a line feed, so an
 empty line in the stream looks like this, and so does a pcapng file at offset 0.
 Next: look: xxd -s OFFSET -l 32 FILE. If it is text, a program writes to the
-socket past its WebSocket library. For a pcapng file, run recipes/pcap2wsn.
+socket past its WebSocket library. For a pcapng file, run recipes/pcap2wsn or
+wsn-pcap.
 ",
     },
     Entry {

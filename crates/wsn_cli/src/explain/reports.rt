@@ -46,7 +46,7 @@ capture has no end mark for it (C. or S.).
 Usual causes: the recording stopped before the session did; packets are missing
 from here on; this side had nothing to send.
 Next: 'wsn show CAPTURE' prints what this side said last and what is unfinished,
-and the comments, where recipes/pcap2wsn reports missing bytes.
+and the comments, where recipes/pcap2wsn (wsn-pcap) reports missing bytes.
 ",
     },
     Entry {
