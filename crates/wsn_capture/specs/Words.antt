@@ -10,7 +10,7 @@ pub use Rattle.wsn_capture.specs.CaptureAnswers.{IsCaptureAnswerOf}
 pub use Rattle.wsn_rules.specs.TextLines.{AreLines, IsLine}
 pub use Rattle.wsn_capture.specs.Captures.{AreSent, AcceptsText, IsFirstOwnFault, HasAcceptedLines, count_of, HasSent, IsLimited}
 pub use Rattle.wsn_capture.specs.Captures.{IsClosedBy, IsNoted}
-pub use Rattle.wsn_rules.specs.Entries.{Entry, bytes_prefix, end_mark, IsEntry, AreEntries}
+pub use Rattle.wsn_rules.specs.Entries.{Entry, bytes_prefix, end_mark, IsEntry, IsHex, AreEntries}
 pub use Rattle.wsn_rules.specs.Entries.Entry.{Bytes, Mark}
 pub use Rattle.wsn_capture.specs.LineFaults.{IsFaultAfter, IsFirstLineFault, IsAcceptedLine}
 pub use Rattle.wsn_capture.specs.LineForms.{HasNoHex}

@@ -25,7 +25,7 @@ pub struct Capture {
 
 impl Capture {
     ghost use Rattle.std.specs.Prelude.{◌≡◌, ◌+◌, ◌≤◌, ℕ, List, [], ◌∷◌, ◌++◌, length, OnOk, IfErr};
-    ghost use Rattle.wsn_capture.specs.Words.{Limits, Entry, bytes_prefix, end_mark, IsFaultAfter, IsReport, AreSent, AcceptsText, IsFirstOwnFault, HasAcceptedLines, count_of, has_ended};
+    ghost use Rattle.wsn_capture.specs.Words.{Limits, Entry, Bytes, IsEntry, IsHex, bytes_prefix, end_mark, IsFaultAfter, IsReport, AreSent, AcceptsText, IsFirstOwnFault, HasAcceptedLines, count_of, has_ended};
 
     /// A capture that has accepted no line. The limits apply to each endpoint's stream separately.
     pub fn new(limits: Limits) -> Capture
@@ -93,8 +93,36 @@ impl Capture {
         }
     }
 
-    /// Accepts a line of an endpoint's bytes, which the digits encode.
+    /// Accepts a line as [`Capture::line`] does, one that gives these bytes of an endpoint. It may unmask payload in place.
+    ///
+    /// The error is the line's first fault; the capture is then unchanged.
     #[tactic(none)]
+    pub fn line_of_bytes(
+        &mut self,
+        line: &[u8],
+        role: Role,
+        bytes: &mut [u8],
+    ) -> Result<(), LineFault>
+        requires { IsEntry line.now (Bytes role bytes.old) }
+        ensures taken { OnOk result ((limits : Limits) (lines : List (List ℕ)) →
+            HasAcceptedLines limits self.old lines → HasAcceptedLines limits self.new (lines ++ line.now ∷ [])) }
+        ensures fault { IfErr result (λ fault. (limits : Limits) (lines : List (List ℕ)) →
+            HasAcceptedLines limits self.old lines → IsFaultAfter limits lines line.now fault) }
+        ensures unchanged { IfErr result (λ _. self.new ≡ self.old) }
+        ensures count { OnOk result ((count_of self.new ≡ count_of self.old + 1) × (count_of self.new ≤ LINES_MAX)) }
+    {
+        if self.count() >= LINES_MAX {
+            return Err(LineFault::TooManyLines);
+        }
+        if strip_cr(line).len() > LINE_MAX {
+            return Err(LineFault::TooLong);
+        }
+        self.take_decoded(role, bytes)?;
+        self.lines += 1;
+        Ok(())
+    }
+
+    /// Accepts a line of an endpoint's bytes, which the digits encode.
     fn take_bytes(&mut self, role: Role, digits: &[u8]) -> Result<(), LineFault>
         requires { length digits.now ≤ 8192 }
         ensures taken { OnOk result ((limits : Limits) (given : List Entry) → self.old.lines ≡ length given →
@@ -106,9 +134,24 @@ impl Capture {
     {
         let mut bytes = [0; 4096];
         let count = decode(digits, &mut bytes)?;
+        self.take_decoded(role, &mut bytes[..count])
+    }
+
+    /// Accepts a line of these bytes of an endpoint. It may unmask payload in place.
+    #[tactic(none)]
+    fn take_decoded(&mut self, role: Role, bytes: &mut [u8]) -> Result<(), LineFault>
+        ensures taken { OnOk result ((limits : Limits) (given : List Entry) (digits : List ℕ) →
+            IsHex digits bytes.old → self.old.lines ≡ length given →
+            AreSent limits self.old given → AcceptsText limits self.new given (bytes_prefix role ++ digits)) }
+        ensures fault { IfErr result (λ fault. (limits : Limits) (given : List Entry) (digits : List ℕ) →
+            IsHex digits bytes.old →
+            AreSent limits self.old given → IsFirstOwnFault limits given (bytes_prefix role ++ digits) fault) }
+        ensures unchanged { IfErr result (λ _. self.new ≡ self.old) }
+        ensures lines { self.new.lines ≡ self.old.lines }
+    {
         match role {
-            Role::Client => self.client.take(&mut bytes[..count], self.lines),
-            Role::Server => self.server.take(&mut bytes[..count], self.lines),
+            Role::Client => self.client.take(bytes, self.lines),
+            Role::Server => self.server.take(bytes, self.lines),
         }
     }
 

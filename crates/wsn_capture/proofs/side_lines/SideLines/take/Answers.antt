@@ -1,6 +1,6 @@
-use Rattle.std.proofs.Common.{◌≡◌, ◌+◌, ◌++◌, ◌∷◌, [], ℕ, List, length, take, drop, inl, inr, sym, ap, ◌∙◌, subst, arith, append_assoc, take-append-drop, length-append, length-take-le}
+use Rattle.std.proofs.Common.{◌≡◌, ◌++◌, ℕ, List, length, take, drop, sym, ap, ◌∙◌, subst, arith, append_assoc, take-append-drop, length-append, length-take-le}
 use Rattle.wsn_rules.specs.TextLines.{IsLine, lines_of}
-use Rattle.wsn_capture.specs.SideStates.{side_left, text_left}
+use Rattle.wsn_capture.specs.SideStates.{side_left}
 use Rattle.wsn_capture.proofs.SplitLines.{line_join}
 use Rattle.wsn_capture.proofs.SideSteps.{ended_text, fewer_ahead}
 use Rattle.wsn_capture.proofs.side_lines.SideLines.take.Goals as goal
