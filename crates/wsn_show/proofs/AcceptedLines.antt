@@ -1,5 +1,5 @@
 -- One more line of a capture: its entry, and the time that holds after it.
-use Rattle.std.proofs.Common.{◌≡◌, ℕ, Bool, Option, None, Some, List, [], ◌∷◌, ◌++◌, inl, inr, refl, sym, ap, ◌∙◌, subst, append_assoc, append-nil, length, length-append, ◌≤◌, ◌<◌, arith}
+use Rattle.std.proofs.Common.{◌≡◌, ℕ, Bool, Option, None, Some, List, [], ◌∷◌, ◌++◌, inl, inr, refl, sym, ap, ◌∙◌, subst, append_assoc, append-nil, length, length-append, ◌≤◌, ◌<◌, ◌⊎◌, ◌-◌, take, drop, arith}
 use Rattle.std.specs.List.{AllByRecursion}
 use Rattle.wsn_io.specs.Transfer.{Outgoing}
 use Rattle.wsn_wire.specs.declared.endpoint.Role.{Role}
@@ -7,14 +7,16 @@ use Rattle.wsn_rules.specs.Limits.{Limits}
 use Rattle.wsn_rules.specs.Sides.{has_ended}
 use Rattle.wsn_rules.specs.Reports.{IsReport, IsReportOf}
 use Rattle.wsn_rules.specs.declared.report.Report.{Report}
-use Rattle.wsn_rules.specs.Entries.{Entry, without_cr, IsEntry, AreEntries}
+use Rattle.wsn_rules.specs.Entries.{Entry, without_cr, bytes_prefix, IsEntry, AreEntries}
 use Rattle.wsn_rules.specs.ShownCapture.{IsNoTime, IsTimeAfter}
 use Rattle.wsn_capture.specs.declared.capture.Capture.{Capture}
 use Rattle.wsn_capture.specs.Captures.{HasAcceptedLines, count_of}
-use Rattle.wsn_capture.specs.declared.line_fault.LineFault.TheVariants.{TooLong}
+use Rattle.wsn_capture.specs.declared.line_fault.LineFault.TheVariants.{TooLong, BadHex}
 use Rattle.wsn_capture.specs.LineFaults.{IsAcceptedLine, AreAcceptedAfter}
-use Rattle.wsn_capture.proofs.AcceptedTexts.{taken_given}
-use Rattle.wsn_capture.proofs.OneEntry.{same_entries}
+use Rattle.wsn_capture.proofs.AcceptedTexts.{taken_given, digits_after}
+use Rattle.wsn_capture.proofs.OneEntry.{same_entries, front_is, not_nothing, not_mark}
+use Rattle.wsn_capture.specs.declared.line_form.LineForm.TheVariants as forms
+use Rattle.wsn_capture.specs.LineForms.{IsForm, HasNoHex}
 use Rattle.wsn_show.specs.declared.style.Style.{Style}
 use Rattle.wsn_show.specs.declared.capture_view.CaptureView.{CaptureView}
 use Rattle.wsn_show.specs.CaptureViews.{HasShownLines, IsAcceptedText, CanShow, IsTimeNext, ShowsText, ShowsLine}
@@ -72,6 +74,22 @@ time_pushed lines line time next holds (inl (seconds, gives, is)) =
 time_pushed lines line time next holds (inr (none, is)) =
     subst (IsTimeAfter (lines ++ line ∷ [])) (sym is) (none_pushed lines line time holds none)
 
+-- ---- forms
+
+-- a text that begins as an endpoint's bytes do has no other form
+pub no_bytes_in_none : (text : List ℕ) → IsForm text None → (role : Role) → IsForm text (Some (forms.Bytes role)) → ⊥
+no_bytes_in_none text is role (digits, begins) = is.1 role (inl (digits, begins))
+
+pub no_bytes_in_nothing : (text : List ℕ) → IsForm text (Some forms.Nothing) → (role : Role) → IsForm text (Some (forms.Bytes role)) → ⊥
+no_bytes_in_nothing text is role (digits, begins) = not_nothing role (32 ∷ digits) text (begins ∙ front_is role digits) is
+
+pub no_bytes_in_mark : (own : Role) (text : List ℕ) → IsForm text (Some (forms.Mark own)) → (role : Role) → IsForm text (Some (forms.Bytes role)) → ⊥
+no_bytes_in_mark own text is role (digits, begins) = not_mark role own digits (sym begins ∙ is)
+
+-- the digits that follow in the text of a line are its digits
+pub its_digits : (role : Role) (digits text own : List ℕ) → text ≡ own → own ≡ bytes_prefix role ++ digits → own ≡ bytes_prefix role ++ take (length text - 2) (drop 2 text)
+its_digits role digits text own same is = sym (digits_after role digits text (same ∙ is) ∙ same)
+
 -- ---- a line
 
 module _ (limits : Limits) (style : Style) (view : CaptureView) (lines : List (List ℕ)) (entries : List Entry)
@@ -100,6 +118,11 @@ module _ (limits : Limits) (style : Style) (view : CaptureView) (lines : List (L
       let accepted = line_accepted in
       let long : 8194 < length (without_cr line) → ⊥ = λ more. accepted.1.none TooLong more in
       omega (arith, long)
+
+  -- it isn't one of bytes whose digits encode none, or too many
+  pub bytes_given : (role : Role) (digits : List ℕ) → without_cr line ≡ bytes_prefix role ++ digits → HasNoHex digits ⊎ (8192 < length digits) → ⊥
+  bytes_given role digits is (inl none) = line_accepted.1.none BadHex (role, digits, is, none)
+  bytes_given role digits is (inr long) = line_accepted.1.none TooLong (let size = ap (λ (bs : List ℕ). length bs) (is ∙ front_is role digits) in omega (arith, long, size))
 
   pub line_shown : (after : CaptureView) (written put : Outgoing) (entry : Entry) → after.capture ≡ new
       → ShowsText limits style (record view { capture = new }) after entries (without_cr line) entry written put

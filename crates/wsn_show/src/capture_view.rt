@@ -1,6 +1,8 @@
-ghost use Rattle.std.specs.Prelude.{◌≡◌, ℕ, List, false};
+ghost use Rattle.std.specs.Prelude.{◌≡◌, ◌≤◌, ◌<◌, ◌⊎◌, ℕ, List, false, Some, length, take, IfSome, IfNone};
 ghost use Rattle.wsn_rules.specs.Limits.{Limits};
-ghost use Rattle.wsn_rules.specs.Entries.{Entry};
+ghost use Rattle.wsn_rules.specs.Entries.{Entry, IsHex};
+ghost use Rattle.wsn_wire.specs.declared.endpoint.Role.{Role};
+ghost use Rattle.wsn_capture.specs.LineForms.{IsForm, HasNoHex};
 ghost use Rattle.wsn_rules.specs.Sides.{sent};
 ghost use Rattle.wsn_show.specs.declared.style.Style.{Style};
 ghost use Rattle.wsn_show.specs.StreamViews.{HasViewed};
@@ -33,9 +35,9 @@ pub struct CaptureView {
 }
 
 impl CaptureView {
-    ghost use Rattle.std.specs.Prelude.{◌≡◌, ◌≤◌, ◌+◌, ℕ, List, [], ◌∷◌, ◌++◌, length, false, OnOk, IfErr};
+    ghost use Rattle.std.specs.Prelude.{◌≡◌, ◌≤◌, ◌+◌, ℕ, List, [], ◌∷◌, ◌++◌, length, false, Some, OnOk, IfErr};
     ghost use Rattle.wsn_rules.specs.Limits.{Limits};
-    ghost use Rattle.wsn_rules.specs.Entries.{Entry, GivesEntry, bytes_prefix, end_mark};
+    ghost use Rattle.wsn_rules.specs.Entries.{Entry, GivesEntry, IsHex, bytes_prefix, end_mark, without_cr};
     ghost use Rattle.wsn_capture.specs.Captures.{count_of};
     ghost use Rattle.wsn_capture.specs.LineFaults.{IsFaultAfter};
     ghost use Rattle.wsn_rules.specs.Entries.Entry.{Nothing};
@@ -71,8 +73,45 @@ impl CaptureView {
         ensures count { OnOk result ((count_of self.new.capture ≡ count_of self.old.capture + 1)
             × (count_of self.new.capture ≤ 1000000)) }
     {
-        self.capture.line(line)?;
-        self.show(strip_cr(line), output);
+        let text = strip_cr(line);
+        match sender_of(text) {
+            Some(role) => self.line_of_bytes(line, role, output),
+            None => {
+                self.capture.line(line)?;
+                self.show(text, output);
+                Ok(())
+            }
+        }
+    }
+
+    /// Accepts the next line as [`CaptureView::line`] does, one of an endpoint's bytes, if it has a valid encoding of these.
+    fn line_of_bytes<W: Write>(
+        &mut self,
+        line: &[u8],
+        role: Role,
+        output: &mut Output<W>,
+    ) -> Result<(), LineFault>
+        requires showing { IsShowingLines self.old }
+        requires writable { output.old.failed ≡ false }
+        requires of_bytes { (digits : List ℕ) × (without_cr line.now ≡ bytes_prefix role ++ digits) }
+        ensures shown { OnOk result ((limits : Limits) (style : Style) (lines : List (List ℕ)) (entries : List Entry) →
+            HasShownLines limits style self.old lines entries →
+            ShowsLine limits style self.new lines entries line.now output.old output.new) }
+        ensures fault { IfErr result (λ fault. (limits : Limits) (style : Style) (lines : List (List ℕ))
+            (entries : List Entry) →
+            HasShownLines limits style self.old lines entries → IsFaultAfter limits lines line.now fault) }
+        ensures unchanged { IfErr result (λ _. (self.new ≡ self.old) × (output.new ≡ output.old)) }
+        ensures count { OnOk result ((count_of self.new.capture ≡ count_of self.old.capture + 1)
+            × (count_of self.new.capture ≤ 1000000)) }
+    {
+        let mut bytes = [0; BYTES_MAX];
+        let Some(count) = bytes_of(&strip_cr(line)[2..], &mut bytes) else {
+            return self.capture.line(line);
+        };
+        let mut scanned = bytes;
+        self.capture
+            .line_of_bytes(line, role, &mut scanned[..count])?;
+        self.show_bytes(role, &mut bytes[..count], output);
         Ok(())
     }
 
@@ -118,18 +157,19 @@ impl CaptureView {
         }
     }
 
-    /// Prints what the text of a line, without its CR, shows. The line is accepted.
+    /// Prints what the text of a line, without its CR, shows, if it has no bytes of an endpoint. The line is accepted.
     fn show<W: Write>(&mut self, text: &[u8], output: &mut Output<W>)
         requires writable { output.old.failed ≡ false }
         requires can_show { CanShow self.old text.now }
+        requires other { (role : Role) → IsForm text.now (Some (LineForm.Bytes role)) → ⊥ }
         requires short { length text.now ≤ LINE_MAX }
         ensures shows { Shows self.old self.new text.now output.old output.new }
         ensures capture { self.new.capture ≡ self.old.capture }
     {
         match form_of(text) {
             Some(LineForm::Nothing) => self.show_nothing(text, output),
-            Some(LineForm::Bytes(role)) => self.show_bytes(role, &text[2..], output),
             Some(LineForm::Mark(role)) => self.show_mark(role, output),
+            Some(LineForm::Bytes(_)) => {}
             None => {}
         }
     }
@@ -153,23 +193,18 @@ impl CaptureView {
         let _stop = put_comment_as(output, format, number, text);
     }
 
-    /// Prints what the bytes of an endpoint, which these digits encode, complete.
-    fn show_bytes<W: Write>(&mut self, role: Role, digits: &[u8], output: &mut Output<W>)
+    /// Prints what these bytes of an endpoint complete. Payload is unmasked in place.
+    fn show_bytes<W: Write>(&mut self, role: Role, bytes: &mut [u8], output: &mut Output<W>)
         requires writable { output.old.failed ≡ false }
-        requires can_show { CanShow self.old (bytes_prefix role ++ digits.now) }
-        requires short { length digits.now ≤ 8192 }
-        ensures shows { Shows self.old self.new (bytes_prefix role ++ digits.now) output.old output.new }
+        requires can_show { (digits : List ℕ) × IsHex digits bytes.old × CanShow self.old (bytes_prefix role ++ digits) }
+        ensures shows { (digits : List ℕ) → IsHex digits bytes.old →
+            Shows self.old self.new (bytes_prefix role ++ digits) output.old output.new }
         ensures capture { self.new.capture ≡ self.old.capture }
     {
-        let mut bytes = [0; BYTES_MAX];
-        let count = match decode(digits, &mut bytes) {
-            Ok(count) => count,
-            Err(_) => return,
-        };
         let origin = origin_of(&self.capture, &self.time);
         match role {
-            Role::Client => self.client.take(&mut bytes[..count], origin, output),
-            Role::Server => self.server.take(&mut bytes[..count], origin, output),
+            Role::Client => self.client.take(bytes, origin, output),
+            Role::Server => self.server.take(bytes, origin, output),
         }
     }
 
@@ -185,6 +220,31 @@ impl CaptureView {
             Role::Server => put_end_of(role, &self.server, origin, output),
         }
     }
+}
+
+/// The endpoint whose bytes the text of a line gives, if it begins as such a line does.
+fn sender_of(text: &[u8]) -> Option<Role>
+    ensures some { IfSome result (λ role. IsForm text.now (Some (LineForm.Bytes role))) }
+    ensures none { IfNone result ((role : Role) → IsForm text.now (Some (LineForm.Bytes role)) → ⊥) }
+{
+    match form_of(text) {
+        Some(LineForm::Bytes(role)) => Some(role),
+        Some(LineForm::Mark(_)) => None,
+        Some(LineForm::Nothing) => None,
+        None => None,
+    }
+}
+
+/// Decodes the digits of a line into the first bytes of `bytes`, and returns the number of these. `None` if they encode no
+/// bytes, or more than a line may have.
+fn bytes_of(digits: &[u8], bytes: &mut [u8; BYTES_MAX]) -> Option<usize>
+    ensures some { IfSome result (λ count. (count ≤ BYTES_MAX) × IsHex digits.now (take count bytes.new)) }
+    ensures none { IfNone result (HasNoHex digits.now ⊎ (8192 < length digits.now)) }
+{
+    if digits.len() > 2 * BYTES_MAX {
+        return None;
+    }
+    decode(digits, bytes).ok()
 }
 
 /// Where the last line is, while this time holds.

@@ -1,4 +1,4 @@
-use Rattle.std.proofs.Common.{◌≡◌, ℕ, List, [], ◌++◌, length, take, drop, sym, ap, ◌∙◌, subst, arith}
+use Rattle.std.proofs.Common.{◌≡◌, ℕ, List, ◌++◌, length, take, drop, sym, ap, ◌∙◌, subst, arith}
 use borrow.Rule.Slice.PartMut.{post_of}
 use Rattle.wsn_wire.specs.Frame.{IsBytes}
 use Rattle.wsn_scan.specs.Scans.{MakesProgress}

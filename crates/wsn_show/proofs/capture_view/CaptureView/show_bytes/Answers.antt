@@ -1,8 +1,7 @@
-use Rattle.std.proofs.Common.{◌++◌, take, refl, sym, subst}
+use Rattle.std.proofs.Common.{◌++◌, sym, subst}
 use Rattle.wsn_wire.specs.declared.endpoint.Role.{Role}
 use Rattle.wsn_wire.specs.declared.endpoint.Role.TheVariants.{Client, Server}
 use Rattle.wsn_rules.specs.Entries.{bytes_prefix}
-use Rattle.wsn_capture.specs.declared.line_fault.LineFault.TheVariants.{BadHex}
 use Rattle.wsn_rules.specs.Sides.{sent}
 use Rattle.wsn_print.specs.ShownObjects.{Position}
 use Rattle.wsn_show.specs.CaptureViews.{IsAcceptedText, CanShow, ShowsText}
@@ -11,20 +10,22 @@ use Rattle.wsn_show.proofs.capture_view.CaptureView.show_bytes.Goals as goal
 
 pub take-requires-clause-fits : goal.take-requires-clause-fits
 take-requires-clause-fits g c =
-    let can = subst (λ (r : Role). CanShow c.args.self.now (bytes_prefix r ++ c.args.digits.now)) c.in-Client.is c.requires.can_show in
-    room_for_client c.args.self.now c.args.digits.now (take c.in-Ok.count c.decode.new.bytes) can c.in-Ok.ensures.1
+    let digits = c.requires.can_show.0 in
+    let can = subst (λ (r : Role). CanShow c.args.self.now (bytes_prefix r ++ digits)) c.in-Client.is c.requires.can_show.2 in
+    room_for_client c.args.self.now digits c.args.bytes.now can c.requires.can_show.1
 
 pub take-requires-in-Server-clause-fits : goal.take-requires-in-Server-clause-fits
 take-requires-in-Server-clause-fits g c =
-    let can = subst (λ (r : Role). CanShow c.args.self.now (bytes_prefix r ++ c.args.digits.now)) c.in-Server.is c.requires.can_show in
-    room_for_server c.args.self.now c.args.digits.now (take c.in-Ok.count c.decode.new.bytes) can c.in-Ok.ensures.1
+    let digits = c.requires.can_show.0 in
+    let can = subst (λ (r : Role). CanShow c.args.self.now (bytes_prefix r ++ digits)) c.in-Server.is c.requires.can_show.2 in
+    room_for_server c.args.self.now digits c.args.bytes.now can c.requires.can_show.1
 
 pub returns-in-Client-clause-shows : goal.returns-in-Client-clause-shows
-returns-in-Client-clause-shows g c limits style given entry viewed accepted =
+returns-in-Client-clause-shows g c digits hex limits style given entry viewed accepted =
     let old = c.args.self.now in
     let is = c.in-Client.is in
-    let bytes = take c.in-Ok.count c.decode.new.bytes in
-    let here = subst (λ (r : Role). IsAcceptedText limits given (bytes_prefix r ++ c.args.digits.now) entry) is accepted in
+    let bytes = c.args.bytes.now in
+    let here = subst (λ (r : Role). IsAcceptedText limits given (bytes_prefix r ++ digits) entry) is accepted in
     let takes = subst (λ (p : Position). Takes Client limits style c.take.new.self (sent Client given) bytes p c.args.output.now c.take.new.output) c.origin_of-origin.ensures
     (let printed = c.take.ensures.printed Client limits style (sent Client given) viewed.client in record {
       viewed = c.take.ensures.viewed Client limits style (sent Client given) viewed.client;
@@ -32,15 +33,15 @@ returns-in-Client-clause-shows g c limits style given entry viewed accepted =
       is_shown = printed.1;
       printed = printed.2;
     }) in
-    subst (λ (r : Role). ShowsText limits style old (record old { client = c.take.new.self }) given (bytes_prefix r ++ c.args.digits.now) entry c.args.output.now c.take.new.output) (sym is)
-    (shows_client limits style given old viewed entry c.args.output.now c.take.new.output c.take.new.self c.args.digits.now bytes here c.in-Ok.ensures.1 takes)
+    subst (λ (r : Role). ShowsText limits style old (record old { client = c.take.new.self }) given (bytes_prefix r ++ digits) entry c.args.output.now c.take.new.output) (sym is)
+    (shows_client limits style given old viewed entry c.args.output.now c.take.new.output c.take.new.self digits bytes here hex takes)
 
 pub returns-in-Server-clause-shows : goal.returns-in-Server-clause-shows
-returns-in-Server-clause-shows g c limits style given entry viewed accepted =
+returns-in-Server-clause-shows g c digits hex limits style given entry viewed accepted =
     let old = c.args.self.now in
     let is = c.in-Server.is in
-    let bytes = take c.in-Ok.count c.decode.new.bytes in
-    let here = subst (λ (r : Role). IsAcceptedText limits given (bytes_prefix r ++ c.args.digits.now) entry) is accepted in
+    let bytes = c.args.bytes.now in
+    let here = subst (λ (r : Role). IsAcceptedText limits given (bytes_prefix r ++ digits) entry) is accepted in
     let takes = subst (λ (p : Position). Takes Server limits style c.take-in-Server.new.self (sent Server given) bytes p c.args.output.now c.take-in-Server.new.output) c.origin_of-origin.ensures
     (let printed = c.take-in-Server.ensures.printed Server limits style (sent Server given) viewed.server in record {
       viewed = c.take-in-Server.ensures.viewed Server limits style (sent Server given) viewed.server;
@@ -48,9 +49,5 @@ returns-in-Server-clause-shows g c limits style given entry viewed accepted =
       is_shown = printed.1;
       printed = printed.2;
     }) in
-    subst (λ (r : Role). ShowsText limits style old (record old { server = c.take-in-Server.new.self }) given (bytes_prefix r ++ c.args.digits.now) entry c.args.output.now c.take-in-Server.new.output) (sym is)
-    (shows_server limits style given old viewed entry c.args.output.now c.take-in-Server.new.output c.take-in-Server.new.self c.args.digits.now bytes here c.in-Ok.ensures.1 takes)
-
-pub returns-in-Err-clause-shows : goal.returns-in-Err-clause-shows
-returns-in-Err-clause-shows g c limits style given entry viewed accepted =
-    absurd (accepted.none BadHex (c.args.role, c.args.digits.now, refl, c.in-Err.ensures.1))
+    subst (λ (r : Role). ShowsText limits style old (record old { server = c.take-in-Server.new.self }) given (bytes_prefix r ++ digits) entry c.args.output.now c.take-in-Server.new.output) (sym is)
+    (shows_server limits style given old viewed entry c.args.output.now c.take-in-Server.new.output c.take-in-Server.new.self digits bytes here hex takes)

@@ -1,6 +1,5 @@
-use Rattle.std.proofs.Common.{◌≡◌, ◌≤◌, ℕ, length, take, sym, ap, ◌∙◌, subst, arith}
+use Rattle.std.proofs.Common.{◌≡◌, ◌≤◌, length, take, sym, ◌∙◌, arith}
 use Rattle.std.proofs.lemmas.List.{take-take, length-take}
-use Rattle.wsn_scan.specs.Scans.{MakesProgress}
 use Rattle.wsn_show.proofs.ShownPieces.{of_part, progresses}
 use Rattle.wsn_show.proofs.shown_scan.ShownScan.step.Goals as goal
 

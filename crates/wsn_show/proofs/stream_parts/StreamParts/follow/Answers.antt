@@ -1,5 +1,5 @@
-use Rattle.std.proofs.Common.{◌≡◌, ◌+◌, ◌<◌, ◌^◌, ℕ, List, ◌++◌, length, take, true, false, sym, ap, ◌∙◌, subst, arith, rules}
-use Rattle.wsn_show.specs.StreamParts.{Keeps, IsEvidenceAt}
+use Rattle.std.proofs.Common.{◌≡◌, ◌+◌, ◌<◌, ◌^◌, ℕ, List, ◌++◌, length, take, true, false, sym, ◌∙◌, subst, arith}
+use Rattle.wsn_show.specs.StreamParts.{Keeps}
 use Rattle.wsn_show.specs.FollowedScans.{IsCall}
 use Rattle.wsn_show.specs.ShownItems.{Prints}
 use Rattle.wsn_show.specs.ShownSoFar.{ShowsMore}
