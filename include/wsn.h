@@ -63,6 +63,8 @@ enum { WSN_SHORTEST = 0, WSN_ANY = 1 };
 /* wsn_options.detail: what wsn_show and wsn_show_stream show. */
 enum { WSN_EVENTS = 0, WSN_FRAMES = 1 };
 
+/* wsn_options.view: in hexadecimal half as many bytes are shown. */
+
 typedef struct wsn_options {
     uint8_t role;            /* WSN_CLIENT */
     uint8_t format;          /* WSN_TEXT; normal, plan and recut have no other */

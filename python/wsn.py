@@ -5,7 +5,7 @@
     Verdict(verdict='refused', .., offset=5, reason='text-bad', code=1007)
 
 Each call does what the command of `wsn` with its name does, over bytes (or any buffer: a `memoryview`, an `mmap`; nothing
-is copied) in the place of files, by the proved library `libwsn.so`. It is looked for where the environment variable
+is copied) instead of files, by the proved library `libwsn.so`. It is looked for where the environment variable
 `WSN_LIBRARY` says, else beside this module, where ./install puts it, and where the system looks for libraries. If it isn't
 found, each call is an `OSError`: `./library FOLDER` builds it.
 
@@ -39,7 +39,7 @@ VIEW_MAX = 4_096
 
 
 class Stopped(Exception):
-    """There is no answer: memory was refused, or the input has more than 2^40 bytes."""
+    """There is no answer: out of memory, or the input has more than 2^40 bytes."""
 
 
 class FaultyCapture(ValueError):
@@ -396,8 +396,8 @@ def _written(name: str, options: _Options, *arguments: Any) -> bytes:
 def judge(data: Any, role: str, **limits: Any) -> Verdict:
     """Judges the stream that an endpoint sent.
 
-    role: "client" or "server", the endpoint that sent it. limit: the most bytes of a message; frames: the most frames of
-    a message, by default any number; lengths: "shortest" or "any", the accepted encodings of a length.
+    role: "client" or "server", the endpoint that sent it. limit: the maximum bytes of a message; frames: the maximum
+    frames of a message, by default none; lengths: "shortest" or "any", the accepted encodings of a length.
     """
     options = _options(role, **limits)
     with _Lent(data) as stream:
@@ -415,8 +415,8 @@ def frames(data: Any, role: str, **limits: Any) -> Frames:
 def show(data: Any, role: Optional[str] = None, *, view: int = 48, wire: bool = False, **limits: Any) -> Session:
     """Shows what both sides of a capture said, in order; with a role, what the stream of that endpoint says.
 
-    view: the most bytes of a payload that an entry has, 0 to 4,096. wire: frames in the place of events. The limits are
-    those of `judge`.
+    view: the maximum bytes of a payload that an entry has, 0 to 4,096; as hex half as many. wire: frames instead of
+    events. The limits are those of `judge`.
     """
     options = _options(role or "client", view=view, wire=wire, **limits)
     with _Lent(data) as given:
