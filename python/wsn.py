@@ -397,7 +397,7 @@ def judge(data: Any, role: str, **limits: Any) -> Verdict:
     """Judges the stream that an endpoint sent.
 
     role: "client" or "server", the endpoint that sent it. limit: the maximum bytes of a message; frames: the maximum
-    frames of a message, by default none; lengths: "shortest" or "any", the accepted encodings of a length.
+    frames of a message, by default no maximum; lengths: "shortest" or "any", the accepted encodings of a length.
     """
     options = _options(role, **limits)
     with _Lent(data) as stream:
