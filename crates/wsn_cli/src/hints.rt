@@ -28,10 +28,10 @@ pub fn hint_on_run<A: Allocator>(
     match stream_of(job) {
         Some((role, limits)) if side.is_none() => {
             if status == FAULT {
-                None
-            } else {
-                hint_of(first, role, limits)
+                return None;
             }
+            let hint = hint_of(first, role, limits)?;
+            Some(suited_to(job, hint))
         }
         _ if is_faulty_line(said) => capture_hint_of(first),
         _ => None,
@@ -90,6 +90,14 @@ fn stream_of<A: Allocator>(job: &Job<A>) -> Option<(Role, Limits)> {
         | Job::Recut(role, limits, _)
         | Job::ShowStream(role, limits, _) => Some((*role, *limits)),
         Job::Closing(_, _) | Job::Show(_, _) => None,
+    }
+}
+
+/// The hint in the words of the job's command: `show` reads a capture without `--role`.
+fn suited_to<A: Allocator>(job: &Job<A>, hint: Hint) -> Hint {
+    match (job, hint) {
+        (Job::ShowStream(_, _, _), Hint::Capture) => Hint::CaptureToShow,
+        _ => hint,
     }
 }
 

@@ -3,10 +3,12 @@
 use std::alloc::Global;
 use std::process::Abort;
 use wsn_cli::{
-    ComparedHint, Comparison, Format, Hint, Without, capture_hint_of, hint_of, hint_on_sides,
-    hint_on_streams, plan_hint_of,
+    ComparedHint, Comparison, Format, Hint, Job, Without, capture_hint_of, hint_of, hint_on_run,
+    hint_on_sides, hint_on_streams, plan_hint_of,
 };
-use wsn_rules::{INPUT_MAX, Limits, MESSAGE_MAX};
+use wsn_print::ViewLimit;
+use wsn_rules::{Detail, INPUT_MAX, Limits, MESSAGE_MAX};
+use wsn_show::Style;
 use wsn_wire::Role;
 
 fn limits(rt: &impl Abort, message: u32) -> Limits {
@@ -187,6 +189,34 @@ fn a_plan_has_a_hint_for_a_byte_order_mark_alone(rt: HostRuntime) {
     assert_eq!(rt; plan_hint_of("last -\r\n".as_bytes()), None);
     assert_eq!(rt; plan_hint_of(&[0xd4, 0xc3, 0xb2, 0xa1]), None);
     assert_eq!(rt; plan_hint_of(&[0xef, 0xbb]), None);
+}
+
+/// A capture has a command line that works: `show` has no option `--capture`, and takes it without `--role`.
+#[test]
+fn a_hint_at_a_capture_suits_the_command(rt: HostRuntime) {
+    let greatest = limits(&rt, MESSAGE_MAX);
+    let style = Style {
+        view: ViewLimit::new(48).expect(&rt, "a view in range"),
+        detail: Detail::Events,
+        format: Format::Text,
+    };
+    let show: Job = Job::ShowStream(Role::Client, greatest, style);
+    let judge: Job = Job::Judge(Role::Client, greatest, Format::Text);
+    let capture = "C 8180\n".as_bytes();
+    let shown = hint_on_run(&show, None, capture, 1, &[]).expect(&rt, "a hint");
+    assert_eq!(rt;
+        shown.line(),
+        "hint: this looks like a capture of both sides: leave out --role"
+    );
+    assert_eq!(rt;
+        hint_on_run(&judge, None, capture, 1, &[]),
+        Some(Hint::Capture)
+    );
+    assert_eq!(rt;
+        hint_on_run(&show, None, &[0x81, 0x05], 1, &[]),
+        Some(Hint::OtherRole(Role::Server))
+    );
+    assert_eq!(rt; hint_on_run(&show, None, capture, 2, &[]), None);
 }
 
 /// A comparison of two servers' streams under the greatest limits.

@@ -11,6 +11,8 @@ pub enum Hint {
     HttpHead,
     /// A capture of both sides, as text.
     Capture,
+    /// A capture of both sides, where `show --role` reads the stream of one.
+    CaptureToShow,
     /// Hexadecimal digits.
     Hexadecimal,
     /// A hexadecimal dump, as `xxd` prints it.
@@ -46,6 +48,9 @@ impl Hint {
                 "hint: this begins with an HTTP head: remove it, LC_ALL=C sed '1,/^\\r$/d' FILE"
             }
             Hint::Capture => "hint: this looks like a capture of both sides: add --capture",
+            Hint::CaptureToShow => {
+                "hint: this looks like a capture of both sides: leave out --role"
+            }
             Hint::Hexadecimal => {
                 "hint: these are hexadecimal digits: make bytes of them, xxd -r -p FILE"
             }
@@ -86,6 +91,7 @@ impl Hint {
             Hint::Empty => " is empty: check it, or the command before the pipe",
             Hint::HttpHead => " begins with an HTTP head: remove it, LC_ALL=C sed '1,/^\\r$/d'",
             Hint::Capture => " looks like a capture of both sides: add --capture",
+            Hint::CaptureToShow => " looks like a capture of both sides: leave out --role",
             Hint::Hexadecimal => " is in hexadecimal digits: make bytes of them, xxd -r -p",
             Hint::HexDump => " is a dump by xxd: make bytes of it, xxd -r",
             Hint::Pcap => " is a pcap file: recipes/pcap2wsn or wsn-pcap makes a capture",
