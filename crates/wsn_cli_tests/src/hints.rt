@@ -46,8 +46,9 @@ static FORMATS: [(&[u8], Hint); 10] = [
     ),
 ];
 
-/// Texts that are neither a stream nor a capture: heads of HTTP, digits as `xxd -p` and `tshark` print them, a dump.
-static TEXTS: [(&str, Hint); 9] = [
+/// Texts that are neither a stream nor a capture: heads of HTTP, digits as `xxd -p` and `tshark` print them, dumps by
+/// `xxd`, `hexdump -C`, `od -t x1` and `od -A x -t x1`.
+static TEXTS: [(&str, Hint); 14] = [
     ("HTTP/1.1 101 Swi", Hint::HttpHead),
     ("GET /chat HTTP/1", Hint::HttpHead),
     ("POST /ws HTTP/1.", Hint::HttpHead),
@@ -57,6 +58,11 @@ static TEXTS: [(&str, Hint); 9] = [
     ("C1:05:48:65:6c:6", Hint::Hexadecimal),
     ("8105", Hint::Hexadecimal),
     ("00000000: 8105 4", Hint::HexDump),
+    ("00000000  81 05 ", Hint::OffsetDump),
+    ("0000000 81 05 48", Hint::OffsetDump),
+    ("000000 81 05 48 ", Hint::OffsetDump),
+    ("00000000  8a    ", Hint::OffsetDump),
+    ("0000000 8a\n00000", Hint::OffsetDump),
 ];
 
 /// What a stream and a capture are both mistaken for.

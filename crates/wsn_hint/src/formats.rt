@@ -1,4 +1,4 @@
-ghost use Rattle.std.specs.Prelude.{IfSome};
+ghost use Rattle.std.specs.Prelude.{◌≤◌, length, IfSome};
 ghost use Rattle.wsn_rules.specs.Limits.{Limits};
 ghost use Rattle.wsn_hint.specs.Hints.{Fits};
 
@@ -25,6 +25,7 @@ pub fn format_of(first: &[u8]) -> Option<Hint>
         [0x14..=0x17, 3, 0..=4, ..] => Some(Hint::Tls),
         _ if is_http_head(first) => Some(Hint::HttpHead),
         _ if is_hex_dump(first) => Some(Hint::HexDump),
+        _ if is_offset_dump(first) => Some(Hint::OffsetDump),
         _ if is_hexadecimal(first) => Some(Hint::Hexadecimal),
         _ => None,
     }
@@ -49,18 +50,37 @@ fn is_hex_dump(first: &[u8]) -> bool {
     }
 }
 
-/// Whether these bytes begin with two digits, and are digits, spaces, colons and line ends.
-fn is_hexadecimal(first: &[u8]) -> bool {
-    match first {
-        [high, low, _, _, ..] => {
-            high.is_ascii_hexdigit()
-                && low.is_ascii_hexdigit()
-                && first
-                    .iter()
-                    .all(|byte| byte.is_ascii_hexdigit() || is_separator(*byte))
+/// Whether these bytes begin with an offset of six to eight digits, one or two spaces and a byte in two digits.
+fn is_offset_dump(first: &[u8]) -> bool {
+    let (offset, rest) = first.split_at(digits_at_start(first));
+    matches!(offset.len(), 6..=8)
+        && match rest {
+            [b' ', high, low, b' ' | b'\n', ..] | [b' ', b' ', high, low, b' ', ..] => {
+                high.is_ascii_hexdigit() && low.is_ascii_hexdigit()
+            }
+            _ => false,
         }
-        _ => false,
-    }
+}
+
+/// Whether these bytes begin with digits, two for each byte, and are digits, spaces, colons and line ends.
+fn is_hexadecimal(first: &[u8]) -> bool {
+    let digits = digits_at_start(first);
+    first.len() > 3
+        && digits > 0
+        && (digits % 2 == 0 || digits == first.len())
+        && first
+            .iter()
+            .all(|byte| byte.is_ascii_hexdigit() || is_separator(*byte))
+}
+
+/// The number of hexadecimal digits that these bytes begin with.
+fn digits_at_start(first: &[u8]) -> usize
+    ensures { result ≤ length first.now }
+{
+    first
+        .iter()
+        .position(|byte| !byte.is_ascii_hexdigit())
+        .unwrap_or(first.len())
 }
 
 fn is_separator(byte: u8) -> bool {

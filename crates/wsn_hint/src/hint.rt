@@ -17,6 +17,8 @@ pub enum Hint {
     Hexadecimal,
     /// A hexadecimal dump, as `xxd` prints it.
     HexDump,
+    /// A dump of single bytes after offsets, as `hexdump -C` and `od -t x1` print it.
+    OffsetDump,
     /// A pcap file.
     Pcap,
     /// A pcapng file.
@@ -55,6 +57,9 @@ impl Hint {
                 "hint: these are hexadecimal digits: make bytes of them, xxd -r -p FILE"
             }
             Hint::HexDump => "hint: this is a dump by xxd: make bytes of it, xxd -r FILE",
+            Hint::OffsetDump => {
+                "hint: a dump by hexdump or od: sed 's/^[^ ]*//; s/[|>].*//' FILE | xxd -r -p"
+            }
             Hint::Pcap => {
                 "hint: a pcap file; recipes/pcap2wsn FILE 0 or wsn-pcap FILE 0 makes a capture"
             }
@@ -94,6 +99,9 @@ impl Hint {
             Hint::CaptureToShow => " looks like a capture of both sides: leave out --role",
             Hint::Hexadecimal => " is in hexadecimal digits: make bytes of them, xxd -r -p",
             Hint::HexDump => " is a dump by xxd: make bytes of it, xxd -r",
+            Hint::OffsetDump => {
+                " is a dump with offsets: sed 's/^[^ ]*//; s/[|>].*//' | xxd -r -p"
+            }
             Hint::Pcap => " is a pcap file: recipes/pcap2wsn or wsn-pcap makes a capture",
             Hint::PcapNg => " is a pcapng file: recipes/pcap2wsn or wsn-pcap makes a capture",
             Hint::Gzip => " is compressed by gzip: unpack it, gzip -dc",
