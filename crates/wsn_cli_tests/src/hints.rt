@@ -103,23 +103,44 @@ fn captures_are_named_where_a_stream_is_read(rt: HostRuntime) {
     }
 }
 
-/// Text that is nothing known, in ASCII: `A` and `B` have the bits of a compressed frame.
-static UNKNOWN: [&str; 8] = [
+/// Text that is nothing known, in ASCII: `A` and `B` have the bits of a compressed frame. The last two are dumps by
+/// `hexdump` and `od` of units that aren't bytes.
+static UNKNOWN: [&str; 11] = [
     "Connection close",
     "Slow",
     "#!/bin/sh",
     "Bad Gateway",
     "A log line",
     "{\"type\":1}",
-    "C",
     "get / http/1.1",
+    "2026-11-26 10:00",
+    "\r\n\tB",
+    "0000000 0581 654",
+    "0000000 002601 0",
 ];
 
 #[test]
-fn other_texts_have_no_hint(rt: HostRuntime) {
+fn other_texts_are_no_bytes_of_an_endpoint(rt: HostRuntime) {
     for text in UNKNOWN.iter() {
         for role in [Role::Client, Role::Server] {
-            assert_eq!(rt; of_stream(&rt, text.as_bytes(), role), None);
+            assert_eq!(rt;
+                of_stream(&rt, text.as_bytes(), role),
+                Some(Hint::Text),
+                "{text}"
+            );
+        }
+        assert_eq!(rt; capture_hint_of(text.as_bytes()), None);
+    }
+}
+
+/// Too little of a text, and a text with a byte that isn't ASCII or is a control character.
+static UNSURE: [&str; 5] = ["C", "Ab\n", "Caf\u{e9} at 10:00", "\u{1b}[1mBad", "Sad\0"];
+
+#[test]
+fn what_may_be_no_text_has_no_hint(rt: HostRuntime) {
+    for text in UNSURE.iter() {
+        for role in [Role::Client, Role::Server] {
+            assert_eq!(rt; of_stream(&rt, text.as_bytes(), role), None, "{text}");
         }
         assert_eq!(rt; capture_hint_of(text.as_bytes()), None);
     }

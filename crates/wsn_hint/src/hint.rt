@@ -31,6 +31,8 @@ pub enum Hint {
     ByteOrderMark,
     /// A compressed frame (RFC 7692 section 6).
     Compressed,
+    /// Text in ASCII that is nothing else.
+    Text,
     /// Frames as this endpoint sends them, and not the one that was named (RFC 6455 section 5.1).
     OtherRole(Role),
     /// The bytes that one endpoint sent, where a capture of both is read.
@@ -76,6 +78,9 @@ impl Hint {
             Hint::Compressed => {
                 "hint: compressed: recipes/inflate CAPTURE or wsn-inflate CAPTURE; record --plain"
             }
+            Hint::Text => {
+                "hint: this looks like text; wsn reads bytes as an endpoint sent them: 'wsn help'"
+            }
             Hint::OtherRole(Role::Client) => {
                 "hint: masked, as a client's frames are: did a client send this? --role client"
             }
@@ -108,6 +113,7 @@ impl Hint {
             Hint::Tls => " is TLS: recipes/pcap2wsn or wsn-pcap decrypts it, from its pcap",
             Hint::ByteOrderMark => " begins with a byte order mark: remove it, tail -c +4",
             Hint::Compressed => " is compressed: recipes/inflate or wsn-inflate, on its capture",
+            Hint::Text => " looks like text; wsn reads bytes as an endpoint sent them",
             Hint::OtherRole(Role::Client) => " is masked: did a client send it? --role client",
             Hint::OtherRole(Role::Server) => " isn't masked: did a server send it? --role server",
             Hint::Stream => " is what one endpoint sent, and no capture: leave out --capture",

@@ -34,8 +34,8 @@ pub fn hint_of(first: &[u8], role: Role, limits: Limits) -> Option<Hint>
     }
 }
 
-/// The hint for a stream that is refused at offset 0 or 1 for this reason, and is of no other format: compressed, or the
-/// other endpoint's.
+/// The hint for a stream that is refused at offset 0 or 1 for this reason, and is of no known format: compressed, the
+/// other endpoint's, or a text.
 fn frame_hint(first: &[u8], reason: Reason, role: Role, limits: Limits) -> Option<Hint>
     ensures { IfSome result (Fits limits first.now) }
 {
@@ -47,6 +47,7 @@ fn frame_hint(first: &[u8], reason: Reason, role: Role, limits: Limits) -> Optio
         Reason::MaskPresent if is_lawful_start(first, Role::Client, limits) => {
             Some(Hint::OtherRole(Role::Client))
         }
+        _ if first.len() > 3 && is_text(first) => Some(Hint::Text),
         _ => None,
     }
 }
@@ -56,15 +57,17 @@ fn frame_hint(first: &[u8], reason: Reason, role: Role, limits: Limits) -> Optio
 fn is_compressed(first: &[u8], role: Role, limits: Limits) -> bool {
     match first {
         [head @ (0x41 | 0x42 | 0xc1 | 0xc2), second, ..] => {
-            is_lawful_start(&[*head & 0xbf, *second], role, limits)
-                && !first.iter().all(|byte| is_text(*byte))
+            is_lawful_start(&[*head & 0xbf, *second], role, limits) && !is_text(first)
         }
         _ => false,
     }
 }
 
-fn is_text(byte: u8) -> bool {
-    matches!(byte, b'\t' | b'\r' | b'\n' | 0x20..=0x7e)
+/// Whether all these bytes are of a text in ASCII.
+fn is_text(first: &[u8]) -> bool {
+    first
+        .iter()
+        .all(|byte| matches!(byte, b'\t' | b'\r' | b'\n' | 0x20..=0x7e))
 }
 
 /// Whether these bytes begin a line of a capture that has bytes, an end mark, or a comment after a space.
