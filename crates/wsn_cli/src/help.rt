@@ -264,9 +264,9 @@ Explain a word that wsn prints, or list the words";
 pub const EXPLAIN_DETAILS: &str = "\
 Prints what a word means: what was seen, what RFC 6455 says, usual causes and
 what to do next. Without a word it lists all words, in groups: the reasons of
-refusals, the other words of verdicts and reports, close codes, the faults of
-plans and captures, and errors, such as 'read failed'. The status is 2 for a
-word that wsn doesn't print.
+refusals, the other words of verdicts and reports, close codes, also those that
+are never sent, the faults of plans and captures, and errors, such as 'read
+failed'. The status is 2 for any other word.
 
 Example: why a plan doesn't fit
   $ wsn explain no-message | head -n 2

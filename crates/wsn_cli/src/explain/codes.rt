@@ -1,7 +1,7 @@
 //! Close codes.
 use super::Entry;
 
-static CODES: [Entry; 16] = [
+static CODES: [Entry; 18] = [
     Entry {
         words: &["1000"],
         text: "\
@@ -48,6 +48,19 @@ Next: 'wsn show CAPTURE' prints the other side's last message before the Close,
 ",
     },
     Entry {
+        words: &["1004"],
+        text: "\
+1004, reserved: this code has no meaning, so no endpoint may send it.
+RFC 6455, 7.4.1 reserves it: a meaning may be defined in the future. IANA's
+registry has none either.
+wsn refuses a Close with it: close-code, code 1002, at the code's second byte.
+Usual causes: an application that counts its own codes from 1000; a library that
+sends any number that it is given; a wrong number for 1003 or 1009.
+Next: 'wsn show CAPTURE' ends the line 'refused' with the code, in hexadecimal
+03ec. Correct the sender: its own codes are from 4000 to 4999.
+",
+    },
+    Entry {
         words: &["1005"],
         text: "\
 1005, no status: the Close that an application received has no code.
@@ -64,7 +77,7 @@ Close without a code. 'wsn frames' shows an empty Close as 'fin close KEY 0'.
 1006, abnormal closure: an application got no Close that counts. The connection
 ended without one, or what came before had to be refused.
 RFC 6455, 7.1.5 and 7.4.1: this code is only reported, never sent. It doesn't
-say why.
+say why. wsn refuses a Close with it: close-code, code 1002.
 Usual causes: those of 'wsn explain abnormal'; bytes that the library refused; a
 handshake or TLS that failed, of which a capture shows nothing.
 Next: run 'wsn closing' on a capture. If a side is refused, that is why. If one
@@ -160,6 +173,20 @@ server, like HTTP's 502.
 It isn't in RFC 6455; IANA's registry has it, so it may be sent.
 Next: read the upstream server's log, and record between gateway and server: let
 the gateway connect to recipes/record instead of the server.
+",
+    },
+    Entry {
+        words: &["1015"],
+        text: "\
+1015, TLS handshake: an application is given this code where the TLS handshake
+failed.
+RFC 6455, 7.4.1: this code is only reported, never sent: without TLS there is no
+WebSocket connection on which a Close could be sent.
+wsn refuses a Close with it: close-code, code 1002, at the code's second byte.
+Usual causes: a certificate that has expired, or is for another host name; most
+browsers report 1006 instead. In a Close: a relay that passes on what it got.
+Next: openssl s_client -connect HOST:443 -servername HOST shows the certificate
+and what is wrong with it. In a relay, send 1001 or 1011 instead.
 ",
     },
     Entry {
