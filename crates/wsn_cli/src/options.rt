@@ -72,7 +72,8 @@ fn with_message_limits<'a>(alloc: Global, command: Command<'a>) -> Result<Comman
 
 /// Adds `--view`.
 pub fn with_view<'a>(alloc: Global, command: Command<'a>) -> Result<Command<'a>, AllocError> {
-    let help = "Maximum bytes of a payload to show, 0 to 4096\n[default: 48]";
+    let help =
+        "Maximum bytes of a payload to show, 0 to 4096;\nin hexadecimal, half as many\n[default: 48]";
     command.arg(view(alloc, help))
 }
 
@@ -81,7 +82,8 @@ pub fn with_events_view<'a>(
     alloc: Global,
     command: Command<'a>,
 ) -> Result<Command<'a>, AllocError> {
-    let help = "Also show the first events that differ, and of a\npayload so many bytes, 0 to 4096";
+    let help =
+        "Also show the first events that differ, and at\nmost BYTES of a payload, 0 to 4096; in\nhexadecimal, half as many";
     command.arg(view(alloc, help))
 }
 
