@@ -13,7 +13,9 @@ use std::io::{self, ErrorKind, Read, Write};
 use std::rt::Runtime;
 use std::{fs, str};
 use wsn_capture::SideReader;
-use wsn_cli::{Escaped, Hint, How, Job, Mistake, hint_on_run, plan_hint_of, run, run_on_side};
+use wsn_cli::{
+    Hint, How, Job, Mistake, Unread, UnreadFile, hint_on_run, plan_hint_of, run, run_on_side,
+};
 use wsn_io::{BlockReader, BlockWriter, FirstBytes, Input, Output, Stop, TiedReader, TiedWriter};
 use wsn_plan::{PlanFileFault, read_plan_file};
 use wsn_rules::Limits;
@@ -71,7 +73,7 @@ pub fn perform<R: Runtime + AllocGlobal>(
 }
 
 /// Opens an input: the file with this name, or standard input. The error is the exit status for a file that can't be
-/// opened, or is a folder, which is reported as `cannot read` with its name.
+/// opened, or is a folder, which is reported as `cannot read` with its name and why.
 pub fn open<R: Runtime>(rt: &R, file: &Option<String>) -> Result<Source<R::Reader, R::File>, u8> {
     let Some(name) = file else {
         return Ok(Source::StandardInput(rt.reader()));
@@ -79,12 +81,12 @@ pub fn open<R: Runtime>(rt: &R, file: &Option<String>) -> Result<Source<R::Reade
     match fs::open(rt, name) {
         Ok(file) => {
             if is_folder(&file) {
-                Err(diagnose_unread(rt, name.as_str()))
+                Err(diagnose_unread(rt, name.as_str(), Unread::Folder))
             } else {
                 Ok(Source::File(file))
             }
         }
-        Err(_) => Err(diagnose_unread(rt, name.as_str())),
+        Err(error) => Err(diagnose_unread(rt, name.as_str(), Unread::of(error.kind()))),
     }
 }
 
@@ -228,7 +230,7 @@ fn diagnose_plan<R: Eprint>(
     hint: Option<Hint>,
 ) -> u8 {
     match fault {
-        PlanFileFault::Unread => diagnose_unread(rt, name_of(plan)),
+        PlanFileFault::Unread => diagnose_unread(rt, name_of(plan), Unread::Other),
         PlanFileFault::TooLong => diagnose(rt, "plan file too long\n"),
         PlanFileFault::Faulty(fault) => {
             let _ = eprintln!(rt; "{fault}");
@@ -247,9 +249,9 @@ fn name_of(file: &Option<String>) -> &str {
 }
 
 /// Reports a file that can't be read, and returns the exit status for a fault.
-fn diagnose_unread<R: Eprint>(rt: &R, file: &str) -> u8 {
-    let name = Escaped::new(file);
-    let _ = eprintln!(rt; "cannot read {name}");
+fn diagnose_unread<R: Eprint>(rt: &R, name: &str, why: Unread) -> u8 {
+    let file = UnreadFile::new(name, why);
+    let _ = eprintln!(rt; "{file}");
     FAULT
 }
 

@@ -148,10 +148,10 @@ doesn't fit what the stream means, this line goes there:
             too-many-pieces, not-a-control, not-a-message, wrong-form or
             events-left
 A plan file that is unreadable or malformed gives status 2, and the stream isn't
-read: cannot read PLAN, plan file too long (more than 64 MiB), or plan line N:
-WORD, with N from 1 and WORD bad-form, bad-number, bad-key or bad-length. Lines
-end in a line feed alone, which the last may lack; a carriage return before it
-is reported as bad-key, or as bad-length after 'two' or 'eight'.
+read: cannot read PLAN: WHY, plan file too long (more than 64 MiB), or plan line
+N: WORD, with N from 1 and WORD bad-form, bad-number, bad-key or bad-length.
+Lines end in a line feed alone, which the last may lack; a carriage return
+before it is reported as bad-key, or as bad-length after 'two' or 'eight'.
 The plan of some five to ten million frames, as 'wsn plan' prints it, is too
 long. The bytes after a Close and a message that a Close interrupts are left
 out.
@@ -295,8 +295,8 @@ Exit status:
      closing and show, clean or complete
   1  any other verdict, answer or outcome
   2  no answer; a line on standard error says why: read failed, write failed,
-     input limit (more than 2^40 bytes came), out of memory, cannot read FILE,
-     line N: WORD (a malformed line of a capture: 'wsn help closing'), usage;
-     or several lines, if the command line is wrong; or none, if the reader of
-     standard output has ended, as head does
+     input limit (more than 2^40 bytes came), out of memory, cannot read FILE:
+     WHY, line N: WORD (a malformed line of a capture: 'wsn help closing'),
+     usage; or several lines, if the command line is wrong; or none, if the
+     reader of standard output has ended, as head does
 ";

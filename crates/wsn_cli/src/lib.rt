@@ -3,8 +3,8 @@
 //! [`asked`] reads the words, with clap, and returns a [`Request`], or a [`Usage`] that says why there is none. A
 //! request to run holds a [`Job`], which [`run`] does over any reader and writers; [`run_same`] compares two streams.
 //! [`run_on_side`] and [`run_same_on_sides`] do so over one side of a capture. [`Escaped`] prints a word from outside so
-//! that a terminal isn't changed by it. [`hint_on_run`] says which everyday mistake an input looks like,
-//! [`hint_on_streams`] and [`hint_on_sides`] which of two.
+//! that a terminal isn't changed by it, and [`UnreadFile`] why a file can't be read. [`hint_on_run`] says which everyday
+//! mistake an input looks like, [`hint_on_streams`] and [`hint_on_sides`] which of two.
 //! `specs/Inputs.antt` defines which input a word names, `specs/Requests.antt` which requests can be carried out.
 #![tactic(auto)]
 
@@ -19,6 +19,7 @@ mod mistake;
 mod options;
 mod recut_options;
 mod request;
+mod unread;
 
 pub use command_line::asked;
 pub use compared_hint::ComparedHint;
@@ -26,6 +27,7 @@ pub use escaped::Escaped;
 pub use hints::{hint_on_run, hint_on_sides, hint_on_streams};
 pub use mistake::Mistake;
 pub use request::{Request, Usage};
+pub use unread::{Unread, UnreadFile};
 pub use wsn_hint::{Hint, capture_hint_of, hint_of, plan_hint_of};
 pub use wsn_job::{
     Comparison, Format, How, Job, Without, run, run_on_side, run_same, run_same_on_sides,

@@ -1,5 +1,6 @@
 //! Tests of `asked`: what the words of a command line ask for, in `requests`, and which are refused, in `refusals`.
-//! `answer_lines` puts an answer into a line.
+//! `answer_lines` puts an answer into a line. Beside them are tests of hints, and of what is said of a file that can't be
+//! read, in `unread_files`.
 #![tactic(auto)]
 
 #[cfg(test)]
@@ -10,3 +11,5 @@ mod hints;
 mod refusals;
 #[cfg(test)]
 mod requests;
+#[cfg(test)]
+mod unread_files;

@@ -62,9 +62,11 @@ stream between two messages, where 'wsn frames' prints offsets.
     Entry {
         words: &["cannot read"],
         text: "\
-cannot read FILE: the file can't be opened, or is a directory; or it is a plan
-whose reading fails (of other files that is 'read failed').
-Usual causes: a misspelt name; the file is in another folder; missing rights.
+cannot read FILE: WHY: the file can't be opened, or is a folder. WHY is missing
+if the system gives another reason, or if reading a plan fails (of other files
+that is 'read failed').
+Usual causes: a misspelt name; the file is in another folder (no such file);
+another user's file (no permission).
 Next: ls -l FILE. In the printed name, \\x1b and the like are control characters,
 \\u202e and the like are characters that change how a terminal shows text.
 ",
