@@ -103,7 +103,8 @@ payload_last role limits fs f len bytes law none size is =
 module _ (role : Role) (limits : Limits) (fs : List Frame) (head : Head) (check : PayloadCheck) (front wire : List ℕ) (range : InRange limits) (lawful : IsLawful role limits fs) (none : unfinished fs ≡ [])
     (is_head : IsHead role limits (unfinished fs) head front) (holds : HoldsPayload role limits (unfinished fs) head check wire (front ++ wire)) (all : length wire ≡ head.len)
     (in_bytes : IsBytes (front ++ wire)) (final : head.first.fin ≡ true) (shortest : encoded_form head.encoded head.len ≡ Shortest) where
-  pub ends_event : (piece after : List ℕ) (n : ℕ) → take n piece ≡ front ++ wire → take n after ≡ with_key_cleared head.key front ++ unmasked_by head.key 0 wire → EndsEventAt role limits fs piece after head.first.op n head.len
+  pub ends_event : (piece after : List ℕ) (n : ℕ) → take n piece ≡ front ++ wire → take n after ≡ with_key_cleared head.key front ++ unmasked_by head.key 0 wire
+      → EndsEventAt role limits fs piece after (record { op = head.first.op; key = head.key; size = n; len = head.len })
   ends_event piece after n was is =
       let w = whole_frame role limits (front ++ wire) wire fs head check range lawful in_bytes holds all in
       let encoded : front ≡ head_bytes head.first.fin head.first.op head.key Shortest head.len =
@@ -117,6 +118,8 @@ module _ (role : Role) (limits : Limits) (fs : List Frame) (head : Head) (check 
         law = w.law;
         final = w.fin_is ∙ final;
         op_is = w.op_is;
+        key_is = w.key_is;
+        form_is = w.form_is ∙ shortest;
         size = sym w.length_is;
         normal = is
             ∙ ap (λ (bs : List ℕ). bs ++ unmasked_by head.key 0 wire) head_is

@@ -18,6 +18,7 @@ use Rattle.wsn_rules.specs.declared.head_info.HeadInfo.{HeadInfo}
 use Rattle.wsn_scan.specs.Scans.{IsReachedBy, Advances, MakesProgress, ends_pending_at, ends_pending, room_of}
 use Rattle.wsn_scan.specs.Reports.{Reported, reported_after, IsRefusal, refusal_in_notice}
 use Rattle.wsn_scan.specs.Feeding.{HasScannedBytes, ConsumesPrefix, heads_in}
+use Rattle.wsn_scan.specs.WholeFrames.{after_end}
 
 -- a bound on each byte, index by index
 pub bytes_below : (xs : List ℕ) → ((i : ℕ) → get_or xs i 0 < 256) → IsBytes xs
@@ -168,10 +169,23 @@ falls old new notice at n size less fits other makes_progress =
       ]
     ]
 
--- the same if more bytes are consumed, or none and the scan is unchanged
-pub falls_further : (old new : Scan) (at n size most : ℕ) → at + n ≤ size → 2 * (size - at) + ends_pending old < most → (n ≡ 0 → new ≡ old) → 2 * (size - (at + n)) + ends_pending new < most
-falls_further old new at n size most fits less same =
+-- the same if more bytes are consumed, or none and no frame end more is pending
+pub falls_further : (old new : Scan) (at n size most : ℕ) → at + n ≤ size → 2 * (size - at) + ends_pending old < most → (n ≡ 0 → ends_pending new ≤ ends_pending old) → 2 * (size - (at + n)) + ends_pending new < most
+falls_further old new at n size most fits less no_more =
     elim (cases_eq n 0) [
-      | inl none ↦ let ends : ends_pending new ≡ ends_pending old = ap (λ (scan : Scan). ends_pending scan) (same none) in omega (arith, ends, none, less)
+      | inl none ↦ omega (arith, no_more none, none, less)
       | inr some ↦ let few = untold_few new.stage in omega (arith, few, some, less, fits)
     ]
+
+pub no_end_more : (old new : Scan) → new ≡ old → ends_pending new ≤ ends_pending old
+no_end_more old new same = let ends : ends_pending new ≡ ends_pending old = ap (λ (scan : Scan). ends_pending scan) same in omega (arith, ends)
+
+-- once the last frame's end is reported, none is pending
+pub none_pending : (stage : Stage) → ends_pending_at (after_end stage) ≡ 0
+none_pending stages.Between = refl
+none_pending (stages.Head part) = refl
+none_pending (stages.Payload inside) = refl
+none_pending (stages.Ended event) = refl
+none_pending (stages.CloseEnded code) = refl
+none_pending (stages.Closed code) = refl
+none_pending (stages.Refused refusal) = refl

@@ -1,5 +1,5 @@
 -- A frame that is consumed at once, and its end.
-use Rattle.std.proofs.Common.{◌≡◌, ℕ, List, [], ◌∷◌, ◌++◌, length, take, refl, sym, ap, ◌∙◌, subst, arith, length-append}
+use Rattle.std.proofs.Common.{◌≡◌, ℕ, Bool, true, List, [], ◌∷◌, ◌++◌, length, take, refl, sym, ap, ◌∙◌, subst, arith, append-nil, length-append}
 use Rattle.wsn_wire.specs.declared.endpoint.Role.{Role}
 use Rattle.wsn_wire.specs.Frame.{Frame, stream}
 use Rattle.wsn_rules.specs.declared.head_info.HeadInfo.{HeadInfo}
@@ -9,9 +9,9 @@ use Rattle.wsn_scan.specs.declared.scan.Scan.{Scan}
 use Rattle.wsn_scan.specs.declared.stage.Stage.{Stage}
 use Rattle.wsn_scan.specs.declared.stage.Stage.TheVariants as stages
 use Rattle.wsn_scan.specs.EventFrames.{reported_of}
-use Rattle.wsn_scan.specs.Feeding.{ConsumesPrefix}
+use Rattle.wsn_scan.specs.Feeding.{ConsumesPrefix, HasScannedBytes}
 use Rattle.wsn_scan.specs.Reports.{Reported, ends_of}
-use Rattle.wsn_scan.specs.Scans.{HasScanned, HasScannedAt, IsAt}
+use Rattle.wsn_scan.specs.Scans.{HasScanned, HasScannedAt, IsAt, refusal_at}
 use Rattle.wsn_scan.specs.WholeFrames.{TakesFrame, TakesToEnd, ConsumesToEnd, after_end}
 use Rattle.wsn_scan.proofs.FramesReported.{same_front, length-ends}
 use Rattle.wsn_scan.proofs.HeadsReported.{heads_push}
@@ -81,3 +81,63 @@ to_end old mid new piece n head between is takes = record { between = between; t
           head_is = is_head;
           has_scanned = subst (λ (scan : Scan). HasScanned role limits scan came (fs ++ f ∷ []) [] (reported_of (fs ++ f ∷ []))) (sym is) (ended role limits came fs f heads one.payload mid one.has_scanned);
         }
+
+-- what a frame that is reported to its end says of the scan's bytes and heads
+pub prefix_of_end : (old new : Scan) (piece : List ℕ) (n : ℕ) (head : HeadInfo) → TakesToEnd old new piece n head → ConsumesPrefix old new piece n (head ∷ [])
+prefix_of_end old new piece n head to role limits bytes heads taken =
+    let reported : Reported = record { heads = heads; payload = taken.payload; ends = taken.ends } in
+    let one = to.takes role limits bytes taken.since taken.frames reported taken.has_scanned in
+    let before = subst (λ (stage : Stage). HasScannedAt role limits old stage bytes taken.frames taken.since reported) to.between taken.has_scanned in
+    let all = taken.frames ++ one.frame ∷ [] in
+    let same : heads_of all ≡ heads ++ head ∷ [] = heads_push taken.frames one.frame ∙ (λ i. sym before.at.2 i ++ sym one.head_is i ∷ []) in
+    record {
+      frames = all;
+      since = [];
+      payload = [];
+      ends = ends_of all;
+      has_scanned = subst (λ (hs : List HeadInfo). HasScanned role limits new (bytes ++ take n piece) all [] (record { heads = hs; payload = []; ends = ends_of all })) same one.has_scanned;
+    }
+
+-- ---- the end of the last frame, taken as reported
+
+before_end : (role : Role) (limits : Limits) (bytes : List ℕ) (fs : List Frame) (rest : List ℕ) (heads : List HeadInfo) (payload : List ℕ) (ends : List Bool) (stage : Stage)
+    → IsAt role limits stage bytes fs rest (record { heads = heads; payload = payload; ends = ends })
+    → (later : List Bool) × IsAt role limits (after_end stage) bytes fs rest (record { heads = heads; payload = payload; ends = later })
+before_end role limits bytes fs rest heads payload ends stages.Between at = (ends, at)
+before_end role limits bytes fs rest heads payload ends (stages.Head part) at = (ends, at)
+before_end role limits bytes fs rest heads payload ends (stages.Payload inside) at = (ends, at)
+before_end role limits bytes fs rest heads payload ends (stages.Ended event) at = (ends ++ event ∷ [], (at.0, at.2, at.3, at.4))
+before_end role limits bytes fs rest heads payload ends (stages.CloseEnded code) at = (ends ++ true ∷ [], (at.0, at.1, at.4, at.5))
+before_end role limits bytes fs rest heads payload ends (stages.Closed code) at = (ends, at)
+before_end role limits bytes fs rest heads payload ends (stages.Refused refusal) at = (ends, at)
+
+-- reporting an end consumes nothing and reports no head
+pub prefix_of_report : (scan : Scan) (piece : List ℕ) → ConsumesPrefix scan (record scan { stage = after_end scan.stage }) piece 0 []
+prefix_of_report scan piece role limits bytes heads taken =
+    let h = taken.has_scanned.has_consumed in
+    let same : bytes ≡ bytes ++ take 0 piece = sym (append-nil bytes) in
+    let heads_same : heads ≡ heads ++ [] = sym (append-nil heads) in
+    let after = before_end role limits bytes taken.frames taken.since heads taken.payload taken.ends scan.stage taken.has_scanned.at in
+    let reached : HasScannedBytes role limits (record scan { stage = after_end scan.stage }) bytes heads =
+    record {
+      frames = taken.frames;
+      since = taken.since;
+      payload = taken.payload;
+      ends = after.0;
+      has_scanned = record {
+        has_consumed = record { sender = h.sender; under = h.under; in_range = h.in_range; lawful = h.lawful; whole = h.whole; in_bytes = h.in_bytes; room = h.room; used = h.used; counts = h.counts; message = h.message };
+        at = after.1;
+      };
+    } in
+    subst (λ (bs : List ℕ). HasScannedBytes role limits (record scan { stage = after_end scan.stage }) bs (heads ++ [])) same
+    (subst (λ (hs : List HeadInfo). HasScannedBytes role limits (record scan { stage = after_end scan.stage }) bytes hs) heads_same reached)
+
+-- reporting an end refuses nothing
+pub same_refusal : (stage : Stage) → refusal_at (after_end stage) ≡ refusal_at stage
+same_refusal stages.Between = refl
+same_refusal (stages.Head part) = refl
+same_refusal (stages.Payload inside) = refl
+same_refusal (stages.Ended event) = refl
+same_refusal (stages.CloseEnded code) = refl
+same_refusal (stages.Closed code) = refl
+same_refusal (stages.Refused refusal) = refl

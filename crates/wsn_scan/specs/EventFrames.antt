@@ -3,7 +3,9 @@ use Rattle.std.specs.Prelude.{◌≡◌, ◌≢◌, ℕ, ◌-◌, true, Option, 
 use Rattle.wsn_wire.specs.declared.endpoint.Role.{Role}
 use Rattle.wsn_wire.specs.declared.opcode.Op.{Op}
 use Rattle.wsn_wire.specs.declared.opcode.Op.TheVariants.{Close}
+use Rattle.wsn_wire.specs.declared.length_forms.Form.TheVariants.{Shortest}
 use Rattle.wsn_wire.specs.Frame.{Frame, is_control, frame_bytes}
+use Rattle.wsn_rules.specs.declared.head_info.HeadInfo.{HeadInfo}
 use Rattle.wsn_rules.specs.Limits.{Limits, InRange}
 use Rattle.wsn_rules.specs.Group.{unfinished}
 use Rattle.wsn_rules.specs.Lawful.{LawAt, IsLawful}
@@ -12,40 +14,65 @@ use Rattle.wsn_rules.specs.Heads.{heads_of}
 use Rattle.wsn_rules.specs.Meaning.{MeantEvent, event_at, meaning}
 use Rattle.wsn_rules.specs.NormalForm.{normal_frame, normal_form}
 use Rattle.wsn_scan.specs.declared.scan.Scan.{Scan}
+use Rattle.wsn_scan.specs.declared.scan.event_frames.EventFrame.{EventFrame}
 use Rattle.wsn_scan.specs.declared.stage.Stage.TheVariants as stages
 use Rattle.wsn_scan.specs.Reports.{Reported, ends_of}
 use Rattle.wsn_scan.specs.Scans.{HasScanned}
 
 -- ---- one frame
 
+-- Between frames, all heads and ends of these frames were reported.
+abbrev pub reported_of : List Frame → Reported
+reported_of fs = record { heads = heads_of fs; payload = []; ends = ends_of fs }
+
 -- A head's bytes, with zeros in place of the key, if it has one.
 abbrev pub with_key_cleared : Option (List ℕ) → List ℕ → List ℕ
 with_key_cleared None head = head
 with_key_cleared (Some key) head = take (length head - 4) head ++ (0 ∷ 0 ∷ 0 ∷ 0 ∷ [])
 
--- The first n bytes of the piece are a final frame with this opcode and `len` bytes of payload, which is lawful after
--- these. `after` begins with the normal frame of the event that it ends.
-pub record EndsEventAt (role : Role) (limits : Limits) (fs : List Frame) (piece after : List ℕ) (op : Op) (n len : ℕ)
+-- The frame's size in bytes is that of the found frame, and these are its bytes at the start of the piece. It is final
+-- and lawful after these, has the found frame's opcode and key, encodes its length shortest, and has `len` bytes of
+-- payload. `after` begins with the normal frame of the event that it ends.
+pub record EndsEventAt (role : Role) (limits : Limits) (fs : List Frame) (piece after : List ℕ) (found : EventFrame)
     : Type 0 where
   pub frame : Frame
-  pub bytes_are : frame_bytes frame ≡ take n piece
+  pub bytes_are : frame_bytes frame ≡ take found.size piece
   pub law : LawAt role limits fs frame
   pub final : frame.fin ≡ true
-  pub op_is : frame.op ≡ op
-  pub size : length frame.payload ≡ len
-  pub normal : take n after ≡ frame_bytes (normal_frame role (event_at fs frame))
+  pub op_is : frame.op ≡ found.op
+  pub key_is : frame.key ≡ found.key
+  pub form_is : frame.form ≡ Shortest
+  pub size : length frame.payload ≡ found.len
+  pub normal : take found.size after ≡ frame_bytes (normal_frame role (event_at fs frame))
 
 -- The same after any lawful frames without a Close that leave no message open. The frame is no Close.
-abbrev pub IsEventFrame : Role → Limits → List ℕ → List ℕ → Op → ℕ → ℕ → Type 0
-IsEventFrame role limits piece after op n len =
-    (op ≢ Close) × ((fs : List Frame) → InRange limits → IsLawful role limits fs → HasNoClose fs →
-    unfinished fs ≡ [] → EndsEventAt role limits fs piece after op n len)
+abbrev pub IsEventFrame : Role → Limits → List ℕ → List ℕ → EventFrame → Type 0
+IsEventFrame role limits piece after found =
+    (found.op ≢ Close) × ((fs : List Frame) → InRange limits → IsLawful role limits fs → HasNoClose fs →
+    unfinished fs ≡ [] → EndsEventAt role limits fs piece after found)
+
+-- After the frames fs, which leave no message open, the scan has consumed one frame more, up to the end of these bytes,
+-- and reported it. It is the found frame.
+pub record ConsumesEvent (role : Role) (limits : Limits) (new : Scan) (bytes : List ℕ) (fs : List Frame)
+    (piece after : List ℕ) (found : EventFrame) : Type 0 where
+  pub none_before : unfinished fs ≡ []
+  pub ends : EndsEventAt role limits fs piece after found
+  pub has_scanned : HasScanned role limits new bytes (fs ++ ends.frame ∷ []) []
+      (reported_of (fs ++ ends.frame ∷ []))
+
+-- Whatever the scan has consumed and reported, it consumes the frame at the start of the piece, which ends an event.
+abbrev pub TakesEvent : Scan → Scan → List ℕ → List ℕ → EventFrame → Type 0
+TakesEvent old new piece after found =
+    (role : Role) (limits : Limits) (bytes since : List ℕ) (fs : List Frame) (reported : Reported) →
+    HasScanned role limits old bytes fs since reported
+    → ConsumesEvent role limits new (bytes ++ take found.size piece) fs piece after found
+
+-- the head of a found frame whose first byte is at this offset
+abbrev pub info_found : ℕ → EventFrame → HeadInfo
+info_found place found =
+    record { place = place; fin = true; op = found.op; key = found.key; form = Shortest; len = found.len }
 
 -- ---- a run of frames
-
--- Between frames, all heads and ends of these frames were reported.
-abbrev pub reported_of : List Frame → Reported
-reported_of fs = record { heads = heads_of fs; payload = []; ends = ends_of fs }
 
 -- After the frames fs the scan has consumed more whole frames, up to the end of these bytes, and reported them. They
 -- end the events whose normal form this is, and leave no message open.

@@ -24,7 +24,7 @@ pub use Rattle.wsn_scan.specs.ReaderSteps.{ReportsStep, Progresses, IsUsed, IsFi
 pub use Rattle.wsn_scan.specs.Refill.{IsRefilled}
 pub use Rattle.wsn_scan.specs.Reports.{Reported, IsReportedSoFar, IsPayloadSoFar, AnswersByCase, nothing_reported, refusal_in_notice}
 pub use Rattle.wsn_scan.specs.Reports.{IsHeadNotice, IsRefusal, refusal_judged}
-pub use Rattle.wsn_scan.specs.Scans.{HasScanned, ConsumesFromPiece, refusal_in, room_of, MakesProgress, taken_of, IsAdvance, Advances, ConsumesAtStage}
+pub use Rattle.wsn_scan.specs.Scans.{HasScanned, ConsumesFromPiece, refusal_in, room_of, ends_pending, MakesProgress, taken_of, IsAdvance, Advances, ConsumesAtStage}
 pub use Rattle.wsn_scan.specs.Scans.{AdvancesFrom, BeginsFrame, EndsWithPayload, refusal_of, summary_of}
 pub use Rattle.wsn_scan.specs.Scans.{verdict_between, IsAt, IsStageAfter, refusal_at}
 pub use Rattle.wsn_io.specs.Stops.{IsWrittenOrStops, HasNoFailure}

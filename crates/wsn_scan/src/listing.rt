@@ -1,5 +1,5 @@
 ghost use Rattle.std.specs.Prelude.{◌≡◌, ℕ, ◌+◌, ◌≤◌, List, ◌++◌, length, drop, false, Ok, Some};
-ghost use Rattle.wsn_scan.specs.Words.{Outgoing, IsWrittenUpToFailure, room_of, IsRunning, heads_in, heads_text, IsEnded, IsListedChunk, IsListedRun, IsListed, IsListedAs, IsListedWhole, IsListedWholeAs, IsBytes};
+ghost use Rattle.wsn_scan.specs.Words.{Outgoing, IsWrittenUpToFailure, room_of, ends_pending, IsRunning, heads_in, heads_text, IsEnded, IsListedChunk, IsListedRun, IsListed, IsListedAs, IsListedWhole, IsListedWholeAs, IsBytes};
 
 use crate::notice::Notice;
 use crate::refill::{CHUNK, refill};
@@ -104,8 +104,8 @@ fn list_chunk<W: Write>(
     scan.refusal()
 }
 
-/// Consumes frames at the start of the piece, up to the first that [`Scan::take_frame`] leaves, and prints their heads.
-/// Returns the number of bytes. With 0 nothing changes.
+/// Takes the end of the last frame as reported, consumes frames at the start of the piece, up to the first that
+/// [`Scan::take_to_end`] leaves, and prints their heads. Returns the number of bytes.
 #[inline(never)]
 #[tactic(none)]
 fn list_frames<W: Write>(
@@ -119,10 +119,11 @@ fn list_frames<W: Write>(
     ensures within { result ≤ length piece.old }
     ensures kept { drop result piece.new ≡ drop result piece.old }
     ensures room { room_of scan.new + result ≡ room_of scan.old }
-    ensures none { result ≡ 0 → scan.new ≡ scan.old }
+    ensures none { result ≡ 0 → ends_pending scan.new ≤ ends_pending scan.old }
 {
+    scan.report_end();
     let mut at = 0;
-    while let Some((taken, head)) = scan.take_frame(&mut piece[at..]) {
+    while let Some((taken, head)) = scan.take_to_end(&mut piece[at..]) {
         at += taken;
         print(output, format, &Notice::Head(head));
     }

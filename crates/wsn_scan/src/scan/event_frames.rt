@@ -1,23 +1,44 @@
 //! Frames that are whole in a piece and each end an event, with the event's normal frame written in their place.
-ghost use Rattle.std.specs.Prelude.{◌≡◌, ◌≢◌, ◌+◌, ◌<◌, ◌≤◌, true, false, None, length, drop, IsTrue, IfSome, IfNone};
+ghost use Rattle.std.specs.Prelude.{◌≡◌, ◌≢◌, ◌+◌, ◌<◌, ◌≤◌, true, false, None, List, length, drop, IsTrue, IfSome, IfNone};
 ghost use Rattle.wsn_wire.specs.Frame.{IsBytes, is_control};
 ghost use Rattle.wsn_frame.specs.PartialHeads.{encoded_form};
-ghost use Rattle.wsn_scan.specs.EventFrames.{IsEventFrame, TakesEvents, TakesMessage, IsIdle, with_key_cleared};
+ghost use Rattle.wsn_scan.specs.EventFrames.{IsEventFrame, TakesEvent, TakesEvents, TakesMessage, IsIdle, info_found, with_key_cleared};
+ghost use Rattle.wsn_scan.specs.Feeding.{ConsumesPrefix};
 ghost use Rattle.wsn_scan.specs.Scans.{room_of, refusal_in};
 
 use super::Scan;
 use crate::stage::Stage;
 use wsn_frame::{FrameContext, Head, PayloadCheck, unmask, whole_head};
+use wsn_rules::HeadInfo;
 use wsn_wire::{Form, Op};
 
-/// A frame that ends an event.
+/// A final frame, which ends an event and encodes its length shortest.
 #[derive(Clone, Copy)]
 pub(crate) struct EventFrame {
     pub(crate) op: Op,
+    /// The masking key, if the frame is masked.
+    pub(crate) key: Option<[u8; 4]>,
     /// The number of the frame's bytes.
     pub(crate) size: usize,
     /// The number of the payload's bytes, the last of these.
     pub(crate) len: usize,
+}
+
+impl EventFrame {
+    /// Its head, if its first byte is at this offset.
+    #[inline(always)]
+    pub(super) fn info(&self, place: u64) -> HeadInfo
+        ensures { result ≡ info_found place self.now }
+    {
+        HeadInfo {
+            place,
+            fin: true,
+            op: self.op,
+            key: self.key,
+            form: Form::Shortest,
+            len: self.len as u64,
+        }
+    }
 }
 
 impl Scan {
@@ -29,6 +50,7 @@ impl Scan {
     pub(crate) fn take_events(&mut self, piece: &mut [u8]) -> usize
         requires { length piece.old ≤ room_of self.old }
         ensures taken { 0 < result → IsIdle self.old × TakesEvents self.old self.new piece.old piece.new result }
+        ensures heads { (heads : List HeadInfo) × ConsumesPrefix self.old self.new piece.old result heads }
         ensures within { result ≤ length piece.old }
         ensures kept { drop result piece.new ≡ drop result piece.old }
         ensures room { room_of self.new + result ≡ room_of self.old }
@@ -69,10 +91,31 @@ impl Scan {
         ensures reported { IfSome result (λ _. refusal_in self.old ≡ None → refusal_in self.new ≡ None) }
         ensures none { IfNone result ((self.new ≡ self.old) × (piece.new ≡ piece.old)) }
     {
+        let frame = self.take_one_event(true, piece)?;
+        Some(frame)
+    }
+
+    /// Consumes the frame at the start of the piece if [`take_event`] takes it, and writes the normal frame of its event
+    /// in its place. It does so if the scan is between frames, their ends are reported, and no message is open.
+    /// Otherwise it returns `None`, and nothing changes.
+    #[inline(always)]
+    pub(super) fn take_one_event(&mut self, message: bool, piece: &mut [u8]) -> Option<EventFrame>
+        requires { length piece.old ≤ room_of self.old }
+        ensures taken { IfSome result (λ frame. IsBytes piece.old →
+            TakesEvent self.old self.new piece.old piece.new frame) }
+        ensures data { IfSome result (λ frame. message ≡ true → is_control frame.op ≡ false) }
+        ensures idle { IfSome result (λ _. IsIdle self.old) }
+        ensures within { IfSome result (λ frame. (0 < frame.size) × (frame.size ≤ length piece.old)
+            × (frame.len ≤ frame.size)) }
+        ensures kept { IfSome result (λ frame. drop frame.size piece.new ≡ drop frame.size piece.old) }
+        ensures room { IfSome result (λ frame. room_of self.new + frame.size ≡ room_of self.old) }
+        ensures reported { IfSome result (λ _. refusal_in self.new ≡ None) }
+        ensures none { IfNone result ((self.new ≡ self.old) × (piece.new ≡ piece.old)) }
+    {
         if !self.is_idle() {
             return None;
         }
-        let frame = take_event(&self.context, true, piece)?;
+        let frame = take_event(&self.context, message, piece)?;
         self.counts = self.counts.with(true, frame.op);
         self.room -= frame.size as u64;
         self.used = self.taken();
@@ -97,7 +140,7 @@ impl Scan {
 fn take_event(context: &FrameContext, message: bool, piece: &mut [u8]) -> Option<EventFrame>
     requires { context.now.message ≡ None }
     ensures taken { IfSome result (λ frame. IsBytes piece.old →
-        IsEventFrame context.now.role context.now.limits piece.old piece.new frame.op frame.size frame.len) }
+        IsEventFrame context.now.role context.now.limits piece.old piece.new frame) }
     ensures data { IfSome result (λ frame. message ≡ true → is_control frame.op ≡ false) }
     ensures within { IfSome result (λ frame. (0 < frame.size) × (frame.size ≤ length piece.old)
         × (frame.len ≤ frame.size)) }
@@ -120,6 +163,7 @@ fn take_event(context: &FrameContext, message: bool, piece: &mut [u8]) -> Option
             clear_key(head.key, &mut piece[..start]);
             Some(EventFrame {
                 op: head.first.op,
+                key: head.key,
                 size: end,
                 len: head.len as usize,
             })

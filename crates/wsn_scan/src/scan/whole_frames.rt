@@ -7,10 +7,10 @@ use wsn_rules::HeadInfo;
 
 impl Scan {
     ghost use Rattle.std.specs.Prelude.{◌≡◌, ◌+◌, ◌-◌, ◌<◌, ◌≤◌, List, [], ◌∷◌, None, length, drop, IfSome, IfNone};
-    ghost use Rattle.wsn_scan.specs.Words.{HeadInfo, ConsumesPrefix, IsBytes, ConsumesFromPiece, room_of, refusal_in, TakesFrame, TakesToEnd, after_end};
+    ghost use Rattle.wsn_scan.specs.Words.{HeadInfo, ConsumesPrefix, IsBytes, ConsumesFromPiece, room_of, refusal_in, ends_pending, TakesFrame, TakesToEnd, after_end};
 
-    /// Consumes frames at the start of the piece, up to the first that [`Scan::take_frame`] leaves, and returns the
-    /// number of bytes. It reports nothing; a caller that reads notices uses `next`.
+    /// Takes the end of the last frame as reported, consumes frames at the start of the piece, up to the first that
+    /// [`Scan::take_frame`] leaves, and returns the number of bytes. A caller that reads notices uses `next`.
     #[inline(never)]
     pub(crate) fn take_frames(&mut self, piece: &mut [u8]) -> usize
         requires { length piece.old ≤ room_of self.old }
@@ -20,13 +20,35 @@ impl Scan {
         ensures kept { drop result piece.new ≡ drop result piece.old }
         ensures room { room_of self.new + result ≡ room_of self.old }
         ensures reported { refusal_in self.old ≡ None → refusal_in self.new ≡ None }
-        ensures none { result ≡ 0 → self.new ≡ self.old }
+        ensures none { result ≡ 0 → ends_pending self.new ≤ ends_pending self.old }
     {
+        self.report_end();
         let mut at = 0;
-        while let Some((taken, _head)) = self.take_frame(&mut piece[at..]) {
+        while let Some(taken) = self.take_run(&mut piece[at..]) {
             at += taken;
         }
         at
+    }
+
+    /// Consumes frames that end events by [`Scan::take_events`], or one other frame to its end, and returns the number of
+    /// bytes. With `None` nothing changes.
+    #[inline(always)]
+    fn take_run(&mut self, piece: &mut [u8]) -> Option<usize>
+        requires { length piece.old ≤ room_of self.old }
+        ensures taken { IfSome result (λ taken. IsBytes piece.old → (heads : List HeadInfo)
+            × ConsumesPrefix self.old self.new piece.old taken heads) }
+        ensures within { IfSome result (λ taken. (0 < taken) × (taken ≤ length piece.old)) }
+        ensures kept { IfSome result (λ taken. drop taken piece.new ≡ drop taken piece.old) }
+        ensures room { IfSome result (λ taken. room_of self.new + taken ≡ room_of self.old) }
+        ensures reported { IfSome result (λ _. refusal_in self.new ≡ None) }
+        ensures none { IfNone result ((self.new ≡ self.old) × (piece.new ≡ piece.old)) }
+    {
+        let taken = self.take_events(piece);
+        if taken > 0 {
+            return Some(taken);
+        }
+        let (taken, _head) = self.take_frame_to_end(piece)?;
+        Some(taken)
     }
 
     /// Consumes the frame at the start of the piece in one step and returns its size in bytes and its head. It does so
@@ -34,7 +56,7 @@ impl Scan {
     /// Otherwise it returns `None`, and nothing changes.
     #[inline(always)]
     #[tactic(none)]
-    pub(crate) fn take_frame(&mut self, piece: &mut [u8]) -> Option<(usize, HeadInfo)>
+    fn take_frame(&mut self, piece: &mut [u8]) -> Option<(usize, HeadInfo)>
         requires { length piece.old ≤ room_of self.old }
         ensures taken { IfSome result (λ found. IsBytes piece.old →
             TakesFrame self.old self.new piece.old found.0 found.1) }
@@ -71,8 +93,27 @@ impl Scan {
 
     /// Does what [`Scan::take_frame`] does, if the ends of the frames so far are reported, and reports the frame's end.
     #[inline(always)]
-    #[tactic(none)]
     pub(crate) fn take_to_end(&mut self, piece: &mut [u8]) -> Option<(usize, HeadInfo)>
+        requires { length piece.old ≤ room_of self.old }
+        ensures taken { IfSome result (λ found. IsBytes piece.old →
+            TakesToEnd self.old self.new piece.old found.0 found.1) }
+        ensures within { IfSome result (λ found. (0 < found.0) × (found.0 ≤ length piece.old)) }
+        ensures kept { IfSome result (λ found. drop found.0 piece.new ≡ drop found.0 piece.old) }
+        ensures room { IfSome result (λ found. room_of self.new + found.0 ≡ room_of self.old) }
+        ensures reported { IfSome result (λ _. refusal_in self.new ≡ None) }
+        ensures none { IfNone result ((self.new ≡ self.old) × (piece.new ≡ piece.old)) }
+    {
+        let place = self.used;
+        match self.take_one_event(false, piece) {
+            Some(frame) => Some((frame.size, frame.info(place))),
+            None => self.take_frame_to_end(piece),
+        }
+    }
+
+    /// Does the same for a frame of any kind.
+    #[inline(never)]
+    #[tactic(none)]
+    fn take_frame_to_end(&mut self, piece: &mut [u8]) -> Option<(usize, HeadInfo)>
         requires { length piece.old ≤ room_of self.old }
         ensures taken { IfSome result (λ found. IsBytes piece.old →
             TakesToEnd self.old self.new piece.old found.0 found.1) }
@@ -93,7 +134,7 @@ impl Scan {
     /// Takes the end of the last frame as reported.
     #[inline(always)]
     #[tactic(none)]
-    fn report_end(&mut self)
+    pub(crate) fn report_end(&mut self)
         ensures { self.new ≡ record self.old { stage = after_end self.old.stage } }
     {
         match self.stage {

@@ -5,25 +5,32 @@ use Rattle.wsn_io.specs.Transfer.{IsWrittenUpToFailure}
 use Rattle.wsn_print.specs.Formats.{heads_text}
 use Rattle.wsn_scan.specs.declared.scan.Scan.{Scan}
 use Rattle.wsn_scan.specs.Listing.{IsListedRun}
-use Rattle.wsn_scan.proofs.WholeFrames.{prefix_of_frame}
-use Rattle.wsn_scan.proofs.FedPieces.{bytes_below, bytes_after, share_is, kept_after, same_further, takes_none, takes_further}
+use Rattle.wsn_scan.specs.Feeding.{ConsumesPrefix}
+use Rattle.wsn_scan.specs.Scans.{ends_pending}
+use Rattle.wsn_scan.proofs.WholeFrames.{prefix_of_end, prefix_of_report}
+use Rattle.wsn_scan.proofs.FedPieces.{bytes_below, bytes_after, share_is, kept_after, same_further, takes_further, none_pending}
 use Rattle.wsn_scan.proofs.Printing.{heads_text-append}
 use Rattle.wsn_scan.proofs.listing.list_frames.Goals as goal
 
 pub loop-taken-init : goal.loop-taken-init
-loop-taken-init g c = record {
-  in_bytes = bytes_below c.args.piece.now (λ i. let below = c.type_inv.piece i in omega (arith, below));
-  within = omega arith;
-  size = refl;
-  kept = refl;
-  room = omega arith;
-  run = record {
-    heads = [];
-    consumes = takes_none c.args.scan.now c.args.piece.now;
-    printed = λ first text printed. subst (λ (bs : List ℕ). IsWrittenUpToFailure first c.args.output.now bs) (sym (append-nil text)) printed;
-  };
-  none = λ zero. refl;
-}
+loop-taken-init g c =
+    let scan = c.args.scan.now in
+    let is = c.report_end.ensures in
+    let room = ap (λ (s : Scan). s.room) is in
+    let pending = ap (λ (s : Scan). ends_pending s) is ∙ none_pending scan.stage in
+    record {
+      in_bytes = bytes_below c.args.piece.now (λ i. let below = c.type_inv.piece i in omega (arith, below));
+      within = omega arith;
+      size = refl;
+      kept = refl;
+      room = omega (arith, room);
+      run = record {
+        heads = [];
+        consumes = subst (λ (s : Scan). ConsumesPrefix scan s c.args.piece.now 0 []) (sym is) (prefix_of_report scan c.args.piece.now);
+        printed = λ first text printed. subst (λ (bs : List ℕ). IsWrittenUpToFailure first c.args.output.now bs) (sym (append-nil text)) printed;
+      };
+      none = λ zero. omega (arith, pending);
+    }
 
 pub loop-taken-preserved : goal.loop-taken-preserved
 loop-taken-preserved g c =
@@ -37,19 +44,19 @@ loop-taken-preserved g c =
     let found = c.in-Some.ensures in
     let is : share ≡ drop at piece = share_is at here ∙ known.kept in
     let size : length share ≡ length (drop at piece) = ap (λ (bs : List ℕ). length bs) is in
-    let same_size : length c.take_frame.new.piece ≡ length share = c.take_frame.auto.piece in
-    let more = prefix_of_frame c.loop-taken.scan c.take_frame.new.self share taken head (found.taken (subst IsBytes (sym is) (bytes_after at piece known.in_bytes))) in
+    let same_size : length c.take_to_end.new.piece ≡ length share = c.take_to_end.auto.piece in
+    let more = prefix_of_end c.loop-taken.scan c.take_to_end.new.self share taken head (found.taken (subst IsBytes (sym is) (bytes_after at piece known.in_bytes))) in
     let lines = heads_text c.args.format known.run.heads in
     record {
       in_bytes = known.in_bytes;
       within = omega (arith, length-drop at piece, size, found.within.1);
-      size = same_len_mid at (length here - at) here c.take_frame.new.piece same_size ∙ known.size;
-      kept = kept_after at (length here - at) taken here c.take_frame.new.piece (omega (arith, known.within, known.size)) found.within.1 same_size found.kept
+      size = same_len_mid at (length here - at) here c.take_to_end.new.piece same_size ∙ known.size;
+      kept = kept_after at (length here - at) taken here c.take_to_end.new.piece (omega (arith, known.within, known.size)) found.within.1 same_size found.kept
           ∙ same_further at taken here piece (omega (arith, known.within, known.size)) known.within known.kept;
       room = omega (arith, found.room, known.room);
       run = record {
         heads = known.run.heads ++ head ∷ [];
-        consumes = takes_further c.args.scan.now c.loop-taken.scan c.take_frame.new.self piece share at taken known.run.heads (head ∷ []) is known.run.consumes more;
+        consumes = takes_further c.args.scan.now c.loop-taken.scan c.take_to_end.new.self piece share at taken known.run.heads (head ∷ []) is known.run.consumes more;
         printed = λ first text printed.
             subst (λ (bs : List ℕ). IsWrittenUpToFailure first c.print.new.output bs) (append_assoc text lines (heads_text c.args.format (head ∷ [])) ∙ ap (λ (bs : List ℕ). text ++ bs) (sym (heads_text-append c.args.format known.run.heads (head ∷ []))))
             (c.print.ensures first (text ++ lines) (known.run.printed first text printed));
@@ -61,17 +68,17 @@ pub returns-clause-taken : goal.returns-clause-taken
 returns-clause-taken g c in_bytes =
     subst (λ (scan : Scan). IsListedRun c.args.format c.args.scan.now scan c.args.output.now c.loop-taken.output c.args.piece.now c.loop-taken.at) (sym c.in_default.ensures.none.0) c.loop-taken.invariant.run
 
-pub slice_bounds-take_frame-count : goal.slice_bounds-take_frame-count
-slice_bounds-take_frame-count g c = search rules
+pub slice_bounds-take_to_end-count : goal.slice_bounds-take_to_end-count
+slice_bounds-take_to_end-count g c = search rules
 
-pub slice_bounds-take_frame-start : goal.slice_bounds-take_frame-start
-slice_bounds-take_frame-start g c = search rules
+pub slice_bounds-take_to_end-start : goal.slice_bounds-take_to_end-start
+slice_bounds-take_to_end-start g c = search rules
 
-pub slice_bounds-take_frame-end : goal.slice_bounds-take_frame-end
-slice_bounds-take_frame-end g c = search rules
+pub slice_bounds-take_to_end-end : goal.slice_bounds-take_to_end-end
+slice_bounds-take_to_end-end g c = search rules
 
-pub take_frame-requires : goal.take_frame-requires
-take_frame-requires g c = search rules
+pub take_to_end-requires : goal.take_to_end-requires
+take_to_end-requires g c = search rules
 
 pub overflow_add-at : goal.overflow_add-at
 overflow_add-at g c = search rules
@@ -86,7 +93,7 @@ pub returns-clause-kept : goal.returns-clause-kept
 returns-clause-kept g c =
     let at = c.loop-taken.at in
     let here = c.loop-taken.piece in
-    let back : put_mid at (length here - at) here c.take_frame.new.piece ≡ here =
+    let back : put_mid at (length here - at) here c.take_to_end.new.piece ≡ here =
     ap (λ (ys : List ℕ). put_mid at (length here - at) here ys) c.in_default.ensures.none.1 ∙ put_same at (length here - at) here in
     ap (λ (ps : List ℕ). drop at ps) back ∙ c.loop-taken.invariant.kept
 

@@ -1,6 +1,7 @@
 use Rattle.std.proofs.Common.{◌≡◌, ◌+◌, ◌-◌, ◌≤◌, length, drop}
 use Rattle.wsn_wire.specs.Frame.{IsBytes}
 use Rattle.wsn_scan.specs.Listing.{IsListedRun}
+use Rattle.wsn_scan.specs.Scans.{ends_pending}
 use Rattle.wsn_scan.proofs.listing.list_frames.Given as goal
 
 -- The scan has consumed the piece so far, the heads that it reported were printed, and the rest of the piece is
@@ -13,7 +14,7 @@ invariant-loop-taken g l = record {
   kept : drop l.at l.piece ≡ drop l.at l.fn.piece;
   room : l.scan.room + l.at ≡ l.fn.scan.room;
   run : IsListedRun l.fn.format l.fn.scan l.scan l.fn.output l.output l.fn.piece l.at;
-  none : l.at ≡ 0 → l.scan ≡ l.fn.scan;
+  none : l.at ≡ 0 → ends_pending l.scan ≤ ends_pending l.fn.scan;
 }
 
 abbrev pub decreases-loop-taken : goal.decreases-loop-taken

@@ -1,7 +1,7 @@
 use Rattle.std.proofs.Common.{◌≡◌, ◌∙◌, ◌+◌, ◌-◌, ◌<◌, ℕ, List, [], ◌++◌, length, drop, refl, sym, arith, ap, length-drop, rules}
 use borrow.Rule.Slice.PartMut.{mid_of, put_mid}
 use Rattle.wsn_scan.specs.Feeding.{heads_in}
-use Rattle.wsn_scan.proofs.FedPieces.{IsFedTo, bytes_below, share_is, takes_none, takes_by, takes_on, fed_further, none_reported, falls, falls_further}
+use Rattle.wsn_scan.proofs.FedPieces.{IsFedTo, bytes_below, share_is, takes_none, takes_by, takes_on, fed_further, none_reported, falls, falls_further, no_end_more}
 use Rattle.wsn_scan.proofs.scan.Scan.feed.Goals as goal
 
 pub loop-at-init : goal.loop-at-init
@@ -57,7 +57,7 @@ loop-at-smaller c =
     let in_frames = ap (λ (bs : List ℕ). length bs) (share_is (at + taken) there ∙ next.kept) in
     let in_start = ap (λ (bs : List ℕ). length bs) (share_is (at + taken + more) last ∙ whole.kept) in
     let second = falls_further mid frames.new.self (at + taken) more (length piece) _ (omega (arith, next.within, length-drop (at + taken) piece, in_frames, frames.ensures.within)) first frames.ensures.none in
-    falls_further frames.new.self c.take_start-at.new.self (at + taken + more) c.take_start-at.result (length piece) _ (omega (arith, whole.within, length-drop (at + taken + more) piece, in_start, c.take_start-at.ensures.within)) second c.take_start-at.ensures.none
+    falls_further frames.new.self c.take_start-at.new.self (at + taken + more) c.take_start-at.result (length piece) _ (omega (arith, whole.within, length-drop (at + taken + more) piece, in_start, c.take_start-at.ensures.within)) second (λ zero. no_end_more frames.new.self c.take_start-at.new.self (c.take_start-at.ensures.none zero))
 
 pub loop-at-preserved : goal.loop-at-preserved
 loop-at-preserved c =

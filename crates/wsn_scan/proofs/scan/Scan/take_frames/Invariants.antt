@@ -1,7 +1,7 @@
 use Rattle.std.proofs.Common.{◌≡◌, ◌+◌, ◌-◌, ◌≤◌, None, List, length, drop}
 use Rattle.wsn_rules.specs.declared.head_info.HeadInfo.{HeadInfo}
 use Rattle.wsn_wire.specs.Frame.{IsBytes}
-use Rattle.wsn_scan.specs.Scans.{refusal_in}
+use Rattle.wsn_scan.specs.Scans.{refusal_in, ends_pending}
 use Rattle.wsn_scan.specs.Feeding.{ConsumesPrefix}
 use Rattle.wsn_scan.proofs.scan.Scan.take_frames.Given as goal
 
@@ -15,7 +15,7 @@ invariant-loop-taken l = record {
   room : l.self.room + l.at ≡ l.fn.self.room;
   consumes : (more : List HeadInfo) × ConsumesPrefix l.fn.self l.self l.fn.piece l.at more;
   reported : refusal_in l.fn.self ≡ None → refusal_in l.self ≡ None;
-  none : l.at ≡ 0 → l.self ≡ l.fn.self;
+  none : l.at ≡ 0 → ends_pending l.self ≤ ends_pending l.fn.self;
 }
 
 abbrev pub decreases-loop-taken : goal.decreases-loop-taken
