@@ -153,8 +153,10 @@ fn compare_streams<A: Allocator + Copy, R: Read + Drop, S: Read + Drop, W: Write
     writer: W,
     diagnosed: &mut OneLine,
 ) -> Ended {
-    let mut first = Input::new(BlockReader::new(first));
-    let mut second = Input::new(BlockReader::new(second));
+    let mut first = BlockReader::new(first);
+    let mut second = BlockReader::new(second);
+    let mut first = Input::new(&mut first);
+    let mut second = Input::new(&mut second);
     let mut printed = Output::new(writer);
     let mut errors = Output::new(diagnosed);
     let status = run_same(

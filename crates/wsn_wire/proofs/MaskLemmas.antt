@@ -1,6 +1,6 @@
 -- Masking: in parts, twice, with a key of zeros, and what it leaves as it was.
 use Rattle.std.proofs.Common.{◌≡◌, ℕ, zero, suc, ◌+◌, ◌%◌, ◌<◌, List, [], ◌∷◌, ◌++◌, length, refl, ap, arith, get_or, add-zero, ◌-◌, ◌∙◌, sym, take, drop, ◌≤◌, slice_set, replicate, ◌*◌, ◌/◌}
-use Rattle.std.proofs.lemmas.List.{length-take-le, drop_more, get_or_at, set_at, append_assoc, drop_at, take_at, drop-drop, length-drop, length-append, take_rest, drop_all, take-append-drop, append-nil}
+use Rattle.std.proofs.lemmas.List.{length-take-le, drop_more, get_or_at, set_at, append_assoc, drop_at, take_at, drop-drop, length-drop, length-append, take_rest, drop_all, take-append-drop, append-nil, take_all}
 use borrow.Rule.Slice.PartMut.{put_mid}
 use Rattle.std.specs.Simd.Lanes.{zip2, chunk, put_chunk, digits_l}
 use Rattle.std.proofs.lemmas.Simd.{put_chunk_is}
@@ -54,6 +54,16 @@ masked-bytes key start (b ∷ bs) of_key all =
 
 abbrev pub masked_front : List ℕ → ℕ → List ℕ → ℕ → List ℕ
 masked_front key start bytes count = masked key start (take count bytes) ++ drop count bytes
+
+-- all bytes are masked
+pub masked_front-all : (key : List ℕ) (start : ℕ) (bytes : List ℕ) (count : ℕ) → length bytes ≤ count → masked_front key start bytes count ≡ masked key start bytes
+masked_front-all key start bytes count all =
+    ap (λ bs. masked key start bs ++ drop count bytes) (take_all count bytes all) ∙ ap (λ bs. masked key start bytes ++ bs) (drop_all count bytes all) ∙ append-nil (masked key start bytes)
+
+pub length-masked_front : (key : List ℕ) (start : ℕ) (bytes : List ℕ) (count : ℕ) → length (masked_front key start bytes count) ≡ length bytes
+length-masked_front key start bytes count =
+    length-append (masked key start (take count bytes)) (drop count bytes) ∙ ap (λ n. n + length (drop count bytes)) (length-masked key start (take count bytes))
+    ∙ sym (length-append (take count bytes) (drop count bytes)) ∙ ap (λ bs. length bs) (take-append-drop count bytes)
 
 length-front : (key : List ℕ) (start : ℕ) (bytes : List ℕ) (count : ℕ) → count ≤ length bytes → length (masked key start (take count bytes)) ≡ count
 length-front key start bytes count within = length-masked key start (take count bytes) ∙ length-take-le count bytes within

@@ -27,7 +27,9 @@ pub fn mask(key: [u8; 4], start: u64, bytes: &mut [u8])
         block.copy_to_slice(&mut bytes[at..]);
         at += BLOCK;
     }
-    mask_words(key, start + at as u64, &mut bytes[at..]);
+    if at < bytes.len() {
+        mask_words(key, start + at as u64, &mut bytes[at..]);
+    }
 }
 
 // Like `mask`, by rounds of the key.

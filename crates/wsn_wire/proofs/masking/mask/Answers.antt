@@ -1,7 +1,7 @@
-use Rattle.std.proofs.Common.{◌∙◌, ap, arith, take, drop, bit_xor, rules}
+use Rattle.std.proofs.Common.{◌∙◌, ap, arith, length, take, drop, bit_xor, rules}
 use Rattle.std.specs.Simd.Lanes.{zip2, put_chunk}
 use Rattle.std.proofs.lemmas.Simd.{length-put_chunk}
-use Rattle.wsn_wire.proofs.MaskLemmas.{masked_front, masked_front-put_chunk, masked_front-rest}
+use Rattle.wsn_wire.proofs.MaskLemmas.{masked_front, length-masked_front, masked_front-put_chunk, masked_front-rest, masked_front-all}
 use Rattle.wsn_wire.proofs.masking.mask.Goals as goal
 
 pub loop-bytes-preserved : goal.loop-bytes-preserved
@@ -19,10 +19,19 @@ loop-bytes-preserved c =
           ∙ masked_front-put_chunk key start c.args.bytes.now at 32 (omega arith) known.round);
     }
 
-pub returns : goal.returns
-returns c =
-    masked_front-rest c.args.key c.args.start c.args.bytes.now c.loop-bytes.bytes c.mask_words-2.new.bytes c.loop-bytes.at (omega arith)
-    c.loop-bytes.invariant.front c.mask_words-2.ensures
+pub returns-then-at-bytes : goal.returns-then-at-bytes
+returns-then-at-bytes c =
+    masked_front-rest c.args.key c.args.start c.args.bytes.now c.loop-bytes.bytes c.mask_words-then-at-bytes.new.bytes c.loop-bytes.at (omega arith)
+    c.loop-bytes.invariant.front c.mask_words-then-at-bytes.ensures
+
+pub returns-else-at-bytes : goal.returns-else-at-bytes
+returns-else-at-bytes c =
+    let known = c.loop-bytes.invariant in
+    let size = ap (λ bytes. length bytes) known.front ∙ length-masked_front c.args.key c.args.start c.args.bytes.now c.loop-bytes.at in
+    known.front ∙ masked_front-all c.args.key c.args.start c.args.bytes.now c.loop-bytes.at (omega (arith, size, known.within))
+
+pub mask_words-requires-then-at-bytes : goal.mask_words-requires-then-at-bytes
+mask_words-requires-then-at-bytes c = search rules
 
 pub mask_words-requires : goal.mask_words-requires
 mask_words-requires c = search rules
@@ -59,6 +68,3 @@ slice_bounds-mask_words-start c = search rules
 
 pub slice_bounds-mask_words-end : goal.slice_bounds-mask_words-end
 slice_bounds-mask_words-end c = search rules
-
-pub mask_words-requires-2 : goal.mask_words-requires-2
-mask_words-requires-2 c = search rules
