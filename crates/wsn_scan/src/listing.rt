@@ -1,4 +1,4 @@
-ghost use Rattle.std.specs.Prelude.{◌≡◌, ℕ, ◌+◌, ◌≤◌, List, ◌++◌, length, drop, false, Ok, Some};
+ghost use Rattle.std.specs.Prelude.{◌≡◌, ℕ, ◌+◌, ◌≤◌, List, [], ◌∷◌, ◌++◌, length, drop, false, Ok, Some};
 ghost use Rattle.wsn_scan.specs.Words.{Outgoing, IsWrittenUpToFailure, room_of, ends_pending, IsRunning, heads_in, heads_text, IsEnded, IsListedChunk, IsListedRun, IsListed, IsListedAs, IsListedWhole, IsListedWholeAs, IsBytes};
 
 use crate::notice::Notice;
@@ -7,7 +7,7 @@ use crate::scan::Scan;
 use std::io::{Read, Write};
 use wsn_io::Stop;
 use wsn_print::{Format, put_head_as, put_verdict_as};
-use wsn_rules::{Limits, Refusal, Verdict};
+use wsn_rules::{HeadInfo, Limits, Refusal, Verdict};
 use wsn_wire::{Input, Output, Role};
 
 /// Prints a line for each frame of an input and then the verdict's line, and returns the verdict (RFC 6455 section
@@ -125,7 +125,7 @@ fn list_frames<W: Write>(
     let mut at = 0;
     while let Some((taken, head)) = scan.take_to_end(&mut piece[at..]) {
         at += taken;
-        print(output, format, &Notice::Head(head));
+        print_head(output, format, &head);
     }
     at
 }
@@ -137,8 +137,18 @@ fn print<W: Write>(output: &mut Output<W>, format: Format, notice: &Notice)
         IsWrittenUpToFailure before output.new (text ++ heads_text format (heads_in notice.now)) }
 {
     if let Notice::Head(head) = notice {
-        if !output.failed() {
-            let _stop = put_head_as(output, format, head);
-        }
+        print_head(output, format, head);
+    }
+}
+
+/// Prints a head if no write has failed.
+#[inline(always)]
+#[tactic(none)]
+fn print_head<W: Write>(output: &mut Output<W>, format: Format, head: &HeadInfo)
+    ensures { (before : Outgoing) (text : List ℕ) → IsWrittenUpToFailure before output.old text →
+        IsWrittenUpToFailure before output.new (text ++ heads_text format (head.now ∷ [])) }
+{
+    if !output.failed() {
+        let _stop = put_head_as(output, format, head);
     }
 }

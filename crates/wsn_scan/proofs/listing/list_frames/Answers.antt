@@ -58,8 +58,8 @@ loop-taken-preserved g c =
         heads = known.run.heads ++ head ∷ [];
         consumes = takes_further c.args.scan.now c.loop-taken.scan c.take_to_end.new.self piece share at taken known.run.heads (head ∷ []) is known.run.consumes more;
         printed = λ first text printed.
-            subst (λ (bs : List ℕ). IsWrittenUpToFailure first c.print.new.output bs) (append_assoc text lines (heads_text c.args.format (head ∷ [])) ∙ ap (λ (bs : List ℕ). text ++ bs) (sym (heads_text-append c.args.format known.run.heads (head ∷ []))))
-            (c.print.ensures first (text ++ lines) (known.run.printed first text printed));
+            subst (λ (bs : List ℕ). IsWrittenUpToFailure first c.print_head.new.output bs) (append_assoc text lines (heads_text c.args.format (head ∷ [])) ∙ ap (λ (bs : List ℕ). text ++ bs) (sym (heads_text-append c.args.format known.run.heads (head ∷ []))))
+            (c.print_head.ensures first (text ++ lines) (known.run.printed first text printed));
       };
       none = λ zero. absurd (omega (arith, found.within.0, zero));
     }

@@ -1,26 +1,14 @@
-use Rattle.std.proofs.Common.{◌≡◌, ◌∙◌, ◌++◌, List, ℕ, sym, ap, append-nil, subst, rules}
+use Rattle.std.proofs.Common.{◌++◌, List, ℕ, sym, ap, subst, rules}
 use Rattle.wsn_scan.specs.declared.notice.Notice.{Notice}
 use Rattle.wsn_scan.specs.Feeding.{heads_in}
-use Rattle.wsn_print.specs.Formats.{head_text, heads_text}
-use Rattle.wsn_io.proofs.PutTexts.{prints_on, prints_no_more, went_out}
+use Rattle.wsn_print.specs.Formats.{heads_text}
 use Rattle.wsn_scan.proofs.listing.print.Goals as goal
 use Rattle.wsn_io.specs.Transfer.{IsWrittenUpToFailure}
 
-pub returns-then-not-failed : goal.returns-then-not-failed
-returns-then-not-failed g c before text printed =
-    let line = head_text c.args.format c.in-Head.head in
-    let out = c.put_head_as-stop.ensures in
-    let same : line ≡ heads_text c.args.format (heads_in c.args.notice.now) = sym (append-nil line) ∙ ap (λ (notice : Notice). heads_text c.args.format (heads_in notice)) (sym c.in-Head.is) in
-    subst (λ (more : List ℕ). IsWrittenUpToFailure before c.put_head_as-stop.new.to (text ++ more)) same
-    (prints_on before c.args.output.now c.put_head_as-stop.new.to text line (sym c.failed.ensures ∙ c.if-not-failed.true) printed
-    (went_out c.args.output.now c.put_head_as-stop.new.to line c.put_head_as-stop.result out))
-
-pub returns-else-not-failed : goal.returns-else-not-failed
-returns-else-not-failed g c before text printed =
-    prints_no_more before c.args.output.now text (heads_text c.args.format (heads_in c.args.notice.now)) (sym c.failed.ensures ∙ c.if-not-failed.false) printed
-
-pub put_head_as-stop-requires : goal.put_head_as-stop-requires
-put_head_as-stop-requires g c = search rules
+pub returns-in-Head : goal.returns-in-Head
+returns-in-Head g c before text printed =
+    subst (λ (more : List ℕ). IsWrittenUpToFailure before c.print_head.new.output (text ++ more)) (ap (λ (notice : Notice). heads_text c.args.format (heads_in notice)) (sym c.in-Head.is))
+    (c.print_head.ensures before text printed)
 
 pub returns-in_default : goal.returns-in_default
 returns-in_default g c = search rules
