@@ -1,4 +1,5 @@
 pub mod Ascii
+pub mod Blocks
 pub mod Rests
 pub mod Scalars
 pub mod Decide

@@ -7,6 +7,7 @@
 //! bytes, and `specs/CloseBody.antt` the body of a Close. [`laws`] states what follows from these definitions.
 #![tactic(auto)]
 
+mod ascii_blocks;
 mod codes;
 pub mod laws;
 mod utf8_check;

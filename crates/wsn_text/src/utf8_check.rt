@@ -5,6 +5,7 @@ ghost use Rattle.wsn_text.specs.Validated.{HasValidated};
 ghost use Rattle.wsn_text.specs.Piece.{Validates, Breaks};
 ghost use Rattle.wsn_text.specs.Expected.{awaited};
 
+use crate::ascii_blocks::is_ascii;
 use simdutf8::compat::from_utf8;
 use std::marker::Model;
 
@@ -167,15 +168,12 @@ impl Utf8 {
         matches!(self.expected, Expected::Character)
     }
 
-    /// Whether no character is unfinished and the piece is ASCII. Only short pieces are examined.
+    /// Whether no character is unfinished and the piece is ASCII.
     #[inline(always)]
     fn goes_on_in_ascii(&self, piece: &[u8]) -> bool
         ensures { IsTrue result → Validates self.now self.now piece.now }
     {
-        if !self.is_whole() {
-            return false;
-        }
-        piece.len() <= SHORT && piece.is_ascii()
+        self.is_whole() && is_ascii(piece)
     }
 
     /// Whether a bad byte has come.
@@ -218,9 +216,6 @@ impl Utf8 {
         self.take_each(rest).map_err(|i| text.len() + i)
     }
 }
-
-/// Up to this length in bytes, a test for ASCII is faster than simdutf8's first step.
-const SHORT: usize = 128;
 
 /// The length of a prefix that is text. If no byte is bad, only an unfinished last character is left out.
 #[tactic(none)]
