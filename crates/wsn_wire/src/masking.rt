@@ -3,8 +3,11 @@ ghost use Rattle.wsn_wire.specs.Frame.{IsBytes, masked};
 
 use std::simd::prelude::*;
 
-// The number of bytes in a vector.
-const BLOCK: usize = 32;
+// The number of bytes that are masked at once.
+const BLOCK: usize = 64;
+
+// Half as many.
+const HALF: usize = 32;
 
 // The number of bytes in one round of the key.
 const WORD: usize = 4;
@@ -17,19 +20,34 @@ pub fn mask(key: [u8; 4], start: u64, bytes: &mut [u8])
     ensures { bytes.new ≡ masked key start bytes.old }
 {
     if bytes.len() < BLOCK {
-        mask_words(key, start, bytes);
+        mask_rest(key, start, bytes);
         return;
     }
     let lanes = key_lanes(key, start);
     let mut at = 0;
     while bytes.len() - at >= BLOCK {
-        let block = u8x32::from_slice(&bytes[at..]) ^ lanes;
+        let block = u8x64::from_slice(&bytes[at..]) ^ lanes;
         block.copy_to_slice(&mut bytes[at..]);
         at += BLOCK;
     }
     if at < bytes.len() {
-        mask_words(key, start + at as u64, &mut bytes[at..]);
+        mask_rest(key, start + at as u64, &mut bytes[at..]);
     }
+}
+
+// Like `mask`, by half a block if there are so many bytes, and then by rounds of the key.
+#[tactic(none)]
+fn mask_rest(key: [u8; 4], start: u64, bytes: &mut [u8])
+    requires { start + length bytes.old < 2 ^ 64 }
+    ensures { bytes.new ≡ masked key start bytes.old }
+{
+    if bytes.len() < HALF {
+        mask_words(key, start, bytes);
+        return;
+    }
+    let half = u8x32::from_slice(bytes) ^ half_lanes(key, start);
+    half.copy_to_slice(bytes);
+    mask_words(key, start + HALF as u64, &mut bytes[HALF..]);
 }
 
 // Like `mask`, by rounds of the key.
@@ -49,8 +67,15 @@ fn mask_words(key: [u8; 4], start: u64, bytes: &mut [u8])
 }
 
 // The key bytes for a block whose offset in the payload is `start`.
-fn key_lanes(key: [u8; 4], start: u64) -> u8x32
+fn key_lanes(key: [u8; 4], start: u64) -> u8x64
     ensures { result ≡ masked key start (replicate BLOCK 0) }
+{
+    u32x16::splat(u32::from_le_bytes(key_round(key, start))).to_le_bytes()
+}
+
+// The same for half a block.
+fn half_lanes(key: [u8; 4], start: u64) -> u8x32
+    ensures { result ≡ masked key start (replicate HALF 0) }
 {
     u32x8::splat(u32::from_le_bytes(key_round(key, start))).to_le_bytes()
 }

@@ -14,15 +14,15 @@ loop-bytes-preserved c =
       within = simp length-put_chunk (omega arith);
       round = omega arith;
       front =
-          ap (λ bytes. put_chunk at bytes (zip2 bit_xor (take 32 (drop at bytes)) c.key_lanes-lanes.result)) known.front
-          ∙ (ap (λ lanes. put_chunk at (masked_front key start c.args.bytes.now at) (zip2 bit_xor (take 32 (drop at (masked_front key start c.args.bytes.now at))) lanes)) c.key_lanes-lanes.ensures
-          ∙ masked_front-put_chunk key start c.args.bytes.now at 32 (omega arith) known.round);
+          ap (λ bytes. put_chunk at bytes (zip2 bit_xor (take 64 (drop at bytes)) c.key_lanes-lanes.result)) known.front
+          ∙ (ap (λ lanes. put_chunk at (masked_front key start c.args.bytes.now at) (zip2 bit_xor (take 64 (drop at (masked_front key start c.args.bytes.now at))) lanes)) c.key_lanes-lanes.ensures
+          ∙ masked_front-put_chunk key start c.args.bytes.now at 64 (omega arith) known.round);
     }
 
 pub returns-then-at-bytes : goal.returns-then-at-bytes
 returns-then-at-bytes c =
-    masked_front-rest c.args.key c.args.start c.args.bytes.now c.loop-bytes.bytes c.mask_words-then-at-bytes.new.bytes c.loop-bytes.at (omega arith)
-    c.loop-bytes.invariant.front c.mask_words-then-at-bytes.ensures
+    masked_front-rest c.args.key c.args.start c.args.bytes.now c.loop-bytes.bytes c.mask_rest-then-at-bytes.new.bytes c.loop-bytes.at (omega arith)
+    c.loop-bytes.invariant.front c.mask_rest-then-at-bytes.ensures
 
 pub returns-else-at-bytes : goal.returns-else-at-bytes
 returns-else-at-bytes c =
@@ -30,11 +30,11 @@ returns-else-at-bytes c =
     let size = ap (λ bytes. length bytes) known.front ∙ length-masked_front c.args.key c.args.start c.args.bytes.now c.loop-bytes.at in
     known.front ∙ masked_front-all c.args.key c.args.start c.args.bytes.now c.loop-bytes.at (omega (arith, size, known.within))
 
-pub mask_words-requires-then-at-bytes : goal.mask_words-requires-then-at-bytes
-mask_words-requires-then-at-bytes c = search rules
+pub mask_rest-requires-then-at-bytes : goal.mask_rest-requires-then-at-bytes
+mask_rest-requires-then-at-bytes c = search rules
 
-pub mask_words-requires : goal.mask_words-requires
-mask_words-requires c = search rules
+pub mask_rest-requires : goal.mask_rest-requires
+mask_rest-requires c = search rules
 
 pub returns-then-bytes-lt-BLOCK : goal.returns-then-bytes-lt-BLOCK
 returns-then-bytes-lt-BLOCK c = search rules
@@ -60,11 +60,11 @@ loop-bytes-smaller c = search rules
 pub overflow_add-start : goal.overflow_add-start
 overflow_add-start c = search rules
 
-pub slice_bounds-mask_words-count : goal.slice_bounds-mask_words-count
-slice_bounds-mask_words-count c = search rules
+pub slice_bounds-mask_rest-count : goal.slice_bounds-mask_rest-count
+slice_bounds-mask_rest-count c = search rules
 
-pub slice_bounds-mask_words-start : goal.slice_bounds-mask_words-start
-slice_bounds-mask_words-start c = search rules
+pub slice_bounds-mask_rest-start : goal.slice_bounds-mask_rest-start
+slice_bounds-mask_rest-start c = search rules
 
-pub slice_bounds-mask_words-end : goal.slice_bounds-mask_words-end
-slice_bounds-mask_words-end c = search rules
+pub slice_bounds-mask_rest-end : goal.slice_bounds-mask_rest-end
+slice_bounds-mask_rest-end c = search rules
