@@ -23,21 +23,18 @@ impl KeptDigits {
         }
     }
 
-    /// The digits of a number.
+    /// Keeps the digits of a number in place of the earlier ones.
+    #[cold]
     #[inline(never)]
-    fn of(n: u64) -> Self
+    fn keep(&mut self, n: u64)
         requires { n < 10 ^ 16 }
-        ensures { result.n ≡ n }
+        ensures { self.new.n ≡ n }
     {
         let mut block = [0; 32];
         let start = write_digits(n, &mut block, 16);
-        let mut digits = [0; 16];
-        digits.copy_from_slice(&block[start..start + 16]);
-        KeptDigits {
-            n,
-            digits,
-            len: 16 - start,
-        }
+        self.digits.copy_from_slice(&block[start..start + 16]);
+        self.len = 16 - start;
+        self.n = n;
     }
 
     /// Writes a number in decimal digits, at most 16, at `at`, and returns where they end. They are made anew only if the
@@ -49,7 +46,7 @@ impl KeptDigits {
         ensures written { take result text.new ≡ take at text.old ++ decimal n }
     {
         if self.n != n {
-            *self = KeptDigits::of(n);
+            self.keep(n);
         }
         put_front(&self.digits, self.len, text, at)
     }
