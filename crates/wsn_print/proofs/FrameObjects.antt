@@ -1,9 +1,9 @@
 -- The object of a frame, whose members are written from the last to the first.
-use Rattle.std.proofs.Common.{◌≡◌, ℕ, List, [], ◌++◌, refl, sym, ap, ◌∙◌, codes, decimal, append_assoc}
+use Rattle.std.proofs.Common.{◌≡◌, ℕ, List, [], ◌++◌, sym, ap, ◌∙◌, codes, decimal, append_assoc}
 use Rattle.wsn_rules.specs.declared.head_info.HeadInfo.{HeadInfo}
 use Rattle.wsn_print.specs.Fields.{op_word}
 use Rattle.wsn_print.specs.Json.{field, string_field, number_field, boolean, string_of}
-use Rattle.wsn_print.specs.Objects.{key_value, form_word, head_fields, frame_object}
+use Rattle.wsn_print.specs.Objects.{key_value, form_word, frame_object}
 
 -- A quoted text, and what follows.
 pub quoted_member : (digits rest : List ℕ) → codes ",\"key\":\"" ++ (digits ++ (codes "\"" ++ rest)) ≡ field (codes "key") (string_of digits) ++ rest

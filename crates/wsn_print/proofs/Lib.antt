@@ -10,4 +10,6 @@ pub mod Appended
 pub mod ObjectPieces
 pub mod FrameObjects
 pub mod PlacedItems
-pub mod HeadLines
+pub mod LaidHeads
+pub mod DigitPairs
+pub mod PutParts

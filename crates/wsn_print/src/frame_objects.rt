@@ -1,4 +1,4 @@
-ghost use Rattle.std.specs.Prelude.{◌≡◌, ◌+◌, ◌≤◌, ◌++◌, codes, false, length, drop};
+ghost use Rattle.std.specs.Prelude.{◌≡◌, ◌+◌, ◌≤◌, ◌++◌, codes, false, length, take, drop};
 ghost use Rattle.wsn_io.specs.Stops.{IsWrittenOrStops};
 ghost use Rattle.wsn_print.specs.Json.{field, string_field, boolean};
 ghost use Rattle.wsn_print.specs.Fields.{op_word};
@@ -8,6 +8,7 @@ use crate::heads::op_word;
 use crate::json::{push_field, push_number_field, push_string_field};
 use crate::laid::{lay, lay_number};
 use crate::line::{Line, key_digits};
+use crate::parts::put;
 use std::io::Write;
 use wsn_io::{Output, Stop, put_line};
 use wsn_rules::HeadInfo;
@@ -27,6 +28,18 @@ pub fn put_frame_object<W: Write>(to: &mut Output<W>, head: &HeadInfo) -> Result
     let mut text = [0; FRAME_OBJECT_MAX];
     let start = lay_out(head, &mut text);
     put_line(to, &text[start..])
+}
+
+/// Writes the object of a frame at `at`, and returns where it ends.
+#[inline(never)]
+pub(crate) fn put_object_at(head: &HeadInfo, text: &mut [u8], at: usize) -> usize
+    requires { at + 142 ≤ length text.old }
+    ensures end { (at ≤ result) × (result ≤ at + 142) }
+    ensures written { take result text.new ≡ take at text.old ++ frame_object head.now }
+{
+    let mut object = [0; FRAME_OBJECT_MAX];
+    let start = lay_out(head, &mut object);
+    put(&object[start..], text, at)
 }
 
 /// Writes the object of a frame at the end of `text`, and returns where it begins. Its members are written from the

@@ -3,7 +3,9 @@
 //!
 //! [`put_verdict`] writes the line of a verdict, [`put_head`] the line of a frame, [`put_compared`] the line of a
 //! comparison, and [`put_report`] the seven lines of a report. The lines of faults and stops are built as a [`Line`], a
-//! text in a fixed array. [`lay`] and its kin write the parts of a line in place, from the last to the first. The `status_of_..` functions return the exit status of an answer. Nothing here allocates.
+//! text in a fixed array. [`lay`] and its kin write the parts of a line in place, from the last to the first.
+//! [`HeadLines`] holds the lines of many frames, so that one write takes them. The `status_of_..` functions return the
+//! exit status of an answer. Nothing here allocates.
 //!
 //! Of what is shown, [`put_event`] writes the line of a complete event, [`put_frame`] that of a frame,
 //! [`put_unfinished`] and [`put_unfinished_head`] that of what isn't complete, [`put_refused`] that of a refusal,
@@ -28,12 +30,15 @@ mod entries;
 mod faults;
 mod format;
 mod frame_objects;
+mod head_lines;
 mod heads;
 mod json;
+mod kept_digits;
 mod laid;
 mod line;
 mod object_views;
 mod objects;
+mod parts;
 pub mod printed_entries;
 pub mod printed_lines;
 pub mod printed_objects;
@@ -57,6 +62,7 @@ pub use format::{
     Format, put_comment_as, put_compared_as, put_end_as, put_head_as, put_report_as, put_verdict_as,
 };
 pub use frame_objects::put_frame_object;
+pub use head_lines::HeadLines;
 pub use heads::put_head;
 pub use laid::{lay, lay_form, lay_key, lay_number};
 pub use line::Line;

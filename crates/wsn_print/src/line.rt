@@ -2,6 +2,7 @@ ghost use Rattle.std.specs.Prelude.{◌≡◌, ℕ, ◌+◌, ◌*◌, ◌<◌, �
 ghost use Rattle.hex.specs.Hex.{encode_lower, lower_digits};
 ghost use Rattle.wsn_print.specs.Fields.{number_text, refusal_text, key_text, form_text};
 
+use crate::parts::put_key_digits;
 use arrayvec::ArrayVec;
 use itoa::Buffer;
 use std::marker::Model;
@@ -151,25 +152,7 @@ impl<const MAX: usize> Line<MAX> {
 pub(crate) fn key_digits(key: [u8; 4]) -> [u8; 8]
     ensures { result ≡ encode_lower key }
 {
-    let [a, b, c, d] = key;
-    [
-        digit(a / 16),
-        digit(a % 16),
-        digit(b / 16),
-        digit(b % 16),
-        digit(c / 16),
-        digit(c % 16),
-        digit(d / 16),
-        digit(d % 16),
-    ]
-}
-
-/// A lower-case hexadecimal digit.
-#[inline(always)]
-#[tactic(none)]
-fn digit(n: u8) -> u8
-    requires { n < 16 }
-    ensures { result ≡ slice_index lower_digits n }
-{
-    b"0123456789abcdef"[usize::from(n)]
+    let mut digits = [0; 8];
+    put_key_digits(key, &mut digits, 0);
+    digits
 }

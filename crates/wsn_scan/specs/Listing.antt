@@ -38,14 +38,25 @@ pub record IsListedChunk (format : Format) (old new : Scan) (before after : Outg
   pub fed : HasFed old new piece refusal
   pub printed : IsWrittenUpToFailure before after (heads_text format fed.heads)
 
+-- This text was written after what was printed before, up to a failed write.
+abbrev pub PrintsMore : Outgoing → Outgoing → List ℕ → Type 0
+PrintsMore before after text =
+    (first : Outgoing) (printed : List ℕ) → IsWrittenUpToFailure first before printed
+    → IsWrittenUpToFailure first after (printed ++ text)
+
+-- Of the text that was held, the front was written after what was printed before, up to a failed write, and the rest is
+-- still held.
+abbrev pub PrintsHeld : Outgoing → Outgoing → List ℕ → List ℕ → Type 0
+PrintsHeld before after held rest =
+    (front : List ℕ) × (front ++ rest ≡ held) × PrintsMore before after front
+
 -- The scan has consumed the first n bytes of the piece, and the lines of the heads that it reported were written after
 -- what was printed before, up to a failed write.
 pub record IsListedRun (format : Format) (old new : Scan) (before after : Outgoing) (piece : List ℕ) (n : ℕ)
     : Type 0 where
   pub heads : List HeadInfo
   pub consumes : ConsumesPrefix old new piece n heads
-  pub printed : (first : Outgoing) (text : List ℕ) → IsWrittenUpToFailure first before text →
-      IsWrittenUpToFailure first after (text ++ heads_text format heads)
+  pub printed : PrintsMore before after (heads_text format heads)
 
 -- The verdict is returned and its line was written; or the write failed, and a prefix of the line was written.
 abbrev pub IsEnded : Format → Outgoing → Outgoing → Verdict → Result Verdict Stop → Type 0

@@ -15,7 +15,7 @@ pub use Rattle.wsn_rules.specs.declared.verdict.Verdict.{Verdict}
 pub use Rattle.wsn_scan.specs.Feeding.{IsRunning, heads_in, HasFed, ConsumesPrefix}
 pub use Rattle.wsn_scan.specs.ReportedFrames.{Position, IsReportedOf, BetweenFrames}
 pub use Rattle.wsn_scan.specs.Judging.{IsJudged, IsUnrefused}
-pub use Rattle.wsn_scan.specs.Listing.{IsEnded, IsListedChunk, IsListedRun, IsListed, IsListedAs, IsListedWhole, IsListedWholeAs}
+pub use Rattle.wsn_scan.specs.Listing.{IsEnded, IsListedChunk, IsListedRun, PrintsMore, PrintsHeld, IsListed, IsListedAs, IsListedWhole, IsListedWholeAs}
 pub use Rattle.wsn_scan.specs.NoticeReaders.{HasReported, IsReading, notices_left, held_payload}
 pub use Rattle.wsn_scan.specs.ReadNotices.{ReadsOn, IsNotice, ReportsFrame}
 pub use Rattle.wsn_scan.specs.ReportedEvents.{ReportsEvents, ReportsMessage}

@@ -1,12 +1,12 @@
 ghost use Rattle.std.specs.Prelude.{◌≡◌, ℕ, ◌+◌, ◌≤◌, List, [], ◌∷◌, ◌++◌, length, drop, false, Ok, Some};
-ghost use Rattle.wsn_scan.specs.Words.{Outgoing, IsWrittenUpToFailure, room_of, ends_pending, IsRunning, heads_in, heads_text, IsEnded, IsListedChunk, IsListedRun, IsListed, IsListedAs, IsListedWhole, IsListedWholeAs, IsBytes};
+ghost use Rattle.wsn_scan.specs.Words.{Outgoing, IsWrittenUpToFailure, room_of, ends_pending, IsRunning, heads_in, heads_text, IsEnded, IsListedChunk, IsListedRun, PrintsMore, PrintsHeld, IsListed, IsListedAs, IsListedWhole, IsListedWholeAs, IsBytes};
 
 use crate::notice::Notice;
 use crate::refill::{CHUNK, refill};
 use crate::scan::Scan;
 use std::io::{Read, Write};
-use wsn_io::Stop;
-use wsn_print::{Format, put_head_as, put_verdict_as};
+use wsn_io::{Stop, put_line};
+use wsn_print::{Format, HeadLines, put_head_as, put_verdict_as};
 use wsn_rules::{HeadInfo, Limits, Refusal, Verdict};
 use wsn_wire::{Input, Output, Role};
 
@@ -50,11 +50,18 @@ pub fn list_as<R: Read, W: Write>(
 {
     let mut scan = Scan::new(role, limits);
     let mut buffer = [0; CHUNK];
+    let mut lines = HeadLines::new();
     loop {
         let Some(chunk) = refill(input, scan.room(), &mut buffer)? else {
             return end(output, format, scan.finish());
         };
-        let refusal = list_chunk(&mut scan, &mut buffer[..chunk.len], output, format);
+        let refusal = list_chunk(
+            &mut scan,
+            &mut buffer[..chunk.len],
+            &mut lines,
+            output,
+            format,
+        );
         if output.failed() {
             return Err(Stop::Write);
         }
@@ -78,18 +85,22 @@ fn end<W: Write>(output: &mut Output<W>, format: Format, verdict: Verdict) -> Re
 }
 
 /// Feeds the piece to the scan, all of it or the bytes up to a refusal, and prints each head that the scan reports.
-/// Returns the refusal, if there is one. After a failed write it scans on and prints nothing.
+/// Returns the refusal, if there is one. `lines` is empty before and afterwards. After a failed write it scans on and
+/// prints nothing.
 #[tactic(none)]
 fn list_chunk<W: Write>(
     scan: &mut Scan,
     piece: &mut [u8],
+    lines: &mut HeadLines,
     output: &mut Output<W>,
     format: Format,
 ) -> Option<Refusal>
     requires begun { IsRunning scan.old }
     requires fits { length piece.old ≤ room_of scan.old }
     requires writable { output.old.failed ≡ false }
-    ensures { IsListedChunk format scan.old scan.new output.old output.new piece.old result }
+    requires none_held { lines.old ≡ [] }
+    ensures listed { IsListedChunk format scan.old scan.new output.old output.new piece.old result }
+    ensures none_held { lines.new ≡ [] }
 {
     let mut at = 0;
     while at < piece.len() {
@@ -99,42 +110,78 @@ fn list_chunk<W: Write>(
         if let Notice::Refused(refusal) = notice {
             return Some(refusal);
         }
-        at += list_frames(scan, &mut piece[at..], output, format);
+        at += list_frames(scan, &mut piece[at..], lines, output, format);
     }
     scan.refusal()
 }
 
 /// Takes the end of the last frame as reported, consumes frames at the start of the piece, up to the first that
-/// [`Scan::take_to_end`] leaves, and prints their heads. Returns the number of bytes.
+/// [`Scan::take_to_end`] leaves, and prints their heads: many lines by one write, and all of them before it returns the
+/// number of bytes. `lines` is empty before and afterwards.
 #[inline(never)]
 #[tactic(none)]
 fn list_frames<W: Write>(
     scan: &mut Scan,
     piece: &mut [u8],
+    lines: &mut HeadLines,
     output: &mut Output<W>,
     format: Format,
 ) -> usize
-    requires { length piece.old ≤ room_of scan.old }
+    requires fits { length piece.old ≤ room_of scan.old }
+    requires none_held { lines.old ≡ [] }
     ensures taken { IsBytes piece.old → IsListedRun format scan.old scan.new output.old output.new piece.old result }
     ensures within { result ≤ length piece.old }
     ensures kept { drop result piece.new ≡ drop result piece.old }
     ensures room { room_of scan.new + result ≡ room_of scan.old }
     ensures none { result ≡ 0 → ends_pending scan.new ≤ ends_pending scan.old }
+    ensures none_held { lines.new ≡ [] }
 {
     scan.report_end();
     let mut at = 0;
     while let Some((taken, head)) = scan.take_to_end(&mut piece[at..]) {
         at += taken;
-        print_head(output, format, &head);
+        make_room(lines, output);
+        lines.add(format, &head);
     }
+    print_lines(lines, output);
     at
+}
+
+/// Prints the lines that are held if there is no room for another.
+#[inline(always)]
+fn make_room<W: Write>(lines: &mut HeadLines, output: &mut Output<W>)
+    ensures held { PrintsHeld output.old output.new lines.old lines.new }
+    ensures room { length lines.new + 142 ≤ 4096 }
+{
+    if lines.is_full() {
+        print_lines(lines, output);
+    }
+}
+
+/// Prints the lines that are held, if no write has failed, and removes them.
+#[inline(never)]
+fn print_lines<W: Write>(lines: &mut HeadLines, output: &mut Output<W>)
+    ensures printed { PrintsMore output.old output.new lines.old }
+    ensures none_held { lines.new ≡ [] }
+{
+    print_text(output, lines.text());
+    lines.clear();
+}
+
+/// Prints a text if no write has failed.
+#[tactic(none)]
+fn print_text<W: Write>(output: &mut Output<W>, text: &[u8])
+    ensures { PrintsMore output.old output.new text.now }
+{
+    if !output.failed() {
+        let _stop = put_line(output, text);
+    }
 }
 
 /// Prints the head that a notice reports, if it reports one and no write has failed.
 #[tactic(none)]
 fn print<W: Write>(output: &mut Output<W>, format: Format, notice: &Notice)
-    ensures { (before : Outgoing) (text : List ℕ) → IsWrittenUpToFailure before output.old text →
-        IsWrittenUpToFailure before output.new (text ++ heads_text format (heads_in notice.now)) }
+    ensures { PrintsMore output.old output.new (heads_text format (heads_in notice.now)) }
 {
     if let Notice::Head(head) = notice {
         print_head(output, format, head);
@@ -142,11 +189,9 @@ fn print<W: Write>(output: &mut Output<W>, format: Format, notice: &Notice)
 }
 
 /// Prints a head if no write has failed.
-#[inline(always)]
 #[tactic(none)]
 fn print_head<W: Write>(output: &mut Output<W>, format: Format, head: &HeadInfo)
-    ensures { (before : Outgoing) (text : List ℕ) → IsWrittenUpToFailure before output.old text →
-        IsWrittenUpToFailure before output.new (text ++ heads_text format (head.now ∷ [])) }
+    ensures { PrintsMore output.old output.new (heads_text format (head.now ∷ [])) }
 {
     if !output.failed() {
         let _stop = put_head_as(output, format, head);

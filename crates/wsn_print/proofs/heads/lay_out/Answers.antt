@@ -1,6 +1,6 @@
 use Rattle.std.proofs.Common.{arith, rules}
 use Rattle.std.proofs.lemmas.List.{drop_all}
-use Rattle.wsn_print.proofs.HeadLines.{line_of_parts}
+use Rattle.wsn_print.proofs.LaidHeads.{line_of_parts}
 use Rattle.wsn_print.proofs.heads.lay_out.Goals as goal
 
 pub returns-clause-line : goal.returns-clause-line

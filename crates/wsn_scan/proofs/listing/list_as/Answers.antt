@@ -19,6 +19,7 @@ loop-chunk-init g c = record {
   read = ([], [], begins c.args.role c.args.limits c.args.input.now c.new-scan.result c.new-scan.ensures c.requires.readable, Appends-nil c.args.output.now.written);
   unfailed = c.requires.writable;
   size = refl;
+  none_held = c.new-lines.ensures;
 }
 
 pub returns-in_err-chunk-clause-listed : goal.returns-in_err-chunk-clause-listed
@@ -51,7 +52,7 @@ returns-then-failed-clause-listed g c =
     let got = got_chunk c.loop-chunk.input c.refill.new.input c.room.result (room_of c.loop-chunk.scan) c.refill.new.buffer c.in_ok-chunk.field-0 c.in-Some.chunk c.room.ensures c.in-Some.is c.in_ok-chunk.ensures in
     list_failed c.args.format c.args.role c.args.limits c.args.input.now c.loop-chunk.input c.refill.new.input c.args.output.now c.loop-chunk.output c.list_chunk-refusal.new.output
     c.loop-chunk.scan c.list_chunk-refusal.new.scan c.refill.new.buffer c.in-Some.chunk read.0 read.1 read.2 read.3 c.loop-chunk.invariant.unfailed got (omega arith)
-    c.list_chunk-refusal.result c.list_chunk-refusal.ensures (sym c.failed.ensures ∙ c.if-failed.true)
+    c.list_chunk-refusal.result c.list_chunk-refusal.ensures.listed (sym c.failed.ensures ∙ c.if-failed.true)
 
 pub returns-then-failed-clause-whole : goal.returns-then-failed-clause-whole
 returns-then-failed-clause-whole g c all known = whole_listing c.args.role c.args.limits c.args.format _ _ _ _ _ all (returns-then-failed-clause-listed g c) known
@@ -61,7 +62,7 @@ returns-in-Some-refusal-clause-listed g c =
     let read = c.loop-chunk.invariant.read in
     let got = got_chunk c.loop-chunk.input c.refill.new.input c.room.result (room_of c.loop-chunk.scan) c.refill.new.buffer c.in_ok-chunk.field-0 c.in-Some.chunk c.room.ensures c.in-Some.is c.in_ok-chunk.ensures in
     let piece = subst (λ (r : Option Refusal). IsListedChunk c.args.format c.loop-chunk.scan c.list_chunk-refusal.new.scan c.loop-chunk.output c.list_chunk-refusal.new.output (take c.in-Some.chunk.len c.refill.new.buffer) r)
-    c.in-Some-refusal.is c.list_chunk-refusal.ensures in
+    c.in-Some-refusal.is c.list_chunk-refusal.ensures.listed in
     list_refused c.args.format c.args.role c.args.limits c.args.input.now c.loop-chunk.input c.refill.new.input c.args.output.now c.loop-chunk.output c.list_chunk-refusal.new.output
     c.loop-chunk.scan c.list_chunk-refusal.new.scan c.refill.new.buffer c.in-Some.chunk read.0 read.1 read.2 read.3 c.loop-chunk.invariant.unfailed got (omega arith)
     c.end-in-Some-refusal.new.output c.in-Some-refusal.refusal c.end-in-Some-refusal.result piece (sym c.failed.ensures ∙ c.if-failed.false) c.end-in-Some-refusal.ensures
@@ -75,7 +76,7 @@ returns-then-chunk-clause-listed g c =
     let got = got_chunk c.loop-chunk.input c.refill.new.input c.room.result (room_of c.loop-chunk.scan) c.refill.new.buffer c.in_ok-chunk.field-0 c.in-Some.chunk c.room.ensures c.in-Some.is c.in_ok-chunk.ensures in
     list_passes c.args.format c.args.role c.args.limits c.args.input.now c.loop-chunk.input c.refill.new.input c.args.output.now c.loop-chunk.output c.list_chunk-refusal.new.output
     c.loop-chunk.scan c.list_chunk-refusal.new.scan c.refill.new.buffer c.in-Some.chunk read.0 read.1 read.2 read.3 c.loop-chunk.invariant.unfailed got (omega arith)
-    c.if-chunk.true c.in_default-refusal.ensures (sym c.failed.ensures ∙ c.if-failed.false)
+    c.if-chunk.true c.in_default-refusal.ensures.listed (sym c.failed.ensures ∙ c.if-failed.false)
 
 pub returns-then-chunk-clause-whole : goal.returns-then-chunk-clause-whole
 returns-then-chunk-clause-whole g c all known = whole_listing c.args.role c.args.limits c.args.format _ _ _ _ _ all (returns-then-chunk-clause-listed g c) known
@@ -88,9 +89,10 @@ loop-chunk-preserved g c =
     record {
       read = list_goes_on c.args.format c.args.role c.args.limits c.args.input.now c.loop-chunk.input c.refill.new.input c.args.output.now c.loop-chunk.output c.list_chunk-refusal.new.output
           c.loop-chunk.scan c.list_chunk-refusal.new.scan c.refill.new.buffer c.in-Some.chunk read.0 read.1 read.2 read.3 c.loop-chunk.invariant.unfailed got (omega arith)
-          c.if-chunk.false c.in_default-refusal.ensures (sym c.failed.ensures ∙ c.if-failed.false);
+          c.if-chunk.false c.in_default-refusal.ensures.listed (sym c.failed.ensures ∙ c.if-failed.false);
       unfailed = sym c.failed.ensures ∙ c.if-failed.false;
       size = omega (arith, c.list_chunk-refusal.auto.piece, length-append c.list_chunk-refusal.new.piece (drop c.in-Some.chunk.len c.refill.new.buffer), length-drop c.in-Some.chunk.len c.refill.new.buffer, got.in_buffer, c.refill.auto.buffer);
+      none_held = c.list_chunk-refusal.ensures.none_held;
     }
 
 pub slice_bounds-refill-end : goal.slice_bounds-refill-end
@@ -113,6 +115,9 @@ list_chunk-refusal-requires-clause-begun g c = search rules
 
 pub list_chunk-refusal-requires-clause-fits : goal.list_chunk-refusal-requires-clause-fits
 list_chunk-refusal-requires-clause-fits g c = search rules
+
+pub list_chunk-refusal-requires-clause-none_held : goal.list_chunk-refusal-requires-clause-none_held
+list_chunk-refusal-requires-clause-none_held g c = search rules
 
 pub list_chunk-refusal-requires-clause-writable : goal.list_chunk-refusal-requires-clause-writable
 list_chunk-refusal-requires-clause-writable g c = search rules

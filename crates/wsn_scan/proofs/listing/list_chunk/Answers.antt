@@ -16,12 +16,13 @@ loop-at-init g c = record {
   within = omega arith;
   size = refl;
   kept = refl;
+  none_held = c.requires.none_held;
   room = omega arith;
   consumes = ([], takes_none c.args.scan.now c.args.piece.now, prints_nothing c.args.output.now c.requires.writable);
 }
 
-pub returns-in-Refused : goal.returns-in-Refused
-returns-in-Refused g c =
+pub returns-in-Refused-clause-listed : goal.returns-in-Refused-clause-listed
+returns-in-Refused-clause-listed g c =
     let at = c.loop-at.at in
     let taken = c.next-taken.result.0 in
     let share = mid_of at (length c.loop-at.piece - at) c.loop-at.piece in
@@ -94,6 +95,7 @@ loop-at-preserved g c =
       within = last.within;
       size = last.size;
       kept = last.kept;
+      none_held = frames.ensures.none_held;
       room = last.room;
       consumes = (
         (known.consumes.0 ++ heads) ++ run.heads,
@@ -102,8 +104,8 @@ loop-at-preserved g c =
       );
     }
 
-pub returns : goal.returns
-returns g c = record {
+pub returns-clause-listed : goal.returns-clause-listed
+returns-clause-listed g c = record {
   fed = record {
     count = c.loop-at.at;
     within = c.loop-at.invariant.within;
@@ -140,8 +142,17 @@ slice_bounds-list_frames-start g c = search rules
 pub slice_bounds-list_frames-end : goal.slice_bounds-list_frames-end
 slice_bounds-list_frames-end g c = search rules
 
-pub list_frames-at-requires : goal.list_frames-at-requires
-list_frames-at-requires g c = search rules
+pub list_frames-at-requires-clause-fits : goal.list_frames-at-requires-clause-fits
+list_frames-at-requires-clause-fits g c = search rules
+
+pub list_frames-at-requires-clause-none_held : goal.list_frames-at-requires-clause-none_held
+list_frames-at-requires-clause-none_held g c = search rules
+
+pub returns-in-Refused-clause-none_held : goal.returns-in-Refused-clause-none_held
+returns-in-Refused-clause-none_held g c = search rules
+
+pub returns-clause-none_held : goal.returns-clause-none_held
+returns-clause-none_held g c = search rules
 
 pub overflow_add-at-in-loop-at : goal.overflow_add-at-in-loop-at
 overflow_add-at-in-loop-at g c = search rules

@@ -1,4 +1,4 @@
-use Rattle.std.proofs.Common.{◌≡◌, ◌+◌, ◌-◌, ◌*◌, ◌≤◌, List, length, drop}
+use Rattle.std.proofs.Common.{◌≡◌, ◌+◌, ◌-◌, ◌*◌, ◌≤◌, List, [], length, drop}
 use Rattle.wsn_wire.specs.Frame.{IsBytes}
 use Rattle.wsn_rules.specs.declared.head_info.HeadInfo.{HeadInfo}
 use Rattle.wsn_scan.specs.Scans.{ends_pending}
@@ -15,6 +15,7 @@ invariant-loop-at g l = record {
   within : l.at ≤ length l.fn.piece;
   size : length l.piece ≡ length l.fn.piece;
   kept : drop l.at l.piece ≡ drop l.at l.fn.piece;
+  none_held : l.lines ≡ [];
   room : l.scan.room + l.at ≡ l.fn.scan.room;
   consumes : (more : List HeadInfo) × ConsumesPrefix l.fn.scan l.scan l.fn.piece l.at more × IsWrittenUpToFailure l.fn.output l.output (heads_text l.fn.format more);
 }

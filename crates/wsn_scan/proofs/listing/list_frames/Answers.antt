@@ -1,15 +1,14 @@
-use Rattle.std.proofs.Common.{◌≡◌, ◌-◌, List, ℕ, [], ◌∷◌, ◌++◌, length, drop, refl, sym, ap, ◌∙◌, subst, arith, length-drop, append-nil, append_assoc, rules}
+use Rattle.std.proofs.Common.{◌≡◌, ◌-◌, List, ℕ, [], ◌∷◌, ◌++◌, length, drop, refl, sym, ap, ◌∙◌, subst, arith, length-drop, rules}
 use borrow.Rule.Slice.PartMut.{mid_of, put_mid, put_same, same_len_mid}
 use Rattle.wsn_wire.specs.Frame.{IsBytes}
-use Rattle.wsn_io.specs.Transfer.{IsWrittenUpToFailure}
 use Rattle.wsn_print.specs.Formats.{heads_text}
 use Rattle.wsn_scan.specs.declared.scan.Scan.{Scan}
-use Rattle.wsn_scan.specs.Listing.{IsListedRun}
+use Rattle.wsn_scan.specs.Listing.{IsListedRun, PrintsHeld}
 use Rattle.wsn_scan.specs.Feeding.{ConsumesPrefix}
 use Rattle.wsn_scan.specs.Scans.{ends_pending}
 use Rattle.wsn_scan.proofs.WholeFrames.{prefix_of_end, prefix_of_report}
 use Rattle.wsn_scan.proofs.FedPieces.{bytes_below, bytes_after, share_is, kept_after, same_further, takes_further, none_pending}
-use Rattle.wsn_scan.proofs.Printing.{heads_text-append}
+use Rattle.wsn_scan.proofs.Printing.{prints_none, prints_further, prints_rest}
 use Rattle.wsn_scan.proofs.listing.list_frames.Goals as goal
 
 pub loop-taken-init : goal.loop-taken-init
@@ -24,11 +23,11 @@ loop-taken-init g c =
       size = refl;
       kept = refl;
       room = omega (arith, room);
-      run = record {
-        heads = [];
-        consumes = subst (λ (s : Scan). ConsumesPrefix scan s c.args.piece.now 0 []) (sym is) (prefix_of_report scan c.args.piece.now);
-        printed = λ first text printed. subst (λ (bs : List ℕ). IsWrittenUpToFailure first c.args.output.now bs) (sym (append-nil text)) printed;
-      };
+      run = (
+        [],
+        subst (λ (s : Scan). ConsumesPrefix scan s c.args.piece.now 0 []) (sym is) (prefix_of_report scan c.args.piece.now),
+        ([], c.requires.none_held, prints_none c.args.output.now),
+      );
       none = λ zero. omega (arith, pending);
     }
 
@@ -46,7 +45,6 @@ loop-taken-preserved g c =
     let size : length share ≡ length (drop at piece) = ap (λ (bs : List ℕ). length bs) is in
     let same_size : length c.take_to_end.new.piece ≡ length share = c.take_to_end.auto.piece in
     let more = prefix_of_end c.loop-taken.scan c.take_to_end.new.self share taken head (found.taken (subst IsBytes (sym is) (bytes_after at piece known.in_bytes))) in
-    let lines = heads_text c.args.format known.run.heads in
     record {
       in_bytes = known.in_bytes;
       within = omega (arith, length-drop at piece, size, found.within.1);
@@ -54,19 +52,30 @@ loop-taken-preserved g c =
       kept = kept_after at (length here - at) taken here c.take_to_end.new.piece (omega (arith, known.within, known.size)) found.within.1 same_size found.kept
           ∙ same_further at taken here piece (omega (arith, known.within, known.size)) known.within known.kept;
       room = omega (arith, found.room, known.room);
-      run = record {
-        heads = known.run.heads ++ head ∷ [];
-        consumes = takes_further c.args.scan.now c.loop-taken.scan c.take_to_end.new.self piece share at taken known.run.heads (head ∷ []) is known.run.consumes more;
-        printed = λ first text printed.
-            subst (λ (bs : List ℕ). IsWrittenUpToFailure first c.print_head.new.output bs) (append_assoc text lines (heads_text c.args.format (head ∷ [])) ∙ ap (λ (bs : List ℕ). text ++ bs) (sym (heads_text-append c.args.format known.run.heads (head ∷ []))))
-            (c.print_head.ensures first (text ++ lines) (known.run.printed first text printed));
-      };
+      run = (
+        known.run.0 ++ head ∷ [],
+        takes_further c.args.scan.now c.loop-taken.scan c.take_to_end.new.self piece share at taken known.run.0 (head ∷ []) is known.run.1 more,
+        subst (λ (held : List ℕ). PrintsHeld c.args.output.now c.make_room.new.output (heads_text c.args.format (known.run.0 ++ head ∷ [])) held) (sym c.add.ensures)
+            (prints_further c.args.format c.args.output.now c.loop-taken.output c.make_room.new.output known.run.0 head c.loop-taken.lines c.make_room.new.lines known.run.2 c.make_room.ensures.held),
+      );
       none = λ zero. absurd (omega (arith, found.within.0, zero));
     }
 
 pub returns-clause-taken : goal.returns-clause-taken
 returns-clause-taken g c in_bytes =
-    subst (λ (scan : Scan). IsListedRun c.args.format c.args.scan.now scan c.args.output.now c.loop-taken.output c.args.piece.now c.loop-taken.at) (sym c.in_default.ensures.none.0) c.loop-taken.invariant.run
+    let run = c.loop-taken.invariant.run in
+    subst (λ (scan : Scan). IsListedRun c.args.format c.args.scan.now scan c.args.output.now c.print_lines.new.output c.args.piece.now c.loop-taken.at) (sym c.in_default.ensures.none.0)
+    (record {
+      heads = run.0;
+      consumes = run.1;
+      printed = prints_rest c.args.output.now c.loop-taken.output c.print_lines.new.output (heads_text c.args.format run.0) c.loop-taken.lines run.2 c.print_lines.ensures.printed;
+    })
+
+pub add-requires : goal.add-requires
+add-requires g c = search rules
+
+pub returns-clause-none_held : goal.returns-clause-none_held
+returns-clause-none_held g c = search rules
 
 pub slice_bounds-take_to_end-count : goal.slice_bounds-take_to_end-count
 slice_bounds-take_to_end-count g c = search rules

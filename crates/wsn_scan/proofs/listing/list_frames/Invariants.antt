@@ -1,11 +1,14 @@
-use Rattle.std.proofs.Common.{◌≡◌, ◌+◌, ◌-◌, ◌≤◌, length, drop}
+use Rattle.std.proofs.Common.{◌≡◌, ◌+◌, ◌-◌, ◌≤◌, List, length, drop}
 use Rattle.wsn_wire.specs.Frame.{IsBytes}
-use Rattle.wsn_scan.specs.Listing.{IsListedRun}
+use Rattle.wsn_rules.specs.declared.head_info.HeadInfo.{HeadInfo}
+use Rattle.wsn_print.specs.Formats.{heads_text}
+use Rattle.wsn_scan.specs.Feeding.{ConsumesPrefix}
+use Rattle.wsn_scan.specs.Listing.{PrintsHeld}
 use Rattle.wsn_scan.specs.Scans.{ends_pending}
 use Rattle.wsn_scan.proofs.listing.list_frames.Given as goal
 
--- The scan has consumed the piece so far, the heads that it reported were printed, and the rest of the piece is
--- unchanged.
+-- The scan has consumed the piece so far, the heads that it reported were printed or are held, and the rest of
+-- the piece is unchanged.
 abbrev pub invariant-loop-taken : goal.invariant-loop-taken
 invariant-loop-taken g l = record {
   in_bytes : IsBytes l.fn.piece;
@@ -13,7 +16,7 @@ invariant-loop-taken g l = record {
   size : length l.piece ≡ length l.fn.piece;
   kept : drop l.at l.piece ≡ drop l.at l.fn.piece;
   room : l.scan.room + l.at ≡ l.fn.scan.room;
-  run : IsListedRun l.fn.format l.fn.scan l.scan l.fn.output l.output l.fn.piece l.at;
+  run : (heads : List HeadInfo) × ConsumesPrefix l.fn.scan l.scan l.fn.piece l.at heads × PrintsHeld l.fn.output l.output (heads_text l.fn.format heads) l.lines;
   none : l.at ≡ 0 → ends_pending l.scan ≤ ends_pending l.fn.scan;
 }
 

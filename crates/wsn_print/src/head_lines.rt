@@ -1,0 +1,148 @@
+ghost use Rattle.std.specs.Prelude.{◌≡◌, ℕ, ◌+◌, ◌<◌, ◌≤◌, true, false, List, [], ◌++◌, length, take, codes, decimal};
+ghost use Rattle.wsn_print.specs.Fields.{fin_word, op_word};
+ghost use Rattle.wsn_print.specs.HeadText.{head_line};
+ghost use Rattle.wsn_print.specs.Formats.{head_text};
+
+use crate::format::Format;
+use crate::frame_objects::put_object_at;
+use crate::kept_digits::KeptDigits;
+use crate::parts::{put, put_form, put_key, put_last_four, put_number};
+use std::marker::Model;
+use wsn_rules::HeadInfo;
+use wsn_wire::Op;
+
+/// The maximum length in bytes of the lines that are held.
+const HELD_MAX: usize = 4_096;
+
+/// The maximum length in bytes of one line, the object of a frame.
+const LINE_MAX: usize = 142;
+
+/// The lines of heads, one after another, held until they are written, at most 4,096 bytes.
+#[derive(Drop)]
+pub struct HeadLines {
+    text: [u8; HELD_MAX],
+    /// The first `len` bytes of the text are held.
+    len: usize,
+    /// The digits above the last four of an offset.
+    above: KeptDigits,
+}
+
+impl Model for HeadLines {
+    ghost Value = { List ℕ };
+
+    ghost view = { λ lines. take lines.len lines.text };
+
+    ghost invariant = { λ lines. lines.len ≤ 4096 };
+}
+
+impl HeadLines {
+    /// No lines.
+    pub fn new() -> Self
+        ensures { result ≡ [] }
+    {
+        HeadLines {
+            text: [0; HELD_MAX],
+            len: 0,
+            above: KeptDigits::new(),
+        }
+    }
+
+    /// Whether the lines have to be cleared before another is added: one that is as long as can be wouldn't fit.
+    #[inline(always)]
+    pub fn is_full(&self) -> bool
+        ensures full { result ≡ true → 4096 < length self.now + 142 }
+        ensures room { result ≡ false → length self.now + 142 ≤ 4096 }
+    {
+        self.len > HELD_MAX - LINE_MAX
+    }
+
+    /// Adds the line of a head, in a format.
+    #[inline(always)]
+    pub fn add(&mut self, format: Format, head: &HeadInfo)
+        requires { length self.old + 142 ≤ 4096 }
+        ensures { self.new ≡ self.old ++ head_text format head.now }
+    {
+        self.len = match format {
+            Format::Text => put_head_at(head, &mut self.above, &mut self.text, self.len),
+            Format::Json => put_object_at(head, &mut self.text, self.len),
+        };
+    }
+
+    /// The lines.
+    #[inline(always)]
+    pub fn text(&self) -> &[u8]
+        ensures { result.now ≡ self.now }
+    {
+        &self.text[..self.len]
+    }
+
+    /// Removes all lines.
+    #[inline(always)]
+    pub fn clear(&mut self)
+        ensures { self.new ≡ [] }
+    {
+        self.len = 0;
+    }
+}
+
+/// Writes the line of a head at `at`, and returns where it ends. Its parts are written from the first to the last, and
+/// the digits above the last four of its offset are kept for the next line.
+#[inline(always)]
+fn put_head_at(head: &HeadInfo, above: &mut KeptDigits, text: &mut [u8], at: usize) -> usize
+    requires { at + 69 ≤ length text.old }
+    ensures end { (at ≤ result) × (result ≤ at + 69) }
+    ensures written { take result text.new ≡ take at text.old ++ head_line head.now }
+{
+    let at = put_offset(head.place, above, text, at);
+    let at = put_fin(head.fin, text, at);
+    let at = put_op(head.op, text, at);
+    let at = put_key(head.key, text, at);
+    let at = put(b" ", text, at);
+    let at = put_number(head.len, text, at);
+    put_form(head.form, text, at)
+}
+
+/// Writes an offset in decimal digits, at most 20, at `at`, and returns where they end.
+#[inline(always)]
+fn put_offset(n: u64, above: &mut KeptDigits, text: &mut [u8], at: usize) -> usize
+    requires { at + 20 ≤ length text.old }
+    ensures end { (at ≤ result) × (result ≤ at + 20) }
+    ensures written { take result text.new ≡ take at text.old ++ decimal n }
+{
+    if n < 10_000 {
+        return put_number(n, text, at);
+    }
+    let at = above.put(n / 10_000, text, at);
+    put_last_four(n, text, at)
+}
+
+/// Writes a space and whether a frame has FIN, at most 5 bytes, at `at`, and returns where they end.
+#[inline(always)]
+fn put_fin(fin: bool, text: &mut [u8], at: usize) -> usize
+    requires { at + 5 ≤ length text.old }
+    ensures end { (at ≤ result) × (result ≤ at + 5) }
+    ensures written { take result text.new ≡ take at text.old ++ (codes " " ++ fin_word fin) }
+{
+    if fin {
+        put(b" fin", text, at)
+    } else {
+        put(b" more", text, at)
+    }
+}
+
+/// Writes the word for an opcode between two spaces, at most 8 bytes, at `at`, and returns where they end.
+#[inline(always)]
+fn put_op(op: Op, text: &mut [u8], at: usize) -> usize
+    requires { at + 8 ≤ length text.old }
+    ensures end { (at ≤ result) × (result ≤ at + 8) }
+    ensures written { take result text.new ≡ take at text.old ++ (codes " " ++ op_word op ++ codes " ") }
+{
+    match op {
+        Op::Continue => put(b" cont ", text, at),
+        Op::Text => put(b" text ", text, at),
+        Op::Binary => put(b" binary ", text, at),
+        Op::Close => put(b" close ", text, at),
+        Op::Ping => put(b" ping ", text, at),
+        Op::Pong => put(b" pong ", text, at),
+    }
+}
