@@ -1,3 +1,4 @@
+pub mod Blocks
 pub mod CloseBodies
 pub mod NormalBytes
 pub mod LeftOut

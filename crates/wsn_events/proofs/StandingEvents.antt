@@ -1,5 +1,5 @@
 -- Where an event stands in a stream, as more bytes come and where the stream is accepted.
-use Rattle.std.proofs.Common.{◌≡◌, ℕ, ◌+◌, ◌≤◌, Bool, true, false, cond, Option, None, Some, Result, Ok, List, [], ◌∷◌, ◌++◌, length, refl, sym, ap, ◌∙◌, subst, append_assoc, length-append, arith}
+use Rattle.std.proofs.Common.{◌≡◌, ℕ, ◌≤◌, Bool, true, false, cond, Option, None, Some, Ok, List, [], ◌∷◌, ◌++◌, length, sym, ap, ◌∙◌, subst, append_assoc, length-append, arith}
 use Rattle.wsn_wire.specs.declared.endpoint.Role.{Role}
 use Rattle.wsn_wire.specs.Frame.{Frame, stream}
 use Rattle.wsn_io.specs.Transfer.{Incoming}
@@ -11,14 +11,11 @@ use Rattle.wsn_rules.specs.Lawful.{IsLawful}
 use Rattle.wsn_rules.specs.LeftOut.{is_left_out, events_without}
 use Rattle.wsn_rules.specs.Limits.{Limits}
 use Rattle.wsn_rules.specs.Meaning.{MeantEvent, event_at, meaning}
-use Rattle.wsn_rules.specs.Verdict.{IsVerdict}
-use Rattle.wsn_rules.specs.ShownStream.{Item, event_offset, event_frames}
+use Rattle.wsn_rules.specs.ShownStream.{event_offset, event_frames}
 use Rattle.wsn_rules.specs.ShownStream.Item.{Event}
-use Rattle.wsn_rules.specs.ShownEvents.{IsShownAt}
 use Rattle.wsn_rules.proofs.Groups.{meaning_push}
 use Rattle.wsn_rules.proofs.Prefixes.{same_front}
 use Rattle.wsn_rules.proofs.ShownEvents.{shown_in_accepted, none_in_accepted}
-use Rattle.wsn_io.specs.declared.stop.Stop.{Stop}
 use Rattle.wsn_events.specs.declared.event.Event as code
 use Rattle.wsn_events.specs.declared.event_reader.EventReader.{EventReader}
 use Rattle.wsn_events.specs.declared.excerpt.Excerpt.{Excerpt}

@@ -9,6 +9,7 @@ ghost use Rattle.wsn_events.specs.Excerpts.{IsContrasted, KeepsFirst, KeepsOf, i
 ghost use Rattle.wsn_events.specs.Comparing.{IsComparisonOutcome, IsAnAccepted, IsRoundOf, AreLentAlike, IsComparedBy, IsCompared, IsComparisonOfBy, IsComparisonOf};
 ghost use Rattle.wsn_events.specs.Turns.{OfEvent, IsLawfulTurn, meant_next, meant_turn};
 
+use crate::equal_bytes::are_equal;
 use crate::event::{is_message, is_same};
 use crate::first_difference::{FirstDifference, excerpt_of};
 use crate::source::{Next, Source};
@@ -124,7 +125,7 @@ fn are_lent_alike<A: Allocator + Copy>(
     ensures { result ≡ true → AreLentAlike events.now lent others.now other }
 {
     match (lent, other) {
-        (Some(kind), Some(other)) => kind == other && events.taken() == others.taken(),
+        (Some(kind), Some(other)) => kind == other && are_equal(events.taken(), others.taken()),
         _ => false,
     }
 }

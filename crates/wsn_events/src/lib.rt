@@ -13,6 +13,7 @@
 #![tactic(auto)]
 
 mod comparing;
+mod equal_bytes;
 mod event;
 mod event_reader;
 mod excerpt;

@@ -87,12 +87,11 @@ impl<A: Allocator + Copy> Reassembly<A> {
     {
         self.op = op;
         self.place = place;
-        self.body.clear();
         match op {
             Op::Text => self.begin_message(Kind::Text),
             Op::Binary => self.begin_message(Kind::Binary),
             Op::Continue => self.frames = self.frames.saturating_add(1),
-            _ => {}
+            _ => self.body.clear(),
         }
     }
 

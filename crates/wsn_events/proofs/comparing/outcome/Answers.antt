@@ -1,5 +1,5 @@
 use Rattle.std.proofs.Common.{rules}
-use Rattle.wsn_events.proofs.Comparisons.{first_not_accepted, second_not_accepted, are_equal, are_different}
+use Rattle.wsn_events.proofs.Comparisons.{first_not_accepted, second_not_accepted, are_equal}
 use Rattle.wsn_events.proofs.comparing.outcome.Goals as goal
 
 pub returns-in_default-clause-answer : goal.returns-in_default-clause-answer

@@ -1,5 +1,4 @@
-use Rattle.std.proofs.Common.{ℕ, refl}
-use Rattle.wsn_rules.specs.Meaning.{MeantEvent}
+use Rattle.std.proofs.Common.{refl}
 use Rattle.wsn_events.proofs.ExcerptViews.{is_placed}
 use Rattle.wsn_events.proofs.excerpt.Excerpt.placed.Goals as goal
 

@@ -1,8 +1,7 @@
-use Rattle.std.proofs.Common.{◌≡◌, ℕ, List, true, false, ◌∙◌, ap, arith, rules}
+use Rattle.std.proofs.Common.{◌≡◌, ℕ, List, true, false, ◌∙◌, ap, rules}
 use Rattle.wsn_wire.specs.Frame.{is_control}
 use Rattle.wsn_rules.specs.Meaning.{Message, Control}
 use Rattle.wsn_events.proofs.ReassembledFrames.{fragment, placed, message_event, message_ended, control, control_event}
-use Rattle.std.proofs.lemmas.Grind.{common_steps}
 use Rattle.wsn_events.proofs.reassembly.Reassembly.end.Goals as goal
 
 pub returns-then-not-final_frame : goal.returns-then-not-final_frame

@@ -1,0 +1,9 @@
+use Rattle.std.proofs.Common.{◌≡◌, ◌+◌, ◌-◌, ◌<◌, take}
+use Rattle.wsn_events.proofs.equal_bytes.are_equal.Given as goal
+
+-- The bytes before `at` are the same.
+abbrev pub invariant-loop-at : goal.invariant-loop-at
+invariant-loop-at l = (l.at < l.last + 64) × (take l.at l.bytes ≡ take l.at l.others)
+
+abbrev pub decreases-loop-at : goal.decreases-loop-at
+decreases-loop-at l = l.last - l.at
