@@ -16,6 +16,7 @@ mod plan_fault;
 mod plan_files;
 pub mod plan_text_examples;
 mod reading_plans;
+mod step_lines;
 mod writing_plans;
 
 pub use plan::Plan;

@@ -8,7 +8,7 @@ use Rattle.hex.specs.Hex.{encode_with, encode_lower}
 use Rattle.wsn_rules.specs.declared.head_info.HeadInfo.{HeadInfo}
 use Rattle.wsn_print.specs.Fields.{fin_word, op_word, key_text, form_text}
 use Rattle.wsn_print.specs.HeadText.{head_line}
-use Rattle.itoa.proofs.Decimal.{decimal_pair, decimal_four}
+use Rattle.itoa.proofs.Decimal.{decimal_two, decimal_pair, decimal_four}
 use Rattle.wsn_print.proofs.Appended.{four}
 
 -- The front of a block that was written whole.
@@ -45,6 +45,12 @@ digits_in_block k start array text rest ends is =
 -- A number of three digits.
 pub of_three : (n : ℕ) → 100 ≤ n → n < 1000 → decimal n ≡ ((48 + n / 100) ∷ []) ++ ((48 + n % 100 / 10) ∷ (48 + n % 100 % 10) ∷ [])
 of_three n least most = decimal_pair n least (omega (arith, most)) ∙ ap (λ (bs : List ℕ). bs ++ ((48 + n % 100 / 10) ∷ (48 + n % 100 % 10) ∷ [])) (decimal_digit (n / 100) (omega (arith, most)))
+
+-- A number of four digits.
+pub of_four : (n : ℕ) → 1000 ≤ n → n < 10000 → decimal n ≡ ((48 + n / 100 / 10) ∷ (48 + n / 100 % 10) ∷ []) ++ ((48 + n % 100 / 10) ∷ (48 + n % 100 % 10) ∷ [])
+of_four n least most =
+    decimal_pair n (omega (arith, least)) (omega (arith, most))
+    ∙ ap (λ (bs : List ℕ). bs ++ ((48 + n % 100 / 10) ∷ (48 + n % 100 % 10) ∷ [])) (decimal_two (n / 100) (omega (arith, least)) (omega (arith, most)))
 
 -- The last four digits of a number.
 abbrev pub last_four : ℕ → List ℕ

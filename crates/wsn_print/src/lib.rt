@@ -3,9 +3,9 @@
 //!
 //! [`put_verdict`] writes the line of a verdict, [`put_head`] the line of a frame, [`put_compared`] the line of a
 //! comparison, and [`put_report`] the seven lines of a report. The lines of faults and stops are built as a [`Line`], a
-//! text in a fixed array. [`lay`] and its kin write the parts of a line in place, from the last to the first.
-//! [`HeadLines`] holds the lines of many frames, so that one write takes them. The `status_of_..` functions return the
-//! exit status of an answer. Nothing here allocates.
+//! text in a fixed array. [`put`], [`put_number`], [`put_key`] and [`put_form`] write the parts of a line where they
+//! stay, from the first to the last. [`HeadLines`] holds the lines of many frames, so that one write takes them. The
+//! `status_of_..` functions return the exit status of an answer. Nothing here allocates.
 //!
 //! Of what is shown, [`put_event`] writes the line of a complete event, [`put_frame`] that of a frame,
 //! [`put_unfinished`] and [`put_unfinished_head`] that of what isn't complete, [`put_refused`] that of a refusal,
@@ -64,9 +64,9 @@ pub use format::{
 pub use frame_objects::put_frame_object;
 pub use head_lines::HeadLines;
 pub use heads::put_head;
-pub use laid::{lay, lay_form, lay_key, lay_number};
 pub use line::Line;
 pub use objects::{put_compared_object, put_report_object, put_verdict_object};
+pub use parts::{put, put_form, put_key, put_number};
 pub use quoted::put_comment;
 pub use reports::put_report;
 pub use shown::{

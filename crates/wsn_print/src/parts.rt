@@ -16,7 +16,7 @@ static DECIMAL_PAIRS: [u8; 200] =
 /// Writes a part of a line at `at`, and returns where it ends. The parts of a line are written from the first to the
 /// last; what stands behind a part is still to be written.
 #[inline(always)]
-pub(crate) fn put(part: &[u8], text: &mut [u8], at: usize) -> usize
+pub fn put(part: &[u8], text: &mut [u8], at: usize) -> usize
     requires { at + length part.now ≤ length text.old }
     ensures end { result ≡ at + length part.now }
     ensures written { take result text.new ≡ take at text.old ++ part.now }
@@ -52,7 +52,7 @@ pub(crate) fn put_hex(byte: u8, text: &mut [u8], at: usize) -> usize
 
 /// Writes a key as eight lower-case hexadecimal digits, or a dash for `None`, at `at`, and returns where it ends.
 #[inline(always)]
-pub(crate) fn put_key(key: Option<[u8; 4]>, text: &mut [u8], at: usize) -> usize
+pub fn put_key(key: Option<[u8; 4]>, text: &mut [u8], at: usize) -> usize
     requires { at + 8 ≤ length text.old }
     ensures end { (at ≤ result) × (result ≤ at + 8) }
     ensures written { take result text.new ≡ take at text.old ++ key_text key }
@@ -80,7 +80,7 @@ pub(crate) fn put_key_digits(key: [u8; 4], text: &mut [u8], at: usize) -> usize
 /// Writes ` two` or ` eight` for a length in a longer encoding (RFC 6455 section 5.2), and the LF, at most 7 bytes, at
 /// `at`, and returns where they end.
 #[inline(always)]
-pub(crate) fn put_form(form: Form, text: &mut [u8], at: usize) -> usize
+pub fn put_form(form: Form, text: &mut [u8], at: usize) -> usize
     requires { at + 7 ≤ length text.old }
     ensures end { (at ≤ result) × (result ≤ at + 7) }
     ensures written { take result text.new ≡ take at text.old ++ (form_text form ++ codes "\n") }
@@ -120,7 +120,7 @@ pub(crate) fn put_last_four(n: u64, text: &mut [u8], at: usize) -> usize
 
 /// Writes a number in decimal digits, at most 20, at `at`, and returns where they end.
 #[inline(always)]
-pub(crate) fn put_number(n: u64, text: &mut [u8], at: usize) -> usize
+pub fn put_number(n: u64, text: &mut [u8], at: usize) -> usize
     requires { at + 20 ≤ length text.old }
     ensures end { (at ≤ result) × (result ≤ at + 20) }
     ensures written { take result text.new ≡ take at text.old ++ decimal n }
@@ -131,6 +131,9 @@ pub(crate) fn put_number(n: u64, text: &mut [u8], at: usize) -> usize
         put_pair(n, text, at)
     } else if n < 1_000 {
         let at = put(&[b'0' + (n / 100) as u8], text, at);
+        put_pair(n % 100, text, at)
+    } else if n < 10_000 {
+        let at = put_pair(n / 100, text, at);
         put_pair(n % 100, text, at)
     } else {
         put_long_number(n, text, at)

@@ -1,27 +1,47 @@
-use Rattle.std.proofs.Common.{None, rules, arith}
-use Rattle.std.proofs.lemmas.Grind.{common_steps}
+use Rattle.std.proofs.Common.{◌≡◌, ◌+◌, ℕ, List, None, [], take, sym, ap, ◌∙◌, subst, rules, arith}
+use Rattle.std.proofs.KnownBytes.{Appends-nil}
+use Rattle.std.proofs.lemmas.List.{take_all}
 use Rattle.wsn_wire.specs.declared.length_forms.Form.TheVariants.{Shortest}
 use Rattle.wsn_rules.specs.declared.step.Step.TheVariants.{Piece}
-use Rattle.wsn_plan_text.proofs.WrittenPlans.{plan_stopped}
+use Rattle.wsn_plan_text.specs.PlanText.{plan_text}
+use Rattle.wsn_plan_text.proofs.WrittenPlans.{IsGathered, gathers_on, plan_stopped, plan_ended}
 use Rattle.wsn_plan_text.proofs.writing_plans.write_plan.Goals as goal
 
-pub returns-in_err-put_step : goal.returns-in_err-put_step
-returns-in_err-put_step g c =
-    rw (← c.steps-step-items.ensures.steps)
-    (plan_stopped c.args.output.now c.loop-step.output c.put_step.new.output c.steps-step-items.result.now c.loop-step.step-index (Piece 0 None Shortest)
-    c.in_err-put_step.field-0.0 c.from_residual.result c.loop-step-test.true c.loop-step.invariant c.in_err-put_step.ensures c.from_residual.ensures.1)
-
 pub loop-step-init : goal.loop-step-init
-loop-step-init g c = search rules
+loop-step-init g c = ([], c.new-lines.ensures, (c.requires, Appends-nil c.args.output.now.written))
+
+pub returns-in_err-make_room : goal.returns-in_err-make_room
+returns-in_err-make_room g c =
+    let held = c.in_err-make_room.ensures.held in
+    rw (← c.steps-step-items.ensures.steps)
+    (plan_stopped c.args.output.now c.loop-step.output c.make_room.new.output c.steps-step-items.result.now c.loop-step.step-index c.loop-step.lines held.0 c.make_room.new.lines
+    c.in_err-make_room.field-0.0 c.from_residual.result c.loop-step.invariant held.1 held.2 c.from_residual.ensures.1)
+
+pub loop-step-preserved : goal.loop-step-preserved
+loop-step-preserved g c =
+    let plan = c.steps-step-items.result.now in
+    let k = c.loop-step.step-index in
+    subst (λ (held : List ℕ). IsGathered c.args.output.now c.make_room.new.output (plan_text (take (k + 1) plan)) held) (sym c.add.ensures)
+    (gathers_on c.args.output.now c.loop-step.output c.make_room.new.output plan k (Piece 0 None Shortest) c.loop-step.lines c.make_room.new.lines
+    c.loop-step-test.true c.loop-step.invariant c.in_ok-make_room.ensures.held)
+
+pub returns : goal.returns
+returns g c =
+    let plan = c.steps-step-items.result.now in
+    let whole : plan_text (take c.loop-step.step-index plan) ≡ plan_text c.args.plan.now =
+    ap plan_text (take_all c.loop-step.step-index plan (omega (arith, c.loop-step-test.false)) ∙ c.steps-step-items.ensures.steps) in
+    rw (← whole)
+    (plan_ended c.args.output.now c.loop-step.output c.write_lines.new.output (plan_text (take c.loop-step.step-index plan)) c.loop-step.lines c.write_lines.result
+    c.loop-step.invariant c.write_lines.ensures.written)
 
 pub offset_bounds-step-items-step-index : goal.offset_bounds-step-items-step-index
 offset_bounds-step-items-step-index g c = search rules
 
-pub put_step-requires : goal.put_step-requires
-put_step-requires g c = search rules
+pub make_room-requires : goal.make_room-requires
+make_room-requires g c = c.loop-step.invariant.2.0
 
-pub loop-step-preserved : goal.loop-step-preserved
-loop-step-preserved g c = grind (arith, common_steps)
+pub add-requires : goal.add-requires
+add-requires g c = c.make_room.ensures.room
 
-pub returns : goal.returns
-returns g c = grind (arith, common_steps)
+pub write_lines-requires : goal.write_lines-requires
+write_lines-requires g c = c.loop-step.invariant.2.0

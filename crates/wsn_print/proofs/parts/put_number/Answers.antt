@@ -1,5 +1,5 @@
 use Rattle.std.proofs.Common.{◌++◌, ◌∙◌, take, ℕ, List, sym, ap}
-use Rattle.wsn_print.proofs.PutParts.{of_three}
+use Rattle.wsn_print.proofs.PutParts.{of_three, of_four}
 use Rattle.std.proofs.lemmas.Fmt.{decimal_digit}
 use Rattle.itoa.proofs.Decimal.{decimal_two}
 use Rattle.wsn_print.proofs.Appended.{two}
@@ -16,3 +16,8 @@ pub returns-then-n-lt1000-clause-written : goal.returns-then-n-lt1000-clause-wri
 returns-then-n-lt1000-clause-written c =
     two _ _ _ _ _ c.put-at.ensures.written c.put_pair-then-n-lt1000.ensures.written
     ∙ ap (λ (bs : List ℕ). take c.args.at c.args.text.now ++ bs) (sym (of_three c.args.n c.if-n-lt100.false c.if-n-lt1000.true))
+
+pub returns-then-n-lt10000-clause-written : goal.returns-then-n-lt10000-clause-written
+returns-then-n-lt10000-clause-written c =
+    two _ _ _ _ _ c.put_pair-at.ensures.written c.put_pair-then-n-lt10000.ensures.written
+    ∙ ap (λ (bs : List ℕ). take c.args.at c.args.text.now ++ bs) (sym (of_four c.args.n c.if-n-lt1000.false c.if-n-lt10000.true))
