@@ -82,21 +82,21 @@ fn put_step_at(step: Step, text: &mut [u8], at: usize) -> usize
 {
     match step {
         Step::Piece { len, key, form } => {
-            let at = put(b"piece ", text, at);
+            let at = put(*b"piece ", text, at);
             let at = put_number(len, text, at);
-            let at = put(b" ", text, at);
+            let at = put(*b" ", text, at);
             let at = put_key(key, text, at);
             put_form(form, text, at)
         }
         Step::Last { key, form } => {
-            let at = put(b"last ", text, at);
+            let at = put(*b"last ", text, at);
             let at = put_key(key, text, at);
             put_form(form, text, at)
         }
         Step::Control { key } => {
-            let at = put(b"control ", text, at);
+            let at = put(*b"control ", text, at);
             let at = put_key(key, text, at);
-            put(b"\n", text, at)
+            put(*b"\n", text, at)
         }
     }
 }

@@ -8,7 +8,7 @@ use crate::heads::op_word;
 use crate::json::{push_field, push_number_field, push_string_field};
 use crate::laid::{lay, lay_number};
 use crate::line::{Line, key_digits};
-use crate::parts::put;
+use crate::parts::put_slice;
 use std::io::Write;
 use wsn_io::{Output, Stop, put_line};
 use wsn_rules::HeadInfo;
@@ -39,7 +39,7 @@ pub(crate) fn put_object_at(head: &HeadInfo, text: &mut [u8], at: usize) -> usiz
 {
     let mut object = [0; FRAME_OBJECT_MAX];
     let start = lay_out(head, &mut object);
-    put(&object[start..], text, at)
+    put_slice(&object[start..], text, at)
 }
 
 /// Writes the object of a frame at the end of `text`, and returns where it begins. Its members are written from the

@@ -97,7 +97,7 @@ fn put_head_at(head: &HeadInfo, above: &mut KeptDigits, text: &mut [u8], at: usi
     let at = put_fin(head.fin, text, at);
     let at = put_op(head.op, text, at);
     let at = put_key(head.key, text, at);
-    let at = put(b" ", text, at);
+    let at = put(*b" ", text, at);
     let at = put_number(head.len, text, at);
     put_form(head.form, text, at)
 }
@@ -124,9 +124,9 @@ fn put_fin(fin: bool, text: &mut [u8], at: usize) -> usize
     ensures written { take result text.new ≡ take at text.old ++ (codes " " ++ fin_word fin) }
 {
     if fin {
-        put(b" fin", text, at)
+        put(*b" fin", text, at)
     } else {
-        put(b" more", text, at)
+        put(*b" more", text, at)
     }
 }
 
@@ -138,11 +138,11 @@ fn put_op(op: Op, text: &mut [u8], at: usize) -> usize
     ensures written { take result text.new ≡ take at text.old ++ (codes " " ++ op_word op ++ codes " ") }
 {
     match op {
-        Op::Continue => put(b" cont ", text, at),
-        Op::Text => put(b" text ", text, at),
-        Op::Binary => put(b" binary ", text, at),
-        Op::Close => put(b" close ", text, at),
-        Op::Ping => put(b" ping ", text, at),
-        Op::Pong => put(b" pong ", text, at),
+        Op::Continue => put(*b" cont ", text, at),
+        Op::Text => put(*b" text ", text, at),
+        Op::Binary => put(*b" binary ", text, at),
+        Op::Close => put(*b" close ", text, at),
+        Op::Ping => put(*b" ping ", text, at),
+        Op::Pong => put(*b" pong ", text, at),
     }
 }

@@ -16,7 +16,17 @@ static DECIMAL_PAIRS: [u8; 200] =
 /// Writes a part of a line at `at`, and returns where it ends. The parts of a line are written from the first to the
 /// last; what stands behind a part is still to be written.
 #[inline(always)]
-pub fn put(part: &[u8], text: &mut [u8], at: usize) -> usize
+pub fn put<const N: usize>(part: [u8; N], text: &mut [u8], at: usize) -> usize
+    requires { at + length part ≤ length text.old }
+    ensures end { result ≡ at + length part.entry }
+    ensures written { take result text.new ≡ take at text.old ++ part.entry }
+{
+    put_slice(&part, text, at)
+}
+
+/// Writes bytes at `at`, and returns where they end.
+#[inline(always)]
+pub(crate) fn put_slice(part: &[u8], text: &mut [u8], at: usize) -> usize
     requires { at + length part.now ≤ length text.old }
     ensures end { result ≡ at + length part.now }
     ensures written { take result text.new ≡ take at text.old ++ part.now }
@@ -35,7 +45,7 @@ pub(crate) fn put_front(block: &[u8], len: usize, text: &mut [u8], at: usize) ->
     ensures end { result ≡ at + len }
     ensures written { take result text.new ≡ take at text.old ++ take len block.now }
 {
-    put(block, text, at);
+    put_slice(block, text, at);
     at + len
 }
 
@@ -47,7 +57,7 @@ pub(crate) fn put_hex(byte: u8, text: &mut [u8], at: usize) -> usize
     ensures written { take result text.new ≡ take at text.old ++ encode_lower (byte ∷ []) }
 {
     let from = usize::from(byte) * 2;
-    put(&HEX_PAIRS[from..from + 2], text, at)
+    put([HEX_PAIRS[from], HEX_PAIRS[from + 1]], text, at)
 }
 
 /// Writes a key as eight lower-case hexadecimal digits, or a dash for `None`, at `at`, and returns where it ends.
@@ -58,7 +68,7 @@ pub fn put_key(key: Option<[u8; 4]>, text: &mut [u8], at: usize) -> usize
     ensures written { take result text.new ≡ take at text.old ++ key_text key }
 {
     match key {
-        None => put(b"-", text, at),
+        None => put(*b"-", text, at),
         Some(key) => put_key_digits(key, text, at),
     }
 }
@@ -86,9 +96,9 @@ pub fn put_form(form: Form, text: &mut [u8], at: usize) -> usize
     ensures written { take result text.new ≡ take at text.old ++ (form_text form ++ codes "\n") }
 {
     match form {
-        Form::Shortest => put(b"\n", text, at),
-        Form::Two => put(b" two\n", text, at),
-        Form::Eight => put(b" eight\n", text, at),
+        Form::Shortest => put(*b"\n", text, at),
+        Form::Two => put(*b" two\n", text, at),
+        Form::Eight => put(*b" eight\n", text, at),
     }
 }
 
@@ -100,7 +110,7 @@ fn put_pair(n: u64, text: &mut [u8], at: usize) -> usize
     ensures written { take result text.new ≡ take at text.old ++ (48 + n / 10) ∷ (48 + n % 10) ∷ [] }
 {
     let from = n as usize * 2;
-    put(&DECIMAL_PAIRS[from..from + 2], text, at)
+    put([DECIMAL_PAIRS[from], DECIMAL_PAIRS[from + 1]], text, at)
 }
 
 /// Writes a number behind the digits of another, as its last four digits, at `at`: of `n` those of `n % 10_000`. Returns
@@ -126,11 +136,11 @@ pub fn put_number(n: u64, text: &mut [u8], at: usize) -> usize
     ensures written { take result text.new ≡ take at text.old ++ decimal n }
 {
     if n < 10 {
-        put(&[b'0' + n as u8], text, at)
+        put([b'0' + n as u8], text, at)
     } else if n < 100 {
         put_pair(n, text, at)
     } else if n < 1_000 {
-        let at = put(&[b'0' + (n / 100) as u8], text, at);
+        let at = put([b'0' + (n / 100) as u8], text, at);
         put_pair(n % 100, text, at)
     } else if n < 10_000 {
         let at = put_pair(n / 100, text, at);

@@ -14,6 +14,7 @@ const WORD: usize = 4;
 
 /// Masks or unmasks part of a payload in place: byte i XOR key byte `(start + i) % 4` (RFC 6455 section 5.3). `start`
 /// is the offset of the part in the payload, from 0.
+#[inline(always)]
 #[tactic(none)]
 pub fn mask(key: [u8; 4], start: u64, bytes: &mut [u8])
     requires { start + length bytes.old < 2 ^ 64 }
@@ -36,6 +37,7 @@ pub fn mask(key: [u8; 4], start: u64, bytes: &mut [u8])
 }
 
 // Like `mask`, by half a block if there are so many bytes, and then by rounds of the key.
+#[inline(never)]
 #[tactic(none)]
 fn mask_rest(key: [u8; 4], start: u64, bytes: &mut [u8])
     requires { start + length bytes.old < 2 ^ 64 }
