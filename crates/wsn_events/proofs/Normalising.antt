@@ -59,6 +59,11 @@ module _ {A : Type 0} (role : Role) (limits : Limits) (old : Incoming) (before :
     writable = writable;
   }
 
+  -- a call changes nothing of what was read and given
+  pub as_before : (new : Incoming) (after : Outgoing) (source next : EventReader A) → HasWritten role limits old new before after source
+      → ((came : List ℕ) (given : List MeantEvent) → HasGiven role limits source came given → HasGiven role limits next came given) → HasWritten role limits old new before after next
+  as_before new after source next written same = record { came = written.came; given = written.given; has = same written.came written.given written.has; received = written.received; out = written.out; readable = written.readable; writable = written.writable }
+
   -- the source's next answer
   module _ (mid new : Incoming) (after : Outgoing) (source next : EventReader A) (written : HasWritten role limits old mid before after source) where
     received : (result : Result (Next A) Stop) (on : GoesOn role limits mid new next written.came written.given result) → IsReceived (limits.input + 1) old new (written.came ++ on.more)

@@ -17,7 +17,8 @@ use Rattle.wsn_rules.proofs.LawfulLists.{law_at_split}
 use Rattle.wsn_rules.proofs.MessageText.{text_of_push}
 use Rattle.wsn_events.specs.declared.reassembly.Reassembly.{Reassembly}
 use Rattle.wsn_rules.specs.LawfulEvents.{IsLawfulControl}
-use Rattle.wsn_events.specs.Reassembly.{HasBegun, IsBetweenFrames, IsInFrame, IsPlacedAt}
+use Rattle.wsn_scan.specs.ReportedFrames.{Position, BetweenFrames, InFrame}
+use Rattle.wsn_events.specs.Reassembly.{HasBegun, IsBetweenFrames, IsInFrame, IsPlacedAt, IsReassembled}
 use Rattle.wsn_rules.proofs.LawfulMeaning.{event_of_control, event_of_data}
 
 module _ {A : Type 0} (role : Role) (limits : Limits) (g : Reassembly A) (done : List Frame) (f : Frame) (lawful : IsLawful role limits (done ++ f ∷ [])) (within : IsInFrame g done f.op f.payload) where
@@ -147,3 +148,31 @@ message_ended g done f other final none =
       kind = λ some. absurd (some nothing);
       begun = λ some. absurd (some nothing);
     }
+
+-- ---- other room for the open message
+
+module _ {A : Type 0} (g h : Reassembly A) (same : h ≡ record g { message = h.message }) (held : h.message.items ≡ g.message.items) (done : List Frame) where
+  begun_alike : (offset count : ℕ) → HasBegun g offset count → HasBegun (record g { message = h.message }) offset count
+  begun_alike offset count begun = record { offset_is = begun.offset_is; count_is = begun.count_is }
+
+  between_alike : IsBetweenFrames g done → IsBetweenFrames (record g { message = h.message }) done
+  between_alike was = record {
+    message = held ∙ was.message;
+    kind = was.kind;
+    begun = λ some. begun_alike (open_offset done) (length (unfinished done)) (was.begun some);
+  }
+
+  pub reassembled_alike : (at : Position) → IsReassembled g done at → IsReassembled h done at
+  reassembled_alike BetweenFrames was = subst (λ (r : Reassembly A). IsBetweenFrames r done) (sym same) (between_alike was)
+  reassembled_alike (InFrame info payload) was = subst (λ (r : Reassembly A). IsInFrame r done info.op payload) (sym same) (record {
+    op = was.op;
+    of_control = λ control. between_alike (was.of_control control);
+    body = was.body;
+    message = λ other. held ∙ was.message other;
+    text = was.text;
+    binary = was.binary;
+    continued = was.continued;
+    place = was.place;
+    first = λ begins. begun_alike (length (stream done)) 1 (was.first begins);
+    further = λ continues some. begun_alike (open_offset done) (length (unfinished done) + 1) (was.further continues some);
+  })

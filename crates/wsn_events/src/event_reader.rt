@@ -116,6 +116,18 @@ impl<A: Allocator + Copy> EventReader<A> {
         Some(self.reassembly.kind())
     }
 
+    /// Uses the room of an event that was given for the next message.
+    pub fn reuse(&mut self, event: Event<A>)
+        ensures given { (role : Role) (limits : _) (came : List ℕ) (given : List MeantEvent) →
+            HasGiven role limits self.old came given → HasGiven role limits self.new came given }
+        ensures answer { answered self.new ≡ answered self.old }
+        ensures left { readings_left self.new ≡ readings_left self.old }
+    {
+        if let Event::Message(_, text) = event {
+            self.reassembly.reuse(text);
+        }
+    }
+
     /// The normal form of the events that were taken last, or the bytes of the message.
     pub fn taken(&self) -> &[u8]
         ensures { result.now ≡ held_bytes self.now }

@@ -38,6 +38,7 @@ pub fn normalise<A: Allocator + Copy, R: Read, W: Write>(
             Next::Event(event) => {
                 put_event(output, role, &event)?;
                 put_taken(output, &mut source)?;
+                source.reuse(event);
             }
             Next::Done(verdict) => return Ok(verdict),
         }

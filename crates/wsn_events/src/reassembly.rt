@@ -1,6 +1,7 @@
 use crate::event::{Event, Small};
 use std::alloc::Allocator;
 use std::mem;
+use wsn_scan::CHUNK;
 use wsn_wire::{Kind, Op};
 
 /// The open message so far, and the frame whose head came last.
@@ -77,6 +78,18 @@ impl<A: Allocator + Copy> Reassembly<A> {
         ensures { self.new.message.items ≡ [] }
     {
         self.message = Vec::new(*self.message.allocator());
+    }
+
+    /// Uses the room of a message that was given for the next one. It keeps at most [`CHUNK`] bytes of room so, and does
+    /// nothing while bytes of an open message are held.
+    pub fn reuse(&mut self, mut given: Vec<u8, A>)
+        ensures same { self.new ≡ record self.old { message = self.new.message } }
+        ensures held { self.new.message.items ≡ self.old.message.items }
+    {
+        if self.message.is_empty() && given.capacity() <= CHUNK {
+            given.clear();
+            self.message = given;
+        }
     }
 
     /// Begins a frame with this opcode at this offset.

@@ -120,6 +120,16 @@ impl<A: Allocator + Copy> Source<A> {
         self.reading.take_message()
     }
 
+    /// Uses the room of an event that it gave for the next message.
+    pub(crate) fn reuse(&mut self, event: Event<A>)
+        ensures given { (role : Role) (limits : _) (came : List ℕ) (given : List MeantEvent) →
+            HasGiven role limits self.old came given → HasGiven role limits self.new came given }
+        ensures answer { answered self.new ≡ answered self.old }
+        ensures left { readings_left self.new ≡ readings_left self.old }
+    {
+        self.reading.reuse(event);
+    }
+
     /// The normal form of the events that were taken last, or the bytes of the message.
     pub fn taken(&self) -> &[u8]
         ensures { result.now ≡ held_bytes self.now }

@@ -1,6 +1,7 @@
 ghost use Rattle.std.specs.Prelude.{◌≡◌, ℕ, ◌+◌, ◌-◌, ◌<◌, ◌≤◌, ◌^◌, true, false, Option, Some, List, length, map, drop};
 ghost use Rattle.wsn_plan.specs.Words.{FormFits, frame_bytes, is_control, Kind, Message, AreLawful, next_text, Op, op_after, IsWrittenOrStops, kept_meant, close_body, IsPlaced, IsApplicable, control_frame, piece_frame, last_frame, frame_here, EncodesItsLength};
 ghost use Rattle.wsn_rules.specs.Meaning.{Control};
+ghost use Rattle.wsn_frame.specs.Payloads.{unmasked_by};
 
 use crate::kept::Kept;
 use crate::walking::Walk;
@@ -152,8 +153,19 @@ fn put_masked<W: Write>(
         (frame_bytes (record { fin = fin; op = op; key = key; form = form; payload = payload.old })) result }
     ensures same { payload.new ≡ payload.old }
 {
-    unmask(key, 0, payload);
+    let mask = changing(key);
+    unmask(mask, 0, payload);
     let done = put_frame(output, fin, op, key, form, payload);
-    unmask(key, 0, payload);
+    unmask(mask, 0, payload);
     done
+}
+
+/// The key, if masking by it changes a payload: a key of zeros doesn't (RFC 6455 section 5.3).
+fn changing(key: Option<[u8; 4]>) -> Option<[u8; 4]>
+    ensures { (payload : List ℕ) → unmasked_by result 0 payload ≡ unmasked_by key 0 payload }
+{
+    match key {
+        Some(key) if key != [0; 4] => Some(key),
+        _ => None,
+    }
 }

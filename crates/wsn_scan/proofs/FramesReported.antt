@@ -183,6 +183,19 @@ module _ (role : Role) (limits : Limits) where
         of (stages.Closed code) unrefused is = (is.0, refl)
         of (stages.Refused refusal) unrefused is = absurd cc
 
+    -- if no frame end has yet to be reported, each whole frame was reported to its end
+    pub all_ended : ends_pending scan ≡ 0 → refusal_in scan ≡ None → done ≡ fs
+    all_ended none_owed none = of scan.stage none_owed none (reported_at scan.stage has_scanned)
+      where
+        of : (stage : Stage) → ends_pending_at stage ≡ 0 → refusal_at stage ≡ None → IsToldAt stage → done ≡ fs
+        of stages.Between owed unrefused is = is.0
+        of (stages.Head part) owed unrefused is = is.0
+        of (stages.Payload inside) owed unrefused is = is.0
+        of (stages.Ended event) owed unrefused is = absurd cc
+        of (stages.CloseEnded code) owed unrefused is = absurd cc
+        of (stages.Closed code) owed unrefused is = is.0
+        of (stages.Refused refusal) owed unrefused is = absurd cc
+
     -- ---- what the notice means for the call that reported it and consumed n bytes of `size`
 
     module _ (size n : ℕ) where

@@ -1,10 +1,12 @@
 -- The buffer of a reader of notices, and the bytes that came.
 use Rattle.std.specs.List.{slice_range}
-use Rattle.std.proofs.Common.{◌≡◌, ℕ, ◌+◌, ◌-◌, ◌≤◌, Bool, true, false, List, [], ◌∷◌, ◌++◌, length, take, drop, refl, sym, ap, ◌∙◌, arith, length-append, length-drop}
+use Rattle.std.proofs.Common.{◌≡◌, ℕ, ◌+◌, ◌-◌, ◌≤◌, Bool, true, false, List, [], ◌∷◌, ◌++◌, length, take, drop, refl, sym, ap, ◌∙◌, subst, arith, length-append, length-drop, take-append-drop}
 use Rattle.std.proofs.Math.Seq.{drop-append-add}
 use Rattle.std.proofs.lemmas.Bool.{ltb-true, ltb-false}
 use Rattle.std.proofs.lemmas.List.{length-take, length-take-le, drop-append-le, take_all, take-append-le}
 use borrow.Rule.Slice.PartMut.{mid_of, mid_len, post_of, put_mid, put_same}
+use Rattle.wsn_wire.specs.Frame.{IsBytes}
+use Rattle.wsn_wire.proofs.FrameLemmas.{IsBytes-left, IsBytes-right}
 use Rattle.wsn_rules.specs.Limits.{Limits}
 use Rattle.wsn_scan.specs.declared.notice_reader.NoticeReader.{NoticeReader}
 use Rattle.wsn_scan.specs.NoticeReaders.{IsBuffered, unread}
@@ -39,6 +41,12 @@ length-range at end xs within in_xs = length-take-le (end - at) (drop at xs) (om
 module _ (limits : Limits) (reader : NoticeReader) (came scanned : List ℕ) (b : IsBuffered limits reader came scanned) where
   pub length_unread : length (unread reader) ≡ reader.end - reader.at
   length_unread = length-range reader.at reader.end reader.buffer reader.left (omega (arith, reader.held, reader.size))
+
+  -- what the scan has not consumed came too
+  pub unread_in_bytes : IsBytes (unread reader)
+  unread_in_bytes =
+      let first : IsBytes (take limits.input came) = IsBytes-left (take limits.input came) (drop limits.input came) (subst IsBytes (sym (take-append-drop limits.input came)) b.in_bytes) in
+      IsBytes-right scanned (unread reader) (subst IsBytes b.within first)
 
   pub within_limit : length scanned + (reader.end - reader.at) ≤ limits.input
   within_limit =

@@ -20,6 +20,8 @@ use Rattle.wsn_io.specs.declared.stop.Stop.{Stop}
 use Rattle.wsn_scan.specs.ReportedFrames.{Position}
 use Rattle.wsn_scan.specs.NoticeReaders.{HasReported, IsReading, notices_left}
 use Rattle.wsn_scan.specs.ReadNotices.{ReadsOn, IsNextNotice, IsDone}
+use Rattle.wsn_scan.specs.Scans.{ends_pending}
+use Rattle.wsn_scan.proofs.FramesReported.{settled}
 use Rattle.wsn_scan.specs.ReaderSteps.{ReportsStep, Progresses, IsUsed, IsFilled, IsRefusedBy, idle}
 
 -- A call has read these bytes more and reported nothing yet.
@@ -31,6 +33,17 @@ pub record HasRead (role : Role) (limits : Limits) (old new : Incoming) (reader 
 module _ (role : Role) (limits : Limits) (old : Incoming) (came : List ℕ) (done : List Frame) (at : Position) where
   pub begins : (reader : NoticeReader) → HasReported role limits reader came done at → HasRead role limits old old reader came done at
   begins reader has_reported = record { more = []; consumed = consumed_none old; has_reported = subst (λ (bs : List ℕ). HasReported role limits reader bs done at) (sym (append-nil came)) has_reported }
+
+  -- the call returns without a read
+  pub answers_at_once : (reader next : NoticeReader) (result : Result NextNotice Stop) → HasReported role limits reader came done at → IsNextNotice role limits old next came done at result → ReadsOn role limits old old next came done at result
+  answers_at_once reader next result has_reported is =
+      let same = sym (append-nil came) in
+      record {
+        more = [];
+        consumed = consumed_none old;
+        few = subst (λ (bs : List ℕ). length bs ≤ limits.input + 1) same has_reported.buffered.few;
+        next = subst (λ (bs : List ℕ). IsNextNotice role limits old next bs done at result) same is;
+      }
 
   module _ (mid : Incoming) (reader : NoticeReader) (read : HasRead role limits old mid reader came done at) where
     -- it returns without reading more
@@ -107,3 +120,9 @@ used_by role limits reader came done at notice (inr closed) reports = subst (λ 
 pub used_falls : (old new : NoticeReader) (notice : Notice) → (notice ≡ notices.More) ⊎ (notice ≡ notices.Closed) → Progresses old new notice → (notices_left new + (old.end - old.at) ≤ notices_left old) × (new.past ≡ old.past)
 used_falls old new notice (inl more) falls = subst (λ (m : Notice). Progresses old new m) more falls
 used_falls old new notice (inr closed) falls = subst (λ (m : Notice). Progresses old new m) closed falls
+
+-- after it no frame end has yet to be reported
+pub none_pending : (role : Role) (limits : Limits) (reader : NoticeReader) (came : List ℕ) (done : List Frame) (at : Position) → IsUsed role limits reader came done at → ends_pending reader.scan ≡ 0
+none_pending role limits reader came done at used =
+    let h = used.has_reported in
+    (settled role limits reader.scan h.scanned h.since h.frames h.reported h.has_scanned done at h.ended (inr used.frames) h.unrefused).1

@@ -17,7 +17,7 @@ pub use Rattle.wsn_scan.specs.ReportedFrames.{Position, IsReportedOf, BetweenFra
 pub use Rattle.wsn_scan.specs.Judging.{IsJudged, IsUnrefused}
 pub use Rattle.wsn_scan.specs.Listing.{IsEnded, IsListedChunk, IsListedRun, PrintsMore, PrintsHeld, IsListed, IsListedAs, IsListedWhole, IsListedWholeAs}
 pub use Rattle.wsn_scan.specs.NoticeReaders.{HasReported, IsReading, notices_left, held_payload}
-pub use Rattle.wsn_scan.specs.ReadNotices.{ReadsOn, IsNotice, ReportsFrame}
+pub use Rattle.wsn_scan.specs.ReadNotices.{ReadsOn, IsNotice, ReportsEnd, ReportsFrame}
 pub use Rattle.wsn_scan.specs.ReportedEvents.{ReportsEvents, ReportsMessage}
 pub use Rattle.wsn_scan.specs.WholeFrames.{TakesFrame, TakesToEnd, after_end}
 pub use Rattle.wsn_scan.specs.ReaderSteps.{ReportsStep, Progresses, IsUsed, IsFilled}

@@ -47,7 +47,7 @@ pub struct NoticeReader {
 }
 
 impl NoticeReader {
-    ghost use Rattle.wsn_scan.specs.Words.{Role, Position, BetweenFrames, HasReported, IsReading, notices_left, held_payload, ReadsOn, IsNotice, ReportsStep, Progresses, IsUsed, IsFilled, ReportsEvents, ReportsMessage, ReportsFrame};
+    ghost use Rattle.wsn_scan.specs.Words.{Role, Position, BetweenFrames, HasReported, IsReading, notices_left, held_payload, ReadsOn, IsNotice, ReportsStep, Progresses, IsUsed, IsFilled, ReportsEvents, ReportsMessage, ReportsFrame, ReportsEnd, ends_pending};
 
     /// A reader that has read nothing. `role` is the endpoint that sent the stream. It allocates no memory.
     #[tactic(none)]
@@ -87,6 +87,9 @@ impl NoticeReader {
             ReadsOn role limits input.old input.new self.new came done at result }
         ensures falls { IsNotice result → notices_left self.new < notices_left self.old }
     {
+        if let Some(event) = self.take_end() {
+            return Ok(NextNotice::FrameEnd { event });
+        }
         loop {
             match self.step() {
                 Notice::Head(head) => return Ok(NextNotice::Head(head)),
@@ -162,14 +165,34 @@ impl NoticeReader {
         Some(head)
     }
 
-    /// Calls the scan once.
+    /// Reports the end of the frame that has begun if all of its payload is reported. Returns whether the frame is final.
+    /// With `None` nothing changes.
+    #[inline(always)]
+    fn take_end(&mut self) -> Option<bool>
+        requires begun { IsReading self.old }
+        ensures taken { IfSome result (λ event. (role : Role) (limits : _) (came : List ℕ) (done : List Frame)
+            (at : Position) → HasReported role limits self.old came done at →
+            ReportsEnd role limits self.new came done at event) }
+        ensures none { IfNone result ((self.new ≡ self.old) × (ends_pending self.old.scan ≡ 0)) }
+        ensures falls { IfSome result (λ _. notices_left self.new < notices_left self.old) }
+    {
+        let event = self.scan.take_end()?;
+        self.from = self.at;
+        Some(event)
+    }
+
+    /// Calls the scan once, unless all that came is scanned.
     fn step(&mut self) -> Notice
         requires begun { IsReading self.old }
+        requires settled { ends_pending self.old.scan ≡ 0 }
         ensures reports { (role : Role) (limits : _) (came : List ℕ) (done : List Frame) (at : Position) →
             HasReported role limits self.old came done at →
             ReportsStep role limits self.new came done at result }
         ensures falls { Progresses self.old self.new result }
     {
+        if self.at == self.end {
+            return Notice::More;
+        }
         let from = self.at;
         let (taken, notice) = scan_part(&mut self.scan, &mut self.buffer, from, self.end);
         self.at += taken;
@@ -185,6 +208,7 @@ impl NoticeReader {
             IsUsed role limits self.old came done at →
             IsFilled role limits input.old input.new self.new came done at result }
         ensures left { notices_left self.new ≡ notices_left self.old }
+        ensures scan { self.new.scan ≡ self.old.scan }
         ensures within { result ≡ Ok None → self.old.past ≡ false }
     {
         if self.past {

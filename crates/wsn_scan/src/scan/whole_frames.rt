@@ -1,13 +1,14 @@
 //! Frames that are whole in a piece, each consumed in one step.
 
 use super::Scan;
+use crate::notice::Notice;
 use crate::stage::Stage;
 use wsn_frame::{PayloadCheck, unmask, whole_head};
 use wsn_rules::HeadInfo;
 
 impl Scan {
-    ghost use Rattle.std.specs.Prelude.{◌≡◌, ◌+◌, ◌-◌, ◌<◌, ◌≤◌, List, [], ◌∷◌, None, length, drop, IfSome, IfNone};
-    ghost use Rattle.wsn_scan.specs.Words.{HeadInfo, ConsumesPrefix, IsBytes, ConsumesFromPiece, room_of, refusal_in, ends_pending, TakesFrame, TakesToEnd, after_end};
+    ghost use Rattle.std.specs.Prelude.{◌≡◌, ℕ, ◌+◌, ◌-◌, ◌<◌, ◌≤◌, List, [], ◌∷◌, None, length, drop, IfSome, IfNone};
+    ghost use Rattle.wsn_scan.specs.Words.{HeadInfo, ConsumesPrefix, IsBytes, ConsumesFromPiece, room_of, refusal_in, ends_pending, TakesFrame, TakesToEnd, after_end, Advances};
 
     /// Takes the end of the last frame as reported, consumes frames at the start of the piece, up to the first that
     /// [`Scan::take_frame`] leaves, and returns the number of bytes. A caller that reads notices uses `next`.
@@ -129,6 +130,31 @@ impl Scan {
         let found = self.take_frame(piece)?;
         self.report_end();
         Some(found)
+    }
+
+    /// Reports the end of a frame of which everything else is reported. Returns whether the frame is final. With `None`
+    /// nothing changes.
+    #[inline(always)]
+    pub(crate) fn take_end(&mut self) -> Option<bool>
+        ensures taken { IfSome result (λ event. (piece : List ℕ) →
+            Advances self.old self.new piece piece 0 (Notice.FrameEnd event)) }
+        ensures consumes { IfSome result (λ event. (size : ℕ) →
+            ConsumesFromPiece self.old size 0 (Notice.FrameEnd event)) }
+        ensures room { room_of self.new ≡ room_of self.old }
+        ensures reported { IfSome result (λ _. refusal_in self.new ≡ None) }
+        ensures none { IfNone result ((self.new ≡ self.old) × (ends_pending self.old ≡ 0)) }
+    {
+        match self.stage {
+            Stage::Ended(event) => {
+                self.stage = Stage::Between;
+                Some(event)
+            }
+            Stage::CloseEnded(code) => {
+                self.stage = Stage::Closed(code);
+                Some(true)
+            }
+            _ => None,
+        }
     }
 
     /// Takes the end of the last frame as reported.

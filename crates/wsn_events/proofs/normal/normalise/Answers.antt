@@ -1,7 +1,7 @@
 use Rattle.std.proofs.Common.{◌≡◌, Ok, Err, refl, rules, ap, ◌∙◌}
 use Rattle.std.proofs.lemmas.Result.{err_from_is_err_and}
 use Rattle.wsn_io.specs.declared.stop.Stop.TheVariants as stop
-use Rattle.wsn_events.proofs.Normalising.{begins, is_done, is_stopped, is_lawful_event, goes_on, write_failed}
+use Rattle.wsn_events.proofs.Normalising.{as_before, begins, is_done, is_stopped, is_lawful_event, goes_on, write_failed}
 use Rattle.wsn_events.proofs.TakenEvents.{taken_written, taken_failed}
 use Rattle.wsn_events.proofs.WholeNormalForms.{whole_normal_form}
 use Rattle.wsn_events.proofs.normal.normalise.Goals as goal
@@ -61,23 +61,18 @@ returns-in_err-put_taken-in-Event g c =
     c.in_err-put_taken-in-Event.field-0.0 failed in
     rw is (record { normalised = fails; whole = λ all known. tt })
 
-pub loop-source-preserved-in_ok-put_taken-in-Event : goal.loop-source-preserved-in_ok-put_taken-in-Event
-loop-source-preserved-in_ok-put_taken-in-Event g c =
-    let written = c.loop-source.invariant in
-    let with_event = goes_on c.args.role c.args.limits c.args.input.now c.args.output.now c.loop-source.input c.next.new.input c.loop-source.output c.loop-source.source c.next.new.self written
-    c.in_ok-event.field-0 c.in-Event.event c.in-Event.is (c.in_ok-event.ensures.next c.args.role c.args.limits written.came written.given written.has)
-    c.put_event.new.to c.in_ok-put_event-in-Event.ensures in
-    taken_written c.args.role c.args.limits c.args.input.now c.next.new.input c.args.output.now c.put_event.new.to c.next.new.self c.put_taken.new.source with_event c.put_taken.new.output
-    (c.in_ok-put_taken-in-Event.ensures.put c.args.role c.args.limits with_event.came with_event.given with_event.has)
-
 pub loop-source-preserved : goal.loop-source-preserved
 loop-source-preserved g c =
     let written = c.loop-source.invariant in
     let with_event = goes_on c.args.role c.args.limits c.args.input.now c.args.output.now c.loop-source.input c.next.new.input c.loop-source.output c.loop-source.source c.next.new.self written
     c.in_ok-event.field-0 c.in-Event.event c.in-Event.is (c.in_ok-event.ensures.next c.args.role c.args.limits written.came written.given written.has)
     c.put_event.new.to c.in_ok-put_event-in-Event.ensures in
-    taken_written c.args.role c.args.limits c.args.input.now c.next.new.input c.args.output.now c.put_event.new.to c.next.new.self c.put_taken.new.source with_event c.put_taken.new.output
-    (c.in_ok-put_taken-in-Event.ensures.put c.args.role c.args.limits with_event.came with_event.given with_event.has)
+    let with_taken = taken_written c.args.role c.args.limits c.args.input.now c.next.new.input c.args.output.now c.put_event.new.to c.next.new.self c.put_taken.new.source with_event c.put_taken.new.output
+    (c.in_ok-put_taken-in-Event.ensures.put c.args.role c.args.limits with_event.came with_event.given with_event.has) in
+    as_before c.args.role c.args.limits c.args.input.now c.args.output.now c.next.new.input c.put_taken.new.output c.put_taken.new.source c.reuse.new.self with_taken (c.reuse.ensures.given c.args.role c.args.limits)
+
+pub same-source-in-Event : goal.same-source-in-Event
+same-source-in-Event g c = search rules
 
 pub returns-in-Done : goal.returns-in-Done
 returns-in-Done g c =
@@ -98,17 +93,8 @@ put_event-requires-clause-unfailed g c = search rules
 pub same-source : goal.same-source
 same-source g c = search rules
 
-pub loop-source-smaller-in_ok-put_taken-in-Event : goal.loop-source-smaller-in_ok-put_taken-in-Event
-loop-source-smaller-in_ok-put_taken-in-Event g c = search rules
-
-pub same-source-in_ok-put_taken-in-Event-2 : goal.same-source-in_ok-put_taken-in-Event-2
-same-source-in_ok-put_taken-in-Event-2 g c = search rules
-
 pub loop-source-smaller : goal.loop-source-smaller
 loop-source-smaller g c = search rules
-
-pub same-source-in_ok-put_taken-in-Event : goal.same-source-in_ok-put_taken-in-Event
-same-source-in_ok-put_taken-in-Event g c = search rules
 
 pub put_taken-requires-clause-writable : goal.put_taken-requires-clause-writable
 put_taken-requires-clause-writable g c = search rules

@@ -69,3 +69,15 @@ returns-clause-left g c = search rules
 
 pub returns-clause-within : goal.returns-clause-within
 returns-clause-within g c = search rules
+
+pub returns-then-self-clause-scan : goal.returns-then-self-clause-scan
+returns-then-self-clause-scan g c = search rules
+
+pub returns-in_err-chunk-clause-scan : goal.returns-in_err-chunk-clause-scan
+returns-in_err-chunk-clause-scan g c = search rules
+
+pub returns-in_default-clause-scan : goal.returns-in_default-clause-scan
+returns-in_default-clause-scan g c = search rules
+
+pub returns-clause-scan : goal.returns-clause-scan
+returns-clause-scan g c = search rules

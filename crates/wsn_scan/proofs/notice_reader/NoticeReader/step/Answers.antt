@@ -1,7 +1,21 @@
-use Rattle.std.proofs.Common.{◌+◌, refl, ◌∙◌, arith, rules}
+use Rattle.std.proofs.Common.{◌≡◌, ◌+◌, refl, ◌∙◌, arith, rules}
 use Rattle.wsn_scan.specs.declared.notice_reader.NoticeReader.{NoticeReader}
+use Rattle.wsn_scan.proofs.FramesReported.{all_ended}
 use Rattle.wsn_scan.proofs.ReaderSteps.{reports, progresses}
 use Rattle.wsn_scan.proofs.notice_reader.NoticeReader.step.Goals as goal
+
+-- all that came is scanned
+pub returns-then-self-clause-reports : goal.returns-then-self-clause-reports
+returns-then-self-clause-reports c role limits came done at h = record {
+  has_reported = h;
+  all = search rules;
+  frames = all_ended role limits c.args.self.now.scan h.scanned h.since h.frames h.reported h.has_scanned done at h.ended c.requires.settled h.unrefused;
+}
+
+pub returns-then-self-clause-falls : goal.returns-then-self-clause-falls
+returns-then-self-clause-falls c =
+    let all : c.args.self.now.at ≡ c.args.self.now.end = search rules in
+    (omega (arith, all), refl)
 
 pub returns-clause-reports : goal.returns-clause-reports
 returns-clause-reports c role limits came done at h =
