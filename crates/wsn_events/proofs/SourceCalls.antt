@@ -23,7 +23,7 @@ use Rattle.wsn_io.specs.declared.stop.Stop.{Stop}
 use Rattle.wsn_io.specs.declared.stop.Stop.TheVariants as stops
 use Rattle.wsn_scan.specs.ReportedFrames.{Position, BetweenFrames, InFrame, IsReportedOf}
 use Rattle.wsn_scan.specs.NoticeReaders.{HasReported, IsReading, held_payload}
-use Rattle.wsn_scan.specs.ReadNotices.{ReadsOn, ReportsEnd, IsHaltedAt, IsNotice, IsNextNotice}
+use Rattle.wsn_scan.specs.ReadNotices.{ReadsOn, ReportsStart, ReportsEnd, IsHaltedAt, IsNotice, IsNextNotice}
 use Rattle.wsn_scan.proofs.FrameEnds.{unfinished_few}
 use Rattle.wsn_scan.proofs.ReaderReports.{reported_of}
 use Rattle.wsn_events.specs.declared.event.Event.{Event}
@@ -68,7 +68,52 @@ halted_of role limits new came done at given stops.Write events is = (is.0, (is.
 pub reading_of : {A : Type 0} (reading : EventReader A) → IsAtWork reading → IsReading reading.reader
 reading_of reading b = record { role = b.role; limits = b.limits; came = b.came; done = b.has.done; at = b.has.at; has_reported = b.has.has_reported }
 
+-- ---- the start of a frame, at once
+
+module _ {A : Type 0} (role : Role) (limits : Limits) (came : List ℕ) (given : List MeantEvent) (reading : EventReader A) (reader : NoticeReader) (has : HasGiven role limits reading came given) (info : HeadInfo)
+    (reports : ReportsStart role limits reader came has.done has.at info) (g : Reassembly A)
+    (begin : (before : List Frame) → length (unfinished before) + 1 < 2 ^ 64 → info.place ≡ length (stream before) → IsBetweenFrames reading.reassembly before → IsInFrame g before info.op []) where
+  begun_there : IsReportedOf role limits came has.done (InFrame info (held_payload reader))
+  begun_there = reported_of role limits reader came has.done (InFrame info (held_payload reader)) reports.1
+
+  first_within : IsInFrame g has.done info.op []
+  first_within =
+      let size : length (take limits.input came) ≡ length (stream has.done) + length begun_there.rest = ap (λ (bs : List ℕ). length bs) begun_there.whole ∙ length-append (stream has.done) begun_there.rest in
+      let few : length (unfinished has.done) + 1 < 2 ^ 64 = omega (arith, unfinished_few has.done, size, length-take limits.input came, begun_there.in_range.input) in
+      begin has.done few begun_there.begun.2.0.place (subst (IsReassembled reading.reassembly has.done) reports.0 has.reassembly)
+
+  pub started : (last : Reassembly A) → ((before : List Frame) (op : Op) (front : List ℕ) → IsInFrame g before op front → IsInFrame last before op (front ++ held_payload reader))
+      → HasGiven role limits (record { reader = reader; reassembly = last; answer = reading.answer }) came given
+  started last take_on = record {
+    done = has.done;
+    at = InFrame info (held_payload reader);
+    has_reported = reports.1;
+    reassembly = take_on has.done info.op [] first_within;
+    events = has.events;
+    going = has.going;
+  }
+
+  pub no_room : (new : Incoming) → new.failed ≡ false → is_control g.op ≡ false → IsLast role limits new came given (Err stops.Memory)
+  no_room new unfailed other = (
+    data_came role limits came has.done (InFrame info (held_payload reader)) begun_there info (held_payload reader) refl reports.2 (sym (ap is_control first_within.op) ∙ other),
+    given_first role limits came has.done (InFrame info (held_payload reader)) begun_there given has.events,
+    unfailed,
+  )
+
 module _ {A : Type 0} (role : Role) (limits : Limits) (old : Incoming) (came : List ℕ) (given : List MeantEvent) where
+  -- the call ends without a read
+  pub ends_at_once : (last : EventReader A) (answer : Result Verdict Stop) (final : Result (Next A) Stop) → length came ≤ limits.input + 1 → IsLast role limits old came given answer → answered last ≡ Some answer → held_of last ≡ 0 → final ≡ next_of answer
+      → GoesOn role limits old old last came given final
+  ends_at_once last answer final few is answered_is held same =
+      let none = sym (append-nil came) in
+      record {
+        more = [];
+        consumed = consumed_none old;
+        few = subst (λ (bs : List ℕ). length bs ≤ limits.input + 1) none few;
+        next = subst (λ (bs : List ℕ). IsNextEvent role limits old last bs given final) none
+            (subst (λ (r : Result (Next A) Stop). IsNextEvent role limits old last came given r) (sym same) (last_next role limits old last came given answer is answered_is held));
+      }
+
   pub begins : (reading : EventReader A) → HasGiven role limits reading came given → HasRead role limits old old reading came given
   begins reading has = record { more = []; consumed = consumed_none old; has = subst (λ (bs : List ℕ). HasGiven role limits reading bs given) (sym (append-nil came)) has }
 

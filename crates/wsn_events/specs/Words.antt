@@ -14,6 +14,7 @@ pub use Rattle.wsn_rules.specs.declared.verdict.Verdict.{Verdict}
 pub use Rattle.wsn_rules.specs.declared.verdict.Verdict.TheVariants.{Accepted}
 pub use Rattle.wsn_io.specs.Stops.{HasNoFailure, IsWrittenOrStops}
 pub use Rattle.wsn_io.specs.declared.stop.Stop.{Stop}
+pub use Rattle.wsn_events.specs.Sources.{IsLast}
 pub use Rattle.wsn_events.specs.Comparing.{DifferAt, IsComparisonOf, IsComparisonOfBy}
 pub use Rattle.wsn_events.specs.EventsMeant.{meant, close_body}
 pub use Rattle.wsn_events.specs.Normalised.{IsNormalisedWhole}

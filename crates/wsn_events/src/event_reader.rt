@@ -15,8 +15,8 @@ pub struct EventReader<A: Allocator> {
 }
 
 impl<A: Allocator + Copy> EventReader<A> {
-    ghost use Rattle.std.specs.Prelude.{◌≡◌, ℕ, ◌<◌, ◌≤◌, List, [], None, Some, IfSome, IfNone, true, false};
-    ghost use Rattle.wsn_events.specs.Words.{Role, MeantEvent, HasGiven, IsAtWork, GoesOn, IsEvent, answered, held_of, offset_of, frames_of, readings_left, next_of, TakesEventsAfter, held_bytes, LendsMessage};
+    ghost use Rattle.std.specs.Prelude.{◌≡◌, ℕ, ◌<◌, ◌≤◌, List, [], None, Some, Err, IfSome, IfNone, true, false};
+    ghost use Rattle.wsn_events.specs.Words.{Role, MeantEvent, HasGiven, IsAtWork, GoesOn, IsEvent, answered, held_of, offset_of, frames_of, readings_left, next_of, TakesEventsAfter, held_bytes, LendsMessage, IsLast, Stop};
 
     /// A source that has read nothing.
     #[tactic(none)]
@@ -70,6 +70,9 @@ impl<A: Allocator + Copy> EventReader<A> {
         ensures falls { IsEvent result → readings_left self.new < readings_left self.old }
         ensures sound { answered self.new ≡ None → IsEvent result }
     {
+        if !self.take_start() {
+            return self.finish(Err(Stop::Memory));
+        }
         loop {
             match self.reader.next(input) {
                 Ok(NextNotice::Head(head)) => self.reassembly.begin(head.op, head.place),
@@ -87,6 +90,25 @@ impl<A: Allocator + Copy> EventReader<A> {
                 Err(stop) => return self.finish(Err(stop)),
             }
         }
+    }
+
+    /// Takes the start of the next frame, if [`NoticeReader::take_start`] does. Returns false if an allocation fails, which
+    /// can happen only after a payload byte of a data frame.
+    #[inline(always)]
+    fn take_start(&mut self) -> bool
+        requires { IsAtWork self.old }
+        ensures taken { result ≡ true → (role : Role) (limits : _) (came : List ℕ) (given : List MeantEvent) →
+            HasGiven role limits self.old came given → HasGiven role limits self.new came given }
+        ensures refused { result ≡ false → (role : Role) (limits : _) (came : List ℕ) (given : List MeantEvent)
+            (input : _) → input.failed ≡ false → HasGiven role limits self.old came given →
+            IsLast role limits input came given (Err Stop.Memory) }
+        ensures left { readings_left self.new ≤ readings_left self.old }
+    {
+        let Some(head) = self.reader.take_start() else {
+            return true;
+        };
+        self.reassembly.begin(head.op, head.place);
+        self.reassembly.take(self.reader.payload())
     }
 
     /// Takes the events of the frames that come next, as [`NoticeReader::take_events`] does, and returns whether there

@@ -1,7 +1,16 @@
 -- The start of a frame, up to a part of its payload, that is read at once from one piece.
-use Rattle.std.proofs.Common.{◌≡◌, ◌↔◌, ℕ, ◌+◌, ◌<◌, ◌≤◌, true, false, Option, Ok, Result, List, [], ◌++◌, length, sym, ap, ◌∙◌, subst, arith}
+use Rattle.std.proofs.Common.{◌≡◌, ◌↔◌, ℕ, ◌+◌, ◌<◌, ◌≤◌, true, false, Option, Ok, Result, List, [], ◌∷◌, ◌++◌, length, sym, ap, ◌∙◌, subst, arith}
 use Rattle.wsn_wire.specs.declared.endpoint.Role.{Role}
 use Rattle.wsn_wire.specs.Frame.{Frame, IsBytes, first_byte}
+use Rattle.std.proofs.Math.Seq.{take-length}
+use Rattle.wsn_rules.specs.declared.head_info.HeadInfo.{HeadInfo}
+use Rattle.wsn_scan.specs.declared.scan.Scan.{Scan}
+use Rattle.wsn_scan.specs.declared.stage.Stage.{Stage}
+use Rattle.wsn_scan.specs.declared.stage.Stage.TheVariants as stages
+use Rattle.wsn_scan.specs.Feeding.{ConsumesPrefix}
+use Rattle.wsn_scan.specs.FrameStarts.{StartsFrame}
+use Rattle.wsn_scan.specs.Reports.{Reported, ends_of}
+use Rattle.wsn_scan.specs.Scans.{HasScanned, HasScannedAt}
 use Rattle.wsn_frame.specs.declared.partial_head.Head.{Head}
 use Rattle.wsn_frame.specs.declared.payload_check.BadByte.{BadByte}
 use Rattle.wsn_frame.specs.declared.payload_check.PayloadCheck.{PayloadCheck}
@@ -30,3 +39,20 @@ holds_at_start role limits group head check next head_bytes wire in_bytes is_hea
     subst (λ (bs : List ℕ). IsChecked group first head.len bs (unmasked_by head.key 0 wire) (Ok next)) (sym (unmasked_by-nil head.key)) fed in
     let begun = starts role limits group head head_bytes is_head check checked (omega (arith, short)) in
     holds_on role limits group head check [] head_bytes begun wire (omega (arith, short)) next in_bytes before
+
+-- The heads that are reported then.
+pub prefix_of_start : (old new : Scan) (piece payload : List ℕ) (head : HeadInfo) → old.stage ≡ stages.Between → StartsFrame old new piece payload head → ConsumesPrefix old new piece (length piece) (head ∷ [])
+prefix_of_start old new piece payload head is starts role limits bytes heads taken =
+    let fs = taken.frames in
+    let reported : Reported = record { heads = heads; payload = taken.payload; ends = taken.ends } in
+    let at = (subst (λ (stage : Stage). HasScannedAt role limits old stage bytes fs taken.since reported) is taken.has_scanned).at in
+    let start = starts role limits bytes taken.since fs reported taken.has_scanned in
+    record {
+      frames = fs;
+      since = start.since;
+      payload = payload;
+      ends = ends_of fs;
+      has_scanned =
+          subst (λ (bs : List ℕ). HasScanned role limits new (bytes ++ bs) fs start.since (record { heads = heads ++ head ∷ []; payload = payload; ends = ends_of fs })) (sym (take-length piece))
+          (subst (λ (hs : List HeadInfo). HasScanned role limits new (bytes ++ piece) fs start.since (record { heads = hs ++ head ∷ []; payload = payload; ends = ends_of fs })) (sym at.2) start.has_scanned);
+    }

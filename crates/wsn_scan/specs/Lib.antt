@@ -13,5 +13,6 @@ pub mod Refill
 pub mod ReaderSteps
 pub mod EventFrames
 pub mod WholeFrames
+pub mod FrameStarts
 -- for the clauses in src/
 pub mod Words

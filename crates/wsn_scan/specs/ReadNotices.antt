@@ -34,6 +34,12 @@ ReportsEnd role limits reader came done at event =
     (f : Frame) × (f.fin ≡ event) × (at ≡ InFrame (info_of (length (stream done)) f) f.payload)
     × HasReported role limits reader came (done ++ f ∷ []) BetweenFrames
 
+-- It reports the next frame's head and a part of its payload, all at once; the frame before it has ended.
+abbrev pub ReportsStart : Role → Limits → NoticeReader → List ℕ → List Frame → Position → HeadInfo → Type 0
+ReportsStart role limits reader came done at info =
+    (at ≡ BetweenFrames) × HasReported role limits reader came done (InFrame info (held_payload reader))
+    × (held_payload reader ≢ [])
+
 -- It reports the next frame to its end, all at once: the frame has this head.
 abbrev pub ReportsFrame : Role → Limits → NoticeReader → List ℕ → List Frame → Position → HeadInfo → Type 0
 ReportsFrame role limits reader came done at info =

@@ -12,12 +12,13 @@ pub use Rattle.wsn_print.specs.Formats.{heads_text}
 pub use Rattle.wsn_rules.specs.Verdict.{IsVerdict}
 pub use Rattle.wsn_rules.specs.declared.head_info.HeadInfo.{HeadInfo}
 pub use Rattle.wsn_rules.specs.declared.verdict.Verdict.{Verdict}
+pub use Rattle.wsn_scan.specs.FrameStarts.{StartsFrame}
 pub use Rattle.wsn_scan.specs.Feeding.{IsRunning, heads_in, HasFed, ConsumesPrefix}
 pub use Rattle.wsn_scan.specs.ReportedFrames.{Position, IsReportedOf, BetweenFrames}
 pub use Rattle.wsn_scan.specs.Judging.{IsJudged, IsUnrefused}
 pub use Rattle.wsn_scan.specs.Listing.{IsEnded, IsListedChunk, IsListedRun, PrintsMore, PrintsHeld, IsListed, IsListedAs, IsListedWhole, IsListedWholeAs}
 pub use Rattle.wsn_scan.specs.NoticeReaders.{HasReported, IsReading, notices_left, held_payload}
-pub use Rattle.wsn_scan.specs.ReadNotices.{ReadsOn, IsNotice, ReportsEnd, ReportsFrame}
+pub use Rattle.wsn_scan.specs.ReadNotices.{ReadsOn, IsNotice, ReportsStart, ReportsEnd, ReportsFrame}
 pub use Rattle.wsn_scan.specs.ReportedEvents.{ReportsEvents, ReportsMessage}
 pub use Rattle.wsn_scan.specs.WholeFrames.{TakesFrame, TakesToEnd, after_end}
 pub use Rattle.wsn_scan.specs.ReaderSteps.{ReportsStep, Progresses, IsUsed, IsFilled}

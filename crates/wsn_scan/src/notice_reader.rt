@@ -5,6 +5,8 @@ ghost use Rattle.wsn_scan.specs.Refill.{chunk_size};
 ghost use Rattle.wsn_scan.specs.Scans.{Advances, ConsumesFromPiece, room_of, refusal_in};
 ghost use Rattle.wsn_scan.specs.EventFrames.{TakesEvents, TakesMessage, IsIdle};
 ghost use Rattle.wsn_scan.specs.WholeFrames.{TakesToEnd};
+ghost use Rattle.wsn_scan.specs.FrameStarts.{StartsFrame};
+ghost use Rattle.wsn_scan.specs.declared.stage.Stage.TheVariants.{Between};
 ghost use Rattle.wsn_scan.specs.Reports.{refusal_in_notice};
 
 use crate::notice::Notice;
@@ -47,7 +49,7 @@ pub struct NoticeReader {
 }
 
 impl NoticeReader {
-    ghost use Rattle.wsn_scan.specs.Words.{Role, Position, BetweenFrames, HasReported, IsReading, notices_left, held_payload, ReadsOn, IsNotice, ReportsStep, Progresses, IsUsed, IsFilled, ReportsEvents, ReportsMessage, ReportsFrame, ReportsEnd, ends_pending};
+    ghost use Rattle.wsn_scan.specs.Words.{Role, Position, BetweenFrames, HasReported, IsReading, notices_left, held_payload, ReadsOn, IsNotice, ReportsStep, Progresses, IsUsed, IsFilled, ReportsEvents, ReportsMessage, ReportsFrame, ReportsStart, ReportsEnd, ends_pending};
 
     /// A reader that has read nothing. `role` is the endpoint that sent the stream. It allocates no memory.
     #[tactic(none)]
@@ -162,6 +164,25 @@ impl NoticeReader {
         let at = from + count;
         self.at = at;
         self.from = at;
+        Some(head)
+    }
+
+    /// Takes the start of the frame that comes next, if the rest of the buffer is one, with a part of its payload, that is
+    /// valid so far. Returns the frame's head; [`payload`](NoticeReader::payload) then returns the part, unmasked (RFC
+    /// 6455 section 5.3). Otherwise nothing changes. It reads nothing.
+    #[inline(always)]
+    pub fn take_start(&mut self) -> Option<HeadInfo>
+        requires { IsReading self.old }
+        ensures taken { IfSome result (λ head. (role : Role) (limits : _) (came : List ℕ) (done : List Frame)
+            (at : Position) → HasReported role limits self.old came done at →
+            ReportsStart role limits self.new came done at head) }
+        ensures none { IfNone result (self.new ≡ self.old) }
+        ensures falls { IfSome result (λ _. notices_left self.new < notices_left self.old) }
+    {
+        let from = self.at;
+        let (start, head) = start_in_part(&mut self.scan, &mut self.buffer, from, self.end)?;
+        self.from = from + start;
+        self.at = self.end;
         Some(head)
     }
 
@@ -296,5 +317,27 @@ fn frame_in_part(
     ensures none { IfNone result ((scan.new ≡ scan.old) × (buffer.new ≡ buffer.old)) }
 {
     let found = scan.take_to_end(&mut buffer[at..end])?;
+    Some(found)
+}
+
+/// Passes `buffer[at..end]` to the scan, which takes the start of a frame.
+#[inline(always)]
+fn start_in_part(
+    scan: &mut Scan,
+    buffer: &mut [u8],
+    at: usize,
+    end: usize,
+) -> Option<(usize, HeadInfo)>
+    requires within { (at ≤ end) × (end ≤ length buffer.old) }
+    requires fits { end ≤ room_of scan.old + at }
+    ensures taken { IfSome result (λ found. StartsFrame scan.old scan.new (slice_range buffer.old at end)
+        (slice_range buffer.new (at + found.0) end) found.1) }
+    ensures between { IfSome result (λ _. scan.old.stage ≡ Between) }
+    ensures within { IfSome result (λ found. at + found.0 < end) }
+    ensures room { IfSome result (λ _. room_of scan.new + (end - at) ≡ room_of scan.old) }
+    ensures reported { IfSome result (λ _. refusal_in scan.new ≡ None) }
+    ensures none { IfNone result ((scan.new ≡ scan.old) × (buffer.new ≡ buffer.old)) }
+{
+    let found = scan.start_frame(&mut buffer[at..end])?;
     Some(found)
 }

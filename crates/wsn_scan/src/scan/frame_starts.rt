@@ -3,13 +3,15 @@
 use super::Scan;
 use crate::stage::{Inside, Stage};
 use wsn_frame::{PayloadCheck, unmask, whole_head};
+use wsn_rules::HeadInfo;
 
 impl Scan {
-    ghost use Rattle.std.specs.Prelude.{◌≡◌, ◌+◌, ◌≤◌, List, None, length, drop};
-    ghost use Rattle.wsn_scan.specs.Words.{HeadInfo, ConsumesPrefix, IsBytes, room_of, refusal_in};
+    ghost use Rattle.std.specs.Prelude.{◌≡◌, ◌+◌, ◌<◌, ◌≤◌, List, None, IfSome, IfNone, length, drop};
+    ghost use Rattle.wsn_scan.specs.Words.{HeadInfo, ConsumesPrefix, IsBytes, room_of, refusal_in, StartsFrame};
+    ghost use Rattle.wsn_scan.specs.declared.stage.Stage.TheVariants.{Between};
 
-    /// Consumes the piece, all of it, if the scan is between frames and the piece is the start of a frame, with a part
-    /// of its payload, that is valid so far. Returns the number of bytes, or 0; then nothing changes.
+    /// Consumes the piece, all of it, if [`Scan::start_frame`] does. Returns the number of bytes, or 0; then nothing
+    /// changes.
     #[inline(never)]
     pub(super) fn take_start(&mut self, piece: &mut [u8]) -> usize
         requires { length piece.old ≤ room_of self.old }
@@ -21,16 +23,34 @@ impl Scan {
         ensures reported { refusal_in self.old ≡ None → refusal_in self.new ≡ None }
         ensures none { result ≡ 0 → self.new ≡ self.old }
     {
-        if !self.stage.is_between() {
-            return 0;
+        match self.start_frame(piece) {
+            Some(_) => piece.len(),
+            None => 0,
         }
-        let Some((start, head)) = whole_head(piece, &self.context) else {
-            return 0;
-        };
+    }
+
+    /// Consumes the piece, all of it, if the scan is between frames, their ends are reported, and the piece is the start
+    /// of a frame, with a part of its payload, that is valid so far. Returns where in the piece the payload begins, and
+    /// the frame's head. Otherwise it returns `None`, and nothing changes.
+    #[inline(always)]
+    pub(crate) fn start_frame(&mut self, piece: &mut [u8]) -> Option<(usize, HeadInfo)>
+        requires { length piece.old ≤ room_of self.old }
+        ensures taken { IfSome result (λ found. IsBytes piece.old →
+            StartsFrame self.old self.new piece.old (drop found.0 piece.new) found.1) }
+        ensures between { IfSome result (λ _. self.old.stage ≡ Between) }
+        ensures within { IfSome result (λ found. found.0 < length piece.old) }
+        ensures room { IfSome result (λ _. room_of self.new + length piece.old ≡ room_of self.old) }
+        ensures reported { IfSome result (λ _. refusal_in self.new ≡ None) }
+        ensures none { IfNone result ((self.new ≡ self.old) × (piece.new ≡ piece.old)) }
+    {
+        if !matches!(self.stage, Stage::Between) {
+            return None;
+        }
+        let (start, head) = whole_head(piece, &self.context)?;
         let end = piece.len();
         let came = (end - start) as u64;
         if came == 0 || head.len <= came {
-            return 0;
+            return None;
         }
         let check = PayloadCheck::new(head.first, self.context.message);
         unmask(head.key, 0, &mut piece[start..end]);
@@ -42,11 +62,11 @@ impl Scan {
                     check,
                     done: came,
                 });
-                end
+                Some((start, head.info(self.used)))
             }
             Err(_) => {
                 unmask(head.key, 0, &mut piece[start..end]);
-                0
+                None
             }
         }
     }

@@ -1,4 +1,4 @@
-use Rattle.std.proofs.Common.{◌≡◌, ℕ, true, Result, Ok, Err, List, ◌++◌, ap, ◌∙◌, sym, subst, rules, arith}
+use Rattle.std.proofs.Common.{◌≡◌, ℕ, true, false, Result, Ok, Err, List, ◌++◌, ap, ◌∙◌, sym, subst, rules, arith}
 use Rattle.wsn_scan.specs.declared.notice_reader.NextNotice.{NextNotice}
 use Rattle.wsn_scan.specs.declared.notice_reader.NextNotice.TheVariants as notices
 use Rattle.wsn_io.specs.declared.stop.Stop.{Stop}
@@ -6,7 +6,7 @@ use Rattle.wsn_io.specs.declared.stop.Stop.TheVariants as stops
 use Rattle.wsn_scan.specs.ReadNotices.{IsNotice}
 use Rattle.wsn_events.specs.Reassembly.{IsInFrame}
 use Rattle.wsn_events.proofs.GivenSoFar.{begun_sound}
-use Rattle.wsn_events.proofs.SourceCalls.{begins, unfailed, head, payload, no_memory, finished, stopped, end_lawful, fragment, gives, ends, reading_of}
+use Rattle.wsn_events.proofs.SourceCalls.{ends_at_once, begins, unfailed, head, payload, no_memory, finished, stopped, end_lawful, fragment, gives, ends, reading_of}
 use Rattle.wsn_events.proofs.event_reader.EventReader.next.Goals as goal
 
 pub next-requires-clause-begun : goal.next-requires-clause-begun
@@ -37,9 +37,9 @@ returns-then-not-take-clause-next g c role limits came given has =
     let read = c.loop-head.invariant.read role limits came given has in
     let reads = c.next.ensures.next role limits (came ++ read.more) read.has.done read.has.at read.has.has_reported in
     let was : c.next.result ≡ Ok notices.Payload = c.in-Ok-Payload.is ∙ ap (λ (n : NextNotice). Ok n) c.in-Ok-Payload.field-0-is in
-    ends role limits c.args.input.now came given c.loop-head.input c.next.new.input c.loop-head.self c.next.new.self read c.next.result reads c.finish.new.self (Err stops.Memory) c.finish.result
+    ends role limits c.args.input.now came given c.loop-head.input c.next.new.input c.loop-head.self c.next.new.self read c.next.result reads c.finish-then-not-take.new.self (Err stops.Memory) c.finish-then-not-take.result
     (no_memory role limits c.args.input.now came given c.loop-head.input c.next.new.input c.loop-head.self c.next.new.self read c.next.result reads was (c.take.ensures.refused (search rules)))
-    c.finish.ensures.answer c.finish.ensures.held c.finish.ensures.result
+    c.finish-then-not-take.ensures.answer c.finish-then-not-take.ensures.held c.finish-then-not-take.ensures.result
 
 pub loop-head-preserved-else-not-take : goal.loop-head-preserved-else-not-take
 loop-head-preserved-else-not-take g c =
@@ -111,11 +111,28 @@ returns-in-Err-clause-next g c role limits came given has =
     c.finish-in-Err.ensures.answer c.finish-in-Err.ensures.held c.finish-in-Err.ensures.result
 
 pub loop-head-init : goal.loop-head-init
-loop-head-init g c = record {
-  read = λ role limits came given has. begins role limits c.args.input.now came given c.args.self.now has;
-  unfailed = c.requires.readable;
-  left = omega arith;
-}
+loop-head-init g c =
+    let taken : c.take_start.result ≡ true = search rules in
+    record {
+      read = λ role limits came given has. begins role limits c.args.input.now came given c.take_start.new.self (c.take_start.ensures.taken taken role limits came given has);
+      unfailed = c.requires.readable;
+      left = c.take_start.ensures.left;
+    }
+
+pub returns-then-not-take_start-clause-next : goal.returns-then-not-take_start-clause-next
+returns-then-not-take_start-clause-next g c role limits came given has =
+    let refused : c.take_start.result ≡ false = search rules in
+    ends_at_once role limits c.args.input.now came given c.finish.new.self (Err stops.Memory) c.finish.result has.has_reported.buffered.few
+    (c.take_start.ensures.refused refused role limits came given c.args.input.now c.requires.readable has) c.finish.ensures.answer c.finish.ensures.held c.finish.ensures.result
+
+pub returns-then-not-take_start-clause-falls : goal.returns-then-not-take_start-clause-falls
+returns-then-not-take_start-clause-falls g c = search rules
+
+pub returns-then-not-take_start-clause-sound : goal.returns-then-not-take_start-clause-sound
+returns-then-not-take_start-clause-sound g c = search rules
+
+pub take_start-requires : goal.take_start-requires
+take_start-requires g c = search rules
 
 pub next-requires-clause-readable : goal.next-requires-clause-readable
 next-requires-clause-readable g c = search rules
