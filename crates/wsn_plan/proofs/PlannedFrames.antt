@@ -24,7 +24,7 @@ use Rattle.wsn_io.specs.declared.stop.Stop.{Stop}
 use Rattle.wsn_io.specs.declared.stop.Stop.TheVariants as stop
 use Rattle.wsn_scan.specs.ReportedFrames.{Position, BetweenFrames, InFrame, IsReportedOf}
 use Rattle.wsn_scan.specs.NoticeReaders.{HasReported, IsReading, held_payload}
-use Rattle.wsn_scan.specs.ReadNotices.{ReadsOn, IsHaltedAt, ReportsFrame}
+use Rattle.wsn_scan.specs.ReadNotices.{ReadsOn, IsHaltedAt, ReportsStart, ReportsFrame}
 use Rattle.wsn_scan.proofs.ReaderReports.{reported_of}
 use Rattle.wsn_events.specs.Normalised.{IsWithinLimit}
 use Rattle.wsn_events.proofs.GivenSoFar.{all_came}
@@ -133,6 +133,19 @@ module _ (role : Role) (limits : Limits) (old : Incoming) where
         received = planned.received;
         of_bytes = (whole_frame_came role limits next planned.came planned.done took.0 took.3, planned.readable);
       }
+
+    -- a frame's head and a part of its payload, at once
+    pub takes_start : (info : HeadInfo) → ReportsStart role limits next planned.came planned.done planned.at info → HasPlanned role limits old mid next plan (Some (step_of_head info))
+    takes_start info took = record {
+      came = planned.came;
+      done = planned.done;
+      at = InFrame info (held_payload next);
+      has_reported = took.1;
+      received = planned.received;
+      steps = planned.steps;
+      step = refl;
+      readable = planned.readable;
+    }
 
     received : (result : Result NextNotice Stop) (on : Answers result) → IsReceived (limits.input + 1) old new (planned.came ++ on.more)
     received result on = received_on (limits.input + 1) old mid new planned.came on.more planned.received on.consumed on.few

@@ -46,6 +46,10 @@ pub fn plan_of<A: Allocator + Copy, R: Read>(
             plan.push(step_of(&head))?;
             continue;
         }
+        if let Some(head) = reader.take_start() {
+            begun = Some(step_of(&head));
+            continue;
+        }
         match reader.next(input)? {
             NextNotice::Head(head) => begun = Some(step_of(&head)),
             NextNotice::Payload => {}
