@@ -10,6 +10,7 @@ pub mod ComparedTurns
 pub mod ComparedRounds
 pub mod Comparisons
 pub mod KeptExcerpts
+pub mod GivenBack
 pub mod WholeComparisons
 pub mod NothingLeftOut
 pub mod ReassembledFrames

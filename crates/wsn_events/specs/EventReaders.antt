@@ -64,6 +64,13 @@ readings_left reading = readers.notices_left reading.reader
 abbrev pub HasBegunOrEnded : {A : Type 0} → EventReader A → Type 0
 HasBegunOrEnded reading = answered reading ≡ None → IsAtWork reading
 
+-- Of what it has read, given and answered, nothing has changed.
+pub record IsAsBefore {A : Type 0} (old new : EventReader A) : Type 0 where
+  pub given : (role : Role) (limits : Limits) (came : List ℕ) (given : List MeantEvent) →
+      HasGiven role limits old came given → HasGiven role limits new came given
+  pub answer : answered new ≡ answered old
+  pub left : readings_left new ≡ readings_left old
+
 -- The result is an event: neither a verdict nor a stop.
 abbrev pub IsEvent : {A : Type 0} → Result (Next A) Stop → Type 0
 IsEvent (Ok (nexts.Event event)) = ⊤

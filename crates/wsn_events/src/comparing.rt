@@ -13,7 +13,7 @@ use crate::equal_bytes::are_equal;
 use crate::event::{is_message, is_same};
 use crate::first_difference::{FirstDifference, excerpt_of};
 use crate::source::{Next, Source};
-use crate::turn::{Turn, turn_of};
+use crate::turn::{Turn, give_back, turn_of};
 use std::alloc::Allocator;
 use std::io::Read;
 use wsn_rules::{Compared, Without};
@@ -105,11 +105,13 @@ pub fn contrast<A: Allocator + Copy, R: Read, S: Read>(
         }
         let turn = turn_of(lent, &mut events, first, without)?;
         let other = turn_of(other_lent, &mut others, second, without)?;
-        let round = end_round(&mut difference, index, &events, turn, &others, other);
+        let round = end_round(&mut difference, index, &events, &turn, &others, &other);
         if let Round::Over(verdict, other) = round {
             let compared = outcome(verdict, other, index_of(&difference));
             return Ok((compared, difference));
         }
+        give_back(&mut events, turn);
+        give_back(&mut others, other);
         index += 1;
     }
 }
@@ -130,24 +132,24 @@ fn are_lent_alike<A: Allocator + Copy>(
     }
 }
 
-/// The round that these two turns make. It frees their events, and keeps of the first that differ what shows them.
+/// The round that these two turns make. It keeps of the first events that differ what shows them.
 fn end_round<A: Allocator + Copy>(
     difference: &mut Option<FirstDifference>,
     index: u64,
     events: &Source<A>,
-    turn: Turn<A>,
+    turn: &Turn<A>,
     others: &Source<A>,
-    other: Turn<A>,
+    other: &Turn<A>,
 ) -> Round
-    requires turn { IsLawfulTurn (meant_turn events.now turn) }
-    requires other { IsLawfulTurn (meant_turn others.now other) }
-    ensures round { IsRoundOf (meant_turn events.now turn) (meant_turn others.now other) result }
-    ensures kept { KeepsOf result index events.now (meant_turn events.now turn) others.now
-        (meant_turn others.now other) difference.old difference.new }
+    requires turn { IsLawfulTurn (meant_turn events.now turn.now) }
+    requires other { IsLawfulTurn (meant_turn others.now other.now) }
+    ensures round { IsRoundOf (meant_turn events.now turn.now) (meant_turn others.now other.now) result }
+    ensures kept { KeepsOf result index events.now (meant_turn events.now turn.now) others.now
+        (meant_turn others.now other.now) difference.old difference.new }
 {
-    let round = round_of(events, &turn, others, &other);
+    let round = round_of(events, turn, others, other);
     if let Round::Unlike = round {
-        keep_first(difference, index, events, &turn, others, &other);
+        keep_first(difference, index, events, turn, others, other);
     }
     round
 }

@@ -16,7 +16,7 @@ pub struct EventReader<A: Allocator> {
 
 impl<A: Allocator + Copy> EventReader<A> {
     ghost use Rattle.std.specs.Prelude.{◌≡◌, ℕ, ◌<◌, ◌≤◌, List, [], None, Some, Err, IfSome, IfNone, true, false};
-    ghost use Rattle.wsn_events.specs.Words.{Role, MeantEvent, HasGiven, IsAtWork, GoesOn, IsEvent, answered, held_of, offset_of, frames_of, readings_left, next_of, TakesEventsAfter, held_bytes, LendsMessage, IsLast, Stop};
+    ghost use Rattle.wsn_events.specs.Words.{Role, MeantEvent, HasGiven, IsAsBefore, IsAtWork, GoesOn, IsEvent, answered, held_of, offset_of, frames_of, readings_left, next_of, TakesEventsAfter, held_bytes, LendsMessage, IsLast, Stop};
 
     /// A source that has read nothing.
     #[tactic(none)]
@@ -140,10 +140,7 @@ impl<A: Allocator + Copy> EventReader<A> {
 
     /// Uses the room of an event that was given for the next message.
     pub fn reuse(&mut self, event: Event<A>)
-        ensures given { (role : Role) (limits : _) (came : List ℕ) (given : List MeantEvent) →
-            HasGiven role limits self.old came given → HasGiven role limits self.new came given }
-        ensures answer { answered self.new ≡ answered self.old }
-        ensures left { readings_left self.new ≡ readings_left self.old }
+        ensures { IsAsBefore self.old self.new }
     {
         if let Event::Message(_, text) = event {
             self.reassembly.reuse(text);

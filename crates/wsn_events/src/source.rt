@@ -35,7 +35,7 @@ impl<A: Allocator> Model for Source<A> {
 }
 
 impl<A: Allocator + Copy> Source<A> {
-    ghost use Rattle.wsn_events.specs.Words.{Role, MeantEvent, Verdict, Stop, HasGiven, GoesOn, IsEvent, answered, held_of, offset_of, frames_of, readings_left, next_of, TakesEventsAfter, held_bytes, LendsMessage};
+    ghost use Rattle.wsn_events.specs.Words.{Role, MeantEvent, Verdict, Stop, HasGiven, IsAsBefore, GoesOn, IsEvent, answered, held_of, offset_of, frames_of, readings_left, next_of, TakesEventsAfter, held_bytes, LendsMessage};
 
     /// A source that has read nothing. `role` is the endpoint that sent the stream. It allocates no memory.
     pub fn new(alloc: A, role: Role, limits: Limits) -> Self
@@ -120,12 +120,9 @@ impl<A: Allocator + Copy> Source<A> {
         self.reading.take_message()
     }
 
-    /// Uses the room of an event that it gave for the next message.
-    pub(crate) fn reuse(&mut self, event: Event<A>)
-        ensures given { (role : Role) (limits : _) (came : List ℕ) (given : List MeantEvent) →
-            HasGiven role limits self.old came given → HasGiven role limits self.new came given }
-        ensures answer { answered self.new ≡ answered self.old }
-        ensures left { readings_left self.new ≡ readings_left self.old }
+    /// Uses the room of an event that it gave for the next message: of a message with room for at most 4,096 bytes.
+    pub fn reuse(&mut self, event: Event<A>)
+        ensures { IsAsBefore self.old self.new }
     {
         self.reading.reuse(event);
     }

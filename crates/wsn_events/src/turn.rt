@@ -1,5 +1,5 @@
 ghost use Rattle.std.specs.Prelude.{◌≡◌, None, Some, IfSome, IfNone, Ok, false};
-ghost use Rattle.wsn_events.specs.EventReaders.{HasBegunOrEnded, answered};
+ghost use Rattle.wsn_events.specs.EventReaders.{HasBegunOrEnded, IsAsBefore, answered};
 ghost use Rattle.wsn_events.specs.Turns.{IsOwnTurn};
 
 use crate::leaving_out::next_without;
@@ -37,4 +37,13 @@ pub fn turn_of<A: Allocator + Copy, R: Read>(
         return Ok(Turn::Lent(kind));
     }
     Ok(Turn::Own(next_without(source, input, without)?))
+}
+
+/// Gives the source the room of an event that it has given, for the next message.
+pub fn give_back<A: Allocator + Copy>(source: &mut Source<A>, turn: Turn<A>)
+    ensures { IsAsBefore source.old source.new }
+{
+    if let Turn::Own(Next::Event(event)) = turn {
+        source.reuse(event);
+    }
 }

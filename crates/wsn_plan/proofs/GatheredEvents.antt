@@ -16,7 +16,7 @@ use Rattle.wsn_events.specs.declared.event_reader.EventReader.{EventReader}
 use Rattle.wsn_events.specs.declared.source.Next.{Next}
 use Rattle.wsn_events.specs.declared.source.Next.TheVariants as nexts
 use Rattle.wsn_events.specs.EventsMeant.{meant}
-use Rattle.wsn_events.specs.EventReaders.{HasGiven, GoesOn, IsGiven}
+use Rattle.wsn_events.specs.EventReaders.{HasGiven, GoesOn, IsAsBefore, IsGiven}
 use Rattle.wsn_events.specs.LentMessages.{LendsMessage, lent_message}
 use Rattle.wsn_events.specs.Sources.{IsLast}
 use Rattle.wsn_plan.specs.declared.gathering.Gathered.{Gathered}
@@ -25,7 +25,7 @@ use Rattle.wsn_plan.specs.KeptEvents.{kept_meant}
 use Rattle.wsn_plan.specs.Gathering.{HasWholeFrame, IsStoppedAfter, IsGathered}
 
 -- The source has read all that came, and these are the events that it gave.
-pub record HasGathered {A : Type 0} (role : Role) (limits : Limits) (old new : Incoming) (source : EventReader A) (events : List (Kept A)) : Type 0 where
+pub record HasGathered {A B : Type 0} (role : Role) (limits : Limits) (old new : Incoming) (source : EventReader A) (events : List (Kept B)) : Type 0 where
   pub came : List ℕ
   pub has : HasGiven role limits source came (map kept_meant events)
   pub received : IsReceived (limits.input + 1) old new came
@@ -44,8 +44,8 @@ nothing_is_meant : (before : List MeantEvent) (e : MeantEvent) → before ++ e �
 nothing_is_meant [] e is = cc
 nothing_is_meant (b ∷ before) e is = cc
 
-module _ {A : Type 0} (role : Role) (limits : Limits) (old : Incoming) where
-  pub begins : (source : EventReader A) → HasGiven role limits source [] [] → old.failed ≡ false → HasGathered role limits old old source []
+module _ {A B : Type 0} (role : Role) (limits : Limits) (old : Incoming) where
+  pub begins : (source : EventReader A) → HasGiven role limits source [] [] → old.failed ≡ false → HasGathered {B = B} role limits old old source []
   begins source has readable = record {
     came = [];
     has = has;
@@ -53,10 +53,18 @@ module _ {A : Type 0} (role : Role) (limits : Limits) (old : Incoming) where
     readable = readable;
   }
 
-  pub still : (mid : Incoming) (source next : EventReader A) (events : List (Kept A)) → next ≡ source → HasGathered role limits old mid source events → HasGathered role limits old mid next events
+  pub still : (mid : Incoming) (source next : EventReader A) (events : List (Kept B)) → next ≡ source → HasGathered role limits old mid source events → HasGathered role limits old mid next events
   still mid source next events same gathered = subst (λ (s : EventReader A). HasGathered role limits old mid s events) (sym same) gathered
 
-  module _ (mid new : Incoming) (source next : EventReader A) (events : List (Kept A)) (gathered : HasGathered role limits old mid source events) where
+  pub given_back : (mid : Incoming) (source next : EventReader A) (events : List (Kept B)) → IsAsBefore source next → HasGathered role limits old mid source events → HasGathered role limits old mid next events
+  given_back mid source next events same gathered = record {
+    came = gathered.came;
+    has = same.given role limits gathered.came (map kept_meant events) gathered.has;
+    received = gathered.received;
+    readable = gathered.readable;
+  }
+
+  module _ (mid new : Incoming) (source next : EventReader A) (events : List (Kept B)) (gathered : HasGathered role limits old mid source events) where
     -- the source's next answer, after the bytes that had come
     abbrev Answers : Result (Next A) Stop → Type 0
     Answers result = GoesOn role limits mid new next gathered.came (map kept_meant events) result
@@ -64,7 +72,7 @@ module _ {A : Type 0} (role : Role) (limits : Limits) (old : Incoming) where
     all_received : (result : Result (Next A) Stop) (on : Answers result) → IsReceived (limits.input + 1) old new (gathered.came ++ on.more)
     all_received result on = received_on (limits.input + 1) old mid new gathered.came on.more gathered.received on.consumed on.few
 
-    pub is_done : (answer : Next A) (verdict : Verdict) (all : Gathered A) → answer ≡ nexts.Done verdict → all.events.items ≡ events → all.verdict ≡ verdict
+    pub is_done : (answer : Next A) (verdict : Verdict) (all : Gathered A B) → answer ≡ nexts.Done verdict → all.events.items ≡ events → all.verdict ≡ verdict
         → Answers (Ok answer) → IsGathered role limits old new (Ok all)
     is_done answer verdict all is items has_reported goes = record {
       came = gathered.came ++ on.more;
@@ -76,7 +84,7 @@ module _ {A : Type 0} (role : Role) (limits : Limits) (old : Incoming) where
         on : Answers (Ok (nexts.Done verdict))
         on = subst (λ (n : Next A). Answers (Ok n)) is goes
 
-    pub is_stopped : (stopped : Stop) → Answers (Err stopped) → IsGathered {A = A} role limits old new (Err stopped)
+    pub is_stopped : (stopped : Stop) → Answers (Err stopped) → IsGathered {A = A} {B = B} role limits old new (Err stopped)
     is_stopped stopped on = record {
       came = gathered.came ++ on.more;
       received = all_received (Err stopped) on;
@@ -95,7 +103,7 @@ module _ {A : Type 0} (role : Role) (limits : Limits) (old : Incoming) where
       on : Answers (Ok (nexts.Event event))
       on = subst (λ (n : Next A). Answers (Ok n)) is goes
 
-      pub goes_on : (kept : List (Kept A)) → map kept_meant kept ≡ map kept_meant events ++ meant event ∷ [] → HasGathered role limits old new next kept
+      pub goes_on : (kept : List (Kept B)) → map kept_meant kept ≡ map kept_meant events ++ meant event ∷ [] → HasGathered role limits old new next kept
       goes_on kept more = record {
         came = gathered.came ++ on.more;
         has = subst (λ (given : List MeantEvent). HasGiven role limits next (gathered.came ++ on.more) given) (sym more) on.next.0;
@@ -112,7 +120,7 @@ module _ {A : Type 0} (role : Role) (limits : Limits) (old : Incoming) where
         whole = given.whole;
       }
 
-      pub no_memory : IsGathered {A = A} role limits old new (Err stop.Memory)
+      pub no_memory : IsGathered {A = A} {B = B} role limits old new (Err stop.Memory)
       no_memory = record {
         came = gathered.came ++ on.more;
         received = all_received (Ok (nexts.Event event)) on;
@@ -125,7 +133,7 @@ module _ {A : Type 0} (role : Role) (limits : Limits) (old : Incoming) where
       lent : LendsMessage role limits next gathered.came (map kept_meant events) kind
       lent = lends role limits gathered.came (map kept_meant events) gathered.has
 
-      pub goes_on_lent : (kept : List (Kept A)) → map kept_meant kept ≡ map kept_meant events ++ lent_message next kind ∷ [] → HasGathered role limits old mid next kept
+      pub goes_on_lent : (kept : List (Kept B)) → map kept_meant kept ≡ map kept_meant events ++ lent_message next kind ∷ [] → HasGathered role limits old mid next kept
       goes_on_lent kept more = record {
         came = gathered.came;
         has = subst (λ (given : List MeantEvent). HasGiven role limits next gathered.came given) (sym more) lent.has;
@@ -136,7 +144,7 @@ module _ {A : Type 0} (role : Role) (limits : Limits) (old : Incoming) where
       no_frames : lent.before ++ lent.frame ∷ [] ≡ [] → ⊥
       no_frames = nothing_is_frames lent.before lent.frame
 
-      pub no_memory_lent : IsGathered {A = A} role limits old mid (Err stop.Memory)
+      pub no_memory_lent : IsGathered {A = A} {B = B} role limits old mid (Err stop.Memory)
       no_memory_lent = record {
         came = gathered.came;
         received = gathered.received;

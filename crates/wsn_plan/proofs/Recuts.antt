@@ -40,8 +40,8 @@ frames_front : (role : Role) (limits : Limits) (bytes : List ℕ) (fs : List Fra
 frames_front role limits bytes fs is =
     elim is.ends [ inl e ↦ ([], e.2 ∙ sym (append-nil (stream fs))) | inr e ↦ (e.1.0, e.1.1) ]
 
-module _ {A : Type 0} (role : Role) (limits : Limits) (planned : Planner) (old new : Incoming) (before : Outgoing) where
-  pub stopped_before : (stopped : Stop) → IsGathered {A = A} role limits old new (Err stopped) → IsRecut role limits planned old new before before (Err stopped)
+module _ {A B : Type 0} (role : Role) (limits : Limits) (planned : Planner) (old new : Incoming) (before : Outgoing) where
+  pub stopped_before : (stopped : Stop) → IsGathered {A = A} {B = B} role limits old new (Err stopped) → IsRecut role limits planned old new before before (Err stopped)
   stopped_before stopped gathered = record { came = gathered.came; received = gathered.received; of_bytes = of stopped gathered.of_bytes }
     where
       of : (s : Stop) → IsStoppedAfter role limits new gathered.came s → IsRecutOf role limits planned new gathered.came before before (Err s)
@@ -50,7 +50,7 @@ module _ {A : Type 0} (role : Role) (limits : Limits) (planned : Planner) (old n
       of stop.Memory has_reported = (has_reported, refl)
       of stop.Write has_reported = absurd has_reported
 
-  module _ (g : Gathered A) (gathered : IsGathered role limits old new (Ok g)) where
+  module _ (g : Gathered A B) (gathered : IsGathered role limits old new (Ok g)) where
     abbrev events : List MeantEvent
     events = map kept_meant g.events.items
 

@@ -30,14 +30,14 @@ IsStoppedAfter role limits new came stop.Memory = HasSomethingKept role limits c
 IsStoppedAfter role limits new came stopped = IsStopped role limits new came stopped
 
 -- The result is right for the bytes that came: their verdict, and events that are their meaning; or a stop.
-abbrev pub IsGatheredOf : {A : Type 0} → Role → Limits → Incoming → List ℕ → Result (Gathered A) Stop → Type 0
+abbrev pub IsGatheredOf : {A B : Type 0} → Role → Limits → Incoming → List ℕ → Result (Gathered A B) Stop → Type 0
 IsGatheredOf role limits new came (Ok gathered) =
     IsLast role limits new came (map kept_meant gathered.events.items) (Ok gathered.verdict)
 IsGatheredOf role limits new came (Err stopped) = IsStoppedAfter role limits new came stopped
 
 -- These bytes came from the input, at most one past its limit, and the result is right for them.
-pub record IsGathered {A : Type 0} (role : Role) (limits : Limits) (old new : Incoming)
-    (result : Result (Gathered A) Stop) : Type 0 where
+pub record IsGathered {A B : Type 0} (role : Role) (limits : Limits) (old new : Incoming)
+    (result : Result (Gathered A B) Stop) : Type 0 where
   pub came : List ℕ
   pub received : IsReceived (limits.input + 1) old new came
   pub range : InRange limits

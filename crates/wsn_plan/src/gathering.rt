@@ -11,22 +11,23 @@ use wsn_events::{Event, Next, Source};
 use wsn_scan::{Limits, Stop, Verdict};
 use wsn_wire::{Input, Kind, Role};
 
-/// An input's verdict and all its events.
+/// An input's verdict and all its events, in a vector of `A` with their bytes in room of `B`.
 #[derive(Drop)]
-pub(crate) struct Gathered<A: Allocator> {
+pub(crate) struct Gathered<A: Allocator, B: Allocator> {
     pub verdict: Verdict,
-    pub events: Vec<Kept<A>, A>,
+    pub events: Vec<Kept<B>, A>,
 }
 
-/// Reads an input to its verdict and keeps all its events. `Memory` if an allocation fails, which can happen only after
-/// a payload byte of a data frame or a whole frame.
+/// Reads an input to its verdict and keeps all its events: their bytes in room of `room`, the rest in `alloc`'s. `Memory`
+/// if an allocation fails, which can happen only after a payload byte of a data frame or a whole frame.
 #[tactic(none)]
-pub(crate) fn gather<A: Allocator + Copy, R: Read>(
+pub(crate) fn gather<A: Allocator + Copy, B: Allocator + Copy, R: Read>(
     alloc: A,
+    room: B,
     input: &mut Input<R>,
     role: Role,
     limits: Limits,
-) -> Result<Gathered<A>, Stop>
+) -> Result<Gathered<A, B>, Stop>
     requires readable { input.old.failed ≡ false }
     ensures { IsGathered role limits input.old input.new result }
 {
@@ -34,20 +35,23 @@ pub(crate) fn gather<A: Allocator + Copy, R: Read>(
     let mut events = Vec::new(alloc);
     loop {
         if let Some(kind) = source.take_message() {
-            keep_message(alloc, &mut events, kind, source.taken())?;
+            keep_message(room, &mut events, kind, source.taken())?;
             continue;
         }
         match source.next(input)? {
-            Next::Event(event) => keep(alloc, &mut events, event)?,
+            Next::Event(event) => {
+                keep(room, &mut events, &event)?;
+                source.reuse(event);
+            }
             Next::Done(verdict) => return Ok(Gathered { verdict, events }),
         }
     }
 }
 
 /// Keeps a message, after the others. `Memory` if an allocation fails, and no other error.
-fn keep_message<A: Allocator>(
-    alloc: A,
-    events: &mut Vec<Kept<A>, A>,
+fn keep_message<A: Allocator, B: Allocator>(
+    room: B,
+    events: &mut Vec<Kept<B>, A>,
     kind: Kind,
     text: &[u8],
 ) -> Result<(), Stop>
@@ -55,17 +59,22 @@ fn keep_message<A: Allocator>(
         ≡ map kept_meant events.old.items ++ Message kind text.now ∷ []) }
     ensures stop { IfErr result (λ stop. stop ≡ Stop.Memory) }
 {
-    let text = text.to_vec(alloc).map_err(|_| Stop::Memory)?;
+    let text = text.to_vec(room).map_err(|_| Stop::Memory)?;
     events
         .push(Kept::Message(kind, text))
         .map_err(|_| Stop::Memory)
 }
 
 /// Keeps an event, after the others. `Memory` if an allocation fails, and no other error.
-fn keep<A: Allocator>(alloc: A, events: &mut Vec<Kept<A>, A>, event: Event<A>) -> Result<(), Stop>
-    ensures kept { IfOk result (λ _. map kept_meant events.new.items ≡ map kept_meant events.old.items ++ meant event ∷ []) }
+fn keep<A: Allocator, B: Allocator>(
+    room: B,
+    events: &mut Vec<Kept<B>, A>,
+    event: &Event<A>,
+) -> Result<(), Stop>
+    ensures kept { IfOk result (λ _. map kept_meant events.new.items
+        ≡ map kept_meant events.old.items ++ meant event.now ∷ []) }
     ensures stop { IfErr result (λ stop. stop ≡ Stop.Memory) }
 {
-    let one = to_keep(alloc, event).ok_or(Stop::Memory)?;
+    let one = to_keep(room, event).ok_or(Stop::Memory)?;
     events.push(one).map_err(|_| Stop::Memory)
 }

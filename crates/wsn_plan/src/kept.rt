@@ -19,15 +19,15 @@ pub(crate) enum Kept<A: Allocator> {
 }
 
 /// The event, to be kept; `None` if an allocation fails. An empty body needs no memory.
-pub(crate) fn to_keep<A: Allocator>(alloc: A, event: Event<A>) -> Option<Kept<A>>
-    ensures { IfSome result (λ kept. kept_meant kept ≡ meant event) }
+pub(crate) fn to_keep<A: Allocator, B: Allocator>(room: B, event: &Event<A>) -> Option<Kept<B>>
+    ensures { IfSome result (λ kept. kept_meant kept ≡ meant event.now) }
 {
     match event {
-        Event::Message(kind, text) => Some(Kept::Message(kind, text)),
-        Event::Ping(body) => control(alloc, Op::Ping, &body),
-        Event::Pong(body) => control(alloc, Op::Pong, &body),
-        Event::Close(None) => control(alloc, Op::Close, &[]),
-        Event::Close(Some((code, reason))) => close(alloc, code, &reason),
+        Event::Message(kind, text) => Some(Kept::Message(*kind, text.to_vec(room).ok()?)),
+        Event::Ping(body) => control(room, Op::Ping, body),
+        Event::Pong(body) => control(room, Op::Pong, body),
+        Event::Close(None) => control(room, Op::Close, &[]),
+        Event::Close(Some((code, reason))) => close(room, *code, reason),
     }
 }
 

@@ -17,6 +17,7 @@ use crate::gathering::{Gathered, gather};
 use crate::kept::Kept;
 use crate::uniform_plans::uniform_of_kept;
 use crate::walking::Walk;
+use bumpalo::Bump;
 use std::alloc::Allocator;
 use std::io::{Read, Write};
 use wsn_rules::{Step, Why};
@@ -59,10 +60,11 @@ pub fn recut<A: Allocator + Copy, R: Read, W: Write>(
     ensures whole { (all : List ℕ) → input.old.remaining ≡ Some all →
         IsRecutWhole role limits (λ _. plan.now) all output.old output.new result }
 {
+    let arena = Bump::new(alloc);
     let Gathered {
         verdict,
         mut events,
-    } = gather(alloc, input, role, limits)?;
+    } = gather(alloc, &arena, input, role, limits)?;
     let Verdict::Accepted(_) = verdict else {
         return Ok(RecutAnswer::NotAccepted(verdict));
     };
@@ -91,10 +93,11 @@ pub fn recut_uniform<A: Allocator + Copy, R: Read, W: Write>(
         IsRecutWhole role limits (uniform_plan size weave key) all output.old output.new result }
     ensures only_fault { (step : ℕ) (why : Why) → result ≡ Ok (RecutAnswer.Fault step why) → why ≡ TooManyPieces }
 {
+    let arena = Bump::new(alloc);
     let Gathered {
         verdict,
         mut events,
-    } = gather(alloc, input, role, limits)?;
+    } = gather(alloc, &arena, input, role, limits)?;
     let Verdict::Accepted(_) = verdict else {
         return Ok(RecutAnswer::NotAccepted(verdict));
     };

@@ -47,9 +47,9 @@ pub fn uniform<A: Allocator>(
 }
 
 /// Plans frames of one size for events that are kept, as [`uniform`] does.
-pub(crate) fn uniform_of_kept<A: Allocator>(
+pub(crate) fn uniform_of_kept<A: Allocator, B: Allocator>(
     alloc: A,
-    events: &[Kept<A>],
+    events: &[Kept<B>],
     size: u32,
     weave: bool,
     key: Option<[u8; 4]>,

@@ -1,4 +1,4 @@
-use Rattle.std.proofs.Common.{◌≡◌, ℕ, [], Option, Some, Ok, Err, refl, sym, ◌∙◌, arith, rules, ap, subst}
+use Rattle.std.proofs.Common.{◌≡◌, ◌+◌, ℕ, [], Option, Some, Ok, Err, refl, sym, ◌∙◌, arith, rules, ap, subst}
 use Rattle.std.proofs.lemmas.Result.{err_from_is_err_and}
 use Rattle.wsn_rules.specs.LeftOut.{events_without}
 use Rattle.wsn_events.specs.declared.first_difference.FirstDifference.{FirstDifference}
@@ -13,6 +13,7 @@ use Rattle.wsn_events.proofs.ComparedTurns.{MayLend, after_begun, after_readable
 use Rattle.wsn_events.proofs.ComparedRounds.{few_rounds}
 use Rattle.wsn_events.proofs.Comparisons.{Compares, first_stops, second_stops}
 use Rattle.wsn_events.proofs.KeptExcerpts.{contrasts, goes_on}
+use Rattle.wsn_events.proofs.GivenBack.{same_pending, followed_back, difference_back, kept_back}
 use Rattle.wsn_events.proofs.comparing.contrast.Goals as goal
 
 pub loop-lent-init : goal.loop-lent-init
@@ -127,7 +128,7 @@ loop-lent-smaller g c =
     let two = gives_turn c.args.without c.args.role c.args.limits c.args.second.now c.loop-lent.second c.loop-lent.others c.take_message-other_lent.new.self at.other_came at.other_given c.take_message-other_lent.result at.other_followed other_may c.turn_of-in-loop-lent.new.input c.turn_of-in-loop-lent.new.source c.turn_of-in-loop-lent.result c.turn_of-in-loop-lent.ensures.lent c.turn_of-in-loop-lent.ensures.own c.in_ok-other.other c.in_ok-other.was in
     let on = goes_on c.args.without c.args.role c.args.limits c.args.first.now c.args.second.now c.turn_of.new.input c.turn_of-in-loop-lent.new.input c.loop-lent.events c.turn_of.new.source c.loop-lent.others c.turn_of-in-loop-lent.new.source
     at.came at.other_came at.given at.other_given (meant_turn c.turn_of.new.source c.in_ok-turn.turn) (meant_turn c.turn_of-in-loop-lent.new.source c.in_ok-other.other) one two c.loop-lent.index c.loop-lent.difference c.end_round-round.new.difference c.end_round-round.result c.end_round-round.ensures.round c.in_default.not-Over c.end_round-round.ensures.kept at.difference at.kept in
-    on.falls
+    omega (arith, on.falls, same_pending c.turn_of.new.source c.give_back.new.source c.give_back.ensures, same_pending c.turn_of-in-loop-lent.new.source c.give_back-in-loop-lent.new.source c.give_back-in-loop-lent.ensures)
 
 pub loop-lent-preserved : goal.loop-lent-preserved
 loop-lent-preserved g c =
@@ -140,16 +141,20 @@ loop-lent-preserved g c =
     let two = gives_turn c.args.without c.args.role c.args.limits c.args.second.now c.loop-lent.second c.loop-lent.others c.take_message-other_lent.new.self at.other_came at.other_given c.take_message-other_lent.result at.other_followed other_may c.turn_of-in-loop-lent.new.input c.turn_of-in-loop-lent.new.source c.turn_of-in-loop-lent.result c.turn_of-in-loop-lent.ensures.lent c.turn_of-in-loop-lent.ensures.own c.in_ok-other.other c.in_ok-other.was in
     let on = goes_on c.args.without c.args.role c.args.limits c.args.first.now c.args.second.now c.turn_of.new.input c.turn_of-in-loop-lent.new.input c.loop-lent.events c.turn_of.new.source c.loop-lent.others c.turn_of-in-loop-lent.new.source
     at.came at.other_came at.given at.other_given (meant_turn c.turn_of.new.source c.in_ok-turn.turn) (meant_turn c.turn_of-in-loop-lent.new.source c.in_ok-other.other) one two c.loop-lent.index c.loop-lent.difference c.end_round-round.new.difference c.end_round-round.result c.end_round-round.ensures.round c.in_default.not-Over c.end_round-round.ensures.kept at.difference at.kept in
+    let events = c.give_back.new.source in
+    let others = c.give_back-in-loop-lent.new.source in
+    let back = c.give_back.ensures in
+    let other_back = c.give_back-in-loop-lent.ensures in
     record {
       came = one.came;
       given = one.events;
-      followed = one.followed;
+      followed = followed_back c.turn_of.new.source events back c.args.role c.args.limits c.args.first.now c.turn_of.new.input one.came one.events one.followed;
       other_came = two.came;
       other_given = two.events;
-      other_followed = two.followed;
-      difference = on.difference;
-      kept = on.kept;
-      rounds = let falls = on.falls in omega (arith, falls, at.rounds);
+      other_followed = followed_back c.turn_of-in-loop-lent.new.source others other_back c.args.role c.args.limits c.args.second.now c.turn_of-in-loop-lent.new.input two.came two.events two.followed;
+      difference = difference_back c.turn_of.new.source events c.turn_of-in-loop-lent.new.source others back other_back (c.loop-lent.index + 1) (events_without c.args.without one.events) (events_without c.args.without two.events) (index_in c.end_round-round.new.difference) on.difference;
+      kept = kept_back c.turn_of.new.source events c.turn_of-in-loop-lent.new.source others back other_back c.args.without c.args.role c.args.limits one.came one.events two.came two.events c.end_round-round.new.difference on.kept;
+      rounds = let falls = on.falls in omega (arith, falls, at.rounds, same_pending c.turn_of.new.source events back, same_pending c.turn_of-in-loop-lent.new.source others other_back);
     }
 
 pub loop-lent-smaller-then-are_lent_alike : goal.loop-lent-smaller-then-are_lent_alike

@@ -1,4 +1,4 @@
-use Rattle.std.proofs.Common.{◌≡◌, ℕ, Option, Some, List, [], ◌∷◌, sym, ap, ◌∙◌, subst, rules}
+use Rattle.std.proofs.Common.{◌≡◌, ℕ, Option, Some, List, [], ◌∷◌, sym, ap, ◌∙◌, rules}
 use Rattle.wsn_frame.specs.Payloads.{unmasked_by}
 use Rattle.wsn_wire.proofs.MaskLemmas.{masked-zero}
 use Rattle.wsn_plan.proofs.framing.changing.Goals as goal

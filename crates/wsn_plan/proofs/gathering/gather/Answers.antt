@@ -3,7 +3,7 @@ use Rattle.std.proofs.lemmas.Result.{err_from_is_err_and}
 use Rattle.wsn_rules.specs.Meaning.{Message}
 use Rattle.wsn_io.specs.declared.stop.Stop.TheVariants as stop
 use Rattle.wsn_plan.specs.KeptEvents.{kept_meant}
-use Rattle.wsn_plan.proofs.GatheredEvents.{HasGathered, begins, unchanged, still, is_done, is_stopped, goes_on, no_memory, goes_on_lent, no_memory_lent}
+use Rattle.wsn_plan.proofs.GatheredEvents.{given_back, begins, unchanged, still, is_done, is_stopped, goes_on, no_memory, goes_on_lent, no_memory_lent}
 use Rattle.wsn_plan.proofs.gathering.gather.Goals as goal
 
 pub loop-kind-init : goal.loop-kind-init
@@ -36,8 +36,8 @@ loop-kind-smaller-in-Some g c = c.in-Some.ensures.falls
 pub same-source-in-loop-kind : goal.same-source-in-loop-kind
 same-source-in-loop-kind g c = search rules
 
-pub same-source-in-Continue-branch-4 : goal.same-source-in-Continue-branch-4
-same-source-in-Continue-branch-4 g c = search rules
+pub same-source-in-Event : goal.same-source-in-Event
+same-source-in-Event g c = search rules
 
 pub returns-in_err-event : goal.returns-in_err-event
 returns-in_err-event g c =
@@ -52,8 +52,9 @@ pub loop-kind-preserved : goal.loop-kind-preserved
 loop-kind-preserved g c =
     let gathered = still c.args.role c.args.limits c.args.input.now c.loop-kind.input c.loop-kind.source c.take_message.new.self c.loop-kind.events.items
     (unchanged c.take_message.result c.loop-kind.source c.take_message.new.self c.in_default.not-Some c.take_message.ensures.none) c.loop-kind.invariant in
-    goes_on c.args.role c.args.limits c.args.input.now c.loop-kind.input c.next.new.input c.take_message.new.self c.next.new.self c.loop-kind.events.items gathered
-    c.in_ok-event.field-0 c.in-Event.event c.in-Event.is (c.in_ok-event.ensures.next c.args.role c.args.limits gathered.came _ gathered.has) _ c.in_ok-keep-in-Event.ensures.kept
+    given_back c.args.role c.args.limits c.args.input.now c.next.new.input c.next.new.self c.reuse.new.self _ c.reuse.ensures
+    (goes_on c.args.role c.args.limits c.args.input.now c.loop-kind.input c.next.new.input c.take_message.new.self c.next.new.self c.loop-kind.events.items gathered
+    c.in_ok-event.field-0 c.in-Event.event c.in-Event.is (c.in_ok-event.ensures.next c.args.role c.args.limits gathered.came _ gathered.has) c.keep.new.events.items c.in_ok-keep-in-Event.ensures.kept)
 
 pub returns-in_err-keep-in-Event : goal.returns-in_err-keep-in-Event
 returns-in_err-keep-in-Event g c =

@@ -1,4 +1,4 @@
-use Rattle.std.proofs.Common.{◌++◌, subst, rules}
+use Rattle.std.proofs.Common.{◌++◌, subst}
 use Rattle.wsn_events.specs.Reassembly.{IsInFrame}
 use Rattle.wsn_events.proofs.SourceCalls.{reading_of, started, no_room}
 use Rattle.wsn_events.proofs.event_reader.EventReader.take_start.Goals as goal
