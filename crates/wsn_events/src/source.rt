@@ -20,7 +20,8 @@ pub enum Next<A: Allocator = Global> {
 }
 
 /// Reads the events of a stream in order, each at the frame that ends it (RFC 6455 section 5.4), and then its verdict.
-/// It holds the open message and at most 4,096 bytes of the input, and nothing else of the stream.
+/// It holds the open message, room of at most 4,096 bytes for the next, at most 4,096 bytes of the input, and nothing
+/// else of the stream.
 #[derive(Drop)]
 pub struct Source<A: Allocator = Global> {
     reading: EventReader<A>,
