@@ -8,7 +8,7 @@ use std::alloc::Allocator;
 use wsn_events::Event;
 use wsn_wire::{Kind, Op};
 
-/// An event that is kept until the whole input is read: 32 bytes beside its payload, where an [`Event`] has room for the
+/// An event that is kept until the whole input is read: 40 bytes beside its payload, where an [`Event`] has room for the
 /// largest body of a control.
 #[derive(Drop)]
 pub(crate) enum Kept<A: Allocator> {

@@ -45,7 +45,7 @@ pub enum RecutAnswer {
 /// prefix of the recut is written.
 ///
 /// It holds all that the input means: the bytes of its messages and controls, which are at most those of the input, and
-/// 32 bytes for each message and control, in an arena and a vector that can have room for twice as much.
+/// 40 bytes for each message and control, in an arena and a vector that can have room for twice as much.
 pub fn recut<A: Allocator + Copy, R: Read, W: Write>(
     alloc: A,
     input: &mut Input<R>,
