@@ -1,6 +1,7 @@
 pub mod ReportTexts
 pub mod ComputedHeads
 pub mod Pieces
+pub mod Gathered
 pub mod HeldViews
 pub mod JsonTexts
 pub mod VisibleTexts

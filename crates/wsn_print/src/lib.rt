@@ -32,6 +32,7 @@ mod format;
 mod frame_objects;
 mod head_lines;
 mod heads;
+mod held_characters;
 mod json;
 mod kept_digits;
 mod laid;

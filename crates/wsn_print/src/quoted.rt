@@ -1,4 +1,4 @@
-ghost use Rattle.std.specs.Prelude.{◌≡◌, ◌++◌, ◌/◌, ◌%◌, [], ◌∷◌, ◌==◌, ◌<◌, ◌≤◌, false, true, length, if◌then◌else◌, flat_map, codes};
+ghost use Rattle.std.specs.Prelude.{◌≡◌, ℕ, List, ◌+◌, ◌++◌, ◌/◌, ◌%◌, [], ◌∷◌, ◌==◌, ◌<◌, ◌≤◌, false, true, length, if◌then◌else◌, flat_map, codes};
 ghost use Rattle.hex.specs.Hex.{encode_lower};
 ghost use Rattle.std.specs.Str.{chars};
 ghost use Rattle.std.specs.Str.Lossy.{utf8_valid_len};
@@ -6,13 +6,11 @@ ghost use Rattle.wsn_io.specs.Stops.{IsWrittenOrStops};
 ghost use Rattle.wsn_print.specs.ShownText.{is_hidden, unicode_escape, shown_character, quoted_character, quoted, shown_byte, comment_text, comment_line};
 ghost use Rattle.wsn_print.specs.ShownObjects.{quoted_byte, comment_characters};
 
+use crate::held_characters::{CHARACTER_MAX, HeldCharacters};
 use crate::line::Line;
 use std::io::Write;
 use std::str;
 use wsn_io::{Output, Stop, put_line};
-
-/// The most bytes of a character that is shown: `\u` and four digits.
-const CHARACTER_MAX: usize = 6;
 
 /// The most bytes of a byte that is shown: `\x` and two digits.
 const BYTE_MAX: usize = 4;
@@ -92,10 +90,12 @@ fn put_each_quoted<W: Write>(to: &mut Output<W>, text: &str) -> Result<(), Stop>
     requires { to.old.failed ≡ false }
     ensures { IsWrittenOrStops to.old to.new (flat_map quoted_character (chars text.now)) result }
 {
+    let mut held = HeldCharacters::new();
     for c in text.chars() {
-        put_line(to, quoted_character(c).bytes())?;
+        make_room(to, &mut held)?;
+        held.add_quoted(c);
     }
-    Ok(())
+    put_line(to, held.text())
 }
 
 #[inline(never)]
@@ -104,10 +104,39 @@ fn put_shown<W: Write>(to: &mut Output<W>, text: &str) -> Result<(), Stop>
     requires { to.old.failed ≡ false }
     ensures { IsWrittenOrStops to.old to.new (flat_map shown_character (chars text.now)) result }
 {
+    let mut held = HeldCharacters::new();
     for c in text.chars() {
-        put_line(to, shown_character(c).bytes())?;
+        make_room(to, &mut held)?;
+        held.add_shown(c);
     }
-    Ok(())
+    put_line(to, held.text())
+}
+
+/// Writes the characters that are held if there is no room for another.
+#[inline(always)]
+fn make_room<W: Write>(to: &mut Output<W>, held: &mut HeldCharacters) -> Result<(), Stop>
+    requires { to.old.failed ≡ false }
+    ensures held { (front : List ℕ) × (front ++ held.new ≡ held.old)
+        × IsWrittenOrStops to.old to.new front result }
+    ensures room { length held.new + 6 ≤ 256 }
+{
+    if held.is_full() {
+        put_held(to, held)
+    } else {
+        Ok(())
+    }
+}
+
+/// Writes the characters that are held, and removes them.
+#[inline(never)]
+fn put_held<W: Write>(to: &mut Output<W>, held: &mut HeldCharacters) -> Result<(), Stop>
+    requires { to.old.failed ≡ false }
+    ensures written { IsWrittenOrStops to.old to.new held.old result }
+    ensures none_held { held.new ≡ [] }
+{
+    let written = put_line(to, held.text());
+    held.clear();
+    written
 }
 
 #[inline(never)]
@@ -173,7 +202,7 @@ fn line_of(text: &str) -> Line<CHARACTER_MAX>
     line
 }
 
-fn shown_character(c: char) -> Line<CHARACTER_MAX>
+pub(crate) fn shown_character(c: char) -> Line<CHARACTER_MAX>
     ensures { result ≡ shown_character c }
 {
     if is_hidden(c) {
