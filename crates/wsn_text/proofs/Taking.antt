@@ -1,5 +1,5 @@
 -- The state after more bytes: byte by byte, after text, and after one piece and another.
-use Rattle.std.proofs.Common.{◌≡◌, ℕ, ◌+◌, ◌<◌, ◌↔◌, List, [], ◌∷◌, ◌++◌, length, take, drop, get_or, Result, Ok, Err, Option, refl, sym, ◌∙◌, subst, ap, append_assoc, arith}
+use Rattle.std.proofs.Common.{◌≡◌, ℕ, ◌+◌, ◌<◌, ◌↔◌, List, [], ◌∷◌, ◌++◌, length, take, drop, get_or, Result, Ok, Err, Option, Some, refl, sym, ◌∙◌, subst, ap, append_assoc, arith}
 use Rattle.std.proofs.Math.Seq.{take-append-add}
 use Rattle.std.proofs.lemmas.List.{take-append-drop, take_more, length-append}
 use Rattle.std.specs.Result.{MatchResult, IfErr, IsOk}
@@ -87,6 +87,18 @@ takes_text state text whole is_text =
         );
       };
       begins = λ taken has. text_begins (taken ++ text) (both taken has);
+    }
+
+-- The end of a character that `first` begins, and text.
+
+pub takes_end : (state : State) (first : ℕ) (bytes : List ℕ) → ((more : List ℕ) → IsText (first ∷ more) ↔ Follows state more) → IsText (first ∷ bytes) → Validates state (Some []) bytes
+takes_end state first bytes same is_text =
+    let both : (taken : List ℕ) → HasValidated state taken → IsText (taken ++ bytes) = λ taken has. (has.continues bytes).1 ((same bytes).0 is_text) in
+    record {
+      taken = λ taken has. record {
+        continues = λ more. (λ joined. text_after (taken ++ bytes) more (both taken has) joined, λ following. text-append (taken ++ bytes) more (both taken has) following);
+      };
+      begins = λ taken has. text_begins (taken ++ bytes) (both taken has);
     }
 
 -- One piece after another.

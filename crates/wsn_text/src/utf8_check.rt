@@ -6,8 +6,12 @@ ghost use Rattle.wsn_text.specs.Piece.{Validates, Breaks};
 ghost use Rattle.wsn_text.specs.Expected.{awaited};
 
 use crate::ascii_blocks::is_ascii;
+use crate::text_blocks::is_text_behind;
 use simdutf8::compat::from_utf8;
 use std::marker::Model;
+
+/// So few bytes are validated one by one.
+const FEW: usize = 3;
 
 /// What may come next.
 #[derive(Clone, Copy, Debug)]
@@ -76,6 +80,24 @@ impl Expected {
             self
         } else {
             Expected::Nothing
+        }
+    }
+
+    /// A first byte after which this is what may come.
+    #[tactic(none)]
+    fn first_byte(self) -> u8
+        ensures { (more : List ℕ) → IsText (result ∷ more) ↔ Follows (awaited self) more }
+    {
+        match self {
+            Expected::Character => 0x00,
+            Expected::One => 0xC2,
+            Expected::Two => 0xE1,
+            Expected::TwoFromA0 => 0xE0,
+            Expected::TwoUpTo9F => 0xED,
+            Expected::Three => 0xF1,
+            Expected::ThreeFrom90 => 0xF0,
+            Expected::ThreeUpTo8F => 0xF4,
+            Expected::Nothing => 0xFF,
         }
     }
 
@@ -155,9 +177,7 @@ impl Utf8 {
         if self.is_bad() {
             return Err(0);
         }
-        let (begun, rest) = piece.split_at(self.expected.missing().min(piece.len()));
-        self.take_each(begun)?;
-        self.take_rest(rest).map_err(|i| begun.len() + i)
+        self.take_piece(piece)
     }
 
     /// Whether all bytes fed so far are UTF-8. `false` forever after a bad byte.
@@ -182,6 +202,39 @@ impl Utf8 {
         ensures good { IsFalse result → (more : List ℕ) × Follows self.now more }
     {
         matches!(self.expected, Expected::Nothing)
+    }
+
+    /// Validates a piece: all of it at once but an unfinished last character, or in steps if a byte is bad.
+    #[inline(never)]
+    #[tactic(none)]
+    fn take_piece(&mut self, piece: &[u8]) -> Result<(), usize>
+        requires { (more : List ℕ) × Follows self.old more }
+        ensures within { IfErr result (λ i. i < length piece.now) }
+        ensures steps { MatchResult result (λ _. Validates self.old self.new piece.now)
+            (Breaks self.old self.new piece.now) }
+    {
+        if piece.len() <= FEW {
+            return self.take_each(piece);
+        }
+        let (front, rest) = piece.split_at(piece.len() - unfinished(piece));
+        if !is_text_behind(self.expected.first_byte(), front) {
+            return self.take_in_steps(piece);
+        }
+        self.expected = Expected::Character;
+        self.take_each(rest).map_err(|i| front.len() + i)
+    }
+
+    /// Validates a piece: what the last character still needs byte by byte, and then the rest.
+    #[tactic(none)]
+    fn take_in_steps(&mut self, piece: &[u8]) -> Result<(), usize>
+        requires { (more : List ℕ) × Follows self.old more }
+        ensures within { IfErr result (λ i. i < length piece.now) }
+        ensures steps { MatchResult result (λ _. Validates self.old self.new piece.now)
+            (Breaks self.old self.new piece.now) }
+    {
+        let (begun, rest) = piece.split_at(self.expected.missing().min(piece.len()));
+        self.take_each(begun)?;
+        self.take_rest(rest).map_err(|i| begun.len() + i)
     }
 
     /// Validates bytes one by one.
@@ -214,6 +267,18 @@ impl Utf8 {
         }
         let (text, rest) = bytes.split_at(text_prefix(bytes));
         self.take_each(rest).map_err(|i| text.len() + i)
+    }
+}
+
+/// The number of bytes at the end that may be an unfinished character.
+fn unfinished(bytes: &[u8]) -> usize
+    ensures { result ≤ length bytes.now }
+{
+    match bytes {
+        [.., 0xC0..=0xFF] => 1,
+        [.., 0xE0..=0xFF, _] => 2,
+        [.., 0xF0..=0xFF, _, _] => 3,
+        _ => 0,
     }
 }
 

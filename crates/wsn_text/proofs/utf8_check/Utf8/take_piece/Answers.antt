@@ -1,0 +1,52 @@
+use Rattle.std.proofs.Common.{ℕ, ◌↔◌, List, [], ◌∷◌, Option, Some, length, refl, subst, rules}
+use Rattle.wsn_text.specs.Utf8.{Range, IsText}
+use Rattle.wsn_text.specs.Rest.{Follows}
+use Rattle.wsn_text.proofs.Rests.{text-nil}
+use Rattle.wsn_text.proofs.Taking.{Shifted, answers_after, takes_end}
+use Rattle.wsn_text.proofs.utf8_check.Utf8.take_piece.Goals as goal
+
+pub returns-clause-steps : goal.returns-clause-steps
+returns-clause-steps c =
+    let old = c.args.self.now in
+    let first = c.first_byte.result in
+    let front = c.split_at.result.0.now in
+    let same = subst (λ (state : Option (List Range)). (more : List ℕ) → IsText (first ∷ more) ↔ Follows state more) c.self.view_is c.first_byte.ensures in
+    let shifted : Shifted c.take_each-2.result c.map_err.result (length front) = search rules in
+    answers_after old (Some []) c.take_each-2.new.self front c.split_at.result.1.now c.args.piece.now c.take_each-2.result c.map_err.result c.split_at.ensures.by_index.0
+    (takes_end old first front same (c.is_text_behind.ensures c.if-not-is_text_behind.false)) shifted c.take_each-2.ensures.steps
+
+pub take_each-requires : goal.take_each-requires
+take_each-requires c = search rules
+
+pub returns-then-piece-le-FEW-clause-within : goal.returns-then-piece-le-FEW-clause-within
+returns-then-piece-le-FEW-clause-within c = search rules
+
+pub returns-then-piece-le-FEW-clause-steps : goal.returns-then-piece-le-FEW-clause-steps
+returns-then-piece-le-FEW-clause-steps c = search rules
+
+pub overflow_sub-piece : goal.overflow_sub-piece
+overflow_sub-piece c = search rules
+
+pub split_at-requires : goal.split_at-requires
+split_at-requires c = search rules
+
+pub same-self : goal.same-self
+same-self c = search rules
+
+pub take_in_steps-requires : goal.take_in_steps-requires
+take_in_steps-requires c = search rules
+
+pub returns-then-not-is_text_behind-clause-within : goal.returns-then-not-is_text_behind-clause-within
+returns-then-not-is_text_behind-clause-within c = search rules
+
+pub returns-then-not-is_text_behind-clause-steps : goal.returns-then-not-is_text_behind-clause-steps
+returns-then-not-is_text_behind-clause-steps c = search rules
+
+pub map_err-requires : goal.map_err-requires
+map_err-requires c = search rules
+
+pub returns-clause-within : goal.returns-clause-within
+returns-clause-within c = search rules
+
+pub take_each-requires-2 : goal.take_each-requires-2
+take_each-requires-2 c = ([], text-nil)

@@ -1,0 +1,35 @@
+ghost use Rattle.std.specs.Prelude.{◌≡◌, ◌-◌, ◌<◌, ◌∷◌, ◌++◌, length, replicate, IsTrue};
+ghost use Rattle.wsn_text.specs.Utf8.{IsText};
+
+use simdutf8::Checker;
+use std::simd::prelude::*;
+
+/// The number of bytes in a block.
+const BLOCK: usize = 64;
+
+/// Whether a byte and the bytes behind it are text, by blocks of 64.
+#[tactic(none)]
+pub(crate) fn is_text_behind(first: u8, bytes: &[u8]) -> bool
+    ensures { IsTrue result → IsText (first ∷ bytes.now) }
+{
+    let mut at = bytes.len() % BLOCK;
+    let mut checker = Checker::new().step(first_block(first, &bytes[..at]));
+    while at < bytes.len() {
+        checker = checker.step(u8x64::from_slice(&bytes[at..]));
+        at += BLOCK;
+    }
+    checker.finish()
+}
+
+/// A byte and the bytes behind it, at the end of a block of zeros.
+#[inline(always)]
+fn first_block(first: u8, bytes: &[u8]) -> u8x64
+    requires { length bytes.now < BLOCK }
+    ensures { result ≡ replicate (BLOCK - 1 - length bytes.now) 0 ++ (first ∷ bytes.now) }
+{
+    let mut block = [0; BLOCK];
+    let start = BLOCK - bytes.len();
+    block[start - 1] = first;
+    block[start..].copy_from_slice(bytes);
+    u8x64::from_array(block)
+}
