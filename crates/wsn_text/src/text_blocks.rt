@@ -13,12 +13,16 @@ pub(crate) fn is_text_behind(first: u8, bytes: &[u8]) -> bool
     ensures { IsTrue result → IsText (first ∷ bytes.now) }
 {
     let mut at = bytes.len() % BLOCK;
-    let mut checker = Checker::new().step(first_block(first, &bytes[..at]));
-    while at < bytes.len() {
-        checker = checker.step(u8x64::from_slice(&bytes[at..]));
+    let mut block = first_block(first, &bytes[..at]);
+    let mut checker = Checker::new();
+    loop {
+        checker = checker.step(block);
+        if at == bytes.len() {
+            return checker.finish();
+        }
+        block = u8x64::from_slice(&bytes[at..]);
         at += BLOCK;
     }
-    checker.finish()
 }
 
 /// A byte and the bytes behind it, at the end of a block of zeros.

@@ -221,6 +221,9 @@ impl Utf8 {
             return self.take_in_steps(piece);
         }
         self.expected = Expected::Character;
+        if rest.is_empty() {
+            return Ok(());
+        }
         self.take_each(rest).map_err(|i| front.len() + i)
     }
 
@@ -270,16 +273,17 @@ impl Utf8 {
     }
 }
 
-/// The number of bytes at the end that may be an unfinished character.
+/// The number of bytes at the end that may be an unfinished character, found without a branch.
 fn unfinished(bytes: &[u8]) -> usize
     ensures { result ≤ length bytes.now }
 {
-    match bytes {
-        [.., 0xC0..=0xFF] => 1,
-        [.., 0xE0..=0xFF, _] => 2,
-        [.., 0xF0..=0xFF, _, _] => 3,
-        _ => 0,
-    }
+    let [.., third, second, last] = bytes else {
+        return 0;
+    };
+    let one = usize::from(*last >= 0xC0);
+    let two = usize::from(*second >= 0xE0) * 2;
+    let three = usize::from(*third >= 0xF0) * 3;
+    one.max(two).max(three)
 }
 
 /// The length of a prefix that is text. If no byte is bad, only an unfinished last character is left out.

@@ -1,4 +1,4 @@
-use Rattle.std.proofs.Common.{◌≡◌, ℕ, ◌+◌, ◌-◌, ◌*◌, ◌/◌, ◌%◌, List, ◌∷◌, ◌++◌, length, take, drop, replicate, sym, subst, ap, ◌∙◌, append_assoc, rules, arith, refl}
+use Rattle.std.proofs.Common.{◌≡◌, ℕ, ◌+◌, ◌-◌, ◌/◌, ◌%◌, List, [], ◌∷◌, ◌++◌, length, take, drop, replicate, sym, subst, ap, ◌∙◌, append_assoc, rules, arith}
 use Rattle.std.proofs.Math.Seq.{take-add, take-length}
 use Rattle.std.specs.Str.{IsUtf8}
 use Rattle.simdutf8.specs.Tracks.{HasRead}
@@ -8,13 +8,13 @@ use Rattle.wsn_text.proofs.text_blocks.is_text_behind.Goals as goal
 pub slice_bounds-first_block-end : goal.slice_bounds-first_block-end
 slice_bounds-first_block-end c = search rules
 
-pub first_block-requires : goal.first_block-requires
-first_block-requires c = search rules
+pub first_block-block-requires : goal.first_block-block-requires
+first_block-block-requires c = search rules
 
 pub loop-at-init : goal.loop-at-init
 loop-at-init c =
     let bytes = c.args.bytes.now in
-    ((length bytes / 64, omega arith), (63 - length (take (length bytes % 64) bytes), subst (HasRead c.step-checker.result) c.first_block.ensures (c.step-checker.ensures _ c.new.ensures)))
+    ((length bytes / 64, omega arith), (63 - length (take (length bytes % 64) bytes), [], c.new-checker.ensures, c.first_block-block.ensures))
 
 pub bounds-bytes-at : goal.bounds-bytes-at
 bounds-bytes-at c = search rules
@@ -30,17 +30,20 @@ loop-at-preserved c =
     let bytes = c.args.bytes.now in
     let at = c.loop-at.at in
     let left = c.loop-at.invariant.0 in
-    let read = c.loop-at.invariant.1 in
-    let front = replicate read.0 0 ++ (c.args.first ∷ take at bytes) in
-    let joined : front ++ take 64 (drop at bytes) ≡ replicate read.0 0 ++ (c.args.first ∷ take (at + 64) bytes) =
-    append_assoc (replicate read.0 0) (c.args.first ∷ take at bytes) (take 64 (drop at bytes)) ∙ ap (λ (behind : List ℕ). replicate read.0 0 ++ (c.args.first ∷ behind)) (sym (take-add at 64 bytes)) in
-    ((left.0 - 1, omega arith), (read.0, subst (HasRead c.step-checker-in-loop-at.result) joined (c.step-checker-in-loop-at.ensures front read.1)))
+    let zeros : List ℕ = replicate c.loop-at.invariant.1.0 0 in
+    let read = c.loop-at.invariant.1.1 in
+    let next : List ℕ = take 64 (drop at bytes) in
+    let joined : (read ++ c.loop-at.block) ++ next ≡ zeros ++ (c.args.first ∷ take (at + 64) bytes) =
+    ap (λ (front : List ℕ). front ++ next) c.loop-at.invariant.1.3 ∙ append_assoc zeros (c.args.first ∷ take at bytes) next
+    ∙ ap (λ (behind : List ℕ). zeros ++ (c.args.first ∷ behind)) (sym (take-add at 64 bytes)) in
+    ((left.0 - 1, omega arith), (c.loop-at.invariant.1.0, read ++ c.loop-at.block, c.step-checker.ensures read c.loop-at.invariant.1.2, joined))
 
-pub returns : goal.returns
-returns c is_true =
+pub returns-then-at-bytes : goal.returns-then-at-bytes
+returns-then-at-bytes c is_true =
     let bytes = c.args.bytes.now in
-    let read = c.loop-at.invariant.1 in
-    let end : c.loop-at.at ≡ length bytes = omega (arith, c.loop-at.invariant.0.1) in
+    let zeros : List ℕ = replicate c.loop-at.invariant.1.0 0 in
+    let read = c.loop-at.invariant.1.1 in
+    let end : c.loop-at.at ≡ length bytes = omega arith in
     let whole : take c.loop-at.at bytes ≡ bytes = ap (λ (n : ℕ). take n bytes) end ∙ take-length bytes in
-    text_behind_zeros read.0 (c.args.first ∷ bytes)
-    (subst (λ (behind : List ℕ). IsUtf8 (replicate read.0 0 ++ (c.args.first ∷ behind))) whole ((c.finish.ensures _ read.1).0 is_true))
+    let all : read ++ c.loop-at.block ≡ zeros ++ (c.args.first ∷ bytes) = c.loop-at.invariant.1.3 ∙ ap (λ (behind : List ℕ). zeros ++ (c.args.first ∷ behind)) whole in
+    text_behind_zeros c.loop-at.invariant.1.0 (c.args.first ∷ bytes) (subst IsUtf8 all ((c.finish.ensures _ (c.step-checker.ensures read c.loop-at.invariant.1.2)).0 is_true))

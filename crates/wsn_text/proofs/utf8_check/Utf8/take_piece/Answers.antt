@@ -1,4 +1,6 @@
-use Rattle.std.proofs.Common.{ℕ, ◌↔◌, List, [], ◌∷◌, Option, Some, length, refl, subst, rules}
+use Rattle.std.proofs.Common.{◌≡◌, ℕ, ◌↔◌, List, [], ◌∷◌, ◌++◌, Option, Some, length, refl, sym, ◌∙◌, subst, ap, append-nil, eqb-true, arith, rules}
+use Rattle.std.proofs.lemmas.List.{drop_all}
+use Rattle.wsn_text.specs.Piece.{Validates}
 use Rattle.wsn_text.specs.Utf8.{Range, IsText}
 use Rattle.wsn_text.specs.Rest.{Follows}
 use Rattle.wsn_text.proofs.Rests.{text-nil}
@@ -50,3 +52,17 @@ returns-clause-within c = search rules
 
 pub take_each-requires-2 : goal.take_each-requires-2
 take_each-requires-2 c = ([], text-nil)
+
+pub returns-then-is_empty-clause-within : goal.returns-then-is_empty-clause-within
+returns-then-is_empty-clause-within c = search rules
+
+pub returns-then-is_empty-clause-steps : goal.returns-then-is_empty-clause-steps
+returns-then-is_empty-clause-steps c =
+    let first = c.first_byte.result in
+    let front = c.split_at.result.0.now in
+    let back = c.split_at.result.1.now in
+    let same = subst (λ (state : Option (List Range)). (more : List ℕ) → IsText (first ∷ more) ↔ Follows state more) c.self.view_is c.first_byte.ensures in
+    let none : length back ≡ 0 = eqb-true _ _ (sym c.if-is_empty.ensures) in
+    let nothing : back ≡ [] = drop_all 0 back (omega (arith, none)) in
+    let all : c.args.piece.now ≡ front = c.split_at.ensures.by_index.0 ∙ ap (λ (end : List ℕ). front ++ end) nothing ∙ append-nil front in
+    subst (Validates c.args.self.now (Some [])) (sym all) (takes_end c.args.self.now first front same (c.is_text_behind.ensures c.if-not-is_text_behind.false))
