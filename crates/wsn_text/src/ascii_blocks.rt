@@ -26,6 +26,7 @@ pub(crate) fn is_ascii(bytes: &[u8]) -> bool
 
 /// Whether at most 64 bytes are ASCII, by two parts that overlap.
 #[inline(always)]
+#[tactic(none)]
 fn is_short_ascii(bytes: &[u8]) -> bool
     requires { length bytes.now ≤ BLOCK }
     ensures { IsTrue result → IsText bytes.now }

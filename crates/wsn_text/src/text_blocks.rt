@@ -27,6 +27,7 @@ pub(crate) fn is_text_behind(first: u8, bytes: &[u8]) -> bool
 
 /// A byte and the bytes behind it, at the end of a block of zeros.
 #[inline(always)]
+#[tactic(none)]
 fn first_block(first: u8, bytes: &[u8]) -> u8x64
     requires { length bytes.now < BLOCK }
     ensures { result ≡ replicate (BLOCK - 1 - length bytes.now) 0 ++ (first ∷ bytes.now) }

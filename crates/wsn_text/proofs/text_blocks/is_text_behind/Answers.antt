@@ -1,7 +1,6 @@
 use Rattle.std.proofs.Common.{◌≡◌, ℕ, ◌+◌, ◌-◌, ◌/◌, ◌%◌, List, [], ◌∷◌, ◌++◌, length, take, drop, replicate, sym, subst, ap, ◌∙◌, append_assoc, rules, arith}
 use Rattle.std.proofs.Math.Seq.{take-add, take-length}
 use Rattle.std.specs.Str.{IsUtf8}
-use Rattle.simdutf8.specs.Tracks.{HasRead}
 use Rattle.wsn_text.proofs.TextBlocks.{text_behind_zeros}
 use Rattle.wsn_text.proofs.text_blocks.is_text_behind.Goals as goal
 

@@ -1,7 +1,5 @@
-use Rattle.std.proofs.Common.{◌≡◌, Err, length, rules, arith, ap, ◌∙◌}
+use Rattle.std.proofs.Common.{◌≡◌, Err, length, rules, ap, ◌∙◌}
 use Rattle.std.proofs.lemmas.Result.{err_from_is_err_and}
-use Rattle.std.specs.Result.{MatchResult}
-use Rattle.wsn_text.specs.Piece.{Validates, Breaks}
 use Rattle.wsn_text.proofs.Taking.{Shifted, answers_after, answers_before}
 use Rattle.wsn_text.proofs.utf8_check.Utf8.take_in_steps.Goals as goal
 

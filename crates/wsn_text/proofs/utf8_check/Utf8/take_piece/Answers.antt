@@ -1,4 +1,4 @@
-use Rattle.std.proofs.Common.{◌≡◌, ℕ, ◌↔◌, List, [], ◌∷◌, ◌++◌, Option, Some, length, refl, sym, ◌∙◌, subst, ap, append-nil, eqb-true, arith, rules}
+use Rattle.std.proofs.Common.{◌≡◌, ℕ, ◌↔◌, List, [], ◌∷◌, ◌++◌, Option, Some, length, sym, ◌∙◌, subst, ap, append-nil, eqb-true, arith, rules}
 use Rattle.std.proofs.lemmas.List.{drop_all}
 use Rattle.wsn_text.specs.Piece.{Validates}
 use Rattle.wsn_text.specs.Utf8.{Range, IsText}
