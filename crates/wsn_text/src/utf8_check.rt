@@ -13,6 +13,9 @@ use std::marker::Model;
 /// So few bytes are validated one by one.
 const FEW: usize = 3;
 
+/// So many bytes are validated at once at most.
+const PART: usize = 8192;
+
 /// What may come next.
 #[derive(Clone, Copy, Debug)]
 enum Expected {
@@ -204,7 +207,7 @@ impl Utf8 {
         matches!(self.expected, Expected::Nothing)
     }
 
-    /// Validates a piece: all of it at once but an unfinished last character, or in steps if a byte is bad.
+    /// Validates a piece by parts, so that not much is read behind a bad byte.
     #[inline(never)]
     #[tactic(none)]
     fn take_piece(&mut self, piece: &[u8]) -> Result<(), usize>
@@ -216,6 +219,24 @@ impl Utf8 {
         if piece.len() <= FEW {
             return self.take_each(piece);
         }
+        let mut at = 0;
+        while piece.len() - at > PART {
+            self.take_part(&piece[at..at + PART]).map_err(|i| at + i)?;
+            at += PART;
+        }
+        self.take_part(&piece[at..]).map_err(|i| at + i)
+    }
+
+    /// Validates a part: all of it at once but an unfinished last character, or in steps if a byte is bad.
+    #[inline(always)]
+    #[tactic(none)]
+    fn take_part(&mut self, piece: &[u8]) -> Result<(), usize>
+        requires { (more : List ℕ) × Follows self.old more }
+        ensures within { IfErr result (λ i. i < length piece.now) }
+        ensures good { IsOk result → (more : List ℕ) × Follows self.new more }
+        ensures steps { MatchResult result (λ _. Validates self.old self.new piece.now)
+            (Breaks self.old self.new piece.now) }
+    {
         let (front, rest) = piece.split_at(piece.len() - unfinished(piece));
         if !is_text_behind(self.expected.first_byte(), front) {
             return self.take_in_steps(piece);
@@ -228,10 +249,12 @@ impl Utf8 {
     }
 
     /// Validates a piece: what the last character still needs byte by byte, and then the rest.
+    #[inline(never)]
     #[tactic(none)]
     fn take_in_steps(&mut self, piece: &[u8]) -> Result<(), usize>
         requires { (more : List ℕ) × Follows self.old more }
         ensures within { IfErr result (λ i. i < length piece.now) }
+        ensures good { IsOk result → (more : List ℕ) × Follows self.new more }
         ensures steps { MatchResult result (λ _. Validates self.old self.new piece.now)
             (Breaks self.old self.new piece.now) }
     {
@@ -262,6 +285,7 @@ impl Utf8 {
     fn take_rest(&mut self, bytes: &[u8]) -> Result<(), usize>
         requires { (more : List ℕ) × Follows self.old more }
         ensures within { IfErr result (λ i. i < length bytes.now) }
+        ensures good { IsOk result → (more : List ℕ) × Follows self.new more }
         ensures steps { MatchResult result (λ _. Validates self.old self.new bytes.now)
             (Breaks self.old self.new bytes.now) }
     {

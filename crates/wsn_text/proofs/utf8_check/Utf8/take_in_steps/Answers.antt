@@ -37,3 +37,9 @@ map_err-requires c = search rules
 
 pub returns-clause-within : goal.returns-clause-within
 returns-clause-within c = search rules
+
+pub returns-clause-good : goal.returns-clause-good
+returns-clause-good c = search rules
+
+pub returns-in_err-take_each-clause-good : goal.returns-in_err-take_each-clause-good
+returns-in_err-take_each-clause-good c = search rules

@@ -1,24 +1,12 @@
-use Rattle.std.proofs.Common.{◌≡◌, ℕ, ◌↔◌, List, [], ◌∷◌, ◌++◌, Option, Some, length, sym, ◌∙◌, subst, ap, append-nil, eqb-true, arith, rules}
-use Rattle.std.proofs.lemmas.List.{drop_all}
-use Rattle.wsn_text.specs.Piece.{Validates}
-use Rattle.wsn_text.specs.Utf8.{Range, IsText}
+use Rattle.std.proofs.Common.{◌≡◌, ℕ, ◌+◌, ◌-◌, List, Result, Err, length, take, drop, refl, sym, ◌∙◌, subst, ap, rules, arith}
+use Rattle.std.proofs.Math.Seq.{take-length}
+use Rattle.std.proofs.lemmas.List.{take-append-drop}
+use Rattle.std.proofs.lemmas.Result.{err_from_is_err_and}
+use Rattle.std.specs.Result.{MatchResult}
+use Rattle.wsn_text.specs.Piece.{Validates, Breaks}
 use Rattle.wsn_text.specs.Rest.{Follows}
-use Rattle.wsn_text.proofs.Rests.{text-nil}
-use Rattle.wsn_text.proofs.Taking.{Shifted, answers_after, takes_end}
+use Rattle.wsn_text.proofs.Taking.{Shifted, answers_part, answers_before, takes_nothing}
 use Rattle.wsn_text.proofs.utf8_check.Utf8.take_piece.Goals as goal
-
-pub returns-clause-steps : goal.returns-clause-steps
-returns-clause-steps c =
-    let old = c.args.self.now in
-    let first = c.first_byte.result in
-    let front = c.split_at.result.0.now in
-    let same = subst (λ (state : Option (List Range)). (more : List ℕ) → IsText (first ∷ more) ↔ Follows state more) c.self.view_is c.first_byte.ensures in
-    let shifted : Shifted c.take_each-2.result c.map_err.result (length front) = search rules in
-    answers_after old (Some []) c.take_each-2.new.self front c.split_at.result.1.now c.args.piece.now c.take_each-2.result c.map_err.result c.split_at.ensures.by_index.0
-    (takes_end old first front same (c.is_text_behind.ensures c.if-not-is_text_behind.false)) shifted c.take_each-2.ensures.steps
-
-pub take_each-requires : goal.take_each-requires
-take_each-requires c = search rules
 
 pub returns-then-piece-le-FEW-clause-within : goal.returns-then-piece-le-FEW-clause-within
 returns-then-piece-le-FEW-clause-within c = search rules
@@ -26,43 +14,97 @@ returns-then-piece-le-FEW-clause-within c = search rules
 pub returns-then-piece-le-FEW-clause-steps : goal.returns-then-piece-le-FEW-clause-steps
 returns-then-piece-le-FEW-clause-steps c = search rules
 
+pub take_each-requires : goal.take_each-requires
+take_each-requires c = search rules
+
 pub overflow_sub-piece : goal.overflow_sub-piece
 overflow_sub-piece c = search rules
 
-pub split_at-requires : goal.split_at-requires
-split_at-requires c = search rules
+pub overflow_add-at : goal.overflow_add-at
+overflow_add-at c = search rules
 
-pub same-self : goal.same-self
-same-self c = search rules
+pub slice_bounds-take_part-count : goal.slice_bounds-take_part-count
+slice_bounds-take_part-count c = search rules
 
-pub take_in_steps-requires : goal.take_in_steps-requires
-take_in_steps-requires c = search rules
+pub slice_bounds-take_part-start : goal.slice_bounds-take_part-start
+slice_bounds-take_part-start c = search rules
 
-pub returns-then-not-is_text_behind-clause-within : goal.returns-then-not-is_text_behind-clause-within
-returns-then-not-is_text_behind-clause-within c = search rules
-
-pub returns-then-not-is_text_behind-clause-steps : goal.returns-then-not-is_text_behind-clause-steps
-returns-then-not-is_text_behind-clause-steps c = search rules
+pub slice_bounds-take_part-end : goal.slice_bounds-take_part-end
+slice_bounds-take_part-end c = search rules
 
 pub map_err-requires : goal.map_err-requires
 map_err-requires c = search rules
 
+pub returns-in_err-map_err-clause-within : goal.returns-in_err-map_err-clause-within
+returns-in_err-map_err-clause-within c = search rules
+
+pub overflow_add-at-in-loop-at : goal.overflow_add-at-in-loop-at
+overflow_add-at-in-loop-at c = search rules
+
+pub loop-at-smaller : goal.loop-at-smaller
+loop-at-smaller c = search rules
+
+pub slice_bounds-take_part-count-2 : goal.slice_bounds-take_part-count-2
+slice_bounds-take_part-count-2 c = search rules
+
+pub slice_bounds-take_part-start-2 : goal.slice_bounds-take_part-start-2
+slice_bounds-take_part-start-2 c = search rules
+
+pub slice_bounds-take_part-end-2 : goal.slice_bounds-take_part-end-2
+slice_bounds-take_part-end-2 c = search rules
+
+pub map_err-requires-2 : goal.map_err-requires-2
+map_err-requires-2 c = search rules
+
 pub returns-clause-within : goal.returns-clause-within
 returns-clause-within c = search rules
 
-pub take_each-requires-2 : goal.take_each-requires-2
-take_each-requires-2 c = ([], text-nil)
+pub take_part-requires : goal.take_part-requires
+take_part-requires c = search rules
 
-pub returns-then-is_empty-clause-within : goal.returns-then-is_empty-clause-within
-returns-then-is_empty-clause-within c = search rules
+pub take_part-requires-2 : goal.take_part-requires-2
+take_part-requires-2 c = search rules
 
-pub returns-then-is_empty-clause-steps : goal.returns-then-is_empty-clause-steps
-returns-then-is_empty-clause-steps c =
-    let first = c.first_byte.result in
-    let front = c.split_at.result.0.now in
-    let back = c.split_at.result.1.now in
-    let same = subst (λ (state : Option (List Range)). (more : List ℕ) → IsText (first ∷ more) ↔ Follows state more) c.self.view_is c.first_byte.ensures in
-    let none : length back ≡ 0 = eqb-true _ _ (sym c.if-is_empty.ensures) in
-    let nothing : back ≡ [] = drop_all 0 back (omega (arith, none)) in
-    let all : c.args.piece.now ≡ front = c.split_at.ensures.by_index.0 ∙ ap (λ (end : List ℕ). front ++ end) nothing ∙ append-nil front in
-    subst (Validates c.args.self.now (Some [])) (sym all) (takes_end c.args.self.now first front same (c.is_text_behind.ensures c.if-not-is_text_behind.false))
+pub loop-at-init : goal.loop-at-init
+loop-at-init c = (omega arith, c.requires, takes_nothing c.args.self.now c.requires)
+
+pub loop-at-preserved : goal.loop-at-preserved
+loop-at-preserved c =
+    let at = c.loop-at.at in
+    let piece = c.args.piece.now in
+    let old = c.args.self.now in
+    let new = c.take_part.new.self in
+    let bytes = take (at + 8192) piece in
+    let count : 8192 ≡ at + 8192 - at = omega arith in
+    let behind : Shifted c.take_part.result c.map_err.result at = search rules in
+    let answers : MatchResult c.map_err.result (λ _. Validates old new bytes) (Breaks old new bytes) =
+    answers_part old c.loop-at.self new piece (take (at + 8192 - at) (drop at piece)) at 8192 c.take_part.result c.map_err.result (omega arith) (ap (λ (n : ℕ). take n (drop at piece)) (sym count)) c.loop-at.invariant.2 behind c.take_part.ensures.steps in
+    let live : (more : List ℕ) × Follows new more = search rules in
+    (omega arith, live, subst (λ (answer : Result _ ℕ). MatchResult answer (λ _. Validates old new bytes) (Breaks old new bytes)) c.in_ok-map_err.was answers)
+
+pub returns-in_err-map_err-clause-steps : goal.returns-in_err-map_err-clause-steps
+returns-in_err-map_err-clause-steps c =
+    let at = c.loop-at.at in
+    let piece = c.args.piece.now in
+    let old = c.args.self.now in
+    let new = c.take_part.new.self in
+    let bytes = take (at + 8192) piece in
+    let count : 8192 ≡ at + 8192 - at = omega arith in
+    let behind : Shifted c.take_part.result c.map_err.result at = search rules in
+    let answers : MatchResult c.map_err.result (λ _. Validates old new bytes) (Breaks old new bytes) =
+    answers_part old c.loop-at.self new piece (take (at + 8192 - at) (drop at piece)) at 8192 c.take_part.result c.map_err.result (omega arith) (ap (λ (n : ℕ). take n (drop at piece)) (sym count)) c.loop-at.invariant.2 behind c.take_part.ensures.steps in
+    let i = c.in_err-map_err.field-0.0 in
+    let breaks : Breaks old new bytes i = subst (λ (answer : Result _ ℕ). MatchResult answer (λ _. Validates old new bytes) (Breaks old new bytes)) c.in_err-map_err.was answers in
+    let out = err_from_is_err_and c.from_residual.result c.from_residual.ensures.1 in
+    let is : c.from_residual.result ≡ Err i = out.1 ∙ ap Err out.2 in
+    answers_before old new bytes (drop (at + 8192) piece) piece c.from_residual.result i (sym (take-append-drop (at + 8192) piece)) is breaks
+
+pub returns-clause-steps : goal.returns-clause-steps
+returns-clause-steps c =
+    let at = c.loop-at.at in
+    let bytes = c.args.piece.now in
+    let n = length bytes - at in
+    let behind : Shifted c.take_part-2.result c.map_err-2.result at = search rules in
+    let whole : take (at + n) bytes ≡ bytes = ap (λ (m : ℕ). take m bytes) (omega arith) ∙ take-length bytes in
+    subst (λ (all : List ℕ). MatchResult c.map_err-2.result (λ _. Validates c.args.self.now c.take_part-2.new.self all) (Breaks c.args.self.now c.take_part-2.new.self all)) whole
+    (answers_part c.args.self.now c.loop-at.self c.take_part-2.new.self bytes _ at n c.take_part-2.result c.map_err-2.result (omega arith) refl c.loop-at.invariant.2 behind c.take_part-2.ensures.steps)
