@@ -220,15 +220,17 @@ impl Utf8 {
             return self.take_each(piece);
         }
         let mut at = 0;
-        while piece.len() - at > PART {
-            self.take_part(&piece[at..at + PART]).map_err(|i| at + i)?;
-            at += PART;
+        loop {
+            let end = piece.len().min(at + PART);
+            self.take_part(&piece[at..end]).map_err(|i| at + i)?;
+            if end == piece.len() {
+                return Ok(());
+            }
+            at = end;
         }
-        self.take_part(&piece[at..]).map_err(|i| at + i)
     }
 
     /// Validates a part: all of it at once but an unfinished last character, or in steps if a byte is bad.
-    #[inline(always)]
     #[tactic(none)]
     fn take_part(&mut self, piece: &[u8]) -> Result<(), usize>
         requires { (more : List ℕ) × Follows self.old more }

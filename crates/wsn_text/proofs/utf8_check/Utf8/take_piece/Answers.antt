@@ -17,9 +17,6 @@ returns-then-piece-le-FEW-clause-steps c = search rules
 pub take_each-requires : goal.take_each-requires
 take_each-requires c = search rules
 
-pub overflow_sub-piece : goal.overflow_sub-piece
-overflow_sub-piece c = search rules
-
 pub overflow_add-at : goal.overflow_add-at
 overflow_add-at c = search rules
 
@@ -38,32 +35,11 @@ map_err-requires c = search rules
 pub returns-in_err-map_err-clause-within : goal.returns-in_err-map_err-clause-within
 returns-in_err-map_err-clause-within c = search rules
 
-pub overflow_add-at-in-loop-at : goal.overflow_add-at-in-loop-at
-overflow_add-at-in-loop-at c = search rules
-
 pub loop-at-smaller : goal.loop-at-smaller
 loop-at-smaller c = search rules
 
-pub slice_bounds-take_part-count-2 : goal.slice_bounds-take_part-count-2
-slice_bounds-take_part-count-2 c = search rules
-
-pub slice_bounds-take_part-start-2 : goal.slice_bounds-take_part-start-2
-slice_bounds-take_part-start-2 c = search rules
-
-pub slice_bounds-take_part-end-2 : goal.slice_bounds-take_part-end-2
-slice_bounds-take_part-end-2 c = search rules
-
-pub map_err-requires-2 : goal.map_err-requires-2
-map_err-requires-2 c = search rules
-
-pub returns-clause-within : goal.returns-clause-within
-returns-clause-within c = search rules
-
 pub take_part-requires : goal.take_part-requires
 take_part-requires c = search rules
-
-pub take_part-requires-2 : goal.take_part-requires-2
-take_part-requires-2 c = search rules
 
 pub loop-at-init : goal.loop-at-init
 loop-at-init c = (omega arith, c.requires, takes_nothing c.args.self.now c.requires)
@@ -74,13 +50,14 @@ loop-at-preserved c =
     let piece = c.args.piece.now in
     let old = c.args.self.now in
     let new = c.take_part.new.self in
-    let bytes = take (at + 8192) piece in
-    let count : 8192 ≡ at + 8192 - at = omega arith in
+    let n = c.min-end.result - at in
+    let bytes = take (at + n) piece in
     let behind : Shifted c.take_part.result c.map_err.result at = search rules in
     let answers : MatchResult c.map_err.result (λ _. Validates old new bytes) (Breaks old new bytes) =
-    answers_part old c.loop-at.self new piece (take (at + 8192 - at) (drop at piece)) at 8192 c.take_part.result c.map_err.result (omega arith) (ap (λ (n : ℕ). take n (drop at piece)) (sym count)) c.loop-at.invariant.2 behind c.take_part.ensures.steps in
+    answers_part old c.loop-at.self new piece _ at n c.take_part.result c.map_err.result (omega arith) refl c.loop-at.invariant.2 behind c.take_part.ensures.steps in
     let live : (more : List ℕ) × Follows new more = search rules in
-    (omega arith, live, subst (λ (answer : Result _ ℕ). MatchResult answer (λ _. Validates old new bytes) (Breaks old new bytes)) c.in_ok-map_err.was answers)
+    let taken : Validates old new bytes = subst (λ (answer : Result _ ℕ). MatchResult answer (λ _. Validates old new bytes) (Breaks old new bytes)) c.in_ok-map_err.was answers in
+    (omega arith, live, subst (λ (m : ℕ). Validates old new (take m piece)) (omega arith) taken)
 
 pub returns-in_err-map_err-clause-steps : goal.returns-in_err-map_err-clause-steps
 returns-in_err-map_err-clause-steps c =
@@ -88,23 +65,31 @@ returns-in_err-map_err-clause-steps c =
     let piece = c.args.piece.now in
     let old = c.args.self.now in
     let new = c.take_part.new.self in
-    let bytes = take (at + 8192) piece in
-    let count : 8192 ≡ at + 8192 - at = omega arith in
+    let n = c.min-end.result - at in
+    let bytes = take (at + n) piece in
     let behind : Shifted c.take_part.result c.map_err.result at = search rules in
     let answers : MatchResult c.map_err.result (λ _. Validates old new bytes) (Breaks old new bytes) =
-    answers_part old c.loop-at.self new piece (take (at + 8192 - at) (drop at piece)) at 8192 c.take_part.result c.map_err.result (omega arith) (ap (λ (n : ℕ). take n (drop at piece)) (sym count)) c.loop-at.invariant.2 behind c.take_part.ensures.steps in
+    answers_part old c.loop-at.self new piece _ at n c.take_part.result c.map_err.result (omega arith) refl c.loop-at.invariant.2 behind c.take_part.ensures.steps in
     let i = c.in_err-map_err.field-0.0 in
     let breaks : Breaks old new bytes i = subst (λ (answer : Result _ ℕ). MatchResult answer (λ _. Validates old new bytes) (Breaks old new bytes)) c.in_err-map_err.was answers in
     let out = err_from_is_err_and c.from_residual.result c.from_residual.ensures.1 in
     let is : c.from_residual.result ≡ Err i = out.1 ∙ ap Err out.2 in
-    answers_before old new bytes (drop (at + 8192) piece) piece c.from_residual.result i (sym (take-append-drop (at + 8192) piece)) is breaks
+    answers_before old new bytes (drop (at + n) piece) piece c.from_residual.result i (sym (take-append-drop (at + n) piece)) is breaks
 
-pub returns-clause-steps : goal.returns-clause-steps
-returns-clause-steps c =
+pub returns-then-end-piece-clause-steps : goal.returns-then-end-piece-clause-steps
+returns-then-end-piece-clause-steps c =
     let at = c.loop-at.at in
-    let bytes = c.args.piece.now in
-    let n = length bytes - at in
-    let behind : Shifted c.take_part-2.result c.map_err-2.result at = search rules in
-    let whole : take (at + n) bytes ≡ bytes = ap (λ (m : ℕ). take m bytes) (omega arith) ∙ take-length bytes in
-    subst (λ (all : List ℕ). MatchResult c.map_err-2.result (λ _. Validates c.args.self.now c.take_part-2.new.self all) (Breaks c.args.self.now c.take_part-2.new.self all)) whole
-    (answers_part c.args.self.now c.loop-at.self c.take_part-2.new.self bytes _ at n c.take_part-2.result c.map_err-2.result (omega arith) refl c.loop-at.invariant.2 behind c.take_part-2.ensures.steps)
+    let piece = c.args.piece.now in
+    let old = c.args.self.now in
+    let new = c.take_part.new.self in
+    let n = c.min-end.result - at in
+    let bytes = take (at + n) piece in
+    let behind : Shifted c.take_part.result c.map_err.result at = search rules in
+    let answers : MatchResult c.map_err.result (λ _. Validates old new bytes) (Breaks old new bytes) =
+    answers_part old c.loop-at.self new piece _ at n c.take_part.result c.map_err.result (omega arith) refl c.loop-at.invariant.2 behind c.take_part.ensures.steps in
+    let taken : Validates old new bytes = subst (λ (answer : Result _ ℕ). MatchResult answer (λ _. Validates old new bytes) (Breaks old new bytes)) c.in_ok-map_err.was answers in
+    let count : at + n ≡ length piece = omega arith in
+    subst (Validates old new) (ap (λ (m : ℕ). take m piece) count ∙ take-length piece) taken
+
+pub returns-then-end-piece-clause-within : goal.returns-then-end-piece-clause-within
+returns-then-end-piece-clause-within c = search rules
