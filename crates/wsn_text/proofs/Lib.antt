@@ -6,5 +6,6 @@ pub mod Decide
 pub mod Prefixes
 pub mod Boundaries
 pub mod Taking
+pub mod TextBlocks
 pub mod States
 pub mod Numbers

@@ -1,7 +1,7 @@
 -- The state after more bytes: byte by byte, after text, and after one piece and another.
-use Rattle.std.proofs.Common.{◌≡◌, ℕ, ◌+◌, ◌<◌, ◌↔◌, List, [], ◌∷◌, ◌++◌, length, take, drop, get_or, Result, Ok, Err, Option, refl, sym, ◌∙◌, subst, ap, append_assoc, arith}
-use Rattle.std.proofs.Math.Seq.{take-append-add}
-use Rattle.std.proofs.lemmas.List.{take-append-drop, take_more, length-append}
+use Rattle.std.proofs.Common.{◌≡◌, ℕ, ◌+◌, ◌<◌, ◌≤◌, ◌↔◌, List, [], ◌∷◌, ◌++◌, length, take, drop, get_or, Result, Ok, Err, Option, Some, refl, sym, ◌∙◌, subst, ap, append_assoc, append-nil, arith}
+use Rattle.std.proofs.Math.Seq.{take-append-add, take-add}
+use Rattle.std.proofs.lemmas.List.{take-append-drop, take_more, length-append, length-take-le}
 use Rattle.std.specs.Result.{MatchResult, IfErr, IsOk}
 use Rattle.wsn_text.specs.Utf8.{Range, IsText, BeginsText, IsFirstBad}
 use Rattle.wsn_text.specs.Rest.{Follows}
@@ -33,6 +33,13 @@ dead_state state taken has ends more follows = ends (record { more = more; text 
 stays_dead : (state : State) (taken back : List ℕ) → HasValidated state taken → Dead state → HasValidated state (taken ++ back)
 stays_dead state taken back has dead =
     record { continues = λ more. (λ text. absurd (ends_dead state taken has dead (begins_front taken (back ++ more) (text_begins _ (subst IsText (append_assoc taken back more) text)))), λ follows. absurd (dead more follows)) }
+
+pub takes_nothing : (state : State) → Live state → Validates state state []
+takes_nothing state live =
+    record {
+      taken = λ taken has. subst (HasValidated state) (sym (append-nil taken)) has;
+      begins = λ taken has. subst BeginsText (sym (append-nil taken)) (begins_live state taken has live);
+    }
 
 -- One byte.
 
@@ -89,6 +96,18 @@ takes_text state text whole is_text =
       begins = λ taken has. text_begins (taken ++ text) (both taken has);
     }
 
+-- The end of a character that `first` begins, and text.
+
+pub takes_end : (state : State) (first : ℕ) (bytes : List ℕ) → ((more : List ℕ) → IsText (first ∷ more) ↔ Follows state more) → IsText (first ∷ bytes) → Validates state (Some []) bytes
+takes_end state first bytes same is_text =
+    let both : (taken : List ℕ) → HasValidated state taken → IsText (taken ++ bytes) = λ taken has. (has.continues bytes).1 ((same bytes).0 is_text) in
+    record {
+      taken = λ taken has. record {
+        continues = λ more. (λ joined. text_after (taken ++ bytes) more (both taken has) joined, λ following. text-append (taken ++ bytes) more (both taken has) following);
+      };
+      begins = λ taken has. text_begins (taken ++ bytes) (both taken has);
+    }
+
 -- One piece after another.
 
 pub takes_then_takes : (old mid new : State) (front back bytes : List ℕ) → bytes ≡ front ++ back → Validates old mid front → Validates mid new back → Validates old new bytes
@@ -135,6 +154,13 @@ answers_after old mid new front back bytes (Ok x) shifted joined first is second
     subst (λ (r : Result _ ℕ). MatchResult r (λ _. Validates old new bytes) (Breaks old new bytes)) (sym is) (takes_then_takes old mid new front back bytes joined first second)
 answers_after old mid new front back bytes (Err i) shifted joined first is second =
     subst (λ (r : Result _ ℕ). MatchResult r (λ _. Validates old new bytes) (Breaks old new bytes)) (sym is) (takes_then_breaks old mid new front back bytes i joined first second)
+
+pub answers_part : {T : Type 0} (old mid new : State) (bytes part : List ℕ) (at n : ℕ) (answer shifted : Result T ℕ) → at + n ≤ length bytes → part ≡ take n (drop at bytes) → Validates old mid (take at bytes) → Shifted answer shifted at
+    → MatchResult answer (λ _. Validates mid new part) (Breaks mid new part) → MatchResult shifted (λ _. Validates old new (take (at + n) bytes)) (Breaks old new (take (at + n) bytes))
+answers_part old mid new bytes part at n answer shifted fits is first behind second =
+    let joined : take (at + n) bytes ≡ take at bytes ++ part = take-add at n bytes ∙ ap (λ (back : List ℕ). take at bytes ++ back) (sym is) in
+    let size : length (take at bytes) ≡ at = length-take-le at bytes (omega arith) in
+    answers_after old mid new (take at bytes) part (take (at + n) bytes) answer shifted joined first (subst (Shifted answer shifted) (sym size) behind) second
 
 pub answers_before : {T : Type 0} (old new : State) (front back bytes : List ℕ) (answer : Result T ℕ) (i : ℕ) → bytes ≡ front ++ back → answer ≡ Err i → Breaks old new front i
     → MatchResult answer (λ _. Validates old new bytes) (Breaks old new bytes)

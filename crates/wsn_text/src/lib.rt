@@ -10,6 +10,7 @@
 mod ascii_blocks;
 mod codes;
 pub mod laws;
+mod text_blocks;
 mod utf8_check;
 
 pub use codes::code_allowed;

@@ -6,8 +6,15 @@ ghost use Rattle.wsn_text.specs.Piece.{Validates, Breaks};
 ghost use Rattle.wsn_text.specs.Expected.{awaited};
 
 use crate::ascii_blocks::is_ascii;
+use crate::text_blocks::is_text_behind;
 use simdutf8::compat::from_utf8;
 use std::marker::Model;
+
+/// So few bytes are validated one by one.
+const FEW: usize = 3;
+
+/// So many bytes are validated at once at most.
+const PART: usize = 8192;
 
 /// What may come next.
 #[derive(Clone, Copy, Debug)]
@@ -76,6 +83,24 @@ impl Expected {
             self
         } else {
             Expected::Nothing
+        }
+    }
+
+    /// A first byte after which this is what may come.
+    #[tactic(none)]
+    fn first_byte(self) -> u8
+        ensures { (more : List ℕ) → IsText (result ∷ more) ↔ Follows (awaited self) more }
+    {
+        match self {
+            Expected::Character => 0x00,
+            Expected::One => 0xC2,
+            Expected::Two => 0xE1,
+            Expected::TwoFromA0 => 0xE0,
+            Expected::TwoUpTo9F => 0xED,
+            Expected::Three => 0xF1,
+            Expected::ThreeFrom90 => 0xF0,
+            Expected::ThreeUpTo8F => 0xF4,
+            Expected::Nothing => 0xFF,
         }
     }
 
@@ -155,9 +180,7 @@ impl Utf8 {
         if self.is_bad() {
             return Err(0);
         }
-        let (begun, rest) = piece.split_at(self.expected.missing().min(piece.len()));
-        self.take_each(begun)?;
-        self.take_rest(rest).map_err(|i| begun.len() + i)
+        self.take_piece(piece)
     }
 
     /// Whether all bytes fed so far are UTF-8. `false` forever after a bad byte.
@@ -184,6 +207,64 @@ impl Utf8 {
         matches!(self.expected, Expected::Nothing)
     }
 
+    /// Validates a piece by parts, so that not much is read behind a bad byte.
+    #[inline(never)]
+    #[tactic(none)]
+    fn take_piece(&mut self, piece: &[u8]) -> Result<(), usize>
+        requires { (more : List ℕ) × Follows self.old more }
+        ensures within { IfErr result (λ i. i < length piece.now) }
+        ensures steps { MatchResult result (λ _. Validates self.old self.new piece.now)
+            (Breaks self.old self.new piece.now) }
+    {
+        if piece.len() <= FEW {
+            return self.take_each(piece);
+        }
+        let mut at = 0;
+        loop {
+            let end = piece.len().min(at + PART);
+            self.take_part(&piece[at..end]).map_err(|i| at + i)?;
+            if end == piece.len() {
+                return Ok(());
+            }
+            at = end;
+        }
+    }
+
+    /// Validates a part: all of it at once but an unfinished last character, or in steps if a byte is bad.
+    #[tactic(none)]
+    fn take_part(&mut self, piece: &[u8]) -> Result<(), usize>
+        requires { (more : List ℕ) × Follows self.old more }
+        ensures within { IfErr result (λ i. i < length piece.now) }
+        ensures good { IsOk result → (more : List ℕ) × Follows self.new more }
+        ensures steps { MatchResult result (λ _. Validates self.old self.new piece.now)
+            (Breaks self.old self.new piece.now) }
+    {
+        let (front, rest) = piece.split_at(piece.len() - unfinished(piece));
+        if !is_text_behind(self.expected.first_byte(), front) {
+            return self.take_in_steps(piece);
+        }
+        self.expected = Expected::Character;
+        if rest.is_empty() {
+            return Ok(());
+        }
+        self.take_each(rest).map_err(|i| front.len() + i)
+    }
+
+    /// Validates a piece: what the last character still needs byte by byte, and then the rest.
+    #[inline(never)]
+    #[tactic(none)]
+    fn take_in_steps(&mut self, piece: &[u8]) -> Result<(), usize>
+        requires { (more : List ℕ) × Follows self.old more }
+        ensures within { IfErr result (λ i. i < length piece.now) }
+        ensures good { IsOk result → (more : List ℕ) × Follows self.new more }
+        ensures steps { MatchResult result (λ _. Validates self.old self.new piece.now)
+            (Breaks self.old self.new piece.now) }
+    {
+        let (begun, rest) = piece.split_at(self.expected.missing().min(piece.len()));
+        self.take_each(begun)?;
+        self.take_rest(rest).map_err(|i| begun.len() + i)
+    }
+
     /// Validates bytes one by one.
     fn take_each(&mut self, bytes: &[u8]) -> Result<(), usize>
         requires { (more : List ℕ) × Follows self.old more }
@@ -206,6 +287,7 @@ impl Utf8 {
     fn take_rest(&mut self, bytes: &[u8]) -> Result<(), usize>
         requires { (more : List ℕ) × Follows self.old more }
         ensures within { IfErr result (λ i. i < length bytes.now) }
+        ensures good { IsOk result → (more : List ℕ) × Follows self.new more }
         ensures steps { MatchResult result (λ _. Validates self.old self.new bytes.now)
             (Breaks self.old self.new bytes.now) }
     {
@@ -215,6 +297,19 @@ impl Utf8 {
         let (text, rest) = bytes.split_at(text_prefix(bytes));
         self.take_each(rest).map_err(|i| text.len() + i)
     }
+}
+
+/// The number of bytes at the end that may be an unfinished character, found without a branch.
+fn unfinished(bytes: &[u8]) -> usize
+    ensures { result ≤ length bytes.now }
+{
+    let [.., third, second, last] = bytes else {
+        return 0;
+    };
+    let one = usize::from(*last >= 0xC0);
+    let two = usize::from(*second >= 0xE0) * 2;
+    let three = usize::from(*third >= 0xF0) * 3;
+    one.max(two).max(three)
 }
 
 /// The length of a prefix that is text. If no byte is bad, only an unfinished last character is left out.

@@ -31,3 +31,9 @@ map_err-requires c = search rules
 
 pub returns-clause-within : goal.returns-clause-within
 returns-clause-within c = search rules
+
+pub returns-clause-good : goal.returns-clause-good
+returns-clause-good c = search rules
+
+pub returns-then-not-is_whole-clause-good : goal.returns-then-not-is_whole-clause-good
+returns-then-not-is_whole-clause-good c = search rules

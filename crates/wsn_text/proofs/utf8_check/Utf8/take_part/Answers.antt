@@ -1,0 +1,68 @@
+use Rattle.std.proofs.Common.{◌≡◌, ℕ, ◌↔◌, List, [], ◌∷◌, ◌++◌, Option, Some, length, sym, ◌∙◌, subst, ap, append-nil, eqb-true, arith, rules}
+use Rattle.std.proofs.lemmas.List.{drop_all}
+use Rattle.wsn_text.specs.Piece.{Validates}
+use Rattle.wsn_text.specs.Utf8.{Range, IsText}
+use Rattle.wsn_text.specs.Rest.{Follows}
+use Rattle.wsn_text.proofs.Rests.{text-nil}
+use Rattle.wsn_text.proofs.Taking.{Shifted, answers_after, takes_end}
+use Rattle.wsn_text.proofs.utf8_check.Utf8.take_part.Goals as goal
+
+pub returns-clause-steps : goal.returns-clause-steps
+returns-clause-steps c =
+    let old = c.args.self.now in
+    let first = c.first_byte.result in
+    let front = c.split_at.result.0.now in
+    let same = subst (λ (state : Option (List Range)). (more : List ℕ) → IsText (first ∷ more) ↔ Follows state more) c.self.view_is c.first_byte.ensures in
+    let shifted : Shifted c.take_each.result c.map_err.result (length front) = search rules in
+    answers_after old (Some []) c.take_each.new.self front c.split_at.result.1.now c.args.piece.now c.take_each.result c.map_err.result c.split_at.ensures.by_index.0
+    (takes_end old first front same (c.is_text_behind.ensures c.if-not-is_text_behind.false)) shifted c.take_each.ensures.steps
+
+pub overflow_sub-piece : goal.overflow_sub-piece
+overflow_sub-piece c = search rules
+
+pub split_at-requires : goal.split_at-requires
+split_at-requires c = search rules
+
+pub same-self : goal.same-self
+same-self c = search rules
+
+pub take_in_steps-requires : goal.take_in_steps-requires
+take_in_steps-requires c = search rules
+
+pub returns-then-not-is_text_behind-clause-within : goal.returns-then-not-is_text_behind-clause-within
+returns-then-not-is_text_behind-clause-within c = search rules
+
+pub returns-then-not-is_text_behind-clause-steps : goal.returns-then-not-is_text_behind-clause-steps
+returns-then-not-is_text_behind-clause-steps c = search rules
+
+pub map_err-requires : goal.map_err-requires
+map_err-requires c = search rules
+
+pub returns-clause-within : goal.returns-clause-within
+returns-clause-within c = search rules
+
+pub take_each-requires : goal.take_each-requires
+take_each-requires c = ([], text-nil)
+
+pub returns-then-is_empty-clause-within : goal.returns-then-is_empty-clause-within
+returns-then-is_empty-clause-within c = search rules
+
+pub returns-then-is_empty-clause-steps : goal.returns-then-is_empty-clause-steps
+returns-then-is_empty-clause-steps c =
+    let first = c.first_byte.result in
+    let front = c.split_at.result.0.now in
+    let back = c.split_at.result.1.now in
+    let same = subst (λ (state : Option (List Range)). (more : List ℕ) → IsText (first ∷ more) ↔ Follows state more) c.self.view_is c.first_byte.ensures in
+    let none : length back ≡ 0 = eqb-true _ _ (sym c.if-is_empty.ensures) in
+    let nothing : back ≡ [] = drop_all 0 back (omega (arith, none)) in
+    let all : c.args.piece.now ≡ front = c.split_at.ensures.by_index.0 ∙ ap (λ (end : List ℕ). front ++ end) nothing ∙ append-nil front in
+    subst (Validates c.args.self.now (Some [])) (sym all) (takes_end c.args.self.now first front same (c.is_text_behind.ensures c.if-not-is_text_behind.false))
+
+pub returns-clause-good : goal.returns-clause-good
+returns-clause-good c = search rules
+
+pub returns-then-is_empty-clause-good : goal.returns-then-is_empty-clause-good
+returns-then-is_empty-clause-good c = search rules
+
+pub returns-then-not-is_text_behind-clause-good : goal.returns-then-not-is_text_behind-clause-good
+returns-then-not-is_text_behind-clause-good c = search rules
