@@ -8,6 +8,7 @@ pub mod ClosingLines
 pub mod SentEntries
 pub mod AcceptedTexts
 pub mod ReportedLines
+pub mod DigitBlocks
 pub mod PairedDigits
 pub mod SplitLines
 pub mod PiecePrefixes

@@ -1,18 +1,27 @@
-ghost use Rattle.std.specs.Prelude.{◌≡◌, ◌+◌, ◌≤◌, ℕ, List, ◌∷◌, ◌++◌, [], OnOk, IfErr};
+ghost use Rattle.std.specs.Prelude.{◌≡◌, ◌+◌, ◌≤◌, ℕ, List, ◌∷◌, ◌++◌, [], take, OnOk, IfErr, IfSome};
+ghost use Rattle.wsn_rules.specs.Entries.{IsEntry};
+ghost use Rattle.wsn_rules.specs.Entries.Entry.{Bytes};
 ghost use Rattle.wsn_rules.specs.Limits.{Limits};
 ghost use Rattle.wsn_capture.specs.Captures.{HasAcceptedLines, count_of};
 ghost use Rattle.wsn_capture.specs.LineSplitters.{IsStopAt};
 
 use crate::capture::Capture;
 use crate::capture_stop::CaptureStop;
+use crate::line_form::{LineForm, decode, form_of, strip_cr};
 use crate::lines::{BEGUN_MAX, Lines};
 use wsn_rules::{Limits, Report};
+use wsn_wire::Role;
+
+/// The maximum number of bytes in a line.
+const BYTES_MAX: usize = 4096;
 
 /// Splits the chunks of a text into lines and passes each to a capture. It holds the line that isn't finished.
 #[derive(Drop)]
 pub struct LineSplitter {
     capture: Capture,
     begun: Lines,
+    /// At its start, the bytes that a line gives.
+    bytes: [u8; BYTES_MAX],
 }
 
 impl LineSplitter {
@@ -28,6 +37,7 @@ impl LineSplitter {
         LineSplitter {
             capture: Capture::new(limits),
             begun: Lines::new(),
+            bytes: [0; BYTES_MAX],
         }
     }
 
@@ -84,7 +94,7 @@ impl LineSplitter {
         ensures count { OnOk result ((count_of self.new.capture ≡ count_of self.old.capture + 1)
             × (count_of self.new.capture ≤ 1000000)) }
     {
-        pass_on(&mut self.capture, self.begun.line())?;
+        pass_on(&mut self.capture, self.begun.line(), &mut self.bytes)?;
         self.begun.clear();
         Ok(())
     }
@@ -103,9 +113,13 @@ impl LineSplitter {
     }
 }
 
-/// Passes a line to a capture. An error has the line's number, counted from 1, and its fault.
-#[tactic(none)]
-fn pass_on(capture: &mut Capture, line: &[u8]) -> Result<(), CaptureStop>
+/// Passes a line to a capture. An error has the line's number, counted from 1, and its fault. The contents of `bytes` are
+/// then unspecified.
+fn pass_on(
+    capture: &mut Capture,
+    line: &[u8],
+    bytes: &mut [u8; BYTES_MAX],
+) -> Result<(), CaptureStop>
     requires few { count_of capture.old ≤ 1000000 }
     ensures taken { OnOk result ((limits : Limits) (lines : List (List ℕ)) →
         HasAcceptedLines limits capture.old lines → HasAcceptedLines limits capture.new (lines ++ line.now ∷ [])) }
@@ -114,8 +128,29 @@ fn pass_on(capture: &mut Capture, line: &[u8]) -> Result<(), CaptureStop>
     ensures count { OnOk result ((count_of capture.new ≡ count_of capture.old + 1) × (count_of capture.new ≤ 1000000)) }
 {
     let number = capture.count() + 1;
-    match capture.take_line(line) {
+    let taken = match bytes_of(line, bytes) {
+        Some((role, count)) => capture.line_of_bytes(line, role, &mut bytes[..count]),
+        None => capture.take_line(line),
+    };
+    match taken {
         Ok(()) => Ok(()),
         Err(fault) => Err(CaptureStop::Line { number, fault }),
     }
+}
+
+/// The endpoint whose bytes a line gives, and their number; they are then at the start of `bytes`. `None` if the line has
+/// another form, or more or other digits than such a line may have; the contents of `bytes` are then unspecified.
+fn bytes_of(line: &[u8], bytes: &mut [u8; BYTES_MAX]) -> Option<(Role, usize)>
+    ensures { IfSome result (λ found. (found.1 ≤ BYTES_MAX) × IsEntry line.now (Bytes found.0 (take found.1 bytes.new))) }
+{
+    let text = strip_cr(line);
+    let Some(LineForm::Bytes(role)) = form_of(text) else {
+        return None;
+    };
+    let digits = &text[2..];
+    if digits.len() > 2 * BYTES_MAX {
+        return None;
+    }
+    let count = decode(digits, bytes).ok()?;
+    Some((role, count))
 }

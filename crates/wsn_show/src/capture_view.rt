@@ -15,6 +15,7 @@ use crate::stream_view::StreamView;
 use crate::style::Style;
 use crate::times::{CurrentTime, LINE_MAX};
 use std::io::Write;
+use std::marker::Model;
 use wsn_capture::line_form::{LineForm, decode, form_of, strip_cr};
 use wsn_capture::{Capture, LineFault, Report};
 use wsn_io::Output;
@@ -28,32 +29,38 @@ const BYTES_MAX: usize = 4096;
 /// Shows the lines of a capture one by one: prints what each completes. It keeps none of the lines.
 #[derive(Drop)]
 pub struct CaptureView {
-    capture: Capture,
-    client: StreamView,
-    server: StreamView,
-    time: CurrentTime,
+    lines: LinesView,
+    /// Room for the bytes that a line gives.
+    bytes: [u8; BYTES_MAX],
+    /// Room for a copy of them.
+    scanned: [u8; BYTES_MAX],
+}
+
+impl Model for CaptureView {
+    ghost use Rattle.wsn_show.specs.declared.capture_view.LinesView.{LinesView};
+
+    ghost Value = { LinesView };
+
+    ghost view = { λ view. view.lines };
 }
 
 impl CaptureView {
-    ghost use Rattle.std.specs.Prelude.{◌≡◌, ◌≤◌, ◌+◌, ℕ, List, [], ◌∷◌, ◌++◌, length, false, Some, OnOk, IfErr};
+    ghost use Rattle.std.specs.Prelude.{◌≡◌, ◌≤◌, ◌+◌, ℕ, List, [], false, OnOk, IfErr};
     ghost use Rattle.wsn_rules.specs.Limits.{Limits};
-    ghost use Rattle.wsn_rules.specs.Entries.{Entry, GivesEntry, IsHex, bytes_prefix, end_mark, without_cr};
+    ghost use Rattle.wsn_rules.specs.Entries.{Entry};
     ghost use Rattle.wsn_capture.specs.Captures.{count_of};
     ghost use Rattle.wsn_capture.specs.LineFaults.{IsFaultAfter};
-    ghost use Rattle.wsn_rules.specs.Entries.Entry.{Nothing};
     ghost use Rattle.wsn_show.specs.declared.style.Style.{Style};
-    ghost use Rattle.wsn_show.specs.CaptureViews.{HasShownLines, IsShowingLines, CanShow, Shows, ShowsLine, LeavesAtEnd, Finishes};
+    ghost use Rattle.wsn_show.specs.CaptureViews.{HasShownLines, IsShowingLines, ShowsLine, Finishes};
 
     /// A view that has shown no line. The limits apply to each endpoint's stream separately.
     pub fn new(limits: Limits, style: Style) -> CaptureView
         ensures { HasShownLines limits style result [] [] }
     {
-        let of_client = style;
         CaptureView {
-            capture: Capture::new(limits),
-            client: StreamView::new(Role::Client, limits, of_client),
-            server: StreamView::new(Role::Server, limits, style),
-            time: CurrentTime::new(),
+            lines: LinesView::new(limits, style),
+            bytes: [0; BYTES_MAX],
+            scanned: [0; BYTES_MAX],
         }
     }
 
@@ -73,9 +80,91 @@ impl CaptureView {
         ensures count { OnOk result ((count_of self.new.capture ≡ count_of self.old.capture + 1)
             × (count_of self.new.capture ≤ 1000000)) }
     {
+        self.lines
+            .line(line, &mut self.bytes, &mut self.scanned, output)
+    }
+
+    /// How the lines are shown.
+    pub fn style(&self) -> Style
+        ensures { (limits : Limits) (style : Style) (lines : List (List ℕ)) (entries : List Entry) →
+            HasShownLines limits style self.now lines entries → result ≡ style }
+    {
+        self.lines.style()
+    }
+
+    /// The number of lines that it has shown.
+    pub fn count(&self) -> u32
+        ensures { result ≡ count_of self.now.capture }
+    {
+        self.lines.count()
+    }
+
+    /// Prints what is left over of both streams at the end of the capture, the client's first, and returns the report.
+    pub fn finish<W: Write>(&self, output: &mut Output<W>) -> Report
+        requires { output.old.failed ≡ false }
+        ensures { (limits : Limits) (style : Style) (lines : List (List ℕ)) (entries : List Entry) →
+            HasShownLines limits style self.now lines entries →
+            Finishes limits style lines entries output.old output.new result }
+    {
+        self.lines.finish(output)
+    }
+}
+
+/// Shows the lines of a capture as a [`CaptureView`] does, with the caller's room for a line's bytes.
+#[derive(Drop)]
+pub struct LinesView {
+    capture: Capture,
+    client: StreamView,
+    server: StreamView,
+    time: CurrentTime,
+}
+
+impl LinesView {
+    ghost use Rattle.std.specs.Prelude.{◌≡◌, ◌≤◌, ◌+◌, ℕ, List, [], ◌∷◌, ◌++◌, length, false, Some, OnOk, IfErr};
+    ghost use Rattle.wsn_rules.specs.Limits.{Limits};
+    ghost use Rattle.wsn_rules.specs.Entries.{Entry, GivesEntry, IsHex, bytes_prefix, end_mark, without_cr};
+    ghost use Rattle.wsn_capture.specs.Captures.{count_of};
+    ghost use Rattle.wsn_capture.specs.LineFaults.{IsFaultAfter};
+    ghost use Rattle.wsn_rules.specs.Entries.Entry.{Nothing};
+    ghost use Rattle.wsn_show.specs.declared.style.Style.{Style};
+    ghost use Rattle.wsn_show.specs.CaptureViews.{HasShownLines, IsShowingLines, CanShow, Shows, ShowsLine, LeavesAtEnd, Finishes};
+
+    /// A view that has shown no line. The limits apply to each endpoint's stream separately.
+    pub fn new(limits: Limits, style: Style) -> LinesView
+        ensures { HasShownLines limits style result [] [] }
+    {
+        let of_client = style;
+        LinesView {
+            capture: Capture::new(limits),
+            client: StreamView::new(Role::Client, limits, of_client),
+            server: StreamView::new(Role::Server, limits, style),
+            time: CurrentTime::new(),
+        }
+    }
+
+    /// Accepts the next line as [`CaptureView::line`] does. The contents of `bytes` and `scanned` are then unspecified.
+    pub fn line<W: Write>(
+        &mut self,
+        line: &[u8],
+        bytes: &mut [u8; BYTES_MAX],
+        scanned: &mut [u8; BYTES_MAX],
+        output: &mut Output<W>,
+    ) -> Result<(), LineFault>
+        requires showing { IsShowingLines self.old }
+        requires writable { output.old.failed ≡ false }
+        ensures shown { OnOk result ((limits : Limits) (style : Style) (lines : List (List ℕ)) (entries : List Entry) →
+            HasShownLines limits style self.old lines entries →
+            ShowsLine limits style self.new lines entries line.now output.old output.new) }
+        ensures fault { IfErr result (λ fault. (limits : Limits) (style : Style) (lines : List (List ℕ))
+            (entries : List Entry) →
+            HasShownLines limits style self.old lines entries → IsFaultAfter limits lines line.now fault) }
+        ensures unchanged { IfErr result (λ _. (self.new ≡ self.old) × (output.new ≡ output.old)) }
+        ensures count { OnOk result ((count_of self.new.capture ≡ count_of self.old.capture + 1)
+            × (count_of self.new.capture ≤ 1000000)) }
+    {
         let text = strip_cr(line);
         match sender_of(text) {
-            Some(role) => self.line_of_bytes(line, role, output),
+            Some(role) => self.line_of_bytes(line, role, bytes, scanned, output),
             None => {
                 self.capture.line(line)?;
                 self.show(text, output);
@@ -84,11 +173,13 @@ impl CaptureView {
         }
     }
 
-    /// Accepts the next line as [`CaptureView::line`] does, one of an endpoint's bytes, if it has a valid encoding of these.
+    /// Accepts the next line as [`LinesView::line`] does, one of an endpoint's bytes, if it has a valid encoding of these.
     fn line_of_bytes<W: Write>(
         &mut self,
         line: &[u8],
         role: Role,
+        bytes: &mut [u8; BYTES_MAX],
+        scanned: &mut [u8; BYTES_MAX],
         output: &mut Output<W>,
     ) -> Result<(), LineFault>
         requires showing { IsShowingLines self.old }
@@ -104,11 +195,10 @@ impl CaptureView {
         ensures count { OnOk result ((count_of self.new.capture ≡ count_of self.old.capture + 1)
             × (count_of self.new.capture ≤ 1000000)) }
     {
-        let mut bytes = [0; BYTES_MAX];
-        let Some(count) = bytes_of(&strip_cr(line)[2..], &mut bytes) else {
+        let Some(count) = bytes_of(&strip_cr(line)[2..], bytes) else {
             return self.capture.line(line);
         };
-        let mut scanned = bytes;
+        scanned[..count].copy_from_slice(&bytes[..count]);
         self.capture
             .line_of_bytes(line, role, &mut scanned[..count])?;
         self.show_bytes(role, &mut bytes[..count], output);

@@ -1,6 +1,6 @@
 ghost use Rattle.std.specs.Prelude.{◌≡◌};
 
-use arrayvec::ArrayVec;
+use crate::kept_bytes::KeptBytes;
 use wsn_print::HeldBytes;
 
 /// The most bytes that a [`FirstBytes`] holds.
@@ -10,7 +10,7 @@ pub(crate) const FIRST_MAX: usize = 4_096;
 #[derive(Drop)]
 pub struct FirstBytes {
     count: u64,
-    held: ArrayVec<u8, FIRST_MAX>,
+    held: KeptBytes<FIRST_MAX>,
 }
 
 impl FirstBytes {
@@ -23,7 +23,7 @@ impl FirstBytes {
     {
         FirstBytes {
             count: 0,
-            held: ArrayVec::new(),
+            held: KeptBytes::new(),
         }
     }
 
@@ -40,10 +40,8 @@ impl FirstBytes {
         ensures { (came : List ℕ) → length came + length bytes.now < 2 ^ 64 → HasFirst self.old came →
             HasFirst self.new (came ++ bytes.now) }
     {
-        let room = self.held.remaining_capacity();
-        let _fits = self
-            .held
-            .try_extend_from_slice(&bytes[..room.min(bytes.len())]);
+        let room = FIRST_MAX - self.held.len();
+        self.held.add(&bytes[..room.min(bytes.len())]);
         self.count = self.count.saturating_add(bytes.len() as u64);
     }
 

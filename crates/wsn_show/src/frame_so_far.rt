@@ -2,10 +2,13 @@ ghost use Rattle.std.specs.Prelude.{◌≡◌};
 
 use crate::evidence::Evidence;
 use crate::first_bytes::FirstBytes;
-use crate::last_bytes::LastBytes;
+use crate::last_bytes::{LAST_MAX, LastBytes};
 use wsn_print::ShownEvent;
 use wsn_rules::HeadInfo;
 use wsn_wire::Op;
+
+/// At most this many bytes of a frame are passed to a scan before its head is known: no head is longer.
+const HEAD_ROOM: usize = 64;
 
 /// The frame that has begun or comes next (RFC 6455 section 5.2).
 #[derive(Drop)]
@@ -23,7 +26,7 @@ pub struct FrameSoFar {
 }
 
 impl FrameSoFar {
-    ghost use Rattle.std.specs.Prelude.{ℕ, ◌+◌, ◌<◌, ◌^◌, List, [], ◌∷◌, ◌++◌, length, not, None, Some};
+    ghost use Rattle.std.specs.Prelude.{ℕ, ◌+◌, ◌<◌, ◌≤◌, ◌^◌, List, [], ◌∷◌, ◌++◌, length, not, None, Some};
     ghost use Rattle.wsn_frame.specs.Payloads.{unmasked_by};
     ghost use Rattle.wsn_show.specs.HeldParts.{HasLast, IsEvidence};
     ghost use Rattle.wsn_wire.specs.Frame.{Frame, stream, is_control};
@@ -51,6 +54,22 @@ impl FrameSoFar {
     {
         self.first.add(bytes);
         self.last.add(bytes);
+    }
+
+    /// How many bytes at most the next call of a scan gets: as many as the frame lacks, or as many as a head may have.
+    /// Further bytes would be copied and not consumed.
+    pub fn wanted(&self) -> usize
+        ensures some { 0 < result }
+        ensures few { result ≤ LAST_MAX }
+    {
+        match &self.head {
+            Some(head) => {
+                let lacks = head.len.saturating_sub(self.payload.count());
+                lacks.clamp(1, LAST_MAX as u64) as usize
+            }
+            None if self.last.count() == 0 => HEAD_ROOM,
+            None => LAST_MAX,
+        }
     }
 
     /// Its head is complete.

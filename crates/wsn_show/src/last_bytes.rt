@@ -1,5 +1,6 @@
 ghost use Rattle.std.specs.Prelude.{◌≡◌};
 
+use crate::kept_bytes::KeptBytes;
 use arrayvec::ArrayVec;
 use wsn_frame::unmask;
 
@@ -10,7 +11,7 @@ pub(crate) const LAST_MAX: usize = 2_048;
 #[derive(Drop)]
 pub struct LastBytes {
     count: u64,
-    held: ArrayVec<u8, LAST_MAX>,
+    held: KeptBytes<LAST_MAX>,
 }
 
 impl LastBytes {
@@ -24,7 +25,7 @@ impl LastBytes {
     {
         LastBytes {
             count: 0,
-            held: ArrayVec::new(),
+            held: KeptBytes::new(),
         }
     }
 
@@ -43,7 +44,7 @@ impl LastBytes {
     {
         let last = &bytes[bytes.len().saturating_sub(LAST_MAX)..];
         self.make_room(last.len());
-        let _fits = self.held.try_extend_from_slice(last);
+        self.held.add(last);
         self.count = self.count.saturating_add(bytes.len() as u64);
     }
 
@@ -54,10 +55,8 @@ impl LastBytes {
             ≡ drop ((length self.old.held.items + number) - LAST_MAX) self.old.held.items }
         ensures count { self.new.count ≡ self.old.count }
     {
-        let len = self.held.len();
-        let over = (len + number).saturating_sub(LAST_MAX);
-        self.held.rotate_left(over);
-        self.held.truncate(len - over);
+        let over = (self.held.len() + number).saturating_sub(LAST_MAX);
+        self.held.drop_front(over);
     }
 
     /// Of the last `size` bytes that came, which begin a payload with this key, the last ones, unmasked (RFC 6455

@@ -20,6 +20,7 @@ mod evidence;
 mod first_bytes;
 mod following;
 mod frame_so_far;
+mod kept_bytes;
 mod last_bytes;
 mod message_so_far;
 mod printing;

@@ -73,7 +73,8 @@ impl ShownScan {
             (0 < result) ⊎ (ends_pending self.new.scan < ends_pending self.old.scan)
             ⊎ (refusal_in self.new.scan ≢ None) }
     {
-        let consumed = next_bytes(&mut self.scan, piece, &mut self.copy);
+        let most = self.parts.frame.wanted();
+        let consumed = next_bytes(&mut self.scan, piece, most, &mut self.copy);
         let count = consumed.bytes.len();
         self.parts
             .follow(&consumed, &piece[..count], output, context);

@@ -3,7 +3,6 @@ ghost use Rattle.std.specs.List.{AllByRecursion};
 ghost use Rattle.wsn_rules.specs.ShownCapture.{IsDigit, IsSeconds, GivesTime, GivesNoTime};
 ghost use Rattle.wsn_show.specs.Times.{IsWhole, IsFraction};
 
-use arrayvec::ArrayVec;
 use memchr::memchr;
 use std::marker::Model;
 
@@ -56,16 +55,20 @@ fn are_digits(text: &[u8]) -> bool
 /// The time that holds: that of the last line that gave one.
 #[derive(Drop)]
 pub struct CurrentTime {
-    text: Option<ArrayVec<u8, LINE_MAX>>,
+    text: [u8; LINE_MAX],
+    /// The first `len` bytes of the text are the time, if a line has given one.
+    len: usize,
+    given: bool,
 }
 
 impl Model for CurrentTime {
-    ghost use Rattle.std.specs.Prelude.{ℕ, List, Option};
-    ghost use Rattle.std.specs.Option.{option_map};
+    ghost use Rattle.std.specs.Prelude.{ℕ, ◌≤◌, List, Option, None, Some, take, if◌then◌else◌};
 
     ghost Value = { Option (List ℕ) };
 
-    ghost view = { λ time. option_map (λ text. text.items) time.text };
+    ghost view = { λ time. if time.given then Some (take time.len time.text) else None };
+
+    ghost invariant = { λ time. time.len ≤ 8194 };
 }
 
 impl CurrentTime {
@@ -76,17 +79,21 @@ impl CurrentTime {
     pub fn new() -> CurrentTime
         ensures { result ≡ None }
     {
-        CurrentTime { text: None }
+        CurrentTime {
+            text: [0; LINE_MAX],
+            len: 0,
+            given: false,
+        }
     }
 
     /// The time, if one holds.
     pub fn text(&self) -> Option<&[u8]>
         ensures { option_copied result ≡ self.now }
     {
-        match &self.text {
-            Some(text) => Some(text.as_slice()),
-            None => None,
+        if !self.given {
+            return None;
         }
+        Some(&self.text[..self.len])
     }
 
     /// Takes a line without its CR, and returns whether it gives a time, which holds from then on.
@@ -98,9 +105,9 @@ impl CurrentTime {
         let Some(seconds) = time_of(line) else {
             return false;
         };
-        let mut text = ArrayVec::new();
-        let _fits = text.try_extend_from_slice(seconds);
-        self.text = Some(text);
+        self.text[..seconds.len()].copy_from_slice(seconds);
+        self.len = seconds.len();
+        self.given = true;
         true
     }
 }

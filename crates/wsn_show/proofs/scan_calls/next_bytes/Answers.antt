@@ -11,7 +11,7 @@ copied : (c : goal.After-result-1) →
     (take c.next-count.result.0 (c.copy_from_slice.new.self ++ post_of 0 c.min-size.result c.args.copy.now) ≡ take c.next-count.result.0 c.args.piece.now)
     × (length (take c.next-count.result.0 (c.copy_from_slice.new.self ++ post_of 0 c.min-size.result c.args.copy.now)) ≡ c.next-count.result.0)
 copied c =
-    consumed_of c.min-size.result c.next-count.result.0 c.args.piece.now c.copy_from_slice.new.self (post_of 0 c.min-size.result c.args.copy.now) c.min-size.ensures c.copy_from_slice.ensures.after c.next-count.ensures.within
+    consumed_of c.args.most c.min-size.result c.next-count.result.0 c.args.piece.now c.copy_from_slice.new.self (post_of 0 c.min-size.result c.args.copy.now) c.min-size.ensures c.copy_from_slice.ensures.after c.next-count.ensures.within
 
 pub returns-clause-call : goal.returns-clause-call
 returns-clause-call c all_bytes =
@@ -23,14 +23,14 @@ returns-clause-call c all_bytes =
     let count = c.next-count.result.0 in
     let part = take c.min-size.result piece in
     let same = c.next-count.auto.piece in
-    let after = after_is c.min-size.result piece c.next-count.new.piece size same in
-    let is = part_is c.min-size.result piece size in
+    let after = after_is c.args.most c.min-size.result piece c.next-count.new.piece size same in
+    let is = part_is c.args.most c.min-size.result piece size in
     let number = (copied c).1 in
-    subst (λ (m : ℕ). IsCall old new (take 2048 piece) (take 2048 (c.next-count.new.piece ++ drop c.min-size.result piece)) m notice) (sym number)
-    (subst (λ (bs : List ℕ). IsCall old new (take 2048 piece) bs count notice) (sym after)
+    subst (λ (m : ℕ). IsCall old new (take c.args.most piece) (take c.args.most (c.next-count.new.piece ++ drop c.min-size.result piece)) m notice) (sym number)
+    (subst (λ (bs : List ℕ). IsCall old new (take c.args.most piece) bs count notice) (sym after)
     (subst (λ (bs : List ℕ). IsCall old new bs c.next-count.new.piece count notice) is
     (let call : IsCall old new part c.next-count.new.piece count notice = record {
-      in_bytes = subst (λ (bs : List ℕ). IsBytes bs) (sym is) (bytes_of_part piece all_bytes);
+      in_bytes = subst (λ (bs : List ℕ). IsBytes bs) (sym is) (bytes_of_part c.args.most piece all_bytes);
       advances = c.next-count.ensures.taken;
       consumes = c.next-count.ensures.consumes;
       within = c.next-count.ensures.within;
@@ -54,4 +54,4 @@ pub returns-clause-progress : goal.returns-clause-progress
 returns-clause-progress c role limits bytes rest fs reported has some =
     let size = c.min-size.ensures in
     subst (λ (m : ℕ). MakesProgress c.args.scan.now c.next-count.new.self m c.next-count.result.1) (sym (copied c).1)
-    (c.next-count.ensures.makes_progress role limits bytes rest fs reported has (omega (arith, size_of_part c.min-size.result c.args.piece.now size, size, some)))
+    (c.next-count.ensures.makes_progress role limits bytes rest fs reported has (omega (arith, size_of_part c.args.most c.min-size.result c.args.piece.now size, size, some)))

@@ -1,5 +1,5 @@
-use Rattle.std.proofs.Common.{◌≡◌, ℕ, ◌+◌, ◌-◌, List, ◌++◌, length, take, drop, min, refl, ap, ◌∙◌, arith, length-drop}
-use Rattle.wsn_show.proofs.MoreBytesHeld.{extended, counted, last_more, rest_is}
+use Rattle.std.proofs.Common.{◌≡◌, ℕ, ◌+◌, ◌-◌, List, ◌++◌, length, take, drop, min, refl, ap, ◌∙◌}
+use Rattle.wsn_show.proofs.MoreBytesHeld.{counted, last_more, rest_is}
 use Rattle.wsn_show.proofs.last_bytes.LastBytes.add.Goals as goal
 
 pub returns : goal.returns
@@ -10,13 +10,10 @@ returns c came small has =
     let last = drop (length bytes - 2048) bytes in
     let passed : take (length bytes - c.saturating_sub.result) (drop c.saturating_sub.result bytes) ≡ last = rest_is c.saturating_sub.result bytes ∙ ap (λ (m : ℕ). drop m bytes) from in
     let room : c.make_room.new.self.held.items ≡ drop (length held + length last - 2048) held = c.make_room.ensures.held ∙ ap (λ (bs : List ℕ). drop (length held + length bs - 2048) held) passed in
-    let size : length last ≡ length bytes - (length bytes - 2048) = length-drop (length bytes - 2048) bytes in
-    let same : length (take (length bytes - c.saturating_sub.result) (drop c.saturating_sub.result bytes)) ≡ length last = ap (λ (bs : List ℕ). length bs) passed in
-    let left : length c.make_room.new.self.held.items ≡ length held - (length held + length last - 2048) = ap (λ (bs : List ℕ). length bs) room ∙ length-drop (length held + length last - 2048) held in
     record {
       count = counted c.args.self.now.count (length bytes) c.saturating_add-self.result came bytes has.count refl small (c.saturating_add-self.ensures ∙ ap (λ (m : ℕ). min (m + length bytes) 18446744073709551615) c.make_room.ensures.count);
       held =
-          extended c.try_extend_from_slice-fits.result c.try_extend_from_slice-fits.ensures.variant (omega (arith, size, same, left)) c.try_extend_from_slice-fits.ensures.ok
+          c.add.ensures
           ∙ ap (λ (bs : List ℕ). bs ++ take (length bytes - c.saturating_sub.result) (drop c.saturating_sub.result bytes)) room
           ∙ ap (λ (bs : List ℕ). drop (length held + length last - 2048) held ++ bs) passed ∙ last_more held came bytes has.held;
     }

@@ -1,9 +1,11 @@
-use Rattle.std.proofs.Common.{◌-◌, ℕ, List, length, take, drop, sym, subst}
-use Rattle.wsn_rules.specs.Entries.{without_cr}
+use Rattle.std.proofs.Common.{◌≡◌, ◌-◌, ℕ, List, length, take, drop, sym, subst, ◌∙◌, arith, rules}
+use Rattle.std.proofs.lemmas.Grind.{common_steps}
+use Rattle.std.proofs.lemmas.List.{take_at}
+use Rattle.wsn_rules.specs.Entries.{without_cr, IsHex}
 use Rattle.wsn_capture.proofs.AcceptedTexts.{on_ok, if_err}
 use Rattle.wsn_show.specs.CaptureViews.{AreViewed, CanShow, ShowsText, IsAcceptedText}
 use Rattle.wsn_show.proofs.AcceptedLines.{its_digits, bytes_given, can_show, line_accepted, line_shown}
-use Rattle.wsn_show.proofs.capture_view.CaptureView.line_of_bytes.Goals as goal
+use Rattle.wsn_show.proofs.capture_view.LinesView.line_of_bytes.Goals as goal
 
 pub returns-in_default-clause-shown : goal.returns-in_default-clause-shown
 returns-in_default-clause-shown g c =
@@ -18,10 +20,15 @@ returns-in_default-clause-fault g c =
 
 pub line_of_bytes-requires : goal.line_of_bytes-requires
 line_of_bytes-requires g c =
-    let text = c.strip_cr.result.now in (
+    let text = c.strip_cr.result.now in
+    let count = c.in-Some.count in
+    let copied = c.copy_from_slice.new.self in
+    let rest = drop count c.args.scanned.now in
+    let copy : copied ≡ take count c.bytes_of.new.bytes = search rules in
+    let size : length copied ≡ count = first_of (search rules, grind (arith, common_steps)) in (
       take (length text - 2) (drop 2 text),
       its_digits c.args.role c.requires.of_bytes.0 text (without_cr c.args.line.now) c.strip_cr.ensures c.requires.of_bytes.1,
-      c.in-Some.ensures.some.1,
+      subst (λ (bs : List ℕ). IsHex (take (length text - 2) (drop 2 text)) bs) (sym (take_at copied rest count size ∙ copy)) c.in-Some.ensures.some.1,
     )
 
 pub show_bytes-requires-clause-can_show : goal.show_bytes-requires-clause-can_show

@@ -4,7 +4,7 @@ use Rattle.wsn_capture.specs.declared.line_fault.LineFault.TheVariants.{BadForm}
 use Rattle.wsn_capture.specs.LineForms.{IsForm}
 use Rattle.wsn_show.specs.CaptureViews.{Shows}
 use Rattle.std.proofs.Common.{Some}
-use Rattle.wsn_show.proofs.capture_view.CaptureView.show.Goals as goal
+use Rattle.wsn_show.proofs.capture_view.LinesView.show.Goals as goal
 
 pub returns-in-Some-Mark-clause-shows : goal.returns-in-Some-Mark-clause-shows
 returns-in-Some-Mark-clause-shows g c =

@@ -4,7 +4,7 @@ use Rattle.wsn_io.specs.Transfer.{IsWrittenUpToFailure}
 use Rattle.wsn_rules.specs.Sides.{has_ended, sent}
 use Rattle.wsn_show.specs.StreamViews.{HasViewed}
 use Rattle.wsn_show.proofs.AcceptedLines.{ended_is}
-use Rattle.wsn_show.proofs.capture_view.CaptureView.put_left_at_end.Goals as goal
+use Rattle.wsn_show.proofs.capture_view.LinesView.put_left_at_end.Goals as goal
 
 pub returns-then-has_ended : goal.returns-then-has_ended
 returns-then-has_ended g c limits style lines entries has =

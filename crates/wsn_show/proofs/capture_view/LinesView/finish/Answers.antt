@@ -6,7 +6,7 @@ use Rattle.wsn_print.specs.ShownObjects.Position.{AtEnd}
 use Rattle.wsn_show.specs.Styles.{styled_items}
 use Rattle.wsn_show.proofs.ShownEntries.{both_streams_text}
 use Rattle.wsn_show.proofs.AcceptedLines.{report_of}
-use Rattle.wsn_show.proofs.capture_view.CaptureView.finish.Goals as goal
+use Rattle.wsn_show.proofs.capture_view.LinesView.finish.Goals as goal
 
 pub returns : goal.returns
 returns g c limits style lines entries has =

@@ -7,7 +7,7 @@ use Rattle.wsn_show.specs.declared.style.Style.{Style}
 use Rattle.wsn_io.proofs.PutTexts.{prints_nothing, went_out}
 use Rattle.wsn_show.specs.CaptureViews.{ShowsText}
 use Rattle.wsn_show.proofs.ShownEntries.{empty_text, some_text, shows_empty, shows_time, shows_comment}
-use Rattle.wsn_show.proofs.capture_view.CaptureView.show_nothing.Goals as goal
+use Rattle.wsn_show.proofs.capture_view.LinesView.show_nothing.Goals as goal
 
 pub returns-then-is_empty-clause-shows : goal.returns-then-is_empty-clause-shows
 returns-then-is_empty-clause-shows g c limits style given entry viewed accepted =

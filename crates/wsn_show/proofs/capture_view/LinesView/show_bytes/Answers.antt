@@ -6,7 +6,7 @@ use Rattle.wsn_rules.specs.Sides.{sent}
 use Rattle.wsn_print.specs.ShownObjects.{Position}
 use Rattle.wsn_show.specs.CaptureViews.{IsAcceptedText, CanShow, ShowsText}
 use Rattle.wsn_show.proofs.ShownEntries.{Takes, shows_client, shows_server, room_for_client, room_for_server}
-use Rattle.wsn_show.proofs.capture_view.CaptureView.show_bytes.Goals as goal
+use Rattle.wsn_show.proofs.capture_view.LinesView.show_bytes.Goals as goal
 
 pub take-requires-clause-fits : goal.take-requires-clause-fits
 take-requires-clause-fits g c =
