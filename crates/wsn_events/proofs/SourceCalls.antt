@@ -101,18 +101,22 @@ module _ {A : Type 0} (role : Role) (limits : Limits) (came : List ℕ) (given :
   )
 
 module _ {A : Type 0} (role : Role) (limits : Limits) (old : Incoming) (came : List ℕ) (given : List MeantEvent) where
-  -- the call ends without a read
-  pub ends_at_once : (last : EventReader A) (answer : Result Verdict Stop) (final : Result (Next A) Stop) → length came ≤ limits.input + 1 → IsLast role limits old came given answer → answered last ≡ Some answer → held_of last ≡ 0 → final ≡ next_of answer
-      → GoesOn role limits old old last came given final
-  ends_at_once last answer final few is answered_is held same =
-      let none = sym (append-nil came) in
-      record {
-        more = [];
-        consumed = consumed_none old;
-        few = subst (λ (bs : List ℕ). length bs ≤ limits.input + 1) none few;
-        next = subst (λ (bs : List ℕ). IsNextEvent role limits old last bs given final) none
-            (subst (λ (r : Result (Next A) Stop). IsNextEvent role limits old last came given r) (sym same) (last_next role limits old last came given answer is answered_is held));
-      }
+  -- the call ends before its next read
+  pub ends_there : (mid : Incoming) (reading : EventReader A) (read : HasRead role limits old mid reading came given) (last : EventReader A) (answer : Result Verdict Stop) (final : Result (Next A) Stop)
+      → IsLast role limits mid (came ++ read.more) given answer → answered last ≡ Some answer → held_of last ≡ 0 → final ≡ next_of answer → GoesOn role limits old mid last came given final
+  ends_there mid reading read last answer final is answered_is held same = record {
+    more = read.more;
+    consumed = read.consumed;
+    few = read.has.has_reported.buffered.few;
+    next =
+        subst (λ (r : Result (Next A) Stop). IsNextEvent role limits mid last (came ++ read.more) given r) (sym same)
+        (last_next role limits mid last (came ++ read.more) given answer is answered_is held);
+  }
+
+  -- the call has gone on without a read
+  pub goes_on_there : (mid : Incoming) (reading next : EventReader A) → HasRead role limits old mid reading came given
+      → ((bytes : List ℕ) → HasGiven role limits reading bytes given → HasGiven role limits next bytes given) → HasRead role limits old mid next came given
+  goes_on_there mid reading next read on = record { more = read.more; consumed = read.consumed; has = on (came ++ read.more) read.has }
 
   pub begins : (reading : EventReader A) → HasGiven role limits reading came given → HasRead role limits old old reading came given
   begins reading has = record { more = []; consumed = consumed_none old; has = subst (λ (bs : List ℕ). HasGiven role limits reading bs given) (sym (append-nil came)) has }

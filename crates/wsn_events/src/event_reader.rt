@@ -70,10 +70,10 @@ impl<A: Allocator + Copy> EventReader<A> {
         ensures falls { IsEvent result → readings_left self.new < readings_left self.old }
         ensures sound { answered self.new ≡ None → IsEvent result }
     {
-        if !self.take_start() {
-            return self.finish(Err(Stop::Memory));
-        }
         loop {
+            if !self.take_start() {
+                return self.finish(Err(Stop::Memory));
+            }
             match self.reader.next(input) {
                 Ok(NextNotice::Head(head)) => self.reassembly.begin(head.op, head.place),
                 Ok(NextNotice::Payload) => {
@@ -92,8 +92,8 @@ impl<A: Allocator + Copy> EventReader<A> {
         }
     }
 
-    /// Takes the start of the next frame, if [`NoticeReader::take_start`] does. Returns false if an allocation fails, which
-    /// can happen only after a payload byte of a data frame.
+    /// Takes the start of the next frame, or all of it but its end, if [`NoticeReader::take_start`] does. Returns false if
+    /// an allocation fails, which can happen only after a payload byte of a data frame.
     #[inline(always)]
     fn take_start(&mut self) -> bool
         requires { IsAtWork self.old }

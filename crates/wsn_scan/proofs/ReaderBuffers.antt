@@ -3,7 +3,7 @@ use Rattle.std.specs.List.{slice_range}
 use Rattle.std.proofs.Common.{◌≡◌, ℕ, ◌+◌, ◌-◌, ◌≤◌, Bool, true, false, List, [], ◌∷◌, ◌++◌, length, take, drop, refl, sym, ap, ◌∙◌, subst, arith, length-append, length-drop, take-append-drop}
 use Rattle.std.proofs.Math.Seq.{drop-append-add}
 use Rattle.std.proofs.lemmas.Bool.{ltb-true, ltb-false}
-use Rattle.std.proofs.lemmas.List.{length-take, length-take-le, drop-append-le, take_all, take-append-le}
+use Rattle.std.proofs.lemmas.List.{length-take, length-take-le, drop-append-le, take_all, take-append-le, take-take}
 use borrow.Rule.Slice.PartMut.{mid_of, mid_len, post_of, put_mid, put_same}
 use Rattle.wsn_wire.specs.Frame.{IsBytes}
 use Rattle.wsn_wire.proofs.FrameLemmas.{IsBytes-left, IsBytes-right}
@@ -28,6 +28,16 @@ part_after at end n xs ys within in_xs size fits =
     ∙ drop-append-le n ys (post_of at (end - at) xs) (omega (arith, size)) in
     let left : end - (at + n) ≡ length (drop n ys) = omega (arith, length-drop n ys, size) in
     ap (take (end - (at + n))) following ∙ take-append-le (end - (at + n)) (drop n ys) (post_of at (end - at) xs) (omega (arith, left)) ∙ take_all (end - (at + n)) (drop n ys) (omega (arith, left))
+
+-- a range of the part, once the call has returned
+pub part_within : (at end s n : ℕ) (xs ys : List ℕ) → at ≤ end → end ≤ length xs → length ys ≡ end - at → s ≤ n → at + n ≤ end
+    → slice_range (put_mid at (end - at) xs ys) (at + s) (at + n) ≡ slice_range ys s n
+part_within at end s n xs ys within in_xs size ordered fits =
+    let there = put_mid at (end - at) xs ys in
+    let count : at + n - (at + s) ≡ n - s = omega arith in
+    ap (λ (m : ℕ). take m (drop (at + s) there)) count
+    ∙ sym (take-take (n - s) (end - (at + s)) (drop (at + s) there) (omega (arith, ordered, fits)))
+    ∙ ap (take (n - s)) (part_after at end s xs ys within in_xs size (omega (arith, ordered, fits)))
 
 pub range_after : (at end n : ℕ) (xs : List ℕ) → at ≤ end → end ≤ length xs → at + n ≤ end → slice_range xs (at + n) end ≡ drop n (slice_range xs at end)
 range_after at end n xs within in_xs fits =

@@ -16,10 +16,10 @@ use Rattle.wsn_scan.specs.WholeFrames.{TakesFrame, TakesToEnd, ConsumesToEnd, af
 use Rattle.wsn_scan.proofs.FramesReported.{same_front, length-ends}
 use Rattle.wsn_scan.proofs.HeadsReported.{heads_push}
 
-pub prefix_of_frame : (old new : Scan) (piece : List ℕ) (n : ℕ) (head : HeadInfo) → TakesFrame old new piece n head → ConsumesPrefix old new piece n (head ∷ [])
-prefix_of_frame old new piece n head takes role limits bytes heads taken =
+pub prefix_of_frame : (old new : Scan) (piece : List ℕ) (n : ℕ) (payload : List ℕ) (head : HeadInfo) → TakesFrame old new piece n payload head → ConsumesPrefix old new piece n (head ∷ [])
+prefix_of_frame old new piece n payload head takes role limits bytes heads taken =
     let one = takes role limits bytes taken.since taken.frames (record { heads = heads; payload = taken.payload; ends = taken.ends }) taken.has_scanned in
-    record { frames = taken.frames ++ one.frame ∷ []; since = []; payload = one.payload; ends = ends_of taken.frames; has_scanned = one.has_scanned }
+    record { frames = taken.frames ++ one.frame ∷ []; since = []; payload = payload; ends = ends_of taken.frames; has_scanned = one.has_scanned }
 
 one_end_more : (fs : List Frame) (f : Frame) → ends_of fs ≡ ends_of (fs ++ f ∷ []) → ⊥
 one_end_more fs f same =
@@ -60,9 +60,9 @@ module _ (role : Role) (limits : Limits) (bytes : List ℕ) (fs : List Frame) (f
         at = settled scan.stage has_scanned.at;
       }
 
-pub to_end : (old mid new : Scan) (piece : List ℕ) (n : ℕ) (head : HeadInfo) → old.stage ≡ stages.Between → new ≡ record mid { stage = after_end mid.stage } → TakesFrame old mid piece n head
+pub to_end : (old mid new : Scan) (piece : List ℕ) (n : ℕ) (payload : List ℕ) (head : HeadInfo) → old.stage ≡ stages.Between → new ≡ record mid { stage = after_end mid.stage } → TakesFrame old mid piece n payload head
     → TakesToEnd old new piece n head
-to_end old mid new piece n head between is takes = record { between = between; takes = to }
+to_end old mid new piece n payload head between is takes = record { between = between; takes = to }
   where
     to : (role : Role) (limits : Limits) (bytes since : List ℕ) (fs : List Frame) (reported : Reported) → HasScanned role limits old bytes fs since reported → ConsumesToEnd role limits new (bytes ++ take n piece) fs head
     to role limits bytes since fs reported has_scanned =
@@ -73,13 +73,13 @@ to_end old mid new piece n head between is takes = record { between = between; t
         let heads = reported.heads ++ head ∷ [] in
         let info = info_of (length (stream fs)) f in
         let both : heads_of fs ++ head ∷ [] ≡ heads_of fs ++ info ∷ [] =
-        ap (λ (hs : List HeadInfo). hs ++ head ∷ []) (sym before.at.2) ∙ heads_are role limits came fs f heads one.payload mid.stage one.has_scanned.at ∙ heads_push fs f in
+        ap (λ (hs : List HeadInfo). hs ++ head ∷ []) (sym before.at.2) ∙ heads_are role limits came fs f heads payload mid.stage one.has_scanned.at ∙ heads_push fs f in
         let last : head ∷ [] ≡ info ∷ [] = same_front (heads_of fs) (head ∷ []) (info ∷ []) both in
         let is_head : head ≡ info = cc in
         record {
           frame = f;
           head_is = is_head;
-          has_scanned = subst (λ (scan : Scan). HasScanned role limits scan came (fs ++ f ∷ []) [] (reported_of (fs ++ f ∷ []))) (sym is) (ended role limits came fs f heads one.payload mid one.has_scanned);
+          has_scanned = subst (λ (scan : Scan). HasScanned role limits scan came (fs ++ f ∷ []) [] (reported_of (fs ++ f ∷ []))) (sym is) (ended role limits came fs f heads payload mid one.has_scanned);
         }
 
 -- what a frame that is reported to its end says of the scan's bytes and heads

@@ -15,18 +15,17 @@ use Rattle.wsn_scan.specs.Scans.{HasScanned}
 -- After the frames fs the scan has consumed one more, up to the end of these bytes, and has reported its head and all
 -- of its payload. Its end isn't reported yet.
 pub record ConsumesFrame (role : Role) (limits : Limits) (new : Scan) (bytes : List ℕ) (fs : List Frame)
-    (before : List HeadInfo) (head : HeadInfo) : Type 0 where
+    (before : List HeadInfo) (payload : List ℕ) (head : HeadInfo) : Type 0 where
   pub frame : Frame
-  pub payload : List ℕ
   pub has_scanned : HasScanned role limits new bytes (fs ++ frame ∷ []) []
       (record { heads = before ++ head ∷ []; payload = payload; ends = ends_of fs })
 
 -- Whatever the scan has consumed and reported, it consumes the first n bytes of the piece, which are such a frame.
-abbrev pub TakesFrame : Scan → Scan → List ℕ → ℕ → HeadInfo → Type 0
-TakesFrame old new piece n head =
+abbrev pub TakesFrame : Scan → Scan → List ℕ → ℕ → List ℕ → HeadInfo → Type 0
+TakesFrame old new piece n payload head =
     (role : Role) (limits : Limits) (bytes since : List ℕ) (fs : List Frame) (reported : Reported) →
     HasScanned role limits old bytes fs since reported
-    → ConsumesFrame role limits new (bytes ++ take n piece) fs reported.heads head
+    → ConsumesFrame role limits new (bytes ++ take n piece) fs reported.heads payload head
 
 -- The same with the frame's end: the frame has this head.
 pub record ConsumesToEnd (role : Role) (limits : Limits) (new : Scan) (bytes : List ℕ) (fs : List Frame)

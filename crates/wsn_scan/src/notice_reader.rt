@@ -4,14 +4,14 @@ ghost use Rattle.wsn_wire.specs.Frame.{Frame, IsBytes};
 ghost use Rattle.wsn_scan.specs.Refill.{chunk_size};
 ghost use Rattle.wsn_scan.specs.Scans.{Advances, ConsumesFromPiece, room_of, refusal_in};
 ghost use Rattle.wsn_scan.specs.EventFrames.{TakesEvents, TakesMessage, IsIdle};
-ghost use Rattle.wsn_scan.specs.WholeFrames.{TakesToEnd};
+ghost use Rattle.wsn_scan.specs.WholeFrames.{TakesFrame, TakesToEnd};
 ghost use Rattle.wsn_scan.specs.FrameStarts.{StartsFrame};
 ghost use Rattle.wsn_scan.specs.declared.stage.Stage.TheVariants.{Between};
 ghost use Rattle.wsn_scan.specs.Reports.{refusal_in_notice};
 
 use crate::notice::Notice;
 use crate::refill::{CHUNK, refill};
-use crate::scan::{EventFrame, Scan};
+use crate::scan::{EventFrame, Scan, TakenFrame};
 use std::io::Read;
 use wsn_io::Stop;
 use wsn_rules::{HeadInfo, Limits, Verdict};
@@ -167,11 +167,46 @@ impl NoticeReader {
         Some(head)
     }
 
-    /// Takes the start of the frame that comes next, if the rest of the buffer is one, with a part of its payload, that is
-    /// valid so far. Returns the frame's head; [`payload`](NoticeReader::payload) then returns the part, unmasked (RFC
-    /// 6455 section 5.3). Otherwise nothing changes. It reads nothing.
+    /// Takes what the buffer has of the frame that comes next: its head and its payload, or a part of it, at least a byte,
+    /// that is valid so far. Returns the frame's head; [`payload`](NoticeReader::payload) then returns the part, unmasked
+    /// (RFC 6455 section 5.3). The frame's end is still to be reported. Otherwise nothing changes. It reads nothing.
     #[inline(always)]
     pub fn take_start(&mut self) -> Option<HeadInfo>
+        requires { IsReading self.old }
+        ensures taken { IfSome result (λ head. (role : Role) (limits : _) (came : List ℕ) (done : List Frame)
+            (at : Position) → HasReported role limits self.old came done at →
+            ReportsStart role limits self.new came done at head) }
+        ensures none { IfNone result (self.new ≡ self.old) }
+        ensures falls { IfSome result (λ _. notices_left self.new < notices_left self.old) }
+    {
+        if let Some(head) = self.take_whole() {
+            return Some(head);
+        }
+        self.take_cut()
+    }
+
+    /// Takes the frame that comes next if it is whole in the buffer, its payload isn't empty and it is valid: its head and
+    /// all of its payload, but not its end. Otherwise nothing changes.
+    #[inline(always)]
+    fn take_whole(&mut self) -> Option<HeadInfo>
+        requires { IsReading self.old }
+        ensures taken { IfSome result (λ head. (role : Role) (limits : _) (came : List ℕ) (done : List Frame)
+            (at : Position) → HasReported role limits self.old came done at →
+            ReportsStart role limits self.new came done at head) }
+        ensures none { IfNone result (self.new ≡ self.old) }
+        ensures falls { IfSome result (λ _. notices_left self.new < notices_left self.old) }
+    {
+        let from = self.at;
+        let frame = open_in_part(&mut self.scan, &mut self.buffer, from, self.end)?;
+        self.from = from + frame.start;
+        self.at = from + frame.end;
+        Some(frame.head)
+    }
+
+    /// Takes the start of the frame that comes next, if the rest of the buffer is one, with a part of its payload, that is
+    /// valid so far. Otherwise nothing changes.
+    #[inline(always)]
+    fn take_cut(&mut self) -> Option<HeadInfo>
         requires { IsReading self.old }
         ensures taken { IfSome result (λ head. (role : Role) (limits : _) (came : List ℕ) (done : List Frame)
             (at : Position) → HasReported role limits self.old came done at →
@@ -317,6 +352,25 @@ fn frame_in_part(
     ensures none { IfNone result ((scan.new ≡ scan.old) × (buffer.new ≡ buffer.old)) }
 {
     let found = scan.take_to_end(&mut buffer[at..end])?;
+    Some(found)
+}
+
+/// Passes `buffer[at..end]` to the scan, which takes a frame but for its end. The bytes after those consumed don't change.
+#[inline(always)]
+fn open_in_part(scan: &mut Scan, buffer: &mut [u8], at: usize, end: usize) -> Option<TakenFrame>
+    requires within { (at ≤ end) × (end ≤ length buffer.old) }
+    requires fits { end ≤ room_of scan.old + at }
+    ensures taken { IfSome result (λ found. TakesFrame scan.old scan.new (slice_range buffer.old at end) found.end
+        (slice_range buffer.new (at + found.start) (at + found.end)) found.head) }
+    ensures between { IfSome result (λ _. scan.old.stage ≡ Between) }
+    ensures within { IfSome result (λ found. (found.start < found.end) × (at + found.end ≤ end)) }
+    ensures kept { IfSome result (λ found.
+        slice_range buffer.new (at + found.end) end ≡ slice_range buffer.old (at + found.end) end) }
+    ensures room { IfSome result (λ found. room_of scan.new + found.end ≡ room_of scan.old) }
+    ensures reported { IfSome result (λ _. refusal_in scan.new ≡ None) }
+    ensures none { IfNone result ((scan.new ≡ scan.old) × (buffer.new ≡ buffer.old)) }
+{
+    let found = scan.open_frame(&mut buffer[at..end])?;
     Some(found)
 }
 

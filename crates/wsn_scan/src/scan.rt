@@ -10,6 +10,7 @@ use crate::stage::Stage;
 pub(crate) use event_frames::EventFrame;
 use std::fmt::{self, Debug, Formatter};
 use std::mem;
+pub(crate) use whole_frames::TakenFrame;
 use wsn_frame::{Counts, FrameContext, PartialHead};
 use wsn_rules::{Limits, Refusal};
 use wsn_wire::Role;

@@ -1,14 +1,37 @@
-//! The start of a frame that goes on behind a piece, consumed in one step.
+//! What a piece has of a frame, consumed in one step: all but the frame's end, which is reported by a step of its own, or
+//! the start of a frame that goes on behind the piece.
 
 use super::Scan;
+use super::whole_frames::TakenFrame;
 use crate::stage::{Inside, Stage};
 use wsn_frame::{PayloadCheck, unmask, whole_head};
 use wsn_rules::HeadInfo;
 
 impl Scan {
     ghost use Rattle.std.specs.Prelude.{◌≡◌, ◌+◌, ◌<◌, ◌≤◌, List, None, IfSome, IfNone, length, drop};
-    ghost use Rattle.wsn_scan.specs.Words.{HeadInfo, ConsumesPrefix, IsBytes, room_of, refusal_in, StartsFrame};
+    ghost use Rattle.std.specs.List.{slice_range};
+    ghost use Rattle.wsn_scan.specs.Words.{HeadInfo, ConsumesPrefix, IsBytes, room_of, refusal_in, StartsFrame, TakesFrame};
     ghost use Rattle.wsn_scan.specs.declared.stage.Stage.TheVariants.{Between};
+
+    /// Consumes the frame at the start of the piece as [`Scan::take_frame`] does, if the ends of the frames so far are
+    /// reported. Its own end isn't reported yet.
+    #[inline(never)]
+    pub(crate) fn open_frame(&mut self, piece: &mut [u8]) -> Option<TakenFrame>
+        requires { length piece.old ≤ room_of self.old }
+        ensures taken { IfSome result (λ found. IsBytes piece.old → TakesFrame self.old self.new piece.old found.end
+            (slice_range piece.new found.start found.end) found.head) }
+        ensures between { IfSome result (λ _. self.old.stage ≡ Between) }
+        ensures within { IfSome result (λ found. (found.start < found.end) × (found.end ≤ length piece.old)) }
+        ensures kept { IfSome result (λ found. drop found.end piece.new ≡ drop found.end piece.old) }
+        ensures room { IfSome result (λ found. room_of self.new + found.end ≡ room_of self.old) }
+        ensures reported { IfSome result (λ _. refusal_in self.new ≡ None) }
+        ensures none { IfNone result ((self.new ≡ self.old) × (piece.new ≡ piece.old)) }
+    {
+        if !matches!(self.stage, Stage::Between) {
+            return None;
+        }
+        self.take_frame(piece)
+    }
 
     /// Consumes the piece, all of it, if [`Scan::start_frame`] does. Returns the number of bytes, or 0; then nothing
     /// changes.

@@ -6,7 +6,16 @@ use crate::stage::Stage;
 use wsn_frame::{PayloadCheck, unmask, whole_head};
 use wsn_rules::HeadInfo;
 
+/// A frame that is whole in a piece: its head, and where in the piece its payload begins and ends.
+#[derive(Clone, Copy)]
+pub(crate) struct TakenFrame {
+    pub(crate) head: HeadInfo,
+    pub(crate) start: usize,
+    pub(crate) end: usize,
+}
+
 impl Scan {
+    ghost use Rattle.std.specs.List.{slice_range};
     ghost use Rattle.std.specs.Prelude.{◌≡◌, ℕ, ◌+◌, ◌-◌, ◌<◌, ◌≤◌, List, [], ◌∷◌, None, length, drop, IfSome, IfNone};
     ghost use Rattle.wsn_scan.specs.Words.{HeadInfo, ConsumesPrefix, IsBytes, ConsumesFromPiece, room_of, refusal_in, ends_pending, TakesFrame, TakesToEnd, after_end, Advances};
 
@@ -52,18 +61,18 @@ impl Scan {
         Some(taken)
     }
 
-    /// Consumes the frame at the start of the piece in one step and returns its size in bytes and its head. It does so
-    /// if the scan is between frames, the piece has the whole frame, the payload isn't empty and the frame is valid.
-    /// Otherwise it returns `None`, and nothing changes.
+    /// Consumes the frame at the start of the piece in one step, unmasks its payload, and returns it. It does so if the
+    /// scan is between frames, the piece has the whole frame, the payload isn't empty and the frame is valid. Otherwise
+    /// it returns `None`, and nothing changes.
     #[inline(always)]
     #[tactic(none)]
-    fn take_frame(&mut self, piece: &mut [u8]) -> Option<(usize, HeadInfo)>
+    pub(super) fn take_frame(&mut self, piece: &mut [u8]) -> Option<TakenFrame>
         requires { length piece.old ≤ room_of self.old }
-        ensures taken { IfSome result (λ found. IsBytes piece.old →
-            TakesFrame self.old self.new piece.old found.0 found.1) }
-        ensures within { IfSome result (λ found. (0 < found.0) × (found.0 ≤ length piece.old)) }
-        ensures kept { IfSome result (λ found. drop found.0 piece.new ≡ drop found.0 piece.old) }
-        ensures room { IfSome result (λ found. room_of self.new + found.0 ≡ room_of self.old) }
+        ensures taken { IfSome result (λ found. IsBytes piece.old → TakesFrame self.old self.new piece.old found.end
+            (slice_range piece.new found.start found.end) found.head) }
+        ensures within { IfSome result (λ found. (found.start < found.end) × (found.end ≤ length piece.old)) }
+        ensures kept { IfSome result (λ found. drop found.end piece.new ≡ drop found.end piece.old) }
+        ensures room { IfSome result (λ found. room_of self.new + found.end ≡ room_of self.old) }
         ensures reported { IfSome result (λ _. refusal_in self.new ≡ None) }
         ensures none { IfNone result ((self.new ≡ self.old) × (piece.new ≡ piece.old)) }
     {
@@ -83,7 +92,11 @@ impl Scan {
                 let info = head.info(self.used);
                 self.room -= end as u64;
                 self.end(&head, &check);
-                Some((end, info))
+                Some(TakenFrame {
+                    head: info,
+                    start,
+                    end,
+                })
             }
             Err(_) => {
                 unmask(head.key, 0, &mut piece[start..end]);
@@ -129,7 +142,7 @@ impl Scan {
         }
         let found = self.take_frame(piece)?;
         self.report_end();
-        Some(found)
+        Some((found.end, found.head))
     }
 
     /// Reports the end of a frame of which everything else is reported. Returns whether the frame is final. With `None`

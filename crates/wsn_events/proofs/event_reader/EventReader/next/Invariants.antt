@@ -7,12 +7,12 @@ use Rattle.wsn_events.proofs.SourceCalls.{HasRead}
 use Rattle.wsn_events.proofs.event_reader.EventReader.next.Given as goal
 
 -- The call has read these bytes more and given no event yet.
-abbrev pub invariant-loop-head : goal.invariant-loop-head
-invariant-loop-head g l = record {
+abbrev pub invariant-loop-self : goal.invariant-loop-self
+invariant-loop-self g l = record {
   read : (role : Role) (limits : Limits) (came : List ℕ) (given : List MeantEvent) → HasGiven role limits l.fn.self came given → HasRead role limits l.fn.input l.input l.self came given;
   unfailed : l.input.failed ≡ false;
   left : readings_left l.self ≤ readings_left l.fn.self;
 }
 
-abbrev pub decreases-loop-head : goal.decreases-loop-head
-decreases-loop-head g l = readings_left l.self
+abbrev pub decreases-loop-self : goal.decreases-loop-self
+decreases-loop-self g l = readings_left l.self

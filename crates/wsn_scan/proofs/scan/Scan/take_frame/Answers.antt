@@ -1,6 +1,6 @@
-use Rattle.std.proofs.Common.{◌≡◌, ◌+◌, ◌-◌, ◌≤◌, ℕ, Ok, List, [], ◌∷◌, ◌++◌, length, take, refl, ap, ◌∙◌, subst, arith, rules}
+use Rattle.std.proofs.Common.{◌≡◌, ◌+◌, ◌-◌, ◌≤◌, ℕ, Ok, List, [], ◌∷◌, ◌++◌, length, take, refl, sym, ap, ◌∙◌, subst, arith, rules}
 use Rattle.std.proofs.lemmas.List.{length-take-le}
-use borrow.Rule.Slice.PartMut.{mid_of, mid_len}
+use borrow.Rule.Slice.PartMut.{mid_of, mid_len, put_mid}
 use Rattle.wsn_wire.specs.declared.endpoint.Role.{Role}
 use Rattle.wsn_wire.specs.Frame.{IsBytes, first_byte}
 use Rattle.wsn_wire.proofs.FrameLemmas.{first_byte_fields, IsBytes-right}
@@ -10,6 +10,7 @@ use Rattle.wsn_frame.specs.PartialHeads.{IsHead}
 use Rattle.wsn_frame.specs.PayloadChecks.{IsChecked}
 use Rattle.wsn_frame.specs.Payloads.{unmasked_by}
 use Rattle.wsn_scan.specs.Reports.{Reported, ends_of}
+use Rattle.wsn_scan.specs.Scans.{HasScanned}
 use Rattle.wsn_frame.proofs.FrameStarts.{goes_on, begins}
 use Rattle.wsn_frame.proofs.FramesAtOnce.{kept_after_frame, payload_after, masked_back, head_and_payload, fed_at_once, holds_at_once}
 use Rattle.wsn_scan.proofs.HeadBytes.{bytes_taken}
@@ -49,7 +50,12 @@ returns-in-Ok-clause-taken c in_piece role limits bytes since fs reported has_sc
     let ends = c.end.ensures.taken role limits (bytes ++ came) (since ++ came) wire fs after
     (knows_more role limits c.args.self.now _ bytes since came fs (record { sender = refl; under = refl; room = omega (arith, c.requires, within, size_came); used = refl; counts = refl; message = refl }) in_came has_consumed)
     between.0 holds size (heads_with head fs reported.heads c.args.self.now.used c.info-info.result between.2 has_consumed.used c.info-info.ensures) refl refl in
-    record { frame = ends.frame; payload = after.payload; has_scanned = ends.has_scanned }
+    record {
+      frame = ends.frame;
+      has_scanned =
+          subst (λ (payload : List ℕ). HasScanned role limits c.end.new.self (bytes ++ came) (fs ++ ends.frame ∷ []) [] (record { heads = after.heads; payload = payload; ends = after.ends })) (sym fed_is)
+          ends.has_scanned;
+    }
 
 pub returns-in-Ok-clause-kept : goal.returns-in-Ok-clause-kept
 returns-in-Ok-clause-kept c =
