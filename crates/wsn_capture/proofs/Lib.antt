@@ -8,7 +8,6 @@ pub mod ClosingLines
 pub mod SentEntries
 pub mod AcceptedTexts
 pub mod ReportedLines
-pub mod DigitBlocks
 pub mod PairedDigits
 pub mod SplitLines
 pub mod PiecePrefixes

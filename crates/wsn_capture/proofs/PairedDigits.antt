@@ -1,12 +1,10 @@
 -- Pairs of digits that are decoded one after another, without an early exit.
-use Rattle.std.proofs.Common.{◌≡◌, ℕ, zero, suc, ◌+◌, ◌*◌, ◌<◌, ◌≤◌, ◌&&◌, Bool, true, false, List, length, take, drop, slice_index, slice_set, Option, Some, None, is_some, unwrap_or, Result, Ok, Err, refl, sym, ap, ◌∙◌, subst, arith, rules}
+use Rattle.std.proofs.Common.{◌≡◌, ℕ, ◌+◌, ◌*◌, ◌<◌, ◌≤◌, ◌&&◌, Bool, true, false, List, length, take, drop, slice_index, slice_set, Option, Some, None, is_some, unwrap_or, Result, Ok, Err, refl, sym, ◌∙◌, subst, arith}
 use Rattle.std.specs.Prelude.{MatchBool}
 use Rattle.hex.specs.Hex.{decode_of, decode_pairs, digit_or_error, hex_digit_value, is_hex_digit, pair_value, ◌>>=◌}
 use Rattle.hex.specs.declared.error.FromHexError.{FromHexError}
 use Rattle.hex.proofs.Pairs.{prepend, decode_step, decode_err, decode_done}
-use Rattle.std.proofs.lemmas.List.{set-get_or}
 use Rattle.wsn_capture.specs.LineForms.{HasNoHex}
-use Rattle.wsn_capture.specs.DigitBlocks.{IsDecodedAt}
 
 -- The first `i` pairs are digits and their bytes are decoded, or one of the digits isn't valid.
 abbrev pub AreDecoded : Bool → List ℕ → List ℕ → ℕ → Type 0
@@ -47,26 +45,6 @@ decoded_step valid digits bytes i a b v w fits room is_a is_b is_v is_w so_far =
     (subst (λ (x : ℕ). AreDecoded (valid && is_hex_digit (slice_index digits (2 * i)) && is_hex_digit (slice_index digits (2 * i + 1))) digits (slice_set bytes i (x * 16 + w)) (i + 1)) (sym is_v)
     (subst (λ (x : ℕ). AreDecoded (valid && is_hex_digit (slice_index digits (2 * i)) && is_hex_digit (slice_index digits (2 * i + 1))) digits (slice_set bytes i (unwrap_or (hex_digit_value (slice_index digits (2 * i))) 0 * 16 + x)) (i + 1)) (sym is_w)
     (decoded_more valid digits bytes i fits room so_far))))
-
-none_yet : (digits bytes : List ℕ) → AreDecoded true digits bytes 0
-none_yet digits bytes = search rules
-
--- pairs that were decoded in another order
-pub decoded_front : (digits bytes : List ℕ) (n : ℕ) → 2 * n ≤ length digits → n ≤ length bytes → ((k : ℕ) → k < n → IsDecodedAt digits bytes k) → AreDecoded true digits bytes n
-decoded_front digits bytes zero fits room each = none_yet digits bytes
-decoded_front digits bytes (suc n) fits room each =
-    let pair = each n (omega arith) in
-    let before = decoded_front digits bytes n (omega arith) (omega arith) (λ k less. each k (omega arith)) in
-    let digit_or_not = is_hex_digit (slice_index digits (2 * n)) in
-    let other_or_not = is_hex_digit (slice_index digits (2 * n + 1)) in
-    let step = decoded_more true digits bytes n (omega arith) (omega arith) before in
-    let kept : slice_set bytes n (unwrap_or (hex_digit_value (slice_index digits (2 * n))) 0 * 16 + unwrap_or (hex_digit_value (slice_index digits (2 * n + 1))) 0) ≡ bytes =
-    ap (λ (b : ℕ). slice_set bytes n b) (sym pair.byte) ∙ set-get_or bytes n 0 in
-    let valid : true && digit_or_not && other_or_not ≡ true = ap (λ (t : Bool). true && t && other_or_not) pair.high ∙ pair.low in
-    let next : n + 1 ≡ suc n = omega arith in
-    subst (λ (m : ℕ). AreDecoded true digits bytes m) next
-    (subst (λ (t : Bool). AreDecoded t digits bytes (n + 1)) valid
-    (subst (λ (bs : List ℕ). AreDecoded (true && digit_or_not && other_or_not) digits bs (n + 1)) kept step))
 
 even : (digits : List ℕ) (n : ℕ) → length digits ≡ 2 * n → decode_of digits ≡ decode_pairs 0 digits
 even digits n size = grind (arith)

@@ -5,7 +5,6 @@ pub mod SplitLines
 pub mod SideTexts
 -- how the state of the code is related to these
 pub mod LineForms
-pub mod DigitBlocks
 pub mod CloseLines
 pub mod LimitedScans
 pub mod Captures

@@ -1,5 +1,5 @@
 use Rattle.std.proofs.Common.{arith, rules}
-use Rattle.wsn_capture.proofs.PairedDigits.{decoded_step, decoded_all, decoded_front}
+use Rattle.wsn_capture.proofs.PairedDigits.{decoded_step, decoded_all}
 use Rattle.wsn_capture.proofs.hex_pairs.decode_pairs.Goals as goal
 
 pub loop-i-preserved : goal.loop-i-preserved
@@ -12,10 +12,7 @@ pub returns : goal.returns
 returns c = decoded_all c.loop-i.valid c.args.digits.now c.loop-i.bytes c.loop-i.i (omega arith) (omega arith) c.loop-i.invariant
 
 pub loop-i-init : goal.loop-i-init
-loop-i-init c = decoded_front c.args.digits.now c.decode_blocks-start.new.bytes c.decode_blocks-start.result (omega arith) (omega arith) c.decode_blocks-start.ensures.decoded
-
-pub decode_blocks-start-requires : goal.decode_blocks-start-requires
-decode_blocks-start-requires c = search rules
+loop-i-init c = search rules
 
 pub overflow_mul-high : goal.overflow_mul-high
 overflow_mul-high c = search rules
