@@ -9,6 +9,8 @@ pub mod SentEntries
 pub mod AcceptedTexts
 pub mod ReportedLines
 pub mod PairedDigits
+pub mod DigitBlocks
+pub mod DigitTable
 pub mod SplitLines
 pub mod PiecePrefixes
 pub mod JudgedCaptures

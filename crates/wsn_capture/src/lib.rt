@@ -28,6 +28,7 @@
 
 mod capture;
 mod capture_stop;
+mod hex_blocks;
 mod hex_pairs;
 mod judging;
 pub mod laws;

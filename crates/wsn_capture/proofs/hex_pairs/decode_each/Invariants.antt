@@ -1,5 +1,5 @@
 use Rattle.wsn_capture.proofs.PairedDigits.{AreDecoded}
-use Rattle.wsn_capture.proofs.hex_pairs.decode_pairs.Given as goal
+use Rattle.wsn_capture.proofs.hex_pairs.decode_each.Given as goal
 
 -- the pairs so far are decoded, or one of the digits isn't valid
 abbrev pub invariant-loop-i : goal.invariant-loop-i
