@@ -36,21 +36,21 @@ struct Pair {
 pub fn run(alloc: Global, seed: u64, rounds: usize, digest: &mut Digest) -> Result<(), AllocError> {
     let random = &mut Random::new(seed);
     let texts = texts(alloc, random, rounds.saturating_add(BLOCKS))?;
-    let binaries = binaries(alloc, random, rounds.saturating_add(BINARIES))?;
+    let binaries = binaries(alloc, random, (rounds / 3).saturating_add(BINARIES))?;
     let mut printed = Printed::new(alloc, digest);
     for round in 0..rounds {
-        let (pair, count) = if round % 3 == 2 {
-            (&binaries, BINARIES)
+        let (pair, first, count) = if round % 3 == 2 {
+            (&binaries, round / 3, BINARIES)
         } else {
-            (&texts, BLOCKS)
+            (&texts, round, BLOCKS)
         };
         let end = if round % 4 == 3 {
             OTHER_END
         } else {
             &CLIENT_CLOSE
         };
-        let before = Recording::new(pair.before.window(round, count), &CLIENT_CLOSE);
-        let after = Recording::new(pair.after.window(round, count), end);
+        let before = Recording::new(pair.before.window(first, count), &CLIENT_CLOSE);
+        let after = Recording::new(pair.after.window(first, count), end);
         printed.run_same(alloc, how(), before, after);
     }
     Ok(())
