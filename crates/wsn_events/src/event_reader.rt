@@ -92,7 +92,7 @@ impl<A: Allocator + Copy> EventReader<A> {
         }
     }
 
-    /// Takes the start of the next frame, or all of it but its end, if [`NoticeReader::take_start`] does. Returns false if
+    /// Takes the start of the next frame, or all of it but its end, if [`NoticeReader::take_begun`] does. Returns false if
     /// an allocation fails, which can happen only after a payload byte of a data frame.
     #[inline(always)]
     fn take_start(&mut self) -> bool
@@ -104,7 +104,7 @@ impl<A: Allocator + Copy> EventReader<A> {
             IsLast role limits input came given (Err Stop.Memory) }
         ensures left { readings_left self.new ≤ readings_left self.old }
     {
-        let Some(head) = self.reader.take_start() else {
+        let Some(head) = self.reader.take_begun() else {
             return true;
         };
         self.reassembly.begin(head.op, head.place);

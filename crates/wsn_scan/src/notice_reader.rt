@@ -167,11 +167,31 @@ impl NoticeReader {
         Some(head)
     }
 
-    /// Takes what the buffer has of the frame that comes next: its head and its payload, or a part of it, at least a byte,
-    /// that is valid so far. Returns the frame's head; [`payload`](NoticeReader::payload) then returns the part, unmasked
-    /// (RFC 6455 section 5.3). The frame's end is still to be reported. Otherwise nothing changes. It reads nothing.
+    /// Takes the start of the frame that comes next, if the rest of the buffer is one, with a part of its payload, that is
+    /// valid so far. Returns the frame's head; [`payload`](NoticeReader::payload) then returns the part, unmasked (RFC
+    /// 6455 section 5.3). Otherwise nothing changes. It reads nothing.
     #[inline(always)]
     pub fn take_start(&mut self) -> Option<HeadInfo>
+        requires { IsReading self.old }
+        ensures taken { IfSome result (λ head. (role : Role) (limits : _) (came : List ℕ) (done : List Frame)
+            (at : Position) → HasReported role limits self.old came done at →
+            ReportsStart role limits self.new came done at head) }
+        ensures none { IfNone result (self.new ≡ self.old) }
+        ensures falls { IfSome result (λ _. notices_left self.new < notices_left self.old) }
+    {
+        let from = self.at;
+        let (start, head) = start_in_part(&mut self.scan, &mut self.buffer, from, self.end)?;
+        self.from = from + start;
+        self.at = self.end;
+        Some(head)
+    }
+
+    /// Takes what the buffer has of the frame that comes next: its head and its payload, or a part of it, at least a byte,
+    /// that is valid so far. Returns the frame's head; [`payload`](NoticeReader::payload) then returns the payload or the
+    /// part, unmasked (RFC 6455 section 5.3). The frame's end is still to be reported. Otherwise nothing changes. It reads
+    /// nothing.
+    #[inline(always)]
+    pub fn take_begun(&mut self) -> Option<HeadInfo>
         requires { IsReading self.old }
         ensures taken { IfSome result (λ head. (role : Role) (limits : _) (came : List ℕ) (done : List Frame)
             (at : Position) → HasReported role limits self.old came done at →
@@ -182,7 +202,7 @@ impl NoticeReader {
         if let Some(head) = self.take_whole() {
             return Some(head);
         }
-        self.take_cut()
+        self.take_start()
     }
 
     /// Takes the frame that comes next if it is whole in the buffer, its payload isn't empty and it is valid: its head and
@@ -201,24 +221,6 @@ impl NoticeReader {
         self.from = from + frame.start;
         self.at = from + frame.end;
         Some(frame.head)
-    }
-
-    /// Takes the start of the frame that comes next, if the rest of the buffer is one, with a part of its payload, that is
-    /// valid so far. Otherwise nothing changes.
-    #[inline(always)]
-    fn take_cut(&mut self) -> Option<HeadInfo>
-        requires { IsReading self.old }
-        ensures taken { IfSome result (λ head. (role : Role) (limits : _) (came : List ℕ) (done : List Frame)
-            (at : Position) → HasReported role limits self.old came done at →
-            ReportsStart role limits self.new came done at head) }
-        ensures none { IfNone result (self.new ≡ self.old) }
-        ensures falls { IfSome result (λ _. notices_left self.new < notices_left self.old) }
-    {
-        let from = self.at;
-        let (start, head) = start_in_part(&mut self.scan, &mut self.buffer, from, self.end)?;
-        self.from = from + start;
-        self.at = self.end;
-        Some(head)
     }
 
     /// Reports the end of the frame that has begun if all of its payload is reported. Returns whether the frame is final.

@@ -27,10 +27,10 @@ impl Scan {
         ensures reported { IfSome result (λ _. refusal_in self.new ≡ None) }
         ensures none { IfNone result ((self.new ≡ self.old) × (piece.new ≡ piece.old)) }
     {
-        if !matches!(self.stage, Stage::Between) {
-            return None;
+        match self.stage {
+            Stage::Between => self.take_frame(piece),
+            _ => None,
         }
-        self.take_frame(piece)
     }
 
     /// Consumes the piece, all of it, if [`Scan::start_frame`] does. Returns the number of bytes, or 0; then nothing

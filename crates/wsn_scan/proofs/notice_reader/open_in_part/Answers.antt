@@ -1,4 +1,4 @@
-use Rattle.std.proofs.Common.{◌+◌, ◌-◌, ◌<◌, ◌≤◌, ℕ, List, sym, subst, ◌∙◌, get_or, drop, take, arith, rules}
+use Rattle.std.proofs.Common.{◌+◌, ◌-◌, ◌<◌, ◌≤◌, ℕ, List, sym, subst, ◌∙◌, get_or, drop, arith, rules}
 use Rattle.std.specs.List.{slice_range}
 use borrow.Rule.Slice.PartMut.{mid_len}
 use Rattle.wsn_wire.specs.Frame.{IsBytes}

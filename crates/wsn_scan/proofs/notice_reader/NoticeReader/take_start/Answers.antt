@@ -1,17 +1,14 @@
-use Rattle.std.proofs.Common.{ℕ, List, subst}
-use Rattle.std.specs.Prelude.{IfSome}
-use Rattle.wsn_wire.specs.Frame.{Frame}
-use Rattle.wsn_wire.specs.declared.endpoint.Role.{Role}
-use Rattle.wsn_rules.specs.Limits.{Limits}
-use Rattle.wsn_rules.specs.declared.head_info.HeadInfo.{HeadInfo}
-use Rattle.wsn_scan.specs.ReportedFrames.{Position}
-use Rattle.wsn_scan.specs.ReadNotices.{ReportsStart}
-use Rattle.wsn_scan.specs.declared.notice_reader.NoticeReader.{NoticeReader}
-use Rattle.wsn_scan.specs.NoticeReaders.{HasReported}
+use Rattle.std.proofs.Common.{◌-◌, refl, arith}
+use Rattle.wsn_scan.proofs.ReaderFrames.{reports_start, fewer_left}
 use Rattle.wsn_scan.proofs.notice_reader.NoticeReader.take_start.Goals as goal
 
 pub returns-clause-taken : goal.returns-clause-taken
-returns-clause-taken c =
-    subst
-    (λ (reader : NoticeReader). IfSome c.take_cut.result (λ (head : HeadInfo). (role : Role) (limits : Limits) (came : List ℕ) (done : List Frame) (at : Position) → HasReported role limits reader came done at → ReportsStart role limits c.take_cut.new.self came done at head))
-    c.in_default.ensures.none c.take_cut.ensures.taken
+returns-clause-taken c role limits came done at h =
+    let e = c.in_ok-start.ensures in
+    reports_start role limits c.args.self.now _ c.in_ok-start.start c.in_ok-start.head came done at h
+    (record { between = e.between; starts = e.taken; within = e.within; reported = e.reported; from_is = refl; at_is = refl; end_is = refl; past_is = refl })
+
+pub returns-clause-falls : goal.returns-clause-falls
+returns-clause-falls c =
+    let e = c.in_ok-start.ensures in
+    fewer_left c.args.self.now.scan c.start_in_part.new.scan (c.args.self.now.end - c.args.self.now.at) e.room (omega (arith, e.within))
