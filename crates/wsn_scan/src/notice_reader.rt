@@ -199,10 +199,20 @@ impl NoticeReader {
         ensures none { IfNone result (self.new ≡ self.old) }
         ensures falls { IfSome result (λ _. notices_left self.new < notices_left self.old) }
     {
+        if self.comes_empty() {
+            return None;
+        }
         if let Some(head) = self.take_whole() {
             return Some(head);
         }
         self.take_start()
+    }
+
+    /// Whether the next bytes are the head of an empty frame, if they are a head: so it needn't be read twice in vain.
+    #[inline(always)]
+    fn comes_empty(&self) -> bool {
+        let rest = &self.buffer[self.at..self.end];
+        rest.len() > 1 && rest[1] & 0x7f == 0
     }
 
     /// Takes the frame that comes next if it is whole in the buffer, its payload isn't empty and it is valid: its head and
