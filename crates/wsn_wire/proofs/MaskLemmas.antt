@@ -1,7 +1,6 @@
 -- Masking: in parts, twice, with a key of zeros, and what it leaves as it was.
-use Rattle.std.proofs.Common.{◌≡◌, ℕ, zero, suc, ◌+◌, ◌%◌, ◌<◌, List, [], ◌∷◌, ◌++◌, length, refl, ap, arith, get_or, add-zero, ◌-◌, ◌∙◌, sym, take, drop, ◌≤◌, slice_set, replicate, ◌*◌, ◌/◌}
-use Rattle.std.proofs.lemmas.List.{length-take-le, drop_more, get_or_at, set_at, append_assoc, drop_at, take_at, drop-drop, length-drop, length-append, take_rest, drop_all, take-append-drop, append-nil, take_all}
-use borrow.Rule.Slice.PartMut.{put_mid}
+use Rattle.std.proofs.Common.{◌≡◌, ℕ, zero, suc, ◌+◌, ◌%◌, ◌<◌, List, [], ◌∷◌, ◌++◌, length, refl, ap, arith, get_or, add-zero, ◌∙◌, sym, take, drop, ◌≤◌, slice_set, replicate, ◌*◌, ◌/◌, ◌^◌}
+use Rattle.std.proofs.lemmas.List.{length-take-le, drop_more, get_or_at, set_at, append_assoc, drop_at, take_at, drop-drop, length-drop, length-append, drop_all, take-append-drop, append-nil, take_all, take-take, take-append-le}
 use Rattle.std.specs.Simd.Lanes.{zip2, chunk, put_chunk, digits_l}
 use Rattle.std.proofs.lemmas.Simd.{put_chunk_is}
 use lib.Seq.{take-add}
@@ -54,11 +53,6 @@ masked-bytes key start (b ∷ bs) of_key all =
 
 abbrev pub masked_front : List ℕ → ℕ → List ℕ → ℕ → List ℕ
 masked_front key start bytes count = masked key start (take count bytes) ++ drop count bytes
-
--- all bytes are masked
-pub masked_front-all : (key : List ℕ) (start : ℕ) (bytes : List ℕ) (count : ℕ) → length bytes ≤ count → masked_front key start bytes count ≡ masked key start bytes
-masked_front-all key start bytes count all =
-    ap (λ bs. masked key start bs ++ drop count bytes) (take_all count bytes all) ∙ ap (λ bs. masked key start bytes ++ bs) (drop_all count bytes all) ∙ append-nil (masked key start bytes)
 
 pub length-masked_front : (key : List ℕ) (start : ℕ) (bytes : List ℕ) (count : ℕ) → length (masked_front key start bytes count) ≡ length bytes
 length-masked_front key start bytes count =
@@ -134,32 +128,6 @@ masked_front-put_chunk key start bytes at size within round =
     ap (λ bs. put_chunk at now bs) masked_block
     ∙ (written ∙ sym (masked_front-append key start bytes at size (omega arith) ∙ ap (λ bs. front ++ (bs ++ drop (at + size) bytes)) (masked-round key start at block round)))
 
--- All remaining bytes.
-pub masked_front-rest : (key : List ℕ) (start : ℕ) (bytes now rest : List ℕ) (at : ℕ) → at ≤ length bytes → now ≡ masked_front key start bytes at →
-    rest ≡ masked key (start + at) (take (length now - at) (drop at now)) → put_mid at (length now - at) now rest ≡ masked key start bytes
-masked_front-rest key start bytes now rest at within is rest_is =
-    let front = masked key start (take at bytes) in
-    let front_length = length-front key start bytes at within in
-    let following : drop at now ≡ drop at bytes = ap (λ bs. drop at bs) is ∙ drop_at front (drop at bytes) at front_length in
-    let before : take at now ≡ front = ap (λ bs. take at bs) is ∙ take_at front (drop at bytes) at front_length in
-    let rest_all : rest ≡ masked key (start + at) (drop at bytes) =
-    rest_is ∙ ap (λ bs. masked key (start + at) bs) (take_rest now at ∙ following) in
-    let nothing : drop (length now - at) (drop at now) ≡ [] = drop_all (length now - at) (drop at now) (rw length-drop (omega arith)) in
-    let place : start + length (take at bytes) ≡ start + at = ap (λ n. start + n) (length-take-le at bytes within) in
-    let whole : masked key start bytes ≡ front ++ masked key (start + at) (drop at bytes) =
-    ap (λ bs. masked key start bs) (sym (take-append-drop at bytes))
-    ∙ (masked-append key start (take at bytes) (drop at bytes) ∙ ap (λ n. front ++ masked key n (drop at bytes)) place) in
-    (λ i. before i ++ (rest_all i ++ nothing i)) ∙ (ap (λ bs. front ++ bs) (append-nil (masked key (start + at) (drop at bytes))) ∙ sym whole)
-
--- One round of the key has the bytes of masked zeros.
-pub round-masked : (key : List ℕ) (start : ℕ) → get_or key (start % 4) 0 ∷ get_or key ((start % 4 + 1) % 4) 0 ∷ get_or key ((start % 4 + 2) % 4) 0 ∷ get_or key ((start % 4 + 3) % 4) 0 ∷ [] ≡ masked key start (replicate 4 0)
-round-masked key start =
-    let byte0 : get_or key (start % 4) 0 ≡ bit_xor 0 (get_or key (start % 4) 0) = sym (xor_zero_l (get_or key (start % 4) 0)) in
-    let byte1 : get_or key ((start % 4 + 1) % 4) 0 ≡ bit_xor 0 (get_or key ((start + 1) % 4) 0) = let turn : (start + 1) % 4 ≡ (start % 4 + 1) % 4 = omega arith in rw (turn, xor_zero_l (get_or key ((start % 4 + 1) % 4) 0)) refl in
-    let byte2 : get_or key ((start % 4 + 2) % 4) 0 ≡ bit_xor 0 (get_or key ((start + 1 + 1) % 4) 0) = let turn : (start + 1 + 1) % 4 ≡ (start % 4 + 2) % 4 = omega arith in rw (turn, xor_zero_l (get_or key ((start % 4 + 2) % 4) 0)) refl in
-    let byte3 : get_or key ((start % 4 + 3) % 4) 0 ≡ bit_xor 0 (get_or key ((start + 1 + 1 + 1) % 4) 0) = let turn : (start + 1 + 1 + 1) % 4 ≡ (start % 4 + 3) % 4 = omega arith in rw (turn, xor_zero_l (get_or key ((start % 4 + 3) % 4) 0)) refl in
-    λ i. byte0 i ∷ byte1 i ∷ byte2 i ∷ byte3 i ∷ []
-
 -- One round of the key in a word of four bytes, the lowest first: the bytes of masked zeros.
 pub word-masked : (key : List ℕ) (start word rest count : ℕ) (zeros : List ℕ) →
     get_or key (start % 4) 0 < 256 → get_or key ((start % 4 + 1) % 4) 0 < 256 → get_or key ((start % 4 + 2) % 4) 0 < 256 → get_or key ((start % 4 + 3) % 4) 0 < 256 →
@@ -200,3 +168,65 @@ pub words-masked : (key : List ℕ) (start word : ℕ) →
 words-masked key start word first second third fourth is_word zero = refl
 words-masked key start word first second third fourth is_word (suc n) =
     word-masked key start word (word_rounds word n) (round_bytes n) (zero_rounds n) first second third fourth is_word (words-masked key start word first second third fourth is_word n)
+
+-- Of two rounds of the key in one word, the lowest byte first, the four bytes from this one on.
+pub rounds-turned : (key : List ℕ) (word turn : ℕ) → turn < 4 →
+    get_or key 0 0 < 256 → get_or key 1 0 < 256 → get_or key 2 0 < 256 → get_or key 3 0 < 256 →
+    word ≡ get_or key 0 0 + get_or key 1 0 * 256 + get_or key 2 0 * 65536 + get_or key 3 0 * 16777216 →
+    word * 4294967297 / 2 ^ (turn * 8) % 4294967296
+    ≡ get_or key turn 0 + get_or key ((turn + 1) % 4) 0 * 256 + get_or key ((turn + 2) % 4) 0 * 65536 + get_or key ((turn + 3) % 4) 0 * 16777216
+rounds-turned key word zero small first second third fourth is_word = omega arith
+rounds-turned key word (suc zero) small first second third fourth is_word = omega arith
+rounds-turned key word (suc (suc zero)) small first second third fourth is_word = omega arith
+rounds-turned key word (suc (suc (suc zero))) small first second third fourth is_word = omega arith
+rounds-turned key word (suc (suc (suc (suc turn)))) small first second third fourth is_word = omega arith
+
+-- The four bytes of a key are below 256.
+pub bytes-of-key : (key : List ℕ) → get_or key 0 0 < 256 → get_or key 1 0 < 256 → get_or key 2 0 < 256 → get_or key 3 0 < 256 → (i : ℕ) → i < 4 → get_or key i 0 < 256
+bytes-of-key key first second third fourth zero small = first
+bytes-of-key key first second third fourth (suc zero) small = second
+bytes-of-key key first second third fourth (suc (suc zero)) small = third
+bytes-of-key key first second third fourth (suc (suc (suc zero))) small = fourth
+bytes-of-key key first second third fourth (suc (suc (suc (suc i)))) small = omega arith
+
+take-masked : (key : List ℕ) (start n : ℕ) (bytes : List ℕ) → take n (masked key start bytes) ≡ masked key start (take n bytes)
+take-masked key start zero bytes = refl
+take-masked key start (suc n) [] = refl
+take-masked key start (suc n) (b ∷ bs) = ap (λ bytes. bit_xor b (get_or key (start % 4) 0) ∷ bytes) (take-masked key (start + 1) n bs)
+
+-- The last bytes, masked before the others, complete a masked prefix that may overlap them.
+pub masked_front-last : (key : List ℕ) (start : ℕ) (bytes now block : List ℕ) (last size at : ℕ) → last + size ≡ length bytes → last ≤ at → at ≤ length bytes →
+    now ≡ masked_front key start bytes at → block ≡ zip2 bit_xor (chunk last size bytes) (masked key (start + last) (replicate size 0)) →
+    put_chunk last now block ≡ masked key start bytes
+masked_front-last key start bytes now block last size at whole before within is block_is =
+    let behind = drop last bytes in
+    let behind_length : length behind ≡ size = length-drop last bytes ∙ omega arith in
+    let chunk_is : chunk last size bytes ≡ behind = take_all size behind (omega (arith, behind_length)) in
+    let block_masked : block ≡ masked key (start + last) behind =
+    block_is ∙ ((λ i. zip2 bit_xor (chunk_is i) (masked key (start + last) (replicate (sym behind_length i) 0))) ∙ zip2-masked key (start + last) behind) in
+    let block_length : length block ≡ size = ap (λ bs. length bs) block_masked ∙ (length-masked key (start + last) behind ∙ behind_length) in
+    let now_length : length now ≡ length bytes = ap (λ bs. length bs) is ∙ length-masked_front key start bytes at in
+    let shorter : take last (take at bytes) ≡ take last bytes = take-take last at bytes before in
+    let front : take last now ≡ masked key start (take last bytes) =
+    ap (λ bs. take last bs) is
+    ∙ (take-append-le last (masked key start (take at bytes)) (drop at bytes) (omega (arith, length-front key start bytes at within))
+    ∙ (take-masked key start last (take at bytes) ∙ ap (λ bs. masked key start bs) shorter)) in
+    let none : drop (length block) (drop last now) ≡ [] = drop_all (length block) (drop last now) (omega (arith, length-drop last now, now_length, block_length)) in
+    let place : start + length (take last bytes) ≡ start + last = ap (λ n. start + n) (length-take-le last bytes (omega arith)) in
+    let joined : masked key start bytes ≡ masked key start (take last bytes) ++ masked key (start + last) behind =
+    ap (λ bs. masked key start bs) (sym (take-append-drop last bytes))
+    ∙ (masked-append key start (take last bytes) behind ∙ ap (λ n. masked key start (take last bytes) ++ masked key n behind) place) in
+    put_chunk_is last now block (omega (arith, now_length, block_length))
+    ∙ ((λ i. front i ++ (block_masked i ++ none i)) ∙ (ap (λ bs. masked key start (take last bytes) ++ bs) (append-nil (masked key (start + last) behind)) ∙ sym joined))
+
+-- A first and a last part, each masked before one is written, that overlap or meet.
+pub masked-by-ends : (key : List ℕ) (start : ℕ) (bytes front back : List ℕ) (last size : ℕ) → last + size ≡ length bytes → last ≤ size →
+    front ≡ masked key start (replicate size 0) → back ≡ masked key (start + last) (replicate size 0) →
+    put_chunk last (put_chunk 0 bytes (zip2 bit_xor (take size bytes) front)) (zip2 bit_xor (chunk last size bytes) back) ≡ masked key start bytes
+masked-by-ends key start bytes front back last size whole before front_is back_is =
+    let none : 0 + size ≡ size = omega arith in
+    let first : put_chunk 0 bytes (zip2 bit_xor (take size bytes) front) ≡ masked_front key start bytes size =
+    ap (λ (lanes : List ℕ). put_chunk 0 bytes (zip2 bit_xor (take size bytes) lanes)) front_is
+    ∙ (masked_front-put_chunk key start bytes 0 size (omega arith) refl ∙ ap (λ n. masked_front key start bytes n) none) in
+    masked_front-last key start bytes (put_chunk 0 bytes (zip2 bit_xor (take size bytes) front)) (zip2 bit_xor (chunk last size bytes) back) last size size
+    whole before (omega arith) first (ap (λ (lanes : List ℕ). zip2 bit_xor (chunk last size bytes) lanes) back_is)
