@@ -8,7 +8,6 @@ use crate::heads::op_word;
 use crate::json::{push_field, push_number_field, push_string_field};
 use crate::laid::{lay, lay_number};
 use crate::line::{Line, key_digits};
-use crate::parts::put_slice;
 use std::io::Write;
 use wsn_io::{Output, Stop, put_line};
 use wsn_rules::HeadInfo;
@@ -28,18 +27,6 @@ pub fn put_frame_object<W: Write>(to: &mut Output<W>, head: &HeadInfo) -> Result
     let mut text = [0; FRAME_OBJECT_MAX];
     let start = lay_out(head, &mut text);
     put_line(to, &text[start..])
-}
-
-/// Writes the object of a frame at `at`, and returns where it ends.
-#[inline(never)]
-pub(crate) fn put_object_at(head: &HeadInfo, text: &mut [u8], at: usize) -> usize
-    requires { at + 142 ≤ length text.old }
-    ensures end { (at ≤ result) × (result ≤ at + 142) }
-    ensures written { take result text.new ≡ take at text.old ++ frame_object head.now }
-{
-    let mut object = [0; FRAME_OBJECT_MAX];
-    let start = lay_out(head, &mut object);
-    put_slice(&object[start..], text, at)
 }
 
 /// Writes the object of a frame at the end of `text`, and returns where it begins. Its members are written from the

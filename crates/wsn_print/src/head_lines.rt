@@ -2,9 +2,10 @@ ghost use Rattle.std.specs.Prelude.{◌≡◌, ℕ, ◌+◌, ◌<◌, ◌≤◌,
 ghost use Rattle.wsn_print.specs.Fields.{fin_word, op_word};
 ghost use Rattle.wsn_print.specs.HeadText.{head_line};
 ghost use Rattle.wsn_print.specs.Formats.{head_text};
+ghost use Rattle.wsn_print.specs.Objects.{frame_object};
 
 use crate::format::Format;
-use crate::frame_objects::put_object_at;
+use crate::frame_members::put_members;
 use crate::kept_digits::KeptDigits;
 use crate::parts::{put, put_form, put_key, put_last_four, put_number};
 use std::marker::Model;
@@ -64,7 +65,7 @@ impl HeadLines {
     {
         self.len = match format {
             Format::Text => put_head_at(head, &mut self.above, &mut self.text, self.len),
-            Format::Json => put_object_at(head, &mut self.text, self.len),
+            Format::Json => put_object_at(head, &mut self.above, &mut self.text, self.len),
         };
     }
 
@@ -100,6 +101,18 @@ fn put_head_at(head: &HeadInfo, above: &mut KeptDigits, text: &mut [u8], at: usi
     let at = put(*b" ", text, at);
     let at = put_number(head.len, text, at);
     put_form(head.form, text, at)
+}
+
+/// Writes the object of a head at `at`, and returns where it ends, as [`put_head_at`] writes its line.
+#[inline(never)]
+fn put_object_at(head: &HeadInfo, above: &mut KeptDigits, text: &mut [u8], at: usize) -> usize
+    requires { at + 142 ≤ length text.old }
+    ensures end { (at ≤ result) × (result ≤ at + 142) }
+    ensures written { take result text.new ≡ take at text.old ++ frame_object head.now }
+{
+    let at = put(*b"{\"type\":\"frame\",\"offset\":", text, at);
+    let at = put_offset(head.place, above, text, at);
+    put_members(head, text, at)
 }
 
 /// Writes an offset in decimal digits, at most 20, at `at`, and returns where they end.

@@ -29,6 +29,7 @@ mod differences;
 mod entries;
 mod faults;
 mod format;
+mod frame_members;
 mod frame_objects;
 mod head_lines;
 mod heads;
