@@ -1,4 +1,4 @@
-ghost use Rattle.std.specs.Prelude.{◌≡◌, ◌≢◌, ℕ, ◌+◌, ◌<◌, ◌≤◌, ◌^◌, ◌⊎◌, ◌↔◌, true, None, List, [], ◌++◌, length, IsTrue, IfErr};
+ghost use Rattle.std.specs.Prelude.{◌≡◌, ◌≢◌, ℕ, ◌+◌, ◌<◌, ◌≤◌, ◌^◌, ◌⊎◌, ◌↔◌, true, false, Ok, Err, None, List, [], ◌++◌, length, IsTrue, IfErr};
 ghost use Rattle.wsn_rules.specs.Summary.{close_code};
 ghost use Rattle.wsn_wire.specs.declared.opcode.Op.TheVariants.{Continue, Text, Binary};
 ghost use Rattle.wsn_wire.specs.declared.refusal.Reason.{Reason};
@@ -87,6 +87,43 @@ impl PayloadCheck {
                 Ok(PayloadCheck::Text(utf8))
             }
             PayloadCheck::Close(body) => body.feed(piece, last),
+        }
+    }
+
+    /// Checks the next bytes of the payload in place, as [`PayloadCheck::feed`] does, and returns whether none of them is
+    /// evidence. Otherwise nothing changes.
+    #[inline(always)]
+    pub fn take(&mut self, piece: &[u8], fin: bool, last: bool) -> bool
+        requires { 0 < length piece.now }
+        ensures taken { result ≡ true → (group : List Frame) (first total : ℕ) (before : List ℕ) →
+            HasChecked group first self.old before → fin_bit first ≡ fin
+            → (last ≡ true ↔ (length before + length piece.now ≡ total)) → length before + length piece.now ≤ total
+            → IsChecked group first total before piece.now (Ok self.new) }
+        ensures evident { result ≡ false → (group : List Frame) (first total : ℕ) (before : List ℕ) →
+            HasChecked group first self.old before → fin_bit first ≡ fin
+            → (last ≡ true ↔ (length before + length piece.now ≡ total)) → length before + length piece.now ≤ total
+            → (bad : BadByte) × IsChecked group first total before piece.now (Err bad) }
+        ensures unchanged { result ≡ false → self.new ≡ self.old }
+    {
+        match self {
+            PayloadCheck::Free => true,
+            PayloadCheck::Text(utf8) => {
+                let (bad, cut) = (Reason::TextBad, Reason::TextCut);
+                match feed_text(*utf8, piece, fin && last, bad, cut) {
+                    Ok(fed) => {
+                        *utf8 = fed;
+                        true
+                    }
+                    Err(_) => false,
+                }
+            }
+            PayloadCheck::Close(body) => match body.feed(piece, last) {
+                Ok(check) => {
+                    *self = check;
+                    true
+                }
+                Err(_) => false,
+            },
         }
     }
 

@@ -156,23 +156,19 @@ fn take_event(context: &FrameContext, message: bool, piece: &mut [u8]) -> Option
         return None;
     }
     let end = start + head.len as usize;
-    let check = PayloadCheck::new(head.first, None);
+    let mut check = PayloadCheck::new(head.first, None);
     unmask(head.key, 0, &mut piece[start..end]);
-    match check.feed(&piece[start..end], true, true) {
-        Ok(_) => {
-            clear_key(head.key, &mut piece[..start]);
-            Some(EventFrame {
-                op: head.first.op,
-                key: head.key,
-                size: end,
-                len: head.len as usize,
-            })
-        }
-        Err(_) => {
-            unmask(head.key, 0, &mut piece[start..end]);
-            None
-        }
+    if !check.take(&piece[start..end], true, true) {
+        unmask(head.key, 0, &mut piece[start..end]);
+        return None;
     }
+    clear_key(head.key, &mut piece[..start]);
+    Some(EventFrame {
+        op: head.first.op,
+        key: head.key,
+        size: end,
+        len: head.len as usize,
+    })
 }
 
 /// Whether the frame is final and no Close, and its length is in the shortest encoding (RFC 6455 section 5.2).

@@ -75,22 +75,18 @@ impl Scan {
         if came == 0 || head.len <= came {
             return None;
         }
-        let check = PayloadCheck::new(head.first, self.context.message);
+        let mut check = PayloadCheck::new(head.first, self.context.message);
         unmask(head.key, 0, &mut piece[start..end]);
-        match check.feed(&piece[start..end], head.first.fin, false) {
-            Ok(check) => {
-                self.room -= end as u64;
-                self.stage = Stage::Payload(Inside {
-                    head,
-                    check,
-                    done: came,
-                });
-                Some((start, head.info(self.used)))
-            }
-            Err(_) => {
-                unmask(head.key, 0, &mut piece[start..end]);
-                None
-            }
+        if !check.take(&piece[start..end], head.first.fin, false) {
+            unmask(head.key, 0, &mut piece[start..end]);
+            return None;
         }
+        self.room -= end as u64;
+        self.stage = Stage::Payload(Inside {
+            head,
+            check,
+            done: came,
+        });
+        Some((start, head.info(self.used)))
     }
 }

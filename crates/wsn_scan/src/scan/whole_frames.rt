@@ -1,5 +1,7 @@
 //! Frames that are whole in a piece, each consumed in one step.
 
+ghost use Rattle.std.specs.Prelude.{◌≡◌};
+
 use super::Scan;
 use crate::notice::Notice;
 use crate::stage::Stage;
@@ -85,24 +87,20 @@ impl Scan {
             return None;
         }
         let end = start + head.len as usize;
-        let check = PayloadCheck::new(head.first, self.context.message);
+        let mut check = PayloadCheck::new(head.first, self.context.message);
         unmask(head.key, 0, &mut piece[start..end]);
-        match check.feed(&piece[start..end], head.first.fin, true) {
-            Ok(check) => {
-                let info = head.info(self.used);
-                self.room -= end as u64;
-                self.end(&head, &check);
-                Some(TakenFrame {
-                    head: info,
-                    start,
-                    end,
-                })
-            }
-            Err(_) => {
-                unmask(head.key, 0, &mut piece[start..end]);
-                None
-            }
+        if !check.take(&piece[start..end], head.first.fin, true) {
+            unmask(head.key, 0, &mut piece[start..end]);
+            return None;
         }
+        let info = head.info(self.used);
+        self.room -= end as u64;
+        self.end(&head, &check);
+        Some(TakenFrame {
+            head: info,
+            start,
+            end,
+        })
     }
 
     /// Does what [`Scan::take_frame`] does, if the ends of the frames so far are reported, and reports the frame's end.
@@ -120,7 +118,10 @@ impl Scan {
         let place = self.used;
         match self.take_one_event(false, piece) {
             Some(frame) => Some((frame.size, frame.info(place))),
-            None => self.take_frame_to_end(piece),
+            None => {
+                let (size, head) = self.take_frame_to_end(piece)?;
+                Some((size, by_fields(&head)))
+            }
         }
     }
 
@@ -181,5 +182,21 @@ impl Scan {
             Stage::CloseEnded(code) => self.stage = Stage::Closed(code),
             _ => {}
         }
+    }
+}
+
+/// The same head, copied field by field. Copied as a whole it would be read in words that are longer than those in which
+/// its fields were just written, and a processor waits for that.
+#[inline(always)]
+fn by_fields(head: &HeadInfo) -> HeadInfo
+    ensures { result ≡ head.now }
+{
+    HeadInfo {
+        place: head.place,
+        fin: head.fin,
+        op: head.op,
+        key: head.key,
+        form: head.form,
+        len: head.len,
     }
 }

@@ -20,15 +20,15 @@ use Rattle.wsn_scan.proofs.HeadsReported.{heads_with}
 use Rattle.wsn_scan.proofs.MoreBytes.{knows_more}
 use Rattle.wsn_scan.proofs.scan.Scan.start_frame.Goals as goal
 
-pub returns-in-Err-clause-none : goal.returns-in-Err-clause-none
-returns-in-Err-clause-none c =
+pub returns-then-not-take-clause-none : goal.returns-then-not-take-clause-none
+returns-then-not-take-clause-none c =
     let start = c.in_ok-start.start in (
       refl,
-      masked_back c.in_ok-start.head.key start (length c.args.piece.now) c.args.piece.now c.unmask.new.bytes (omega (arith, c.in_ok-start.ensures.1)) (omega arith) c.unmask.ensures c.unmask-in-Err.new.bytes c.unmask-in-Err.ensures,
+      masked_back c.in_ok-start.head.key start (length c.args.piece.now) c.args.piece.now c.unmask.new.bytes (omega (arith, c.in_ok-start.ensures.1)) (omega arith) c.unmask.ensures c.unmask-then-not-take.new.bytes c.unmask-then-not-take.ensures,
     )
 
-pub returns-in-Ok-clause-taken : goal.returns-in-Ok-clause-taken
-returns-in-Ok-clause-taken c in_piece role limits bytes since fs reported has_scanned =
+pub returns-clause-taken : goal.returns-clause-taken
+returns-clause-taken c in_piece role limits bytes since fs reported has_scanned =
     let head = c.in_ok-start.head in
     let start = c.in_ok-start.start in
     let piece = c.args.piece.now in
@@ -47,12 +47,12 @@ returns-in-Ok-clause-taken c in_piece role limits bytes since fs reported has_sc
     let is_head = subst (λ (b : Limits). IsHead role b group head head_bytes) has_consumed.under of_role in
     let checked = c.new-check.ensures group has_consumed.message (goes_on role limits group head head_bytes is_head) (begins role limits group head head_bytes is_head) in
     let fed_is = payload_after head.key start (length piece) piece c.unmask.new.bytes found.1 (omega arith) c.unmask.ensures in
-    let all : IsChecked group (first_byte head.first.fin head.first.op) head.len [] (unmasked_by head.key 0 wire) (Ok c.in-Ok.check) =
-    fed_at_start group (first_byte head.first.fin head.first.op) head.len head.key wire _ (Ok c.in-Ok.check) fed_is short
-    (c.in-Ok.ensures.checked group (first_byte head.first.fin head.first.op) head.len [] checked (first_byte_fields head.first.fin head.first.op).fin_is) in
+    let all : IsChecked group (first_byte head.first.fin head.first.op) head.len [] (unmasked_by head.key 0 wire) (Ok c.take.new.self) =
+    fed_at_start group (first_byte head.first.fin head.first.op) head.len head.key wire _ (Ok c.take.new.self) fed_is short
+    (c.take.ensures.taken (search rules) group (first_byte head.first.fin head.first.op) head.len [] checked (first_byte_fields head.first.fin head.first.op).fin_is) in
     let rest_is : since ++ piece ≡ head_bytes ++ wire = ap (λ (bs : List ℕ). bs ++ piece) between.1 ∙ parts in
-    let holds : HoldsPayload role limits group head c.in-Ok.check wire (since ++ piece) =
-    subst (λ (bs : List ℕ). HoldsPayload role limits group head c.in-Ok.check wire bs) (sym rest_is) (holds_at_start role limits group head c.new-check.result c.in-Ok.check head_bytes wire in_wire is_head checked short all) in
+    let holds : HoldsPayload role limits group head c.take.new.self wire (since ++ piece) =
+    subst (λ (bs : List ℕ). HoldsPayload role limits group head c.take.new.self wire bs) (sym rest_is) (holds_at_start role limits group head c.new-check.result c.take.new.self head_bytes wire in_wire is_head checked short all) in
     let there = put_mid start (length piece - start) piece c.unmask.new.bytes in
     let size_there : length there ≡ length piece =
     length-append (take start piece) (c.unmask.new.bytes ++ post_of start (length piece - start) piece)

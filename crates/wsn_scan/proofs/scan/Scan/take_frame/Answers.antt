@@ -18,8 +18,8 @@ use Rattle.wsn_scan.proofs.HeadsReported.{heads_with}
 use Rattle.wsn_scan.proofs.MoreBytes.{knows_more}
 use Rattle.wsn_scan.proofs.scan.Scan.take_frame.Goals as goal
 
-pub returns-in-Ok-clause-taken : goal.returns-in-Ok-clause-taken
-returns-in-Ok-clause-taken c in_piece role limits bytes since fs reported has_scanned =
+pub returns-clause-taken : goal.returns-clause-taken
+returns-clause-taken c in_piece role limits bytes since fs reported has_scanned =
     let head = c.in_ok-start.head in
     let start = c.in_ok-start.start in
     let end = start + head.len in
@@ -40,11 +40,11 @@ returns-in-Ok-clause-taken c in_piece role limits bytes since fs reported has_sc
     let is_head = subst (λ (b : Limits). IsHead role b group head head_bytes) has_consumed.under of_role in
     let checked = c.new-check.ensures group has_consumed.message (goes_on role limits group head head_bytes is_head) (begins role limits group head head_bytes is_head) in
     let fed_is = payload_after head.key start end piece c.unmask.new.bytes (omega arith) within c.unmask.ensures in
-    let all : IsChecked group (first_byte head.first.fin head.first.op) head.len [] (unmasked_by head.key 0 wire) (Ok c.in-Ok.check) =
-    fed_at_once group (first_byte head.first.fin head.first.op) head.len head.key wire _ (Ok c.in-Ok.check) fed_is size
-    (c.in-Ok.ensures.checked group (first_byte head.first.fin head.first.op) head.len [] checked (first_byte_fields head.first.fin head.first.op).fin_is) in
+    let all : IsChecked group (first_byte head.first.fin head.first.op) head.len [] (unmasked_by head.key 0 wire) (Ok c.take.new.self) =
+    fed_at_once group (first_byte head.first.fin head.first.op) head.len head.key wire _ (Ok c.take.new.self) fed_is size
+    (c.take.ensures.taken (search rules) group (first_byte head.first.fin head.first.op) head.len [] checked (first_byte_fields head.first.fin head.first.op).fin_is) in
     let rest_is : since ++ came ≡ head_bytes ++ wire = ap (λ (bs : List ℕ). bs ++ came) between.1 ∙ parts in
-    let holds = holds_at_once role limits group head c.new-check.result c.in-Ok.check head_bytes wire (since ++ came) rest_is in_wire is_head checked (omega (arith, c.if-head-eq0.false)) size all in
+    let holds = holds_at_once role limits group head c.new-check.result c.take.new.self head_bytes wire (since ++ came) rest_is in_wire is_head checked (omega (arith, c.if-head-eq0.false)) size all in
     let after : Reported = record { heads = reported.heads ++ c.info-info.result ∷ []; payload = unmasked_by head.key 0 wire; ends = ends_of fs } in
     let size_came : length came ≡ end = length-take-le end piece within in
     let ends = c.end.ensures.taken role limits (bytes ++ came) (since ++ came) wire fs after
@@ -57,17 +57,17 @@ returns-in-Ok-clause-taken c in_piece role limits bytes since fs reported has_sc
           ends.has_scanned;
     }
 
-pub returns-in-Ok-clause-kept : goal.returns-in-Ok-clause-kept
-returns-in-Ok-clause-kept c =
+pub returns-clause-kept : goal.returns-clause-kept
+returns-clause-kept c =
     let start = c.in_ok-start.start in
     let end = start + c.in_ok-start.head.len in
     kept_after_frame c.in_ok-start.head.key start end c.args.piece.now c.unmask.new.bytes (omega arith) (omega (arith, c.in_ok-start.ensures.1, c.if-head-room.false)) c.unmask.ensures
 
-pub returns-in-Err-clause-none : goal.returns-in-Err-clause-none
-returns-in-Err-clause-none c =
+pub returns-then-not-take-clause-none : goal.returns-then-not-take-clause-none
+returns-then-not-take-clause-none c =
     let start = c.in_ok-start.start in
     let end = start + c.in_ok-start.head.len in
-    (refl, masked_back c.in_ok-start.head.key start end c.args.piece.now c.unmask.new.bytes (omega arith) (omega (arith, c.in_ok-start.ensures.1, c.if-head-room.false)) c.unmask.ensures c.unmask-in-Err.new.bytes c.unmask-in-Err.ensures)
+    (refl, masked_back c.in_ok-start.head.key start end c.args.piece.now c.unmask.new.bytes (omega arith) (omega (arith, c.in_ok-start.ensures.1, c.if-head-room.false)) c.unmask.ensures c.unmask-then-not-take.new.bytes c.unmask-then-not-take.ensures)
 
 pub returns-then-not-is_between-clause-none : goal.returns-then-not-is_between-clause-none
 returns-then-not-is_between-clause-none c = search rules
@@ -111,44 +111,44 @@ slice_bounds-unmask-end c = search rules
 pub unmask-requires : goal.unmask-requires
 unmask-requires c = search rules
 
-pub slice_bounds-feed-count : goal.slice_bounds-feed-count
-slice_bounds-feed-count c = search rules
+pub slice_bounds-take-count : goal.slice_bounds-take-count
+slice_bounds-take-count c = search rules
 
-pub slice_bounds-feed-start : goal.slice_bounds-feed-start
-slice_bounds-feed-start c = search rules
+pub slice_bounds-take-start : goal.slice_bounds-take-start
+slice_bounds-take-start c = search rules
 
-pub slice_bounds-feed-end : goal.slice_bounds-feed-end
-slice_bounds-feed-end c = search rules
+pub slice_bounds-take-end : goal.slice_bounds-take-end
+slice_bounds-take-end c = search rules
 
-pub feed-requires : goal.feed-requires
-feed-requires c = search rules
+pub take-requires : goal.take-requires
+take-requires c = search rules
 
 pub overflow_sub-self : goal.overflow_sub-self
 overflow_sub-self c = search rules
 
-pub slice_bounds-unmask-count-in-Err : goal.slice_bounds-unmask-count-in-Err
-slice_bounds-unmask-count-in-Err c = search rules
+pub slice_bounds-unmask-count-then-not-take : goal.slice_bounds-unmask-count-then-not-take
+slice_bounds-unmask-count-then-not-take c = search rules
 
-pub slice_bounds-unmask-start-in-Err : goal.slice_bounds-unmask-start-in-Err
-slice_bounds-unmask-start-in-Err c = search rules
+pub slice_bounds-unmask-start-then-not-take : goal.slice_bounds-unmask-start-then-not-take
+slice_bounds-unmask-start-then-not-take c = search rules
 
-pub slice_bounds-unmask-end-in-Err : goal.slice_bounds-unmask-end-in-Err
-slice_bounds-unmask-end-in-Err c = search rules
+pub slice_bounds-unmask-end-then-not-take : goal.slice_bounds-unmask-end-then-not-take
+slice_bounds-unmask-end-then-not-take c = search rules
 
-pub unmask-requires-in-Err : goal.unmask-requires-in-Err
-unmask-requires-in-Err c = search rules
+pub unmask-requires-then-not-take : goal.unmask-requires-then-not-take
+unmask-requires-then-not-take c = search rules
 
-pub shape_of-piece-in-Ok : goal.shape_of-piece-in-Ok
-shape_of-piece-in-Ok c = search rules
+pub shape_of-piece : goal.shape_of-piece
+shape_of-piece c = search rules
 
-pub returns-in-Ok-clause-within : goal.returns-in-Ok-clause-within
-returns-in-Ok-clause-within c = search rules
+pub returns-clause-within : goal.returns-clause-within
+returns-clause-within c = search rules
 
-pub returns-in-Ok-clause-room : goal.returns-in-Ok-clause-room
-returns-in-Ok-clause-room c = search rules
+pub returns-clause-room : goal.returns-clause-room
+returns-clause-room c = search rules
 
-pub returns-in-Ok-clause-reported : goal.returns-in-Ok-clause-reported
-returns-in-Ok-clause-reported c = search rules
+pub returns-clause-reported : goal.returns-clause-reported
+returns-clause-reported c = search rules
 
-pub shape_of-piece-in-Err : goal.shape_of-piece-in-Err
-shape_of-piece-in-Err c = search rules
+pub shape_of-piece-then-not-take : goal.shape_of-piece-then-not-take
+shape_of-piece-then-not-take c = search rules

@@ -14,8 +14,8 @@ use Rattle.wsn_scan.proofs.EventFrames.{ends_event, key_fits, key_room, written_
 use Rattle.wsn_scan.proofs.HeadBytes.{bytes_taken}
 use Rattle.wsn_scan.proofs.scan.event_frames.take_event.Goals as goal
 
-pub returns-in-Ok-clause-taken : goal.returns-in-Ok-clause-taken
-returns-in-Ok-clause-taken c in_piece =
+pub returns-clause-taken : goal.returns-clause-taken
+returns-clause-taken c in_piece =
     let head = c.in_ok-start.head in
     let role = c.args.context.now.role in
     let limits = c.args.context.now.limits in
@@ -40,16 +40,16 @@ returns-in-Ok-clause-taken c in_piece =
           let first = first_byte head.first.fin head.first.op in
           let is_head : IsHead role limits group head front = found.2 group (subst (λ (m : Option OpenMessage). IsOpenMessage m group) (sym c.requires) none) in
           let checked = c.new-check.ensures group none (goes_on role limits group head front is_head) (begins role limits group head front is_head) in
-          let all : IsChecked group first head.len [] (unmasked_by head.key 0 wire) (Ok c.in-Ok.field-0) =
-          fed_at_once group first head.len head.key wire _ (Ok c.in-Ok.field-0) fed_is size
-          (c.in-Ok.ensures.checked group first head.len [] checked ((first_byte_fields head.first.fin head.first.op).fin_is ∙ plain.0)) in
-          let holds = holds_at_once role limits group head c.new-check.result c.in-Ok.field-0 front wire (front ++ wire) refl in_wire is_head checked (omega (arith, c.if-head-eq0.false)) size all in
-          ends_event role limits fs head c.in-Ok.field-0 front wire range lawful none is_head holds size in_came plain.0 plain.2 piece _ end parts
+          let all : IsChecked group first head.len [] (unmasked_by head.key 0 wire) (Ok c.take.new.self) =
+          fed_at_once group first head.len head.key wire _ (Ok c.take.new.self) fed_is size
+          (c.take.ensures.taken (search rules) group first head.len [] checked ((first_byte_fields head.first.fin head.first.op).fin_is ∙ plain.0)) in
+          let holds = holds_at_once role limits group head c.new-check.result c.take.new.self front wire (front ++ wire) refl in_wire is_head checked (omega (arith, c.if-head-eq0.false)) size all in
+          ends_event role limits fs head c.take.new.self front wire range lawful none is_head holds size in_came plain.0 plain.2 piece _ end parts
           (written_after head.key start end piece c.unmask.new.bytes ordered within c.unmask.ensures c.clear_key.new.head c.clear_key.ensures c.clear_key.auto.head),
     )
 
-pub returns-in-Ok-clause-kept : goal.returns-in-Ok-clause-kept
-returns-in-Ok-clause-kept c =
+pub returns-clause-kept : goal.returns-clause-kept
+returns-clause-kept c =
     let start = c.in_ok-start.start in
     let end = start + c.in_ok-start.head.len in
     let within : end ≤ length c.args.piece.now = omega (arith, c.in_ok-start.ensures.1, c.if-head-room.false) in
@@ -65,11 +65,11 @@ clear_key-requires c =
     let is_head = c.in_ok-start.ensures.2 [] (subst (λ (m : Option OpenMessage). IsOpenMessage m []) (sym c.requires) refl) in
     key_room head.key start end piece c.unmask.new.bytes (omega arith) within c.unmask.ensures (key_fits c.args.context.now.role c.args.context.now.limits [] head (take start piece) is_head)
 
-pub returns-in-Err-clause-none : goal.returns-in-Err-clause-none
-returns-in-Err-clause-none c =
+pub returns-then-not-take-clause-none : goal.returns-then-not-take-clause-none
+returns-then-not-take-clause-none c =
     let start = c.in_ok-start.start in
     let end = start + c.in_ok-start.head.len in
-    masked_back c.in_ok-start.head.key start end c.args.piece.now c.unmask.new.bytes (omega arith) (omega (arith, c.in_ok-start.ensures.1, c.if-head-room.false)) c.unmask.ensures c.unmask-in-Err.new.bytes c.unmask-in-Err.ensures
+    masked_back c.in_ok-start.head.key start end c.args.piece.now c.unmask.new.bytes (omega arith) (omega (arith, c.in_ok-start.ensures.1, c.if-head-room.false)) c.unmask.ensures c.unmask-then-not-take.new.bytes c.unmask-then-not-take.ensures
 
 pub returns-in_err-start-clause-taken : goal.returns-in_err-start-clause-taken
 returns-in_err-start-clause-taken c = search rules
@@ -104,44 +104,44 @@ slice_bounds-unmask-end c = search rules
 pub unmask-requires : goal.unmask-requires
 unmask-requires c = search rules
 
-pub slice_bounds-feed-count : goal.slice_bounds-feed-count
-slice_bounds-feed-count c = search rules
+pub slice_bounds-take-count : goal.slice_bounds-take-count
+slice_bounds-take-count c = search rules
 
-pub slice_bounds-feed-start : goal.slice_bounds-feed-start
-slice_bounds-feed-start c = search rules
+pub slice_bounds-take-start : goal.slice_bounds-take-start
+slice_bounds-take-start c = search rules
 
-pub slice_bounds-feed-end : goal.slice_bounds-feed-end
-slice_bounds-feed-end c = search rules
+pub slice_bounds-take-end : goal.slice_bounds-take-end
+slice_bounds-take-end c = search rules
 
-pub feed-requires : goal.feed-requires
-feed-requires c = search rules
+pub take-requires : goal.take-requires
+take-requires c = search rules
 
 pub slice_bounds-clear_key-end : goal.slice_bounds-clear_key-end
 slice_bounds-clear_key-end c = search rules
 
-pub slice_bounds-clear_key-end-in-Ok : goal.slice_bounds-clear_key-end-in-Ok
-slice_bounds-clear_key-end-in-Ok c = search rules
+pub slice_bounds-clear_key-end-2 : goal.slice_bounds-clear_key-end-2
+slice_bounds-clear_key-end-2 c = search rules
 
-pub slice_bounds-unmask-count-in-Err : goal.slice_bounds-unmask-count-in-Err
-slice_bounds-unmask-count-in-Err c = search rules
+pub slice_bounds-unmask-count-then-not-take : goal.slice_bounds-unmask-count-then-not-take
+slice_bounds-unmask-count-then-not-take c = search rules
 
-pub slice_bounds-unmask-start-in-Err : goal.slice_bounds-unmask-start-in-Err
-slice_bounds-unmask-start-in-Err c = search rules
+pub slice_bounds-unmask-start-then-not-take : goal.slice_bounds-unmask-start-then-not-take
+slice_bounds-unmask-start-then-not-take c = search rules
 
-pub slice_bounds-unmask-end-in-Err : goal.slice_bounds-unmask-end-in-Err
-slice_bounds-unmask-end-in-Err c = search rules
+pub slice_bounds-unmask-end-then-not-take : goal.slice_bounds-unmask-end-then-not-take
+slice_bounds-unmask-end-then-not-take c = search rules
 
-pub unmask-requires-in-Err : goal.unmask-requires-in-Err
-unmask-requires-in-Err c = search rules
+pub unmask-requires-then-not-take : goal.unmask-requires-then-not-take
+unmask-requires-then-not-take c = search rules
 
-pub shape_of-piece-in-Ok : goal.shape_of-piece-in-Ok
-shape_of-piece-in-Ok c = search rules
+pub shape_of-piece : goal.shape_of-piece
+shape_of-piece c = search rules
 
-pub returns-in-Ok-clause-within : goal.returns-in-Ok-clause-within
-returns-in-Ok-clause-within c = search rules
+pub returns-clause-within : goal.returns-clause-within
+returns-clause-within c = search rules
 
-pub shape_of-piece-in-Err : goal.shape_of-piece-in-Err
-shape_of-piece-in-Err c = search rules
+pub shape_of-piece-then-not-take : goal.shape_of-piece-then-not-take
+shape_of-piece-then-not-take c = search rules
 
 pub returns-in_err-start-clause-data : goal.returns-in_err-start-clause-data
 returns-in_err-start-clause-data c = search rules
@@ -149,5 +149,5 @@ returns-in_err-start-clause-data c = search rules
 pub returns-then-is_control-clause-none : goal.returns-then-is_control-clause-none
 returns-then-is_control-clause-none c = search rules
 
-pub returns-in-Ok-clause-data : goal.returns-in-Ok-clause-data
-returns-in-Ok-clause-data c = search rules
+pub returns-clause-data : goal.returns-clause-data
+returns-clause-data c = search rules
