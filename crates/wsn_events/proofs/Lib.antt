@@ -4,6 +4,7 @@ pub mod NormalBytes
 pub mod LeftOut
 pub mod ComparedEvents
 pub mod ExcerptViews
+pub mod FragmentEnds
 pub mod StandingEvents
 pub mod ComparedSources
 pub mod ComparedTurns

@@ -92,10 +92,45 @@ impl<A: Allocator + Copy> EventReader<A> {
         }
     }
 
+    /// Takes fragments that are whole in the chunk, and then the start of the next frame, or all of it but its end, for as
+    /// long as [`NoticeReader::take_begun`] does. Returns false if an allocation fails, which can happen only after a
+    /// payload byte of a data frame.
+    #[inline(always)]
+    fn take_start(&mut self) -> bool
+        requires { IsAtWork self.old }
+        ensures taken { result ≡ true → (role : Role) (limits : _) (came : List ℕ) (given : List MeantEvent) →
+            HasGiven role limits self.old came given → HasGiven role limits self.new came given }
+        ensures refused { result ≡ false → (role : Role) (limits : _) (came : List ℕ) (given : List MeantEvent)
+            (input : _) → input.failed ≡ false → HasGiven role limits self.old came given →
+            IsLast role limits input came given (Err Stop.Memory) }
+        ensures left { readings_left self.new ≤ readings_left self.old }
+    {
+        loop {
+            if !self.take_begun() {
+                return false;
+            }
+            if !self.take_fragment_end() {
+                return true;
+            }
+        }
+    }
+
+    /// Takes the end of a fragment, as [`NoticeReader::take_fragment_end`] does.
+    #[inline(always)]
+    fn take_fragment_end(&mut self) -> bool
+        requires { IsAtWork self.old }
+        ensures taken { result ≡ true → (role : Role) (limits : _) (came : List ℕ) (given : List MeantEvent) →
+            HasGiven role limits self.old came given → HasGiven role limits self.new came given }
+        ensures none { result ≡ false → self.new ≡ self.old }
+        ensures falls { result ≡ true → readings_left self.new < readings_left self.old }
+    {
+        self.reader.take_fragment_end()
+    }
+
     /// Takes the start of the next frame, or all of it but its end, if [`NoticeReader::take_begun`] does. Returns false if
     /// an allocation fails, which can happen only after a payload byte of a data frame.
     #[inline(always)]
-    fn take_start(&mut self) -> bool
+    fn take_begun(&mut self) -> bool
         requires { IsAtWork self.old }
         ensures taken { result ≡ true → (role : Role) (limits : _) (came : List ℕ) (given : List MeantEvent) →
             HasGiven role limits self.old came given → HasGiven role limits self.new came given }

@@ -208,6 +208,25 @@ impl NoticeReader {
         self.take_start()
     }
 
+    /// Reports the end of the frame that has begun, if all of its payload is reported and it isn't final: it is a fragment,
+    /// and not the last one of its message (RFC 6455 section 5.4). Returns whether there is one. With `false` nothing
+    /// changes. It reads nothing.
+    #[inline(always)]
+    pub fn take_fragment_end(&mut self) -> bool
+        requires { IsReading self.old }
+        ensures taken { result ≡ true → (role : Role) (limits : _) (came : List ℕ) (done : List Frame)
+            (at : Position) → HasReported role limits self.old came done at →
+            ReportsEnd role limits self.new came done at false }
+        ensures none { result ≡ false → self.new ≡ self.old }
+        ensures falls { result ≡ true → notices_left self.new < notices_left self.old }
+    {
+        if !self.scan.take_fragment_end() {
+            return false;
+        }
+        self.from = self.at;
+        true
+    }
+
     /// Whether the next bytes are the head of an empty frame, if they are a head: so it needn't be read twice in vain.
     #[inline(always)]
     fn comes_empty(&self) -> bool {

@@ -18,7 +18,7 @@ pub(crate) struct TakenFrame {
 
 impl Scan {
     ghost use Rattle.std.specs.List.{slice_range};
-    ghost use Rattle.std.specs.Prelude.{◌≡◌, ℕ, ◌+◌, ◌-◌, ◌<◌, ◌≤◌, List, [], ◌∷◌, None, length, drop, IfSome, IfNone};
+    ghost use Rattle.std.specs.Prelude.{◌≡◌, ℕ, ◌+◌, ◌-◌, ◌<◌, ◌≤◌, List, [], ◌∷◌, None, true, false, length, drop, IfSome, IfNone};
     ghost use Rattle.wsn_scan.specs.Words.{HeadInfo, ConsumesPrefix, IsBytes, ConsumesFromPiece, room_of, refusal_in, ends_pending, TakesFrame, TakesToEnd, after_end, Advances};
 
     /// Takes the end of the last frame as reported, consumes frames at the start of the piece, up to the first that
@@ -168,6 +168,26 @@ impl Scan {
                 Some(true)
             }
             _ => None,
+        }
+    }
+
+    /// Reports the end of a frame as [`Scan::take_end`] does, if the frame isn't final. Returns whether there is one. With
+    /// `false` nothing changes.
+    #[inline(always)]
+    pub(crate) fn take_fragment_end(&mut self) -> bool
+        ensures taken { result ≡ true → (piece : List ℕ) →
+            Advances self.old self.new piece piece 0 (Notice.FrameEnd false) }
+        ensures consumes { result ≡ true → (size : ℕ) → ConsumesFromPiece self.old size 0 (Notice.FrameEnd false) }
+        ensures room { room_of self.new ≡ room_of self.old }
+        ensures reported { result ≡ true → refusal_in self.new ≡ None }
+        ensures none { result ≡ false → self.new ≡ self.old }
+    {
+        match self.stage {
+            Stage::Ended(false) => {
+                self.stage = Stage::Between;
+                true
+            }
+            _ => false,
         }
     }
 
