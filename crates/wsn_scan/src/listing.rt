@@ -138,7 +138,7 @@ fn list_frames<W: Write>(
 {
     scan.report_end();
     let mut at = 0;
-    while let Some((taken, head)) = scan.take_to_end(Empty::Left, &mut piece[at..]) {
+    while let Some((taken, head)) = scan.take_to_end(Empty::Taken, &mut piece[at..]) {
         at += taken;
         make_room(lines, output);
         lines.add(format, &head);
