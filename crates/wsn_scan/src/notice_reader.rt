@@ -120,6 +120,18 @@ impl NoticeReader {
         self.take_run(Empty::Left)
     }
 
+    /// Takes the frames that come next as [`take_events`](NoticeReader::take_events) does, and also those that have no
+    /// payload.
+    pub fn take_all_events(&mut self) -> bool
+        requires { IsReading self.old }
+        ensures taken { result ≡ true → (role : Role) (limits : _) (came : List ℕ) (done : List Frame) (at : Position) →
+            HasReported role limits self.old came done at → ReportsEvents role limits self.new came done at }
+        ensures none { result ≡ false → self.new ≡ self.old }
+        ensures left { notices_left self.new ≤ notices_left self.old }
+    {
+        self.take_run(Empty::Taken)
+    }
+
     /// Takes the frames that come next, with or without those that have no payload.
     fn take_run(&mut self, empty: Empty) -> bool
         requires { IsReading self.old }
