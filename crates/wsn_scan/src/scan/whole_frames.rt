@@ -20,7 +20,7 @@ impl Scan {
     ghost use Rattle.wsn_scan.specs.Words.{HeadInfo, ConsumesPrefix, IsBytes, ConsumesFromPiece, room_of, refusal_in, ends_pending, TakesFrame, TakesToEnd, after_end, Advances};
 
     /// Takes the end of the last frame as reported, consumes frames at the start of the piece, up to the first that
-    /// [`Scan::take_frame`] leaves, and returns the number of bytes. A caller that reads notices uses `next`.
+    /// [`Scan::take_any_frame`] leaves, and returns the number of bytes. A caller that reads notices uses `next`.
     #[inline(never)]
     pub(crate) fn take_frames(&mut self, empty: Empty, piece: &mut [u8]) -> usize
         requires { length piece.old ≤ room_of self.old }
