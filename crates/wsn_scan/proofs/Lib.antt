@@ -5,6 +5,7 @@ pub mod HeadsReported
 pub mod HeadsSoFar
 pub mod FrameEnds
 pub mod EventFrames
+pub mod EmptyFrames
 pub mod EventRuns
 pub mod ReaderEvents
 pub mod WholeFrames

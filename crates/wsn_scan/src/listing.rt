@@ -3,7 +3,7 @@ ghost use Rattle.wsn_scan.specs.Words.{Outgoing, IsWrittenUpToFailure, room_of, 
 
 use crate::notice::Notice;
 use crate::refill::{CHUNK, refill};
-use crate::scan::Scan;
+use crate::scan::{Empty, Scan};
 use std::io::{Read, Write};
 use wsn_io::{Stop, put_line};
 use wsn_print::{Format, HeadLines, put_head_as, put_verdict_as};
@@ -138,7 +138,7 @@ fn list_frames<W: Write>(
 {
     scan.report_end();
     let mut at = 0;
-    while let Some((taken, head)) = scan.take_to_end(&mut piece[at..]) {
+    while let Some((taken, head)) = scan.take_to_end(Empty::Taken, &mut piece[at..]) {
         at += taken;
         make_room(lines, output);
         lines.add(format, &head);

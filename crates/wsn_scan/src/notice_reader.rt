@@ -11,7 +11,7 @@ ghost use Rattle.wsn_scan.specs.Reports.{refusal_in_notice};
 
 use crate::notice::Notice;
 use crate::refill::{CHUNK, refill};
-use crate::scan::{EventFrame, Scan, TakenFrame};
+use crate::scan::{Empty, EventFrame, Scan, TakenFrame};
 use std::io::Read;
 use wsn_io::Stop;
 use wsn_rules::{HeadInfo, Limits, Verdict};
@@ -117,8 +117,31 @@ impl NoticeReader {
         ensures none { result ≡ false → self.new ≡ self.old }
         ensures left { notices_left self.new ≤ notices_left self.old }
     {
+        self.take_run(Empty::Left)
+    }
+
+    /// Takes the frames that come next as [`take_events`](NoticeReader::take_events) does, and also those that have no
+    /// payload.
+    pub fn take_all_events(&mut self) -> bool
+        requires { IsReading self.old }
+        ensures taken { result ≡ true → (role : Role) (limits : _) (came : List ℕ) (done : List Frame) (at : Position) →
+            HasReported role limits self.old came done at → ReportsEvents role limits self.new came done at }
+        ensures none { result ≡ false → self.new ≡ self.old }
+        ensures left { notices_left self.new ≤ notices_left self.old }
+    {
+        self.take_run(Empty::Taken)
+    }
+
+    /// Takes the frames that come next, with or without those that have no payload.
+    fn take_run(&mut self, empty: Empty) -> bool
+        requires { IsReading self.old }
+        ensures taken { result ≡ true → (role : Role) (limits : _) (came : List ℕ) (done : List Frame) (at : Position) →
+            HasReported role limits self.old came done at → ReportsEvents role limits self.new came done at }
+        ensures none { result ≡ false → self.new ≡ self.old }
+        ensures left { notices_left self.new ≤ notices_left self.old }
+    {
         let from = self.at;
-        let count = take_part(&mut self.scan, &mut self.buffer, from, self.end);
+        let count = take_part(&mut self.scan, empty, &mut self.buffer, from, self.end);
         if count == 0 {
             return false;
         }
@@ -329,7 +352,7 @@ fn scan_part(scan: &mut Scan, buffer: &mut [u8], at: usize, end: usize) -> (usiz
 }
 
 /// Passes `buffer[at..end]` to the scan, which takes events. The bytes after those consumed don't change.
-fn take_part(scan: &mut Scan, buffer: &mut [u8], at: usize, end: usize) -> usize
+fn take_part(scan: &mut Scan, empty: Empty, buffer: &mut [u8], at: usize, end: usize) -> usize
     requires within { (at ≤ end) × (end ≤ length buffer.old) }
     requires fits { end ≤ room_of scan.old + at }
     ensures taken { 0 < result → IsIdle scan.old
@@ -340,7 +363,7 @@ fn take_part(scan: &mut Scan, buffer: &mut [u8], at: usize, end: usize) -> usize
     ensures reported { refusal_in scan.old ≡ None → refusal_in scan.new ≡ None }
     ensures none { result ≡ 0 → (scan.new ≡ scan.old) × (buffer.new ≡ buffer.old) }
 {
-    scan.take_events(&mut buffer[at..end])
+    scan.take_events(empty, &mut buffer[at..end])
 }
 
 /// Passes `buffer[at..end]` to the scan, which takes a message. The bytes after those consumed don't change.
@@ -382,7 +405,7 @@ fn frame_in_part(
     ensures reported { IfSome result (λ _. refusal_in scan.new ≡ None) }
     ensures none { IfNone result ((scan.new ≡ scan.old) × (buffer.new ≡ buffer.old)) }
 {
-    let found = scan.take_to_end(&mut buffer[at..end])?;
+    let found = scan.take_to_end(Empty::Left, &mut buffer[at..end])?;
     Some(found)
 }
 

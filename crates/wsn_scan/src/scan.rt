@@ -7,7 +7,7 @@ mod whole_frames;
 
 use crate::notice::Notice;
 use crate::stage::Stage;
-pub(crate) use event_frames::EventFrame;
+pub(crate) use event_frames::{Empty, EventFrame};
 use std::fmt::{self, Debug, Formatter};
 use std::mem;
 pub(crate) use whole_frames::TakenFrame;

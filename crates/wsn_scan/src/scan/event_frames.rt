@@ -12,6 +12,15 @@ use wsn_frame::{FrameContext, Head, PayloadCheck, unmask, whole_head};
 use wsn_rules::HeadInfo;
 use wsn_wire::{Form, Op};
 
+/// What becomes of the frames that have no payload.
+#[derive(Clone, Copy)]
+pub(crate) enum Empty {
+    /// They are taken as others are.
+    Taken,
+    /// They are left, and so is what follows them.
+    Left,
+}
+
 /// A final frame, which ends an event and encodes its length shortest.
 #[derive(Clone, Copy)]
 pub(crate) struct EventFrame {
@@ -47,7 +56,7 @@ impl Scan {
     /// is between frames, their ends are reported, and no message is open. With 0 nothing changes.
     #[inline(never)]
     #[tactic(none)]
-    pub(crate) fn take_events(&mut self, piece: &mut [u8]) -> usize
+    pub(crate) fn take_events(&mut self, empty: Empty, piece: &mut [u8]) -> usize
         requires { length piece.old ≤ room_of self.old }
         ensures taken { 0 < result → IsIdle self.old × TakesEvents self.old self.new piece.old piece.new result }
         ensures heads { (heads : List HeadInfo) × ConsumesPrefix self.old self.new piece.old result heads }
@@ -62,7 +71,7 @@ impl Scan {
         }
         let mut counts = self.counts;
         let mut at = 0;
-        while let Some(frame) = take_event(&self.context, false, &mut piece[at..]) {
+        while let Some(frame) = take_event(&self.context, false, empty, &mut piece[at..]) {
             counts = counts.with(true, frame.op);
             at += frame.size;
         }
@@ -115,7 +124,7 @@ impl Scan {
         if !self.is_idle() {
             return None;
         }
-        let frame = take_event(&self.context, message, piece)?;
+        let frame = take_event(&self.context, message, Empty::Left, piece)?;
         self.counts = self.counts.with(true, frame.op);
         self.room -= frame.size as u64;
         self.used = self.taken();
@@ -133,11 +142,16 @@ impl Scan {
 
 /// Writes the normal frame of an event in place of the frame that ends it, at the start of the piece, and returns that
 /// frame. It does so if no message is open, the piece has the whole frame, and the frame is valid, final and no Close,
-/// has payload, and encodes its length shortest; and, with `message`, is no control. Otherwise it returns `None`, and
-/// nothing changes.
+/// and encodes its length shortest; has payload, if empty frames are left; and, with `message`, is no control. Otherwise
+/// it returns `None`, and nothing changes.
 #[inline(always)]
 #[tactic(none)]
-fn take_event(context: &FrameContext, message: bool, piece: &mut [u8]) -> Option<EventFrame>
+fn take_event(
+    context: &FrameContext,
+    message: bool,
+    empty: Empty,
+    piece: &mut [u8],
+) -> Option<EventFrame>
     requires { context.now.message ≡ None }
     ensures taken { IfSome result (λ frame. IsBytes piece.old →
         IsEventFrame context.now.role context.now.limits piece.old piece.new frame) }
@@ -148,11 +162,20 @@ fn take_event(context: &FrameContext, message: bool, piece: &mut [u8]) -> Option
     ensures none { IfNone result (piece.new ≡ piece.old) }
 {
     let (start, head) = whole_head(piece, context)?;
-    let room = (piece.len() - start) as u64;
-    if head.len == 0 || head.len > room || !is_plain(&head) {
+    if message && head.first.op.is_control() {
         return None;
     }
-    if message && head.first.op.is_control() {
+    if head.len == 0 {
+        return match empty {
+            Empty::Taken => {
+                let frame = take_empty(&head, &mut piece[..start])?;
+                Some(frame)
+            }
+            Empty::Left => None,
+        };
+    }
+    let room = (piece.len() - start) as u64;
+    if head.len > room || !is_plain(&head) {
         return None;
     }
     let end = start + head.len as usize;
@@ -168,6 +191,32 @@ fn take_event(context: &FrameContext, message: bool, piece: &mut [u8]) -> Option
         key: head.key,
         size: end,
         len: head.len as usize,
+    })
+}
+
+/// Writes the normal frame of an event in place of the empty frame that ends it, all of whose bytes are this head, and
+/// returns that frame. It does so if the frame is final and no Close, and encodes its length shortest. Otherwise it
+/// returns `None`, and nothing changes.
+#[inline(always)]
+#[tactic(none)]
+fn take_empty(head: &Head, bytes: &mut [u8]) -> Option<EventFrame>
+    requires { IfSome head.now.key (λ _. 4 ≤ length bytes.old) }
+    ensures taken { IfSome result (λ frame. frame ≡
+        record { op = head.now.first.op; key = head.now.key; size = length bytes.old; len = 0 }) }
+    ensures plain { IfSome result (λ _. (head.now.first.fin ≡ true) × (head.now.first.op ≢ Op.Close)
+        × (encoded_form head.now.encoded head.now.len ≡ Form.Shortest)) }
+    ensures cleared { IfSome result (λ _. bytes.new ≡ with_key_cleared head.now.key bytes.old) }
+    ensures none { IfNone result (bytes.new ≡ bytes.old) }
+{
+    if !is_plain(head) {
+        return None;
+    }
+    clear_key(head.key, bytes);
+    Some(EventFrame {
+        op: head.first.op,
+        key: head.key,
+        size: bytes.len(),
+        len: 0,
     })
 }
 

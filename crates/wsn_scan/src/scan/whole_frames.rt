@@ -2,7 +2,7 @@
 
 ghost use Rattle.std.specs.Prelude.{◌≡◌};
 
-use super::Scan;
+use super::{Empty, Scan};
 use crate::notice::Notice;
 use crate::stage::Stage;
 use wsn_frame::{PayloadCheck, unmask, whole_head};
@@ -22,9 +22,9 @@ impl Scan {
     ghost use Rattle.wsn_scan.specs.Words.{HeadInfo, ConsumesPrefix, IsBytes, ConsumesFromPiece, room_of, refusal_in, ends_pending, TakesFrame, TakesToEnd, after_end, Advances};
 
     /// Takes the end of the last frame as reported, consumes frames at the start of the piece, up to the first that
-    /// [`Scan::take_frame`] leaves, and returns the number of bytes. A caller that reads notices uses `next`.
+    /// [`Scan::take_any_frame`] leaves, and returns the number of bytes. A caller that reads notices uses `next`.
     #[inline(never)]
-    pub(crate) fn take_frames(&mut self, piece: &mut [u8]) -> usize
+    pub(crate) fn take_frames(&mut self, empty: Empty, piece: &mut [u8]) -> usize
         requires { length piece.old ≤ room_of self.old }
         ensures taken { IsBytes piece.old → (heads : List HeadInfo)
             × ConsumesPrefix self.old self.new piece.old result heads }
@@ -36,7 +36,7 @@ impl Scan {
     {
         self.report_end();
         let mut at = 0;
-        while let Some(taken) = self.take_run(&mut piece[at..]) {
+        while let Some(taken) = self.take_run(empty, &mut piece[at..]) {
             at += taken;
         }
         at
@@ -45,7 +45,7 @@ impl Scan {
     /// Consumes frames that end events by [`Scan::take_events`], or one other frame to its end, and returns the number of
     /// bytes. With `None` nothing changes.
     #[inline(always)]
-    fn take_run(&mut self, piece: &mut [u8]) -> Option<usize>
+    fn take_run(&mut self, empty: Empty, piece: &mut [u8]) -> Option<usize>
         requires { length piece.old ≤ room_of self.old }
         ensures taken { IfSome result (λ taken. IsBytes piece.old → (heads : List HeadInfo)
             × ConsumesPrefix self.old self.new piece.old taken heads) }
@@ -55,11 +55,11 @@ impl Scan {
         ensures reported { IfSome result (λ _. refusal_in self.new ≡ None) }
         ensures none { IfNone result ((self.new ≡ self.old) × (piece.new ≡ piece.old)) }
     {
-        let taken = self.take_events(piece);
+        let taken = self.take_events(empty, piece);
         if taken > 0 {
             return Some(taken);
         }
-        let (taken, _head) = self.take_frame_to_end(piece)?;
+        let (taken, _head) = self.take_frame_to_end(empty, piece)?;
         Some(taken)
     }
 
@@ -103,9 +103,14 @@ impl Scan {
         })
     }
 
-    /// Does what [`Scan::take_frame`] does, if the ends of the frames so far are reported, and reports the frame's end.
+    /// Does what [`Scan::take_frame`] does, if the ends of the frames so far are reported, and reports the frame's end. With
+    /// [`Empty::Taken`] it takes an empty frame too.
     #[inline(always)]
-    pub(crate) fn take_to_end(&mut self, piece: &mut [u8]) -> Option<(usize, HeadInfo)>
+    pub(crate) fn take_to_end(
+        &mut self,
+        empty: Empty,
+        piece: &mut [u8],
+    ) -> Option<(usize, HeadInfo)>
         requires { length piece.old ≤ room_of self.old }
         ensures taken { IfSome result (λ found. IsBytes piece.old →
             TakesToEnd self.old self.new piece.old found.0 found.1) }
@@ -119,7 +124,7 @@ impl Scan {
         match self.take_one_event(false, piece) {
             Some(frame) => Some((frame.size, frame.info(place))),
             None => {
-                let (size, head) = self.take_frame_to_end(piece)?;
+                let (size, head) = self.take_frame_to_end(empty, piece)?;
                 Some((size, by_fields(&head)))
             }
         }
@@ -128,7 +133,7 @@ impl Scan {
     /// Does the same for a frame of any kind.
     #[inline(never)]
     #[tactic(none)]
-    fn take_frame_to_end(&mut self, piece: &mut [u8]) -> Option<(usize, HeadInfo)>
+    fn take_frame_to_end(&mut self, empty: Empty, piece: &mut [u8]) -> Option<(usize, HeadInfo)>
         requires { length piece.old ≤ room_of self.old }
         ensures taken { IfSome result (λ found. IsBytes piece.old →
             TakesToEnd self.old self.new piece.old found.0 found.1) }
@@ -141,9 +146,61 @@ impl Scan {
         if !matches!(self.stage, Stage::Between) {
             return None;
         }
-        let found = self.take_frame(piece)?;
+        let found = self.take_any_frame(empty, piece)?;
         self.report_end();
+        Some(found)
+    }
+
+    /// Does what [`Scan::take_frame`] does, or with [`Empty::Taken`] what [`Scan::take_empty_frame`] does. Returns the
+    /// frame's size and its head.
+    #[inline(always)]
+    fn take_any_frame(&mut self, empty: Empty, piece: &mut [u8]) -> Option<(usize, HeadInfo)>
+        requires { length piece.old ≤ room_of self.old }
+        ensures taken { IfSome result (λ found. IsBytes piece.old →
+            (payload : List ℕ) × TakesFrame self.old self.new piece.old found.0 payload found.1) }
+        ensures within { IfSome result (λ found. (0 < found.0) × (found.0 ≤ length piece.old)) }
+        ensures kept { IfSome result (λ found. drop found.0 piece.new ≡ drop found.0 piece.old) }
+        ensures room { IfSome result (λ found. room_of self.new + found.0 ≡ room_of self.old) }
+        ensures reported { IfSome result (λ _. refusal_in self.new ≡ None) }
+        ensures none { IfNone result ((self.new ≡ self.old) × (piece.new ≡ piece.old)) }
+    {
+        if matches!(empty, Empty::Taken) && begins_empty(piece) {
+            let found = self.take_empty_frame(piece)?;
+            return Some(found);
+        }
+        let found = self.take_frame(piece)?;
         Some((found.end, found.head))
+    }
+
+    /// Consumes the empty frame at the start of the piece, and returns its size and its head. It does so if the scan is
+    /// between frames, the piece has room for the longest head, and the frame is valid. Otherwise it returns `None`, and
+    /// nothing changes.
+    #[inline(always)]
+    #[tactic(none)]
+    fn take_empty_frame(&mut self, piece: &[u8]) -> Option<(usize, HeadInfo)>
+        requires { length piece.now ≤ room_of self.old }
+        ensures taken { IfSome result (λ found. IsBytes piece.now →
+            TakesFrame self.old self.new piece.now found.0 [] found.1) }
+        ensures within { IfSome result (λ found. (0 < found.0) × (found.0 ≤ length piece.now)) }
+        ensures room { IfSome result (λ found. room_of self.new + found.0 ≡ room_of self.old) }
+        ensures reported { IfSome result (λ _. refusal_in self.new ≡ None) }
+        ensures none { IfNone result (self.new ≡ self.old) }
+    {
+        if !self.stage.is_between() {
+            return None;
+        }
+        let (size, head) = whole_head(piece, &self.context)?;
+        if head.len > 0 {
+            return None;
+        }
+        let check = PayloadCheck::new(head.first, self.context.message);
+        if check.is_cut(head.first.fin) {
+            return None;
+        }
+        let info = head.info(self.used);
+        self.room -= size as u64;
+        self.end(&head, &check);
+        Some((size, info))
     }
 
     /// Reports the end of a frame of which everything else is reported. Returns whether the frame is final. With `None`
@@ -219,4 +276,10 @@ fn by_fields(head: &HeadInfo) -> HeadInfo
         form: head.form,
         len: head.len,
     }
+}
+
+/// Whether the piece begins with the head of an empty frame, if it begins with a head.
+#[inline(always)]
+fn begins_empty(piece: &[u8]) -> bool {
+    piece.len() > 1 && piece[1] & 0x7f == 0
 }

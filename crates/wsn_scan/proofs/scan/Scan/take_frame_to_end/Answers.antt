@@ -7,13 +7,14 @@ pub returns-clause-taken : goal.returns-clause-taken
 returns-clause-taken c in_piece =
     let found = c.in_ok-found.found in
     let between : c.args.self.now.stage ≡ stages.Between = search rules in
-    to_end c.args.self.now c.take_frame.new.self c.report_end.new.self c.args.piece.now found.end _ found.head between c.report_end.ensures (c.in_ok-found.ensures.taken in_piece)
+    let takes = c.in_ok-found.ensures.taken in_piece in
+    to_end c.args.self.now c.take_any_frame.new.self c.report_end.new.self c.args.piece.now found.0 takes.0 found.1 between c.report_end.ensures takes.1
 
 pub returns-then-not-matches-clause-none : goal.returns-then-not-matches-clause-none
 returns-then-not-matches-clause-none c = search rules
 
-pub take_frame-requires : goal.take_frame-requires
-take_frame-requires c = search rules
+pub take_any_frame-requires : goal.take_any_frame-requires
+take_any_frame-requires c = search rules
 
 pub returns-in_err-found-clause-taken : goal.returns-in_err-found-clause-taken
 returns-in_err-found-clause-taken c = search rules

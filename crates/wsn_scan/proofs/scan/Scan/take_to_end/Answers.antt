@@ -12,4 +12,3 @@ returns-in-Some-clause-taken c in_bytes =
     let new = c.take_one_event.new.self in
     subst (λ (head : HeadInfo). TakesToEnd self new piece c.in-Some.frame.size head) (sym c.info.ensures)
     (end_of self new piece c.take_one_event.new.piece c.in-Some.frame e.idle (e.taken in_bytes))
-

@@ -1,4 +1,5 @@
-use Rattle.std.proofs.Common.{◌≡◌, ◌+◌, ◌-◌, ◌≤◌, Option, Ok, [], ◌++◌, length, take, refl, sym, ◌∙◌, subst, arith, rules}
+use Rattle.std.proofs.Common.{◌≡◌, ◌+◌, ◌-◌, ◌<◌, ◌≤◌, ℕ, List, Option, Ok, [], ◌++◌, length, take, drop, take-append-drop, ap, refl, sym, ◌∙◌, subst, arith, rules}
+use Rattle.std.proofs.lemmas.List.{length-take-le}
 use borrow.Rule.Slice.PartMut.{mid_of, mid_len}
 use Rattle.wsn_wire.specs.Frame.{IsBytes, first_byte}
 use Rattle.wsn_wire.proofs.FrameLemmas.{first_byte_fields, IsBytes-right}
@@ -10,6 +11,9 @@ use Rattle.wsn_frame.specs.PayloadChecks.{IsChecked}
 use Rattle.wsn_frame.specs.Payloads.{unmasked_by}
 use Rattle.wsn_frame.proofs.FrameStarts.{goes_on, begins}
 use Rattle.wsn_frame.proofs.FramesAtOnce.{payload_after, masked_back, head_and_payload, fed_at_once, holds_at_once}
+use Rattle.wsn_scan.specs.declared.scan.event_frames.EventFrame.{EventFrame}
+use Rattle.wsn_scan.specs.EventFrames.{IsEventFrame}
+use Rattle.wsn_scan.proofs.EmptyFrames.{empty_event, kept_after_head}
 use Rattle.wsn_scan.proofs.EventFrames.{ends_event, key_fits, key_room, written_after, kept_before}
 use Rattle.wsn_scan.proofs.HeadBytes.{bytes_taken}
 use Rattle.wsn_scan.proofs.scan.event_frames.take_event.Goals as goal
@@ -71,6 +75,77 @@ returns-then-not-take-clause-none c =
     let end = start + c.in_ok-start.head.len in
     masked_back c.in_ok-start.head.key start end c.args.piece.now c.unmask.new.bytes (omega arith) (omega (arith, c.in_ok-start.ensures.1, c.if-head-room.false)) c.unmask.ensures c.unmask-then-not-take.new.bytes c.unmask-then-not-take.ensures
 
+pub take_empty-requires : goal.take_empty-requires
+take_empty-requires c =
+    let head = c.in_ok-start.head in
+    let start = c.in_ok-start.start in
+    key_fits c.args.context.now.role c.args.context.now.limits [] head (take start c.args.piece.now)
+    (c.in_ok-start.ensures.2 [] (subst (λ (m : Option OpenMessage). IsOpenMessage m []) (sym c.requires) refl))
+
+pub returns-in_ok-frame-in-Taken-clause-taken : goal.returns-in_ok-frame-in-Taken-clause-taken
+returns-in_ok-frame-in-Taken-clause-taken c in_piece =
+    let role = c.args.context.now.role in
+    let limits = c.args.context.now.limits in
+    let head = c.in_ok-start.head in
+    let start = c.in_ok-start.start in
+    let piece = c.args.piece.now in
+    let found = c.in_ok-start.ensures in
+    let e = c.in_ok-frame-in-Taken.ensures in
+    let bytes = c.take_empty.new.bytes in
+    subst (λ (frame : EventFrame). IsEventFrame role limits piece (bytes ++ drop start piece) frame) (sym e.taken)
+    (empty_event role limits head piece bytes start c.if-head-eq0.true found.1 e.cleared c.take_empty.auto.bytes in_piece
+    (λ group none. found.2 group (subst (λ (m : Option OpenMessage). IsOpenMessage m group) (sym c.requires) none)) e.plain.0 e.plain.1 e.plain.2)
+
+pub returns-in_ok-frame-in-Taken-clause-data : goal.returns-in_ok-frame-in-Taken-clause-data
+returns-in_ok-frame-in-Taken-clause-data c = search rules
+
+pub returns-in_ok-frame-in-Taken-clause-within : goal.returns-in_ok-frame-in-Taken-clause-within
+returns-in_ok-frame-in-Taken-clause-within c =
+    let start = c.in_ok-start.start in
+    let piece = c.args.piece.now in
+    let found = c.in_ok-start.ensures in
+    let size : length (take start piece) ≡ start = length-take-le start piece found.1 in
+    let some = found.0 in
+    subst (λ (frame : EventFrame). (0 < frame.size) × (frame.size ≤ length piece) × (frame.len ≤ frame.size)) (sym c.in_ok-frame-in-Taken.ensures.taken)
+    (omega (arith, size, some), omega (arith, size, found.1), omega arith)
+
+pub returns-in_ok-frame-in-Taken-clause-kept : goal.returns-in_ok-frame-in-Taken-clause-kept
+returns-in_ok-frame-in-Taken-clause-kept c =
+    let start = c.in_ok-start.start in
+    let piece = c.args.piece.now in
+    let bytes = c.take_empty.new.bytes in
+    let e = c.in_ok-frame-in-Taken.ensures in
+    subst (λ (frame : EventFrame). drop frame.size (bytes ++ drop start piece) ≡ drop frame.size piece) (sym e.taken)
+    (kept_after_head c.args.context.now.role c.args.context.now.limits c.in_ok-start.head piece bytes start c.if-head-eq0.true c.in_ok-start.ensures.1 e.cleared c.take_empty.auto.bytes)
+
+pub returns-in_err-frame-in-Taken-clause-none : goal.returns-in_err-frame-in-Taken-clause-none
+returns-in_err-frame-in-Taken-clause-none c =
+    let start = c.in_ok-start.start in
+    let piece = c.args.piece.now in
+    let same : c.take_empty.new.bytes ++ drop start piece ≡ piece = ap (λ (bs : List ℕ). bs ++ drop start piece) c.in_err-frame-in-Taken.ensures.none ∙ take-append-drop start piece in
+    search rules
+
+pub returns-in_err-frame-in-Taken-clause-taken : goal.returns-in_err-frame-in-Taken-clause-taken
+returns-in_err-frame-in-Taken-clause-taken c = search rules
+
+pub returns-in_err-frame-in-Taken-clause-data : goal.returns-in_err-frame-in-Taken-clause-data
+returns-in_err-frame-in-Taken-clause-data c = search rules
+
+pub returns-in_err-frame-in-Taken-clause-within : goal.returns-in_err-frame-in-Taken-clause-within
+returns-in_err-frame-in-Taken-clause-within c = search rules
+
+pub returns-in_err-frame-in-Taken-clause-kept : goal.returns-in_err-frame-in-Taken-clause-kept
+returns-in_err-frame-in-Taken-clause-kept c = search rules
+
+pub returns-in-Left-clause-none : goal.returns-in-Left-clause-none
+returns-in-Left-clause-none c = search rules
+
+pub slice_bounds-take_empty-end : goal.slice_bounds-take_empty-end
+slice_bounds-take_empty-end c = search rules
+
+pub slice_bounds-take_empty-end-in-Taken : goal.slice_bounds-take_empty-end-in-Taken
+slice_bounds-take_empty-end-in-Taken c = search rules
+
 pub returns-in_err-start-clause-taken : goal.returns-in_err-start-clause-taken
 returns-in_err-start-clause-taken c = search rules
 
@@ -86,8 +161,8 @@ returns-in_err-start-clause-none c = search rules
 pub overflow_sub-room : goal.overflow_sub-room
 overflow_sub-room c = search rules
 
-pub returns-then-head-eq0-clause-none : goal.returns-then-head-eq0-clause-none
-returns-then-head-eq0-clause-none c = search rules
+pub returns-then-head-room-clause-none : goal.returns-then-head-room-clause-none
+returns-then-head-room-clause-none c = search rules
 
 pub overflow_add-end : goal.overflow_add-end
 overflow_add-end c = search rules

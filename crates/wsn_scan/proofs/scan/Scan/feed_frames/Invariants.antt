@@ -3,7 +3,7 @@ use Rattle.wsn_rules.specs.declared.head_info.HeadInfo.{HeadInfo}
 use Rattle.wsn_wire.specs.Frame.{IsBytes}
 use Rattle.wsn_scan.specs.Scans.{ends_pending}
 use Rattle.wsn_scan.specs.Feeding.{ConsumesPrefix}
-use Rattle.wsn_scan.proofs.scan.Scan.feed.Given as goal
+use Rattle.wsn_scan.proofs.scan.Scan.feed_frames.Given as goal
 
 -- The scan has consumed the piece so far, and the rest of the piece is unchanged.
 abbrev pub invariant-loop-at : goal.invariant-loop-at

@@ -2,7 +2,7 @@ use Rattle.std.proofs.Common.{◌≡◌, ◌∙◌, ◌+◌, ◌-◌, ◌<◌, �
 use borrow.Rule.Slice.PartMut.{mid_of, put_mid}
 use Rattle.wsn_scan.specs.Feeding.{heads_in}
 use Rattle.wsn_scan.proofs.FedPieces.{IsFedTo, bytes_below, share_is, takes_none, takes_by, takes_on, fed_further, none_reported, falls, falls_further, no_end_more}
-use Rattle.wsn_scan.proofs.scan.Scan.feed.Goals as goal
+use Rattle.wsn_scan.proofs.scan.Scan.feed_frames.Goals as goal
 
 pub loop-at-init : goal.loop-at-init
 loop-at-init c = record {
