@@ -35,7 +35,7 @@ no_more xs [] same = refl
 no_more xs (y ∷ ys) same = absurd (omega (arith, length-append xs (y ∷ ys)))
 
 -- two equal lists, split before their last elements
-same_push : {A : Type 0} (xs ys : List A) (x y : A) → xs ++ x ∷ [] ≡ ys ++ y ∷ [] → (xs ≡ ys) × (x ≡ y)
+pub same_push : {A : Type 0} (xs ys : List A) (x y : A) → xs ++ x ∷ [] ≡ ys ++ y ∷ [] → (xs ≡ ys) × (x ≡ y)
 same_push [] [] x y same = (refl, cc)
 same_push [] (z ∷ ys) x y same = absurd (omega (arith, ap (λ (zs : List _). length zs) same, length-append ys (y ∷ [])))
 same_push (z ∷ xs) [] x y same = absurd (omega (arith, ap (λ (zs : List _). length zs) same, length-append xs (x ∷ [])))

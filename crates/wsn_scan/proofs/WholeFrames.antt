@@ -10,10 +10,11 @@ use Rattle.wsn_scan.specs.declared.stage.Stage.{Stage}
 use Rattle.wsn_scan.specs.declared.stage.Stage.TheVariants as stages
 use Rattle.wsn_scan.specs.EventFrames.{reported_of}
 use Rattle.wsn_scan.specs.Feeding.{ConsumesPrefix, HasScannedBytes}
+use Rattle.wsn_scan.specs.FramesToEnd.{TakesWhole, ConsumesWhole}
 use Rattle.wsn_scan.specs.Reports.{Reported, ends_of}
-use Rattle.wsn_scan.specs.Scans.{HasScanned, HasScannedAt, IsAt, refusal_at}
-use Rattle.wsn_scan.specs.WholeFrames.{TakesFrame, TakesToEnd, ConsumesToEnd, after_end}
-use Rattle.wsn_scan.proofs.FramesReported.{same_front, length-ends}
+use Rattle.wsn_scan.specs.Scans.{HasScanned, HasScannedAt, IsAt, EndsWith, refusal_at}
+use Rattle.wsn_scan.specs.WholeFrames.{TakesFrame, TakesToEnd, after_end}
+use Rattle.wsn_scan.proofs.FramesReported.{same_front, same_push, length-ends}
 use Rattle.wsn_scan.proofs.HeadsReported.{heads_push}
 
 pub prefix_of_frame : (old new : Scan) (piece : List ℕ) (n : ℕ) (payload : List ℕ) (head : HeadInfo) → TakesFrame old new piece n payload head → ConsumesPrefix old new piece n (head ∷ [])
@@ -43,6 +44,19 @@ module _ (role : Role) (limits : Limits) (bytes : List ℕ) (fs : List Frame) (f
   heads_are (stages.Closed code) at = at.2
   heads_are (stages.Refused refusal) at = absurd (one_end_more fs f at.ends)
 
+  last_payload : (event : _) → EndsWith event payload all → payload ≡ f.payload
+  last_payload event last = sym last.3 ∙ ap (λ (g : Frame). g.payload) (sym (same_push fs last.0 f last.1 last.4).1)
+
+  -- The end of the last frame isn't reported yet, so all of its payload is.
+  payload_is : (stage : Stage) → IsAt role limits stage bytes all [] owed → payload ≡ f.payload
+  payload_is stages.Between at = absurd (one_end_more fs f at.3)
+  payload_is (stages.Head part) at = absurd (one_end_more fs f at.3)
+  payload_is (stages.Payload inside) at = absurd (one_end_more fs f at.3)
+  payload_is (stages.Ended event) at = last_payload event at.1
+  payload_is (stages.CloseEnded code) at = last_payload _ at.2
+  payload_is (stages.Closed code) at = absurd (one_end_more fs f at.3)
+  payload_is (stages.Refused refusal) at = absurd (one_end_more fs f at.ends)
+
   settled : (stage : Stage) → IsAt role limits stage bytes all [] owed → IsAt role limits (after_end stage) bytes all [] (reported_of all)
   settled stages.Between at = absurd (one_end_more fs f at.3)
   settled (stages.Head part) at = absurd (one_end_more fs f at.3)
@@ -60,11 +74,11 @@ module _ (role : Role) (limits : Limits) (bytes : List ℕ) (fs : List Frame) (f
         at = settled scan.stage has_scanned.at;
       }
 
-pub to_end : (old mid new : Scan) (piece : List ℕ) (n : ℕ) (payload : List ℕ) (head : HeadInfo) → old.stage ≡ stages.Between → new ≡ record mid { stage = after_end mid.stage } → TakesFrame old mid piece n payload head
-    → TakesToEnd old new piece n head
-to_end old mid new piece n payload head between is takes = record { between = between; takes = to }
+pub to_whole : (old mid new : Scan) (piece : List ℕ) (n : ℕ) (payload : List ℕ) (head : HeadInfo) → old.stage ≡ stages.Between → new ≡ record mid { stage = after_end mid.stage } → TakesFrame old mid piece n payload head
+    → TakesWhole old new piece n payload head
+to_whole old mid new piece n payload head between is takes = record { between = between; takes = to }
   where
-    to : (role : Role) (limits : Limits) (bytes since : List ℕ) (fs : List Frame) (reported : Reported) → HasScanned role limits old bytes fs since reported → ConsumesToEnd role limits new (bytes ++ take n piece) fs head
+    to : (role : Role) (limits : Limits) (bytes since : List ℕ) (fs : List Frame) (reported : Reported) → HasScanned role limits old bytes fs since reported → ConsumesWhole role limits new (bytes ++ take n piece) fs payload head
     to role limits bytes since fs reported has_scanned =
         let one = takes role limits bytes since fs reported has_scanned in
         let came = bytes ++ take n piece in
@@ -79,8 +93,20 @@ to_end old mid new piece n payload head between is takes = record { between = be
         record {
           frame = f;
           head_is = is_head;
+          payload_is = payload_is role limits came fs f heads payload mid.stage one.has_scanned.at;
           has_scanned = subst (λ (scan : Scan). HasScanned role limits scan came (fs ++ f ∷ []) [] (reported_of (fs ++ f ∷ []))) (sym is) (ended role limits came fs f heads payload mid one.has_scanned);
         }
+
+pub to_end : (old mid new : Scan) (piece : List ℕ) (n : ℕ) (payload : List ℕ) (head : HeadInfo) → old.stage ≡ stages.Between → new ≡ record mid { stage = after_end mid.stage } → TakesFrame old mid piece n payload head
+    → TakesToEnd old new piece n head
+to_end old mid new piece n payload head between is takes =
+    let whole = to_whole old mid new piece n payload head between is takes in
+    record {
+      between = between;
+      takes = λ role limits bytes since fs reported has_scanned.
+          let one = whole.takes role limits bytes since fs reported has_scanned in
+          record { frame = one.frame; head_is = one.head_is; has_scanned = one.has_scanned };
+    }
 
 -- what a frame that is reported to its end says of the scan's bytes and heads
 pub prefix_of_end : (old new : Scan) (piece : List ℕ) (n : ℕ) (head : HeadInfo) → TakesToEnd old new piece n head → ConsumesPrefix old new piece n (head ∷ [])

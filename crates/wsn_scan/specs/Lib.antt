@@ -7,6 +7,7 @@ pub mod ReportedFrames
 pub mod NoticeReaders
 pub mod ReadNotices
 pub mod ReportedEvents
+pub mod FramesToEnd
 -- for private functions
 pub mod Scans
 pub mod Refill

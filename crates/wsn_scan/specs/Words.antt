@@ -13,6 +13,7 @@ pub use Rattle.wsn_rules.specs.Verdict.{IsVerdict}
 pub use Rattle.wsn_rules.specs.declared.head_info.HeadInfo.{HeadInfo}
 pub use Rattle.wsn_rules.specs.declared.verdict.Verdict.{Verdict}
 pub use Rattle.wsn_scan.specs.FrameStarts.{StartsFrame}
+pub use Rattle.wsn_scan.specs.FramesToEnd.{TakesWhole}
 pub use Rattle.wsn_scan.specs.Feeding.{IsRunning, heads_in, HasFed, ConsumesPrefix}
 pub use Rattle.wsn_scan.specs.ReportedFrames.{Position, IsReportedOf, BetweenFrames}
 pub use Rattle.wsn_scan.specs.Judging.{IsJudged, IsUnrefused}

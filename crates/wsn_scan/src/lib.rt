@@ -22,7 +22,7 @@ pub use listing::{list, list_as};
 pub use notice::Notice;
 pub use notice_reader::{NextNotice, NoticeReader};
 pub use refill::{CHUNK, ReadChunk, refill as read_chunk};
-pub use scan::Scan;
+pub use scan::{Scan, TakenFrame};
 pub use wsn_io::Stop;
 pub use wsn_print::{Format, put_verdict};
 pub use wsn_rules::{HeadInfo, INPUT_MAX, Limits, MESSAGE_MAX, Refusal, Summary, Verdict};

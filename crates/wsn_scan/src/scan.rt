@@ -1,6 +1,7 @@
 mod event_frames;
 mod feeding;
 mod frame_starts;
+mod frames_to_end;
 mod stages;
 mod verdicts;
 mod whole_frames;
@@ -10,7 +11,7 @@ use crate::stage::Stage;
 pub(crate) use event_frames::{Empty, EventFrame};
 use std::fmt::{self, Debug, Formatter};
 use std::mem;
-pub(crate) use whole_frames::TakenFrame;
+pub use whole_frames::TakenFrame;
 use wsn_frame::{Counts, FrameContext, PartialHead};
 use wsn_rules::{Limits, Refusal};
 use wsn_wire::Role;
@@ -58,7 +59,7 @@ impl Scan {
 
     /// The refusal that it has reported, if there is one.
     #[tactic(none)]
-    pub(crate) fn refusal(&self) -> Option<Refusal>
+    pub fn refusal(&self) -> Option<Refusal>
         ensures { result ≡ refusal_in self.now }
     {
         match self.stage {

@@ -77,7 +77,7 @@ message_is Ping payload (inr is) = cc
 message_is Pong payload (inl is) = cc
 message_is Pong payload (inr is) = cc
 
-control_is : (op : Op) (body : List ℕ) → is_control op ≡ true → Control op body ≡ event_of op body
+pub control_is : (op : Op) (body : List ℕ) → is_control op ≡ true → Control op body ≡ event_of op body
 control_is Close body is = refl
 control_is Ping body is = refl
 control_is Pong body is = refl

@@ -9,6 +9,7 @@ pub mod ScanCalls
 pub mod FramesSoFar
 pub mod ShownSteps
 pub mod ShownPieces
+pub mod WholeFrames
 pub mod StreamsShown
 pub mod ViewedStreams
 pub mod Points

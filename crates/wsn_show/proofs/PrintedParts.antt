@@ -29,7 +29,7 @@ other_op Binary other = refl
 other_op Ping other = refl
 other_op Pong other = refl
 
-no_close_of_data : (op : Op) → is_control op ≡ false → is_close op ≡ false
+pub no_close_of_data : (op : Op) → is_control op ≡ false → is_close op ≡ false
 no_close_of_data Close is = cc
 no_close_of_data Continue is = refl
 no_close_of_data Text is = refl

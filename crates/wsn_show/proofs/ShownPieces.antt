@@ -17,6 +17,7 @@ use Rattle.wsn_scan.specs.ReportedFrames.{BetweenFrames}
 use Rattle.wsn_scan.specs.Scans.{HasScanned, MakesProgress, refusal_in, ends_pending}
 use Rattle.wsn_scan.specs.Reports.{IsRefusal, refusal_in_notice, nothing_reported}
 use Rattle.wsn_scan.proofs.FedPieces.{untold_few}
+use Rattle.wsn_scan.proofs.FramesReported.{all_ended}
 use Rattle.wsn_scan.proofs.Unrefused.{unrefused_first}
 use Rattle.wsn_show.specs.declared.entry_context.EntryContext.{EntryContext}
 use Rattle.wsn_show.specs.declared.stream_parts.StreamParts.{StreamParts}
@@ -30,7 +31,7 @@ use Rattle.wsn_show.proofs.PrintedItems.{prints_nothing, prints_both}
 use Rattle.wsn_show.proofs.FollowedScans.{rest_few}
 use Rattle.wsn_show.proofs.FramesSoFar.{nothing_so_far}
 
-items_in-append : (xs ys : List Shown) → items_in (xs ++ ys) ≡ items_in xs ++ items_in ys
+pub items_in-append : (xs ys : List Shown) → items_in (xs ++ ys) ≡ items_in xs ++ items_in ys
 items_in-append [] ys = refl
 items_in-append (x ∷ xs) ys = ap (λ (is : List Item). x.item ∷ is) (items_in-append xs ys)
 
@@ -79,6 +80,31 @@ module _ (role : Role) (limits : Limits) (scan : Scan) (parts : StreamParts) (co
 
   pub same_frames_shown : HasShownFrames context.style.detail role limits scan parts came shown → ShowsFrames role limits scan parts context old old came shown
   same_frames_shown frames = record { extra = []; frames = subst (HasShownFrames context.style.detail role limits scan parts came) (sym (append-nil shown)) frames; printed = prints_nothing context old }
+
+-- More was shown, and then all.
+pub more_after : (role : Role) (limits : Limits) (mid new : Scan) (mid_parts new_parts : StreamParts) (context : EntryContext) (before between after : Outgoing) (came : List ℕ) (shown : List Shown)
+    → ShowsFrames role limits mid mid_parts context before between came shown
+    → ((so_far : List Shown) → HasShownFrames context.style.detail role limits mid mid_parts came so_far → ShowsAll role limits new new_parts context between after came so_far)
+    → ShowsAll role limits new new_parts context before after came shown
+more_after role limits mid new mid_parts new_parts context before between after came shown first step =
+    let more = step (shown ++ first.extra) first.frames in
+    record {
+      extra = first.extra ++ more.extra;
+      has = subst (HasShownAll context.style.detail role limits new new_parts came) (append_assoc shown first.extra more.extra) more.has;
+      printed = subst (Prints context before after) (sym (items_in-append first.extra more.extra)) (prints_both context before between after (items_in first.extra) (items_in more.extra) first.printed more.printed);
+    }
+
+-- No frame's end has yet to be reported.
+pub all_shown : (role : Role) (limits : Limits) (scan : Scan) (parts : StreamParts) (context : EntryContext) (out : Outgoing) (came : List ℕ) (shown : List Shown) → ends_pending scan ≡ 0
+    → HasShownFrames context.style.detail role limits scan parts came shown → ShowsAll role limits scan parts context out out came shown
+all_shown role limits scan parts context out came shown nothing frames =
+    let h = frames.followed in
+    let settled : IsSettled h = all_ended role limits scan came h.since h.frames h.reported h.has_scanned frames.done frames.at h.ended nothing h.unrefused in
+    record {
+      extra = [];
+      has = subst (HasShownAll context.style.detail role limits scan parts came) (sym (append-nil shown)) (inl (frames, settled));
+      printed = prints_nothing context out;
+    }
 
 pub goes_on : (role : Role) (limits : Limits) (mid new : Scan) (mid_parts new_parts : StreamParts) (context : EntryContext) (before between after : Outgoing) (came piece share : List ℕ) (at n size : ℕ) (shown : List Shown) → share ≡ drop at piece
     → ShowsFrames role limits mid mid_parts context before between (came ++ take at piece) shown

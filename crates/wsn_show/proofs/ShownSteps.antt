@@ -34,7 +34,7 @@ use Rattle.wsn_show.proofs.FramesSoFar.{items_after, shown_begun, shown_ended, b
 use Rattle.wsn_show.proofs.FollowedScans.{few, rest_few, in_frame, head_follows, payload_follows, end_follows, more_follows, closed_follows, was_settled, refused_follows}
 
 -- Bytes of a payload aren't many.
-few_open : (role : Role) (limits : Limits) (scan : Scan) (came : List ℕ) (done : List Frame) (at : Position) (rest : List ℕ) → HasFollowed role limits scan came done at rest → length (payload_of (unfinished done)) ≤ 16777216
+pub few_open : (role : Role) (limits : Limits) (scan : Scan) (came : List ℕ) (done : List Frame) (at : Position) (rest : List ℕ) → HasFollowed role limits scan came done at rest → length (payload_of (unfinished done)) ≤ 16777216
 few_open role limits scan came done at rest h =
     let size = (group_of_lawful role limits done h.ended.lawful).size in
     let most = h.has_scanned.has_consumed.in_range.message in

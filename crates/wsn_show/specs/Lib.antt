@@ -5,6 +5,7 @@ pub mod HeldParts
 pub mod StreamParts
 pub mod FollowedScans
 pub mod ShownItems
+pub mod WholeFrames
 pub mod ShownSoFar
 pub mod StreamViews
 pub mod Times

@@ -150,4 +150,12 @@ impl FrameSoFar {
         self.first.clear();
         self.last.clear();
     }
+
+    /// A frame of this size comes and ends, none of whose bytes are kept, and another one comes next.
+    pub fn pass(&mut self, size: u64)
+        ensures { (fs gs : List Frame) → length (stream gs) ≡ length (stream fs) + size → length (stream gs) < 2 ^ 64 →
+            KeepsFrame self.old fs BetweenFrames [] → KeepsFrame self.new gs BetweenFrames [] }
+    {
+        self.offset = self.offset.saturating_add(size);
+    }
 }

@@ -33,6 +33,7 @@ mod stream_showing;
 mod stream_view;
 mod style;
 mod times;
+mod whole_frames;
 
 pub use capture_view::CaptureView;
 pub use showing::{ShowStop, show};

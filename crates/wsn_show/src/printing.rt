@@ -23,8 +23,9 @@ impl StreamParts {
     ghost use Rattle.wsn_print.specs.ShownParts.{item_of_remainder};
     ghost use Rattle.wsn_scan.specs.ReportedFrames.{Position, BetweenFrames, InFrame};
     ghost use Rattle.wsn_show.specs.HeldParts.{HasFirst};
-    ghost use Rattle.wsn_show.specs.StreamParts.{KeepsMessage, Keeps, IsEvidenceAt, IsSoundPart, items_left};
+    ghost use Rattle.wsn_show.specs.StreamParts.{KeepsMessage, HasJoined, Keeps, IsEvidenceAt, IsSoundPart, items_left};
     ghost use Rattle.wsn_show.specs.ShownItems.{Prints, items_of_ended};
+    ghost use Rattle.wsn_show.specs.WholeFrames.{items_of_end};
 
     /// Prints the open message, if there is one, as unfinished. Its last frame lacks this number of bytes, `None` if
     /// only a part of the next head has come.
@@ -47,7 +48,12 @@ impl StreamParts {
 
     /// Before a Close, prints the message that it interrupts.
     #[tactic(none)]
-    fn put_before_close<W: Write>(&self, output: &mut Output<W>, context: &EntryContext<'_>, op: Op)
+    pub fn put_before_close<W: Write>(
+        &self,
+        output: &mut Output<W>,
+        context: &EntryContext<'_>,
+        op: Op,
+    )
         ensures { (role : Role) (limits : Limits) (fs : List Frame) (part : List ℕ) → IsLawful role limits fs →
             KeepsMessage self.now.message fs part →
             Prints context.now output.old output.new (if is_close op then open_items fs (Some 0) else []) }
@@ -74,13 +80,33 @@ impl StreamParts {
     /// Prints the message, which has ended.
     #[tactic(none)]
     fn put_message<W: Write>(&self, output: &mut Output<W>, context: &EntryContext<'_>)
-        ensures { (role : Role) (limits : Limits) (fs : List Frame) (f : Frame) (rest : List ℕ) →
-            IsLawful role limits (fs ++ f ∷ []) → is_control f.op ≡ false → length (unfinished fs) + 1 < 2 ^ 64 →
-            Keeps self.now fs (InFrame (info_of (length (stream fs)) f) f.payload) rest →
-            Prints context.now output.old output.new (items_of_final fs f) }
+        ensures { (role : Role) (limits : Limits) (fs : List Frame) (f : Frame) → IsLawful role limits (fs ++ f ∷ []) →
+            is_control f.op ≡ false → length (unfinished fs) + 1 < 2 ^ 64 → KeepsMessage self.now.message fs f.payload →
+            HasJoined self.now.message fs f → Prints context.now output.old output.new (items_of_final fs f) }
     {
         let item = ShownItem::Event(self.message.all_parts());
         put_item(output, context, self.message.offset, &item);
+    }
+
+    /// Prints the message if the frame that was added to it last ends it and events are shown.
+    #[tactic(none)]
+    pub fn put_joined<W: Write>(
+        &self,
+        final_frame: bool,
+        output: &mut Output<W>,
+        context: &EntryContext<'_>,
+    )
+        ensures { (role : Role) (limits : Limits) (fs : List Frame) (f : Frame) → IsLawful role limits (fs ++ f ∷ []) →
+            is_control f.op ≡ false → f.fin ≡ final_frame → length (unfinished fs) + 1 < 2 ^ 64 →
+            KeepsMessage self.now.message fs f.payload → HasJoined self.now.message fs f →
+            Prints context.now output.old output.new (items_of_end context.now.style.detail fs f) }
+    {
+        if final_frame {
+            match context.style.detail {
+                Detail::Events => self.put_message(output, context),
+                Detail::Frames => {}
+            }
+        }
     }
 
     /// Prints the event that the frame ends, which is final, if events are shown. A message that a Close interrupts

@@ -1,12 +1,12 @@
 use crate::entry_context::EntryContext;
 use crate::last_bytes::LAST_MAX;
-use crate::scan_calls::next_bytes;
+use crate::scan_calls::{Consumed, next_bytes};
 use crate::stream_parts::StreamParts;
 use std::io::Write;
 use wsn_io::Output;
 use wsn_print::Remainder;
 use wsn_rules::{Limits, Refusal, Verdict};
-use wsn_scan::Scan;
+use wsn_scan::{Notice, Scan};
 use wsn_wire::Role;
 
 /// A scan of a stream, and what is kept of the bytes that it has consumed.
@@ -19,8 +19,8 @@ pub struct ShownScan {
 }
 
 impl ShownScan {
-    ghost use Rattle.std.specs.Prelude.{◌≡◌, ℕ, ◌+◌, ◌<◌, ◌≤◌, ◌^◌, ◌⊎◌, List, [], ◌++◌, length, take, drop, None, ◌≢◌};
-    ghost use Rattle.wsn_wire.specs.Frame.{Frame};
+    ghost use Rattle.std.specs.Prelude.{◌≡◌, ℕ, ◌+◌, ◌<◌, ◌≤◌, ◌^◌, ◌⊎◌, List, [], ◌++◌, length, take, drop, None, IfSome, IfNone, ◌≢◌};
+    ghost use Rattle.wsn_wire.specs.Frame.{Frame, IsBytes};
     ghost use Rattle.wsn_wire.specs.declared.endpoint.Role.{Role};
     ghost use Rattle.wsn_rules.specs.declared.detail.Detail.{Detail};
     ghost use Rattle.wsn_rules.specs.Limits.{Limits};
@@ -46,10 +46,34 @@ impl ShownScan {
     pub fn refusal(&self) -> Option<Refusal>
         ensures { result ≡ refusal_in self.now.scan }
     {
-        match self.scan.finish() {
-            Verdict::Refused(refusal) => Some(refusal),
-            Verdict::Accepted(_) | Verdict::Cut(_) => None,
-        }
+        self.scan.refusal()
+    }
+
+    /// Takes the frame at the start of the piece in one step, if the scan does, and prints what it completes. Returns the
+    /// number of the frame's bytes. With `None` nothing changes.
+    fn take_whole<W: Write>(
+        &mut self,
+        piece: &mut [u8],
+        output: &mut Output<W>,
+        context: &EntryContext<'_>,
+    ) -> Option<usize>
+        requires { length piece.old ≤ room_of self.old.scan }
+        ensures within { IfSome result (λ size. (0 < size) × (size ≤ length piece.old)) }
+        ensures kept { IfSome result (λ size. drop size piece.new ≡ drop size piece.old) }
+        ensures room { IfSome result (λ size. room_of self.new.scan + size ≡ room_of self.old.scan) }
+        ensures in_bytes { IsBytes piece.old }
+        ensures shows { IfSome result (λ size. IsBytes piece.old →
+            (role : Role) (limits : Limits) (came : List ℕ) (shown : List Shown) →
+            HasShownFrames context.now.style.detail role limits self.old.scan self.old.parts came shown →
+            ShowsMore role limits self.new.scan self.new.parts context.now output.old output.new (length piece.old)
+            (came ++ take size piece.old) shown) }
+        ensures none { IfNone result ((self.new ≡ self.old) × (piece.new ≡ piece.old) × (output.new ≡ output.old)) }
+    {
+        let frame = self.scan.next_whole(piece)?;
+        let payload = &piece[frame.start..frame.end];
+        self.parts
+            .follow_whole(&frame.head, payload, frame.end, output, context);
+        Some(frame.end)
     }
 
     /// Calls the scan once, and prints what it completes. Returns the number of bytes that it consumed.
@@ -81,6 +105,34 @@ impl ShownScan {
         count
     }
 
+    /// Takes the frame at the start of the piece in one step if it can, or calls the scan once, and prints what it
+    /// completes. Returns the number of bytes that the scan consumed.
+    fn advance<W: Write>(
+        &mut self,
+        piece: &mut [u8],
+        output: &mut Output<W>,
+        context: &EntryContext<'_>,
+    ) -> usize
+        requires { length piece.old ≤ room_of self.old.scan }
+        ensures within { result ≤ length piece.old }
+        ensures kept { drop result piece.new ≡ drop result piece.old }
+        ensures room { room_of self.new.scan + result ≡ room_of self.old.scan }
+        ensures shows { (role : Role) (limits : Limits) (came : List ℕ) (shown : List Shown) →
+            HasShownFrames context.now.style.detail role limits self.old.scan self.old.parts came shown →
+            ShowsMore role limits self.new.scan self.new.parts context.now output.old output.new (length piece.old)
+            (came ++ take result piece.old) shown }
+        ensures progress { (role : Role) (limits : Limits) (bytes rest : List ℕ) (fs : List Frame)
+            (reported : Reported) →
+            HasScanned role limits self.old.scan bytes fs rest reported → 0 < length piece.old →
+            (0 < result) ⊎ (ends_pending self.new.scan < ends_pending self.old.scan)
+            ⊎ (refusal_in self.new.scan ≢ None) }
+    {
+        match self.take_whole(piece, output, context) {
+            Some(size) => size,
+            None => self.step(piece, output, context),
+        }
+    }
+
     /// Consumes the piece, all of it or the bytes up to a refusal, and prints what it completes. Returns the number of
     /// bytes that it consumed.
     fn feed<W: Write>(
@@ -101,13 +153,26 @@ impl ShownScan {
     {
         let mut at = 0;
         while at < piece.len() {
-            at += self.step(&mut piece[at..], output, context);
+            at += self.advance(&mut piece[at..], output, context);
             if let Some(_) = self.refusal() {
                 return at;
             }
         }
-        // A frame's end is reported by a call of its own.
-        at + self.step(&mut piece[at..], output, context)
+        self.end_frame(output, context);
+        at
+    }
+
+    /// Reports the end of the frame that has begun, if all else of it is reported, and prints what it completes.
+    fn end_frame<W: Write>(&mut self, output: &mut Output<W>, context: &EntryContext<'_>)
+        ensures { (role : Role) (limits : Limits) (came : List ℕ) (shown : List Shown) →
+            HasShownFrames context.now.style.detail role limits self.old.scan self.old.parts came shown →
+            ShowsAll role limits self.new.scan self.new.parts context.now output.old output.new came shown }
+    {
+        if let Some(event) = self.scan.take_end() {
+            let notice = Notice::FrameEnd { event };
+            let consumed = Consumed { notice, bytes: &[] };
+            self.parts.follow(&consumed, &[], output, context);
+        }
     }
 
     /// Consumes the piece and prints what it completes. Bytes after a refusal are kept, but not read.

@@ -10,10 +10,10 @@ use wsn_rules::HeadInfo;
 
 /// A frame that is whole in a piece: its head, and where in the piece its payload begins and ends.
 #[derive(Clone, Copy)]
-pub(crate) struct TakenFrame {
-    pub(crate) head: HeadInfo,
-    pub(crate) start: usize,
-    pub(crate) end: usize,
+pub struct TakenFrame {
+    pub head: HeadInfo,
+    pub start: usize,
+    pub end: usize,
 }
 
 impl Scan {
@@ -206,7 +206,7 @@ impl Scan {
     /// Reports the end of a frame of which everything else is reported. Returns whether the frame is final. With `None`
     /// nothing changes.
     #[inline(always)]
-    pub(crate) fn take_end(&mut self) -> Option<bool>
+    pub fn take_end(&mut self) -> Option<bool>
         ensures taken { IfSome result (λ event. (piece : List ℕ) →
             Advances self.old self.new piece piece 0 (Notice.FrameEnd event)) }
         ensures consumes { IfSome result (λ event. (size : ℕ) →

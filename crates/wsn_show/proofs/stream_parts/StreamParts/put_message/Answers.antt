@@ -1,26 +1,20 @@
 use Rattle.std.proofs.Common.{◌≡◌, ℕ, [], ◌∷◌, ◌++◌, length, sym, ap, ◌∙◌, subst, length-append, arith}
-use Rattle.wsn_wire.specs.Frame.{stream}
 use Rattle.wsn_rules.specs.Group.{unfinished, kind_of, payload_of}
-use Rattle.wsn_rules.specs.Heads.{info_of}
 use Rattle.wsn_rules.specs.Meaning.{Message}
 use Rattle.wsn_rules.specs.ShownStream.{open_offset}
 use Rattle.wsn_rules.specs.ShownStream.Item.{Event}
-use Rattle.wsn_show.specs.StreamParts.{KeepsMessage}
 use Rattle.wsn_show.specs.ShownItems.{Prints}
 use Rattle.wsn_show.proofs.HeldItems.{represents_joined, kind_of_data}
-use Rattle.wsn_show.proofs.KeptParts.{part_of_data}
 use Rattle.wsn_show.proofs.PrintedParts.{final_message}
 use Rattle.wsn_show.proofs.stream_parts.StreamParts.put_message.Goals as goal
 
 pub returns : goal.returns
-returns g c role limits fs f rest lawful other small kept =
+returns g c role limits fs f lawful other small keeps joined =
     let context = c.args.context.now in
     let message = c.args.self.now.message in
     let group = unfinished fs ++ f ∷ [] in
     let event = Message (kind_of group) (payload_of group) in
     let few = context.style.in_range in
-    let keeps = subst (KeepsMessage message fs) (part_of_data (info_of (length (stream fs)) f) f.payload other) kept.message in
-    let joined = kept.joined other in
     let represents = represents_joined context.style.view c.all_parts.result message fs f few (kind_of_data role limits fs f lawful other) keeps joined c.all_parts.ensures.op c.all_parts.ensures.bytes c.all_parts.ensures.held in
     let frames = keeps.frames in
     let count : length group ≡ c.all_parts.result.frames = let own = c.all_parts.ensures.frames (omega (arith, frames, small)) in omega (arith, own, frames, length-append (unfinished fs) (f ∷ [])) in
