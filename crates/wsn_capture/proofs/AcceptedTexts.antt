@@ -188,7 +188,7 @@ module _ (limits : Limits) (capture : Capture) (lines : List (List ℕ)) (line :
     is = record { held = long; first = λ other held. few_lines few other held (omega arith) };
   }
 
-  own_faults : capture.lines < 1000000 → length (without_cr line) ≤ 8194 → (other : LineFault) → HasFault limits has.entries (without_cr line) other → 2 ≤ fault_order other
+  pub own_faults : capture.lines < 1000000 → length (without_cr line) ≤ 8194 → (other : LineFault) → HasFault limits has.entries (without_cr line) other → 2 ≤ fault_order other
   own_faults few short other held = none_further limits has.entries (without_cr line) 0 1 (few_lines few) (λ long. omega (arith, short, long)) other held (omega arith)
 
   pub own_fault : (fault : LineFault) → capture.lines < 1000000 → length (without_cr line) ≤ 8194 → IsFirstOwnFault limits has.entries (without_cr line) fault → IsFaultAfter limits lines line fault

@@ -7,6 +7,7 @@ pub mod LineEnds
 pub mod ClosingLines
 pub mod SentEntries
 pub mod AcceptedTexts
+pub mod BegunLines
 pub mod ReportedLines
 pub mod PairedDigits
 pub mod DigitBlocks

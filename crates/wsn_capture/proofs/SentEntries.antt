@@ -46,12 +46,11 @@ ended-push role given entry = list_any-append (is_mark role) given (entry ∷ []
 module _ (role : Role) (limits : Limits) where
   -- bytes of the endpoint
   pub sends_bytes : (sent_stream : SentStream) (scan : Scanned) (given : List Entry) (bytes : List ℕ) (lines : ℕ) (noted : Option ℕ) → lines ≡ length given → HasSent role limits sent_stream given
-      → ((came : List ℕ) → HasStreamed role limits sent_stream.scan came → HasStreamed role limits scan (came ++ bytes))
+      → HasStreamed role limits scan (sent role given ++ bytes)
       → ((came : List ℕ) → HasStreamed role limits scan came → IsNoted role limits came sent_stream.close_line lines noted)
       → HasSent role limits (record { scan = scan; close_line = noted; ended = sent_stream.ended }) (given ++ Bytes role bytes ∷ [])
-  sends_bytes sent_stream scan given bytes lines noted count has consumes notes =
+  sends_bytes sent_stream scan given bytes lines noted count has came notes =
       let own = own_bytes role bytes in
-      let came = consumes (sent role given) has.streamed in
       record {
         streamed = subst (HasStreamed role limits scan) (sym (sent-push role limits given (Bytes role bytes) ∙ ap (λ (bs : List ℕ). sent role given ++ bs) own)) came;
         ended = has.ended ∙ sym (ended-push role given (Bytes role bytes) ∙ ap (λ (b : Bool). has_ended role given || b) (no_mark role role bytes) ∙ false-or (has_ended role given));

@@ -8,6 +8,7 @@ pub mod LineForms
 pub mod CloseLines
 pub mod LimitedScans
 pub mod Captures
+pub mod BegunLines
 pub mod LineSplitters
 pub mod SideStates
 -- the names that the clauses in src/ import

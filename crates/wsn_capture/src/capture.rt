@@ -6,6 +6,7 @@ use crate::line_form::{LineForm, decode, form_of, strip_cr};
 use crate::sent_stream::SentStream;
 use std::fmt::{self, Debug, Formatter};
 use wsn_rules::{Limits, Outcome, Report};
+use wsn_scan::Scan;
 use wsn_wire::Role;
 
 /// The maximum number of lines of a capture.
@@ -25,7 +26,7 @@ pub struct Capture {
 
 impl Capture {
     ghost use Rattle.std.specs.Prelude.{◌≡◌, ◌+◌, ◌≤◌, ℕ, List, [], ◌∷◌, ◌++◌, length, OnOk, IfErr};
-    ghost use Rattle.wsn_capture.specs.Words.{Limits, Entry, Bytes, IsEntry, IsHex, bytes_prefix, end_mark, IsFaultAfter, IsReport, AreSent, AcceptsText, IsFirstOwnFault, HasAcceptedLines, count_of, has_ended};
+    ghost use Rattle.wsn_capture.specs.Words.{Limits, Entry, Bytes, IsEntry, IsHex, bytes_prefix, end_mark, IsFaultAfter, IsReport, AreSent, AcceptsText, IsFirstOwnFault, HasAcceptedLines, IsLimited, HasEnoughRoom, AcceptsCount, BeginsLine, EndsLine, scanned_by, stream_of, count_of, has_ended};
 
     /// A capture that has accepted no line. The limits apply to each endpoint's stream separately.
     pub fn new(limits: Limits) -> Capture
@@ -120,6 +121,60 @@ impl Capture {
         self.take_decoded(role, bytes)?;
         self.lines += 1;
         Ok(())
+    }
+
+    /// Accepts a line as [`Capture::line_of_bytes`] does, but for the scan of its bytes, which
+    /// [`Capture::end_line_of_bytes`] brings.
+    ///
+    /// The error is the line's first fault; the capture is then unchanged.
+    pub fn begin_line_of_bytes(
+        &mut self,
+        line: &[u8],
+        role: Role,
+        bytes: &[u8],
+    ) -> Result<(), LineFault>
+        requires { IsEntry line.now (Bytes role bytes.now) }
+        ensures begun { OnOk result (BeginsLine self.old self.new line.now role bytes.now) }
+        ensures fault { IfErr result (λ fault. (limits : Limits) (lines : List (List ℕ)) →
+            HasAcceptedLines limits self.old lines → IsFaultAfter limits lines line.now fault) }
+        ensures unchanged { IfErr result (λ _. self.new ≡ self.old) }
+        ensures count { OnOk result ((count_of self.new ≡ count_of self.old + 1) × (count_of self.new ≤ LINES_MAX)) }
+    {
+        if self.count() >= LINES_MAX {
+            return Err(LineFault::TooManyLines);
+        }
+        let length = strip_cr(line).len();
+        if length > LINE_MAX {
+            return Err(LineFault::TooLong);
+        }
+        self.accepts(role, bytes.len())?;
+        self.lines += 1;
+        Ok(())
+    }
+
+    /// Brings the scan of the endpoint's bytes, up to those of the line that has begun, which are `count`.
+    pub fn end_line_of_bytes(&mut self, role: Role, count: usize, scan: Scan)
+        requires { HasEnoughRoom (scanned_by scan (stream_of role self.old) count) }
+        ensures ended { (before : Capture) (line bytes : List ℕ) → length bytes ≡ count →
+            BeginsLine before self.old line role bytes → EndsLine before self.new line role bytes scan }
+        ensures lines { self.new.lines ≡ self.old.lines }
+    {
+        let lines = self.lines.saturating_sub(1);
+        match role {
+            Role::Client => self.client.adopt(scan, count, lines),
+            Role::Server => self.server.adopt(scan, count, lines),
+        }
+    }
+
+    /// Whether an endpoint's stream accepts this number of further bytes.
+    fn accepts(&self, role: Role, count: usize) -> Result<(), LineFault>
+        ensures accepts { OnOk result (AcceptsCount (stream_of role self.now) count) }
+        ensures fault { IfErr result (λ fault. IsLimited (stream_of role self.now) count fault) }
+    {
+        match role {
+            Role::Client => self.client.accepts(count),
+            Role::Server => self.server.accepts(count),
+        }
     }
 
     /// Accepts a line of an endpoint's bytes, which the digits encode.

@@ -21,8 +21,8 @@ impl Model for LimitedScan {
 }
 
 impl LimitedScan {
-    ghost use Rattle.std.specs.Prelude.{◌≡◌, ◌≤◌, ℕ, List, [], ◌++◌, length};
-    ghost use Rattle.wsn_capture.specs.Words.{Frame, IsVerdict, HasStreamed};
+    ghost use Rattle.std.specs.Prelude.{◌≡◌, ◌-◌, ◌≤◌, ℕ, List, [], ◌++◌, length};
+    ghost use Rattle.wsn_capture.specs.Words.{HasEnoughRoom, Frame, IsVerdict, HasStreamed};
 
     /// The scan of a stream of no bytes.
     pub fn new(role: Role, limits: Limits) -> LimitedScan
@@ -55,6 +55,15 @@ impl LimitedScan {
                 let _refusal = self.scan.feed(bytes);
             }
         }
+    }
+
+    /// Takes this scan for its own, which has consumed `count` bytes more, or those up to a refusal.
+    pub fn adopt(&mut self, scan: Scan, count: usize)
+        requires sound { HasEnoughRoom (record { scan = scan; room = self.old.room - count }) }
+        ensures { self.new ≡ record { scan = scan; room = self.old.room - count } }
+    {
+        self.room = self.room.saturating_sub(count as u64);
+        self.scan = scan;
     }
 
     /// The verdict on the bytes that came.

@@ -1,6 +1,7 @@
 use crate::limited_scan::LimitedScan;
 use crate::line_fault::LineFault;
 use wsn_rules::{Limits, Side, Verdict};
+use wsn_scan::Scan;
 use wsn_wire::Role;
 
 /// The stream that one endpoint sent.
@@ -14,7 +15,7 @@ pub struct SentStream {
 
 impl SentStream {
     ghost use Rattle.std.specs.Prelude.{◌≡◌, ◌≤◌, ℕ, List, [], ◌∷◌, ◌++◌, length, false, OnOk, IfErr};
-    ghost use Rattle.wsn_capture.specs.Words.{Entry, Bytes, Mark, IsSide, sent, has_ended, ended_as, HasStreamed, HasSent, IsLimited, IsClosedBy, IsNoted};
+    ghost use Rattle.wsn_capture.specs.Words.{Entry, Bytes, Mark, IsSide, sent, has_ended, ended_as, HasStreamed, HasEnoughRoom, HasSent, IsLimited, AcceptsCount, scanned_by, IsClosedBy, IsNoted};
 
     /// A stream of no bytes.
     pub fn new(role: Role, limits: Limits) -> SentStream
@@ -46,6 +47,32 @@ impl SentStream {
         self.scan.take(bytes);
         self.close_line = self.closed_in(lines);
         Ok(())
+    }
+
+    /// Whether it accepts this number of further bytes. The error is as in [`SentStream::take`].
+    pub fn accepts(&self, count: usize) -> Result<(), LineFault>
+        ensures accepts { OnOk result (AcceptsCount self.now count) }
+        ensures fault { IfErr result (λ fault. IsLimited self.now count fault) }
+    {
+        match self.ended {
+            true => Err(LineFault::AfterEnd),
+            false if count as u64 > self.scan.room() => Err(LineFault::InputLimit),
+            false => Ok(()),
+        }
+    }
+
+    /// Takes this scan for its own, which has consumed the `count` bytes of a line, or those up to a refusal. The line
+    /// comes after `lines` others.
+    pub fn adopt(&mut self, scan: Scan, count: usize, lines: u32)
+        requires sound { HasEnoughRoom (scanned_by scan self.old count) }
+        ensures { (role : Role) (limits : Limits) (given : List Entry) (bytes : List ℕ) → lines ≡ length given →
+            HasSent role limits self.old given →
+            HasStreamed role limits (scanned_by scan self.old count) (sent role given ++ bytes) →
+            HasSent role limits self.new (given ++ Bytes role bytes ∷ []) }
+    {
+        self.scan.adopt(scan, count);
+        let noted = self.closed_in(lines);
+        self.close_line = noted;
     }
 
     /// The number of lines before the one in which a Close ends, if a Close has come: the number noted before, or else

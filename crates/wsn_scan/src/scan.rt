@@ -1,3 +1,4 @@
+mod copies;
 mod event_frames;
 mod feeding;
 mod frame_starts;

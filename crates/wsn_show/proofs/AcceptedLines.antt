@@ -145,7 +145,7 @@ module _ (limits : Limits) (style : Style) (view : CaptureView) (lines : List (L
 -- ---- the end
 
 module _ (limits : Limits) (style : Style) (view : CaptureView) (lines : List (List ℕ)) (entries : List Entry) (has : HasShownLines limits style view lines entries) where
-  same_accepted : has.accepted.entries ≡ entries
+  pub same_accepted : has.accepted.entries ≡ entries
   same_accepted = same_entries lines has.accepted.entries entries (taken_given limits [] lines has.accepted.entries has.accepted.taken) has.given
 
   pub ended_is : (role : Role) (ended : Bool) → ended ≡ has_ended role has.accepted.entries → ended ≡ has_ended role entries

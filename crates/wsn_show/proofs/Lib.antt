@@ -15,6 +15,7 @@ pub mod ViewedStreams
 pub mod Points
 pub mod ShownEntries
 pub mod AcceptedLines
+pub mod ScannedLines
 pub mod PassedPieces
 pub mod EndedTexts
 pub mod ShownInputs

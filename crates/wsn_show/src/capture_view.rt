@@ -21,6 +21,7 @@ use wsn_capture::{Capture, LineFault, Report};
 use wsn_io::Output;
 use wsn_print::{EntryFront, Origin, put_comment_as, put_end_as};
 use wsn_rules::Limits;
+use wsn_scan::Scan;
 use wsn_wire::Role;
 
 /// The maximum number of bytes in a line.
@@ -32,8 +33,6 @@ pub struct CaptureView {
     lines: LinesView,
     /// Room for the bytes that a line gives.
     bytes: [u8; BYTES_MAX],
-    /// Room for a copy of them.
-    scanned: [u8; BYTES_MAX],
 }
 
 impl Model for CaptureView {
@@ -60,7 +59,6 @@ impl CaptureView {
         CaptureView {
             lines: LinesView::new(limits, style),
             bytes: [0; BYTES_MAX],
-            scanned: [0; BYTES_MAX],
         }
     }
 
@@ -80,8 +78,7 @@ impl CaptureView {
         ensures count { OnOk result ((count_of self.new.capture ≡ count_of self.old.capture + 1)
             × (count_of self.new.capture ≤ 1000000)) }
     {
-        self.lines
-            .line(line, &mut self.bytes, &mut self.scanned, output)
+        self.lines.line(line, &mut self.bytes, output)
     }
 
     /// How the lines are shown.
@@ -127,7 +124,7 @@ impl LinesView {
     ghost use Rattle.wsn_capture.specs.LineFaults.{IsFaultAfter};
     ghost use Rattle.wsn_rules.specs.Entries.Entry.{Nothing};
     ghost use Rattle.wsn_show.specs.declared.style.Style.{Style};
-    ghost use Rattle.wsn_show.specs.CaptureViews.{HasShownLines, IsShowingLines, CanShow, Shows, ShowsLine, LeavesAtEnd, Finishes};
+    ghost use Rattle.wsn_show.specs.CaptureViews.{HasShownLines, IsShowingLines, CanShow, view_of, Shows, ShowsLine, LeavesAtEnd, Finishes};
 
     /// A view that has shown no line. The limits apply to each endpoint's stream separately.
     pub fn new(limits: Limits, style: Style) -> LinesView
@@ -142,12 +139,11 @@ impl LinesView {
         }
     }
 
-    /// Accepts the next line as [`CaptureView::line`] does. The contents of `bytes` and `scanned` are then unspecified.
+    /// Accepts the next line as [`CaptureView::line`] does. The contents of `bytes` are then unspecified.
     pub fn line<W: Write>(
         &mut self,
         line: &[u8],
         bytes: &mut [u8; BYTES_MAX],
-        scanned: &mut [u8; BYTES_MAX],
         output: &mut Output<W>,
     ) -> Result<(), LineFault>
         requires showing { IsShowingLines self.old }
@@ -164,7 +160,7 @@ impl LinesView {
     {
         let text = strip_cr(line);
         match sender_of(text) {
-            Some(role) => self.line_of_bytes(line, role, bytes, scanned, output),
+            Some(role) => self.line_of_bytes(line, role, bytes, output),
             None => {
                 self.capture.line(line)?;
                 self.show(text, output);
@@ -179,7 +175,6 @@ impl LinesView {
         line: &[u8],
         role: Role,
         bytes: &mut [u8; BYTES_MAX],
-        scanned: &mut [u8; BYTES_MAX],
         output: &mut Output<W>,
     ) -> Result<(), LineFault>
         requires showing { IsShowingLines self.old }
@@ -198,11 +193,22 @@ impl LinesView {
         let Some(count) = bytes_of(&strip_cr(line)[2..], bytes) else {
             return self.capture.line(line);
         };
-        scanned[..count].copy_from_slice(&bytes[..count]);
         self.capture
-            .line_of_bytes(line, role, &mut scanned[..count])?;
+            .begin_line_of_bytes(line, role, &bytes[..count])?;
         self.show_bytes(role, &mut bytes[..count], output);
+        let scan = self.scan_of(role);
+        self.capture.end_line_of_bytes(role, count, scan);
         Ok(())
+    }
+
+    /// A copy of the scan of an endpoint's bytes, which serves the report too.
+    fn scan_of(&self, role: Role) -> Scan
+        ensures { result ≡ (view_of role self.now).scan }
+    {
+        match role {
+            Role::Client => self.client.scan(),
+            Role::Server => self.server.scan(),
+        }
     }
 
     /// How the lines are shown.

@@ -6,6 +6,7 @@ use std::marker::Model;
 use wsn_io::Output;
 use wsn_print::Origin;
 use wsn_rules::{Limits, Verdict};
+use wsn_scan::Scan;
 use wsn_wire::Role;
 
 /// Shows the stream that one endpoint sent, as its bytes come (RFC 6455 sections 5 and 7): prints each event with its
@@ -100,6 +101,13 @@ impl StreamView {
             HasViewed role limits style self.now came → (fs : List Frame) × IsVerdict role limits came fs result }
     {
         self.stream.verdict()
+    }
+
+    /// A copy of the scan that has consumed the bytes that came, or those up to a refusal.
+    pub(crate) fn scan(&self) -> Scan
+        ensures { result ≡ self.now.scan }
+    {
+        self.stream.scan.copied()
     }
 
     /// Consumes bytes, at most `room` of them, and prints what they complete, up to a failed write. `origin` is where
