@@ -24,7 +24,7 @@ pub fn mask(key: [u8; 4], start: u64, bytes: &mut [u8])
     ensures { bytes.new ≡ masked key start bytes.old }
 {
     if bytes.len() < BLOCK {
-        mask_short(key, start, bytes);
+        mask_rest(key, start, bytes);
         return;
     }
     let lanes = key_lanes(key, start);
@@ -40,9 +40,9 @@ pub fn mask(key: [u8; 4], start: u64, bytes: &mut [u8])
     end.copy_to_slice(&mut bytes[last..]);
 }
 
-// Like `mask`, for less than a block: by two parts that overlap.
+// Like `mask`, for the bytes of less than a block: by two parts that overlap.
 #[inline(never)]
-fn mask_short(key: [u8; 4], start: u64, bytes: &mut [u8])
+fn mask_rest(key: [u8; 4], start: u64, bytes: &mut [u8])
     requires short { length bytes.old < 64 }
     requires within { start + length bytes.old < 2 ^ 64 }
     ensures { bytes.new ≡ masked key start bytes.old }

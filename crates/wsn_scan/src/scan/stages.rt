@@ -151,6 +151,7 @@ impl Scan {
     }
 
     /// Ends a frame: all of its payload came.
+    #[inline(always)]
     #[tactic(none)]
     pub(super) fn end(&mut self, head: &Head, check: &PayloadCheck)
         ensures taken { EndsWithPayload self.old self.new head.now check.now }

@@ -175,7 +175,7 @@ impl Scan {
     /// Consumes the empty frame at the start of the piece, and returns its size and its head. It does so if the scan is
     /// between frames, the piece has room for the longest head, and the frame is valid. Otherwise it returns `None`, and
     /// nothing changes.
-    #[inline(always)]
+    #[inline(never)]
     #[tactic(none)]
     fn take_empty_frame(&mut self, piece: &[u8]) -> Option<(usize, HeadInfo)>
         requires { length piece.now ≤ room_of self.old }
