@@ -152,7 +152,8 @@ impl Capture {
         Ok(())
     }
 
-    /// Brings the scan of the endpoint's bytes, up to those of the line that has begun, which are `count`.
+    /// Ends a line that [`Capture::begin_line_of_bytes`] has accepted, of the same endpoint, with `count` bytes. `scan` has
+    /// consumed all bytes of the endpoint, those of this line too, or those up to a refusal.
     pub fn end_line_of_bytes(&mut self, role: Role, count: usize, scan: Scan)
         requires { HasEnoughRoom (scanned_by scan (stream_of role self.old) count) }
         ensures ended { (before : Capture) (line bytes : List ℕ) → length bytes ≡ count →

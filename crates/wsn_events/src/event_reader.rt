@@ -92,9 +92,9 @@ impl<A: Allocator + Copy> EventReader<A> {
         }
     }
 
-    /// Takes fragments that are whole in the chunk, and then the start of the next frame, or all of it but its end, for as
-    /// long as [`NoticeReader::take_begun`] does. Returns false if an allocation fails, which can happen only after a
-    /// payload byte of a data frame.
+    /// Takes what the chunk has of the next frame, as [`EventReader::take_begun`] does, and after a fragment that is whole
+    /// there also of the frame that follows. Returns false if an allocation fails, which can happen only after a payload
+    /// byte of a data frame.
     #[inline(always)]
     fn take_start(&mut self) -> bool
         requires { IsAtWork self.old }

@@ -107,8 +107,8 @@ impl NoticeReader {
         }
     }
 
-    /// Takes the frames that come next if each is whole in the buffer, ends an event and leaves no message open (RFC
-    /// 6455 section 5.4). Returns whether there is one. If so, [`payload`](NoticeReader::payload) returns the normal
+    /// Takes the frames that come next if each is whole in the buffer, has payload, ends an event and leaves no message
+    /// open (RFC 6455 section 5.4). Returns whether there is one. If so, [`payload`](NoticeReader::payload) returns the normal
     /// form of their events; otherwise nothing changes. It reads nothing.
     pub fn take_events(&mut self) -> bool
         requires { IsReading self.old }
@@ -132,7 +132,8 @@ impl NoticeReader {
         self.take_run(Empty::Taken)
     }
 
-    /// Takes the frames that come next, with or without those that have no payload.
+    /// Takes the frames that come next, up to the first that isn't an event by itself, or also up to the first that has no
+    /// payload.
     fn take_run(&mut self, empty: Empty) -> bool
         requires { IsReading self.old }
         ensures taken { result ≡ true → (role : Role) (limits : _) (came : List ℕ) (done : List Frame) (at : Position) →

@@ -1,4 +1,4 @@
--- Text that is read by blocks, behind zeros.
+-- Text that is read by blocks, after zeros.
 use Rattle.std.proofs.Common.{◌≡◌, ℕ, ◌-◌, ◌<◌, List, [], ◌∷◌, ◌++◌, length, set, take, drop, replicate, ◌∙◌, ap, append_assoc, append-nil, arith}
 use Rattle.std.proofs.lemmas.List.{take-replicate, length-drop, length-set, drop_all}
 use Rattle.std.proofs.lemmas.Simd.{length-replicate}
@@ -8,10 +8,10 @@ use Rattle.simdutf8.proofs.StepsLemmas.{IsUtf8-after_ascii, IsAscii-replicate}
 use Rattle.wsn_text.specs.Utf8.{IsText}
 use Rattle.wsn_text.proofs.Scalars.{text_is_utf8}
 
-pub text_behind_zeros : (n : ℕ) (bytes : List ℕ) → IsUtf8 (replicate n 0 ++ bytes) → IsText bytes
-text_behind_zeros n bytes utf8 = (text_is_utf8 bytes).1 ((IsUtf8-after_ascii (replicate n 0) bytes (IsAscii-replicate n 0 (omega arith))).0 utf8)
+pub text_after_zeros : (n : ℕ) (bytes : List ℕ) → IsUtf8 (replicate n 0 ++ bytes) → IsText bytes
+text_after_zeros n bytes utf8 = (text_is_utf8 bytes).1 ((IsUtf8-after_ascii (replicate n 0) bytes (IsAscii-replicate n 0 (omega arith))).0 utf8)
 
--- A byte and the bytes behind it, put at the end of a block of zeros.
+-- A byte and the bytes after it, put at the end of a block of zeros.
 pub filled : (first : ℕ) (bytes : List ℕ) (block : List ℕ) → length bytes < 64 → block ≡ set (replicate 64 0) (64 - length bytes - 1) first
     → take (64 - length bytes) block ++ (bytes ++ drop (64 - (64 - length bytes)) (drop (64 - length bytes) block)) ≡ replicate (63 - length bytes) 0 ++ (first ∷ bytes)
 filled first bytes block short is =

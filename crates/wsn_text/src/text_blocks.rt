@@ -7,9 +7,9 @@ use std::simd::prelude::*;
 /// The number of bytes in a block.
 const BLOCK: usize = 64;
 
-/// Whether a byte and the bytes behind it are text, by blocks of 64.
+/// Whether a byte and the bytes after it are text, by blocks of 64.
 #[tactic(none)]
-pub(crate) fn is_text_behind(first: u8, bytes: &[u8]) -> bool
+pub(crate) fn is_text_after(first: u8, bytes: &[u8]) -> bool
     ensures { IsTrue result → IsText (first ∷ bytes.now) }
 {
     let mut at = bytes.len() % BLOCK;
@@ -25,7 +25,7 @@ pub(crate) fn is_text_behind(first: u8, bytes: &[u8]) -> bool
     }
 }
 
-/// A byte and the bytes behind it, at the end of a block of zeros.
+/// A byte and the bytes after it, at the end of a block of zeros.
 #[inline(always)]
 #[tactic(none)]
 fn first_block(first: u8, bytes: &[u8]) -> u8x64

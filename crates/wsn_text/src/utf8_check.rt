@@ -6,7 +6,7 @@ ghost use Rattle.wsn_text.specs.Piece.{Validates, Breaks};
 ghost use Rattle.wsn_text.specs.Expected.{awaited};
 
 use crate::ascii_blocks::is_ascii;
-use crate::text_blocks::is_text_behind;
+use crate::text_blocks::is_text_after;
 use simdutf8::compat::from_utf8;
 use std::marker::Model;
 
@@ -207,7 +207,7 @@ impl Utf8 {
         matches!(self.expected, Expected::Nothing)
     }
 
-    /// Validates a piece by parts, so that not much is read behind a bad byte.
+    /// Validates a piece by parts, so that not much is read after a bad byte.
     #[inline(never)]
     #[tactic(none)]
     fn take_piece(&mut self, piece: &[u8]) -> Result<(), usize>
@@ -240,7 +240,7 @@ impl Utf8 {
             (Breaks self.old self.new piece.now) }
     {
         let (front, rest) = piece.split_at(piece.len() - unfinished(piece));
-        if !is_text_behind(self.expected.first_byte(), front) {
+        if !is_text_after(self.expected.first_byte(), front) {
             return self.take_in_steps(piece);
         }
         self.expected = Expected::Character;

@@ -1,7 +1,7 @@
 //! Frames that are whole in a piece, each consumed to its end in one step, with its payload.
 
 use super::Scan;
-use super::whole_frames::TakenFrame;
+use super::whole_frames::{TakenFrame, begins_empty};
 
 impl Scan {
     ghost use Rattle.std.specs.Prelude.{◌≡◌, ◌+◌, ◌<◌, ◌≤◌, None, IfSome, IfNone, length, drop};
@@ -10,9 +10,9 @@ impl Scan {
 
     /// Consumes the frame at the start of the piece in one step, which three calls of [`next`](Scan::next) would report:
     /// its head, its payload, unmasked in place (RFC 6455 section 5.3), and its end. It does so if the scan is between
-    /// frames whose ends are reported, and the piece has the whole frame, which is valid and has payload. Otherwise it
-    /// returns `None`, and nothing changes. `piece` is at most [`room`](Scan::room) bytes long; the bytes after the frame
-    /// don't change.
+    /// frames whose ends are reported, and the piece has the whole frame, which is valid and has payload, whose length
+    /// takes at most two bytes more than the second byte, and 14 bytes, the longest head. Otherwise it returns `None`, and
+    /// nothing changes. `piece` is at most [`room`](Scan::room) bytes long; the bytes after the frame don't change.
     #[inline(always)]
     pub fn next_whole(&mut self, piece: &mut [u8]) -> Option<TakenFrame>
         requires { length piece.old ≤ room_of self.old }
@@ -24,6 +24,9 @@ impl Scan {
         ensures reported { IfSome result (λ _. refusal_in self.new ≡ None) }
         ensures none { IfNone result ((self.new ≡ self.old) × (piece.new ≡ piece.old)) }
     {
+        if begins_empty(piece) {
+            return None;
+        }
         let found = self.open_frame(piece)?;
         self.report_end();
         Some(found)

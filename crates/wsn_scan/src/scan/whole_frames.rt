@@ -173,8 +173,8 @@ impl Scan {
     }
 
     /// Consumes the empty frame at the start of the piece, and returns its size and its head. It does so if the scan is
-    /// between frames, the piece has room for the longest head, and the frame is valid. Otherwise it returns `None`, and
-    /// nothing changes.
+    /// between frames, the piece has room for the longest head, the length isn't encoded in eight bytes, and the frame is
+    /// valid. Otherwise it returns `None`, and nothing changes.
     #[inline(never)]
     #[tactic(none)]
     fn take_empty_frame(&mut self, piece: &[u8]) -> Option<(usize, HeadInfo)>
@@ -280,6 +280,6 @@ fn by_fields(head: &HeadInfo) -> HeadInfo
 
 /// Whether the piece begins with the head of an empty frame, if it begins with a head.
 #[inline(always)]
-fn begins_empty(piece: &[u8]) -> bool {
+pub(super) fn begins_empty(piece: &[u8]) -> bool {
     piece.len() > 1 && piece[1] & 0x7f == 0
 }

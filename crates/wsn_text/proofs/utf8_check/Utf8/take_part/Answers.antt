@@ -15,7 +15,7 @@ returns-clause-steps c =
     let same = subst (λ (state : Option (List Range)). (more : List ℕ) → IsText (first ∷ more) ↔ Follows state more) c.self.view_is c.first_byte.ensures in
     let shifted : Shifted c.take_each.result c.map_err.result (length front) = search rules in
     answers_after old (Some []) c.take_each.new.self front c.split_at.result.1.now c.args.piece.now c.take_each.result c.map_err.result c.split_at.ensures.by_index.0
-    (takes_end old first front same (c.is_text_behind.ensures c.if-not-is_text_behind.false)) shifted c.take_each.ensures.steps
+    (takes_end old first front same (c.is_text_after.ensures c.if-not-is_text_after.false)) shifted c.take_each.ensures.steps
 
 pub overflow_sub-piece : goal.overflow_sub-piece
 overflow_sub-piece c = search rules
@@ -29,11 +29,11 @@ same-self c = search rules
 pub take_in_steps-requires : goal.take_in_steps-requires
 take_in_steps-requires c = search rules
 
-pub returns-then-not-is_text_behind-clause-within : goal.returns-then-not-is_text_behind-clause-within
-returns-then-not-is_text_behind-clause-within c = search rules
+pub returns-then-not-is_text_after-clause-within : goal.returns-then-not-is_text_after-clause-within
+returns-then-not-is_text_after-clause-within c = search rules
 
-pub returns-then-not-is_text_behind-clause-steps : goal.returns-then-not-is_text_behind-clause-steps
-returns-then-not-is_text_behind-clause-steps c = search rules
+pub returns-then-not-is_text_after-clause-steps : goal.returns-then-not-is_text_after-clause-steps
+returns-then-not-is_text_after-clause-steps c = search rules
 
 pub map_err-requires : goal.map_err-requires
 map_err-requires c = search rules
@@ -56,7 +56,7 @@ returns-then-is_empty-clause-steps c =
     let none : length back ≡ 0 = eqb-true _ _ (sym c.if-is_empty.ensures) in
     let nothing : back ≡ [] = drop_all 0 back (omega (arith, none)) in
     let all : c.args.piece.now ≡ front = c.split_at.ensures.by_index.0 ∙ ap (λ (end : List ℕ). front ++ end) nothing ∙ append-nil front in
-    subst (Validates c.args.self.now (Some [])) (sym all) (takes_end c.args.self.now first front same (c.is_text_behind.ensures c.if-not-is_text_behind.false))
+    subst (Validates c.args.self.now (Some [])) (sym all) (takes_end c.args.self.now first front same (c.is_text_after.ensures c.if-not-is_text_after.false))
 
 pub returns-clause-good : goal.returns-clause-good
 returns-clause-good c = search rules
@@ -64,5 +64,5 @@ returns-clause-good c = search rules
 pub returns-then-is_empty-clause-good : goal.returns-then-is_empty-clause-good
 returns-then-is_empty-clause-good c = search rules
 
-pub returns-then-not-is_text_behind-clause-good : goal.returns-then-not-is_text_behind-clause-good
-returns-then-not-is_text_behind-clause-good c = search rules
+pub returns-then-not-is_text_after-clause-good : goal.returns-then-not-is_text_after-clause-good
+returns-then-not-is_text_after-clause-good c = search rules

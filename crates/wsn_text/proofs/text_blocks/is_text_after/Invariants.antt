@@ -1,6 +1,6 @@
 use Rattle.std.proofs.Common.{◌≡◌, ℕ, ◌+◌, ◌-◌, ◌*◌, List, ◌∷◌, ◌++◌, length, take, replicate}
 use Rattle.simdutf8.specs.Tracks.{HasRead}
-use Rattle.wsn_text.proofs.text_blocks.is_text_behind.Given as goal
+use Rattle.wsn_text.proofs.text_blocks.is_text_after.Given as goal
 
 -- Whole blocks are left. What has been read and the block are zeros, and then the bytes before `at`.
 abbrev pub invariant-loop-at : goal.invariant-loop-at

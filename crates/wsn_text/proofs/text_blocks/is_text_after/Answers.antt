@@ -1,8 +1,8 @@
 use Rattle.std.proofs.Common.{◌≡◌, ℕ, ◌+◌, ◌-◌, ◌/◌, ◌%◌, List, [], ◌∷◌, ◌++◌, length, take, drop, replicate, sym, subst, ap, ◌∙◌, append_assoc, rules, arith}
 use Rattle.std.proofs.Math.Seq.{take-add, take-length}
 use Rattle.std.specs.Str.{IsUtf8}
-use Rattle.wsn_text.proofs.TextBlocks.{text_behind_zeros}
-use Rattle.wsn_text.proofs.text_blocks.is_text_behind.Goals as goal
+use Rattle.wsn_text.proofs.TextBlocks.{text_after_zeros}
+use Rattle.wsn_text.proofs.text_blocks.is_text_after.Goals as goal
 
 pub slice_bounds-first_block-end : goal.slice_bounds-first_block-end
 slice_bounds-first_block-end c = search rules
@@ -45,4 +45,4 @@ returns-then-at-bytes c is_true =
     let end : c.loop-at.at ≡ length bytes = omega arith in
     let whole : take c.loop-at.at bytes ≡ bytes = ap (λ (n : ℕ). take n bytes) end ∙ take-length bytes in
     let all : read ++ c.loop-at.block ≡ zeros ++ (c.args.first ∷ bytes) = c.loop-at.invariant.1.3 ∙ ap (λ (behind : List ℕ). zeros ++ (c.args.first ∷ behind)) whole in
-    text_behind_zeros c.loop-at.invariant.1.0 (c.args.first ∷ bytes) (subst IsUtf8 all ((c.finish.ensures _ (c.step-checker.ensures read c.loop-at.invariant.1.2)).0 is_true))
+    text_after_zeros c.loop-at.invariant.1.0 (c.args.first ∷ bytes) (subst IsUtf8 all ((c.finish.ensures _ (c.step-checker.ensures read c.loop-at.invariant.1.2)).0 is_true))
