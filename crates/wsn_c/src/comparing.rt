@@ -3,6 +3,7 @@ ghost use Rattle.wsn_c.specs.Calls.{IsCompared, GivesComparison, call};
 use crate::answer::Answer;
 use crate::options::{Asked, Options};
 use crate::running::{give, give_usage};
+use crate::text::Text;
 use std::alloc::Global;
 use wsn_io::{Input, Output};
 use wsn_job::{Comparison, run_same};
@@ -45,8 +46,8 @@ fn compare(
         format: asked.style.format,
         view: None,
     };
-    let mut printed = Output::new(Vec::new(alloc));
-    let mut said = Output::new(Vec::new(alloc));
+    let mut printed = Output::new(Text::new(alloc));
+    let mut said = Output::new(Text::new(alloc));
     let status = run_same(
         alloc,
         &mut Input::new(first),

@@ -15,6 +15,9 @@ mod over_streams;
 mod recutting;
 mod running;
 mod sides;
+#[cfg(test)]
+mod tests;
+mod text;
 
 pub use answer::Answer;
 pub use comparing::wsn_same;

@@ -3,6 +3,7 @@ ghost use Rattle.wsn_job.specs.Jobs.{MayRun};
 ghost use Rattle.wsn_c.specs.Calls.{Gives, GivesRun, GivesUsage, call, fitted};
 
 use crate::answer::Answer;
+use crate::text::Text;
 use std::alloc::Global;
 use wsn_io::{Input, Output};
 use wsn_job::{Job, run};
@@ -18,8 +19,8 @@ pub(crate) fn run_over(
     requires may_run { MayRun job.now }
     ensures { GivesRun job.now bytes.now (call output.old output.new message.old message.new result) }
 {
-    let mut printed = Output::new(Vec::new(alloc));
-    let mut said = Output::new(Vec::new(alloc));
+    let mut printed = Output::new(Text::new(alloc));
+    let mut said = Output::new(Text::new(alloc));
     let status = run(alloc, job, &mut Input::new(bytes), &mut printed, &mut said);
     give(
         status,

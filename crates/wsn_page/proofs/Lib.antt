@@ -1,1 +1,2 @@
 pub mod MemoryRuns
+pub mod Rooms

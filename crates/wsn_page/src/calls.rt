@@ -10,7 +10,7 @@ use wsn_io::{Input, Output};
 use wsn_show::{show, show_stream};
 
 /// Shows what both sides of a capture said, in order, as `wsn show` does. The role counts for nothing. The text is
-/// composed in `scratch`; a write that doesn't fit there fails.
+/// composed in `scratch`. If it doesn't fit there, the call gives what fits, and the message `write failed`.
 #[unsafe(no_mangle)]
 pub extern "C" fn wsn_page_show(
     settings: &Settings,

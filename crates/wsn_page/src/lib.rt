@@ -11,6 +11,8 @@ mod calls;
 mod giving;
 mod room;
 mod settings;
+#[cfg(test)]
+mod tests;
 
 pub use answer::Answer;
 pub use calls::{wsn_page_show, wsn_page_show_stream};

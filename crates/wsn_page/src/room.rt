@@ -1,7 +1,10 @@
+ghost use Rattle.std.specs.Prelude.{◌≡◌, ◌+◌, ◌≤◌, ◌++◌, length, take};
+
 use std::io::{self, ErrorKind, Write};
 use std::marker::Model;
 
-/// A writer into memory that a caller lends. What doesn't fit is an error, and nothing of it is written.
+/// A writer into memory that a caller lends. It takes as much of each write as fits; a write of which nothing fits is an
+/// error.
 #[derive(Drop)]
 pub(crate) struct Room<'a> {
     memory: &'a mut [u8],
@@ -40,7 +43,7 @@ impl<'a> Room<'a> {
 }
 
 impl Write for Room<'_> {
-    ghost use Rattle.std.specs.Prelude.{◌≡◌, ◌+◌, ◌≤◌, Some, Ok, IsOk, length};
+    ghost use Rattle.std.specs.Prelude.{◌≡◌, ◌++◌, ◌+◌, ◌≤◌, Some, Ok, IsOk, length, take};
     ghost use Rattle.std.specs.Io.{WritesAtMost};
     ghost use Rattle.std.specs.Io.KnownBytes.{Keeps, WriteAppends};
 
@@ -51,16 +54,16 @@ impl Write for Room<'_> {
         ensures bytes { WriteAppends (Some self.old.text) (Some self.new.text) result bytes.now }
         ensures size { self.new.size ≡ self.old.size }
 
-        // What fits is written.
+        // The room holds the longest prefix of the text that fits into it, whether the write succeeds or fails.
+        ensures longest { self.new.text ≡ take self.old.size (self.old.text ++ bytes.now) }
         ensures fits { length self.old.text + length bytes.now ≤ self.old.size → result ≡ Ok (length bytes.now) }
     {
-        if bytes.len() > self.memory.len() - self.len {
+        let count = bytes.len().min(self.memory.len() - self.len);
+        if count == 0 && !bytes.is_empty() {
             return Err(ErrorKind::WriteZero.into());
         }
-        let end = self.len + bytes.len();
-        self.memory[self.len..end].copy_from_slice(bytes);
-        self.len = end;
-        Ok(bytes.len())
+        self.len = put_after(&bytes[..count], self.memory, self.len);
+        Ok(count)
     }
 
     fn flush(&mut self) -> io::Result<()>
@@ -69,4 +72,15 @@ impl Write for Room<'_> {
     {
         Ok(())
     }
+}
+
+/// Puts bytes after the first `len` bytes of the memory, and returns where they end.
+fn put_after(bytes: &[u8], memory: &mut [u8], len: usize) -> usize
+    requires { len + length bytes.now ≤ length memory.old }
+    ensures end { result ≡ len + length bytes.now }
+    ensures written { take result memory.new ≡ take len memory.old ++ bytes.now }
+{
+    let end = len + bytes.len();
+    memory[len..end].copy_from_slice(bytes);
+    end
 }

@@ -1,6 +1,6 @@
 //! Tests of `show`, through its command and its public calls. `rows` has captures and what is printed of them,
 //! `captures` and `streams` run the command over captures and over single streams, `stops` with readers and writers that
-//! fail; `objects` runs commands that print JSON.
+//! fail, `rooms` with writers that are too small; `objects` runs commands that print JSON.
 #![tactic(auto)]
 
 #[cfg(test)]
@@ -9,6 +9,8 @@ mod captures;
 mod expecting;
 #[cfg(test)]
 mod objects;
+#[cfg(test)]
+mod rooms;
 #[cfg(test)]
 mod rows;
 #[cfg(test)]

@@ -4,10 +4,10 @@ use Rattle.wsn_c.proofs.running.run_over.Goals as goal
 
 pub returns : goal.returns
 returns c = (
-  c.into_writer.result.items,
-  c.into_writer-2.result.items,
+  c.into_writer.result,
+  c.into_writer-2.result,
   c.run-status.result,
-  runs_over c.args.job.now c.args.bytes.now c.into_writer.result.items c.into_writer-2.result.items c.run-status.result
+  runs_over c.args.job.now c.args.bytes.now c.into_writer.result c.into_writer-2.result c.run-status.result
       c.run-status.new.input c.new-3.result c.new-printed.result c.run-status.new.output c.new-said.result
       c.run-status.new.errors (search rules) (search rules) (search rules) (search rules) (search rules)
       c.run-status.ensures.done,
