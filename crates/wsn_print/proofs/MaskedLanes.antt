@@ -1,7 +1,10 @@
 -- Bytes that are compared by vectors: a lane is 255 where the byte passes a test, and else 0.
-use Rattle.std.proofs.Common.{◌≡◌, ℕ, ◌+◌, ◌^◌, ◌%◌, ◌≤◌, Bool, true, false, cond, ◌||◌, List, [], ◌∷◌, map, length, refl, ap, ap₂, ◌∙◌, arith}
+use Rattle.std.proofs.Common.{◌≡◌, ℕ, ◌+◌, ◌^◌, ◌%◌, Bool, true, false, cond, ◌||◌, ◌&&◌, ◌*◌, ◌<◌, subst, List, [], ◌∷◌, map, length, refl, ap, ap₂, ◌∙◌, arith}
 use Rattle.std.specs.Prelude.{replicate, suc}
-use Rattle.std.proofs.lemmas.Simd.{zip2_splat, mask_l-mod}
+use Rattle.std.proofs.lemmas.Simd.{zip2_splat, mask_l-mod, mask_l-lt}
+use Rattle.std.proofs.lemmas.Bool.Decides.{nat_tests}
+use Rattle.wsn_print.specs.declared.escapes.Escapes.TheVariants.{Quoted}
+use Rattle.wsn_print.specs.Runs.{begins_hidden, takes_backslash}
 use lib.Lanes.{zip2, mask_l, top}
 
 -- the lane of a byte
@@ -59,23 +62,38 @@ bits_of p q lanes xs long same is =
     ∙ mask_l-mod (map p xs) 64 (omega (arith, length-tests p xs, long)) ∙ ap mask_l (tests_same p q same xs)
 
 -- tests that are joined from the first to the last, and from the last to the first
-pub same_six : (a b c d e f : Bool) → ((((a || b) || c) || d) || e) || f ≡ (a || b || c || d || e || f) || false
+pub same_six : (a b c d e f : Bool) → ((((a || b) || c) || d) || e) || f ≡ a || b || c || d || e || f
 same_six true b c d e f = refl
 same_six false true c d e f = refl
 same_six false false true d e f = refl
 same_six false false false true e f = refl
 same_six false false false false true f = refl
-same_six false false false false false true = refl
-same_six false false false false false false = refl
+same_six false false false false false f = refl
 
-pub same_eight : (a b c d e f g h : Bool)
-    → ((((((a || b) || c) || d) || e) || f) || g) || h ≡ (a || b || c || d || e || f) || (g || h)
-same_eight true b c d e f g h = refl
-same_eight false true c d e f g h = refl
-same_eight false false true d e f g h = refl
-same_eight false false false true e f g h = refl
-same_eight false false false false true f g h = refl
-same_eight false false false false false true g h = refl
-same_eight false false false false false false true h = refl
-same_eight false false false false false false false true = refl
-same_eight false false false false false false false false = refl
+-- tests of which no byte passes both
+sum_of_bits : (a b : Bool) (m n : ℕ) → a && b ≡ false → (cond a 1 0 + 2 * m) + (cond b 1 0 + 2 * n) ≡ cond (a || b) 1 0 + 2 * (m + n)
+sum_of_bits true true m n apart = absurd (cc apart)
+sum_of_bits true false m n apart = omega arith
+sum_of_bits false true m n apart = omega arith
+sum_of_bits false false m n apart = omega arith
+
+pub bits_apart : (p q : ℕ → Bool) → ((x : ℕ) → p x && q x ≡ false) → (xs : List ℕ)
+    → mask_l (map p xs) + mask_l (map q xs) ≡ mask_l (map (λ x. p x || q x) xs)
+bits_apart p q apart [] = refl
+bits_apart p q apart (x ∷ xs) =
+    sum_of_bits (p x) (q x) (mask_l (map p xs)) (mask_l (map q xs)) (apart x)
+    ∙ ap (λ (n : ℕ). cond (p x || q x) 1 0 + 2 * n) (bits_apart p q apart xs)
+
+-- no quotation mark and no backslash begins a hidden character
+pub marks_apart : (x : ℕ) → begins_hidden x && takes_backslash Quoted x ≡ false
+marks_apart x = grind (arith, nat_tests)
+
+pub few_bits : (p : ℕ → Bool) (xs : List ℕ) → length xs ≡ 16 → mask_l (map p xs) < 65536
+few_bits p xs long = subst (λ (n : ℕ). mask_l (map p xs) < 2 ^ n) (length-tests p xs ∙ long) (mask_l-lt (map p xs))
+
+or_false : (a : Bool) → a ≡ a || false
+or_false true = refl
+or_false false = refl
+
+pub bits_alone : (p : ℕ → Bool) (xs : List ℕ) → mask_l (map p xs) ≡ mask_l (map (λ x. p x || false) xs)
+bits_alone p xs = ap mask_l (tests_same p (λ x. p x || false) (λ x. or_false (p x)) xs)

@@ -1,10 +1,10 @@
 -- Where the hidden characters are in UTF-8.
-use Rattle.std.proofs.Common.{◌≡◌, ℕ, ◌+◌, ◌-◌, ◌*◌, ◌/◌, ◌%◌, ◌<◌, ◌≤◌, Bool, true, false, ◌||◌, ◌⊎◌, inl, inr, sym, ap, ◌∙◌, subst, arith}
-use Rattle.std.specs.Prelude.{Option, None, Some, nat_lt, ◌==◌, ◌&&◌, if◌then◌else◌}
+use Rattle.std.proofs.Common.{◌≡◌, ℕ, ◌+◌, ◌*◌, ◌/◌, ◌%◌, ◌<◌, ◌≤◌, Bool, false, inl, inr, sym, ap, ◌∙◌, arith}
+use Rattle.std.specs.Prelude.{Option, None, Some, if◌then◌else◌}
 use Rattle.std.proofs.lemmas.Bool.{cases_eq, cases_lt}
 use Rattle.std.proofs.lemmas.Bool.Decides.{nat_tests}
-use Rattle.wsn_print.specs.ShownText.{is_from, is_hidden}
-use Rattle.wsn_print.specs.Runs.{hidden_of, begins_hidden}
+use Rattle.wsn_print.specs.ShownText.{is_hidden}
+use Rattle.wsn_print.specs.Runs.{hidden_of}
 
 -- The hidden character that c is, with some bytes after its first; none, if it isn't hidden.
 abbrev pub hidden_in : ℕ → ℕ → Option (ℕ × ℕ)

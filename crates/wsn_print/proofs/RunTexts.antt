@@ -1,9 +1,9 @@
 -- Texts of which most bytes are copied as they are.
-use Rattle.std.proofs.Common.{◌≡◌, inl, inr, ℕ, ◌+◌, ◌-◌, ◌*◌, ◌/◌, ◌%◌, ◌<◌, ◌≤◌, Bool, true, false, not, cond, ◌||◌, List, [], ◌∷◌, ◌++◌, length, take, drop, get_or, refl, sym, ap, ap₂, ◌∙◌, subst, arith, append_assoc, length-take-le, take-take, length-drop}
+use Rattle.std.proofs.Common.{◌≡◌, inl, inr, ℕ, ◌+◌, ◌-◌, ◌/◌, ◌%◌, ◌<◌, ◌≤◌, Bool, true, false, not, cond, ◌||◌, List, [], ◌∷◌, ◌++◌, length, take, drop, get_or, refl, sym, ap, ◌∙◌, arith, append_assoc, length-take-le, take-take, length-drop}
 use Rattle.std.specs.Prelude.{suc, zero, Option, None, Some, flat_map, nat_lt, ◌==◌, ◌&&◌, if◌then◌else◌}
 use Rattle.std.specs.List.{prefix_len}
 use Rattle.std.proofs.lemmas.List.{take-append-drop, drop-drop, take_all}
-use Rattle.std.specs.Char.{encode_utf8, IsScalar}
+use Rattle.std.specs.Char.{encode_utf8}
 use Rattle.std.proofs.lemmas.Bool.{cases_lt}
 use Rattle.std.proofs.lemmas.Bool.Decides.{nat_tests}
 use Rattle.std.proofs.lemmas.Str.{encode_ascii, chars_from_encodes}
@@ -12,8 +12,8 @@ use Rattle.std.specs.Str.{IsUtf8, chars, encode_utf8_all}
 use Rattle.hex.specs.Hex.{encode_with, encode_lower}
 use Rattle.wsn_print.specs.declared.escapes.Escapes.{Escapes}
 use Rattle.wsn_print.specs.declared.escapes.Escapes.TheVariants.{Hidden, Quoted}
-use Rattle.wsn_print.specs.ShownText.{is_from, is_hidden, unicode_escape, shown_character, quoted_character}
-use Rattle.wsn_print.specs.Runs.{escaped, escaped_after, escaped_character, is_copied, begins_escaped, begins_hidden, takes_backslash, hidden_of, hidden_at, written_of, more_of, escaped_byte}
+use Rattle.wsn_print.specs.ShownText.{is_from, is_hidden, unicode_escape, shown_character}
+use Rattle.wsn_print.specs.Runs.{escaped, escaped_after, escaped_character, is_copied, begins_hidden, takes_backslash, hidden_of, hidden_at, written_of, more_of, escaped_byte}
 
 -- A number's escape, in three parts.
 pub escape_written : (t0 t1 t2 t3 : List ℕ) (a b : ℕ) → t1 ≡ t0 ++ 92 ∷ 117 ∷ [] → t2 ≡ t1 ++ encode_lower (a ∷ [])

@@ -1,5 +1,5 @@
 -- Texts of which most bytes are copied as they are, and a few characters are escaped.
-use Rattle.std.specs.Prelude.{ℕ, zero, suc, ◌+◌, ◌-◌, ◌==◌, ◌&&◌, ◌||◌, nat_lt, Bool, true, false, not, if◌then◌else◌, Option, None, Some, List, [], ◌∷◌, ◌++◌, get_or}
+use Rattle.std.specs.Prelude.{ℕ, zero, suc, ◌+◌, ◌-◌, ◌==◌, ◌&&◌, ◌||◌, nat_lt, Bool, false, not, if◌then◌else◌, Option, None, Some, List, [], ◌∷◌, ◌++◌, get_or}
 use Rattle.wsn_print.specs.declared.escapes.Escapes.{Escapes}
 use Rattle.wsn_print.specs.declared.escapes.Escapes.TheVariants.{Hidden, Quoted}
 use Rattle.wsn_print.specs.ShownText.{is_from, unicode_escape, shown_character, quoted_character}

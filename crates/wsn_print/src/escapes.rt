@@ -3,7 +3,7 @@ ghost use Rattle.std.specs.Prelude.{◌≡◌, ◌<◌, length, map, get_or};
 ghost use Rattle.std.specs.List.{prefix_len};
 ghost use Rattle.std.specs.Simd.Lanes.{mask_l};
 ghost use Rattle.wsn_print.specs.declared.escapes.Escapes.TheVariants as Escapes;
-ghost use Rattle.wsn_print.specs.Runs.{begins_escaped, hidden_of, is_copied, takes_backslash};
+ghost use Rattle.wsn_print.specs.Runs.{begins_escaped, begins_hidden, hidden_of, is_copied, takes_backslash};
 
 use std::simd::prelude::*;
 
@@ -39,14 +39,15 @@ fn escaped_starts(escapes: Escapes, block: u8x16) -> u64
 {
     match escapes {
         Escapes::Hidden => hidden_starts(block),
-        Escapes::Quoted => quoted_starts(block),
+        // No byte has both bits.
+        Escapes::Quoted => hidden_starts(block) + marks(block),
     }
 }
 
-/// The same in a comment.
+/// A bit for each byte that begins a hidden character, or may begin one: it is the first byte of some.
 #[inline(always)]
 fn hidden_starts(block: u8x16) -> u64
-    ensures { result ≡ mask_l (map (begins_escaped Escapes.Hidden) block) }
+    ensures { result ≡ mask_l (map begins_hidden block) }
 {
     (block.simd_lt(u8x16::splat(0x20))
         | block.simd_eq(u8x16::splat(0x7f))
@@ -56,19 +57,12 @@ fn hidden_starts(block: u8x16) -> u64
         | block.simd_eq(u8x16::splat(0xef))).to_bitmask()
 }
 
-/// The same in a quoted text.
+/// A bit for each quotation mark and backslash.
 #[inline(always)]
-fn quoted_starts(block: u8x16) -> u64
-    ensures { result ≡ mask_l (map (begins_escaped Escapes.Quoted) block) }
+fn marks(block: u8x16) -> u64
+    ensures { result ≡ mask_l (map (takes_backslash Escapes.Quoted) block) }
 {
-    (block.simd_lt(u8x16::splat(0x20))
-        | block.simd_eq(u8x16::splat(0x7f))
-        | block.simd_eq(u8x16::splat(0xc2))
-        | block.simd_eq(u8x16::splat(0xd8))
-        | block.simd_eq(u8x16::splat(0xe2))
-        | block.simd_eq(u8x16::splat(0xef))
-        | block.simd_eq(u8x16::splat(b'"'))
-        | block.simd_eq(u8x16::splat(b'\\'))).to_bitmask()
+    (block.simd_eq(u8x16::splat(b'"')) | block.simd_eq(u8x16::splat(b'\\'))).to_bitmask()
 }
 
 /// Whether the byte is a character that is escaped by a backslash before it.

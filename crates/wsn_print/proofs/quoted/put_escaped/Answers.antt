@@ -1,4 +1,4 @@
-use Rattle.std.proofs.Common.{◌≡◌, ◌++◌, ◌-◌, ◌+◌, ℕ, List, [], length, drop, take, refl, sym, ap, ◌∙◌, subst, arith, append-nil, length-drop}
+use Rattle.std.proofs.Common.{◌≡◌, ◌++◌, ℕ, List, [], drop, sym, ap, ◌∙◌, subst, arith, append-nil, length-drop}
 use Rattle.std.proofs.lemmas.List.{drop_all}
 use Rattle.wsn_io.specs.Stops.{IsWrittenOrStops}
 use Rattle.wsn_print.specs.Runs.{escaped}

@@ -1,5 +1,5 @@
-use Rattle.std.proofs.Common.{◌≡◌, ◌++◌, ◌∙◌, ℕ, List, get_or, ap, subst}
-use Rattle.std.specs.Prelude.{Option, Some}
+use Rattle.std.proofs.Common.{◌≡◌, ◌++◌, ◌∙◌, ℕ, List, get_or, ap}
+use Rattle.std.specs.Prelude.{Some}
 use Rattle.wsn_print.specs.ShownText.{unicode_escape}
 use Rattle.wsn_print.specs.Runs.{hidden_of}
 use Rattle.wsn_print.proofs.RunTexts.{hidden_first}

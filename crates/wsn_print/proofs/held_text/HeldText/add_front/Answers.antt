@@ -1,7 +1,7 @@
-use Rattle.std.proofs.Common.{◌≡◌, ◌≤◌, ◌++◌, ◌+◌, ℕ, List, length, take, sym, ap₂, subst, ◌∙◌, arith, take-take, length-take-le}
+use Rattle.std.proofs.Common.{◌≡◌, ◌++◌, ℕ, List, take, ap₂, subst, ◌∙◌, arith, take-take, length-take-le}
 use Rattle.std.specs.List.{prefix_len}
 use Rattle.wsn_print.specs.Runs.{is_copied}
-use Rattle.wsn_print.proofs.RunTexts.{first_pass, starts_alike}
+use Rattle.wsn_print.proofs.RunTexts.{first_pass}
 use Rattle.wsn_print.proofs.held_text.HeldText.add_front.Goals as goal
 
 pub put_front-self-inside-requires-clause-front : goal.put_front-self-inside-requires-clause-front
