@@ -5,7 +5,6 @@ pub mod Gathered
 pub mod HeldViews
 pub mod JsonTexts
 pub mod VisibleTexts
-pub mod PlainTexts
 pub mod VisibleLines
 pub mod Appended
 pub mod ObjectPieces
@@ -14,3 +13,6 @@ pub mod PlacedItems
 pub mod LaidHeads
 pub mod DigitPairs
 pub mod PutParts
+pub mod MaskedLanes
+pub mod RunTexts
+pub mod RunCharacters

@@ -15,5 +15,6 @@ pub mod ShownParts
 pub mod Formats
 pub mod DifferenceText
 pub mod QuotedTexts
+pub mod Runs
 -- for the examples
 pub mod Examples

@@ -27,13 +27,14 @@
 mod comparisons;
 mod differences;
 mod entries;
+mod escapes;
 mod faults;
 mod format;
 mod frame_members;
 mod frame_objects;
 mod head_lines;
 mod heads;
-mod held_characters;
+mod held_text;
 mod json;
 mod kept_digits;
 mod laid;

@@ -5,8 +5,10 @@ ghost use Rattle.std.specs.Str.Lossy.{utf8_valid_len};
 ghost use Rattle.wsn_io.specs.Stops.{IsWrittenOrStops};
 ghost use Rattle.wsn_print.specs.ShownText.{is_hidden, unicode_escape, shown_character, quoted_character, quoted, shown_byte, comment_text, comment_line};
 ghost use Rattle.wsn_print.specs.ShownObjects.{quoted_byte, comment_characters};
+ghost use Rattle.wsn_print.specs.Runs.{escaped};
 
-use crate::held_characters::{CHARACTER_MAX, HeldCharacters};
+use crate::escapes::Escapes;
+use crate::held_text::{CHARACTER_MAX, HeldText};
 use crate::line::Line;
 use std::io::Write;
 use std::str;
@@ -59,66 +61,46 @@ pub(crate) fn put_comment_characters<W: Write>(to: &mut Output<W>, text: &[u8]) 
     }
 }
 
+/// Writes the characters of a text that is quoted.
+#[inline(never)]
 fn put_quoted_characters<W: Write>(to: &mut Output<W>, text: &str) -> Result<(), Stop>
     requires { to.old.failed ≡ false }
     ensures { IsWrittenOrStops to.old to.new (flat_map quoted_character (chars text.now)) result }
 {
-    if is_quoted_as_it_is(text.as_bytes()) {
-        put_line(to, text.as_bytes())
-    } else {
-        put_each_quoted(to, text)
-    }
+    put_escaped(to, Escapes::Quoted, text.as_bytes())
 }
 
-/// Whether a text is ASCII and none of its characters is escaped in quotes.
+/// Writes the characters of a comment.
 #[inline(never)]
-#[tactic(none)]
-fn is_quoted_as_it_is(text: &[u8]) -> bool
-    ensures { result ≡ true → flat_map quoted_character (chars text.now) ≡ text.now }
-{
-    for b in text {
-        if !matches!(b, b' '..=b'!' | b'#'..=b'[' | b']'..=b'~') {
-            return false;
-        }
-    }
-    true
-}
-
-#[inline(never)]
-#[tactic(none)]
-fn put_each_quoted<W: Write>(to: &mut Output<W>, text: &str) -> Result<(), Stop>
-    requires { to.old.failed ≡ false }
-    ensures { IsWrittenOrStops to.old to.new (flat_map quoted_character (chars text.now)) result }
-{
-    let mut held = HeldCharacters::new();
-    for c in text.chars() {
-        make_room(to, &mut held)?;
-        held.add_quoted(c);
-    }
-    put_line(to, held.text())
-}
-
-#[inline(never)]
-#[tactic(none)]
 fn put_shown<W: Write>(to: &mut Output<W>, text: &str) -> Result<(), Stop>
     requires { to.old.failed ≡ false }
     ensures { IsWrittenOrStops to.old to.new (flat_map shown_character (chars text.now)) result }
 {
-    let mut held = HeldCharacters::new();
-    for c in text.chars() {
+    put_escaped(to, Escapes::Hidden, text.as_bytes())
+}
+
+/// Writes a text in UTF-8 by runs of bytes that are copied as they are, with the characters between them escaped.
+#[inline(always)]
+fn put_escaped<W: Write>(to: &mut Output<W>, escapes: Escapes, text: &[u8]) -> Result<(), Stop>
+    requires { to.old.failed ≡ false }
+    ensures { IsWrittenOrStops to.old to.new (escaped escapes text.now) result }
+{
+    let mut held = HeldText::new();
+    let mut at = 0;
+    while at < text.len() {
         make_room(to, &mut held)?;
-        held.add_shown(c);
+        at += held.add_start(escapes, &text[at..]);
     }
     put_line(to, held.text())
 }
 
 /// Writes the characters that are held if there is no room for another.
 #[inline(always)]
-fn make_room<W: Write>(to: &mut Output<W>, held: &mut HeldCharacters) -> Result<(), Stop>
+fn make_room<W: Write>(to: &mut Output<W>, held: &mut HeldText) -> Result<(), Stop>
     requires { to.old.failed ≡ false }
     ensures held { (front : List ℕ) × (front ++ held.new ≡ held.old)
         × IsWrittenOrStops to.old to.new front result }
-    ensures room { length held.new + 6 ≤ 256 }
+    ensures room { length held.new + 22 ≤ 256 }
 {
     if held.is_full() {
         put_held(to, held)
@@ -129,7 +111,7 @@ fn make_room<W: Write>(to: &mut Output<W>, held: &mut HeldCharacters) -> Result<
 
 /// Writes the characters that are held, and removes them.
 #[inline(never)]
-fn put_held<W: Write>(to: &mut Output<W>, held: &mut HeldCharacters) -> Result<(), Stop>
+fn put_held<W: Write>(to: &mut Output<W>, held: &mut HeldText) -> Result<(), Stop>
     requires { to.old.failed ≡ false }
     ensures written { IsWrittenOrStops to.old to.new held.old result }
     ensures none_held { held.new ≡ [] }
@@ -167,7 +149,9 @@ fn quoted_byte(b: u8) -> Line<CHARACTER_MAX>
     ensures { result ≡ quoted_byte b }
 {
     match b {
-        b' '..=b'~' => quoted_character(char::from(b)),
+        b'"' => line_of("\\\""),
+        b'\\' => line_of("\\\\"),
+        b' '..=b'~' => line_of_byte(b),
         _ => quoted_escape(b),
     }
 }
@@ -182,17 +166,6 @@ fn quoted_escape(b: u8) -> Line<CHARACTER_MAX>
     line
 }
 
-#[tactic(none)]
-fn quoted_character(c: char) -> Line<CHARACTER_MAX>
-    ensures { result ≡ quoted_character c }
-{
-    match c {
-        '"' => line_of("\\\""),
-        '\\' => line_of("\\\\"),
-        _ => shown_character(c),
-    }
-}
-
 fn line_of(text: &str) -> Line<CHARACTER_MAX>
     requires { length text.now ≤ 6 }
     ensures { result ≡ text.now }
@@ -202,42 +175,12 @@ fn line_of(text: &str) -> Line<CHARACTER_MAX>
     line
 }
 
-pub(crate) fn shown_character(c: char) -> Line<CHARACTER_MAX>
-    ensures { result ≡ shown_character c }
+fn line_of_byte(b: u8) -> Line<CHARACTER_MAX>
+    ensures { result ≡ b ∷ [] }
 {
-    if is_hidden(c) {
-        return unicode_escape(c);
-    }
-    line_of(c.encode_utf8(&mut [0; 4]))
-}
-
-/// `\u` and four digits.
-fn unicode_escape(c: char) -> Line<CHARACTER_MAX>
-    requires { c < 65536 }
-    ensures { result ≡ unicode_escape c }
-{
-    let code = u32::from(c);
     let mut line = Line::new();
-    line.push("\\u");
-    line.push_hex(&[(code / 256) as u8, (code % 256) as u8]);
+    line.push_byte(b);
     line
-}
-
-/// Whether a character moves a terminal's cursor, or changes how the text around it is shown.
-#[tactic(none)]
-fn is_hidden(c: char) -> bool
-    ensures { result ≡ is_hidden c }
-{
-    matches!(
-        c,
-        '\0'..='\u{1f}'
-            | '\u{7f}'..='\u{9f}'
-            | '\u{61c}'
-            | '\u{200e}'..='\u{200f}'
-            | '\u{2028}'..='\u{202e}'
-            | '\u{2066}'..='\u{2069}'
-            | '\u{feff}'
-    )
 }
 
 #[tactic(none)]

@@ -1,0 +1,286 @@
+-- Texts of which most bytes are copied as they are.
+use Rattle.std.proofs.Common.{◌≡◌, inl, inr, ℕ, ◌+◌, ◌-◌, ◌/◌, ◌%◌, ◌<◌, ◌≤◌, Bool, true, false, not, cond, ◌||◌, List, [], ◌∷◌, ◌++◌, length, take, drop, get_or, refl, sym, ap, ◌∙◌, arith, append_assoc, length-take-le, take-take, length-drop}
+use Rattle.std.specs.Prelude.{suc, zero, Option, None, Some, flat_map, nat_lt, ◌==◌, ◌&&◌, if◌then◌else◌}
+use Rattle.std.specs.List.{prefix_len}
+use Rattle.std.proofs.lemmas.List.{take-append-drop, drop-drop, take_all}
+use Rattle.std.specs.Char.{encode_utf8}
+use Rattle.std.proofs.lemmas.Bool.{cases_lt}
+use Rattle.std.proofs.lemmas.Bool.Decides.{nat_tests}
+use Rattle.std.proofs.lemmas.Str.{encode_ascii, chars_from_encodes}
+use Rattle.wsn_print.proofs.RunCharacters.{hidden_in, in_one_byte, in_two_bytes, in_three_bytes, in_four_bytes, none_in_four_bytes}
+use Rattle.std.specs.Str.{IsUtf8, chars, encode_utf8_all}
+use Rattle.hex.specs.Hex.{encode_with, encode_lower}
+use Rattle.wsn_print.specs.declared.escapes.Escapes.{Escapes}
+use Rattle.wsn_print.specs.declared.escapes.Escapes.TheVariants.{Hidden, Quoted}
+use Rattle.wsn_print.specs.ShownText.{is_from, is_hidden, unicode_escape, shown_character}
+use Rattle.wsn_print.specs.Runs.{escaped, escaped_after, escaped_character, is_copied, begins_hidden, takes_backslash, hidden_of, hidden_at, written_of, more_of, escaped_byte}
+
+-- A number's escape, in three parts.
+pub escape_written : (t0 t1 t2 t3 : List ℕ) (a b : ℕ) → t1 ≡ t0 ++ 92 ∷ 117 ∷ [] → t2 ≡ t1 ++ encode_lower (a ∷ [])
+    → t3 ≡ t2 ++ encode_lower (b ∷ []) → t3 ≡ t0 ++ 92 ∷ 117 ∷ encode_lower (a ∷ b ∷ [])
+unfolding encode_with
+escape_written t0 t1 t2 t3 a b is1 is2 is3 =
+    is3 ∙ ap (λ (t : List ℕ). t ++ encode_lower (b ∷ [])) (is2 ∙ ap (λ (t : List ℕ). t ++ encode_lower (a ∷ [])) is1)
+    ∙ ap (λ (t : List ℕ). t ++ encode_lower (b ∷ [])) (append_assoc t0 (92 ∷ 117 ∷ []) (encode_lower (a ∷ [])))
+    ∙ append_assoc t0 (92 ∷ 117 ∷ encode_lower (a ∷ [])) (encode_lower (b ∷ []))
+
+neither : (a b : Bool) → a || b ≡ false → (a ≡ false) × (b ≡ false)
+neither true b isnt = absurd (cc isnt)
+neither false true isnt = absurd (cc isnt)
+neither false false isnt = (refl, refl)
+
+is_false : (a : Bool) → not a ≡ true → a ≡ false
+is_false true isnt = absurd (cc isnt)
+is_false false isnt = refl
+
+none_if : (a b c d e f p q r1 r2 u1 u2 v1 v2 : Bool) (x1 x2 x3 x4 x5 x6 : Option (ℕ × ℕ)) → a || b || c || d || e || f ≡ false
+    → (if a || b then x1 else if c && p then x2 else if d && q then x3 else if e && r1 && r2 then x4 else if e && u1 && u2 then x5
+    else if f && v1 && v2 then x6 else None) ≡ None
+none_if true b c d e f p q r1 r2 u1 u2 v1 v2 x1 x2 x3 x4 x5 x6 isnt = absurd (cc isnt)
+none_if false true c d e f p q r1 r2 u1 u2 v1 v2 x1 x2 x3 x4 x5 x6 isnt = absurd (cc isnt)
+none_if false false true d e f p q r1 r2 u1 u2 v1 v2 x1 x2 x3 x4 x5 x6 isnt = absurd (cc isnt)
+none_if false false false true e f p q r1 r2 u1 u2 v1 v2 x1 x2 x3 x4 x5 x6 isnt = absurd (cc isnt)
+none_if false false false false true f p q r1 r2 u1 u2 v1 v2 x1 x2 x3 x4 x5 x6 isnt = absurd (cc isnt)
+none_if false false false false false true p q r1 r2 u1 u2 v1 v2 x1 x2 x3 x4 x5 x6 isnt = absurd (cc isnt)
+none_if false false false false false false p q r1 r2 u1 u2 v1 v2 x1 x2 x3 x4 x5 x6 isnt = refl
+
+-- No hidden character begins with a byte with which none begins.
+pub none_hidden : (b second third : ℕ) → begins_hidden b ≡ false → hidden_of b second third ≡ None
+none_hidden b second third isnt =
+    none_if (nat_lt b 0x20) (b == 0x7f) (b == 0xc2) (b == 0xd8) (b == 0xe2) (b == 0xef)
+    (is_from 0x80 0x9f second) (second == 0x9c) (second == 0x80) (is_from 0x8e 0x8f third || is_from 0xa8 0xae third)
+    (second == 0x81) (is_from 0xa6 0xa9 third) (second == 0xbb) (third == 0xbf)
+    (Some (b, 0)) (Some (second, 1)) (Some (0x61c, 1)) (Some (0x2000 + third - 0x80, 2)) (Some (0x2040 + third - 0x80, 2)) (Some (0xfeff, 2)) isnt
+
+written_alone : (escapes : Escapes) (b : ℕ) → takes_backslash escapes b ≡ false → escaped_byte escapes b ≡ b ∷ []
+written_alone escapes b isnt = ap (λ (yes : Bool). if yes then 92 ∷ b ∷ [] else b ∷ []) isnt
+
+-- A byte that begins nothing that is escaped is copied.
+pub copied_first : (escapes : Escapes) (b : ℕ) (rest : List ℕ) → is_copied escapes b ≡ true
+    → escaped escapes (b ∷ rest) ≡ b ∷ escaped escapes rest
+copied_first escapes b rest copied =
+    let isnt = neither _ _ (is_false _ copied) in
+    ap (λ (hidden : Option (ℕ × ℕ)). written_of escapes hidden b ++ escaped_after (more_of hidden) escapes rest)
+    (none_hidden b (get_or rest 0 0) (get_or rest 1 0) isnt.0)
+    ∙ ap (λ (bs : List ℕ). bs ++ escaped escapes rest) (written_alone escapes b isnt.1)
+
+copied_next : (escapes : Escapes) (b : ℕ) (run rest : List ℕ)
+    → (prefix_len (is_copied escapes) run ≡ length run → escaped escapes (run ++ rest) ≡ run ++ escaped escapes rest)
+    → (copied : Bool) → is_copied escapes b ≡ copied
+    → cond copied (1 + prefix_len (is_copied escapes) run) 0 ≡ suc (length run)
+    → escaped escapes (b ∷ run ++ rest) ≡ b ∷ run ++ escaped escapes rest
+copied_next escapes b run rest later true is all =
+    copied_first escapes b (run ++ rest) is ∙ ap (λ (bs : List ℕ). b ∷ bs) (later (omega (arith, all)))
+copied_next escapes b run rest later false is all = absurd (omega (arith, all))
+
+-- and so are several such bytes
+pub copied_run : (escapes : Escapes) (run rest : List ℕ) → prefix_len (is_copied escapes) run ≡ length run
+    → escaped escapes (run ++ rest) ≡ run ++ escaped escapes rest
+copied_run escapes [] rest copied = refl
+copied_run escapes (b ∷ run) rest copied =
+    copied_next escapes b run rest (λ all. copied_run escapes run rest all) (is_copied escapes b) refl copied
+
+-- The first bytes of a text, as many as are copied.
+pub copied_start : (escapes : Escapes) (text : List ℕ) (n : ℕ) → n ≤ length text → prefix_len (is_copied escapes) (take n text) ≡ n
+    → escaped escapes text ≡ take n text ++ escaped escapes (drop n text)
+copied_start escapes text n within copied =
+    ap (escaped escapes) (sym (take-append-drop n text))
+    ∙ copied_run escapes (take n text) (drop n text) (copied ∙ sym (length-take-le n text within))
+
+passes_next : (p : ℕ → Bool) (x n : ℕ) (xs : List ℕ) → (n ≤ prefix_len p xs → prefix_len p (take n xs) ≡ n)
+    → (passed : Bool) → p x ≡ passed → suc n ≤ cond passed (1 + prefix_len p xs) 0
+    → cond passed (1 + prefix_len p (take n xs)) 0 ≡ suc n
+passes_next p x n xs later true is within = omega (arith, later (omega (arith, within)))
+passes_next p x n xs later false is within = absurd (omega (arith, within))
+
+-- Of a run that passes a test, the first elements do.
+pub first_pass : (p : ℕ → Bool) (xs : List ℕ) (n : ℕ) → n ≤ prefix_len p xs → prefix_len p (take n xs) ≡ n
+first_pass p xs zero within = refl
+first_pass p [] (suc n) within = absurd (omega (arith, within))
+first_pass p (x ∷ xs) (suc n) within = passes_next p x n xs (λ few. first_pass p xs n few) (p x) refl within
+
+-- The first elements of a block that begins with a text.
+pub starts_alike : (block text : List ℕ) (n k : ℕ) → take n block ≡ text → k ≤ n → take k block ≡ take k text
+starts_alike block text n k is few = sym (take-take k n block few) ∙ ap (λ (xs : List ℕ). take k xs) is
+
+passed_over : (n : ℕ) (escapes : Escapes) (text : List ℕ) → escaped_after n escapes text ≡ escaped escapes (drop n text)
+passed_over zero escapes text = refl
+passed_over (suc n) escapes [] = refl
+passed_over (suc n) escapes (b ∷ text) = passed_over n escapes text
+
+-- The first character of a text, once it is written.
+pub first_written : (escapes : Escapes) (b : ℕ) (rest : List ℕ)
+    → escaped escapes (b ∷ rest) ≡ written_of escapes (hidden_at b rest) b ++ escaped escapes (drop (more_of (hidden_at b rest)) rest)
+first_written escapes b rest = ap (λ (bs : List ℕ). written_of escapes (hidden_at b rest) b ++ bs) (passed_over (more_of (hidden_at b rest)) escapes rest)
+
+-- A text begins with a hidden character.
+pub hidden_first : (escapes : Escapes) (text : List ℕ) (c more : ℕ) → 0 < length text
+    → hidden_of (get_or text 0 0) (get_or text 1 0) (get_or text 2 0) ≡ Some (c, more)
+    → escaped escapes text ≡ unicode_escape c ++ escaped escapes (drop (1 + more) text)
+hidden_first escapes [] c more some is = absurd (omega (arith, some))
+hidden_first escapes (b ∷ rest) c more some is =
+    let next : suc more ≡ 1 + more = omega arith in
+    ap (λ (hidden : Option (ℕ × ℕ)). written_of escapes hidden b ++ escaped_after (more_of hidden) escapes rest) is
+    ∙ ap (λ (bs : List ℕ). unicode_escape c ++ bs)
+    (passed_over more escapes rest ∙ ap (λ (n : ℕ). escaped escapes (drop n (b ∷ rest))) next)
+
+-- A text begins with a character that isn't hidden, or a part of one.
+pub other_first : (escapes : Escapes) (text : List ℕ) → 0 < length text
+    → hidden_of (get_or text 0 0) (get_or text 1 0) (get_or text 2 0) ≡ None
+    → escaped escapes text ≡ escaped_byte escapes (get_or text 0 0) ++ escaped escapes (drop 1 text)
+other_first escapes [] some is = absurd (omega (arith, some))
+other_first escapes (b ∷ rest) some is =
+    ap (λ (hidden : Option (ℕ × ℕ)). written_of escapes hidden b ++ escaped_after (more_of hidden) escapes rest) is
+
+-- What is written of the start of a text in two steps.
+pub both_written : (escapes : Escapes) (text first second : List ℕ) (n m : ℕ) (held mid after : List ℕ)
+    → mid ≡ held ++ first → after ≡ mid ++ second
+    → escaped escapes text ≡ first ++ escaped escapes (drop n text)
+    → escaped escapes (drop n text) ≡ second ++ escaped escapes (drop m (drop n text))
+    → (more : List ℕ) × (after ≡ held ++ more) × (escaped escapes text ≡ more ++ escaped escapes (drop (n + m) text))
+both_written escapes text first second n m held mid after one two is1 is2 = (
+  first ++ second,
+  two ∙ ap (λ (bs : List ℕ). bs ++ second) one ∙ append_assoc held first second,
+  is1 ∙ ap (λ (bs : List ℕ). first ++ bs) (is2 ∙ ap (λ (bs : List ℕ). second ++ escaped escapes bs) (drop-drop m n text))
+      ∙ sym (append_assoc first second (escaped escapes (drop (n + m) text))),
+)
+
+-- A slice to the end of a text.
+pub rest_of : (n : ℕ) (text : List ℕ) → take (length text - n) (drop n text) ≡ drop n text
+rest_of n text = take_all (length text - n) (drop n text) (omega (arith, length-drop n text))
+
+-- ---- characters
+
+-- a hidden character, of which some bytes are passed over, or one that isn't
+hidden_or_not : (escapes : Escapes) (c b more : ℕ) (conts rest : List ℕ) (hidden : Bool)
+    → hidden_at b (conts ++ rest) ≡ (if hidden then Some (c, more) else None)
+    → drop more (conts ++ rest) ≡ rest → prefix_len (is_copied escapes) conts ≡ length conts
+    → escaped escapes (b ∷ conts ++ rest) ≡ (if hidden then unicode_escape c else escaped_byte escapes b ++ conts) ++ escaped escapes rest
+hidden_or_not escapes c b more conts rest true is passed copied =
+    ap (λ (hidden : Option (ℕ × ℕ)). written_of escapes hidden b ++ escaped_after (more_of hidden) escapes (conts ++ rest)) is
+    ∙ ap (λ (bs : List ℕ). unicode_escape c ++ bs)
+    (passed_over more escapes (conts ++ rest) ∙ ap (escaped escapes) passed)
+hidden_or_not escapes c b more conts rest false is passed copied =
+    ap (λ (hidden : Option (ℕ × ℕ)). written_of escapes hidden b ++ escaped_after (more_of hidden) escapes (conts ++ rest)) is
+    ∙ ap (λ (bs : List ℕ). escaped_byte escapes b ++ bs) (copied_run escapes conts rest copied)
+    ∙ sym (append_assoc (escaped_byte escapes b) conts (escaped escapes rest))
+
+continues : (escapes : Escapes) (b : ℕ) → 128 ≤ b → b < 192 → is_copied escapes b ≡ true
+continues Hidden b low high = grind (arith, nat_tests, low, high)
+continues Quoted b low high = grind (arith, nat_tests, low, high)
+
+high_alone : (escapes : Escapes) (b : ℕ) → 128 ≤ b → escaped_byte escapes b ≡ b ∷ []
+high_alone Hidden b low = refl
+high_alone Quoted b low = grind (arith, nat_tests, low)
+
+-- a character beyond ASCII
+beyond_ascii : (escapes : Escapes) (c : ℕ) → 128 ≤ c
+    → escaped_character escapes c ≡ (if is_hidden c then unicode_escape c else encode_utf8 c)
+beyond_ascii Hidden c low = refl
+beyond_ascii Quoted c low = grind (arith, nat_tests, low)
+
+shown_ascii : (c : ℕ) → c < 128 → shown_character c ≡ (if is_hidden c then unicode_escape c else c ∷ [])
+shown_ascii c low = ap (λ (bs : List ℕ). if is_hidden c then unicode_escape c else bs) (encode_ascii c low)
+
+marked : (c : ℕ) → c == 34 || c == 92 ≡ true → is_hidden c ≡ false
+marked c is = grind (arith, nat_tests, is)
+
+quoted_ascii : (c : ℕ) (mark : Bool) → c == 34 || c == 92 ≡ mark → c < 128
+    → (if mark then 92 ∷ c ∷ [] else shown_character c)
+    ≡ (if is_hidden c then unicode_escape c else (if mark then 92 ∷ c ∷ [] else c ∷ []) ++ [])
+quoted_ascii c true is low = sym (ap (λ (yes : Bool). if yes then unicode_escape c else 92 ∷ c ∷ []) (marked c is))
+quoted_ascii c false is low = shown_ascii c low
+
+ascii_character : (escapes : Escapes) (c : ℕ) → c < 128
+    → escaped_character escapes c ≡ (if is_hidden c then unicode_escape c else escaped_byte escapes c ++ [])
+ascii_character Hidden c low = shown_ascii c low
+ascii_character Quoted c low = quoted_ascii c (c == 34 || c == 92) refl low
+
+of_one_byte : (escapes : Escapes) (c : ℕ) (rest : List ℕ) → c < 128
+    → escaped escapes (c ∷ rest) ≡ escaped_character escapes c ++ escaped escapes rest
+of_one_byte escapes c rest low =
+    hidden_or_not escapes c c 0 [] rest (is_hidden c) (in_one_byte c (get_or rest 0 0) (get_or rest 1 0) low) refl refl
+    ∙ ap (λ (bs : List ℕ). bs ++ escaped escapes rest) (sym (ascii_character escapes c low))
+
+two_encoded : (c : ℕ) → 128 ≤ c → c < 2048 → encode_utf8 c ≡ (192 + c / 64) ∷ (128 + c % 64) ∷ []
+unfolding encode_utf8
+two_encoded c low high = grind (arith, nat_tests, low, high)
+
+three_encoded : (c : ℕ) → 2048 ≤ c → c < 65536
+    → encode_utf8 c ≡ (224 + c / 4096) ∷ (128 + c / 64 % 64) ∷ (128 + c % 64) ∷ []
+unfolding encode_utf8
+three_encoded c low high = grind (arith, nat_tests, low, high)
+
+four_encoded : (c : ℕ) → 65536 ≤ c
+    → encode_utf8 c ≡ (240 + c / 262144) ∷ (128 + c / 4096 % 64) ∷ (128 + c / 64 % 64) ∷ (128 + c % 64) ∷ []
+unfolding encode_utf8
+four_encoded c low = grind (arith, nat_tests, low)
+
+copied_more : (escapes : Escapes) (b : ℕ) (bytes : List ℕ) → 128 ≤ b → b < 192 → prefix_len (is_copied escapes) bytes ≡ length bytes
+    → prefix_len (is_copied escapes) (b ∷ bytes) ≡ length (b ∷ bytes)
+copied_more escapes b bytes low high copied =
+    ap (λ (yes : Bool). cond yes (1 + prefix_len (is_copied escapes) bytes) 0) (continues escapes b low high) ∙ omega (arith, copied)
+
+of_more_bytes : (escapes : Escapes) (c b more : ℕ) (conts rest : List ℕ) → 128 ≤ c → 128 ≤ b → encode_utf8 c ≡ b ∷ conts
+    → hidden_at b (conts ++ rest) ≡ hidden_in c more → drop more (conts ++ rest) ≡ rest
+    → prefix_len (is_copied escapes) conts ≡ length conts
+    → escaped escapes (encode_utf8 c ++ rest) ≡ escaped_character escapes c ++ escaped escapes rest
+of_more_bytes escapes c b more conts rest low high encoded is passed copied =
+    ap (λ (bs : List ℕ). escaped escapes (bs ++ rest)) encoded
+    ∙ hidden_or_not escapes c b more conts rest (is_hidden c) is passed copied
+    ∙ ap (λ (bs : List ℕ). (if is_hidden c then unicode_escape c else bs) ++ escaped escapes rest)
+    (ap (λ (bs : List ℕ). bs ++ conts) (high_alone escapes b high) ∙ sym encoded)
+    ∙ ap (λ (bs : List ℕ). bs ++ escaped escapes rest) (sym (beyond_ascii escapes c low))
+
+of_two_bytes : (escapes : Escapes) (c : ℕ) (rest : List ℕ) → 128 ≤ c → c < 2048
+    → escaped escapes (encode_utf8 c ++ rest) ≡ escaped_character escapes c ++ escaped escapes rest
+of_two_bytes escapes c rest low high =
+    of_more_bytes escapes c (192 + c / 64) 1 ((128 + c % 64) ∷ []) rest low (omega arith) (two_encoded c low high)
+    (in_two_bytes c (get_or rest 0 0) low high) refl (copied_more escapes (128 + c % 64) [] (omega arith) (omega arith) refl)
+
+of_three_bytes : (escapes : Escapes) (c : ℕ) (rest : List ℕ) → 2048 ≤ c → c < 65536
+    → escaped escapes (encode_utf8 c ++ rest) ≡ escaped_character escapes c ++ escaped escapes rest
+of_three_bytes escapes c rest low high =
+    of_more_bytes escapes c (224 + c / 4096) 2 ((128 + c / 64 % 64) ∷ (128 + c % 64) ∷ []) rest (omega arith) (omega arith)
+    (three_encoded c low high) (in_three_bytes c low high) refl
+    (copied_more escapes (128 + c / 64 % 64) ((128 + c % 64) ∷ []) (omega arith) (omega arith)
+    (copied_more escapes (128 + c % 64) [] (omega arith) (omega arith) refl))
+
+of_four_bytes : (escapes : Escapes) (c : ℕ) (rest : List ℕ) → 65536 ≤ c
+    → escaped escapes (encode_utf8 c ++ rest) ≡ escaped_character escapes c ++ escaped escapes rest
+of_four_bytes escapes c rest low =
+    let is : hidden_in c 3 ≡ None = ap (λ (yes : Bool). if yes then Some (c, 3) else None) (none_in_four_bytes c low) in
+    of_more_bytes escapes c (240 + c / 262144) 3 ((128 + c / 4096 % 64) ∷ (128 + c / 64 % 64) ∷ (128 + c % 64) ∷ []) rest (omega arith) (omega arith)
+    (four_encoded c low) (in_four_bytes c (128 + c / 4096 % 64) (128 + c / 64 % 64) low ∙ sym is) refl
+    (copied_more escapes (128 + c / 4096 % 64) ((128 + c / 64 % 64) ∷ (128 + c % 64) ∷ []) (omega arith) (omega arith)
+    (copied_more escapes (128 + c / 64 % 64) ((128 + c % 64) ∷ []) (omega arith) (omega arith)
+    (copied_more escapes (128 + c % 64) [] (omega arith) (omega arith) refl)))
+
+of_ascii : (escapes : Escapes) (c : ℕ) (rest : List ℕ) → c < 128
+    → escaped escapes (encode_utf8 c ++ rest) ≡ escaped_character escapes c ++ escaped escapes rest
+of_ascii escapes c rest low = ap (λ (bs : List ℕ). escaped escapes (bs ++ rest)) (encode_ascii c low) ∙ of_one_byte escapes c rest low
+
+character_written : (escapes : Escapes) (c : ℕ) (rest : List ℕ)
+    → escaped escapes (encode_utf8 c ++ rest) ≡ escaped_character escapes c ++ escaped escapes rest
+character_written escapes c rest = elim (cases_lt c 128) [
+  | inl one ↦ of_ascii escapes c rest one
+  | inr more ↦ elim (cases_lt c 2048) [
+    | inl two ↦ of_two_bytes escapes c rest more two
+    | inr most ↦ elim (cases_lt c 65536) [
+      | inl three ↦ of_three_bytes escapes c rest most three
+      | inr four ↦ of_four_bytes escapes c rest four
+    ]
+  ]
+]
+
+characters_written : (escapes : Escapes) (cs : List ℕ) → escaped escapes (encode_utf8_all cs) ≡ flat_map (escaped_character escapes) cs
+characters_written escapes [] = refl
+characters_written escapes (c ∷ cs) =
+    character_written escapes c (encode_utf8_all cs)
+    ∙ ap (λ (bs : List ℕ). escaped_character escapes c ++ bs) (characters_written escapes cs)
+
+-- A text in UTF-8 is written character by character.
+pub text_written : (escapes : Escapes) (text : List ℕ) → IsUtf8 text → escaped escapes text ≡ flat_map (escaped_character escapes) (chars text)
+text_written escapes text utf8 =
+    ap (escaped escapes) (sym utf8.1.1) ∙ characters_written escapes utf8.0
+    ∙ ap (flat_map (escaped_character escapes)) (chars_from_encodes utf8.0 text utf8 utf8.1.1)

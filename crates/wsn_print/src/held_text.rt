@@ -1,0 +1,156 @@
+ghost use Rattle.std.specs.Prelude.{◌≡◌, ℕ, ◌+◌, ◌-◌, ◌<◌, ◌≤◌, true, false, List, [], ◌++◌, length, take, drop};
+ghost use Rattle.std.specs.List.{prefix_len};
+ghost use Rattle.wsn_print.specs.Runs.{escaped, is_copied};
+ghost use Rattle.wsn_print.specs.ShownText.{unicode_escape};
+
+use crate::escapes::{BLOCK, Escapes, copied_at_start, hidden_at_start, takes_backslash};
+use crate::parts::{put, put_front, put_hex, put_slice};
+use std::marker::Model;
+use std::simd::prelude::*;
+
+/// The maximum length in bytes of the text that is held.
+const HELD_MAX: usize = 256;
+
+/// The most bytes of a character that is shown: `\u` and four digits.
+pub(crate) const CHARACTER_MAX: usize = 6;
+
+/// The room that one turn of a text needs: a block, and a character that is escaped.
+const TURN_MAX: usize = 22;
+
+/// Text as it is written, held until then, at most 256 bytes.
+#[derive(Drop)]
+pub(crate) struct HeldText {
+    text: [u8; HELD_MAX],
+    /// The first `len` bytes of the text are held.
+    len: usize,
+}
+
+impl Model for HeldText {
+    ghost Value = { List ℕ };
+
+    ghost view = { λ held. take held.len held.text };
+
+    ghost invariant = { λ held. held.len ≤ 256 };
+}
+
+impl HeldText {
+    /// No text.
+    #[inline(always)]
+    pub(crate) fn new() -> Self
+        ensures { result ≡ [] }
+    {
+        HeldText {
+            text: [0; HELD_MAX],
+            len: 0,
+        }
+    }
+
+    /// Whether it has to be cleared before more is added.
+    #[inline(always)]
+    pub(crate) fn is_full(&self) -> bool
+        ensures full { result ≡ true → 256 < length self.now + TURN_MAX }
+        ensures room { result ≡ false → length self.now + TURN_MAX ≤ 256 }
+    {
+        self.len > HELD_MAX - TURN_MAX
+    }
+
+    /// Adds bytes at the start of a text: some that are copied as they are, and one character after them, if it is
+    /// escaped. Returns their number, which isn't 0.
+    #[inline(always)]
+    pub(crate) fn add_start(&mut self, escapes: Escapes, text: &[u8]) -> usize
+        requires room { length self.old + TURN_MAX ≤ 256 }
+        requires some { 0 < length text.now }
+        ensures within { (0 < result) × (result ≤ length text.now) }
+        ensures added { (more : List ℕ) × (self.new ≡ self.old ++ more)
+            × (escaped escapes text.now ≡ more ++ escaped escapes (drop result text.now)) }
+    {
+        let count = self.add_run(escapes, text);
+        if count == BLOCK || count == text.len() {
+            return count;
+        }
+        count + self.add_first(escapes, &text[count..])
+    }
+
+    /// Adds the first bytes of a text that are copied as they are, at most 16, and returns their number.
+    #[inline(always)]
+    fn add_run(&mut self, escapes: Escapes, text: &[u8]) -> usize
+        requires { length self.old + BLOCK ≤ 256 }
+        ensures within { (result ≤ BLOCK) × (result ≤ length text.now) }
+        ensures copied { prefix_len (is_copied escapes) (take result text.now) ≡ result }
+        ensures added { self.new ≡ self.old ++ take result text.now }
+    {
+        if text.len() < BLOCK {
+            let mut block = [0; BLOCK];
+            let end = put_slice(text, &mut block, 0);
+            self.add_front(escapes, &block, end)
+        } else {
+            self.add_front(escapes, text, BLOCK)
+        }
+    }
+
+    /// Like `add_run`, for a text of 16 bytes or more, of which at most `most` are added.
+    #[inline(always)]
+    fn add_front(&mut self, escapes: Escapes, text: &[u8], most: usize) -> usize
+        requires room { length self.old + BLOCK ≤ 256 }
+        requires long { BLOCK ≤ length text.now }
+        requires within { most ≤ BLOCK }
+        ensures few { result ≤ most }
+        ensures copied { prefix_len (is_copied escapes) (take result text.now) ≡ result }
+        ensures added { self.new ≡ self.old ++ take result text.now }
+    {
+        let count = copied_at_start(escapes, u8x16::from_slice(text)).min(most);
+        self.len = put_front(&text[..BLOCK], count, &mut self.text, self.len);
+        count
+    }
+
+    /// Adds the character at the start of a text, if it is escaped, and else its first byte. Returns the number of its
+    /// bytes.
+    #[inline(always)]
+    fn add_first(&mut self, escapes: Escapes, text: &[u8]) -> usize
+        requires room { length self.old + CHARACTER_MAX ≤ 256 }
+        requires some { 0 < length text.now }
+        ensures within { (0 < result) × (result ≤ length text.now) }
+        ensures added { (more : List ℕ) × (self.new ≡ self.old ++ more)
+            × (escaped escapes text.now ≡ more ++ escaped escapes (drop result text.now)) }
+    {
+        let byte = text[0];
+        if let Some((number, more)) = hidden_at_start(text) {
+            self.len = put_escape(number, &mut self.text, self.len);
+            return 1 + more;
+        }
+        if takes_backslash(escapes, byte) {
+            self.len = put([b'\\', byte], &mut self.text, self.len);
+        } else {
+            self.len = put([byte], &mut self.text, self.len);
+        }
+        1
+    }
+
+    /// The text.
+    #[inline(always)]
+    pub(crate) fn text(&self) -> &[u8]
+        ensures { result.now ≡ self.now }
+    {
+        &self.text[..self.len]
+    }
+
+    /// Removes all text.
+    #[inline(always)]
+    pub(crate) fn clear(&mut self)
+        ensures { self.new ≡ [] }
+    {
+        self.len = 0;
+    }
+}
+
+/// Writes `\u` and the four digits of a number at `at`, and returns where they end.
+#[inline(always)]
+fn put_escape(number: u16, text: &mut [u8], at: usize) -> usize
+    requires { at + 6 ≤ length text.old }
+    ensures end { result ≡ at + 6 }
+    ensures written { take result text.new ≡ take at text.old ++ unicode_escape number }
+{
+    let at = put(*b"\\u", text, at);
+    let at = put_hex((number / 256) as u8, text, at);
+    put_hex((number % 256) as u8, text, at)
+}
