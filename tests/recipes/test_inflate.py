@@ -2,6 +2,7 @@
 
 import contextlib
 import os
+import re
 import zlib
 
 from harness import (HERE, SAMPLES, TOP, free_port, python_with_websockets, run, same, sides, started, test,
@@ -139,6 +140,16 @@ def messages_of(data):
             messages.append(b"".join(parts).decode() if kind == 1 else b"".join(parts))
             parts = []
     return messages
+
+
+@test
+def inflate_reads_the_sample(folder):
+    """Its comment has the words of the handshake in its pcap, and both sides say what the peers say."""
+    kept = (SAMPLES / "deflate.capture").read_bytes()
+    agreed = re.findall(rb"\r\nSec-WebSocket-Extensions: ([^\r]*)", (SAMPLES / "deflate.pcap").read_bytes())[-1]
+    same(kept.splitlines()[0], b"# extensions: " + agreed, "the comment")
+    client, server, _ = sides(inflate(kept)[0])
+    same((messages_of(client), messages_of(server)), (["Hello", "Hello", "Goodbye"],) * 2, "the messages")
 
 
 @test
