@@ -13,6 +13,7 @@ from streams import Connection, Direction, Lack
 from tshark import Record
 
 MEMORY = 1 << 16  # The maximum characters of a capture that are kept in memory.
+OF_EXTENSIONS = "warning: the server agreed on", "warning: frames that use it"  # How the notes of extensions begin.
 
 
 class Sink:
@@ -166,9 +167,9 @@ class Session:
         self.open(time, front(time, request, answer))
         self.notes += faults(request, answer)
         if self.extensions != "-":
-            self.notes.append(f"warning: the server agreed on {self.extensions}")
+            self.notes.append(f"{OF_EXTENSIONS[0]} {self.extensions}")
             inflate = named("recipes/inflate")
-            self.notes.append(f"warning: frames that use it are refused; {inflate} takes permessage-deflate away")
+            self.notes.append(f"{OF_EXTENSIONS[1]} are refused; {inflate} takes permessage-deflate away")
         for each in "CS":
             if self.opening.held[each]:
                 self.take(each, self.opening.held[each], time)
@@ -258,8 +259,13 @@ class Session:
     @property
     def refusal(self) -> str:
         """How its handshake failed, in words."""
-        answer = self.opening.refusal
-        return f"the request for {self.path} has {f'the answer {escaped(answer.line)}' if answer else 'no answer'}"
+        if self.opening.refusal:
+            return f"the request for {self.path} has the answer {escaped(self.opening.refusal.line)}"
+        words, sender = f"the request for {self.path} has no answer", self.connection.reset_by
+        names = ("client", "server") if self.first == 0 else ("server", "client")
+        if self.ending:
+            return f"{words}; the {names[self.ending[0][0]]} ended the connection"
+        return f"{words}; the {names[sender.index]} reset the connection" if sender is not None else words
 
     @property
     def is_begun(self) -> bool:

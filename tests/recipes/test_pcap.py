@@ -225,14 +225,48 @@ def pcap_lists_handshakes_that_failed(folder):
         out, said = pcap2wsn(*["--all"][: len(words)], folder / "failed.pcap", *words)
         same(([line.split("\t") for line in out.decode().splitlines()], said), (wanted, ""), "the list")
     same([path.name for path in (folder / "all").iterdir()], ["3.capture"], "the captures")
-    for number, words in (0, "the request for /chat has the answer HTTP/1.1 401 Unauthorized"), (1, "has no answer"):
-        out, said = pcap2wsn(folder / "failed.pcap", str(number), status=2)
-        want(out == b"" and said.count("\n") == 1 and f"no frames of connection {number}: " in said and words in said, said)
     pcaps.write(folder / "failed.pcap", pcaps.session(talks[0][0], 40000, 80))
     same(pcap2wsn(folder / "failed.pcap")[0].count(b"HTTP 401"), 1, "one alone")
-    pcaps.write(folder / "failed.pcap", pcaps.without(pcaps.session(talks[0][0], 40000, 80), [3]))
+
+
+@test
+def pcap_says_how_a_handshake_failed(folder):
+    """Where its capture is asked for: the answer, or who ended the connection without one; status 2."""
+    ask, no = ("C", UPGRADE), ("S", b"HTTP/1.1 401 Unauthorized\r\nContent-Length: 0\r\n\r\n")
+    whole, refused = pcaps.session([ask], 40000, 80), pcaps.session([ask, no], 40000, 80)
+    client, server = (pcaps.packet(ports, pcaps.Segment(whole[at]).seq + size, 0, 4) for ports, at, size in
+                      (((40000, 80), 2, len(UPGRADE)), ((80, 40000), 1, 1)))  # fmt: skip
+    for packets, words in (
+        (refused, "has the answer HTTP/1.1 401 Unauthorized"),
+        (whole[:3], "has no answer"),
+        (whole, "has no answer; the client ended the connection"),
+        ([*whole[:3], whole[4]], "has no answer; the server ended the connection"),
+        ([*whole[:3], client], "has no answer; the client reset the connection"),
+        ([*whole[:3], server], "has no answer; the server reset the connection"),
+    ):
+        pcaps.write(folder / "failed.pcap", packets)
+        out, said = pcap2wsn(folder / "failed.pcap", "0", status=2)
+        wanted = f"pcap2wsn: {folder}/failed.pcap has no frames of connection 0: the request for /chat {words}\n"
+        same((out, said), (b"", wanted), words)
+    pcaps.write(folder / "failed.pcap", pcaps.without(refused, [3]))
     out, said = pcap2wsn(folder / "failed.pcap", status=2)
     want(out == b"" and "connection 0 has no whole handshake" in said, f"an answer that is lost: {said}")
+
+
+@test
+def pcap_lists_what_is_missing(folder):
+    """Missing bytes of a session: a line on standard error, status 1. Of extensions one line, however many have some."""
+    needs("tshark")
+    packets, link = pcaps.read(SAMPLES / "deflate.pcap")
+    other = [each._replace(data=each.data[:26] + b"\x0a\0\0\x01" * 2 + each.data[34:]) for each in packets]
+    pcaps.write(folder / "lost.pcap", [*pcaps.without(packets, [pcaps.data_of(packets, 1)[2]]), *other], link)
+    out, said = pcap2wsn(folder / "lost.pcap", status=1)
+    first, second = said.splitlines()
+    want(first.startswith("pcap2wsn: connection 0: server: whole up to byte 9 of its frames: 7 bytes missing"), said)
+    want(second.startswith("pcap2wsn: warning: frames that use an extension are refused; recipes/inflate "), said)
+    rows = [line.split("\t") for line in out.decode().splitlines()]
+    agreed = "permessage-deflate; server_max_window_bits=12; client_max_window_bits=12"
+    same([row[5:] for row in rows], [["/chat", "47", "9", "failed", agreed], ["/chat", "47", "31", "failed", agreed]], "the list")
 
 
 @test
