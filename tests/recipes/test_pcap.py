@@ -1,15 +1,18 @@
 """recipes/pcap2wsn: the sessions under tests/samples, sessions recorded now, and pcaps of them mangled."""
 
+import contextlib
 import gzip
 import os
 import re
 import shutil
+import socket
 import struct
 import subprocess
 
 import pcaps
-from harness import (SAMPLES, SESSIONS, TOP, WSN, needs, record_session, run, said_in, same, samples, short, sides,
-                     test, times, want)  # fmt: skip
+from harness import (SAMPLES, SESSIONS, TOP, WSN, captured, needs, record_session, run, said_in, same, samples, short,
+                     sides, test, times, want)  # fmt: skip
+from test_record import RESET, exactly, sessions
 
 UPGRADE = b"GET /chat?key=x HTTP/1.1\r\nUpgrade: websocket\r\n\r\n"
 ANSWER = b"HTTP/1.1 101 Switching Protocols\r\nUpgrade: websocket\r\n\r\n"
@@ -516,6 +519,30 @@ def pcap_has_the_ends_in_their_order(folder):
         wanted = ["C." if port == pcaps.Segment(packets[0]).source else "S." for port in dict.fromkeys(found)]
         if len(wanted) == 2:
             same(ends(pcap2wsn(SAMPLES / f"{name}.pcap", *words)[0]), wanted, name)
+
+
+@test
+def live_ends_are_what_the_proxy_saw(folder):
+    """Either side ends or resets the connection inside a message: who did, and in what order, in both captures."""
+    for number, (side, is_reset) in enumerate(((side, is_reset) for side in "CS" for is_reset in (False, True))):
+        own = folder / str(number)
+        with sessions(own) as all_sessions, captured(folder / "live.pcap", all_sessions.server_port):
+            pair = all_sessions.open()[:2]
+            one, other = pair if side == "C" else pair[::-1]
+            one.sendall(b"\x81\x05He")
+            exactly(other, 4)
+            if is_reset:
+                one.setsockopt(socket.SOL_SOCKET, socket.SO_LINGER, RESET)
+            one.close()
+            with contextlib.suppress(ConnectionResetError):
+                same(other.recv(1), b"", "the end")
+            other.close()
+            recorded = all_sessions.recorded()
+        last = "CS".replace(side, "")
+        wanted = [f"# reset by the {'client' if side == 'C' else 'server'}"] * is_reset + [f"{side}.", f"{last}."]
+        out, said = pcap2wsn(folder / "live.pcap", "0")
+        same((ends(recorded), ends(out), said), (wanted, wanted, ""), f"{wanted}")
+        same(sides(out), sides(recorded), f"the bytes of {wanted}")
 
 
 @test
