@@ -80,7 +80,7 @@ class Lines:
         return self.turn("", time) + comment(f"reset by the {NAMES[side]}")
 
     def turn(self, side: str, time: int) -> str:
-        """What comes before the next bytes: the waiting ones, if they can't be joined, and the time if it is another."""
+        """What comes before the next bytes: the waiting ones, if they can't be joined, and the time, if it is new."""
         time = max(0, time - self.opened)
         lines = self.flush() if side != self.side or time != self.written else ""
         self.side = side

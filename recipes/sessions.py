@@ -251,7 +251,7 @@ class Session:
 
     @property
     def failed(self) -> str:
-        """How its handshake failed: the status with which it was answered, or that it wasn't; empty if it didn't fail."""
+        """How its handshake failed: the answer's status, or that there is none; empty if it didn't fail."""
         if self.midway or self.lines is not None or self.opening.asked is None:
             return ""
         return f"HTTP {self.opening.refusal.status}" if self.opening.refusal else "no answer"

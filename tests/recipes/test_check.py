@@ -49,8 +49,9 @@ def check_of_a_difference(folder):
     shown = run(WSN, *words, status=1)[0].decode()
     same(shown, 'different 0\nfirst S - 0 text 3 1 "one"\nsecond S - 0 text 3 1 "onf"\n', f"{hint!r}")
     lines, said = check("--pings", SAMPLES / "basic.capture", SAMPLES / "abort.capture", status=1)
-    same(said, "".join(f"hint: wsn same --role {role} --view 48 --capture {SAMPLES}/basic.capture {SAMPLES}/abort.capture\n"
-                       for role in ("client", "server")), "both sides")  # fmt: skip
+    files = f"{SAMPLES}/basic.capture {SAMPLES}/abort.capture"
+    hints = [f"hint: wsn same --role {role} --view 48 --capture {files}" for role in ("client", "server")]
+    same(said.splitlines(), hints, "both sides")
 
 
 @test

@@ -84,9 +84,10 @@ def handshake_reads_extensions(folder):
 
 @test
 def handshake_finds_what_is_wrong_with_an_answer(folder):
-    """RFC 6455: the key of section 1.3 and its accept; each fault of 4.1 by itself, and several; names as they are sent."""
+    """RFC 6455: the key of section 1.3 and its accept; each fault of 4.1 by itself, and several; names as sent."""
     key, accept = b"Sec-WebSocket-Key: dGhlIHNhbXBsZSBub25jZQ==", b"Sec-WebSocket-Accept: s3pPLMBiTxaQ9kYGzzhZRbK+xOo="
     protocol, extension = b"Sec-WebSocket-Protocol: ", b"Sec-WebSocket-Extensions: "
+    chosen = [accept, protocol + b"superchat", extension + b"x-two, Permessage-Deflate; a=\"b,c\""]
     offers = [key, protocol + b"chat, superchat", extension + b"permessage-deflate; client_max_window_bits, x-two"]
     for what, asked, answered, wanted in (
         ("the example", [key, protocol + b"chat, superchat"], [accept, protocol + b"chat"], []),
@@ -97,12 +98,12 @@ def handshake_finds_what_is_wrong_with_an_answer(folder):
         ("an accept without a key", [], [accept], ["accept is wrong"]),
         ("neither", [], [], []),
         ("nothing chosen", offers, [accept], []),
-        ("what was offered", offers, [accept, protocol + b"superchat", extension + b"x-two, Permessage-Deflate; a=\"b,c\""], []),
+        ("what was offered", offers, chosen, []),
         ("a subprotocol", [key], [accept, protocol + b"mqtt"], ["subprotocol mqtt was not offered"]),
         ("its case", offers, [accept, protocol + b"Chat"], ["subprotocol Chat was not offered"]),
         ("an extension", [key], [accept, extension + b"X-One; a"], ["extension X-One was not offered"]),
         ("all", offers, [protocol + b"x", extension + b"x-two, a; b, c"],
-         ["accept is wrong", "subprotocol x was not offered", "extension a was not offered", "extension c was not offered"]),
+         ["accept is wrong", *(f"{name} was not offered" for name in ("subprotocol x", "extension a", "extension c"))]),
     ):  # fmt: skip
         heads = [Head(b"\r\n".join([line, *fields, b"", b""])) for line, fields in
                  ((b"GET / HTTP/1.1", asked), (b"HTTP/1.1 101 Switching Protocols", answered))]  # fmt: skip

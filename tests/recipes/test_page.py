@@ -6,6 +6,7 @@ Comments of the page say what runs around a block: `serve KIND PORT` and `talk K
 """
 
 import contextlib
+import json
 import os
 import re
 import shutil
@@ -183,7 +184,8 @@ def forms(page_text):
 def page_has_the_form_of_each_comment(folder):
     """Each comment that the recipes write has one form of the page's table, and each form is that of some comment."""
     packets, link = pcaps.read(SAMPLES / "deflate.pcap")
-    pcaps.write(folder / "lost.pcap", pcaps.without(packets, [pcaps.data_of(packets, side)[2] for side in (0, 1)]), link)
+    lost = [pcaps.data_of(packets, side)[2] for side in (0, 1)]
+    pcaps.write(folder / "lost.pcap", pcaps.without(packets, lost), link)
     ask, answer = (("CS"[at], pcaps.Segment(packets[pcaps.data_of(packets, at)[0]]).payload) for at in (0, 1))
     added = b"Sec-WebSocket-Protocol: a\r\nSec-WebSocket-Extensions: b\r\n\r\n"
     wrong = answer[0], answer[1].replace(b"Accept: ", b"Accept: x")[:-2] + added
@@ -193,8 +195,8 @@ def page_has_the_form_of_each_comment(folder):
         one = pcaps.Segment(begun[at])
         end = one.seq + len(one.payload)
         pcaps.write(folder / f"{side}.pcap", [*begun, pcaps.packet((one.source, one.target), end, 0, 4)])
-    lines = []
-    for words in (["-m", SAMPLES / "basic.pcap"], *([folder / f"{name}.pcap"] for name in ("wrong", "lost", "client", "server"))):
+    lines, names = [], ("wrong", "lost", "client", "server")
+    for words in ["-m", SAMPLES / "basic.pcap"], *([folder / f"{name}.pcap"] for name in names):
         out, _ = run(TOP / "recipes/pcap2wsn", *words, "0", status=None)
         lines += [*out.splitlines(), *run(TOP / "recipes/inflate", input=out, status=None)[0].splitlines()]
     found = sorted({line.decode() for line in lines if line.startswith(b"#")})
@@ -223,7 +225,7 @@ C 8a8000000000
 
 @test
 def page_finds_the_pong_of_a_ping(folder):
-    """The page's line in jq: equal payloads in order, other ones by payload, a ping without a pong, a pong without a ping."""
+    """The page's line in jq: equal payloads in their order, others by payload; a ping or a pong that is alone."""
     needs("jq")
     page = parts_of((TOP / "docs/RECIPES.md").read_text(encoding="utf-8"))
     (line,) = [words for kind, words, _ in page if kind == "command" and '"pong"' in words]
@@ -231,8 +233,8 @@ def page_finds_the_pong_of_a_ping(folder):
     (folder / "wsn").symlink_to(WSN)
     line = line.replace("recipes/pcap2wsn tests/samples/basic.pcap 0", "cat pings.capture")
     printed = run("sh", "-c", line, cwd=folder)[0].decode().splitlines()
-    wanted = ['["client",0,0.0001,0.0002]', '["client",6,0.0003,0.0004]', '["server",2,0.0003,0.0004]', '["server",4,0.0003,null]']
-    same(printed, wanted, "pings")
+    wanted = ["client", 0, 0.0001, 0.0002], ["client", 6, 0.0003, 0.0004], ["server", 2, 0.0003, 0.0004]
+    same([json.loads(each) for each in printed], [*wanted, ["server", 4, 0.0003, None]], "pings")
 
 
 def indented(pattern):

@@ -179,16 +179,16 @@ ACCEPT = ANSWER[:-2] + b"Sec-WebSocket-Accept: s3pPLMBiTxaQ9kYGzzhZRbK+xOo=\r\n"
 
 @test
 def pcap_finds_what_is_wrong_with_an_answer(folder):
-    """A wrong accept, and what wasn't offered: on standard error, of a list too, and as comments; none of a right one."""
+    """A wrong accept, and what wasn't offered: on standard error, of a list too, and as comments; else nothing."""
     protocol, extension = b"Sec-WebSocket-Protocol: mqtt\r\n", b"Sec-WebSocket-Extensions: x-one; a=1\r\n"
-    packets = []
-    for port, answer in (40000, ACCEPT + b"\r\n"), (40001, ACCEPT.replace(b"s3p", b"S3p") + protocol + extension + b"\r\n"):
+    packets, faulty = [], ACCEPT.replace(b"s3p", b"S3p") + protocol + extension
+    for port, answer in (40000, ACCEPT + b"\r\n"), (40001, faulty + b"\r\n"):
         packets += pcaps.session([("C", KEYED), ("S", answer), ("S", b"\x88\x00")], port, 80)
     pcaps.write(folder / "two.pcap", packets)
     wanted = ["accept is wrong", "subprotocol mqtt was not offered", "extension x-one was not offered"]
     out, said = pcap2wsn(folder / "two.pcap", "1")
-    same(said_in(out)[2:8], ["# answer: HTTP/1.1 101 Switching Protocols", "# subprotocol: mqtt", "# extensions: x-one; a=1",
-                             *(f"# {line}" for line in wanted)], "the front")  # fmt: skip
+    front = ["answer: HTTP/1.1 101 Switching Protocols", "subprotocol: mqtt", "extensions: x-one; a=1", *wanted]
+    same(said_in(out)[2:8], [f"# {line}" for line in front], "the front")
     same(said.splitlines()[:3], [f"pcap2wsn: {line}" for line in wanted], "what is said")
     for words, name in ([], "connection 1"), ([folder / "all"], f"{folder / 'all'}/1.capture"):
         said = pcap2wsn(*["--all"][: len(words)], folder / "two.pcap", *words)[1].splitlines()
@@ -214,15 +214,16 @@ def pcap_lists_handshakes_that_failed(folder):
     ]
     packets, wanted = [], []
     for number, (talk, outcome) in enumerate(talks):
-        one = [each._replace(seconds=number, micros=at * 1000) for at, each in enumerate(pcaps.session(talk, 40000 + number, 80))]
-        packets += one
+        one = pcaps.session(talk, 40000 + number, 80)
+        packets += [each._replace(seconds=number, micros=at * 1000) for at, each in enumerate(one)]
         # The time is that of the answer, the packet 3 or 5 of its connection, or of the request, its packet 2.
         at = 2 if outcome == "no answer" else 5 if outcome == "clean" else 3
         last = max(place for place, each in enumerate(one) if pcaps.Segment(each).payload)
         if outcome:
             size = ["6", "2"] if outcome == "clean" else ["0", "0"]
             times = [f"1970-01-01T00:00:0{number}.{at * 1000:06}Z", f"0.{(last - at) * 1000:06}"]
-            wanted.append([str(number), *times, f"127.0.0.1:{40000 + number}", "127.0.0.1:80", "/chat", *size, outcome, "-"])
+            nodes = f"127.0.0.1:{40000 + number}", "127.0.0.1:80"
+            wanted.append([str(number), *times, *nodes, "/chat", *size, outcome, "-"])
     pcaps.write(folder / "failed.pcap", packets)
     for words in [], [folder / "all"]:
         out, said = pcap2wsn(*["--all"][: len(words)], folder / "failed.pcap", *words)
@@ -258,7 +259,7 @@ def pcap_says_how_a_handshake_failed(folder):
 
 @test
 def pcap_lists_what_is_missing(folder):
-    """Missing bytes of a session: a line on standard error, status 1. Of extensions one line, however many have some."""
+    """Missing bytes of a session: a line on standard error, status 1. Of extensions one line for all that have some."""
     needs("tshark")
     packets, link = pcaps.read(SAMPLES / "deflate.pcap")
     other = [each._replace(data=each.data[:26] + b"\x0a\0\0\x01" * 2 + each.data[34:]) for each in packets]
@@ -269,7 +270,8 @@ def pcap_lists_what_is_missing(folder):
     want(second.startswith("pcap2wsn: warning: frames that use an extension are refused; recipes/inflate "), said)
     rows = [line.split("\t") for line in out.decode().splitlines()]
     agreed = "permessage-deflate; server_max_window_bits=12; client_max_window_bits=12"
-    same([row[5:] for row in rows], [["/chat", "47", "9", "failed", agreed], ["/chat", "47", "31", "failed", agreed]], "the list")
+    wanted = [["/chat", "47", size, "failed", agreed] for size in ("9", "31")]
+    same([row[5:] for row in rows], wanted, "the list")
 
 
 @test
@@ -281,7 +283,8 @@ def pcap_lists_without_the_program(folder):
     words = ["env", "-u", "WSN", folder / "recipes/pcap2wsn", SAMPLES / "basic.pcap"]
     out, said = run(*words)
     same(out.split(b"\t")[8:], [b"-", b"-\n"], "the outcome, and the extensions")
-    want(said.startswith(b"pcap2wsn: the outcomes are missing") and not (folder / "calls").exists(), f"what is said: {said}")
+    want(said.startswith(b"pcap2wsn: the outcomes are missing"), f"what is said: {said}")
+    want(not (folder / "calls").exists(), "a build")
     made = folder / "crates/wsn/out/wsn"
     made.parent.mkdir(parents=True)
     made.write_text("#!/bin/sh\ncat >/dev/null; echo outcome clean\n")

@@ -218,7 +218,8 @@ def record_finds_what_is_wrong_with_an_answer(folder):
     """A wrong accept, and what wasn't offered: on standard error and as comments. The key is that of RFC 6455, 1.3."""
     ask = ASK[:-2] + b"Sec-WebSocket-Key: dGhlIHNhbXBsZSBub25jZQ==\r\nSec-WebSocket-Extensions: x-two\r\n\r\n"
     right = ANSWER[:-2] + b"Sec-WebSocket-Accept: s3pPLMBiTxaQ9kYGzzhZRbK+xOo=\r\n"
-    wrong = right.replace(b"s3p", b"S3p") + b"Sec-WebSocket-Protocol: mqtt\r\nSec-WebSocket-Extensions: X-Two, x-one\r\n"
+    chosen = b"Sec-WebSocket-Protocol: mqtt\r\nSec-WebSocket-Extensions: X-Two, x-one\r\n"
+    wrong = right.replace(b"s3p", b"S3p") + chosen
     words = ["accept is wrong", "subprotocol mqtt was not offered", "extension x-one was not offered"]
     for plain, answer, found in (
         ([], right, []),
@@ -230,9 +231,9 @@ def record_finds_what_is_wrong_with_an_answer(folder):
                 each.close()
             comments = said_in(all_sessions.recorded())
             start = f"record: {all_sessions.folder}/0001.capture: "
-            said = [line[len(start) : -1] for line in all_sessions.proxy.said if line.endswith((" wrong\n", " offered\n"))]
+            said = [line.removeprefix(start).rstrip("\n") for line in all_sessions.proxy.said]
         same([line[2:] for line in comments if line.endswith((" wrong", " offered"))], found, "the comments")
-        same(said, found, "what is said")
+        same([line for line in said if line.endswith((" wrong", " offered"))], found, "what is said")
 
 
 def said_of(all_sessions, part):
@@ -244,7 +245,7 @@ def said_of(all_sessions, part):
 
 @test
 def record_says_how_a_handshake_failed(folder):
-    """What was asked and what was answered, or why not: of an answer 401, of a server that ends, resets or is silent."""
+    """What was asked and answered, or why it wasn't: of an answer 401, of a server that ends, resets or is silent."""
     asked = "record: GET /chat?x=1 HTTP/1.1"
     with sessions(folder) as all_sessions:
         client, server = all_sessions.connect()
