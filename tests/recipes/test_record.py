@@ -6,13 +6,14 @@ import os
 import re
 import signal
 import socket
+import ssl
 import struct
 import subprocess
 import threading
 import time
 
-from harness import (SECONDS, TOP, Failed, free_port, run, said_in, same, sides, started, test, times, wait_for,
-                     want)  # fmt: skip
+from harness import (SECONDS, TOP, Failed, certificate, free_port, run, said_in, same, sides, started, test, times,
+                     wait_for, want)  # fmt: skip
 
 ASK = b"GET /chat?x=1 HTTP/1.1\r\nHost: localhost:1\r\nUpgrade: websocket\r\nConnection: Upgrade\r\n\r\n"
 OFFER = ASK[:-2] + b"sec-websocket-extensions: permessage-deflate\r\nX: y\r\n\r\n"
@@ -23,22 +24,28 @@ RESET = struct.pack("ii", 1, 0)
 class Sessions:
     """A proxy, and a server that gives out its connections."""
 
-    def __init__(self, stack, folder, *words, path="", end=signal.SIGINT):
+    def __init__(self, stack, folder, *words, path="", end=signal.SIGINT, tls=None):
         self.listener = stack.enter_context(socket.create_server(("127.0.0.1", 0)))
         self.listener.settimeout(SECONDS)
         self.stack = stack
         self.folder = folder / "recordings"
         self.port = free_port()
         self.server_port = self.listener.getsockname()[1]
-        url = f"ws://127.0.0.1:{self.server_port}{path}"
+        self.tls = ssl.SSLContext(ssl.PROTOCOL_TLS_SERVER) if tls else None
+        if tls:
+            self.tls.load_cert_chain(*tls)
+        url = f"ws{'s' if tls else ''}://127.0.0.1:{self.server_port}{path}"
         words = [TOP / "recipes/record", *words, str(self.port), url, self.folder]
-        self.proxy = stack.enter_context(started(*words, line="listening", stream="stderr", end=end))
+        how = {"line": "listening", "stream": "stderr", "end": end, "env": {"SSL_CERT_FILE": str(tls[0])} if tls else {}}
+        self.proxy = stack.enter_context(started(*words, **how))
 
     def connect(self):
         """A client's connection to the proxy, and the server's that comes of it."""
         client = self.stack.enter_context(socket.create_connection(("127.0.0.1", self.port), SECONDS))
         server, _ = self.listener.accept()
         server.settimeout(SECONDS)
+        if self.tls:
+            server = self.tls.wrap_socket(server, server_side=True)
         return client, self.stack.enter_context(server)
 
     def open(self, ask=ASK, answer=ANSWER):
@@ -162,6 +169,35 @@ def record_passes_resets_on(folder):
 
 
 @test
+def record_tells_a_reset_from_an_end_under_tls(folder):
+    """Of a wss server, between two records and inside one; an end is one with and without TLS's own."""
+    with sessions(folder, tls=certificate(folder)) as all_sessions:
+        for number, how in enumerate(("reset", "reset in a record", "end", "end in a record", "end of TLS"), 1):
+            client, server, _ = all_sessions.open()
+            server.sendall(b"\x81\x05He")
+            same(exactly(client, 4), b"\x81\x05He", "what came before it")
+            if how.endswith("record"):
+                socket.socket.send(server, b"\x17\x03\x03\x40\x00" + bytes(100))
+                time.sleep(0.2)
+            if how == "end of TLS":
+                server.setblocking(False)
+                with contextlib.suppress(ssl.SSLWantReadError):
+                    server.unwrap()
+            elif how.startswith("reset"):
+                server.setsockopt(socket.SOL_SOCKET, socket.SO_LINGER, RESET)
+            server.close()
+            found = "end"
+            try:
+                same(client.recv(1), b"", how)
+            except ConnectionResetError:
+                found = "reset"
+            client.close()
+            lines = all_sessions.recorded(number)
+            said = ["# reset by the server"] if how.startswith("reset") else []
+            same((found, said_in(lines)[3:], plain(lines)), (how.split()[0], said, b"S 81054865\nS.\nC.\n"), how)
+
+
+@test
 def record_puts_times_into_the_capture(folder):
     """When it was open, what was asked, answered and agreed on; seconds before each line where time has passed."""
     offers = b"Sec-WebSocket-Protocol: chat\r\nSec-WebSocket-Extensions: x\r\n\r\n"
@@ -206,11 +242,11 @@ def record_stamps_each_chunk_as_it_reads_it(folder):
     found = [(micros, line) for micros, line in times(lines) if not line.endswith(".")]
     wanted = [f"{'CS'[number % 2]} 8180{number:02x}" for number in range(50)]
     same([line for _, line in found], wanted, "a time before each line")
-    for number, ((micros, _), (sent, arrived)) in enumerate(zip(found, passed)):
-        # Both clocks are read a moment apart when the capture is opened.
-        want(sent - 100 <= since + micros <= arrived + 100, f"line {number}: {since + micros - sent} after its sending")
-        earlier = found[number - 1][0] if number else -1
-        want(micros > earlier, f"line {number}: {micros} after {earlier}")
+    # How far the capture's clock may be behind: its two clocks are read a moment apart, and times are rounded down.
+    least = max(sent - since - micros for (micros, _), (sent, _) in zip(found, passed))
+    most = min(arrived - since - micros for (micros, _), (_, arrived) in zip(found, passed))
+    want(least <= most + 2 and -2 <= most and least < 20_000, f"between its sending and its arrival: {least}, {most}")
+    want(all(one[0] < two[0] for one, two in zip(found, found[1:])), f"the times: {found}")
 
 
 @test
