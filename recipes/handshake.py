@@ -204,10 +204,10 @@ GUID = b"258EAFA5-E914-47DA-95CA-C5AB0DC85B11"  # What a key is joined with (RFC
 def faults(request: Head, answer: Head) -> List[str]:
     """What is wrong with an answer 101, so that the client must fail the connection (RFC 6455, 4.1)."""
     found = ["accept is wrong"] if answer.value("sec-websocket-accept") != accept_of(request) else []
-    offered = names_in(request.value("sec-websocket-protocol"))
+    offered = set(names_in(request.value("sec-websocket-protocol")))
     chosen = names_in(answer.value("sec-websocket-protocol"))
     found += [f"subprotocol {name} was not offered" for name in chosen if name not in offered]
-    offered = [name.lower() for name in names_in(request.value("sec-websocket-extensions"))]
+    offered = {name.lower() for name in names_in(request.value("sec-websocket-extensions"))}
     chosen = names_in(answer.value("sec-websocket-extensions"))
     return found + [f"extension {name} was not offered" for name in chosen if name.lower() not in offered]
 
@@ -220,8 +220,8 @@ def accept_of(request: Head) -> str:
 
 def names_in(text: str) -> List[str]:
     """The names in a field Sec-WebSocket-Protocol or Sec-WebSocket-Extensions, without their parameters."""
-    found = [item.partition(";")[0].strip() for item in split_outside_quotes(text, ",")]
-    return [name for name in found if name]
+    items = re.findall(r'(?:[^",]|"[^"]*"?)+', text)
+    return [name for item in items if (name := item.partition(";")[0].strip())]
 
 
 Extension = Tuple[str, Dict[str, Optional[str]]]
