@@ -7,7 +7,7 @@
 Each call does what the command of `wsn` with its name does, over bytes (or any buffer: a `memoryview`, an `mmap`; nothing
 is copied) instead of files, by the proved library `libwsn.so`. It is looked for where the environment variable
 `WSN_LIBRARY` says, else beside this module, where ./install puts it, and where the system looks for libraries. If it isn't
-found, each call is an `OSError`: `./library FOLDER` builds it.
+found, each call is an `OSError` that says how it is built: `./library FOLDER`.
 
 Wrong arguments are a `ValueError`, and so are `FaultyCapture` and `Fault`; `NotAccepted` and `Stopped` aren't. Calls in
 several threads don't disturb each other. Nothing is printed.
@@ -270,10 +270,18 @@ def _places() -> List[str]:
     return [named] if named else [place for place in beside if os.path.exists(place)] or ["libwsn.so"]
 
 
+def _opened(place: str) -> ctypes.CDLL:
+    try:
+        return ctypes.CDLL(place)
+    except OSError as error:
+        build = "in a clone of wsn `./library FOLDER` builds it, and WSN_LIBRARY=FOLDER/libwsn.so names it"
+        raise OSError(f"{error}; {build}") from None
+
+
 def _call(name: str) -> Callable[..., _Answer]:
     global _library
     if _library is None:
-        _library = ctypes.CDLL(_places()[0])
+        _library = _opened(_places()[0])
     call = getattr(_library, name)
     call.restype = _Answer
     return call

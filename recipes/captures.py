@@ -11,14 +11,17 @@ from handshake import Head
 
 LINE = 4096  # The maximum bytes that a line has, as 8,192 digits.
 TEXT = 8194  # The maximum characters of a line.
-STEP = 1000  # The microseconds that pass before a time is written again.
 NAMES = {"C": "client", "S": "server"}
 
 
+def escaped(text: str) -> str:
+    """A text in which what isn't printable ASCII is escaped."""
+    return re.sub(r"[^ -~]", lambda found: found[0].encode("unicode_escape").decode(), text)
+
+
 def comment(text: str) -> str:
-    """A comment's line; what isn't printable ASCII is escaped."""
-    plain = re.sub(r"[^ -~]", lambda found: found[0].encode("unicode_escape").decode(), text)
-    return f"# {plain}"[:TEXT] + "\n"
+    """A comment's line, escaped."""
+    return f"# {escaped(text)}"[:TEXT] + "\n"
 
 
 def time_of_day(time: int) -> str:
@@ -33,8 +36,9 @@ def seconds(time: int) -> str:
 
 
 def front(opened: int, request: Head, answer: Head) -> str:
-    """The comments at the front of a capture: when the connection was open, and what was agreed on."""
+    """The comments at the front of a capture: when the connection was open, what was asked, answered and agreed on."""
     lines = [comment(f"open since {time_of_day(opened)}"), comment(f"path: {request.path}")]
+    lines += [comment(f"answer: {answer.line}")]
     for name in "subprotocol", "extensions":
         field = "protocol" if name == "subprotocol" else name
         value = answer.value(f"sec-websocket-{field}")
@@ -45,7 +49,7 @@ def front(opened: int, request: Head, answer: Head) -> str:
 class Lines:
     """Makes a capture's lines of what passes. Each function returns the lines that are whole by then.
 
-    Bytes of one side that pass within a millisecond are joined; `flush` ends such a line.
+    Bytes of one side that pass at one time, to the microsecond, are joined; `flush` ends such a line.
     """
 
     def __init__(self, opened: int):
@@ -76,14 +80,13 @@ class Lines:
         return self.turn("", time) + comment(f"reset by the {NAMES[side]}")
 
     def turn(self, side: str, time: int) -> str:
-        """What comes before the next bytes: the waiting ones, if they can't be joined, and the time if it has passed."""
-        time -= self.opened
-        passed = time >= 0 and (self.written is None or time - self.written >= STEP)
-        lines = self.flush() if passed or side != self.side else ""
+        """What comes before the next bytes: the waiting ones, if they can't be joined, and the time, if it is new."""
+        time = max(0, time - self.opened)
+        lines = self.flush() if side != self.side or time != self.written else ""
         self.side = side
-        if passed:
+        if time != self.written:
             self.written = time
-            lines += comment(seconds(time))
+            lines += f"# {seconds(time)}\n"
         return lines
 
     def flush(self) -> str:

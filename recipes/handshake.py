@@ -1,5 +1,7 @@
 """The HTTP that comes before a WebSocket connection's frames (RFC 6455, section 4): heads, bodies, the answer 101."""
 
+import base64
+import hashlib
 import re
 from typing import Dict, List, Optional, Tuple
 
@@ -143,6 +145,8 @@ class Opening:
         self.bodies: Dict[str, Optional[Body]] = {"C": None, "S": None}
         self.request: Optional[Head] = None  # The request that has no final answer yet.
         self.answer: Optional[Head] = None  # The answer after which frames come.
+        self.asked: Optional[Head] = None  # The last request for frames,
+        self.refusal: Optional[Head] = None  # and its final answer, if frames don't come after that.
 
     @property
     def is_done(self) -> bool:
@@ -172,18 +176,52 @@ class Opening:
             return False
         head, self.held[side] = found
         if side == "C":
-            self.request, self.bodies["C"] = head, Body(head)
+            self.take_request(head)
         else:
             self.take_answer(head)
         return True
+
+    def take_request(self, head: Head) -> None:
+        """Takes a request's head."""
+        self.request, self.bodies["C"] = head, Body(head)
+        if head.asks_for_frames:
+            self.asked, self.refusal = head, None
 
     def take_answer(self, head: Head) -> None:
         """Takes an answer's head."""
         if head.begins_frames:
             self.answer = head
         elif head.is_final:
+            if self.request is self.asked:
+                self.refusal = head
             self.bodies["S"] = Body(head, self.request)
             self.request = None
+
+
+GUID = b"258EAFA5-E914-47DA-95CA-C5AB0DC85B11"  # What a key is joined with (RFC 6455, 1.3).
+
+
+def faults(request: Head, answer: Head) -> List[str]:
+    """What is wrong with an answer 101, so that the client must fail the connection (RFC 6455, 4.1)."""
+    found = ["accept is wrong"] if answer.value("sec-websocket-accept") != accept_of(request) else []
+    offered = set(names_in(request.value("sec-websocket-protocol")))
+    chosen = names_in(answer.value("sec-websocket-protocol"))
+    found += [f"subprotocol {name} was not offered" for name in chosen if name not in offered]
+    offered = {name.lower() for name in names_in(request.value("sec-websocket-extensions"))}
+    chosen = names_in(answer.value("sec-websocket-extensions"))
+    return found + [f"extension {name} was not offered" for name in chosen if name.lower() not in offered]
+
+
+def accept_of(request: Head) -> str:
+    """The value of Sec-WebSocket-Accept with which a request is answered (RFC 6455, 4.2.2); none without a key."""
+    key = request.value("sec-websocket-key").encode("latin-1")
+    return base64.b64encode(hashlib.sha1(key + GUID, usedforsecurity=False).digest()).decode() if key else ""
+
+
+def names_in(text: str) -> List[str]:
+    """The names in a field Sec-WebSocket-Protocol or Sec-WebSocket-Extensions, without their parameters."""
+    items = re.findall(r'(?:[^",]|"[^"]*"?)+', text)
+    return [name for item in items if (name := item.partition(";")[0].strip())]
 
 
 Extension = Tuple[str, Dict[str, Optional[str]]]

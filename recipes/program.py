@@ -9,13 +9,17 @@ from typing import List
 
 
 @functools.lru_cache(maxsize=None)
-def program() -> List[str]:
-    """The words that run it: $WSN, the repository's or the installed one, or the one in PATH; none without any."""
+def program(builds: bool = True) -> List[str]:
+    """The words that run it: $WSN, the repository's or the installed one, or the one in PATH; none without any.
+
+    The repository's is built first, unless `builds` is False: then it is the one that is built already, or none.
+    """
     if os.environ.get("WSN"):
         return [os.path.abspath(os.environ["WSN"])]
     here = pathlib.Path(__file__).resolve().parent
     if (here.parent / "wsn").is_file():
-        return built(str(here.parent / "wsn"))
+        kept = here.parent / "crates/wsn/out/wsn"
+        return built(str(here.parent / "wsn")) if builds else [str(kept)] if kept.is_file() else []
     if (here.parent.parent / "bin/wsn").is_file():
         return [str(here.parent.parent / "bin/wsn")]
     found = shutil.which("wsn")

@@ -5,14 +5,15 @@ import re
 import shutil
 from typing import BinaryIO, List, Optional, Tuple
 
-from captures import NAMES, Lines, comment, front, time_of_day
-from handshake import Head, Malformed, Opening
+from captures import NAMES, Lines, comment, escaped, front, time_of_day
+from handshake import Head, Malformed, Opening, faults
 from names import named
 from packets import FIN, RST, Segment, nodes
 from streams import Connection, Direction, Lack
 from tshark import Record
 
 MEMORY = 1 << 16  # The maximum characters of a capture that are kept in memory.
+OF_EXTENSIONS = "warning: the server agreed on", "warning: frames that use it"  # How the notes of extensions begin.
 
 
 class Sink:
@@ -67,6 +68,7 @@ class Session:
         self.locked: List[List[bytes]] = [[], []]  # Bytes in TLS after a gap that isn't closed yet.
         self.ending: List[Tuple[int, int]] = []  # Directions that ended and have no end mark yet, and the time.
         self.reset_time = 0
+        self.asked = 0  # The time of the last request for frames or, if it was refused, of the answer.
         self.first = 0  # The direction that sent the first bytes, the time of these, and of the last packet with some.
         self.began = self.last = 0
 
@@ -148,19 +150,26 @@ class Session:
 
     def take_opening(self, side: str, data: bytes, time: int) -> None:
         """Bytes of a side, before the handshake is whole."""
+        opening = self.opening
+        before = opening.asked, opening.refusal
         try:
-            is_done = self.opening.take(side, data)
+            is_done = opening.take(side, data)
         except Malformed:
             self.is_other = True
             return
-        request, answer = self.opening.request, self.opening.answer
-        if not is_done or request is None or answer is None:
-            return
+        if (opening.asked, opening.refusal) != before:
+            self.asked = time
+        if is_done and opening.request is not None and opening.answer is not None:
+            self.begin_frames(opening.request, opening.answer, time)
+
+    def begin_frames(self, request: Head, answer: Head, time: int) -> None:
+        """The handshake is whole."""
         self.open(time, front(time, request, answer))
+        self.notes += faults(request, answer)
         if self.extensions != "-":
-            self.notes.append(f"warning: the server agreed on {self.extensions}")
+            self.notes.append(f"{OF_EXTENSIONS[0]} {self.extensions}")
             inflate = named("recipes/inflate")
-            self.notes.append(f"warning: frames that use it are refused; {inflate} takes permessage-deflate away")
+            self.notes.append(f"{OF_EXTENSIONS[1]} are refused; {inflate} takes permessage-deflate away")
         for each in "CS":
             if self.opening.held[each]:
                 self.take(each, self.opening.held[each], time)
@@ -241,6 +250,24 @@ class Session:
         return self.lines is not None
 
     @property
+    def failed(self) -> str:
+        """How its handshake failed: the answer's status, or that there is none; empty if it didn't fail."""
+        if self.midway or self.lines is not None or self.opening.asked is None:
+            return ""
+        return f"HTTP {self.opening.refusal.status}" if self.opening.refusal else "no answer"
+
+    @property
+    def refusal(self) -> str:
+        """How its handshake failed, in words."""
+        if self.opening.refusal:
+            return f"the request for {self.path} has the answer {escaped(self.opening.refusal.line)}"
+        words, sender = f"the request for {self.path} has no answer", self.connection.reset_by
+        names = ("client", "server") if self.first == 0 else ("server", "client")
+        if self.ending:
+            return f"{words}; the {names[self.ending[0][0]]} ended the connection"
+        return f"{words}; the {names[sender.index]} reset the connection" if sender is not None else words
+
+    @property
     def is_begun(self) -> bool:
         """Whether it begins as a WebSocket connection does, but its handshake isn't whole."""
         asked = self.opening.request or (Head(self.opening.held["C"]) if self.opening.held["C"] else None)
@@ -250,12 +277,13 @@ class Session:
     @property
     def extensions(self) -> str:
         """The extensions that the server agreed on, or -."""
-        return (self.opening.answer.value("sec-websocket-extensions") if self.opening.answer else "") or "-"
+        return escaped(self.opening.answer.value("sec-websocket-extensions") if self.opening.answer else "") or "-"
 
     @property
     def path(self) -> str:
         """The request's path, or -."""
-        return (self.opening.request.path if self.opening.request else "") or "-"
+        request = self.opening.request if self.opening.answer else self.opening.asked
+        return escaped(request.path if request else "") or "-"
 
     @property
     def nodes(self) -> Tuple[str, str]:

@@ -1,5 +1,6 @@
 """recipes/check: what it says of folders of captures, and its status."""
 
+import shlex
 import shutil
 
 from harness import SAMPLES, TOP, WSN, run, same, test, want
@@ -26,21 +27,59 @@ def check_of_equal_folders(folder):
     shutil.copy(SAMPLES / "ipv6.capture", two / "basic.capture")
     (two / "other").write_text("no capture\n")
     lines, said = check(one, two)
-    wanted = ["abort.capture: equal", "basic.capture: equal", "2 captures: 2 equal, 0 different, 0 in error"]
+    wanted = ["abort.capture: equal", "basic.capture: equal", "2 captures: 2 equal, 0 alike, 0 different, 0 in error"]
     same((lines, said), (wanted, ""), "the lines")
     same(check(SAMPLES / "basic.capture", SAMPLES / "tls.capture")[0][0], "tls.capture: equal", "two files")
 
 
 @test
 def check_of_a_difference(folder):
-    """One side differs, or isn't accepted: status 1."""
-    one, two = kept(folder / "one", "basic", "abort", "latin"), kept(folder / "two", "basic", "abort", "latin")
+    """One side differs, or isn't accepted: status 1. The command that shows more is named, and shows it."""
+    one, two = kept(folder / "one", "basic", "abort", "latin"), kept(folder / "two", "basic", "abort")
     (two / "abort.capture").write_text((two / "abort.capture").read_text().replace("S 81036f6e65", "S 81036f6e66"))
-    lines, _ = check(one, two, status=1)
+    (two / "latin.capture").write_text((one / "latin.capture").read_text().replace("fcdf65", "c39f65"))
+    lines, said = check(one, two, status=1)
     same(lines[0], "abort.capture: client equal; server different 0", "a difference")
     same(lines[1], "basic.capture: equal", "an equal one")
-    want(lines[2].startswith("latin.capture: client equal; server first refused 11 text-bad 1007"), lines[2])
-    same(lines[3], "3 captures: 1 equal, 2 different, 0 in error", "the summary")
+    same(lines[2], "latin.capture: client equal; server first refused 11 text-bad 1007", "a kept one that is refused")
+    same(lines[3], "3 captures: 1 equal, 0 alike, 2 different, 0 in error", "the summary")
+    same(check(two, one, status=1)[0][2], lines[2].replace("first", "second"), "a new one that is refused")
+    (hint,) = said.splitlines()
+    words = shlex.split(hint.removeprefix("hint: wsn "))
+    shown = run(WSN, *words, status=1)[0].decode()
+    same(shown, 'different 0\nfirst S - 0 text 3 1 "one"\nsecond S - 0 text 3 1 "onf"\n', f"{hint!r}")
+    lines, said = check("--pings", SAMPLES / "basic.capture", SAMPLES / "abort.capture", status=1)
+    files = f"{SAMPLES}/basic.capture {SAMPLES}/abort.capture"
+    hints = [f"hint: wsn same --role {role} --view 48 --capture {files}" for role in ("client", "server")]
+    same(said.splitlines(), hints, "both sides")
+
+
+@test
+def check_of_what_is_refused_alike(folder):
+    """A capture against itself is alike, status 0; other bytes, and another verdict, are neither alike nor an error."""
+    for name, words in (
+        ("latin", "client equal; server refused alike 11 text-bad 1007"),
+        ("deflate", "client refused alike 0 reserved-bits 1002; server refused alike 0 reserved-bits 1002"),
+        ("lost", "client equal; server cut alike 77"),
+    ):
+        lines, said = check(SAMPLES / f"{name}.capture", SAMPLES / f"{name}.capture")
+        wanted = [f"{name}.capture: {words}", "1 capture: 0 equal, 1 alike, 0 different, 0 in error"]
+        same((lines, said), (wanted, ""), name)
+    one, two = folder / "one.capture", folder / "two.capture"
+    one.write_text("C 818100000000\nC ff\nS 8100\n")
+    for text, words, status in (
+        ("C 818100000000ff\r\nS 8100\n", "refused alike 6 text-bad 1007", 0),
+        ("C 81810102030400\nS 8100\n", "first refused 6 text-bad 1007", 1),
+        ("C 818101020304fe\nS 8100\n", "both refused 6 text-bad 1007", 1),
+        ("C 818201020304fefe\nS 8100\n", "both refused 6 text-bad 1007", 1),
+        ("C 8182000000006cff\nS 8100\n", "first refused 6 text-bad 1007, second refused 7 text-bad 1007", 1),
+        ("C 8182000000006c\nS 8100\n", "first refused 6 text-bad 1007, second cut 7", 1),
+        ("C 818100000000\nS 8100\n", "first refused 6 text-bad 1007, second cut 6", 1),
+    ):
+        two.write_text(text)
+        kinds = "1 alike, 0 different" if status == 0 else "0 alike, 1 different"
+        wanted = [f"two.capture: client {words}; server equal", f"1 capture: 0 equal, {kinds}, 0 in error"]
+        same(check(one, two, status=status), (wanted, ""), text)
 
 
 @test
@@ -73,7 +112,7 @@ def check_of_what_cannot_be_compared(folder):
         f"ipv6.capture: error: can't read {one}/ipv6.capture: No such file",
         f"late.capture: error: {two}/late.capture is no capture: line 3: after-end",
         f"latin.capture: error: can't read {two}/latin.capture: No such file",
-        "5 captures: 0 equal, 0 different, 5 in error",
+        "5 captures: 0 equal, 0 alike, 0 different, 5 in error",
     )):  # fmt: skip
         want(line.startswith(words), f"{line}, and not {words}")
     same(len(lines), 6, "lines")

@@ -7,7 +7,7 @@ from harness import TOP, Failed, same, test, want
 sys.path.insert(0, str(TOP / "recipes"))
 
 import handshake  # noqa: E402
-from handshake import Body, Head, Malformed, Opening, extensions  # noqa: E402
+from handshake import Body, Head, Malformed, Opening, extensions, faults  # noqa: E402
 
 ASK = Head(b"GET /chat?key=x HTTP/1.1\r\nUpgrade: websocket\r\n\r\n")
 UPGRADE = b"HTTP/1.1 101 Switching Protocols\r\nupgrade: WebSocket\r\n\r\n"
@@ -80,3 +80,56 @@ def handshake_reads_extensions(folder):
         except Malformed:
             continue
         want(False, f"{text!r} is no list of extensions")
+
+
+@test
+def handshake_finds_what_is_wrong_with_an_answer(folder):
+    """RFC 6455: the key of section 1.3 and its accept; each fault of 4.1 by itself, and several; names as sent."""
+    key, accept = b"Sec-WebSocket-Key: dGhlIHNhbXBsZSBub25jZQ==", b"Sec-WebSocket-Accept: s3pPLMBiTxaQ9kYGzzhZRbK+xOo="
+    protocol, extension = b"Sec-WebSocket-Protocol: ", b"Sec-WebSocket-Extensions: "
+    chosen = [accept, protocol + b"superchat", extension + b"x-two, Permessage-Deflate; a=\"b,c\""]
+    offers = [key, protocol + b"chat, superchat", extension + b"permessage-deflate; client_max_window_bits, x-two"]
+    for what, asked, answered, wanted in (
+        ("the example", [key, protocol + b"chat, superchat"], [accept, protocol + b"chat"], []),
+        ("blanks around them", [key + b"  "], [b"sec-websocket-accept:\t" + accept[22:] + b" "], []),
+        ("another accept", [key], [accept.replace(b"s3p", b"S3p")], ["accept is wrong"]),
+        ("no accept", [key], [], ["accept is wrong"]),
+        ("two of them", [key], [accept, accept], ["accept is wrong"]),
+        ("an accept without a key", [], [accept], ["accept is wrong"]),
+        ("neither", [], [], []),
+        ("nothing chosen", offers, [accept], []),
+        ("what was offered", offers, chosen, []),
+        ("a subprotocol", [key], [accept, protocol + b"mqtt"], ["subprotocol mqtt was not offered"]),
+        ("its case", offers, [accept, protocol + b"Chat"], ["subprotocol Chat was not offered"]),
+        ("an extension", [key], [accept, extension + b"X-One; a"], ["extension X-One was not offered"]),
+        ("all", offers, [protocol + b"x", extension + b"x-two, a; b, c"],
+         ["accept is wrong", *(f"{name} was not offered" for name in ("subprotocol x", "extension a", "extension c"))]),
+    ):  # fmt: skip
+        heads = [Head(b"\r\n".join([line, *fields, b"", b""])) for line, fields in
+                 ((b"GET / HTTP/1.1", asked), (b"HTTP/1.1 101 Switching Protocols", answered))]  # fmt: skip
+        same(faults(*heads), wanted, what)
+
+
+@test
+def handshake_keeps_the_refusal(folder):
+    """Of the last request for frames: none while it has no final answer, nor once it has 101."""
+    no = b"HTTP/1.1 401 Unauthorized\r\nContent-Length: 2\r\n\r\nno"
+    again = Head(ASK.data.replace(b"/chat", b"/again"))
+    other = b"GET /style.css HTTP/1.1\r\n\r\n"
+    opening = Opening()
+    for side, data, asked, refused in (
+        ("C", other, "", 0),
+        ("S", no, "", 0),
+        ("C", ASK.data, "/chat", 0),
+        ("S", b"HTTP/1.1 100 Continue\r\n\r\n", "/chat", 0),
+        ("S", no, "/chat", 401),
+        ("C", other, "/chat", 401),
+        ("S", b"HTTP/1.1 404 No\r\nContent-Length: 0\r\n\r\n", "/chat", 401),
+        ("C", again.data, "/again", 0),
+        ("S", b"HTTP/1.1 101 Without the upgrade\r\n\r\n", "/again", 101),
+        ("C", ASK.data, "/chat", 0),
+        ("S", UPGRADE, "/chat", 0),
+    ):
+        opening.take(side, data)
+        found = opening.asked.path if opening.asked else "", opening.refusal.status if opening.refusal else 0
+        same(found, (asked, refused), f"after {data!r}")

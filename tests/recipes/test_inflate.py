@@ -2,6 +2,7 @@
 
 import contextlib
 import os
+import re
 import zlib
 
 from harness import (HERE, SAMPLES, TOP, free_port, python_with_websockets, run, same, sides, started, test,
@@ -108,6 +109,25 @@ def inflate_refuses(folder):
     inflate(capture(one, bytes.fromhex("c105f200110000"), agreed="#"), *words, status=2)
 
 
+@test
+def inflate_says_what_is_no_capture(folder):
+    """An empty file and a pcap, as a file and as standard input: what it is, the way, status 2, nothing written."""
+    empty, pcap = folder / "the empty", folder / "the pcap"
+    empty.write_bytes(b"")
+    for number, (form, order) in enumerate(((0xA1B2C3D4, "little"), (0xA1B23C4D, "big"), (0x0A0D0D0A, "big"))):
+        data = form.to_bytes(4, order) + bytes(30)
+        pcap.write_bytes(data)
+        for given, words, wanted in (
+            (b"", [empty], f"inflate: {empty} is empty\n"),
+            (b"", ["--extensions", "permessage-deflate"], "inflate: the capture is empty\n"),
+            (b"", [pcap], f"inflate: {pcap} is a pcap: `recipes/pcap2wsn '{pcap}'` lists its connections, "),
+            (data, [], "inflate: the capture is a pcap: `recipes/pcap2wsn PCAP` lists its connections, "),
+        ):
+            out, said = inflate(given, *words, status=2)
+            want(out == b"" and said.count("\n") == 1 and said.startswith(wanted), f"{number} {words}: {said}")
+    same(inflate(b"# nothing was sent\n")[0], b"# nothing was sent\n", "a capture without bytes")
+
+
 def messages_of(data):
     """The messages of a stream."""
     messages, parts, kind = [], [], 0
@@ -120,6 +140,16 @@ def messages_of(data):
             messages.append(b"".join(parts).decode() if kind == 1 else b"".join(parts))
             parts = []
     return messages
+
+
+@test
+def inflate_reads_the_sample(folder):
+    """Its comment has the words of the handshake in its pcap, and both sides say what the peers say."""
+    kept = (SAMPLES / "deflate.capture").read_bytes()
+    agreed = re.findall(rb"\r\nSec-WebSocket-Extensions: ([^\r]*)", (SAMPLES / "deflate.pcap").read_bytes())[-1]
+    same(kept.splitlines()[0], b"# extensions: " + agreed, "the comment")
+    client, server, _ = sides(inflate(kept)[0])
+    same((messages_of(client), messages_of(server)), (["Hello", "Hello", "Goodbye"],) * 2, "the messages")
 
 
 @test

@@ -6,6 +6,7 @@ Comments of the page say what runs around a block: `serve KIND PORT` and `talk K
 """
 
 import contextlib
+import json
 import os
 import re
 import shutil
@@ -15,6 +16,7 @@ import subprocess
 import tempfile
 import time
 
+import pcaps
 from harness import (HERE, SAMPLES, SECONDS, TOP, WSN, Failed, Skipped, needs, python_with_websockets, run, same, sides,
                      started, test, wait_for, want)  # fmt: skip
 
@@ -167,6 +169,72 @@ def page_says_what_its_commands_print(folder):
     print(f"        {page.done} commands of the page ran", flush=True)
     for why, commands in page.skipped.items():
         print(f"        {len(commands)} skipped, {why}: {'; '.join(each[:50] for each in commands)}", flush=True)
+
+
+def forms(page_text):
+    """The forms of comments in the page's table, as patterns: `..` and a name in capitals are anything."""
+    rows = re.findall(r"^\| (`# .*?) \|", page_text, re.MULTILINE)
+    spans = [span for row in rows for span in re.findall("`(# [^`]*)`", row)]
+    patterns = {re.escape(span).replace(r"\.\.", ".*") for span in spans}
+    return [re.sub("[A-Z]{4,}", lambda found: r"[0-9]+\.[0-9]{6}" if found[0] == "SECONDS" else ".+", each)
+            for each in patterns]  # fmt: skip
+
+
+@test
+def page_has_the_form_of_each_comment(folder):
+    """Each comment that the recipes write has one form of the page's table, and each form is that of some comment."""
+    packets, link = pcaps.read(SAMPLES / "deflate.pcap")
+    lost = [pcaps.data_of(packets, side)[2] for side in (0, 1)]
+    pcaps.write(folder / "lost.pcap", pcaps.without(packets, lost), link)
+    ask, answer = (("CS"[at], pcaps.Segment(packets[pcaps.data_of(packets, at)[0]]).payload) for at in (0, 1))
+    added = b"Sec-WebSocket-Protocol: a\r\nSec-WebSocket-Extensions: b\r\n\r\n"
+    wrong = answer[0], answer[1].replace(b"Accept: ", b"Accept: x")[:-2] + added
+    pcaps.write(folder / "wrong.pcap", pcaps.session([ask, wrong], 40000, 80))
+    begun = pcaps.session([ask, answer], 40000, 80)[:-3]
+    for side, at in ("client", -2), ("server", -1):
+        one = pcaps.Segment(begun[at])
+        end = one.seq + len(one.payload)
+        pcaps.write(folder / f"{side}.pcap", [*begun, pcaps.packet((one.source, one.target), end, 0, 4)])
+    lines, names = [], ("wrong", "lost", "client", "server")
+    for words in ["-m", SAMPLES / "basic.pcap"], *([folder / f"{name}.pcap"] for name in names):
+        out, _ = run(TOP / "recipes/pcap2wsn", *words, "0", status=None)
+        lines += [*out.splitlines(), *run(TOP / "recipes/inflate", input=out, status=None)[0].splitlines()]
+    found = sorted({line.decode() for line in lines if line.startswith(b"#")})
+    known = forms((TOP / "docs/RECIPES.md").read_text(encoding="utf-8"))
+    same(len(known), 16, "forms")
+    for line in found:
+        same(sum(re.fullmatch(form, line) is not None for form in known), 1, f"forms of {line!r}")
+    unused = [form for form in known if not any(re.fullmatch(form, line) for line in found)]
+    same(unused, [], "forms of no comment")
+
+
+PINGS = """# 0.000100
+C 898000000000
+# 0.000200
+S 8a00
+# 0.000300
+C 898100000000ff
+S 8900
+S 890161
+# 0.000400
+S 8a01ff
+C 8a8000000000
+C 8a8000000000
+"""
+
+
+@test
+def page_finds_the_pong_of_a_ping(folder):
+    """The page's line in jq: equal payloads in their order, others by payload; a ping or a pong that is alone."""
+    needs("jq")
+    page = parts_of((TOP / "docs/RECIPES.md").read_text(encoding="utf-8"))
+    (line,) = [words for kind, words, _ in page if kind == "command" and '"pong"' in words]
+    (folder / "pings.capture").write_text(PINGS)
+    (folder / "wsn").symlink_to(WSN)
+    line = line.replace("recipes/pcap2wsn tests/samples/basic.pcap 0", "cat pings.capture")
+    printed = run("sh", "-c", line, cwd=folder)[0].decode().splitlines()
+    wanted = ["client", 0, 0.0001, 0.0002], ["client", 6, 0.0003, 0.0004], ["server", 2, 0.0003, 0.0004]
+    same([json.loads(each) for each in printed], [*wanted, ["server", 4, 0.0003, None]], "pings")
 
 
 def indented(pattern):

@@ -1,15 +1,18 @@
 """recipes/pcap2wsn: the sessions under tests/samples, sessions recorded now, and pcaps of them mangled."""
 
+import contextlib
 import gzip
 import os
 import re
 import shutil
+import socket
 import struct
 import subprocess
 
 import pcaps
-from harness import (SAMPLES, SESSIONS, TOP, WSN, needs, record_session, run, said_in, same, samples, short, sides,
-                     test, times, want)  # fmt: skip
+from harness import (SAMPLES, SESSIONS, TOP, WSN, captured, needs, record_session, run, said_in, same, samples, short,
+                     sides, test, times, want)  # fmt: skip
+from test_record import RESET, exactly, sessions
 
 UPGRADE = b"GET /chat?key=x HTTP/1.1\r\nUpgrade: websocket\r\n\r\n"
 ANSWER = b"HTTP/1.1 101 Switching Protocols\r\nUpgrade: websocket\r\n\r\n"
@@ -148,13 +151,13 @@ def pcap_puts_what_it_says_into_the_capture(folder):
     long = ANSWER[:-2] + b"Sec-WebSocket-Extensions: " + b"x" * 9000 + b"\r\n\r\n"
     pcaps.write(folder / "long.pcap", pcaps.session([("C", UPGRADE), ("S", long)], 40000, 80))
     for words, status, count, more in (
-        ([SAMPLES / "basic.pcap", "0"], 0, 0, ["path"]),
-        ([SAMPLES / "deflate.pcap", "0"], 0, 2, ["path", "extensions"]),
+        ([SAMPLES / "basic.pcap", "0"], 0, 0, ["path", "answer"]),
+        ([SAMPLES / "deflate.pcap", "0"], 0, 2, ["path", "answer", "extensions"]),
         (["-m", SAMPLES / "basic.pcap", "0"], 0, 3, []),
-        ([folder / "lost.pcap", "0"], 1, 1, ["path"]),
-        ([folder / "short.pcap", "0"], 1, 2, ["path"]),
-        ([folder / "cut.pcap", "0"], 1, 2, ["path"]),
-        ([folder / "long.pcap", "0"], 0, 2, ["path", "extensions"]),
+        ([folder / "lost.pcap", "0"], 1, 1, ["path", "answer"]),
+        ([folder / "short.pcap", "0"], 1, 2, ["path", "answer"]),
+        ([folder / "cut.pcap", "0"], 1, 2, ["path", "answer"]),
+        ([folder / "long.pcap", "0"], 0, 3, ["path", "answer", "extensions"]),
     ):
         out, said = pcap2wsn(*words, status=status)
         first, *comments = said_in(out)
@@ -165,7 +168,129 @@ def pcap_puts_what_it_says_into_the_capture(folder):
         same(out.decode().splitlines()[: 1 + len(comments)], [first, *comments], f"{words}: the front comes first")
         sides(out)
         same(run(WSN, "closing", status=None, input=out)[1], b"", f"{words}: what wsn says of the capture")
-    same(said_in(pcap2wsn(folder / "long.pcap", "0")[0])[1], "# path: /chat", "the path, without its query")
+    wanted = ["# path: /chat", "# answer: HTTP/1.1 101 Switching Protocols"]
+    same(said_in(pcap2wsn(folder / "long.pcap", "0")[0])[1:3], wanted, "the path, without its query, and the answer")
+
+
+# The key of RFC 6455, 1.3, and its accept.
+KEYED = UPGRADE[:-2] + b"Sec-WebSocket-Key: dGhlIHNhbXBsZSBub25jZQ==\r\nSec-WebSocket-Protocol: chat\r\n\r\n"
+ACCEPT = ANSWER[:-2] + b"Sec-WebSocket-Accept: s3pPLMBiTxaQ9kYGzzhZRbK+xOo=\r\n"
+
+
+@test
+def pcap_finds_what_is_wrong_with_an_answer(folder):
+    """A wrong accept, and what wasn't offered: on standard error, of a list too, and as comments; else nothing."""
+    protocol, extension = b"Sec-WebSocket-Protocol: mqtt\r\n", b"Sec-WebSocket-Extensions: x-one; a=1\r\n"
+    packets, faulty = [], ACCEPT.replace(b"s3p", b"S3p") + protocol + extension
+    for port, answer in (40000, ACCEPT + b"\r\n"), (40001, faulty + b"\r\n"):
+        packets += pcaps.session([("C", KEYED), ("S", answer), ("S", b"\x88\x00")], port, 80)
+    pcaps.write(folder / "two.pcap", packets)
+    wanted = ["accept is wrong", "subprotocol mqtt was not offered", "extension x-one was not offered"]
+    out, said = pcap2wsn(folder / "two.pcap", "1")
+    front = ["answer: HTTP/1.1 101 Switching Protocols", "subprotocol: mqtt", "extensions: x-one; a=1", *wanted]
+    same(said_in(out)[2:8], [f"# {line}" for line in front], "the front")
+    same(said.splitlines()[:3], [f"pcap2wsn: {line}" for line in wanted], "what is said")
+    for words, name in ([], "connection 1"), ([folder / "all"], f"{folder / 'all'}/1.capture"):
+        said = pcap2wsn(*["--all"][: len(words)], folder / "two.pcap", *words)[1].splitlines()
+        found = [line for line in said if line.endswith((" wrong", " offered"))]
+        same(found, [f"pcap2wsn: {name}: {line}" for line in wanted], "what is said of a list")
+    out, said = pcap2wsn(folder / "two.pcap", "0")
+    same((len(said_in(out)), said), (3, ""), "a right one")
+
+
+@test
+def pcap_lists_handshakes_that_failed(folder):
+    """With path, time and status, by themselves and beside a session; they have no capture."""
+    no = b"HTTP/1.1 401 Unauthorized\r\nContent-Length: 2\r\n\r\nno"
+    plain = b"GET /style.css HTTP/1.1\r\nHost: a\r\n\r\n"
+    frames = [("S", b"\x88\x00"), ("C", b"\x88\x80abcd")]
+    talks = [
+        ([("C", UPGRADE), ("S", no)], "HTTP 401"),
+        ([("C", UPGRADE)], "no answer"),
+        ([("C", UPGRADE), ("S", ANSWER.replace(b"Upgrade: websocket\r\n", b""))], "HTTP 101"),
+        ([("C", UPGRADE), ("S", no), *HANDSHAKE, *frames], "clean"),
+        ([("C", UPGRADE), ("S", no), ("C", plain), ("S", no.replace(b"401", b"404"))], "HTTP 401"),
+        ([("C", plain), ("S", no)], None),
+    ]
+    packets, wanted = [], []
+    for number, (talk, outcome) in enumerate(talks):
+        one = pcaps.session(talk, 40000 + number, 80)
+        packets += [each._replace(seconds=number, micros=at * 1000) for at, each in enumerate(one)]
+        # The time is that of the answer, the packet 3 or 5 of its connection, or of the request, its packet 2.
+        at = 2 if outcome == "no answer" else 5 if outcome == "clean" else 3
+        last = max(place for place, each in enumerate(one) if pcaps.Segment(each).payload)
+        if outcome:
+            size = ["6", "2"] if outcome == "clean" else ["0", "0"]
+            times = [f"1970-01-01T00:00:0{number}.{at * 1000:06}Z", f"0.{(last - at) * 1000:06}"]
+            nodes = f"127.0.0.1:{40000 + number}", "127.0.0.1:80"
+            wanted.append([str(number), *times, *nodes, "/chat", *size, outcome, "-"])
+    pcaps.write(folder / "failed.pcap", packets)
+    for words in [], [folder / "all"]:
+        out, said = pcap2wsn(*["--all"][: len(words)], folder / "failed.pcap", *words)
+        same(([line.split("\t") for line in out.decode().splitlines()], said), (wanted, ""), "the list")
+    same([path.name for path in (folder / "all").iterdir()], ["3.capture"], "the captures")
+    pcaps.write(folder / "failed.pcap", pcaps.session(talks[0][0], 40000, 80))
+    same(pcap2wsn(folder / "failed.pcap")[0].count(b"HTTP 401"), 1, "one alone")
+
+
+@test
+def pcap_says_how_a_handshake_failed(folder):
+    """Where its capture is asked for: the answer, or who ended the connection without one; status 2."""
+    ask, no = ("C", UPGRADE), ("S", b"HTTP/1.1 401 Unauthorized\r\nContent-Length: 0\r\n\r\n")
+    whole, refused = pcaps.session([ask], 40000, 80), pcaps.session([ask, no], 40000, 80)
+    client, server = (pcaps.packet(ports, pcaps.Segment(whole[at]).seq + size, 0, 4) for ports, at, size in
+                      (((40000, 80), 2, len(UPGRADE)), ((80, 40000), 1, 1)))  # fmt: skip
+    for packets, words in (
+        (refused, "has the answer HTTP/1.1 401 Unauthorized"),
+        (whole[:3], "has no answer"),
+        (whole, "has no answer; the client ended the connection"),
+        ([*whole[:3], whole[4]], "has no answer; the server ended the connection"),
+        ([*whole[:3], client], "has no answer; the client reset the connection"),
+        ([*whole[:3], server], "has no answer; the server reset the connection"),
+    ):
+        pcaps.write(folder / "failed.pcap", packets)
+        out, said = pcap2wsn(folder / "failed.pcap", "0", status=2)
+        wanted = f"pcap2wsn: {folder}/failed.pcap has no frames of connection 0: the request for /chat {words}\n"
+        same((out, said), (b"", wanted), words)
+    pcaps.write(folder / "failed.pcap", pcaps.without(refused, [3]))
+    out, said = pcap2wsn(folder / "failed.pcap", status=2)
+    want(out == b"" and "connection 0 has no whole handshake" in said, f"an answer that is lost: {said}")
+
+
+@test
+def pcap_lists_what_is_missing(folder):
+    """Missing bytes of a session: a line on standard error, status 1. Of extensions one line for all that have some."""
+    needs("tshark")
+    packets, link = pcaps.read(SAMPLES / "deflate.pcap")
+    other = [each._replace(data=each.data[:26] + b"\x0a\0\0\x01" * 2 + each.data[34:]) for each in packets]
+    pcaps.write(folder / "lost.pcap", [*pcaps.without(packets, [pcaps.data_of(packets, 1)[2]]), *other], link)
+    out, said = pcap2wsn(folder / "lost.pcap", status=1)
+    first, second = said.splitlines()
+    want(first.startswith("pcap2wsn: connection 0: server: whole up to byte 9 of its frames: 7 bytes missing"), said)
+    want(second.startswith("pcap2wsn: warning: frames that use an extension are refused; recipes/inflate "), said)
+    rows = [line.split("\t") for line in out.decode().splitlines()]
+    agreed = "permessage-deflate; server_max_window_bits=12; client_max_window_bits=12"
+    wanted = [["/chat", "47", size, "failed", agreed] for size in ("9", "31")]
+    same([row[5:] for row in rows], wanted, "the list")
+
+
+@test
+def pcap_lists_without_the_program(folder):
+    """Where it isn't built, a list says so and has no outcomes; it doesn't begin a build, which takes long."""
+    shutil.copytree(TOP / "recipes", folder / "recipes")
+    (folder / "wsn").write_text("#!/bin/sh\necho built >>\"${0%/*}/calls\"\n")
+    (folder / "wsn").chmod(0o755)
+    words = ["env", "-u", "WSN", folder / "recipes/pcap2wsn", SAMPLES / "basic.pcap"]
+    out, said = run(*words)
+    same(out.split(b"\t")[8:], [b"-", b"-\n"], "the outcome, and the extensions")
+    want(said.startswith(b"pcap2wsn: the outcomes are missing"), f"what is said: {said}")
+    want(not (folder / "calls").exists(), "a build")
+    made = folder / "crates/wsn/out/wsn"
+    made.parent.mkdir(parents=True)
+    made.write_text("#!/bin/sh\ncat >/dev/null; echo outcome clean\n")
+    made.chmod(0o755)
+    out, said = run(*words)
+    same((out.split(b"\t")[8:], said), ([b"clean", b"-\n"], b""), "with a built one")
 
 
 @test
@@ -258,7 +383,7 @@ def pcap_that_begins_late(folder):
     out, said = pcap2wsn(folder / "late.pcap", status=2)
     want(out == b"" and "-m" in said, said)
     listed, _ = pcap2wsn("-m", folder / "late.pcap")
-    want(listed.startswith(b"0\t127.0.0.1:"), short(listed))
+    want(re.match(rb"0\t\S+Z\t\S+\t127\.0\.0\.1:", listed), short(listed))
     out, _ = pcap2wsn("-m", folder / "late.pcap", "0")
     same(sides(out), sides((SAMPLES / "basic.capture").read_bytes()), "with -m")
 
@@ -383,6 +508,7 @@ def pcap_has_the_ends_in_their_order(folder):
         ("a reset by the server", [resets[1]], ["# reset by the server", "S.", "C."]),
         ("bytes on their way", [resets[1], late], ["# reset by the server", "S.", "C."]),
         ("a reset after an end", [fin_first, resets[0]], ["S.", "# reset by the client", "C."]),
+        ("a reset after its own end", [fin_first, resets[1]], ["S.", "# reset by the server", "C."]),
         ("a reset after both", [client, server, resets[1]], ["C.", "S."]),
         ("none", [], []),
     ):
@@ -396,6 +522,30 @@ def pcap_has_the_ends_in_their_order(folder):
         wanted = ["C." if port == pcaps.Segment(packets[0]).source else "S." for port in dict.fromkeys(found)]
         if len(wanted) == 2:
             same(ends(pcap2wsn(SAMPLES / f"{name}.pcap", *words)[0]), wanted, name)
+
+
+@test
+def live_ends_are_what_the_proxy_saw(folder):
+    """Either side ends or resets the connection inside a message: who did, and in what order, in both captures."""
+    for number, (side, is_reset) in enumerate(((side, is_reset) for side in "CS" for is_reset in (False, True))):
+        own = folder / str(number)
+        with sessions(own) as all_sessions, captured(folder / "live.pcap", all_sessions.server_port):
+            pair = all_sessions.open()[:2]
+            one, other = pair if side == "C" else pair[::-1]
+            one.sendall(b"\x81\x05He")
+            exactly(other, 4)
+            if is_reset:
+                one.setsockopt(socket.SOL_SOCKET, socket.SO_LINGER, RESET)
+            one.close()
+            with contextlib.suppress(ConnectionResetError):
+                same(other.recv(1), b"", "the end")
+            other.close()
+            recorded = all_sessions.recorded()
+        last = "CS".replace(side, "")
+        wanted = [f"# reset by the {'client' if side == 'C' else 'server'}"] * is_reset + [f"{side}.", f"{last}."]
+        out, said = pcap2wsn(folder / "live.pcap", "0")
+        same((ends(recorded), ends(out), said), (wanted, wanted, ""), f"{wanted}")
+        same(sides(out), sides(recorded), f"the bytes of {wanted}")
 
 
 @test
@@ -416,10 +566,10 @@ def pcap_of_a_client_that_ends_before_the_answer(folder):
 
 @test
 def pcap_has_the_times(folder):
-    """Seconds since the 101, before each line where a millisecond has passed; bytes within it are joined."""
+    """Seconds since the 101: each chunk has its packet's, to the microsecond; bytes of one time are joined."""
     needs("tshark")
     talk = [*HANDSHAKE, ("S", b"\x81\x01a"), ("S", b"\x81\x01b"), ("S", b"\x81\x01c"), ("C", b"\x81\x80abcd")]
-    at = [0, 10, 20, 30_000, 30_400, 30_900, 31_400, 31_500, 3_000_000_000, 3_000_000_500]
+    at = [0, 10, 20, 30_000, 30_400, 30_401, 30_401, 30_401, 3_000_000_000, 3_000_000_001]
     packets = pcaps.session(talk, 40000, 80)
     moved = []
     for each, micros in zip(packets, at):
@@ -427,12 +577,57 @@ def pcap_has_the_times(folder):
         moved.append(each._replace(seconds=1_700_000_000 + micros // 10**6, micros=micros % 10**6))
     pcaps.write(folder / "timed.pcap", moved)
     out, _ = pcap2wsn(folder / "timed.pcap", "0")
-    wanted = ["# open since 2023-11-14T22:13:21.029999Z", "# path: /chat", "# 0.000400", "S 810161810162",
-              "# 0.001400", "S 810163", "C 818061626364", "# 2999.970000", "C.", "S."]  # fmt: skip
+    wanted = ["# open since 2023-11-14T22:13:21.029999Z", "# path: /chat", "# answer: HTTP/1.1 101 Switching Protocols",
+              "# 0.000400", "S 810161", "# 0.000401", "S 810162810163", "C 818061626364", "# 2999.970000", "C.",
+              "# 2999.970001", "S."]  # fmt: skip
     same(out.decode().splitlines(), wanted, "the capture")
+
+
+def sent(path):
+    """What a pcap's packets have after the answer 101, if they are in order: since then, side and bytes, joined."""
+    packets, found, opened = pcaps.read(path)[0], [], None
+    for each in packets:
+        segment, time = pcaps.Segment(each), each.seconds * 1_000_000 + each.micros
+        side = "C" if segment.source == pcaps.Segment(packets[0]).source else "S"
+        if opened is None:
+            opened = time if segment.payload.startswith(b"HTTP/1.1 101") else None
+        elif segment.payload and found and found[-1][:2] == (time - opened, side):
+            found[-1] = (*found[-1][:2], found[-1][2] + segment.payload)
+        elif segment.payload:
+            found.append((time - opened, side, segment.payload))
+    return found
+
+
+def timed(lines):
+    """What a capture has: since its opening, side and bytes, those of one time joined."""
+    found, time = [], None
+    for line in lines.decode().splitlines():
+        if re.fullmatch(r"# [0-9]+\.[0-9]{6}", line):
+            time = int(line[2:].replace(".", ""))
+        elif line[0] in "CS" and line[1] == " ":
+            data = bytes.fromhex(line[2:])
+            if found and found[-1][:2] == (time, line[0]):
+                data = found.pop()[2] + data
+            found.append((time, line[0], data))
+    return found
+
+
+@test
+def pcap_has_each_packets_time(folder):
+    """Of recorded sessions: the bytes of each packet after the handshake, at its time."""
+    needs("tshark")
     for name, words in samples():
-        found = [micros for micros, _ in times(pcap2wsn(SAMPLES / f"{name}.pcap", *words)[0])]
-        want(found and all(two - one >= 1000 for one, two in zip(found, found[1:])), f"{name}: {found}")
+        out = pcap2wsn(SAMPLES / f"{name}.pcap", *words)[0]
+        if len(words) == 1:
+            same(timed(out), sent(SAMPLES / f"{name}.pcap"), name)
+        found = [micros for micros, _ in times(out)]
+        want(all(one < two for one, two in zip(found, found[1:])), f"{name}: {found}")
+    late = pcaps.session([*HANDSHAKE, ("S", b"\x81\x01a"), ("S", b"\x81\x01b"), ("S", b"\x81\x01c")], 40000, 80)
+    late = [each._replace(micros=at * 100) for at, each in enumerate(late)]
+    late[4:7] = late[5], late[6], late[4]._replace(micros=650)
+    pcaps.write(folder / "late.pcap", late)
+    wanted = [(350, "S", b"\x81\x01a\x81\x01b\x81\x01c")]
+    same(timed(pcap2wsn(folder / "late.pcap", "0")[0]), wanted, "bytes that wait for a packet have its time")
 
 
 @test
@@ -490,9 +685,10 @@ def pcap_writes_all(folder):
         same((folder / "all" / f"{number}.capture").read_bytes(), alone, f"connection {number}")
     rows = [line.split("\t") for line in out.decode().splitlines()]
     nodes = [["127.0.0.1:40000", "127.0.0.1:80"], ["127.0.0.1:40001", "127.0.0.1:80"]]
-    wanted = [["1", *nodes[0], "/chat", "6", "6", "clean"], ["2", *nodes[1], "/chat", "0", "4", "abnormal"]]
+    wanted = [["1", *nodes[0], "/chat", "6", "6", "clean", "-"], ["2", *nodes[1], "/chat", "0", "4", "abnormal", "-"]]
     same([[row[0], *row[3:]] for row in rows], wanted, "the list")
     same({tuple(row[1:3]) for row in rows}, {("1970-01-01T00:00:00.000000Z", "0.000000")}, "its times")
+    same(pcap2wsn(folder / "two.pcap")[0], out, "the list alone")
     out, said = pcap2wsn("--all", folder / "two.pcap", folder / "all", status=2)
     want(out == b"" and "has captures already" in said, said)
     out, said = pcap2wsn("--all", SAMPLES / "deflate.pcap", folder / "other")

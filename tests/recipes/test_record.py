@@ -3,15 +3,17 @@
 import contextlib
 import datetime
 import os
+import re
 import signal
 import socket
+import ssl
 import struct
 import subprocess
 import threading
 import time
 
-from harness import (SECONDS, TOP, Failed, free_port, run, said_in, same, sides, started, test, times, wait_for,
-                     want)  # fmt: skip
+from harness import (SECONDS, TOP, Failed, certificate, free_port, run, said_in, same, sides, started, test, times,
+                     wait_for, want)  # fmt: skip
 
 ASK = b"GET /chat?x=1 HTTP/1.1\r\nHost: localhost:1\r\nUpgrade: websocket\r\nConnection: Upgrade\r\n\r\n"
 OFFER = ASK[:-2] + b"sec-websocket-extensions: permessage-deflate\r\nX: y\r\n\r\n"
@@ -22,22 +24,28 @@ RESET = struct.pack("ii", 1, 0)
 class Sessions:
     """A proxy, and a server that gives out its connections."""
 
-    def __init__(self, stack, folder, *words, path="", end=signal.SIGINT):
+    def __init__(self, stack, folder, *words, path="", end=signal.SIGINT, tls=None):
         self.listener = stack.enter_context(socket.create_server(("127.0.0.1", 0)))
         self.listener.settimeout(SECONDS)
         self.stack = stack
         self.folder = folder / "recordings"
         self.port = free_port()
         self.server_port = self.listener.getsockname()[1]
-        url = f"ws://127.0.0.1:{self.server_port}{path}"
+        self.tls = ssl.SSLContext(ssl.PROTOCOL_TLS_SERVER) if tls else None
+        if tls:
+            self.tls.load_cert_chain(*tls)
+        url = f"ws{'s' if tls else ''}://127.0.0.1:{self.server_port}{path}"
         words = [TOP / "recipes/record", *words, str(self.port), url, self.folder]
-        self.proxy = stack.enter_context(started(*words, line="listening", stream="stderr", end=end))
+        how = {"line": "listening", "stream": "stderr", "end": end, "env": {"SSL_CERT_FILE": str(tls[0])} if tls else {}}
+        self.proxy = stack.enter_context(started(*words, **how))
 
     def connect(self):
         """A client's connection to the proxy, and the server's that comes of it."""
         client = self.stack.enter_context(socket.create_connection(("127.0.0.1", self.port), SECONDS))
         server, _ = self.listener.accept()
         server.settimeout(SECONDS)
+        if self.tls:
+            server = self.tls.wrap_socket(server, server_side=True)
         return client, self.stack.enter_context(server)
 
     def open(self, ask=ASK, answer=ANSWER):
@@ -161,12 +169,42 @@ def record_passes_resets_on(folder):
 
 
 @test
+def record_tells_a_reset_from_an_end_under_tls(folder):
+    """Of a wss server, between two records and inside one; an end is one with and without TLS's own."""
+    with sessions(folder, tls=certificate(folder)) as all_sessions:
+        for number, how in enumerate(("reset", "reset in a record", "end", "end in a record", "end of TLS"), 1):
+            client, server, _ = all_sessions.open()
+            server.sendall(b"\x81\x05He")
+            same(exactly(client, 4), b"\x81\x05He", "what came before it")
+            if how.endswith("record"):
+                socket.socket.send(server, b"\x17\x03\x03\x40\x00" + bytes(100))
+                time.sleep(0.2)
+            if how == "end of TLS":
+                server.setblocking(False)
+                with contextlib.suppress(ssl.SSLWantReadError):
+                    server.unwrap()
+            elif how.startswith("reset"):
+                server.setsockopt(socket.SOL_SOCKET, socket.SO_LINGER, RESET)
+            server.close()
+            found = "end"
+            try:
+                same(client.recv(1), b"", how)
+            except ConnectionResetError:
+                found = "reset"
+            client.close()
+            lines = all_sessions.recorded(number)
+            said = ["# reset by the server"] if how.startswith("reset") else []
+            same((found, said_in(lines)[3:], plain(lines)), (how.split()[0], said, b"S 81054865\nS.\nC.\n"), how)
+
+
+@test
 def record_puts_times_into_the_capture(folder):
-    """When it was open, what was agreed on; seconds before each line where a millisecond has passed."""
+    """When it was open, what was asked, answered and agreed on; seconds before each line where time has passed."""
+    offers = b"Sec-WebSocket-Protocol: chat\r\nSec-WebSocket-Extensions: x\r\n\r\n"
     answer = ANSWER[:-2] + b"Sec-WebSocket-Protocol: chat\r\nSec-WebSocket-Extensions: x; y=1\r\n\r\n"
     with sessions(folder) as all_sessions:
         before = datetime.datetime.utcnow()
-        client, server, _ = all_sessions.open(answer=answer)
+        client, server, _ = all_sessions.open(ASK[:-2] + offers, answer)
         for _ in range(3):
             time.sleep(0.02)
             client.sendall(b"\x81\x80abcd")
@@ -177,10 +215,102 @@ def record_puts_times_into_the_capture(folder):
     opened, *comments = said_in(lines)
     at = datetime.datetime.strptime(opened, "# open since %Y-%m-%dT%H:%M:%S.%fZ")
     want(abs((at - before).total_seconds()) < SECONDS, f"{opened}, and not {before}")
-    same(comments, ["# path: /chat", "# subprotocol: chat", "# extensions: x; y=1"], "the front")
+    same(comments, ["# path: /chat", "# answer: HTTP/1.1 101 Switching Protocols", "# subprotocol: chat",
+                    "# extensions: x; y=1"], "the front")  # fmt: skip
     found = [micros for micros, _ in times(lines)]
     want(found[0] >= 10_000 and len(found) >= 3, f"the times: {found}")
-    want(all(two - one >= 1000 for one, two in zip(found, found[1:])), f"the times: {found}")
+    want(all(one < two for one, two in zip(found, found[1:])), f"the times: {found}")
+
+
+@test
+def record_stamps_each_chunk_as_it_reads_it(folder):
+    """Messages that go to and fro as fast as they can: each has a time between its sending and its arrival."""
+    with sessions(folder) as all_sessions:
+        client, server, _ = all_sessions.open()
+        passed = []
+        for number in range(50):
+            one, other = (client, server) if number % 2 == 0 else (server, client)
+            sent = time.time_ns() // 1000
+            one.sendall(bytes([0x81, 0x80, number]))
+            exactly(other, 3)
+            passed.append((sent, time.time_ns() // 1000))
+        client.close()
+        server.close()
+        lines = all_sessions.recorded()
+    opened = datetime.datetime.strptime(said_in(lines)[0], "# open since %Y-%m-%dT%H:%M:%S.%fZ")
+    since = round(opened.replace(tzinfo=datetime.timezone.utc).timestamp() * 1e6)
+    found = [(micros, line) for micros, line in times(lines) if not line.endswith(".")]
+    wanted = [f"{'CS'[number % 2]} 8180{number:02x}" for number in range(50)]
+    same([line for _, line in found], wanted, "a time before each line")
+    # How far the capture's clock may be behind: its two clocks are read a moment apart, and times are rounded down.
+    least = max(sent - since - micros for (micros, _), (sent, _) in zip(found, passed))
+    most = min(arrived - since - micros for (micros, _), (_, arrived) in zip(found, passed))
+    want(least <= most + 2 and -2 <= most and least < 20_000, f"between its sending and its arrival: {least}, {most}")
+    want(all(one[0] < two[0] for one, two in zip(found, found[1:])), f"the times: {found}")
+
+
+@test
+def record_finds_what_is_wrong_with_an_answer(folder):
+    """A wrong accept, and what wasn't offered: on standard error and as comments. The key is that of RFC 6455, 1.3."""
+    ask = ASK[:-2] + b"Sec-WebSocket-Key: dGhlIHNhbXBsZSBub25jZQ==\r\nSec-WebSocket-Extensions: x-two\r\n\r\n"
+    right = ANSWER[:-2] + b"Sec-WebSocket-Accept: s3pPLMBiTxaQ9kYGzzhZRbK+xOo=\r\n"
+    chosen = b"Sec-WebSocket-Protocol: mqtt\r\nSec-WebSocket-Extensions: X-Two, x-one\r\n"
+    wrong = right.replace(b"s3p", b"S3p") + chosen
+    words = ["accept is wrong", "subprotocol mqtt was not offered", "extension x-one was not offered"]
+    for plain, answer, found in (
+        ([], right, []),
+        ([], wrong, words),
+        (["--plain"], wrong, [*words[:2], "extension X-Two was not offered", words[2]]),
+    ):
+        with sessions(folder / str(len(found)), *plain) as all_sessions:
+            for each in all_sessions.open(ask, answer + b"\r\n")[:2]:
+                each.close()
+            comments = said_in(all_sessions.recorded())
+            start = f"record: {all_sessions.folder}/0001.capture: "
+            said = [line.removeprefix(start).rstrip("\n") for line in all_sessions.proxy.said]
+        same([line[2:] for line in comments if line.endswith((" wrong", " offered"))], found, "the comments")
+        same([line for line in said if line.endswith((" wrong", " offered"))], found, "what is said")
+
+
+def said_of(all_sessions, part):
+    """The line that the proxy prints with these words, without the client's address."""
+    wait_for(lambda: any(part in line for line in all_sessions.proxy.said), f"a line with {part!r}")
+    (line,) = [line for line in all_sessions.proxy.said if part in line]
+    return re.sub(r"127\.0\.0\.1 port \d+, ", "", line.rstrip("\n"))
+
+
+@test
+def record_says_how_a_handshake_failed(folder):
+    """What was asked and answered, or why it wasn't: of an answer 401, of a server that ends, resets or is silent."""
+    asked = "record: GET /chat?x=1 HTTP/1.1"
+    with sessions(folder) as all_sessions:
+        client, server = all_sessions.connect()
+        client.sendall(ASK)
+        until(server, b"\r\n\r\n")
+        server.sendall(b"HTTP/1.1 401 Un\x1b[31mauthorized\r\nContent-Length: 0\r\n\r\n")
+        until(client, b"\r\n\r\n")
+        same(said_of(all_sessions, " 401 "), f"{asked}, answered HTTP/1.1 401 Un\\x1b[31mauthorized", "an answer")
+        for how, said in ("ended", "not answered: the server ended"), ("reset", "not answered: the server reset"):
+            client, server = all_sessions.connect()
+            client.sendall(ASK)
+            until(server, b"\r\n\r\n")
+            if how == "reset":
+                server.setsockopt(socket.SOL_SOCKET, socket.SO_LINGER, RESET)
+            server.close()
+            same(said_of(all_sessions, said), f"{asked}, {said} the connection", how)
+            same(client.recv(1), b"", "the client's end")
+        client, server = all_sessions.connect()
+        client.sendall(ASK)
+        until(server, b"\r\n\r\n")
+        client.close()
+        said = "not answered yet, and the client ended the connection"
+        same(said_of(all_sessions, said), f"{asked}, {said}", "a client that waits no longer")
+        same(list(all_sessions.folder.iterdir()), [], "files")
+        all_sessions.open()
+        wait_for(lambda: (all_sessions.folder / "0001.capture").exists(), "a session after that")
+        said = f"{all_sessions.folder}/0001.capture: "
+        wanted = f"record: {said}{asked[8:]}, answered HTTP/1.1 101 Switching Protocols"
+        same(said_of(all_sessions, "answered HTTP/1.1 101"), wanted, "an answer 101")
 
 
 @test
@@ -304,9 +434,17 @@ def record_says_what_it_requires(folder):
     ):
         error = run(TOP / "recipes/record", *words, status=2)[1]
         want(said in error and (not words or error.count(b"\n") == 1), f"{words}: {error}")
-    port = free_port()
-    words = [TOP / "recipes/record", port, f"ws://127.0.0.1:{free_port()}", folder]
-    with started(*words, line="listening", stream="stderr"):
-        with socket.create_connection(("127.0.0.1", port), SECONDS) as client:
-            want(until(client, b"\r\n\r\n").startswith(b"HTTP/1.1 502 "), "no 502")
+    port, other = free_port(), free_port()
+    words = [TOP / "recipes/record", port, f"ws://127.0.0.1:{other}/path?y", folder]
+    with started(*words, line="listening", stream="stderr") as proxy:
+        for number, asks in enumerate((b"", ASK)):
+            with socket.create_connection(("127.0.0.1", port), SECONDS) as client:
+                client.sendall(asks)
+                want(until(client, b"\r\n\r\n").startswith(b"HTTP/1.1 502 "), "no 502")
+                same(client.recv(1), b"", "the end")
+                address = client.getsockname()
+                wait_for(lambda count=number + 2: len(proxy.said) >= count, "what is said")
+            asked = ", GET /path?y HTTP/1.1" if asks else ""
+            why = f"not answered: can't connect to 127.0.0.1:{other}: Connection refused"
+            same(proxy.said[-1], f"record: {address[0]} port {address[1]}{asked}, {why}\n", "what was asked")
     same(list(folder.iterdir()), [], "files")
