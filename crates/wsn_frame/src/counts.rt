@@ -30,30 +30,18 @@ impl Counts {
         }
     }
 
-    /// The counts with one more frame, which has this FIN and this opcode.
+    /// The counts with one more frame, which has this FIN and this opcode. Fewer than 2^63 frames have been counted.
     #[tactic(none)]
     pub fn with(self, fin: bool, op: Op) -> Counts
         ensures { (fs : List Frame) (f : Frame) → AreCounts self fs → length fs < 2 ^ 63 → f.fin ≡ fin → f.op ≡ op →
             AreCounts result (fs ++ f ∷ []) }
     {
-        let frames = self.frames.saturating_add(1);
-        match op {
-            Op::Ping => Counts {
-                frames,
-                pings: self.pings.saturating_add(1),
-                ..self
-            },
-            Op::Pong => Counts {
-                frames,
-                pongs: self.pongs.saturating_add(1),
-                ..self
-            },
-            Op::Close => Counts { frames, ..self },
-            Op::Continue | Op::Text | Op::Binary => Counts {
-                frames,
-                messages: self.messages.saturating_add(u64::from(fin)),
-                ..self
-            },
+        let ends_message = fin && !op.is_control();
+        Counts {
+            frames: self.frames.wrapping_add(1),
+            messages: self.messages.wrapping_add(u64::from(ends_message)),
+            pings: self.pings.wrapping_add(u64::from(matches!(op, Op::Ping))),
+            pongs: self.pongs.wrapping_add(u64::from(matches!(op, Op::Pong))),
         }
     }
 }

@@ -30,3 +30,4 @@ pub mod ReaderSteps
 pub mod ReaderReads
 pub mod ReaderCalls
 pub mod ReaderReports
+pub mod FreePayloads

@@ -1,6 +1,9 @@
 //! Frames that are whole in a piece and each end an event, with the event's normal frame written in their place.
-ghost use Rattle.std.specs.Prelude.{◌≡◌, ◌≢◌, ◌+◌, ◌<◌, ◌≤◌, true, false, None, List, length, drop, IsTrue, IfSome, IfNone};
-ghost use Rattle.wsn_wire.specs.Frame.{IsBytes, is_control};
+ghost use Rattle.std.specs.Prelude.{◌≡◌, ◌≢◌, ◌+◌, ◌<◌, ◌≤◌, ◌⊎◌, true, false, None, Ok, List, [], length, drop, IsTrue, IfSome, IfNone};
+ghost use Rattle.wsn_wire.specs.Frame.{Frame, IsBytes, first_byte, is_control};
+ghost use Rattle.wsn_frame.specs.declared.payload_check.PayloadCheck.{PayloadCheck};
+ghost use Rattle.wsn_frame.specs.OpenMessages.{IsOpenMessage};
+ghost use Rattle.wsn_frame.specs.PayloadChecks.{HasChecked, IsChecked};
 ghost use Rattle.wsn_frame.specs.PartialHeads.{encoded_form};
 ghost use Rattle.wsn_scan.specs.EventFrames.{IsEventFrame, TakesEvent, TakesEvents, TakesMessage, IsIdle, info_found, with_key_cleared};
 ghost use Rattle.wsn_scan.specs.Feeding.{ConsumesPrefix};
@@ -10,7 +13,7 @@ use super::Scan;
 use crate::stage::Stage;
 use wsn_frame::{FrameContext, Head, PayloadCheck, unmask, whole_head};
 use wsn_rules::HeadInfo;
-use wsn_wire::{Form, Op};
+use wsn_wire::{FirstByte, Form, Op};
 
 /// What becomes of the frames that have no payload.
 #[derive(Clone, Copy)]
@@ -179,9 +182,8 @@ fn take_event(
         return None;
     }
     let end = start + head.len as usize;
-    let mut check = PayloadCheck::new(head.first, None);
     unmask(head.key, 0, &mut piece[start..end]);
-    if !check.take(&piece[start..end], true, true) {
+    if !is_valid(head.first, &piece[start..end]) {
         unmask(head.key, 0, &mut piece[start..end]);
         return None;
     }
@@ -192,6 +194,24 @@ fn take_event(
         size: end,
         len: head.len as usize,
     })
+}
+
+/// Whether a whole payload, unmasked, is valid in a final frame while no message is open (RFC 6455 section 8.1). Only a
+/// text's payload is looked at; no Close is taken.
+#[inline(always)]
+#[tactic(none)]
+fn is_valid(first: FirstByte, payload: &[u8]) -> bool
+    requires { 0 < length payload.now }
+    ensures { result ≡ true → first.fin ≡ true → (group : List Frame) → IsOpenMessage None group
+        → (first.op ≡ Op.Continue → group ≢ []) → ((first.op ≡ Op.Text) ⊎ (first.op ≡ Op.Binary) → group ≡ [])
+        → (check : PayloadCheck) × (next : PayloadCheck) × HasChecked group (first_byte first.fin first.op) check []
+        × IsChecked group (first_byte first.fin first.op) (length payload.now) [] payload.now (Ok next) }
+{
+    let mut check = PayloadCheck::new(first, None);
+    match first.op {
+        Op::Text => check.take(payload, true, true),
+        _ => matches!(check, PayloadCheck::Free),
+    }
 }
 
 /// Writes the normal frame of an event in place of the empty frame that ends it, all of whose bytes are this head, and

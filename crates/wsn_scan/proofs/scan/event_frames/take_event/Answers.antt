@@ -1,6 +1,6 @@
 use Rattle.std.proofs.Common.{◌≡◌, ◌+◌, ◌-◌, ◌<◌, ◌≤◌, ℕ, List, Option, Ok, [], ◌++◌, length, take, drop, take-append-drop, ap, refl, sym, ◌∙◌, subst, arith, rules}
 use Rattle.std.proofs.lemmas.List.{length-take-le}
-use borrow.Rule.Slice.PartMut.{mid_of, mid_len}
+use borrow.Rule.Slice.PartMut.{mid_of, mid_len, put_mid}
 use Rattle.wsn_wire.specs.Frame.{IsBytes, first_byte}
 use Rattle.wsn_wire.proofs.FrameLemmas.{first_byte_fields, IsBytes-right}
 use Rattle.wsn_frame.specs.declared.open_message.OpenMessage.{OpenMessage}
@@ -10,7 +10,8 @@ use Rattle.wsn_frame.specs.PartialHeads.{IsHead}
 use Rattle.wsn_frame.specs.PayloadChecks.{IsChecked}
 use Rattle.wsn_frame.specs.Payloads.{unmasked_by}
 use Rattle.wsn_frame.proofs.FrameStarts.{goes_on, begins}
-use Rattle.wsn_frame.proofs.FramesAtOnce.{payload_after, masked_back, head_and_payload, fed_at_once, holds_at_once}
+use Rattle.wsn_frame.proofs.FramesAtOnce.{payload_after, masked_back, head_and_payload, holds_at_once}
+use Rattle.wsn_frame.proofs.PayloadMore.{length-unmasked_by}
 use Rattle.wsn_scan.specs.declared.scan.event_frames.EventFrame.{EventFrame}
 use Rattle.wsn_scan.specs.EventFrames.{IsEventFrame}
 use Rattle.wsn_scan.proofs.EmptyFrames.{empty_event, kept_after_head}
@@ -37,18 +38,20 @@ returns-clause-taken c in_piece =
     let parts : came ≡ front ++ wire = head_and_payload start end piece ordered in
     let in_came : IsBytes (front ++ wire) = subst IsBytes parts (bytes_taken end piece in_piece) in
     let in_wire : IsBytes wire = IsBytes-right front wire in_came in
-    let fed_is = payload_after head.key start end piece c.unmask.new.bytes ordered within c.unmask.ensures in (
+    let fed = mid_of start (end - start) (put_mid start (end - start) piece c.unmask.new.bytes) in
+    let fed_is : fed ≡ unmasked_by head.key 0 wire = payload_after head.key start end piece c.unmask.new.bytes ordered within c.unmask.ensures in (
       plain.1,
       λ fs range lawful no_close none.
           let group = unfinished fs in
           let first = first_byte head.first.fin head.first.op in
           let is_head : IsHead role limits group head front = found.2 group (subst (λ (m : Option OpenMessage). IsOpenMessage m group) (sym c.requires) none) in
-          let checked = c.new-check.ensures group none (goes_on role limits group head front is_head) (begins role limits group head front is_head) in
-          let all : IsChecked group first head.len [] (unmasked_by head.key 0 wire) (Ok c.take.new.self) =
-          fed_at_once group first head.len head.key wire _ (Ok c.take.new.self) fed_is size
-          (c.take.ensures.taken (search rules) group first head.len [] checked ((first_byte_fields head.first.fin head.first.op).fin_is ∙ plain.0)) in
-          let holds = holds_at_once role limits group head c.new-check.result c.take.new.self front wire (front ++ wire) refl in_wire is_head checked (omega (arith, c.if-head-eq0.false)) size all in
-          ends_event role limits fs head c.take.new.self front wire range lawful none is_head holds size in_came plain.0 plain.2 piece _ end parts
+          let valid = c.is_valid.ensures (search rules) plain.0 group none (goes_on role limits group head front is_head) (begins role limits group head front is_head) in
+          let total : length fed ≡ head.len = ap (λ (bs : List ℕ). length bs) fed_is ∙ length-unmasked_by head.key 0 wire ∙ size in
+          let all : IsChecked group first head.len [] (unmasked_by head.key 0 wire) (Ok valid.1) =
+          subst (λ (bs : List ℕ). IsChecked group first head.len [] bs (Ok valid.1)) fed_is
+          (subst (λ (n : ℕ). IsChecked group first n [] fed (Ok valid.1)) total valid.3) in
+          let holds = holds_at_once role limits group head valid.0 valid.1 front wire (front ++ wire) refl in_wire is_head valid.2 (omega (arith, c.if-head-eq0.false)) size all in
+          ends_event role limits fs head valid.1 front wire range lawful none is_head holds size in_came plain.0 plain.2 piece _ end parts
           (written_after head.key start end piece c.unmask.new.bytes ordered within c.unmask.ensures c.clear_key.new.head c.clear_key.ensures c.clear_key.auto.head),
     )
 
@@ -69,11 +72,11 @@ clear_key-requires c =
     let is_head = c.in_ok-start.ensures.2 [] (subst (λ (m : Option OpenMessage). IsOpenMessage m []) (sym c.requires) refl) in
     key_room head.key start end piece c.unmask.new.bytes (omega arith) within c.unmask.ensures (key_fits c.args.context.now.role c.args.context.now.limits [] head (take start piece) is_head)
 
-pub returns-then-not-take-clause-none : goal.returns-then-not-take-clause-none
-returns-then-not-take-clause-none c =
+pub returns-then-not-is_valid-clause-none : goal.returns-then-not-is_valid-clause-none
+returns-then-not-is_valid-clause-none c =
     let start = c.in_ok-start.start in
     let end = start + c.in_ok-start.head.len in
-    masked_back c.in_ok-start.head.key start end c.args.piece.now c.unmask.new.bytes (omega arith) (omega (arith, c.in_ok-start.ensures.1, c.if-head-room.false)) c.unmask.ensures c.unmask-then-not-take.new.bytes c.unmask-then-not-take.ensures
+    masked_back c.in_ok-start.head.key start end c.args.piece.now c.unmask.new.bytes (omega arith) (omega (arith, c.in_ok-start.ensures.1, c.if-head-room.false)) c.unmask.ensures c.unmask-then-not-is_valid.new.bytes c.unmask-then-not-is_valid.ensures
 
 pub take_empty-requires : goal.take_empty-requires
 take_empty-requires c =
@@ -179,17 +182,17 @@ slice_bounds-unmask-end c = search rules
 pub unmask-requires : goal.unmask-requires
 unmask-requires c = search rules
 
-pub slice_bounds-take-count : goal.slice_bounds-take-count
-slice_bounds-take-count c = search rules
+pub slice_bounds-is_valid-count : goal.slice_bounds-is_valid-count
+slice_bounds-is_valid-count c = search rules
 
-pub slice_bounds-take-start : goal.slice_bounds-take-start
-slice_bounds-take-start c = search rules
+pub slice_bounds-is_valid-start : goal.slice_bounds-is_valid-start
+slice_bounds-is_valid-start c = search rules
 
-pub slice_bounds-take-end : goal.slice_bounds-take-end
-slice_bounds-take-end c = search rules
+pub slice_bounds-is_valid-end : goal.slice_bounds-is_valid-end
+slice_bounds-is_valid-end c = search rules
 
-pub take-requires : goal.take-requires
-take-requires c = search rules
+pub is_valid-requires : goal.is_valid-requires
+is_valid-requires c = search rules
 
 pub slice_bounds-clear_key-end : goal.slice_bounds-clear_key-end
 slice_bounds-clear_key-end c = search rules
@@ -197,17 +200,17 @@ slice_bounds-clear_key-end c = search rules
 pub slice_bounds-clear_key-end-2 : goal.slice_bounds-clear_key-end-2
 slice_bounds-clear_key-end-2 c = search rules
 
-pub slice_bounds-unmask-count-then-not-take : goal.slice_bounds-unmask-count-then-not-take
-slice_bounds-unmask-count-then-not-take c = search rules
+pub slice_bounds-unmask-count-then-not-is_valid : goal.slice_bounds-unmask-count-then-not-is_valid
+slice_bounds-unmask-count-then-not-is_valid c = search rules
 
-pub slice_bounds-unmask-start-then-not-take : goal.slice_bounds-unmask-start-then-not-take
-slice_bounds-unmask-start-then-not-take c = search rules
+pub slice_bounds-unmask-start-then-not-is_valid : goal.slice_bounds-unmask-start-then-not-is_valid
+slice_bounds-unmask-start-then-not-is_valid c = search rules
 
-pub slice_bounds-unmask-end-then-not-take : goal.slice_bounds-unmask-end-then-not-take
-slice_bounds-unmask-end-then-not-take c = search rules
+pub slice_bounds-unmask-end-then-not-is_valid : goal.slice_bounds-unmask-end-then-not-is_valid
+slice_bounds-unmask-end-then-not-is_valid c = search rules
 
-pub unmask-requires-then-not-take : goal.unmask-requires-then-not-take
-unmask-requires-then-not-take c = search rules
+pub unmask-requires-then-not-is_valid : goal.unmask-requires-then-not-is_valid
+unmask-requires-then-not-is_valid c = search rules
 
 pub shape_of-piece : goal.shape_of-piece
 shape_of-piece c = search rules
@@ -215,8 +218,8 @@ shape_of-piece c = search rules
 pub returns-clause-within : goal.returns-clause-within
 returns-clause-within c = search rules
 
-pub shape_of-piece-then-not-take : goal.shape_of-piece-then-not-take
-shape_of-piece-then-not-take c = search rules
+pub shape_of-piece-then-not-is_valid : goal.shape_of-piece-then-not-is_valid
+shape_of-piece-then-not-is_valid c = search rules
 
 pub returns-in_err-start-clause-data : goal.returns-in_err-start-clause-data
 returns-in_err-start-clause-data c = search rules
