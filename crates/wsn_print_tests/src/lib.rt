@@ -1,5 +1,6 @@
 //! Tests of printed objects: each is read as JSON by another program's parser, and has the members that it should, in
-//! `answer_objects` and `entry_objects`. `reading` reads a line.
+//! `answer_objects` and `entry_objects`; `reading` reads a line. `runs` compares texts that are quoted, and comments, with
+//! what is written of them character by character.
 #![tactic(auto)]
 
 #[cfg(test)]
@@ -8,3 +9,5 @@ mod answer_objects;
 mod entry_objects;
 #[cfg(test)]
 mod reading;
+#[cfg(test)]
+mod runs;

@@ -1,0 +1,242 @@
+//! Texts that are quoted and comments, compared with what is written of them character by character.
+
+use std::alloc::{AllocError, Global};
+use std::process::Abort;
+use std::str;
+use wsn_io::Output;
+use wsn_print::{
+    EntryFront, Front, Origin, ShownEvent, ViewLimit, put_comment, put_comment_object, put_event,
+    put_event_object,
+};
+use wsn_wire::{Op, Role};
+
+/// Characters that are escaped, and others whose bytes are like theirs.
+const CHARACTERS: [char; 48] = [
+    '\0',
+    '\n',
+    '\u{1f}',
+    ' ',
+    '!',
+    '"',
+    '#',
+    '[',
+    '\\',
+    ']',
+    '~',
+    '\u{7f}',
+    '\u{80}',
+    '\u{85}',
+    '\u{9b}',
+    '\u{9f}',
+    '\u{a0}',
+    '\u{bf}',
+    '\u{c0}',
+    '\u{600}',
+    '\u{61b}',
+    '\u{61c}',
+    '\u{61d}',
+    '\u{63f}',
+    '\u{640}',
+    '\u{2000}',
+    '\u{200d}',
+    '\u{200e}',
+    '\u{200f}',
+    '\u{2010}',
+    '\u{2027}',
+    '\u{2028}',
+    '\u{202a}',
+    '\u{202e}',
+    '\u{202f}',
+    '\u{2065}',
+    '\u{2066}',
+    '\u{2069}',
+    '\u{206a}',
+    '\u{20ac}',
+    '\u{4e2d}',
+    '\u{fefe}',
+    '\u{feff}',
+    '\u{ff01}',
+    '\u{fffd}',
+    '\u{1f600}',
+    '\u{e0001}',
+    '\u{10ffff}',
+];
+
+/// Adds a character as it is written: a hidden one as `\u` and four digits, and a quotation mark or backslash of a quoted
+/// text after a backslash.
+fn add(out: &mut Vec<u8>, c: char, is_quoted: bool) -> Result<(), AllocError> {
+    if is_quoted && (c == '"' || c == '\\') {
+        out.push(b'\\')?;
+    }
+    let code = u32::from(c);
+    let is_hidden = matches!(
+        code,
+        0..=0x1f | 0x7f..=0x9f | 0x61c | 0x200e..=0x200f | 0x2028..=0x202e | 0x2066..=0x2069 | 0xfeff
+    );
+    if !is_hidden {
+        return out.extend_from_slice(c.encode_utf8(&mut [0; 4]).as_bytes());
+    }
+    out.extend_from_slice(b"\\u")?;
+    for shift in [12, 8, 4, 0u32] {
+        let digit = (code >> shift) % 16;
+        let digits = b"0123456789abcdef";
+        out.push(digits[digit as usize])?;
+    }
+    Ok(())
+}
+
+/// A text between two others, character by character.
+fn written(
+    alloc: Global,
+    before: &[u8],
+    text: &str,
+    is_quoted: bool,
+    after: &[u8],
+) -> Result<Vec<u8>, AllocError> {
+    let mut out = Vec::from_slice(alloc, before)?;
+    for c in text.chars() {
+        add(&mut out, c, is_quoted)?;
+    }
+    out.extend_from_slice(after)?;
+    Ok(out)
+}
+
+/// The whole characters at the start of some bytes of a text.
+fn whole(bytes: &[u8]) -> &str {
+    match str::from_utf8(bytes) {
+        Ok(text) => text,
+        Err(error) => str::from_utf8(bytes.get(..error.valid_up_to()).unwrap_or(b"")).unwrap_or(""),
+    }
+}
+
+/// Fails unless a comment is written as it should be, in words and as an object.
+fn expect_comment(rt: &impl Abort, alloc: Global, text: &str) {
+    let mut line = Vec::new(alloc);
+    assert_eq!(rt;
+        put_comment(&mut Output::new(&mut line), text.as_bytes()),
+        Ok(())
+    );
+    let expected = written(alloc, b"", text, false, b"\n").expect(rt, "memory");
+    assert_eq!(rt; line.as_slice(), expected.as_slice());
+    let mut object = Vec::new(alloc);
+    let mut comment = Vec::from_slice(alloc, b"#").expect(rt, "memory");
+    comment
+        .extend_from_slice(text.as_bytes())
+        .expect(rt, "memory");
+    assert_eq!(rt;
+        put_comment_object(&mut Output::new(&mut object), 7, comment.as_slice()),
+        Ok(())
+    );
+    let front = b"{\"type\":\"comment\",\"line\":7,\"text\":\"";
+    let expected = written(alloc, front, text, true, b"\"}\n").expect(rt, "memory");
+    assert_eq!(rt; object.as_slice(), expected.as_slice(), "{text}");
+}
+
+/// Fails unless at most this many bytes of a message's text are written as they should be, in words and as an object.
+fn expect_view(rt: &impl Abort, alloc: Global, text: &str, most: u16) {
+    let view = ViewLimit::new(most).expect(rt, "a view of at most 4096 bytes");
+    let bytes = text.as_bytes();
+    let shown = whole(bytes.get(..usize::from(most)).unwrap_or(bytes));
+    let event = ShownEvent {
+        op: Op::Text,
+        bytes: bytes.len() as u64,
+        frames: 1,
+        held: bytes,
+    };
+    let is_cut = shown.len() < bytes.len();
+    let front = Front {
+        role: Role::Server,
+        time: None,
+        offset: 0,
+    };
+    let mut line = Vec::new(alloc);
+    assert_eq!(rt;
+        put_event(&mut Output::new(&mut line), view, &front, &event),
+        Ok(())
+    );
+    let end: &[u8] = if is_cut { b"\" ..\n" } else { b"\"\n" };
+    let expected = written(alloc, b" 1 \"", shown, true, end).expect(rt, "memory");
+    let is_dash = most == 0 && !bytes.is_empty();
+    assert!(rt;
+        is_dash || line.as_slice().ends_with(expected.as_slice()),
+        "{text} {most}"
+    );
+    let front = EntryFront {
+        role: Role::Server,
+        origin: Origin::Stream,
+        offset: 0,
+    };
+    let mut object = Vec::new(alloc);
+    assert_eq!(rt;
+        put_event_object(&mut Output::new(&mut object), view, &front, &event),
+        Ok(())
+    );
+    let end: &[u8] = if is_cut {
+        b"\",\"truncated\":true}\n"
+    } else {
+        b"\"}\n"
+    };
+    let expected = written(alloc, b",\"text\":\"", shown, true, end).expect(rt, "memory");
+    assert!(rt;
+        object.as_slice().ends_with(expected.as_slice()),
+        "{text} {most}"
+    );
+}
+
+/// A text of `before` letters, a character, and 40 letters less.
+fn text_with(alloc: Global, before: usize, c: char) -> Result<String, AllocError> {
+    let mut text = String::new(alloc);
+    for _ in 0..before {
+        text.push('a')?;
+    }
+    text.push(c)?;
+    for _ in before..40 {
+        text.push('b')?;
+    }
+    Ok(text)
+}
+
+/// Each character at each place, on both sides of each block.
+#[test]
+fn each_character_at_each_place(rt: HostRuntime) {
+    let alloc = rt.alloc();
+    for c in CHARACTERS {
+        for before in 0..=40usize {
+            let text = text_with(alloc, before, c).expect(&rt, "memory");
+            expect_comment(&rt, alloc, text.as_str());
+            expect_view(&rt, alloc, text.as_str(), 4_096);
+        }
+    }
+}
+
+/// All characters, cut after each byte.
+#[test]
+fn all_characters_cut_at_each_byte(rt: HostRuntime) {
+    let alloc = rt.alloc();
+    let mut text = String::new(alloc);
+    for c in CHARACTERS {
+        text.push(c).expect(&rt, "memory");
+    }
+    for most in 0..=150u16 {
+        expect_view(&rt, alloc, text.as_str(), most);
+    }
+}
+
+/// Random texts of up to 99 characters, of which half are letters.
+#[test]
+fn random_texts(rt: HostRuntime) {
+    let alloc = rt.alloc();
+    let mut state = 1u32;
+    for round in 0..1_000usize {
+        let mut text = String::new(alloc);
+        for _ in 0..round % 100 {
+            state = state.wrapping_mul(1_664_525).wrapping_add(1_013_904_223);
+            let which = (state >> 16) as usize % 96;
+            text.push(CHARACTERS.get(which).copied().unwrap_or('a'))
+                .expect(&rt, "memory");
+        }
+        expect_comment(&rt, alloc, text.as_str());
+        expect_view(&rt, alloc, text.as_str(), 4_096);
+        expect_view(&rt, alloc, text.as_str(), 48);
+    }
+}
