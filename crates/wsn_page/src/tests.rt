@@ -64,14 +64,19 @@ fn expect_rooms(rt: &impl Abort, settings: &Settings, is_capture: bool) {
     assert!(rt; text.len() > 300);
     for size in 0..text.len() {
         let mut room = [0; LARGE];
-        let (scratch, output) = (&mut scratch[..size], &mut room[..size]);
+        let scratch = scratch
+            .get_mut(..size)
+            .expect(rt, "a scratch that is larger");
+        let output = room.get_mut(..size).expect(rt, "a room that is larger");
         let answer = called(settings, is_capture, scratch, output, &mut message);
         assert_eq!(rt; (answer.output, answer.status), (size, 2));
-        assert_eq!(rt; Some(&room[..size]), text.get(..size));
-        assert_eq!(rt;
-            message.get(..answer.message),
-            Some(b"write failed\n".as_slice())
-        );
+        let output = room.get(..size).expect(rt, "a room that is larger");
+        let prefix = text.get(..size).expect(rt, "a prefix of the text");
+        assert_eq!(rt; output, prefix);
+        let said = message
+            .get(..answer.message)
+            .expect(rt, "a message that fits");
+        assert_eq!(rt; said, b"write failed\n".as_slice());
     }
 }
 
