@@ -12,6 +12,7 @@ use wsn_doubles::vectors::greatest;
 use wsn_doubles::writers::{Full, Narrow};
 use wsn_job::{Format, Job};
 use wsn_rules::Detail;
+use wsn_show::Style;
 use wsn_wire::{Output, Role};
 
 /// A text of 120 quotation marks, a text with hidden characters, a comment of 300 characters, of which some are hidden, a
@@ -63,16 +64,29 @@ fn expect_rooms(rt: &impl Abort, alloc: Global, job: &Job, input: &[u8])
     }
 }
 
+/// Events and frames, as words and as objects.
+fn styles(rt: &impl Abort) -> [Style; 4] {
+    [
+        events_of(rt, 4_096),
+        style_of(rt, 48, Detail::Frames),
+        objects_of(rt, Detail::Events),
+        objects_of(rt, Detail::Frames),
+    ]
+}
+
 #[test]
-fn what_is_shown_fills_every_room(rt: HostRuntime) {
+fn a_shown_capture_fills_every_room(rt: HostRuntime) {
     let alloc = rt.alloc();
-    for style in [
-        events_of(&rt, 4_096),
-        style_of(&rt, 48, Detail::Frames),
-        objects_of(&rt, Detail::Events),
-        objects_of(&rt, Detail::Frames),
-    ] {
-        expect_rooms(&rt, alloc, &Job::Show(greatest(), style), CAPTURE);
+    for style in styles(&rt) {
+        let job = Job::Show(greatest(), style);
+        expect_rooms(&rt, alloc, &job, CAPTURE);
+    }
+}
+
+#[test]
+fn a_shown_stream_fills_every_room(rt: HostRuntime) {
+    let alloc = rt.alloc();
+    for style in styles(&rt) {
         let job = Job::ShowStream(Role::Server, greatest(), style);
         expect_rooms(&rt, alloc, &job, STREAM);
     }
