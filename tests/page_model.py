@@ -121,7 +121,7 @@ def outcome(report):
     for side, other in ("client", "server"), ("server", "client"):
         state = sides[side]
         if state["state"] == "refused":
-            words.append(f"The {other} must refuse byte {state['offset']} of what the {side} sent: {state['reason']}")
+            words.append(f"{other} must refuse byte {state['offset']} of what the {side} sent: {state['reason']}")
             words.append(f"It should close with code {state['code']}")
         if kind == "abnormal" and state["state"] in ("ended", "cut"):
             both = sides[other]["state"] == state["state"]
