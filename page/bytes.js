@@ -90,9 +90,11 @@ function byteView(session, view) {
     const from = Math.max(view.from, end - MORE_BYTES), words = count(end - from, "byte");
     const label = `Show the ${words} before${from > view.from ? ` of ${number(end - view.from)}` : ""}`;
     const more = button(label, () => {
+      const below = box.scrollHeight - box.scrollTop;
       more.replaceWith(...byteLines(session, view, from, end, width));
       before(from);
       box.focus({ preventScroll: true });
+      box.scrollTop = box.scrollHeight - below; // What was in view stays there.
     }, "more");
     top.after(more);
   };

@@ -93,7 +93,7 @@ function eventDetails(session, row) {
 function refusedViews(session, row, frame, bad) {
   const side = row.side, to = Math.min(row.place + 1 + AFTER, session.sent[side].length);
   const wrong = bad?.offsets ?? [], views = [];
-  const add = (view, red) => views.push({ side, wrong, ...view, start: Math.max(view.from, red - SEEN_BYTES) });
+  const add = (view, red) => views.push({ side, wrong, red, ...view, start: Math.max(view.from, red - SEEN_BYTES) });
   const parts = bad ? bad.frames.filter(each => each.offset < row.offset) : [];
   for (const each of parts) {
     const red = wrong.find(offset => offset >= each.offset && offset < each.end);
@@ -104,9 +104,8 @@ function refusedViews(session, row, frame, bad) {
   return views;
 }
 
-/** The title of a view: from which offset its bytes are, and those that are drawn at first. */
-function viewTitle(view) {
-  return heading(`Bytes from offset ${view.start}`);
+function viewTitle({ from, start, red }) {
+  return heading(start > from ? `Bytes around offset ${red}` : `Bytes from offset ${from}`);
 }
 
 function refusedDetails(session, row) {

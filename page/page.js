@@ -52,7 +52,7 @@ function switchTheme() {
 function wordsOf(session, row) {
   if (row.words !== undefined) return row.words;
   const { type, event, opcode, code, reason, hex } = row;
-  const text = type === "fragment" ? fragmentWords(session, row) : row.text;
+  const text = type === "fragment" ? fragmentWords(session, row) : type === "refused" ? refusedWords(session, row) : row.text;
   const words = [type, event, opcode, code, reason, text, hex, hex && pairs(hex)];
   row.words = words.filter(Boolean).join("\n").toLowerCase();
   return row.words;

@@ -4,6 +4,7 @@
 const TEXT_REASONS = new Set(["text-bad", "text-cut", "close-reason"]);
 const SEEN_BYTES = 32; // The bytes before a red one that are shown at first, and of the text behind it.
 const ROW_BYTES = 24; // The same in a row.
+const SEARCHED_BYTES = 2048; // The bytes of a refused text that a search looks in.
 
 /** How many bytes a character has that begins with a byte; 0 if none begins with it. */
 function sizeBy(byte) {
@@ -101,6 +102,14 @@ function characterText(session, bad, before, after) {
   return { parts, hidden: from - start };
 }
 
+/** What a search finds of a refused text: what came up to its bad character, and that as escapes. */
+function refusedWords(session, row) {
+  const bad = badCharacter(session, row);
+  if (!bad) return "";
+  const front = session.unmasked(bad.frames, Math.max(bad.start, bad.at - SEARCHED_BYTES), bad.at);
+  return decoded(fromCharacter(front)) + Array.from(bad.bytes, byteEscape).join("");
+}
+
 /** A refused text: what came before its bad character, the end of it at first. */
 function characterBlock(session, bad) {
   const draw = before => characterText(session, bad, before, SEEN_BYTES);
@@ -112,6 +121,7 @@ function characterBlock(session, bad) {
     more.remove();
     block.replaceChildren(...draw(SEEN_BYTES + WHOLE_TEXT).parts);
     block.focus({ preventScroll: true });
+    block.scrollTop = block.scrollHeight;
   }, "more");
   return [title, more, block];
 }

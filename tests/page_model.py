@@ -42,13 +42,15 @@ def pairs(digits):
 def payload_fields(entry):
     """The fields of what an entry shows of its payload."""
     found = {}
+    if entry["type"] == "refused":
+        return found
     if "text" in entry:
         found["text"] = visible(cut(entry["text"]))
-    elif "hex" in entry and entry["type"] != "refused":
+    elif "hex" in entry:
         found["hex"] = pairs(entry["hex"][:CHARACTERS])
     elif entry["type"] == "event" and "reason" in entry:
         found["reason"] = visible(cut(entry["reason"]))
-    if "truncated" in entry and entry["type"] != "refused" and "code" not in entry:
+    if "truncated" in entry and "code" not in entry:
         found["truncated"] = " .."
     return found
 
