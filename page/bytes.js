@@ -116,7 +116,8 @@ function marksLegend(view) {
   const legend = make("p", isInnocent(view) ? "marks innocent" : "marks", make("span", "head", "head"));
   if (view.frame?.keyBytes) legend.append(" ", make("span", "key", "key"));
   if (view.frame) legend.append(" ", make("span", "payload", "payload"));
-  if (view.wrong?.some(offset => offset >= view.from && offset < view.to)) legend.append(" ", make("span", "wrong", "bad character"));
+  const isWrong = view.wrong?.some(offset => offset >= view.from && offset < view.to);
+  if (isWrong) legend.append(" ", make("span", "wrong", "bad character"));
   if (view.bad === undefined) return legend;
   if (!view.wrong?.includes(view.bad)) legend.append(" ", make("span", "bad", "offending byte"));
   legend.append(" ", make("span", "rest", "after it: not read"));

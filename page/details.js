@@ -79,11 +79,15 @@ function frameViews(session, frames) {
   return box;
 }
 
+/** What an entry's event is called. */
+function eventWords({ event }) {
+  return { text: "text message", binary: "binary message", close: "Close" }[event] ?? event;
+}
+
 function eventDetails(session, row) {
-  const what = { text: "text message", binary: "binary message", close: "Close" }[row.event] ?? row.event;
   const size = count(row.bytes, "byte") + (row.frames > 1 ? ` in ${number(row.frames)} frames` : "");
   return [
-    make("p", "", `The ${row.side} sent this ${what}, ${size}; complete in ${placeWords(row)}.`),
+    make("p", "", `The ${row.side} sent this ${eventWords(row)}, ${size}; complete in ${placeWords(row)}.`),
     ...payloadParts(session, row), frameTable(row.list), frameViews(session, row.list),
     ...(row.event === "close" && row.code ? explanations(session, row.code) : []),
   ];
@@ -125,7 +129,8 @@ function refusedDetails(session, row) {
 function unfinishedDetails(session, row) {
   const sent = session.sent[row.side], listed = session.frames[row.side], parts = [];
   const last = lastTime(session, row), when = last ? ` Its last byte came at ${last} s.` : "";
-  parts.push(make("p", "", `What the ${row.side} sent of it by ${placeWords(row)}.${when}`), ...payloadParts(session, row));
+  const place = make("p", "", `What the ${row.side} sent of it by ${placeWords(row)}.${when}`);
+  parts.push(place, ...payloadParts(session, row));
   if (row.list.length) parts.push(frameTable(row.list), frameViews(session, row.list));
   if (row.lacks === null) {
     const from = listed.length ? listed[listed.length - 1].end : 0, to = sent.length;

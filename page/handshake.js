@@ -15,7 +15,8 @@ function warningParts(text) {
   if (text === " accept is wrong") return ["the answer's ", make("code", "", "Sec-WebSocket-Accept"), " is wrong"];
   const [, what, name] = /^ (subprotocol|extension) ([^]+) was not offered$/.exec(text) ?? [];
   if (!what) return null;
-  return [`the server chose the ${what} `, make("code", "text", ...commentParts(name)), ", which the client didn't offer"];
+  const chosen = make("code", "text", ...commentParts(name));
+  return [`the server chose the ${what} `, chosen, ", which the client didn't offer"];
 }
 
 function warningsOf(session) {

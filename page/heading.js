@@ -59,5 +59,6 @@ function headingOf(session, go) {
   const verdict = make("section", `verdict ${isDoubtful ? "doubtful" : outcome}`, symbol,
     make("div", "", make("h1", "", titleOf(session)), ...sentences(session, go), about));
   symbol.setAttribute("aria-hidden", "true");
-  return [verdict, ...handshakeOf(session), make("div", "cards", ...SIDES.map(side => sideCard(session, side)), closingCard(session))];
+  const cards = make("div", "cards", ...SIDES.map(side => sideCard(session, side)), closingCard(session));
+  return [verdict, ...handshakeOf(session), cards];
 }

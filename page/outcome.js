@@ -5,7 +5,7 @@ const TITLES = {
   clean: "Closed cleanly", complete: "Closed by both sides", half: "Closed by one side", open: "Still open",
   abnormal: "Broke off without a Close",
 };
-const KINDS_OF_EVENTS = { text: "text message", binary: "binary message", close: "Close" };
+const OPEN_WORDS = "Nothing is wrong so far: no side has closed, and no direction has ended.";
 
 /** The first comment of a capture that has a form, as its expression finds it. */
 function commentLike(session, form) {
@@ -26,13 +26,16 @@ function refusedSides({ report }) {
   return SIDES.filter(side => report[side].state === "refused");
 }
 
-/** Whether a side is refused where a message begins whose first reserved bit is set, and no other one. */
-function isLikeCompressed({ report, sent }, side) {
+/**
+ * Whether a side is refused where a message begins whose first reserved bit is set, and no other one. Unless a comment
+ * says that compression was agreed on, the frame has the side's masking.
+ */
+function isLikeCompressed({ report, sent }, side, agreed) {
   const { reason, offset } = report[side];
   if (reason !== "reserved-bits") return false;
   const [first, second] = sent[side].slice(offset, offset + 2), opcode = first & 15;
-  const isMasked = second === undefined ? side === "client" : second > 127;
-  return (first & 0x70) === 0x40 && (opcode === 1 || opcode === 2) && isMasked === (side === "client");
+  const isLawful = agreed || second === undefined || (second > 127) === (side === "client");
+  return (first & 0x70) === 0x40 && (opcode === 1 || opcode === 2) && isLawful;
 }
 
 /**
@@ -42,10 +45,11 @@ function isLikeCompressed({ report, sent }, side) {
 function doubts(session) {
   const { report } = session, isAt1 = (side, reason) => report[side].offset === 1 && report[side].reason === reason;
   const isInflated = commentLike(session, /^ inflated,/);
+  const agreed = Boolean(commentLike(session, /^ extensions: .*permessage-deflate/));
   return {
     exchanged: isAt1("client", "mask-missing") && isAt1("server", "mask-present"),
-    compressed: isInflated ? [] : SIDES.filter(side => isLikeCompressed(session, side)),
-    agreed: Boolean(commentLike(session, /^ extensions: .*permessage-deflate/)),
+    compressed: isInflated ? [] : SIDES.filter(side => isLikeCompressed(session, side, agreed)),
+    agreed,
   };
 }
 
@@ -94,7 +98,7 @@ function missingWords(session, entry) {
 /** What is unfinished, as the place in which a connection broke off. */
 function insideWords(session, entry) {
   if (entry.event === "head") return "inside a frame's head";
-  const what = entry.event === "text" || entry.event === "binary" ? "message" : KINDS_OF_EVENTS[entry.event] ?? entry.event;
+  const what = MESSAGES.has(entry.event) ? "message" : eventWords(entry);
   return `inside a ${what}${missingWords(session, entry)}`;
 }
 
@@ -104,7 +108,8 @@ function breakTitle(session) {
   const { side, verb } = found, peer = other(side), began = `The ${side} ${verb} the connection`;
   if (report[side].state === "cut") return `${began} ${insideWords(session, unfinishedOf(session, side))}`;
   const cut = report[peer].state === "cut" && insideWords(session, unfinishedOf(session, peer));
-  if (cut) return verb === "reset" ? `${began} while the ${peer} was ${cut}` : `${began} without a Close, then the ${peer} ${cut}`;
+  if (cut && verb === "reset") return `${began} while the ${peer} was ${cut}`;
+  if (cut) return `${began} without a Close, then the ${peer} ${cut}`;
   return report[side].state === "closed" ? `${began} after its Close` : `${began} without a Close`;
 }
 
@@ -143,11 +148,11 @@ function compressedSentence(session) {
   const prevents = [" undoes it; ", code("recipes/record --plain"), " records a session without it."];
   const isRefused = SIDES.some(side => session.report[side].reason === "reserved-bits");
   if (agreed && isRefused)
-    return [make("p", "", "A comment in the capture says that the session is compressed, and compression isn't read here: ",
-      undo(""), ...prevents)];
+    return [make("p", "", "A comment in the capture says that the session is compressed, and compression isn't read ",
+      "here: ", undo(""), ...prevents)];
   if (!compressed.length) return [];
-  const bit = `The first reserved bit is set where ${compressed.length > 1 ? "messages begin" : "a message begins"}, as `;
-  const ask = "permessage-deflate sets it; no comment in the capture says whether that was agreed on. If so, ";
+  const bit = `The first reserved bit is set where ${compressed.length > 1 ? "messages begin" : "a message begins"}, `;
+  const ask = "as permessage-deflate sets it; no comment in the capture says whether that was agreed on. If so, ";
   return [make("p", "", bit, ask, undo("--extensions permessage-deflate "), ...prevents)];
 }
 
@@ -195,7 +200,7 @@ function unfinishedSentences(session, side) {
   return session.entries.filter(entry => isRead && entry.type === "unfinished" && entry.side === side).map(entry => {
     const time = lastTime(session, entry), last = time ? `, the last byte at ${time} s` : "";
     if (entry.event === "head") return make("p", "", `Of the ${side}'s next frame a part of the head came${last}.`);
-    const what = `The ${side}'s ${KINDS_OF_EVENTS[entry.event] ?? entry.event} from offset ${entry.offset} is unfinished`;
+    const what = `The ${side}'s ${eventWords(entry)} from offset ${entry.offset} is unfinished`;
     return make("p", "", `${what}: ${count(entry.bytes, "byte")} of it came${last}${missingWords(session, entry)}.`);
   });
 }
@@ -216,6 +221,6 @@ function sentences(session, go) {
     case "clean": case "complete": return [make("p", "", closedSentence(session))];
     case "abnormal": return [make("p", "", brokenSentence(session)), ...unfinished()];
     case "half": return [make("p", "", halfSentence(session)), ...unfinished()];
-    default: return [make("p", "", "Nothing is wrong so far: no side has closed, and no direction has ended."), ...unfinished()];
+    default: return [make("p", "", OPEN_WORDS), ...unfinished()];
   }
 }

@@ -52,7 +52,7 @@ function switchTheme() {
 function wordsOf(session, row) {
   if (row.words !== undefined) return row.words;
   const { type, event, opcode, code, reason, hex } = row;
-  const text = type === "fragment" ? fragmentWords(session, row) : type === "refused" ? refusedWords(session, row) : row.text;
+  const text = ({ fragment: fragmentWords, refused: refusedWords })[type]?.(session, row) ?? row.text;
   const words = [type, event, opcode, code, reason, text, hex, hex && pairs(hex)];
   row.words = words.filter(Boolean).join("\n").toLowerCase();
   return row.words;
@@ -178,8 +178,8 @@ let laidOut = null; // Ends what listens for the session that is laid out.
 
 function footerOf(session) {
   const made = `Made by ${session.version}: frames, refusals, the seven facts and the outcome are what its `;
-  const more = " says. Where a bad character begins, what looks compressed or exchanged, who broke off, and the handshake are "
-    + "read from the bytes and comments by this page. It holds the capture, and fetches nothing.";
+  const more = " says. Where a bad character begins, what looks compressed or exchanged, who broke off, and the "
+    + "handshake are read from the bytes and comments by this page. It holds the capture, and fetches nothing.";
   return make("footer", "", made, make("code", "", "wsn show --json"), more);
 }
 

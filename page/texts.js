@@ -89,7 +89,7 @@ function characterSentence(side, bad) {
     : [...parts, ", which ", code(digits(bad.next)), " can't follow."];
 }
 
-/** A refused text around its bad character, which is marked: some bytes before it, and after it what came and isn't read. */
+/** A refused text around its bad character, which is marked: bytes before it, and bytes after it, which aren't read. */
 function characterText(session, bad, before, after) {
   const { frames, start, at, bytes } = bad, from = Math.max(start, at - before);
   const end = at + bytes.length, sum = frames.reduce((all, frame) => all + frame.length, 0);
