@@ -211,13 +211,20 @@ function resetSentence(session) {
   return found ? [make("p", "", `The ${found[1]} reset the connection.`)] : [];
 }
 
+/** What is said of refused sides: those at fault first, then what others may be refused for, and what to do. */
+function failedSentences(session, go) {
+  const faulty = sidesAtFault(session), others = refusedSides(session).filter(side => !faulty.includes(side));
+  const refusals = sides => sides.map(side => refusalSentence(session, side, go));
+  const advice = [...exchangedSentence(session), ...compressedSentence(session)];
+  return [...refusals(faulty), ...advice, ...refusals(others), ...resetSentence(session)];
+}
+
 /** The outcome in sentences. */
 function sentences(session, go) {
-  const { outcome } = session.report, refused = refusedSides(session);
+  const { outcome } = session.report;
   const unfinished = () => SIDES.flatMap(side => unfinishedSentences(session, side));
   switch (outcome) {
-    case "failed": return [...exchangedSentence(session), ...compressedSentence(session),
-      ...refused.map(side => refusalSentence(session, side, go)), ...resetSentence(session)];
+    case "failed": return failedSentences(session, go);
     case "clean": case "complete": return [make("p", "", closedSentence(session))];
     case "abnormal": return [make("p", "", brokenSentence(session)), ...unfinished()];
     case "half": return [make("p", "", halfSentence(session)), ...unfinished()];

@@ -203,7 +203,8 @@ function layOut(parts, save = SAVE) {
     if (!ladder.go(row)) { filter.clear(); ladder.go(row); }
     ladder.toggle(row, true);
   };
-  const refusal = side => rows.find(row => row.type === "refused" && (!side || row.side === side));
+  const refusal = (...sides) => rows.find(row => row.type === "refused" && sides.includes(row.side));
+  const first = refusal(...sidesAtFault(session)) ?? refusal(...SIDES);
   const named = () => rows.find(row => row.name && `#${row.name}` === location.hash);
   const heading = headingOf(session, side => visit(refusal(side)));
   document.getElementById("page").replaceChildren(
@@ -212,7 +213,7 @@ function layOut(parts, save = SAVE) {
   filter.apply();
   globalKeys(filter, ladder, signal);
   addEventListener("hashchange", () => { if (named()) visit(named()); }, { signal });
-  if (named()) visit(named()); else if (refusal()) ladder.toggle(refusal(), true);
+  if (named()) visit(named()); else if (first) ladder.toggle(first, true);
 }
 
 /** What the page holds of a session: the capture's text, a character for each byte, and what the program said of it. */
