@@ -28,7 +28,8 @@ one \xc2\x85 hidden character \xef\xbb\xbf more, and some that aren't: \xc3\xbc\
 S 880703e822226f6b22\n";
 
 /// A server's frames, empty ones among them: pings, an empty text, fragments, and texts.
-const STREAM: &[u8] = b"\x89\x00\x81\x00\x89\x02hi\x01\x01a\x00\x00\x89\x00\x80\x01b\x81\x05hello\x8a\x00\x8a\x00\
+const STREAM: &[u8] =
+    b"\x89\x00\x81\x00\x89\x02hi\x01\x01a\x00\x00\x89\x00\x80\x01b\x81\x05hello\x8a\x00\x8a\x00\
 \x82\x03\x00\x01\x02\x81\x7e\x00\x7eaaaaaaaaaaaaaaaaaaaaaaaaaaaaaaaaaaaaaaaaaaaaaaaaaaaaaaaaaaaaaaaaaaaaaaaaaaaaaa\
 aaaaaaaaaaaaaaaaaaaaaaaaaaaaaaaaaaaaaaaaaaaaaaaa\x89\x00\x81\x00\x81\x00\x88\x02\x03\xe8";
 

@@ -197,20 +197,20 @@ fn take_event(
 }
 
 /// Whether a whole payload, unmasked, is valid in a final frame while no message is open (RFC 6455 section 8.1). Only a
-/// text's payload is looked at; no Close is taken.
+/// text's is looked at.
 #[inline(always)]
 #[tactic(none)]
 fn is_valid(first: FirstByte, payload: &[u8]) -> bool
-    requires { 0 < length payload.now }
+    requires some { 0 < length payload.now }
+    requires no_close { first.op ≢ Op.Close }
     ensures { result ≡ true → first.fin ≡ true → (group : List Frame) → IsOpenMessage None group
         → (first.op ≡ Op.Continue → group ≢ []) → ((first.op ≡ Op.Text) ⊎ (first.op ≡ Op.Binary) → group ≡ [])
         → (check : PayloadCheck) × (next : PayloadCheck) × HasChecked group (first_byte first.fin first.op) check []
         × IsChecked group (first_byte first.fin first.op) (length payload.now) [] payload.now (Ok next) }
 {
-    let mut check = PayloadCheck::new(first, None);
     match first.op {
-        Op::Text => check.take(payload, true, true),
-        _ => matches!(check, PayloadCheck::Free),
+        Op::Text => PayloadCheck::new(first, None).take(payload, true, true),
+        _ => true,
     }
 }
 

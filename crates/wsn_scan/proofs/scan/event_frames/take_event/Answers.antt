@@ -2,7 +2,7 @@ use Rattle.std.proofs.Common.{◌≡◌, ◌+◌, ◌-◌, ◌<◌, ◌≤◌, �
 use Rattle.std.proofs.lemmas.List.{length-take-le}
 use borrow.Rule.Slice.PartMut.{mid_of, mid_len, put_mid}
 use Rattle.wsn_wire.specs.Frame.{IsBytes, first_byte}
-use Rattle.wsn_wire.proofs.FrameLemmas.{first_byte_fields, IsBytes-right}
+use Rattle.wsn_wire.proofs.FrameLemmas.{IsBytes-right}
 use Rattle.wsn_frame.specs.declared.open_message.OpenMessage.{OpenMessage}
 use Rattle.wsn_rules.specs.Group.{unfinished}
 use Rattle.wsn_frame.specs.OpenMessages.{IsOpenMessage}
@@ -192,7 +192,7 @@ pub slice_bounds-is_valid-end : goal.slice_bounds-is_valid-end
 slice_bounds-is_valid-end c = search rules
 
 pub is_valid-requires : goal.is_valid-requires
-is_valid-requires c = search rules
+is_valid-requires c = record { some = search rules; no_close = (c.is_plain.ensures c.if-not-is_plain.false).1 }
 
 pub slice_bounds-clear_key-end : goal.slice_bounds-clear_key-end
 slice_bounds-clear_key-end c = search rules
