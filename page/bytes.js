@@ -3,13 +3,19 @@
 const FIRST_BYTES = 1024; // The bytes that are drawn at first.
 const MORE_BYTES = 16384;
 
-/** What a byte of a view is: in a head, a key, a payload, or none of these; the offending one is marked too. */
+/** What a byte of a view is: in a head, a key, a payload, or none of these; the red ones are marked too. */
 function markAt(view, offset) {
   const frame = view.frame;
+  if (view.wrong?.includes(offset)) return offset === view.bad ? "wrong bad" : "wrong";
   if (offset === view.bad) return "bad";
   if (view.bad !== undefined && offset > view.bad) return "rest";
   if (!frame) return offset < view.payloadAt ? "head" : "none";
   return offset < frame.keyAt ? "head" : offset < frame.payloadAt ? "key" : "payload";
+}
+
+/** Whether the offending byte may be right, since it only shows that the bytes before it are no character. */
+function isInnocent({ wrong, bad }) {
+  return Boolean(wrong?.length) && !wrong.includes(bad);
 }
 
 /** A run of bytes of one mark after the other, as spans with a class each. */
@@ -32,15 +38,15 @@ class Runs {
   }
 }
 
-/** One line of a view: cells of hexadecimal, and one of characters. */
-function byteLine(view, bytes, at, width) {
+/** One line of a view, the bytes from an offset on: cells of hexadecimal, and one of characters. */
+function byteLine(view, bytes, from, width) {
   const cells = ["raw", ...(view.frame?.keyBytes ? ["plain"] : []), "chars"].map(name => make("span", name));
   const runs = cells.map(cell => new Runs(cell)), key = view.frame?.keyBytes, last = runs.length - 1;
-  for (let column = 0; column < width && at + column < bytes.length; column++) {
-    const offset = view.from + at + column, mark = markAt(view, offset), byte = bytes[at + column];
+  for (let column = 0; column < bytes.length; column++) {
+    const offset = from + column, mark = markAt(view, offset), byte = bytes[column];
     const inPayload = !view.frame || (offset >= view.frame.payloadAt && offset < view.frame.end);
     const shown = key && inPayload ? byte ^ key[(offset - view.frame.payloadAt) % 4] : byte;
-    const next = column + 1 < width && at + column + 1 < bytes.length ? markAt(view, offset + 1) : "";
+    const next = column + 1 < bytes.length ? markAt(view, offset + 1) : "";
     const gap = column === width / 2 - 1 ? "  " : " ";
     const put = (run, text, as) => { run.put(text, as); run.put(gap, next === as ? as : ""); };
     put(runs[0], digits(byte), mark);
@@ -48,15 +54,28 @@ function byteLine(view, bytes, at, width) {
     runs[last].put(inPayload && isPlain([shown]) ? String.fromCharCode(shown) : "·", inPayload ? mark : "none");
   }
   for (const run of runs) run.flush();
-  return make("div", "byteline", make("span", "at", String(view.from + at)), ...cells);
+  return make("div", "byteline", make("span", "at", String(from)), ...cells);
+}
+
+/** The lines of a view from one offset to another. Those before its start end there, so the first one may be short. */
+function byteLines(session, view, from, to, width) {
+  const bytes = session.sent[view.side].slice(from, to), lines = [], start = view.start ?? view.from;
+  for (let at = from; at < from + bytes.length;) {
+    const next = at < start ? start - width * Math.ceil((start - at) / width) + width : at + width;
+    lines.push(byteLine(view, bytes.subarray(at - from, next - from), at, width));
+    at = next;
+  }
+  return lines;
 }
 
 /**
  * A view of a side's bytes. `view` has side, from, to; the frame that they belong to, if it is listed; without a frame,
- * payloadAt, before which bytes count as a head; bad, the offset of the offending byte.
+ * payloadAt, before which bytes count as a head; bad, the offset of the offending byte; wrong, those of the bytes of a
+ * bad character; start, the offset of the first byte that is drawn at first.
  */
 function byteView(session, view) {
-  const box = make("div", "bytes"), width = matchMedia("(max-width: 760px)").matches ? 8 : 16;
+  const width = matchMedia("(max-width: 760px)").matches ? 8 : 16, start = view.start ?? view.from;
+  const box = make("div", isInnocent(view) ? "bytes innocent" : "bytes");
   const titles = ["as sent", ...(view.frame?.keyBytes ? ["unmasked"] : []), "characters"];
   const names = ["raw", ...(titles.length > 2 ? ["plain"] : []), "chars"];
   box.style.setProperty("--columns", width);
@@ -64,29 +83,43 @@ function byteView(session, view) {
   box.setAttribute("role", "group");
   box.setAttribute("aria-label", `Bytes ${view.from} to ${view.to - 1} of the ${view.side}`);
   const cells = titles.map((title, at) => make("span", names[at], title));
-  box.append(make("div", "byteline titles", make("span", "at", "offset"), ...cells));
-  let drawn = 0;
-  const draw = most => {
-    const until = Math.min(view.to - view.from, drawn + most);
-    const bytes = session.sent[view.side].slice(view.from, view.from + until);
-    for (; drawn < bytes.length; drawn += width) box.append(byteLine(view, bytes, drawn, width));
-    drawn = Math.min(drawn, bytes.length);
-    const left = view.to - view.from - until;
+  const top = make("div", "byteline titles", make("span", "at", "offset"), ...cells);
+  box.append(top);
+  const before = end => {
+    if (end <= view.from) return;
+    const from = Math.max(view.from, end - MORE_BYTES), words = count(end - from, "byte");
+    const label = `Show the ${words} before${from > view.from ? ` of ${number(end - view.from)}` : ""}`;
+    const more = button(label, () => {
+      const below = box.scrollHeight - box.scrollTop;
+      more.replaceWith(...byteLines(session, view, from, end, width));
+      before(from);
+      box.focus({ preventScroll: true });
+      box.scrollTop = box.scrollHeight - below; // What was in view stays there.
+    }, "more");
+    top.after(more);
+  };
+  before(start);
+  const draw = (from, most) => {
+    const to = Math.min(view.to, from + most), left = view.to - to;
+    box.append(...byteLines(session, view, from, to, width));
     if (left <= 0) return;
     const label = `Show ${count(Math.min(left, MORE_BYTES), "more byte")} of ${number(left)}`;
-    const more = button(label, () => { more.remove(); draw(MORE_BYTES); }, "more");
+    const more = button(label, () => { more.remove(); draw(to, MORE_BYTES); }, "more");
     box.append(more);
   };
-  draw(FIRST_BYTES);
+  draw(start, FIRST_BYTES);
   return box;
 }
 
 /** What the marks in a view mean. */
 function marksLegend(view) {
-  const legend = make("p", "marks", make("span", "head", "head"));
+  const legend = make("p", isInnocent(view) ? "marks innocent" : "marks", make("span", "head", "head"));
   if (view.frame?.keyBytes) legend.append(" ", make("span", "key", "key"));
   if (view.frame) legend.append(" ", make("span", "payload", "payload"));
+  const isWrong = view.wrong?.some(offset => offset >= view.from && offset < view.to);
+  if (isWrong) legend.append(" ", make("span", "wrong", "bad character"));
   if (view.bad === undefined) return legend;
-  legend.append(" ", make("span", "bad", "offending byte"), " ", make("span", "rest", "after it: not read"));
+  if (!view.wrong?.includes(view.bad)) legend.append(" ", make("span", "bad", "offending byte"));
+  legend.append(" ", make("span", "rest", "after it: not read"));
   return legend;
 }

@@ -3,7 +3,7 @@
 const WHOLE_TEXT = 65536; // The bytes of a text that are shown as text.
 const FIRST_FRAMES = 16; // The frames of a message whose bytes are shown at first.
 const LISTED_FRAMES = 500; // The frames of a message that are listed.
-const AROUND = 64; // The bytes before an offending byte that are shown, if its frame began long before.
+const AFTER = 32; // The bytes after an offending byte that are shown.
 
 function heading(text, ...more) {
   return make("h3", "", text, ...more);
@@ -79,42 +79,58 @@ function frameViews(session, frames) {
   return box;
 }
 
+/** What an entry's event is called. */
+function eventWords({ event }) {
+  return { text: "text message", binary: "binary message", close: "Close" }[event] ?? event;
+}
+
 function eventDetails(session, row) {
-  const what = { text: "text message", binary: "binary message", close: "Close" }[row.event] ?? row.event;
   const size = count(row.bytes, "byte") + (row.frames > 1 ? ` in ${number(row.frames)} frames` : "");
   return [
-    make("p", "", `The ${row.side} sent this ${what}, ${size}; complete in ${placeWords(row)}.`),
+    make("p", "", `The ${row.side} sent this ${eventWords(row)}, ${size}; complete in ${placeWords(row)}.`),
     ...payloadParts(session, row), frameTable(row.list), frameViews(session, row.list),
     ...(row.event === "close" && row.code ? explanations(session, row.code) : []),
   ];
 }
 
-/** The views of a refused frame: around the offending byte, and of the frame's begin if that is far before. */
-function refusedViews(session, row, frame) {
-  const side = row.side, to = Math.min(row.place + 1 + AROUND / 2, session.sent[side].length);
-  const common = { side, frame, bad: row.place, payloadAt: row.place + 1 };
-  if (row.place - row.offset < 8 * AROUND) return [{ ...common, from: row.offset, to }];
-  return [{ ...common, from: row.offset, to: row.offset + AROUND }, { ...common, from: row.place - AROUND, to }];
+/** The views of a refused frame's bytes, and before it one of the frame in which its bad character begins. */
+function refusedViews(session, row, frame, bad) {
+  const side = row.side, to = Math.min(row.place + 1 + AFTER, session.sent[side].length);
+  const wrong = bad?.offsets ?? [], views = [];
+  const add = (view, red) => views.push({ side, wrong, red, ...view, start: Math.max(view.from, red - SEEN_BYTES) });
+  const parts = bad ? bad.frames.filter(each => each.offset < row.offset) : [];
+  for (const each of parts) {
+    const red = wrong.find(offset => offset >= each.offset && offset < each.end);
+    if (red !== undefined) add({ frame: each, from: each.offset, to: each.end }, red);
+  }
+  const red = Math.min(row.place, ...wrong.filter(offset => offset >= row.offset));
+  add({ frame, bad: row.place, payloadAt: row.place + 1, from: row.offset, to }, red);
+  return views;
+}
+
+function viewTitle({ from, start, red }) {
+  return heading(start > from ? `Bytes around offset ${red}` : `Bytes from offset ${from}`);
 }
 
 function refusedDetails(session, row) {
-  const listed = session.frameAt(row.side, row.offset);
+  const listed = session.frameAt(row.side, row.offset), bad = badCharacter(session, row);
   const frame = listed && row.place >= listed.payloadAt ? listed : undefined;
-  const hex = field("hex", "mono", (row.truncated ? ".." : "") + pairs(row.hex));
-  const seen = make("p", "", "Up to the offending byte: ", hex, frame?.keyBytes ? ", unmasked." : ".");
   const parts = [
     make("p", "", `In the frame at offset ${row.offset} of what the ${row.side} sent; ${placeWords(row)}. `
       + `The ${other(row.side)} should close with ${codeWords(session, row.code)}.`),
-    ...(row.hex ? [seen] : []), ...(listed ? [frameTable([listed])] : []),
+    ...(bad ? [make("p", "", ...characterSentence(row.side, bad)), ...characterBlock(session, bad)] : []),
+    ...(listed ? [frameTable([listed])] : []),
   ];
-  for (const view of refusedViews(session, row, frame))
-    parts.push(heading(`Bytes from offset ${view.from}`), marksLegend(view), byteView(session, view));
+  for (const view of refusedViews(session, row, frame, bad))
+    parts.push(viewTitle(view), marksLegend(view), byteView(session, view));
   return [...parts, ...explanations(session, row.reason)];
 }
 
 function unfinishedDetails(session, row) {
   const sent = session.sent[row.side], listed = session.frames[row.side], parts = [];
-  parts.push(make("p", "", `What the ${row.side} sent of it by ${placeWords(row)}.`), ...payloadParts(session, row));
+  const last = lastTime(session, row), when = last ? ` Its last byte came at ${last} s.` : "";
+  const place = make("p", "", `What the ${row.side} sent of it by ${placeWords(row)}.${when}`);
+  parts.push(place, ...payloadParts(session, row));
   if (row.list.length) parts.push(frameTable(row.list), frameViews(session, row.list));
   if (row.lacks === null) {
     const from = listed.length ? listed[listed.length - 1].end : 0, to = sent.length;

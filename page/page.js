@@ -52,7 +52,7 @@ function switchTheme() {
 function wordsOf(session, row) {
   if (row.words !== undefined) return row.words;
   const { type, event, opcode, code, reason, hex } = row;
-  const text = type === "fragment" ? fragmentWords(session, row) : row.text;
+  const text = ({ fragment: fragmentWords, refused: refusedWords })[type]?.(session, row) ?? row.text;
   const words = [type, event, opcode, code, reason, text, hex, hex && pairs(hex)];
   row.words = words.filter(Boolean).join("\n").toLowerCase();
   return row.words;
@@ -177,8 +177,9 @@ function globalKeys(filter, ladder, signal) {
 let laidOut = null; // Ends what listens for the session that is laid out.
 
 function footerOf(session) {
-  const made = `Made by ${session.version}: all that this page says is what its `;
-  const more = " says. It holds the capture, and fetches nothing.";
+  const made = `Made by ${session.version}: frames, refusals, the seven facts and the outcome are what its `;
+  const more = " says. Where a bad character begins, what looks compressed or exchanged, who broke off, and the "
+    + "handshake are read from the bytes and comments by this page. It holds the capture, and fetches nothing.";
   return make("footer", "", made, make("code", "", "wsn show --json"), more);
 }
 
@@ -202,7 +203,8 @@ function layOut(parts, save = SAVE) {
     if (!ladder.go(row)) { filter.clear(); ladder.go(row); }
     ladder.toggle(row, true);
   };
-  const refusal = side => rows.find(row => row.type === "refused" && (!side || row.side === side));
+  const refusal = (...sides) => rows.find(row => row.type === "refused" && sides.includes(row.side));
+  const first = refusal(...sidesAtFault(session)) ?? refusal(...SIDES);
   const named = () => rows.find(row => row.name && `#${row.name}` === location.hash);
   const heading = headingOf(session, side => visit(refusal(side)));
   document.getElementById("page").replaceChildren(
@@ -211,7 +213,7 @@ function layOut(parts, save = SAVE) {
   filter.apply();
   globalKeys(filter, ladder, signal);
   addEventListener("hashchange", () => { if (named()) visit(named()); }, { signal });
-  if (named()) visit(named()); else if (refusal()) ladder.toggle(refusal(), true);
+  if (named()) visit(named()); else if (first) ladder.toggle(first, true);
 }
 
 /** What the page holds of a session: the capture's text, a character for each byte, and what the program said of it. */

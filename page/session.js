@@ -3,6 +3,7 @@
 // program's; this only finds the frames that an entry names and the bytes at an offset.
 
 const SIDES = ["client", "server"];
+const DATA = new Set(["cont", "text", "binary"]);
 const other = side => side === "client" ? "server" : "client";
 
 /** The objects of JSON lines, or of an array with an object a line. A time is the text that the capture has. */
@@ -14,19 +15,26 @@ function objectsOf(text) {
   });
 }
 
-/** What one side sent: where each line's bytes begin, and where their digits are in the capture's text. */
+/** What one side sent: where each line's bytes begin, where their digits are in the capture's text, and when it was. */
 class SentBytes {
   constructor(capture) {
     this.capture = capture;
     this.starts = [];
     this.digits = [];
+    this.times = [];
     this.length = 0;
   }
 
-  add(from, to) {
+  add(from, to, time) {
     this.starts.push(this.length);
     this.digits.push(from);
+    this.times.push(time);
     this.length += (to - from) / 2;
+  }
+
+  /** The time of the byte at an offset, as the capture has it; nothing if it has none. */
+  timeAt(offset) {
+    return offset < 0 ? undefined : this.times[this.lineAt(offset)];
   }
 
   /** The number of the line that has the byte at an offset. */
@@ -50,15 +58,19 @@ class SentBytes {
   }
 }
 
+const TIME = /^# ((?:0|[1-9][0-9]*)\.[0-9]{1,9})$/; // A comment that is the time of the lines after it.
+
 /** The bytes of both sides of a capture's text. */
 function sentBytes(capture) {
   const sent = { client: new SentBytes(capture), server: new SentBytes(capture) };
+  let time;
   for (let at = 0; at < capture.length;) {
     let end = capture.indexOf("\n", at);
     if (end < 0) end = capture.length;
     const last = capture[end - 1] === "\r" ? end - 1 : end;
     const side = { C: sent.client, S: sent.server }[capture[at]];
-    if (side && capture[at + 1] === " ") side.add(at + 2, last);
+    if (side && capture[at + 1] === " ") side.add(at + 2, last, time);
+    if (capture[at] === "#") time = TIME.exec(capture.slice(at, last))?.[1] ?? time;
     at = end + 1;
   }
   return sent;
@@ -102,6 +114,39 @@ class Session {
     for (let at = first + 1; found.length < entry.frames && at < frames.length; at++)
       if (frames[at].opcode === "cont") found.push(frames[at]);
     return found;
+  }
+
+  /** The frames of the message that a frame is in, up to it; of a control frame, that frame. */
+  messageUpTo(frame) {
+    const listed = this.frames[frame.side], found = [frame];
+    for (let at = this.numbers[frame.side].get(frame.offset), of = frame; of.opcode === "cont" && at > 0;) {
+      of = listed[--at];
+      if (DATA.has(of.opcode)) found.push(of); else of = frame;
+    }
+    return found.reverse();
+  }
+
+  /** The bytes between two places in the payload of frames, unmasked, as many as came. */
+  unmasked(frames, from, to) {
+    const parts = [];
+    let start = 0;
+    for (const { side, payloadAt, length, keyBytes } of frames) {
+      const first = Math.max(0, from - start), last = Math.min(length, to - start);
+      const bytes = first < last ? this.sent[side].slice(payloadAt + first, payloadAt + last) : [];
+      for (let at = 0; at < bytes.length; at++) parts.push(bytes[at] ^ (keyBytes ? keyBytes[(first + at) % 4] : 0));
+      start += length;
+    }
+    return Uint8Array.from(parts);
+  }
+
+  /** The offset in what the side sent of a place in the payload of frames. */
+  offsetOf(frames, place) {
+    let start = 0;
+    for (const { payloadAt, length } of frames) {
+      if (place < start + length) return payloadAt + place - start;
+      start += length;
+    }
+    return undefined;
   }
 
   /** A frame's payload, as much of it as came, unmasked. */

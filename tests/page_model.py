@@ -11,6 +11,7 @@ HIDDEN = re.compile("[\x00-\x1f\x7f-\x9f\u061c\u200e\u200f\u2028-\u202e\u2066-\u
 SHORT = {"\n": "\\n", "\r": "\\r", "\t": "\\t"}
 CHARACTERS = 200  # The characters of a payload in a row.
 DATA = ("text", "binary", "cont")
+RESETS = (" reset by the client", " reset by the server")
 NAMED = ("place", "reason", "event", "lacks")
 
 
@@ -41,13 +42,15 @@ def pairs(digits):
 def payload_fields(entry):
     """The fields of what an entry shows of its payload."""
     found = {}
+    if entry["type"] == "refused":
+        return found
     if "text" in entry:
         found["text"] = visible(cut(entry["text"]))
-    elif "hex" in entry and entry["type"] != "refused":
+    elif "hex" in entry:
         found["hex"] = pairs(entry["hex"][:CHARACTERS])
     elif entry["type"] == "event" and "reason" in entry:
         found["reason"] = visible(cut(entry["reason"]))
-    if "truncated" in entry and entry["type"] != "refused" and "code" not in entry:
+    if "truncated" in entry and "code" not in entry:
         found["truncated"] = " .."
     return found
 
@@ -121,7 +124,7 @@ def outcome(report):
     for side, other in ("client", "server"), ("server", "client"):
         state = sides[side]
         if state["state"] == "refused":
-            words.append(f"The {other} must refuse byte {state['offset']} of what the {side} sent: {state['reason']}")
+            words.append(f"{other} must refuse byte {state['offset']} of what the {side} sent: {state['reason']}")
             words.append(f"It should close with code {state['code']}")
         if kind == "abnormal" and state["state"] in ("ended", "cut"):
             both = sides[other]["state"] == state["state"]
@@ -133,6 +136,43 @@ def outcome(report):
         words.append(f"The {report['first']} " + ("sent a Close" if kind == "half" else "closed first,"))
         words.append("without a code" if code is None else f"with code {code}")
     return words or ["Nothing is wrong so far"]
+
+
+def broke(shown, report):
+    """The begin of an abnormal session's headline: who broke off, by a comment or by the first end mark without a Close."""
+    resets = [entry["text"] for entry in shown if entry["type"] == "comment" and entry["text"] in RESETS]
+    ends = [entry["side"] for entry in shown if entry["type"] == "end" and report[entry["side"]]["state"] in ("ended", "cut")]
+    return f"The {resets[0][14:]} reset the connection" if resets else f"The {ends[0]} ended the connection"
+
+
+def bad_character(entry, wire, stream):
+    """The bytes of a refused text's bad character, and the offset of the first; nothing of what is refused for something else."""
+    if entry["type"] != "refused" or entry["reason"] not in ("text-bad", "text-cut", "close-reason"):
+        return None
+    found = []
+    for frame in wire:
+        if frame["type"] != "frame" or frame["side"] != entry["side"] or frame["offset"] > entry["offset"]:
+            continue
+        if frame["opcode"] == "close":
+            found = payload_of(frame, stream)[2:]
+        elif frame["opcode"] in DATA:
+            found = (found if frame["opcode"] == "cont" else []) + payload_of(frame, stream)
+    read = [(byte, offset) for byte, offset in found if offset <= entry["place"]]
+    try:
+        bytes(byte for byte, _ in read).decode()
+    except UnicodeDecodeError as error:
+        return bytes(byte for byte, _ in read[error.start : error.end]).hex(" "), read[error.start][1]
+    raise ValueError(f"{entry} is refused, and is a text")
+
+
+def payload_of(frame, stream):
+    """Each byte of a frame's payload, unmasked, with its offset in what the side sent."""
+    form = frame["form"]
+    size = 2 if form == "two" or (form == "shortest" and 126 <= frame["length"] < 65536) else 8
+    start = frame["offset"] + 2 + (0 if form == "shortest" and frame["length"] < 126 else size)
+    key = bytes.fromhex(frame["key"] or "00000000")
+    start += 4 if frame["key"] else 0
+    return [(byte ^ key[at % 4], start + at) for at, byte in enumerate(stream[start : start + frame["length"]])]
 
 
 def sent(capture):
@@ -149,13 +189,17 @@ def sent(capture):
 TEXTS = ["Hello", "", "€ 😀", '{"a":[1,{"b":"<i>"}]}', "</script><script>document.title='owned'</script>",
          "<!-- <script>", "line\nfeed\ttab\r", "\x1b[31m \u202e abc \u2066 \u2028", "x" * 199 + "😀😀",
          "שלום עולם", '"quoted" \\ back', "y" * 5000, "\ufeffmark"]  # fmt: skip
-COMMENTS = [" a comment", "", " </script><b>x</b>", " \u202e turned", " 1.", " reset by the server"]
+COMMENTS = [" a comment", "", " </script><b>x</b>", " \u202e turned", " 1.", " reset by the server", " path: /</dd><b>x"]
 FAULTS = [
     b"\xc1",
     b"\x83\x00",
     b"\x09\x00",
     b"\x80\x00",
     b"\x81\x05Gr\xfc\xdfe",
+    b"\x81\x06Ren\xe9 D",
+    b"\x01\x03a\xf0\x9f\x89\x00\x00\x01\x98\x80\x03\x28ok",
+    b"\x01\x02a\xe2\x80\x01\x82",
+    b"\x88\x05\x03\xe8\xed\xa0\x80",
     b"\x88\x01",
     b"\x88\x02\x03\xec",
     b"\x82\xff",

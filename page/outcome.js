@@ -1,0 +1,233 @@
+// How the session went, in words: a title, and sentences. What a comment or the first refused byte lets one suspect
+// (compression, sides exchanged, who broke off) is said beside what the program says, not in its place.
+
+const TITLES = {
+  clean: "Closed cleanly", complete: "Closed by both sides", half: "Closed by one side", open: "Still open",
+  abnormal: "Broke off without a Close",
+};
+const OPEN_WORDS = "Nothing is wrong so far: no side has closed, and no direction has ended.";
+
+/** The first comment of a capture that has a form, as its expression finds it. */
+function commentLike(session, form) {
+  for (const { type, text } of session.entries) {
+    const found = type === "comment" && form.exec(text);
+    if (found) return found;
+  }
+  return null;
+}
+
+/** A side's Close in words. */
+function withCode(session, state) {
+  return state.code === null ? "without a code" : `with code ${codeWords(session, state.code)}`;
+}
+
+/** Which sides are refused. */
+function refusedSides({ report }) {
+  return SIDES.filter(side => report[side].state === "refused");
+}
+
+/**
+ * Whether a side is refused where a message begins whose first reserved bit is set, and no other one. Unless a comment
+ * says that compression was agreed on, the frame has the side's masking.
+ */
+function isLikeCompressed({ report, sent }, side, agreed) {
+  const { reason, offset } = report[side];
+  if (reason !== "reserved-bits") return false;
+  const [first, second] = sent[side].slice(offset, offset + 2), opcode = first & 15;
+  const isLawful = agreed || second === undefined || (second > 127) === (side === "client");
+  return (first & 0x70) === 0x40 && (opcode === 1 || opcode === 2) && isLawful;
+}
+
+/**
+ * Why refused sides needn't be at fault: `exchanged`, each has the other's masking; else `compressed`, the sides that
+ * are refused where a compressed message would begin, and `agreed`, whether a comment says that compression is used.
+ */
+function doubts(session) {
+  const { report } = session, isAt1 = (side, reason) => report[side].offset === 1 && report[side].reason === reason;
+  const isInflated = commentLike(session, /^ inflated,/);
+  const agreed = Boolean(commentLike(session, /^ extensions: .*permessage-deflate/));
+  return {
+    exchanged: isAt1("client", "mask-missing") && isAt1("server", "mask-present"),
+    compressed: isInflated ? [] : SIDES.filter(side => isLikeCompressed(session, side, agreed)),
+    agreed,
+  };
+}
+
+/** The refused sides for which nothing but the side itself is at fault. */
+function sidesAtFault(session) {
+  const { exchanged, compressed } = doubts(session);
+  return exchanged ? [] : refusedSides(session).filter(side => !compressed.includes(side));
+}
+
+function faultTitle(session) {
+  const { exchanged, compressed, agreed } = doubts(session), faulty = sidesAtFault(session);
+  if (exchanged) return "The sides look exchanged";
+  const streams = compressed.length > 1 ? "Both streams look" : `The ${compressed[0]}'s stream looks`;
+  const words = agreed ? "The session is compressed" : `${streams} compressed`;
+  if (!faulty.length) return words;
+  const broke = faulty.length > 1 ? "Both sides are refused" : `The ${faulty[0]} broke the protocol`;
+  return compressed.length ? `${broke}; ${words[0].toLowerCase()}${words.slice(1)}` : broke;
+}
+
+/** Who broke the connection off, and whether by a reset; nothing if no side ended without a Close. */
+function breakOf(session) {
+  const { report, entries } = session, isOpen = side => ["ended", "cut"].includes(report[side].state);
+  if (report.outcome !== "abnormal") return null;
+  const reset = commentLike(session, /^ reset by the (client|server)$/);
+  const side = reset?.[1] ?? entries.find(entry => entry.type === "end" && isOpen(entry.side))?.side;
+  return side && { side, verb: reset ? "reset" : "ended" };
+}
+
+/** What a side has begun and not finished; the last of it. */
+function unfinishedOf({ entries }, side) {
+  return entries.findLast(entry => entry.type === "unfinished" && entry.side === side);
+}
+
+function missing(bytes, of = "") {
+  return `${count(bytes, "byte")}${of} ${bytes === 1 ? "is" : "are"} missing`;
+}
+
+/** How many bytes are missing of what is unfinished, or what else. More fragments may be missing too. */
+function missingWords(session, entry) {
+  const frame = session.framesOf(entry).pop();
+  if (entry.lacks === null) return entry.event === "head" ? "" : "; of its next frame only a part of the head came";
+  if (entry.lacks === 0) return "; its final frame is missing";
+  return `; ${frame?.fin === false ? "at least " : ""}${missing(entry.lacks)}`;
+}
+
+/** What is unfinished, as the place in which a connection broke off. */
+function insideWords(session, entry) {
+  if (entry.event === "head") return "inside a frame's head";
+  const what = MESSAGES.has(entry.event) ? "message" : eventWords(entry);
+  return `inside a ${what}${missingWords(session, entry)}`;
+}
+
+function breakTitle(session) {
+  const found = breakOf(session), { report } = session;
+  if (!found) return TITLES.abnormal;
+  const { side, verb } = found, peer = other(side), began = `The ${side} ${verb} the connection`;
+  if (report[side].state === "cut") return `${began} ${insideWords(session, unfinishedOf(session, side))}`;
+  const cut = report[peer].state === "cut" && insideWords(session, unfinishedOf(session, peer));
+  if (cut && verb === "reset") return `${began} while the ${peer} was ${cut}`;
+  if (cut) return `${began} without a Close, then the ${peer} ${cut}`;
+  return report[side].state === "closed" ? `${began} after its Close` : `${began} without a Close`;
+}
+
+/** The outcome in a few words. */
+function titleOf(session) {
+  const { outcome } = session.report;
+  return outcome === "failed" ? faultTitle(session) : outcome === "abnormal" ? breakTitle(session) : TITLES[outcome];
+}
+
+/** What is said of a refused side; its offset leads to the row. */
+function refusalSentence(session, side, go) {
+  const state = session.report[side], peer = session.report[other(side)], { exchanged, compressed } = doubts(session);
+  const why = session.sentence(state.reason).replace("OFFSET", `offset ${state.offset}`);
+  const link = button(`byte ${state.offset}`, () => go(side), "link");
+  const closed = peer.code === state.code ? ", and did" : `; it closed ${withCode(session, peer)}`;
+  const did = peer.state === "closed" ? closed : "";
+  const sent = ` of what the ${side} sent: `, reason = make("b", "", state.reason);
+  const unless = exchanged ? "If they aren't, the" : compressed.includes(side) ? "Without an extension the" : "The";
+  const row = session.entries.find(entry => entry.type === "refused" && entry.side === side);
+  return make("p", "", `${unless} ${other(side)} must refuse `, link, sent, reason, why ? ` (${why})` : "",
+    `. It should close with code ${codeWords(session, state.code)}${did}.`, ...characterWords(session, row));
+}
+
+/** Where a refused text's bad character begins. */
+function characterWords(session, row) {
+  const bad = row && badCharacter(session, row);
+  if (!bad) return [];
+  const bytes = make("code", "", pairs(Array.from(bad.bytes, digits).join("")));
+  return [" The bad character, ", bytes, `, begins at offset ${bad.offsets[0]}.`];
+}
+
+/** What undoes compression, if a side is refused for it: by a comment of the capture, or by the look of it. */
+function compressedSentence(session) {
+  const { compressed, agreed } = doubts(session), code = text => make("code", "", text);
+  const undo = options => code(`recipes/inflate ${options}CAPTURE > inflated.capture`);
+  const prevents = [" undoes it; ", code("recipes/record --plain"), " records a session without it."];
+  const isRefused = SIDES.some(side => session.report[side].reason === "reserved-bits");
+  if (agreed && isRefused)
+    return [make("p", "", "A comment in the capture says that the session is compressed, and compression isn't read ",
+      "here: ", undo(""), ...prevents)];
+  if (!compressed.length) return [];
+  const bit = `The first reserved bit is set where ${compressed.length > 1 ? "messages begin" : "a message begins"}, `;
+  const ask = "as permessage-deflate sets it; no comment in the capture says whether that was agreed on. If so, ";
+  return [make("p", "", bit, ask, undo("--extensions permessage-deflate "), ...prevents)];
+}
+
+/** How to put sides right that are exchanged. */
+function exchangedSentence(session) {
+  if (!doubts(session).exchanged) return [];
+  const swap = make("code", "", "sed 's/^C/X/; s/^S/C/; s/^X/S/' CAPTURE > right.capture");
+  return [make("p", "", "The client's first frame has no masking key and the server's has one, as if each were the ",
+    "other's. To exchange them: ", swap, ".")];
+}
+
+function closedSentence(session) {
+  const { report } = session, first = report.first ?? "client", second = other(first);
+  const answer = report.echo ? "with the same" : withCode(session, report[second]);
+  const ends = report.outcome === "clean" ? "Both directions then ended." : "The capture lacks the end of a direction.";
+  const closed = `The ${first} closed first, ${withCode(session, report[first])}`;
+  return `${closed}, and the ${second} answered ${answer}. ${ends}`;
+}
+
+function brokenSentence(session) {
+  const words = { ended: "ended between two messages", cut: "ended inside a frame or a message" };
+  const { report } = session, closers = SIDES.filter(side => report[side].state === "closed");
+  const parts = SIDES.filter(side => words[report[side].state])
+    .map(side => `the ${side}'s direction ${words[report[side].state]}`);
+  if (report.client.state === report.server.state) parts.splice(0, 2, `both directions ${words[report.client.state]}`);
+  const closed = closers.map(side => ` The ${side} sent a Close ${withCode(session, report[side])}.`);
+  return `${capital(parts.join(", and "))}, without a Close.${closed.join("")}`;
+}
+
+function halfSentence(session) {
+  const side = session.report.first, sent = `The ${side} sent a Close ${withCode(session, session.report[side])}`;
+  return `${sent}; no answer of the ${other(side)} is in the capture.`;
+}
+
+/** When the last byte came of what is unfinished; nothing if the capture has no time of it. */
+function lastTime(session, entry) {
+  const sent = session.sent[entry.side], frame = session.framesOf(entry).pop();
+  const end = entry.lacks === 0 && frame ? frame.end : sent.length;
+  return sent.timeAt(end - 1);
+}
+
+/** What a side has begun and not finished, and when the last byte of it came. */
+function unfinishedSentences(session, side) {
+  const state = session.report[side].state, isRead = state !== "refused" && state !== "closed";
+  return session.entries.filter(entry => isRead && entry.type === "unfinished" && entry.side === side).map(entry => {
+    const time = lastTime(session, entry), last = time ? `, the last byte at ${time} s` : "";
+    if (entry.event === "head") return make("p", "", `Of the ${side}'s next frame a part of the head came${last}.`);
+    const what = `The ${side}'s ${eventWords(entry)} from offset ${entry.offset} is unfinished`;
+    return make("p", "", `${what}: ${count(entry.bytes, "byte")} of it came${last}${missingWords(session, entry)}.`);
+  });
+}
+
+/** Who reset the connection, where the title doesn't say it. */
+function resetSentence(session) {
+  const found = commentLike(session, /^ reset by the (client|server)$/);
+  return found ? [make("p", "", `The ${found[1]} reset the connection.`)] : [];
+}
+
+/** What is said of refused sides: those at fault first, then what others may be refused for, and what to do. */
+function failedSentences(session, go) {
+  const faulty = sidesAtFault(session), others = refusedSides(session).filter(side => !faulty.includes(side));
+  const refusals = sides => sides.map(side => refusalSentence(session, side, go));
+  const advice = [...exchangedSentence(session), ...compressedSentence(session)];
+  return [...refusals(faulty), ...advice, ...refusals(others), ...resetSentence(session)];
+}
+
+/** The outcome in sentences. */
+function sentences(session, go) {
+  const { outcome } = session.report;
+  const unfinished = () => SIDES.flatMap(side => unfinishedSentences(session, side));
+  switch (outcome) {
+    case "failed": return failedSentences(session, go);
+    case "clean": case "complete": return [make("p", "", closedSentence(session))];
+    case "abnormal": return [make("p", "", brokenSentence(session)), ...unfinished()];
+    case "half": return [make("p", "", halfSentence(session)), ...unfinished()];
+    default: return [make("p", "", OPEN_WORDS), ...unfinished()];
+  }
+}

@@ -1,0 +1,127 @@
+// A text that is refused: which bytes its bad character has and where, and what the text looks like. The offset of the
+// offending byte is the program's; the character begins at most three bytes before it.
+
+const TEXT_REASONS = new Set(["text-bad", "text-cut", "close-reason"]);
+const SEEN_BYTES = 32; // The bytes before a red one that are shown at first, and of the text behind it.
+const ROW_BYTES = 24; // The same in a row.
+const SEARCHED_BYTES = 2048; // The bytes of a refused text that a search looks in.
+
+/** How many bytes a character has that begins with a byte; 0 if none begins with it. */
+function sizeBy(byte) {
+  if (byte < 0x80) return 1;
+  return byte < 0xc2 || byte > 0xf4 ? 0 : byte < 0xe0 ? 2 : byte < 0xf0 ? 3 : 4;
+}
+
+/** How many bytes at the end of a text are of a character that isn't whole. What is before them is a text. */
+function incomplete(bytes) {
+  for (let some = 1; some <= Math.min(3, bytes.length); some++) {
+    const byte = bytes[bytes.length - some];
+    if (byte < 0x80 || byte > 0xbf) return sizeBy(byte) > some ? some : 0;
+  }
+  return 0;
+}
+
+/** Whether bytes are a text but for more bytes that may come. */
+function isTextSoFar(bytes) {
+  try {
+    new TextDecoder("utf-8", { fatal: true }).decode(bytes, { stream: true });
+    return true;
+  } catch {
+    return false;
+  }
+}
+
+/** A byte that is no text. */
+function byteEscape(byte) {
+  return `\\x${digits(byte)}`;
+}
+
+/** Bytes that needn't be a text, as parts: what is a text, and each other byte as an escape. */
+function looseText(bytes) {
+  const parts = [];
+  for (let at = 0; at < bytes.length;) {
+    const size = Math.max(1, sizeBy(bytes[at])), part = bytes.slice(at, at + size);
+    const isText = part.length === size && sizeBy(bytes[at]) && isTextSoFar(part);
+    parts.push(...isText ? visible(decoded(part), true) : [make("i", "escape", byteEscape(bytes[at]))]);
+    at += isText ? size : 1;
+  }
+  return parts;
+}
+
+/** The bytes of a text's end, without those of a character that began before them. */
+function fromCharacter(bytes) {
+  const first = bytes.findIndex(byte => byte < 0x80 || byte > 0xbf);
+  return first > 0 && first < 4 ? bytes.slice(first) : bytes;
+}
+
+/**
+ * What is known of a refused text, or of a Close's reason: `frames`, those of its message up to the refused one; `at`,
+ * the place in the message's payload where the bad character begins; `bytes`, those of the character; `offsets`, where
+ * they are in what the side sent; `next`, the byte that can't follow; without it the character is cut. Nothing if the
+ * refusal is for something else.
+ */
+function badCharacter(session, row) {
+  if (!TEXT_REASONS.has(row.reason)) return null;
+  const listed = session.frameAt(row.side, row.offset); // An empty frame isn't, if its head shows that a text is cut.
+  const frame = listed ?? session.frames[row.side].findLast(each => DATA.has(each.opcode) && each.offset < row.offset);
+  if (!frame) return null;
+  const frames = session.messageUpTo(frame), start = frame.opcode === "close" ? 2 : 0;
+  const after = listed ? frame.end - Math.max(row.place + 1, frame.payloadAt) : 0; // What isn't read of its payload.
+  const read = frames.reduce((sum, each) => sum + each.length, 0) - after;
+  const last = session.unmasked(frames, Math.max(start, read - 4), read), some = incomplete(last.slice(0, -1));
+  const isCut = row.reason === "text-cut" || (row.reason === "close-reason" && isTextSoFar(last.slice(-1 - some)));
+  const size = isCut ? incomplete(last) : Math.max(1, some), at = isCut ? read - size : read - 1 - some;
+  const bytes = session.unmasked(frames, at, at + size);
+  const offsets = Array.from(bytes, (_, place) => session.offsetOf(frames, at + place));
+  const next = isCut || !some ? undefined : last[last.length - 1];
+  return { frames, start, read, at, bytes, offsets, next, isCut };
+}
+
+/** Where a bad character begins, which bytes it has, and what is wrong with it. */
+function characterSentence(side, bad) {
+  const has = pairs(Array.from(bad.bytes, digits).join("")), what = bad.start ? "the Close" : "the message";
+  const place = `offset ${bad.offsets[0]} of what the ${side} sent, offset ${bad.at} in ${what}'s payload`;
+  const bytes = `${bad.bytes.length === 1 ? "byte" : "bytes"} `, code = text => make("span", "mono", text);
+  const parts = [`The bad character begins at ${place}, and has the ${bytes}`, code(has)];
+  const least = bad.bytes.length ? sizeBy(bad.bytes[0]) - bad.bytes.length : 0;
+  if (bad.isCut) return [...parts, `; ${what} ends there, and ${missing(least, " of the character")}.`];
+  return bad.next === undefined ? [...parts, ", with which no character begins."]
+    : [...parts, ", which ", code(digits(bad.next)), " can't follow."];
+}
+
+/** A refused text around its bad character, which is marked: bytes before it, and bytes after it, which aren't read. */
+function characterText(session, bad, before, after) {
+  const { frames, start, at, bytes } = bad, from = Math.max(start, at - before);
+  const end = at + bytes.length, sum = frames.reduce((all, frame) => all + frame.length, 0);
+  const front = session.unmasked(frames, from, at), rest = session.unmasked(frames, end, Math.min(sum, end + after));
+  const text = visible(decoded(from > start ? fromCharacter(front) : front), true);
+  const wrong = make("i", "escape wrong", ...Array.from(bytes, byteEscape));
+  const parts = [...from > start ? [make("span", "dim", "..")] : [], ...text, wrong];
+  const shown = looseText(rest);
+  if (shown.length) parts.push(make("span", "rest", ...shown, end + after < sum ? " .." : ""));
+  return { parts, hidden: from - start };
+}
+
+/** What a search finds of a refused text: what came up to its bad character, and that as escapes. */
+function refusedWords(session, row) {
+  const bad = badCharacter(session, row);
+  if (!bad) return "";
+  const front = session.unmasked(bad.frames, Math.max(bad.start, bad.at - SEARCHED_BYTES), bad.at);
+  return decoded(fromCharacter(front)) + Array.from(bad.bytes, byteEscape).join("");
+}
+
+/** A refused text: what came before its bad character, the end of it at first. */
+function characterBlock(session, bad) {
+  const draw = before => characterText(session, bad, before, SEEN_BYTES);
+  const { parts, hidden } = draw(SEEN_BYTES), block = make("pre", "payload", ...parts);
+  const title = heading(`${bad.start ? "Reason" : "Text"} around the bad character`);
+  if (!hidden) return [title, block];
+  block.tabIndex = -1;
+  const more = button(`Show the ${count(Math.min(hidden, WHOLE_TEXT), "byte")} before`, () => {
+    more.remove();
+    block.replaceChildren(...draw(SEEN_BYTES + WHOLE_TEXT).parts);
+    block.focus({ preventScroll: true });
+    block.scrollTop = block.scrollHeight;
+  }, "more");
+  return [title, more, block];
+}
