@@ -1,8 +1,7 @@
 -- Bytes that are compared by vectors: a lane is 255 where the byte passes a test, and else 0.
-use Rattle.std.proofs.Common.{◌≡◌, ℕ, ◌+◌, ◌^◌, ◌%◌, Bool, true, false, cond, ◌||◌, ◌&&◌, ◌*◌, ◌<◌, subst, List, [], ◌∷◌, map, length, refl, ap, ap₂, ◌∙◌, arith}
+use Rattle.std.proofs.Common.{◌≡◌, ℕ, ◌^◌, ◌%◌, Bool, true, false, cond, ◌||◌, List, [], ◌∷◌, map, length, refl, ap, ap₂, ◌∙◌, arith}
 use Rattle.std.specs.Prelude.{replicate, suc}
-use Rattle.std.proofs.lemmas.Simd.{zip2_splat, mask_l-mod, mask_l-lt}
-use Rattle.std.proofs.lemmas.Bool.Decides.{nat_tests}
+use Rattle.std.proofs.lemmas.Simd.{zip2_splat, mask_l-mod}
 use Rattle.wsn_print.specs.declared.escapes.Escapes.TheVariants.{Hidden}
 use Rattle.wsn_print.specs.Runs.{takes_backslash}
 use lib.Lanes.{zip2, mask_l, top}

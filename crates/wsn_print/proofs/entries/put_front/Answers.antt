@@ -1,5 +1,4 @@
-use Rattle.std.proofs.Common.{◌≡◌, ℕ, List, ◌++◌, codes, decimal, append_assoc, ◌∙◌, subst}
-use Rattle.wsn_io.specs.Transfer.{IsWritten, IsPartlyWritten}
+use Rattle.std.proofs.Common.{ℕ, List, ◌++◌, codes, decimal, append_assoc, ◌∙◌, subst}
 use Rattle.wsn_io.specs.Stops.{IsWrittenOrStops}
 use Rattle.wsn_print.specs.ShownText.{front_text, role_letter, time_text}
 use Rattle.wsn_print.specs.ShownParts.{time_of}

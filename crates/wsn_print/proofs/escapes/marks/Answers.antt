@@ -1,4 +1,4 @@
-use Rattle.std.proofs.Common.{refl, ap, sym, ◌≡◌, ◌∙◌, ℕ, subst, map}
+use Rattle.std.proofs.Common.{refl, ap, sym, ◌∙◌, map}
 use Rattle.std.specs.Prelude.{◌==◌}
 use Rattle.std.specs.Simd.Lanes.{mask_l}
 use Rattle.wsn_print.specs.Runs.{takes_backslash}

@@ -1,4 +1,4 @@
-use Rattle.std.proofs.Common.{◌≡◌, ◌++◌, ◌≤◌, ℕ, List, length, take, not, ap, ap₂, subst, sym, ◌∙◌, arith, take-take, length-take-le}
+use Rattle.std.proofs.Common.{◌≡◌, ◌++◌, ◌≤◌, ℕ, List, length, take, not, ap₂, subst, sym, ◌∙◌, arith, take-take, length-take-le}
 use Rattle.std.specs.Prelude.{flat_map}
 use Rattle.std.specs.List.{prefix_len}
 use Rattle.std.proofs.lemmas.Simd.{leading_from_mask_l}
