@@ -1,4 +1,4 @@
-ghost use Rattle.std.specs.Prelude.{◌≡◌, ◌*◌, ◌+◌, ◌≤◌, MatchResult, length, take};
+ghost use Rattle.std.specs.Prelude.{◌≡◌, ◌*◌, ◌+◌, ◌<◌, ◌≤◌, ◌⊎◌, MatchResult, IfSome, IfNone, length, take};
 ghost use Rattle.wsn_capture.specs.LineForms.{IsForm, HasNoHex};
 ghost use Rattle.wsn_rules.specs.Entries.{without_cr, IsHex};
 ghost use Rattle.wsn_capture.specs.declared.line_fault.LineFault.TheVariants.{BadHex};
@@ -6,6 +6,9 @@ ghost use Rattle.wsn_capture.specs.declared.line_fault.LineFault.TheVariants.{Ba
 use crate::hex_pairs::decode_pairs;
 use crate::line_fault::LineFault;
 use wsn_wire::Role;
+
+/// The maximum number of bytes that a line gives.
+pub const BYTES_MAX: usize = 4096;
 
 /// The form of a line, as known before its digits are read.
 #[derive(Clone, Copy)]
@@ -61,4 +64,16 @@ pub fn decode(digits: &[u8], bytes: &mut [u8]) -> Result<usize, LineFault>
         return Err(LineFault::BadHex);
     }
     Ok(count)
+}
+
+/// Decodes the digits of a line into the first bytes of `bytes`, and returns the number of these. `None` if they encode no
+/// bytes, or more than a line may have; the contents of `bytes` are then unspecified.
+pub fn bytes_of(digits: &[u8], bytes: &mut [u8; BYTES_MAX]) -> Option<usize>
+    ensures some { IfSome result (λ count. (count ≤ BYTES_MAX) × IsHex digits.now (take count bytes.new)) }
+    ensures none { IfNone result (HasNoHex digits.now ⊎ (8192 < length digits.now)) }
+{
+    if digits.len() > 2 * BYTES_MAX {
+        return None;
+    }
+    decode(digits, bytes).ok()
 }

@@ -7,13 +7,10 @@ ghost use Rattle.wsn_capture.specs.LineSplitters.{IsStopAt};
 
 use crate::capture::Capture;
 use crate::capture_stop::CaptureStop;
-use crate::line_form::{LineForm, decode, form_of, strip_cr};
+use crate::line_form::{BYTES_MAX, LineForm, bytes_of, form_of, strip_cr};
 use crate::lines::{BEGUN_MAX, Lines};
 use wsn_rules::{Limits, Report};
 use wsn_wire::Role;
-
-/// The maximum number of bytes in a line.
-const BYTES_MAX: usize = 4096;
 
 /// Splits the chunks of a text into lines and passes each to a capture. It holds the line that isn't finished.
 #[derive(Drop)]
@@ -128,7 +125,7 @@ fn pass_on(
     ensures count { OnOk result ((count_of capture.new ≡ count_of capture.old + 1) × (count_of capture.new ≤ 1000000)) }
 {
     let number = capture.count() + 1;
-    let taken = match bytes_of(line, bytes) {
+    let taken = match bytes_in_line(line, bytes) {
         Some((role, count)) => capture.line_of_bytes(line, role, &mut bytes[..count]),
         None => capture.take_line(line),
     };
@@ -140,17 +137,13 @@ fn pass_on(
 
 /// The endpoint whose bytes a line gives, and their number; they are then at the start of `bytes`. `None` if the line has
 /// another form, or more or other digits than such a line may have; the contents of `bytes` are then unspecified.
-fn bytes_of(line: &[u8], bytes: &mut [u8; BYTES_MAX]) -> Option<(Role, usize)>
+fn bytes_in_line(line: &[u8], bytes: &mut [u8; BYTES_MAX]) -> Option<(Role, usize)>
     ensures { IfSome result (λ found. (found.1 ≤ BYTES_MAX) × IsEntry line.now (Bytes found.0 (take found.1 bytes.new))) }
 {
     let text = strip_cr(line);
     let Some(LineForm::Bytes(role)) = form_of(text) else {
         return None;
     };
-    let digits = &text[2..];
-    if digits.len() > 2 * BYTES_MAX {
-        return None;
-    }
-    let count = decode(digits, bytes).ok()?;
+    let count = bytes_of(&text[2..], bytes)?;
     Some((role, count))
 }

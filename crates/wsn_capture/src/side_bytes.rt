@@ -1,11 +1,9 @@
 ghost use Rattle.std.specs.Prelude.{◌≤◌};
 
 use crate::line_fault::LineFault;
+use crate::line_form::BYTES_MAX;
 use crate::lines_before::LinesBefore;
 use wsn_wire::Role;
-
-/// The maximum number of bytes in a line.
-const BYTES_MAX: usize = 4096;
 
 /// The first line that isn't accepted: its number, counted from 1, and its first fault.
 #[derive(Clone, Copy)]

@@ -146,7 +146,7 @@ impl<A: Allocator + Copy> EventReader<A> {
         self.reassembly.take(self.reader.payload())
     }
 
-    /// Takes the events of the frames that come next, as [`NoticeReader::take_all_events`] does, and returns whether
+    /// Takes the events of the frames that come next, as [`NoticeReader::take_events`] does, and returns whether
     /// there are any. [`EventReader::taken`] then returns their normal form.
     pub fn take_events(&mut self) -> bool
         requires { IsAtWork self.old }
@@ -155,7 +155,7 @@ impl<A: Allocator + Copy> EventReader<A> {
         ensures none { result ≡ false → self.new ≡ self.old }
         ensures left { readings_left self.new ≤ readings_left self.old }
     {
-        self.reader.take_all_events()
+        self.reader.take_events()
     }
 
     /// Takes the next event if it is a message that [`NoticeReader::take_message`] takes, and returns its kind.

@@ -92,7 +92,7 @@ impl<A: Allocator + Copy> Source<A> {
     }
 
     /// Takes the events of the frames that come next and are whole in the chunk that was read last, up to the first
-    /// frame that [`NoticeReader::take_all_events`](wsn_scan::NoticeReader::take_all_events) leaves, and returns whether
+    /// frame that [`NoticeReader::take_events`](wsn_scan::NoticeReader::take_events) leaves, and returns whether
     /// there are any. [`Source::taken`] then returns their
     /// normal form. It reads nothing. The source must not have ended.
     pub(crate) fn take_events(&mut self) -> bool

@@ -11,7 +11,7 @@ ghost use Rattle.wsn_scan.specs.Reports.{refusal_in_notice};
 
 use crate::notice::Notice;
 use crate::refill::{CHUNK, refill};
-use crate::scan::{Empty, EventFrame, Scan, TakenFrame};
+use crate::scan::{Empty, EventFrame, Scan, TakenFrame, begins_empty};
 use std::io::Read;
 use wsn_io::Stop;
 use wsn_rules::{HeadInfo, Limits, Verdict};
@@ -107,9 +107,9 @@ impl NoticeReader {
         }
     }
 
-    /// Takes the frames that come next if each is whole in the buffer, has payload, ends an event and leaves no message
-    /// open (RFC 6455 section 5.4). Returns whether there is one. If so, [`payload`](NoticeReader::payload) returns the normal
-    /// form of their events; otherwise nothing changes. It reads nothing.
+    /// Takes the frames that come next if each is whole in the buffer, ends an event and leaves no message open (RFC 6455
+    /// section 5.4). Returns whether there is one. If so, [`payload`](NoticeReader::payload) returns the normal form of
+    /// their events; otherwise nothing changes. It reads nothing.
     pub fn take_events(&mut self) -> bool
         requires { IsReading self.old }
         ensures taken { result ≡ true → (role : Role) (limits : _) (came : List ℕ) (done : List Frame) (at : Position) →
@@ -117,32 +117,8 @@ impl NoticeReader {
         ensures none { result ≡ false → self.new ≡ self.old }
         ensures left { notices_left self.new ≤ notices_left self.old }
     {
-        self.take_run(Empty::Left)
-    }
-
-    /// Takes the frames that come next as [`take_events`](NoticeReader::take_events) does, and also those that have no
-    /// payload.
-    pub fn take_all_events(&mut self) -> bool
-        requires { IsReading self.old }
-        ensures taken { result ≡ true → (role : Role) (limits : _) (came : List ℕ) (done : List Frame) (at : Position) →
-            HasReported role limits self.old came done at → ReportsEvents role limits self.new came done at }
-        ensures none { result ≡ false → self.new ≡ self.old }
-        ensures left { notices_left self.new ≤ notices_left self.old }
-    {
-        self.take_run(Empty::Taken)
-    }
-
-    /// Takes the frames that come next, up to the first that isn't an event by itself, or also up to the first that has no
-    /// payload.
-    fn take_run(&mut self, empty: Empty) -> bool
-        requires { IsReading self.old }
-        ensures taken { result ≡ true → (role : Role) (limits : _) (came : List ℕ) (done : List Frame) (at : Position) →
-            HasReported role limits self.old came done at → ReportsEvents role limits self.new came done at }
-        ensures none { result ≡ false → self.new ≡ self.old }
-        ensures left { notices_left self.new ≤ notices_left self.old }
-    {
         let from = self.at;
-        let count = take_part(&mut self.scan, empty, &mut self.buffer, from, self.end);
+        let count = take_part(&mut self.scan, &mut self.buffer, from, self.end);
         if count == 0 {
             return false;
         }
@@ -151,8 +127,8 @@ impl NoticeReader {
         true
     }
 
-    /// Takes the frame that comes next if [`take_events`](NoticeReader::take_events) would and it is a message. Returns
-    /// its opcode and its offset; [`payload`](NoticeReader::payload) then returns the message, unmasked (RFC 6455
+    /// Takes the frame that comes next if [`take_events`](NoticeReader::take_events) would and it is a message that isn't
+    /// empty. Returns its opcode and its offset; [`payload`](NoticeReader::payload) then returns the message, unmasked (RFC 6455
     /// section 5.3). Otherwise nothing changes. It reads nothing.
     #[inline(always)]
     pub fn take_message(&mut self) -> Option<(Op, u64)>
@@ -254,8 +230,7 @@ impl NoticeReader {
     /// Whether the next bytes are the head of an empty frame, if they are a head: so it needn't be read twice in vain.
     #[inline(always)]
     fn comes_empty(&self) -> bool {
-        let rest = &self.buffer[self.at..self.end];
-        rest.len() > 1 && rest[1] & 0x7f == 0
+        begins_empty(&self.buffer[self.at..self.end])
     }
 
     /// Takes the frame that comes next if it is whole in the buffer, its payload isn't empty and it is valid: its head and
@@ -353,7 +328,7 @@ fn scan_part(scan: &mut Scan, buffer: &mut [u8], at: usize, end: usize) -> (usiz
 }
 
 /// Passes `buffer[at..end]` to the scan, which takes events. The bytes after those consumed don't change.
-fn take_part(scan: &mut Scan, empty: Empty, buffer: &mut [u8], at: usize, end: usize) -> usize
+fn take_part(scan: &mut Scan, buffer: &mut [u8], at: usize, end: usize) -> usize
     requires within { (at ≤ end) × (end ≤ length buffer.old) }
     requires fits { end ≤ room_of scan.old + at }
     ensures taken { 0 < result → IsIdle scan.old
@@ -364,7 +339,7 @@ fn take_part(scan: &mut Scan, empty: Empty, buffer: &mut [u8], at: usize, end: u
     ensures reported { refusal_in scan.old ≡ None → refusal_in scan.new ≡ None }
     ensures none { result ≡ 0 → (scan.new ≡ scan.old) × (buffer.new ≡ buffer.old) }
 {
-    scan.take_events(empty, &mut buffer[at..end])
+    scan.take_events(Empty::Taken, &mut buffer[at..end])
 }
 
 /// Passes `buffer[at..end]` to the scan, which takes a message. The bytes after those consumed don't change.

@@ -13,6 +13,7 @@ pub(crate) use event_frames::{Empty, EventFrame};
 use std::fmt::{self, Debug, Formatter};
 use std::mem;
 pub use whole_frames::TakenFrame;
+pub(crate) use whole_frames::begins_empty;
 use wsn_frame::{Counts, FrameContext, PartialHead};
 use wsn_rules::{Limits, Refusal};
 use wsn_wire::Role;

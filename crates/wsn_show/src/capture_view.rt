@@ -1,8 +1,8 @@
-ghost use Rattle.std.specs.Prelude.{◌≡◌, ◌≤◌, ◌<◌, ◌⊎◌, ℕ, List, false, Some, length, take, IfSome, IfNone};
+ghost use Rattle.std.specs.Prelude.{◌≡◌, List, false, Some, IfSome, IfNone};
 ghost use Rattle.wsn_rules.specs.Limits.{Limits};
-ghost use Rattle.wsn_rules.specs.Entries.{Entry, IsHex};
+ghost use Rattle.wsn_rules.specs.Entries.{Entry};
 ghost use Rattle.wsn_wire.specs.declared.endpoint.Role.{Role};
-ghost use Rattle.wsn_capture.specs.LineForms.{IsForm, HasNoHex};
+ghost use Rattle.wsn_capture.specs.LineForms.{IsForm};
 ghost use Rattle.wsn_rules.specs.Sides.{sent};
 ghost use Rattle.wsn_show.specs.declared.style.Style.{Style};
 ghost use Rattle.wsn_show.specs.StreamViews.{HasViewed};
@@ -16,16 +16,13 @@ use crate::style::Style;
 use crate::times::{CurrentTime, LINE_MAX};
 use std::io::Write;
 use std::marker::Model;
-use wsn_capture::line_form::{LineForm, decode, form_of, strip_cr};
+use wsn_capture::line_form::{BYTES_MAX, LineForm, bytes_of, form_of, strip_cr};
 use wsn_capture::{Capture, LineFault, Report};
 use wsn_io::Output;
 use wsn_print::{EntryFront, Origin, put_comment_as, put_end_as};
 use wsn_rules::Limits;
 use wsn_scan::Scan;
 use wsn_wire::Role;
-
-/// The maximum number of bytes in a line.
-const BYTES_MAX: usize = 4096;
 
 /// Shows the lines of a capture one by one: prints what each completes. It keeps none of the lines.
 #[derive(Drop)]
@@ -329,18 +326,6 @@ fn sender_of(text: &[u8]) -> Option<Role>
         Some(LineForm::Nothing) => None,
         None => None,
     }
-}
-
-/// Decodes the digits of a line into the first bytes of `bytes`, and returns the number of these. `None` if they encode no
-/// bytes, or more than a line may have.
-fn bytes_of(digits: &[u8], bytes: &mut [u8; BYTES_MAX]) -> Option<usize>
-    ensures some { IfSome result (λ count. (count ≤ BYTES_MAX) × IsHex digits.now (take count bytes.new)) }
-    ensures none { IfNone result (HasNoHex digits.now ⊎ (8192 < length digits.now)) }
-{
-    if digits.len() > 2 * BYTES_MAX {
-        return None;
-    }
-    decode(digits, bytes).ok()
 }
 
 /// Where the last line is, while this time holds.

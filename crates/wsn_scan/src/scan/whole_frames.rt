@@ -280,6 +280,6 @@ fn by_fields(head: &HeadInfo) -> HeadInfo
 
 /// Whether the piece begins with the head of an empty frame, if it begins with a head.
 #[inline(always)]
-pub(super) fn begins_empty(piece: &[u8]) -> bool {
+pub(crate) fn begins_empty(piece: &[u8]) -> bool {
     piece.len() > 1 && piece[1] & 0x7f == 0
 }

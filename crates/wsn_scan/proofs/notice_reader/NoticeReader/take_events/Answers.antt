@@ -1,6 +1,6 @@
 use Rattle.std.proofs.Common.{refl, arith}
 use Rattle.wsn_scan.proofs.ReaderEvents.{reports_events}
-use Rattle.wsn_scan.proofs.notice_reader.NoticeReader.take_run.Goals as goal
+use Rattle.wsn_scan.proofs.notice_reader.NoticeReader.take_events.Goals as goal
 
 pub returns-clause-taken : goal.returns-clause-taken
 returns-clause-taken c is role limits came done at h =
