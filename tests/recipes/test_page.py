@@ -1,4 +1,4 @@
-"""docs/RECIPES.md: each command of the page, with what the page says that it prints; and README.md's.
+"""docs/RECIPES.md and its pages, as one: each command, with what the page says that it prints; and README.md's.
 
 A block ```console has commands after `$ ` (further lines after `> `), and what they print, on either stream. `..`
 is anything, within a line or, alone, for lines. A command that ends with ` &` runs to the end of the page.
@@ -17,8 +17,8 @@ import tempfile
 import time
 
 import pcaps
-from harness import (HERE, SAMPLES, SECONDS, TOP, WSN, Failed, Skipped, needs, python_with_websockets, run, same, sides,
-                     started, test, wait_for, want)  # fmt: skip
+from harness import (HERE, SAMPLES, SECONDS, TOP, WSN, Failed, Skipped, needs, python_with_websockets, run, same, started,
+                     test, wait_for, want)  # fmt: skip
 
 # Words of a command, and the program that it needs for them.
 NEEDS = {"tls.pcap": "tshark", "tshark": "tshark", "text2pcap": "text2pcap", "socat": "socat", "jq": "jq",
@@ -26,6 +26,14 @@ NEEDS = {"tls.pcap": "tshark", "tshark": "tshark", "text2pcap": "text2pcap", "so
 
 # The names of what a command writes.
 WRITES = r"(?:> |--out |-R |^recipes/record .* )([\w.]+)"
+
+
+def recipes():
+    """The text of RECIPES.md and of the pages that it names, in its order, as one page."""
+    index = (TOP / "docs/RECIPES.md").read_text(encoding="utf-8")
+    names = dict.fromkeys(re.findall(r"\((recipes/\w+\.md)", index))
+    same(sorted(names), sorted(f"recipes/{file.name}" for file in (TOP / "docs/recipes").iterdir()), "pages")
+    return "".join([index, *((TOP / "docs" / name).read_text(encoding="utf-8") for name in names)])
 
 
 def parts_of(page):
@@ -150,11 +158,10 @@ def without_root(printed):
 
 @test
 def page_says_what_its_commands_print(folder):
-    """All of docs/RECIPES.md."""
-    page_text = (TOP / "docs/RECIPES.md").read_text(encoding="utf-8")
+    """All of the recipes."""
     with contextlib.ExitStack() as stack:
         page = Page(folder, stack)
-        for kind, words, printed in parts_of(page_text):
+        for kind, words, printed in parts_of(recipes()):
             if kind == "section":
                 page.section(words)
             elif page.lacks(kind, words):
@@ -200,7 +207,7 @@ def page_has_the_form_of_each_comment(folder):
         out, _ = run(TOP / "recipes/pcap2wsn", *words, "0", status=None)
         lines += [*out.splitlines(), *run(TOP / "recipes/inflate", input=out, status=None)[0].splitlines()]
     found = sorted({line.decode() for line in lines if line.startswith(b"#")})
-    known = forms((TOP / "docs/RECIPES.md").read_text(encoding="utf-8"))
+    known = forms(recipes())
     same(len(known), 16, "forms")
     for line in found:
         same(sum(re.fullmatch(form, line) is not None for form in known), 1, f"forms of {line!r}")
@@ -227,7 +234,7 @@ C 8a8000000000
 def page_finds_the_pong_of_a_ping(folder):
     """The page's line in jq: equal payloads in their order, others by payload; a ping or a pong that is alone."""
     needs("jq")
-    page = parts_of((TOP / "docs/RECIPES.md").read_text(encoding="utf-8"))
+    page = parts_of(recipes())
     (line,) = [words for kind, words, _ in page if kind == "command" and '"pong"' in words]
     (folder / "pings.capture").write_text(PINGS)
     (folder / "wsn").symlink_to(WSN)
@@ -257,18 +264,3 @@ def readme_says_what_its_lines_print(folder):
     ((line, _),) = indented("printf ")
     same(run("bash", "-c", line, cwd=folder), (b"81850000000048656c6c6f\n", b""), line)
     want("prints `81850000000048656c6c6f`" in (TOP / "README.md").read_text(encoding="utf-8"), "what it prints")
-
-
-@test
-def page_gets_streams_by_hand(folder):
-    """The page's two lines over a pcap, without the script, give both streams of a sample without a word."""
-    page = [words for kind, words, _ in parts_of((TOP / "docs/RECIPES.md").read_text(encoding="utf-8"))]
-    lines = [words for words in page if words.startswith("tshark ") and " follow,tcp,raw," in words]
-    same(len(lines), 2, "lines")
-    needs("tshark", "xxd")
-    shutil.copy(SAMPLES / "basic.pcap", folder / "session.pcap")
-    for line in lines:
-        line = line.replace("tests/samples/basic.pcap", "session.pcap")
-        same(run("sh", "-c", line, cwd=folder), (b"", b""), line)
-    streams = tuple((folder / name).read_bytes() for name in ("client.bin", "server.bin"))
-    same(streams, sides((SAMPLES / "basic.capture").read_bytes())[:2], "the streams")

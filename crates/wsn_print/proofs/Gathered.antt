@@ -6,6 +6,7 @@ use Rattle.wsn_io.specs.Transfer.{Outgoing, IsWritten, IsPartlyWritten}
 use Rattle.wsn_io.specs.declared.stop.Stop.{Stop}
 use Rattle.wsn_io.specs.declared.stop.Stop.TheVariants as stop
 use Rattle.wsn_io.specs.Stops.{IsWrittenOrStops}
+use Rattle.wsn_print.specs.HeldTexts.{IsHeldOrStops}
 use Rattle.wsn_io.proofs.PutTexts.{put_both, put_front, put_more, put_no_more}
 
 -- The front of a text is written, and its rest is held.
@@ -27,9 +28,9 @@ gathers_on before mid after text held rest new more one two is =
         ∙ ap (λ (bs : List ℕ). bs ++ more) one.1
 
 -- What is written of a text, after one more part of it.
-pub part_added : (f : List ℕ → List ℕ) (text done more : List ℕ) (n m : ℕ) → f text ≡ done ++ f (drop n text)
-    → f (drop n text) ≡ more ++ f (drop m (drop n text)) → f text ≡ (done ++ more) ++ f (drop (n + m) text)
-part_added f text done more n m is next =
+pub part_added : (f : List ℕ → List ℕ) (all text done more : List ℕ) (n m : ℕ) → all ≡ done ++ f (drop n text)
+    → f (drop n text) ≡ more ++ f (drop m (drop n text)) → all ≡ (done ++ more) ++ f (drop (n + m) text)
+part_added f all text done more n m is next =
     is ∙ ap (λ (bs : List ℕ). done ++ bs) (next ∙ ap (λ (bs : List ℕ). more ++ f bs) (drop-drop m n text))
     ∙ sym (append_assoc done more (f (drop (n + m) text)))
 
@@ -56,3 +57,17 @@ pub gathering_ended : (before mid after : Outgoing) (text held : List ℕ) (resu
     → IsWrittenOrStops mid after held result → IsWrittenOrStops before after text result
 gathering_ended before mid after text held result one put =
     subst (λ (bs : List ℕ). IsWrittenOrStops before after bs result) one.1 (put_more before mid after one.0 held result one.2 put)
+
+-- A write that fails while a text is added.
+pub held_stopped : (before after : Outgoing) (held left text : List ℕ) (stopped : Stop) (result : Result (Unit {0}) Stop)
+    → IsErrAnd result (λ other. other ≡ stopped) → IsWrittenOrStops before after (held ++ text) result
+    → IsHeldOrStops before after held left text result
+held_stopped before after held left text stopped (Ok done) is put = absurd is
+held_stopped before after held left text stopped (Err other) is put = put
+
+-- A write that failed while a text was added is that of all, too.
+pub adding_stopped : (before after : Outgoing) (text later : List ℕ) (stopped : Stop) (result : Result (Unit {0}) Stop)
+    → (stopped ≡ stop.Write) × IsPartlyWritten before after text → IsErrAnd result (λ other. other ≡ stopped)
+    → IsWrittenOrStops before after (text ++ later) result
+adding_stopped before after text later stopped result put is =
+    put_result before after (text ++ later) stopped result is put.0 (put_no_more before after text later put.1)

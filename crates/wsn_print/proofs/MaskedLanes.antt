@@ -1,10 +1,9 @@
 -- Bytes that are compared by vectors: a lane is 255 where the byte passes a test, and else 0.
-use Rattle.std.proofs.Common.{◌≡◌, ℕ, ◌+◌, ◌^◌, ◌%◌, Bool, true, false, cond, ◌||◌, ◌&&◌, ◌*◌, ◌<◌, subst, List, [], ◌∷◌, map, length, refl, ap, ap₂, ◌∙◌, arith}
+use Rattle.std.proofs.Common.{◌≡◌, ℕ, ◌^◌, ◌%◌, Bool, true, false, cond, ◌||◌, List, [], ◌∷◌, map, length, refl, ap, ap₂, ◌∙◌, arith}
 use Rattle.std.specs.Prelude.{replicate, suc}
-use Rattle.std.proofs.lemmas.Simd.{zip2_splat, mask_l-mod, mask_l-lt}
-use Rattle.std.proofs.lemmas.Bool.Decides.{nat_tests}
-use Rattle.wsn_print.specs.declared.escapes.Escapes.TheVariants.{Quoted}
-use Rattle.wsn_print.specs.Runs.{begins_hidden, takes_backslash}
+use Rattle.std.proofs.lemmas.Simd.{zip2_splat, mask_l-mod}
+use Rattle.wsn_print.specs.declared.escapes.Escapes.TheVariants.{Hidden}
+use Rattle.wsn_print.specs.Runs.{takes_backslash}
 use lib.Lanes.{zip2, mask_l, top}
 
 -- the lane of a byte
@@ -70,30 +69,7 @@ same_six false false false true e f = refl
 same_six false false false false true f = refl
 same_six false false false false false f = refl
 
--- tests of which no byte passes both
-sum_of_bits : (a b : Bool) (m n : ℕ) → a && b ≡ false → (cond a 1 0 + 2 * m) + (cond b 1 0 + 2 * n) ≡ cond (a || b) 1 0 + 2 * (m + n)
-sum_of_bits true true m n apart = absurd (cc apart)
-sum_of_bits true false m n apart = omega arith
-sum_of_bits false true m n apart = omega arith
-sum_of_bits false false m n apart = omega arith
-
-pub bits_apart : (p q : ℕ → Bool) → ((x : ℕ) → p x && q x ≡ false) → (xs : List ℕ)
-    → mask_l (map p xs) + mask_l (map q xs) ≡ mask_l (map (λ x. p x || q x) xs)
-bits_apart p q apart [] = refl
-bits_apart p q apart (x ∷ xs) =
-    sum_of_bits (p x) (q x) (mask_l (map p xs)) (mask_l (map q xs)) (apart x)
-    ∙ ap (λ (n : ℕ). cond (p x || q x) 1 0 + 2 * n) (bits_apart p q apart xs)
-
--- no quotation mark and no backslash begins a hidden character
-pub marks_apart : (x : ℕ) → begins_hidden x && takes_backslash Quoted x ≡ false
-marks_apart x = grind (arith, nat_tests)
-
-pub few_bits : (p : ℕ → Bool) (xs : List ℕ) → length xs ≡ 16 → mask_l (map p xs) < 65536
-few_bits p xs long = subst (λ (n : ℕ). mask_l (map p xs) < 2 ^ n) (length-tests p xs ∙ long) (mask_l-lt (map p xs))
-
-or_false : (a : Bool) → a ≡ a || false
-or_false true = refl
-or_false false = refl
-
-pub bits_alone : (p : ℕ → Bool) (xs : List ℕ) → mask_l (map p xs) ≡ mask_l (map (λ x. p x || false) xs)
-bits_alone p xs = ap mask_l (tests_same p (λ x. p x || false) (λ x. or_false (p x)) xs)
+-- No byte takes a backslash in a comment.
+pub no_marks : (xs : List ℕ) → 0 ≡ mask_l (map (takes_backslash Hidden) xs)
+no_marks [] = refl
+no_marks (x ∷ xs) = omega (arith, no_marks xs)

@@ -31,14 +31,18 @@ each_stopped f xs k x d before mid after e result within is written put is_e =
     subst (λ (text : List ℕ). IsWrittenOrStops before after text result) (text_at f xs k x d within is)
     (put_more before mid after (flat_map f (take k xs)) (f x ++ rest) result written (stopped mid after (f x) rest e result put is_e))
 
--- The text of one more element is written.
+-- The text of one more element.
+pub one_more : (f : ℕ → List ℕ) (xs : List ℕ) (k x d : ℕ) → k < length xs → x ≡ get_or xs k d
+    → flat_map f (take (k + 1) xs) ≡ flat_map f (take k xs) ++ f x
+one_more f xs k x d within is =
+    ap (flat_map f) (take_more xs k d within ∙ ap (λ (y : ℕ). take k xs ++ y ∷ []) (sym is)) ∙ flat_map-append f (take k xs) (x ∷ [])
+    ∙ ap (λ (last : List ℕ). flat_map f (take k xs) ++ last) (append-nil (f x))
+
+-- It is written.
 pub each_written : (f : ℕ → List ℕ) (xs : List ℕ) (k x d : ℕ) (before mid after : Outgoing) → k < length xs → x ≡ get_or xs k d
     → IsWritten before mid (flat_map f (take k xs)) → IsWritten mid after (f x) → IsWritten before after (flat_map f (take (k + 1) xs))
 each_written f xs k x d before mid after within is written put =
-    let taken : take (k + 1) xs ≡ take k xs ++ x ∷ [] = take_more xs k d within ∙ ap (λ (y : ℕ). take k xs ++ y ∷ []) (sym is) in
-    let text : flat_map f (take (k + 1) xs) ≡ flat_map f (take k xs) ++ f x =
-    ap (flat_map f) taken ∙ flat_map-append f (take k xs) (x ∷ []) ∙ ap (λ (last : List ℕ). flat_map f (take k xs) ++ last) (append-nil (f x)) in
-    subst (IsWritten before after) (sym text) (put_both before mid after (flat_map f (take k xs)) (f x) written put)
+    subst (IsWritten before after) (sym (one_more f xs k x d within is)) (put_both before mid after (flat_map f (take k xs)) (f x) written put)
 
 -- ---- a line of several pieces
 

@@ -1,5 +1,5 @@
 -- Texts of which most bytes are copied as they are.
-use Rattle.std.proofs.Common.{◌≡◌, inl, inr, ℕ, ◌+◌, ◌-◌, ◌/◌, ◌%◌, ◌<◌, ◌≤◌, Bool, true, false, not, cond, ◌||◌, List, [], ◌∷◌, ◌++◌, length, take, drop, get_or, refl, sym, ap, ◌∙◌, arith, append_assoc, length-take-le, take-take, length-drop}
+use Rattle.std.proofs.Common.{◌≡◌, inl, inr, ℕ, ◌+◌, ◌-◌, ◌*◌, ◌/◌, ◌%◌, ◌<◌, ◌≤◌, Bool, true, false, not, cond, ◌||◌, List, [], ◌∷◌, ◌++◌, length, take, drop, get_or, refl, sym, ap, ap₂, ◌∙◌, arith, append_assoc, append-nil, length-take-le, take-take, length-drop}
 use Rattle.std.specs.Prelude.{suc, zero, Option, None, Some, flat_map, nat_lt, ◌==◌, ◌&&◌, if◌then◌else◌}
 use Rattle.std.specs.List.{prefix_len}
 use Rattle.std.proofs.lemmas.List.{take-append-drop, drop-drop, take_all}
@@ -13,7 +13,7 @@ use Rattle.hex.specs.Hex.{encode_with, encode_lower}
 use Rattle.wsn_print.specs.declared.escapes.Escapes.{Escapes}
 use Rattle.wsn_print.specs.declared.escapes.Escapes.TheVariants.{Hidden, Quoted}
 use Rattle.wsn_print.specs.ShownText.{is_from, is_hidden, unicode_escape, shown_character}
-use Rattle.wsn_print.specs.Runs.{escaped, escaped_after, escaped_character, is_copied, begins_hidden, takes_backslash, hidden_of, hidden_at, written_of, more_of, escaped_byte}
+use Rattle.wsn_print.specs.Runs.{escaped, escaped_after, escaped_character, is_plain, begins_hidden, takes_backslash, hidden_of, hidden_at, written_of, more_of, escaped_byte}
 
 -- A number's escape, in three parts.
 pub escape_written : (t0 t1 t2 t3 : List ℕ) (a b : ℕ) → t1 ≡ t0 ++ 92 ∷ 117 ∷ [] → t2 ≡ t1 ++ encode_lower (a ∷ [])
@@ -55,8 +55,80 @@ none_hidden b second third isnt =
 written_alone : (escapes : Escapes) (b : ℕ) → takes_backslash escapes b ≡ false → escaped_byte escapes b ≡ b ∷ []
 written_alone escapes b isnt = ap (λ (yes : Bool). if yes then 92 ∷ b ∷ [] else b ∷ []) isnt
 
+-- The byte begins no hidden character and takes no backslash, so it is copied as it is.
+abbrev is_copied : Escapes → ℕ → Bool
+is_copied escapes b = not (begins_hidden b || takes_backslash escapes b)
+
+-- A byte with which no hidden character begins is written by itself.
+plain_first : (escapes : Escapes) (b : ℕ) (rest : List ℕ) → is_plain b ≡ true
+    → escaped escapes (b ∷ rest) ≡ escaped_byte escapes b ++ escaped escapes rest
+plain_first escapes b rest plain =
+    ap (λ (hidden : Option (ℕ × ℕ)). written_of escapes hidden b ++ escaped_after (more_of hidden) escapes rest)
+    (none_hidden b (get_or rest 0 0) (get_or rest 1 0) (is_false _ plain))
+
+plain_next : (escapes : Escapes) (b : ℕ) (run rest : List ℕ)
+    → (prefix_len is_plain run ≡ length run → escaped escapes (run ++ rest) ≡ flat_map (escaped_byte escapes) run ++ escaped escapes rest)
+    → (plain : Bool) → is_plain b ≡ plain → cond plain (1 + prefix_len is_plain run) 0 ≡ suc (length run)
+    → escaped escapes (b ∷ run ++ rest) ≡ (escaped_byte escapes b ++ flat_map (escaped_byte escapes) run) ++ escaped escapes rest
+plain_next escapes b run rest later true is all =
+    plain_first escapes b (run ++ rest) is ∙ ap (λ (bs : List ℕ). escaped_byte escapes b ++ bs) (later (omega (arith, all)))
+    ∙ sym (append_assoc (escaped_byte escapes b) (flat_map (escaped_byte escapes) run) (escaped escapes rest))
+plain_next escapes b run rest later false is all = absurd (omega (arith, all))
+
+plain_run : (escapes : Escapes) (run rest : List ℕ) → prefix_len is_plain run ≡ length run
+    → escaped escapes (run ++ rest) ≡ flat_map (escaped_byte escapes) run ++ escaped escapes rest
+plain_run escapes [] rest plain = refl
+plain_run escapes (b ∷ run) rest plain =
+    plain_next escapes b run rest (λ all. plain_run escapes run rest all) (is_plain b) refl plain
+
+-- The first bytes of a text, as many as begin no hidden character.
+pub plain_start : (escapes : Escapes) (text : List ℕ) (n : ℕ) → n ≤ length text → prefix_len is_plain (take n text) ≡ n
+    → escaped escapes text ≡ flat_map (escaped_byte escapes) (take n text) ++ escaped escapes (drop n text)
+plain_start escapes text n within plain =
+    ap (escaped escapes) (sym (take-append-drop n text))
+    ∙ plain_run escapes (take n text) (drop n text) (plain ∙ sym (length-take-le n text within))
+
+unmarked_next : (escapes : Escapes) (b : ℕ) (bytes : List ℕ)
+    → (prefix_len (λ x. not (takes_backslash escapes x)) bytes ≡ length bytes → flat_map (escaped_byte escapes) bytes ≡ bytes)
+    → (alone : Bool) → not (takes_backslash escapes b) ≡ alone
+    → cond alone (1 + prefix_len (λ x. not (takes_backslash escapes x)) bytes) 0 ≡ suc (length bytes)
+    → escaped_byte escapes b ++ flat_map (escaped_byte escapes) bytes ≡ b ∷ bytes
+unmarked_next escapes b bytes later true is all =
+    ap₂ (λ (xs ys : List ℕ). xs ++ ys) (written_alone escapes b (is_false _ is)) (later (omega (arith, all)))
+unmarked_next escapes b bytes later false is all = absurd (omega (arith, all))
+
+-- Bytes that take no backslash are copied.
+pub unmarked : (escapes : Escapes) (bytes : List ℕ) → prefix_len (λ x. not (takes_backslash escapes x)) bytes ≡ length bytes
+    → flat_map (escaped_byte escapes) bytes ≡ bytes
+unmarked escapes [] alone = refl
+unmarked escapes (b ∷ bytes) alone =
+    unmarked_next escapes b bytes (λ all. unmarked escapes bytes all) (not (takes_backslash escapes b)) refl alone
+
+one_or_two : (mark : Bool) (x n : ℕ) (bytes : List ℕ) → length bytes ≤ 2 * n
+    → length ((if mark then 92 ∷ x ∷ [] else x ∷ []) ++ bytes) ≤ 2 * suc n
+one_or_two true x n bytes few = omega (arith, few)
+one_or_two false x n bytes few = omega (arith, few)
+
+-- At most two bytes are written for each of those with which no hidden character begins.
+pub few_bytes : (escapes : Escapes) (bytes : List ℕ) → length (flat_map (escaped_byte escapes) bytes) ≤ 2 * length bytes
+few_bytes escapes [] = omega arith
+few_bytes escapes (b ∷ bytes) =
+    one_or_two (takes_backslash escapes b) b (length bytes) (flat_map (escaped_byte escapes) bytes) (few_bytes escapes bytes)
+
+byte_by : (mark : Bool) (x m : ℕ) (t0 t1 t2 : List ℕ) → m ≡ cond mark 1 0 → t1 ≡ t0 ++ take m (92 ∷ []) → t2 ≡ t1 ++ x ∷ []
+    → t2 ≡ t0 ++ (if mark then 92 ∷ x ∷ [] else x ∷ [])
+byte_by true x m t0 t1 t2 is one two =
+    two ∙ ap (λ (t : List ℕ). t ++ x ∷ []) (one ∙ ap (λ (k : ℕ). t0 ++ take k (92 ∷ [])) is) ∙ append_assoc t0 (92 ∷ []) (x ∷ [])
+byte_by false x m t0 t1 t2 is one two =
+    two ∙ ap (λ (t : List ℕ). t ++ x ∷ []) (one ∙ ap (λ (k : ℕ). t0 ++ take k (92 ∷ [])) is ∙ append-nil t0)
+
+-- A byte is written in two steps: a backslash, if it takes one, and the byte.
+pub byte_written : (escapes : Escapes) (x m : ℕ) (t0 t1 t2 : List ℕ) → m ≡ cond (takes_backslash escapes x) 1 0
+    → t1 ≡ t0 ++ take m (92 ∷ []) → t2 ≡ t1 ++ x ∷ [] → t2 ≡ t0 ++ escaped_byte escapes x
+byte_written escapes x m t0 t1 t2 is one two = byte_by (takes_backslash escapes x) x m t0 t1 t2 is one two
+
 -- A byte that begins nothing that is escaped is copied.
-pub copied_first : (escapes : Escapes) (b : ℕ) (rest : List ℕ) → is_copied escapes b ≡ true
+copied_first : (escapes : Escapes) (b : ℕ) (rest : List ℕ) → is_copied escapes b ≡ true
     → escaped escapes (b ∷ rest) ≡ b ∷ escaped escapes rest
 copied_first escapes b rest copied =
     let isnt = neither _ _ (is_false _ copied) in
@@ -74,18 +146,11 @@ copied_next escapes b run rest later true is all =
 copied_next escapes b run rest later false is all = absurd (omega (arith, all))
 
 -- and so are several such bytes
-pub copied_run : (escapes : Escapes) (run rest : List ℕ) → prefix_len (is_copied escapes) run ≡ length run
+copied_run : (escapes : Escapes) (run rest : List ℕ) → prefix_len (is_copied escapes) run ≡ length run
     → escaped escapes (run ++ rest) ≡ run ++ escaped escapes rest
 copied_run escapes [] rest copied = refl
 copied_run escapes (b ∷ run) rest copied =
     copied_next escapes b run rest (λ all. copied_run escapes run rest all) (is_copied escapes b) refl copied
-
--- The first bytes of a text, as many as are copied.
-pub copied_start : (escapes : Escapes) (text : List ℕ) (n : ℕ) → n ≤ length text → prefix_len (is_copied escapes) (take n text) ≡ n
-    → escaped escapes text ≡ take n text ++ escaped escapes (drop n text)
-copied_start escapes text n within copied =
-    ap (escaped escapes) (sym (take-append-drop n text))
-    ∙ copied_run escapes (take n text) (drop n text) (copied ∙ sym (length-take-le n text within))
 
 passes_next : (p : ℕ → Bool) (x n : ℕ) (xs : List ℕ) → (n ≤ prefix_len p xs → prefix_len p (take n xs) ≡ n)
     → (passed : Bool) → p x ≡ passed → suc n ≤ cond passed (1 + prefix_len p xs) 0

@@ -15,6 +15,7 @@ pub mod ShownParts
 pub mod Formats
 pub mod DifferenceText
 pub mod QuotedTexts
+pub mod HeldTexts
 pub mod Runs
 -- for the examples
 pub mod Examples

@@ -18,13 +18,9 @@ takes_backslash Quoted b = b == 34 || b == 92
 abbrev pub begins_hidden : ℕ → Bool
 begins_hidden b = nat_lt b 0x20 || b == 0x7f || b == 0xc2 || b == 0xd8 || b == 0xe2 || b == 0xef
 
--- The byte begins a character that is escaped, or may begin one.
-abbrev pub begins_escaped : Escapes → ℕ → Bool
-begins_escaped escapes b = begins_hidden b || takes_backslash escapes b
-
--- The byte begins no character that is escaped, so it is copied as it is.
-abbrev pub is_copied : Escapes → ℕ → Bool
-is_copied escapes b = not (begins_escaped escapes b)
+-- No hidden character begins with the byte.
+abbrev pub is_plain : ℕ → Bool
+is_plain b = not (begins_hidden b)
 
 -- The hidden character that begins with these bytes, and the number of its bytes after the first. A byte that isn't
 -- there counts as 0.

@@ -19,8 +19,8 @@ use wsn_wire::Role;
 /// The maximum length in bytes of an offset and two spaces, with a number of twenty digits.
 const OFFSET_MAX: usize = 22;
 
-/// The maximum length in bytes of the fields of an event, with two numbers of twenty digits.
-const EVENT_MAX: usize = 49;
+/// The maximum length in bytes of the offset and the fields of an event, with three numbers of twenty digits.
+const EVENT_MAX: usize = 71;
 
 /// The maximum length in bytes of the fields of a head, with a number of twenty digits, and an LF.
 const FIELDS_MAX: usize = 48;
@@ -48,8 +48,8 @@ pub fn put_event<W: Write>(
         (Event front.now.offset e event.now.frames)) result }
     ensures unfailed { IfOk result (λ done. to.new.failed ≡ false) }
 {
-    put_front(to, front)?;
-    put_line(to, line_of_event(event).bytes())?;
+    put_endpoint(to, front)?;
+    put_line(to, line_of_event(front.offset, event).bytes())?;
     put_event_view(to, view, event)?;
     put_line(to, b"\n")
 }
@@ -163,9 +163,21 @@ fn put_front<W: Write>(to: &mut Output<W>, front: &Front<'_>) -> Result<(), Stop
     ensures { IsWrittenOrStops to.old to.new
         (front_text front.now.role (time_of front.now) front.now.offset) result }
 {
-    put_line(to, letter_of(front.role))?;
-    put_line(to, seconds_of(front))?;
+    put_endpoint(to, front)?;
     put_line(to, line_of_offset(front.offset).bytes())
+}
+
+/// Writes which endpoint an entry is about, and when.
+fn put_endpoint<W: Write>(to: &mut Output<W>, front: &Front<'_>) -> Result<(), Stop>
+    requires { to.old.failed ≡ false }
+    ensures { IsWrittenOrStops to.old to.new
+        (role_letter front.now.role ++ codes " " ++ time_text (time_of front.now)) result }
+{
+    let Some(seconds) = front.time else {
+        return put_line(to, untimed(front.role));
+    };
+    put_line(to, letter_of(front.role))?;
+    put_line(to, seconds)
 }
 
 #[tactic(none)]
@@ -178,13 +190,12 @@ fn letter_of(role: Role) -> &'static [u8]
     }
 }
 
-#[tactic(none)]
-fn seconds_of<'a>(front: &Front<'a>) -> &'a [u8]
-    ensures { result.now ≡ time_text (time_of front.now) }
+fn untimed(role: Role) -> &'static [u8]
+    ensures { result.now ≡ role_letter role ++ codes " -" }
 {
-    match front.time {
-        Some(seconds) => seconds,
-        None => b"-",
+    match role {
+        Role::Client => b"C -",
+        Role::Server => b"S -",
     }
 }
 
@@ -192,18 +203,27 @@ fn line_of_offset(offset: u64) -> Line<OFFSET_MAX>
     ensures { result ≡ codes " " ++ decimal offset ++ codes " " }
 {
     let mut line = Line::new();
-    line.push(" ");
-    line.push_number(offset);
-    line.push(" ");
+    push_offset(&mut line, offset);
     line
 }
 
-/// The word, the payload bytes and the frames of an event.
-fn line_of_event(event: &ShownEvent<'_>) -> Line<EVENT_MAX>
+fn push_offset<const MAX: usize>(line: &mut Line<MAX>, offset: u64)
+    requires { length line.old + 22 ≤ MAX }
+    ensures text { line.new ≡ line.old ++ codes " " ++ decimal offset ++ codes " " }
+    ensures len { length line.new ≤ length line.old + 22 }
+{
+    line.push(" ");
+    line.push_number(offset);
+    line.push(" ");
+}
+
+/// The offset, the word, the payload bytes and the frames of an event.
+fn line_of_event(offset: u64, event: &ShownEvent<'_>) -> Line<EVENT_MAX>
     ensures { (n : ℕ) (e : MeantEvent) → Represents n event.now e →
-        result ≡ event_text e event.now.frames ++ codes " " }
+        result ≡ codes " " ++ decimal offset ++ codes " " ++ event_text e event.now.frames ++ codes " " }
 {
     let mut line = Line::new();
+    push_offset(&mut line, offset);
     push_event(&mut line, event);
     line
 }

@@ -2,8 +2,7 @@
 ghost use Rattle.std.specs.Prelude.{◌≡◌, ◌<◌, length, map, get_or};
 ghost use Rattle.std.specs.List.{prefix_len};
 ghost use Rattle.std.specs.Simd.Lanes.{mask_l};
-ghost use Rattle.wsn_print.specs.declared.escapes.Escapes.TheVariants as Escapes;
-ghost use Rattle.wsn_print.specs.Runs.{begins_escaped, begins_hidden, hidden_of, is_copied, takes_backslash};
+ghost use Rattle.wsn_print.specs.Runs.{begins_hidden, hidden_of, is_plain, takes_backslash};
 
 use std::simd::prelude::*;
 
@@ -19,28 +18,16 @@ pub(crate) enum Escapes {
 /// The number of bytes that are looked at together.
 pub(crate) const BLOCK: usize = 16;
 
-/// The number of bytes at the start of a block that are copied as they are, whatever comes after them.
+/// The number of bytes at the start of a block with which no hidden character begins, whatever comes after them.
 #[inline(always)]
-pub(crate) fn copied_at_start(escapes: Escapes, block: u8x16) -> usize
-    ensures { result ≡ prefix_len (is_copied escapes) block }
+pub(crate) fn plain_at_start(block: u8x16) -> usize
+    ensures { result ≡ prefix_len is_plain block }
 {
-    let starts = escaped_starts(escapes, block);
+    let starts = hidden_starts(block);
     if starts == 0 {
         BLOCK
     } else {
         starts.trailing_zeros() as usize
-    }
-}
-
-/// A bit for each byte that begins a character that is escaped, or may begin one.
-#[inline(always)]
-fn escaped_starts(escapes: Escapes, block: u8x16) -> u64
-    ensures { result ≡ mask_l (map (begins_escaped escapes) block) }
-{
-    match escapes {
-        Escapes::Hidden => hidden_starts(block),
-        // No byte has both bits.
-        Escapes::Quoted => hidden_starts(block) + marks(block),
     }
 }
 
@@ -57,12 +44,17 @@ fn hidden_starts(block: u8x16) -> u64
         | block.simd_eq(u8x16::splat(0xef))).to_bitmask()
 }
 
-/// A bit for each quotation mark and backslash.
+/// A bit for each byte that takes a backslash.
 #[inline(always)]
-fn marks(block: u8x16) -> u64
-    ensures { result ≡ mask_l (map (takes_backslash Escapes.Quoted) block) }
+pub(crate) fn marks(escapes: Escapes, block: u8x16) -> u64
+    ensures { result ≡ mask_l (map (takes_backslash escapes) block) }
 {
-    (block.simd_eq(u8x16::splat(b'"')) | block.simd_eq(u8x16::splat(b'\\'))).to_bitmask()
+    match escapes {
+        Escapes::Hidden => 0,
+        Escapes::Quoted => {
+            (block.simd_eq(u8x16::splat(b'"')) | block.simd_eq(u8x16::splat(b'\\'))).to_bitmask()
+        }
+    }
 }
 
 /// Whether the byte is a character that is escaped by a backslash before it.

@@ -1,9 +1,9 @@
-ghost use Rattle.std.specs.Prelude.{◌≡◌, ℕ, ◌+◌, ◌-◌, ◌<◌, ◌≤◌, true, false, List, [], ◌++◌, length, take, drop};
+ghost use Rattle.std.specs.Prelude.{◌≡◌, ℕ, ◌+◌, ◌*◌, ◌-◌, ◌<◌, ◌≤◌, true, false, List, [], ◌++◌, length, take, drop, flat_map, codes};
 ghost use Rattle.std.specs.List.{prefix_len};
-ghost use Rattle.wsn_print.specs.Runs.{escaped, is_copied};
+ghost use Rattle.wsn_print.specs.Runs.{escaped, escaped_byte, is_plain};
 ghost use Rattle.wsn_print.specs.ShownText.{unicode_escape};
 
-use crate::escapes::{BLOCK, Escapes, copied_at_start, hidden_at_start, takes_backslash};
+use crate::escapes::{BLOCK, Escapes, hidden_at_start, marks, plain_at_start, takes_backslash};
 use crate::parts::{put, put_front, put_hex, put_slice};
 use std::marker::Model;
 use std::simd::prelude::*;
@@ -14,8 +14,11 @@ const HELD_MAX: usize = 256;
 /// The most bytes of a character that is shown: `\u` and four digits.
 pub(crate) const CHARACTER_MAX: usize = 6;
 
+/// The most bytes of a block that is shown, each after a backslash.
+const PLAIN_MAX: usize = 32;
+
 /// The room that one turn of a text needs: a block, and a character that is escaped.
-const TURN_MAX: usize = 22;
+const TURN_MAX: usize = 38;
 
 /// Text as it is written, held until then, at most 256 bytes.
 #[derive(Drop)]
@@ -54,8 +57,8 @@ impl HeldText {
         self.len > HELD_MAX - TURN_MAX
     }
 
-    /// Adds bytes at the start of a text: some that are copied as they are, and one character after them, if it is
-    /// escaped. Returns their number, which isn't 0.
+    /// Adds bytes at the start of a text: some that begin no hidden character, and one character after them, if it is
+    /// hidden. Returns their number, which isn't 0.
     #[inline(always)]
     pub(crate) fn add_start(&mut self, escapes: Escapes, text: &[u8]) -> usize
         requires room { length self.old + TURN_MAX ≤ 256 }
@@ -64,20 +67,20 @@ impl HeldText {
         ensures added { (more : List ℕ) × (self.new ≡ self.old ++ more)
             × (escaped escapes text.now ≡ more ++ escaped escapes (drop result text.now)) }
     {
-        let count = self.add_run(escapes, text);
+        let count = self.add_plain(escapes, text);
         if count == BLOCK || count == text.len() {
             return count;
         }
         count + self.add_first(escapes, &text[count..])
     }
 
-    /// Adds the first bytes of a text that are copied as they are, at most 16, and returns their number.
+    /// Adds the first bytes of a text with which no hidden character begins, at most 16, and returns their number.
     #[inline(always)]
-    fn add_run(&mut self, escapes: Escapes, text: &[u8]) -> usize
-        requires { length self.old + BLOCK ≤ 256 }
+    fn add_plain(&mut self, escapes: Escapes, text: &[u8]) -> usize
+        requires { length self.old + PLAIN_MAX ≤ 256 }
         ensures within { (result ≤ BLOCK) × (result ≤ length text.now) }
-        ensures copied { prefix_len (is_copied escapes) (take result text.now) ≡ result }
-        ensures added { self.new ≡ self.old ++ take result text.now }
+        ensures plain { prefix_len is_plain (take result text.now) ≡ result }
+        ensures added { self.new ≡ self.old ++ flat_map (escaped_byte escapes) (take result text.now) }
     {
         if text.len() < BLOCK {
             let mut block = [0; BLOCK];
@@ -88,17 +91,22 @@ impl HeldText {
         }
     }
 
-    /// Like `add_run`, for a text of 16 bytes or more, of which at most `most` are added.
+    /// Like `add_plain`, for a text of 16 bytes or more, of which at most `most` are added.
     #[inline(always)]
     fn add_front(&mut self, escapes: Escapes, text: &[u8], most: usize) -> usize
-        requires room { length self.old + BLOCK ≤ 256 }
+        requires room { length self.old + PLAIN_MAX ≤ 256 }
         requires long { BLOCK ≤ length text.now }
         requires within { most ≤ BLOCK }
         ensures few { result ≤ most }
-        ensures copied { prefix_len (is_copied escapes) (take result text.now) ≡ result }
-        ensures added { self.new ≡ self.old ++ take result text.now }
+        ensures plain { prefix_len is_plain (take result text.now) ≡ result }
+        ensures added { self.new ≡ self.old ++ flat_map (escaped_byte escapes) (take result text.now) }
     {
-        let count = copied_at_start(escapes, u8x16::from_slice(text)).min(most);
+        let block = u8x16::from_slice(text);
+        let count = plain_at_start(block).min(most);
+        if marks(escapes, block) != 0 {
+            self.len = put_each(escapes, &text[..count], &mut self.text, self.len);
+            return count;
+        }
         self.len = put_front(&text[..BLOCK], count, &mut self.text, self.len);
         count
     }
@@ -113,17 +121,25 @@ impl HeldText {
         ensures added { (more : List ℕ) × (self.new ≡ self.old ++ more)
             × (escaped escapes text.now ≡ more ++ escaped escapes (drop result text.now)) }
     {
-        let byte = text[0];
-        if let Some((number, more)) = hidden_at_start(text) {
-            self.len = put_escape(number, &mut self.text, self.len);
-            return 1 + more;
+        match hidden_at_start(text) {
+            Some((number, more)) => {
+                self.len = put_escape(number, &mut self.text, self.len);
+                1 + more
+            }
+            None => {
+                self.len = put_each(escapes, &text[..1], &mut self.text, self.len);
+                1
+            }
         }
-        if takes_backslash(escapes, byte) {
-            self.len = put([b'\\', byte], &mut self.text, self.len);
-        } else {
-            self.len = put([byte], &mut self.text, self.len);
-        }
-        1
+    }
+
+    /// Adds a quotation mark.
+    #[inline(always)]
+    pub(crate) fn add_mark(&mut self)
+        requires { length self.old + 1 ≤ 256 }
+        ensures { self.new ≡ self.old ++ codes "\"" }
+    {
+        self.len = put([b'"'], &mut self.text, self.len);
     }
 
     /// The text.
@@ -141,6 +157,22 @@ impl HeldText {
     {
         self.len = 0;
     }
+}
+
+/// Writes bytes at `start`, each after a backslash if it takes one, and returns where they end.
+#[inline(always)]
+fn put_each(escapes: Escapes, bytes: &[u8], text: &mut [u8], start: usize) -> usize
+    requires { start + 2 * length bytes.now ≤ length text.old }
+    ensures end { result ≤ start + 2 * length bytes.now }
+    ensures written { take result text.new ≡ take start text.old ++ flat_map (escaped_byte escapes) bytes.now }
+{
+    let mut at = start;
+    for byte in bytes {
+        let marked = usize::from(takes_backslash(escapes, *byte));
+        at = put_front(b"\\", marked, text, at);
+        at = put([*byte], text, at);
+    }
+    at
 }
 
 /// Writes `\u` and the four digits of a number at `at`, and returns where they end.

@@ -1,10 +1,8 @@
-ghost use Rattle.std.specs.Prelude.{◌≡◌, ℕ, ◌+◌, ◌*◌, ◌<◌, ◌≤◌, List, [], ◌∷◌, ◌++◌, length, decimal, slice_index};
+ghost use Rattle.std.specs.Prelude.{◌≡◌, ℕ, ◌+◌, ◌*◌, ◌<◌, ◌≤◌, List, [], ◌∷◌, ◌++◌, length, take, decimal, slice_index};
 ghost use Rattle.hex.specs.Hex.{encode_lower, lower_digits};
 ghost use Rattle.wsn_print.specs.Fields.{number_text, refusal_text, key_text, form_text};
 
-use crate::parts::put_key_digits;
-use arrayvec::ArrayVec;
-use itoa::Buffer;
+use crate::parts::{put, put_key, put_key_digits, put_number, put_slice};
 use std::marker::Model;
 use wsn_rules::Refusal;
 use wsn_wire::Form;
@@ -12,55 +10,56 @@ use wsn_wire::Form;
 /// A line that is being built: its bytes so far, at most `MAX`.
 #[derive(Drop)]
 pub struct Line<const MAX: usize> {
-    text: ArrayVec<u8, MAX>,
+    text: [u8; MAX],
+    /// The first `len` bytes are those of the line.
+    len: usize,
 }
 
 impl<const MAX: usize> Model for Line<MAX> {
     ghost Value = { List ℕ };
 
-    ghost view = { λ line. line.text.items };
+    ghost view = { λ line. take line.len line.text };
+
+    ghost invariant = { λ line. line.len ≤ length line.text };
 }
 
 impl<const MAX: usize> Line<MAX> {
     /// An empty line.
     #[inline(always)]
-    #[tactic(none)]
     pub fn new() -> Self
         ensures { result ≡ [] }
     {
         Line {
-            text: ArrayVec::new(),
+            text: [0; MAX],
+            len: 0,
         }
     }
 
     /// The bytes so far.
     #[inline(always)]
-    #[tactic(none)]
     pub fn bytes(&self) -> &[u8]
         ensures { result.now ≡ self.now }
     {
-        self.text.as_slice()
+        &self.text[..self.len]
     }
 
     /// Appends a text.
     #[inline(always)]
-    #[tactic(none)]
     pub fn push(&mut self, text: &str)
         requires { length self.old + length text.now ≤ MAX }
         ensures text { self.new ≡ self.old ++ text.now }
         ensures len { length self.new ≡ length self.old + length text.now }
     {
-        let _fits = self.text.try_extend_from_slice(text.as_bytes());
+        self.len = put_slice(text.as_bytes(), &mut self.text, self.len);
     }
 
     /// Appends a number in decimal digits, at most 20.
-    #[tactic(none)]
     pub fn push_number(&mut self, n: u64)
         requires { length self.old + 20 ≤ MAX }
         ensures text { self.new ≡ self.old ++ decimal n }
         ensures len { length self.new ≤ length self.old + 20 }
     {
-        self.push(Buffer::new().format(n));
+        self.len = put_number(n, &mut self.text, self.len);
     }
 
     /// Appends a number in decimal digits, or a dash for `None`.
@@ -78,17 +77,12 @@ impl<const MAX: usize> Line<MAX> {
 
     /// Appends a key's four bytes as eight lower-case hexadecimal digits, or a dash for `None`.
     #[inline(always)]
-    #[tactic(none)]
     pub fn push_key(&mut self, key: Option<[u8; 4]>)
         requires { length self.old + 8 ≤ MAX }
         ensures text { self.new ≡ self.old ++ key_text key }
         ensures len { length self.new ≤ length self.old + 8 }
     {
-        let Some(key) = key else {
-            self.push("-");
-            return;
-        };
-        let _fits = self.text.try_extend_from_slice(&key_digits(key));
+        self.len = put_key(key, &mut self.text, self.len);
     }
 
     /// Appends a byte as it is.
@@ -97,11 +91,10 @@ impl<const MAX: usize> Line<MAX> {
         ensures text { self.new ≡ self.old ++ b ∷ [] }
         ensures len { length self.new ≡ length self.old + 1 }
     {
-        let _fits = self.text.try_extend_from_slice(&[b]);
+        self.len = put([b], &mut self.text, self.len);
     }
 
     /// Appends bytes, at most 32, as two lower-case hexadecimal digits each.
-    #[tactic(none)]
     pub(crate) fn push_hex(&mut self, bytes: &[u8])
         requires few { length bytes.now ≤ 32 }
         requires room { length self.old + 2 * length bytes.now ≤ MAX }
@@ -111,7 +104,7 @@ impl<const MAX: usize> Line<MAX> {
         let mut digits = [0; 64];
         let digits = &mut digits[..2 * bytes.len()];
         let _fits = hex::encode_to_slice(bytes, digits);
-        let _fits = self.text.try_extend_from_slice(digits);
+        self.len = put_slice(digits, &mut self.text, self.len);
     }
 
     /// Appends ` two` or ` eight` for a length in a longer encoding, and nothing for the shortest (RFC 6455 section

@@ -6,6 +6,7 @@ ghost use Rattle.wsn_io.specs.Stops.{IsWrittenOrStops};
 ghost use Rattle.wsn_print.specs.ShownText.{is_hidden, unicode_escape, shown_character, quoted_character, quoted, shown_byte, comment_text, comment_line};
 ghost use Rattle.wsn_print.specs.ShownObjects.{quoted_byte, comment_characters};
 ghost use Rattle.wsn_print.specs.Runs.{escaped};
+ghost use Rattle.wsn_print.specs.HeldTexts.{IsHeldOrStops};
 
 use crate::escapes::Escapes;
 use crate::held_text::{CHARACTER_MAX, HeldText};
@@ -40,13 +41,17 @@ fn put_comment_text<W: Write>(to: &mut Output<W>, text: &[u8]) -> Result<(), Sto
 }
 
 /// Writes a text between quotation marks.
+#[inline(never)]
 pub(crate) fn put_quoted<W: Write>(to: &mut Output<W>, text: &str) -> Result<(), Stop>
     requires { to.old.failed ≡ false }
     ensures { IsWrittenOrStops to.old to.new (quoted text.now) result }
 {
-    put_line(to, b"\"")?;
-    put_quoted_characters(to, text)?;
-    put_line(to, b"\"")
+    let mut held = HeldText::new();
+    held.add_mark();
+    hold_escaped(to, &mut held, Escapes::Quoted, text.as_bytes())?;
+    make_room(to, &mut held)?;
+    held.add_mark();
+    put_line(to, held.text())
 }
 
 /// Writes the characters of a comment that is quoted. Of a comment that isn't UTF-8, each byte that isn't printable ASCII
@@ -79,19 +84,35 @@ fn put_shown<W: Write>(to: &mut Output<W>, text: &str) -> Result<(), Stop>
     put_escaped(to, Escapes::Hidden, text.as_bytes())
 }
 
-/// Writes a text in UTF-8 by runs of bytes that are copied as they are, with the characters between them escaped.
+/// Writes a text in UTF-8 with some characters escaped.
 #[inline(always)]
 fn put_escaped<W: Write>(to: &mut Output<W>, escapes: Escapes, text: &[u8]) -> Result<(), Stop>
     requires { to.old.failed ≡ false }
     ensures { IsWrittenOrStops to.old to.new (escaped escapes text.now) result }
 {
     let mut held = HeldText::new();
+    hold_escaped(to, &mut held, escapes, text)?;
+    put_line(to, held.text())
+}
+
+/// Adds a text in UTF-8 to what is held, by blocks, with some characters escaped, and writes what is held where there is
+/// no room for more.
+#[inline(always)]
+fn hold_escaped<W: Write>(
+    to: &mut Output<W>,
+    held: &mut HeldText,
+    escapes: Escapes,
+    text: &[u8],
+) -> Result<(), Stop>
+    requires { to.old.failed ≡ false }
+    ensures { IsHeldOrStops to.old to.new held.old held.new (escaped escapes text.now) result }
+{
     let mut at = 0;
     while at < text.len() {
-        make_room(to, &mut held)?;
+        make_room(to, held)?;
         at += held.add_start(escapes, &text[at..]);
     }
-    put_line(to, held.text())
+    Ok(())
 }
 
 /// Writes the characters that are held if there is no room for another.
@@ -100,7 +121,7 @@ fn make_room<W: Write>(to: &mut Output<W>, held: &mut HeldText) -> Result<(), St
     requires { to.old.failed ≡ false }
     ensures held { (front : List ℕ) × (front ++ held.new ≡ held.old)
         × IsWrittenOrStops to.old to.new front result }
-    ensures room { length held.new + 22 ≤ 256 }
+    ensures room { length held.new + 38 ≤ 256 }
 {
     if held.is_full() {
         put_held(to, held)

@@ -8,13 +8,13 @@ static REASONS: [Entry; 17] = [
 reserved-bits, code 1002: a reserved bit (hex 40, 20 or 10) is set in the byte
 where a frame should begin.
 RFC 6455, 5.2: these bits are 0 unless an agreed extension gives them a meaning.
-Usual causes: compression (permessage-deflate sets 40; RFC 7692). At offset 0
-also a file that is no stream of frames: ASCII text (an HTTP head, a capture,
-hex digits), a pcap, TLS, gzip. Later on, an earlier length is wrong, bytes are
-missing, or a program wrote text into the socket.
+Usual causes: compression (permessage-deflate sets 40; RFC 7692). At offset 0:
+no stream of frames but text (an HTTP head, a capture, hex), a pcap, TLS, gzip.
+Later on: an earlier wrong length, missing bytes, text written into the socket.
 Next: xxd -s OFFSET -l 32 FILE shows what it is. Compression: recipes/inflate
 CAPTURE, or record with recipes/record --plain. A pcap: recipes/pcap2wsn or
 wsn-pcap. A capture: add --capture. An HTTP head: LC_ALL=C sed '1,/^\\r$/d' FILE.
+8 of 36 implementations accept it (Poco, em-websocket): see docs/PEERS.md.
 ",
     },
     Entry {
@@ -28,6 +28,7 @@ are missing, or two threads wrote at once; a line end (0d 0a) after a frame,
 from a program that writes lines. Real uses of these opcodes are rare.
 Next: 'wsn frames' lists the frame before this one. Is its length what the
 sender meant? See the bytes around: xxd -s OFFSET -l 32 FILE.
+5 of 36 implementations accept it (Mojolicious, civetweb): see docs/PEERS.md.
 ",
     },
     Entry {
@@ -42,6 +43,7 @@ empty line in the stream looks like this, and so does a pcapng file at offset 0.
 Next: look: xxd -s OFFSET -l 32 FILE. If it is text, a program writes to the
 socket past its WebSocket library. For a pcapng file, run recipes/pcap2wsn or
 wsn-pcap.
+8 of 36 implementations accept it (wslay, websocket-client): see docs/PEERS.md.
 ",
     },
     Entry {
@@ -56,6 +58,7 @@ that send at once; a first fragment that a proxy or the recording lost; zeros,
 which some tools write for missing bytes.
 Next: 'wsn show CAPTURE' prints this side's message before it, 'wsn frames' its
 frames. If that message is incomplete and goes on here, its FIN is wrong.
+6 of 36 implementations accept it (Mojolicious, Poco): see docs/PEERS.md.
 ",
     },
     Entry {
@@ -70,6 +73,7 @@ sender that repeats the opcode in each fragment, where the later ones need 0.
 Next: 'wsn show CAPTURE' prints the open message, as 'unfinished', just before
 'refused'. If this frame continues it, the opcode is wrong; if it belongs to
 something else, the lock is missing.
+6 of 36 implementations accept some (aiohttp, Mojolicious): see docs/PEERS.md.
 ",
     },
     Entry {
@@ -83,8 +87,8 @@ Usual causes: --role names the wrong side (then OFFSET is 1); a whole capture
 that went through xxd -r -p, so both sides' bytes; a home-made client, or a
 server's library used as a client; a tool that recorded unmasked frames.
 Next: --role is the endpoint that sent the bytes: try --role server. Of a
-capture, add --capture and leave xxd out. If the client did send unmasked
-frames, it is at fault, even if some servers tolerate it.
+capture, add --capture and leave xxd out. Else the client is at fault.
+16 of 32 servers accept it (aiohttp, Tornado, Qt): see docs/PEERS.md.
 ",
     },
     Entry {
@@ -99,6 +103,7 @@ passes on a client's frames unchanged; a client's library used in a server.
 Next: --role is the endpoint that sent the bytes: try --role client. If the
 server did send them, list both sides with 'wsn frames --role client': keys that
 are in both lists are those of frames that were passed on.
+20 of 34 clients accept it (Firefox, aiohttp, Qt): see docs/PEERS.md.
 ",
     },
     Entry {
@@ -113,6 +118,7 @@ an earlier length is wrong, or two threads wrote at once.
 Next: 'wsn show CAPTURE' ends the line 'refused' with the frame's two bytes; the
 first says which it is: 88 a Close, 89 a ping, 8a a pong. Shorten the reason at
 the sender: count bytes, cut between characters.
+7 of 36 implementations accept it, 20 if the length is small: see docs/PEERS.md.
 ",
     },
     Entry {
@@ -125,6 +131,7 @@ e8); a reason of one character without a code; a payload that was truncated.
 Next: find where the sender builds its Close: the code's high byte, its low
 byte, then the reason in UTF-8. For no code, send no payload at all; the other
 application then sees 1005.
+10 of 36 implementations accept it (Firefox, gorilla): see docs/PEERS.md.
 ",
     },
     Entry {
@@ -139,6 +146,7 @@ is wrong, or two threads wrote at once; a negative number at the sender (ff ff
 Next: see the eight bytes: xxd -s $((OFFSET - 7)) -l 8 FILE. If they make sense
 when read backwards, it is the byte order. If not, look at the frame before this
 one in 'wsn frames'.
+10 of 36 implementations accept it (websockets, aiohttp): see docs/PEERS.md.
 ",
     },
     Entry {
@@ -148,11 +156,11 @@ length-not-minimal, code 1002: a length is encoded in two or eight bytes and
 fits in fewer. OFFSET is its last byte.
 RFC 6455, 5.2: a length must be encoded in the fewest bytes.
 Usual causes: a small or embedded sender that leaves room for a head of fixed
-size before it knows the length; a proxy that rewrites heads. Many receivers
-accept it; Chromium refuses it.
+size before it knows the length; a proxy that rewrites heads.
 Next: 'wsn frames --lengths any' reads on, marks such frames 'two' or 'eight',
 and finds what else is wrong. Correct the sender: up to 125 use one byte, up to
 65535 the field 126 and two bytes.
+24 of 36 implementations accept it (ws, gorilla, Tomcat): see docs/PEERS.md.
 ",
     },
     Entry {
@@ -181,6 +189,7 @@ an HTTP status such as 500; the low byte first (e803 is 59395); no code before
 the reason, so that its first two letters are read as one.
 Next: 'wsn show CAPTURE' ends the line 'refused' with the code, unmasked, in hex
 (03ee is 1006). In a relay, send no code for 1005, and 1001 or 1011 for 1006.
+17 of 36 implementations accept some (Chromium, Firefox): see docs/PEERS.md.
 ",
     },
     Entry {
@@ -194,6 +203,7 @@ message of the system in another encoding (Latin-1, GBK, Shift JIS).
 Next: 'wsn show CAPTURE' ends the line 'refused' with the code and the reason up
 to that byte, in hex. At the sender, convert the reason to UTF-8 first, then
 shorten it between two characters. A short reason in ASCII is the safest.
+12 of 36 implementations accept it (nhooyr, wslay): see docs/PEERS.md.
 ",
     },
     Entry {
@@ -208,6 +218,7 @@ apostrophe); binary data sent as text (gzip begins with 1f 8b); surrogates one
 by one (ed a0 ..) or c0 80, from CESU-8 or Java's modified UTF-8.
 Next: 'wsn show CAPTURE' ends the line 'refused' with the text up to that byte,
 unmasked, in hex. Convert it to UTF-8 where it is made, or send it as binary.
+9 of 36 implementations accept it (gorilla, libwebsockets): see docs/PEERS.md.
 ",
     },
     Entry {
@@ -221,8 +232,8 @@ sent block by block as messages; a buffer that truncates; a length in characters
 where bytes are meant.
 Next: in 'wsn show CAPTURE' 'unread' begins with the next frame. If its text
 begins with a byte from 80 to bf, both are one text. Send the blocks as
-fragments of one message, keep the incomplete character for the next block, or
-send binary.
+fragments of one message, or keep a begun character for the next block.
+13 of 36 implementations accept some (Boost.Beast, gorilla): see docs/PEERS.md.
 ",
     },
     Entry {

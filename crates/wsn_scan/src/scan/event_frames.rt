@@ -72,9 +72,14 @@ impl Scan {
         if !self.is_idle() {
             return 0;
         }
+        // The compiler knows of this copy that no message is open.
+        let context = FrameContext {
+            message: None,
+            ..self.context
+        };
         let mut counts = self.counts;
         let mut at = 0;
-        while let Some(frame) = take_event(&self.context, false, empty, &mut piece[at..]) {
+        while let Some(frame) = take_event(&context, false, empty, &mut piece[at..]) {
             counts = counts.with(true, frame.op);
             at += frame.size;
         }
@@ -127,7 +132,12 @@ impl Scan {
         if !self.is_idle() {
             return None;
         }
-        let frame = take_event(&self.context, message, Empty::Left, piece)?;
+        // The compiler knows of this copy that no message is open.
+        let context = FrameContext {
+            message: None,
+            ..self.context
+        };
+        let frame = take_event(&context, message, Empty::Left, piece)?;
         self.counts = self.counts.with(true, frame.op);
         self.room -= frame.size as u64;
         self.used = self.taken();

@@ -1,12 +1,19 @@
-use Rattle.std.proofs.Common.{refl}
+use Rattle.std.proofs.Common.{refl, ap, sym, ◌∙◌, map}
 use Rattle.std.specs.Prelude.{◌==◌}
+use Rattle.std.specs.Simd.Lanes.{mask_l}
 use Rattle.wsn_print.specs.Runs.{takes_backslash}
+use Rattle.wsn_print.specs.declared.escapes.Escapes.{Escapes}
 use Rattle.wsn_print.specs.declared.escapes.Escapes.TheVariants.{Quoted}
-use Rattle.wsn_print.proofs.MaskedLanes.{bits_of, compared, either}
+use Rattle.wsn_print.proofs.MaskedLanes.{bits_of, compared, either, no_marks}
 use Rattle.wsn_print.proofs.escapes.marks.Goals as goal
 
-pub returns : goal.returns
-returns c =
+pub returns-in-Quoted : goal.returns-in-Quoted
+returns-in-Quoted c =
     let v = c.args.block in
     let long = c.fits-block.0 in
     bits_of _ (takes_backslash Quoted) _ v long (λ x. refl) (either _ refl refl refl refl _ _ _ _ v (compared _ (λ x. x == 34) v 16 34 long (λ x. refl)) (compared _ (λ x. x == 92) v 16 92 long (λ x. refl)))
+    ∙ ap (λ (escapes : Escapes). mask_l (map (takes_backslash escapes) v)) (sym c.in-Quoted.is)
+
+pub returns-in-Hidden : goal.returns-in-Hidden
+returns-in-Hidden c =
+    no_marks c.args.block ∙ ap (λ (escapes : Escapes). mask_l (map (takes_backslash escapes) c.args.block)) (sym c.in-Hidden.is)

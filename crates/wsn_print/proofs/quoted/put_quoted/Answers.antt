@@ -1,18 +1,53 @@
-use Rattle.std.proofs.Common.{◌++◌, codes, append_assoc}
+use Rattle.std.proofs.Common.{◌≡◌, ◌++◌, ℕ, List, [], codes, refl, ap, ap₂, ◌∙◌, subst}
 use Rattle.std.specs.Prelude.{flat_map}
-use Rattle.std.specs.Str.{chars}
+use Rattle.std.specs.Str.{IsUtf8, chars}
+use Rattle.wsn_io.specs.Transfer.{IsPartlyWritten}
+use Rattle.wsn_io.specs.declared.stop.Stop.TheVariants as stop
+use Rattle.wsn_io.specs.Stops.{IsWrittenOrStops}
+use Rattle.wsn_print.specs.declared.escapes.Escapes.TheVariants.{Quoted}
 use Rattle.wsn_print.specs.ShownText.{quoted, quoted_character}
-use Rattle.wsn_print.proofs.Pieces.{first_stops, second_stops, three_pieces}
+use Rattle.wsn_print.specs.Runs.{escaped}
+use Rattle.wsn_print.proofs.Gathered.{IsGathered, gathers_on, gathering_stopped, adding_stopped, gathering_ended}
+use Rattle.wsn_print.proofs.RunTexts.{text_written}
 use Rattle.wsn_print.proofs.quoted.put_quoted.Goals as goal
 
-pub returns-in_err-put_line : goal.returns-in_err-put_line
-returns-in_err-put_line g c =
-    first_stops c.args.to.now c.put_line.new.to (codes "\"") ((flat_map quoted_character (chars c.args.text.now)) ++ (codes "\"")) (quoted c.args.text.now) c.in_err-put_line.field-0.0 c.from_residual.result (simp append_assoc) (c.in_err-put_line.ensures) c.from_residual.ensures.1
+-- a text after a quotation mark
+begun : (text bytes held none : List ℕ) → none ≡ [] → held ≡ none ++ codes "\"" → bytes ≡ text → IsUtf8 text
+    → held ++ escaped Quoted bytes ≡ codes "\"" ++ flat_map quoted_character (chars text)
+begun text bytes held none is_none is same utf8 =
+    ap₂ (λ (front rest : List ℕ). front ++ rest) (is ∙ ap (λ (t : List ℕ). t ++ codes "\"") is_none) (ap (escaped Quoted) same ∙ text_written Quoted text utf8)
 
-pub returns-in_err-put_quoted_characters : goal.returns-in_err-put_quoted_characters
-returns-in_err-put_quoted_characters g c =
-    second_stops c.args.to.now c.put_line.new.to c.put_quoted_characters.new.to (codes "\"") (flat_map quoted_character (chars c.args.text.now)) (codes "\"") (quoted c.args.text.now) c.in_err-put_quoted_characters.field-0.0 c.from_residual-in_err-put_quoted_characters.result (simp append_assoc) (c.in_ok-put_line.ensures) (c.in_err-put_quoted_characters.ensures) c.from_residual-in_err-put_quoted_characters.ensures.1
+pub returns-in_err-hold_escaped : goal.returns-in_err-hold_escaped
+returns-in_err-hold_escaped g c =
+    let text : List ℕ = codes "\"" ++ flat_map quoted_character (chars c.args.text.now) in
+    let put = subst (λ (t : List ℕ). (c.in_err-hold_escaped.field-0.0 ≡ stop.Write) × IsPartlyWritten c.args.to.now c.hold_escaped.new.to t)
+    (begun c.args.text.now c.as_bytes.result.now c.add_mark.new.self c.new-held.result c.new-held.ensures c.add_mark.ensures c.as_bytes.ensures.value c.utf8.text) c.in_err-hold_escaped.ensures in
+    adding_stopped c.args.to.now c.hold_escaped.new.to text (codes "\"") c.in_err-hold_escaped.field-0.0 c.from_residual.result put c.from_residual.ensures.1
+
+pub returns-in_err-make_room : goal.returns-in_err-make_room
+returns-in_err-make_room g c =
+    let text : List ℕ = codes "\"" ++ flat_map quoted_character (chars c.args.text.now) in
+    let held = c.in_ok-hold_escaped.ensures in
+    let room = c.in_err-make_room.ensures.held in
+    let one : IsGathered c.args.to.now c.hold_escaped.new.to text c.hold_escaped.new.held = (
+      held.0,
+      held.1 ∙ begun c.args.text.now c.as_bytes.result.now c.add_mark.new.self c.new-held.result c.new-held.ensures c.add_mark.ensures c.as_bytes.ensures.value c.utf8.text,
+      held.2,
+    ) in
+    gathering_stopped c.args.to.now c.hold_escaped.new.to c.make_room.new.to text c.hold_escaped.new.held room.0 c.make_room.new.held (codes "\"") (quoted c.args.text.now)
+    c.in_err-make_room.field-0.0 c.from_residual-in_err-make_room.result one refl room.1 room.2 c.from_residual-in_err-make_room.ensures.1
 
 pub returns : goal.returns
 returns g c =
-    three_pieces c.args.to.now c.put_line.new.to c.put_quoted_characters.new.to c.put_line-2.new.to (codes "\"") (flat_map quoted_character (chars c.args.text.now)) (codes "\"") (quoted c.args.text.now) c.put_line-2.result (simp append_assoc) (c.in_ok-put_line.ensures) (c.in_ok-put_quoted_characters.ensures) (c.put_line-2.ensures)
+    let text : List ℕ = codes "\"" ++ flat_map quoted_character (chars c.args.text.now) in
+    let held = c.in_ok-hold_escaped.ensures in
+    let room = c.in_ok-make_room.ensures.held in
+    let one : IsGathered c.args.to.now c.hold_escaped.new.to text c.hold_escaped.new.held = (
+      held.0,
+      held.1 ∙ begun c.args.text.now c.as_bytes.result.now c.add_mark.new.self c.new-held.result c.new-held.ensures c.add_mark.ensures c.as_bytes.ensures.value c.utf8.text,
+      held.2,
+    ) in
+    let all = gathers_on c.args.to.now c.hold_escaped.new.to c.make_room.new.to text c.hold_escaped.new.held c.make_room.new.held c.add_mark-2.new.self (codes "\"") one
+    (room.0, room.1, room.2) c.add_mark-2.ensures in
+    gathering_ended c.args.to.now c.make_room.new.to c.put_line.new.to (quoted c.args.text.now) c.add_mark-2.new.self c.put_line.result all
+    (subst (λ (t : List ℕ). IsWrittenOrStops c.make_room.new.to c.put_line.new.to t c.put_line.result) c.text.ensures c.put_line.ensures)

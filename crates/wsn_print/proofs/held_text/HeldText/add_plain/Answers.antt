@@ -1,17 +1,18 @@
 use Rattle.std.proofs.Common.{◌≡◌, ◌++◌, ℕ, List, ap, subst, ◌∙◌}
+use Rattle.std.specs.Prelude.{flat_map}
 use Rattle.std.specs.List.{prefix_len}
-use Rattle.wsn_print.specs.Runs.{is_copied}
+use Rattle.wsn_print.specs.Runs.{escaped_byte, is_plain}
 use Rattle.wsn_print.proofs.RunTexts.{starts_alike}
-use Rattle.wsn_print.proofs.held_text.HeldText.add_run.Goals as goal
+use Rattle.wsn_print.proofs.held_text.HeldText.add_plain.Goals as goal
 
-pub returns-then-text-lt-BLOCK-clause-copied : goal.returns-then-text-lt-BLOCK-clause-copied
-returns-then-text-lt-BLOCK-clause-copied c =
-    subst (λ (xs : List ℕ). prefix_len (is_copied c.args.escapes) xs ≡ c.add_front.result)
+pub returns-then-text-lt-BLOCK-clause-plain : goal.returns-then-text-lt-BLOCK-clause-plain
+returns-then-text-lt-BLOCK-clause-plain c =
+    subst (λ (xs : List ℕ). prefix_len is_plain xs ≡ c.add_front.result)
     (starts_alike c.put_slice-end.new.text c.args.text.now c.put_slice-end.result c.add_front.result c.put_slice-end.ensures.written c.add_front.ensures.few)
-    c.add_front.ensures.copied
+    c.add_front.ensures.plain
 
 pub returns-then-text-lt-BLOCK-clause-added : goal.returns-then-text-lt-BLOCK-clause-added
 returns-then-text-lt-BLOCK-clause-added c =
     c.add_front.ensures.added
-    ∙ ap (λ (more : List ℕ). c.args.self.now ++ more)
+    ∙ ap (λ (more : List ℕ). c.args.self.now ++ flat_map (escaped_byte c.args.escapes) more)
     (starts_alike c.put_slice-end.new.text c.args.text.now c.put_slice-end.result c.add_front.result c.put_slice-end.ensures.written c.add_front.ensures.few)
