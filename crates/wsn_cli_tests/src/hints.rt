@@ -353,7 +353,8 @@ fn the_start_of_a_capture_is_kept(rt: HostRuntime) {
     let mut read = Vec::new(rt.alloc());
     start.read_to_end(&mut read).expect(&rt, "a slice is read");
     assert!(rt; read == text);
-    assert!(rt; start.kept() == &text[..65_536]);
+    assert_eq!(rt; start.kept().len(), 65_536);
+    assert!(rt; text.as_slice().starts_with(start.kept()));
     assert!(rt; CaptureStart::new(text.as_slice()).kept().is_empty());
 }
 
