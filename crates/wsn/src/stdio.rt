@@ -14,7 +14,8 @@ use std::rt::Runtime;
 use std::{fs, str};
 use wsn_capture::SideReader;
 use wsn_cli::{
-    Hint, How, Job, Mistake, Unread, UnreadFile, hint_on_run, plan_hint_of, run, run_on_side,
+    CaptureStart, Hint, How, Job, Mistake, Unread, UnreadFile, hint_on_run, plan_hint_of, run,
+    run_on_side,
 };
 use wsn_io::{BlockReader, BlockWriter, FirstBytes, Input, Output, Stop, TiedReader, TiedWriter};
 use wsn_plan::{PlanFileFault, read_plan_file};
@@ -115,7 +116,7 @@ fn perform_on<R: Runtime + AllocGlobal, S: Read + Drop>(
     requires may_run { MayRun job.now }
     requires own { IsOwnSide job.now side }
 {
-    let mut first = FirstBytes::new(input);
+    let mut first = CaptureStart::new(input);
     let mut diagnosed = OneLine::new();
     let mut output = Pipe::new(io::writer(rt));
     let done = work(

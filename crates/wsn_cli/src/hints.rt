@@ -1,20 +1,26 @@
 use crate::compared_hint::ComparedHint;
 use std::alloc::Allocator;
-use wsn_hint::{Hint, capture_hint_of, hint_of};
+use wsn_hint::{Hint, capture_hint_of, hint_of, sides_hint_of};
 use wsn_job::{Comparison, Job};
 use wsn_print::Format;
 use wsn_rules::Limits;
 use wsn_wire::Role;
 
+/// The exit status of a run in which no side that is read is refused.
+const ACCEPTED: u8 = 0;
+
 /// The exit status of a run without an answer.
 const FAULT: u8 = 2;
 
-/// The hint on a job's run over an input whose first bytes are `first`, its first 16 or all of them if there are fewer.
-/// `status` is the run's exit status, `said` what it put on standard error, and `side` the side of a capture that it
-/// read, if it read one.
+/// The number of bytes by which a file's format is known.
+const MARK: usize = 16;
+
+/// The hint on a job's run over an input whose first bytes are `first`, its first 65,536 or all of them if there are
+/// fewer. `status` is the run's exit status, `said` what it put on standard error, and `side` the side of a capture that
+/// it read, if it read one.
 ///
-/// A stream may have one if it has a verdict, and a capture if a line of it isn't accepted. A job that prints JSON has
-/// none.
+/// A stream may have one if it has a verdict; a capture if a line of it isn't accepted, if a side that is read is
+/// refused, or if it is empty. A job that prints JSON has none.
 pub fn hint_on_run<A: Allocator>(
     job: &Job<A>,
     side: Option<Role>,
@@ -25,17 +31,37 @@ pub fn hint_on_run<A: Allocator>(
     if is_json(job) {
         return None;
     }
-    match stream_of(job) {
-        Some((role, limits)) if side.is_none() => {
-            if status == FAULT {
-                return None;
-            }
-            let hint = hint_of(first, role, limits)?;
-            Some(suited_to(job, hint))
-        }
-        _ if is_faulty_line(said) => capture_hint_of(first),
-        _ => None,
+    if side.is_some() || job.role().is_none() {
+        return hint_on_capture(side, limits_of(job), first, status, said);
     }
+    if status == FAULT {
+        return None;
+    }
+    let hint = hint_of(mark_of(first), job.role()?, limits_of(job))?;
+    Some(suited_to(job, hint))
+}
+
+/// The hint on a run over a capture. `side` is the side that was read, or `None` for both.
+fn hint_on_capture(
+    side: Option<Role>,
+    limits: Limits,
+    first: &[u8],
+    status: u8,
+    said: &[u8],
+) -> Option<Hint> {
+    if is_faulty_line(said) {
+        return capture_hint_of(mark_of(first));
+    }
+    match status {
+        ACCEPTED if !first.is_empty() => None,
+        FAULT => None,
+        _ => sides_hint_of(first, side, limits),
+    }
+}
+
+/// The bytes by which a file's format is known.
+fn mark_of(first: &[u8]) -> &[u8] {
+    &first[..first.len().min(MARK)]
 }
 
 /// The hint on a comparison of two streams whose first bytes are these: that of the first stream that has one. `status`
@@ -80,16 +106,17 @@ fn is_faulty_line(said: &[u8]) -> bool {
     said.starts_with(b"line ")
 }
 
-/// The endpoint whose stream the job reads, and the limits. `None` for a job that reads a capture of both.
-fn stream_of<A: Allocator>(job: &Job<A>) -> Option<(Role, Limits)> {
+/// The limits under which the job reads its input.
+fn limits_of<A: Allocator>(job: &Job<A>) -> Limits {
     match job {
-        Job::Judge(role, limits, _)
-        | Job::Frames(role, limits, _)
-        | Job::Normal(role, limits)
-        | Job::Plan(role, limits)
-        | Job::Recut(role, limits, _)
-        | Job::ShowStream(role, limits, _) => Some((*role, *limits)),
-        Job::Closing(_, _) | Job::Show(_, _) => None,
+        Job::Judge(_, limits, _)
+        | Job::Frames(_, limits, _)
+        | Job::Normal(_, limits)
+        | Job::Plan(_, limits)
+        | Job::Recut(_, limits, _)
+        | Job::ShowStream(_, limits, _)
+        | Job::Closing(limits, _)
+        | Job::Show(limits, _) => *limits,
     }
 }
 

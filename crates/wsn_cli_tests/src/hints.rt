@@ -1,10 +1,11 @@
 //! Hints: each everyday mistake by the first bytes of its format, and what has none.
 
 use std::alloc::Global;
+use std::io::Read;
 use std::process::Abort;
 use wsn_cli::{
-    ComparedHint, Comparison, Format, Hint, Job, Without, capture_hint_of, hint_of, hint_on_run,
-    hint_on_sides, hint_on_streams, plan_hint_of,
+    CaptureStart, ComparedHint, Comparison, Format, Hint, Job, Without, capture_hint_of, hint_of,
+    hint_on_run, hint_on_sides, hint_on_streams, plan_hint_of, sides_hint_of,
 };
 use wsn_print::ViewLimit;
 use wsn_rules::{Detail, INPUT_MAX, Limits, MESSAGE_MAX};
@@ -129,7 +130,33 @@ fn other_texts_are_no_bytes_of_an_endpoint(rt: HostRuntime) {
                 "{text}"
             );
         }
-        assert_eq!(rt; capture_hint_of(text.as_bytes()), None);
+        let expected = text.starts_with("{").then_some(Hint::Json);
+        assert_eq!(rt; capture_hint_of(text.as_bytes()), expected);
+    }
+}
+
+/// First lines that are nearly lines of a capture, and lines that are, or are wrong in another way.
+static LINES: [(&str, Option<Hint>); 14] = [
+    ("{\"log\": {\"version", Some(Hint::Json)),
+    ("{\n  \"log\": {\n", Some(Hint::Json)),
+    ("c 818537fa213d7f", Some(Hint::SmallLetters)),
+    ("s 81 05 48\n", Some(Hint::SmallLetters)),
+    ("s.\nc.\n", Some(Hint::SmallLetters)),
+    ("C 81 85 37 fa 21", Some(Hint::Blanks)),
+    ("S 8105:4865:6c6c", Some(Hint::Blanks)),
+    ("S 89 00\nC.", Some(Hint::Blanks)),
+    ("S  8900\n", Some(Hint::Blanks)),
+    ("S 8900 \n", Some(Hint::Blanks)),
+    ("S 8900\nC 81 85", None),
+    ("C 0x8185\n", None),
+    ("C 818\n", None),
+    ("client 8185\n", None),
+];
+
+#[test]
+fn a_line_that_is_nearly_one_of_a_capture_has_a_hint(rt: HostRuntime) {
+    for row in LINES.iter() {
+        assert_eq!(rt; capture_hint_of(row.0.as_bytes()), row.1, "{}", row.0);
     }
 }
 
@@ -193,10 +220,142 @@ fn frames_are_compressed_or_of_the_other_endpoint(rt: HostRuntime) {
 }
 
 #[test]
-fn an_empty_stream_has_a_hint_and_an_empty_capture_none(rt: HostRuntime) {
+fn an_empty_stream_has_a_hint_and_so_has_an_empty_capture(rt: HostRuntime) {
     assert_eq!(rt; of_stream(&rt, &[], Role::Server), Some(Hint::Empty));
     assert_eq!(rt; capture_hint_of(&[]), None);
     assert_eq!(rt; plan_hint_of(&[]), None);
+    for side in [None, Some(Role::Client), Some(Role::Server)] {
+        assert_eq!(rt; of_sides(&rt, "", side), Some(Hint::Empty));
+        assert_eq!(rt; of_sides(&rt, "# no bytes\nC.\nS.\n", side), None);
+    }
+}
+
+/// The hint on the sides of a capture under the greatest limits.
+fn of_sides(rt: &impl Abort, text: &str, side: Option<Role>) -> Option<Hint> {
+    sides_hint_of(text.as_bytes(), side, limits(rt, MESSAGE_MAX))
+}
+
+/// Captures with a refused side: the hint where both sides are read, where the client's is, and where the server's is.
+/// `c107f248cdc9c90700` is "Hello", compressed (RFC 7692 section 7.2.3.1); `c9`, `a1` and `e1` have other bits or
+/// another opcode.
+static REFUSED: [(&str, Option<Hint>, Option<Hint>, Option<Hint>); 15] = [
+    (
+        "# extensions: permessage-deflate; client_max_window_bits=12\nC c187912ec62e63660be75829c6\nS c107f248cdc9c90700\n",
+        Some(Hint::Compressed),
+        Some(Hint::Compressed),
+        Some(Hint::Compressed),
+    ),
+    (
+        "C c187912ec62e63660be75829c6\nS c107f248cdc9c90700\n",
+        Some(Hint::MaybeCompressed),
+        Some(Hint::MaybeCompressed),
+        Some(Hint::MaybeCompressed),
+    ),
+    (
+        "# 0.000120\nC 8180000000\nC 00\nS 8900\nS 4103f248\nS cd",
+        Some(Hint::MaybeCompressed),
+        None,
+        Some(Hint::MaybeCompressed),
+    ),
+    (
+        "# extensions: x-other, permessage-deflate\r\nS 8900\r\nS a103f248cd\r\n",
+        Some(Hint::Compressed),
+        None,
+        Some(Hint::Compressed),
+    ),
+    (
+        "# extensions: permessage-deflate\nS c1",
+        Some(Hint::Compressed),
+        None,
+        Some(Hint::Compressed),
+    ),
+    (
+        "# path: /permessage-deflate\nS a103f248cd\n",
+        None,
+        None,
+        None,
+    ),
+    ("S c1\n", None, None, None),
+    ("S c900\nC a18500000000\n", None, None, None),
+    ("S c187912ec62e63660be75829c6\nC e185", None, None, None),
+    (
+        "C 810548656c6c6f\nS 818500000000\n",
+        Some(Hint::Exchanged),
+        Some(Hint::Exchanged),
+        Some(Hint::Exchanged),
+    ),
+    ("C 810548656c6c6f\nS 8900\n", None, None, None),
+    (
+        "C 818000000000\nC 8900\nS 8900\nS 818000000000\n",
+        None,
+        None,
+        None,
+    ),
+    (
+        "S 810548656c6c6f\nS 81074772fcdf656e21\nC 888200000000\n",
+        Some(Hint::NotUtf8),
+        None,
+        Some(Hint::NotUtf8),
+    ),
+    (
+        "C 818100000000ff\nS c107f248cdc9c90700\n",
+        Some(Hint::MaybeCompressed),
+        Some(Hint::NotUtf8),
+        Some(Hint::MaybeCompressed),
+    ),
+    (
+        "C 818100000000ff\nS 8801ff\n",
+        Some(Hint::NotUtf8),
+        Some(Hint::NotUtf8),
+        None,
+    ),
+];
+
+#[test]
+fn a_refused_side_is_compressed_exchanged_or_no_utf8(rt: HostRuntime) {
+    for row in REFUSED.iter() {
+        assert_eq!(rt; of_sides(&rt, row.0, None), row.1, "{}", row.0);
+        assert_eq!(rt;
+            of_sides(&rt, row.0, Some(Role::Client)),
+            row.2,
+            "{}",
+            row.0
+        );
+        assert_eq!(rt;
+            of_sides(&rt, row.0, Some(Role::Server)),
+            row.3,
+            "{}",
+            row.0
+        );
+    }
+}
+
+/// The first bytes of a longer capture may end inside a line, after an odd digit.
+#[test]
+fn a_line_that_is_cut_hides_no_refusal_before_it(rt: HostRuntime) {
+    let cut = "S 8900\nS c107f248cdc9c90700\nC 8";
+    assert_eq!(rt; of_sides(&rt, cut, None), Some(Hint::MaybeCompressed));
+    assert_eq!(rt;
+        of_sides(&rt, "S c107f248cdc9c907\nS 0", None),
+        Some(Hint::MaybeCompressed)
+    );
+    assert_eq!(rt; of_sides(&rt, "S 8900\nS c107f", None), None);
+}
+
+/// What is read through it is unchanged, and the first 65,536 bytes of it are kept.
+#[test]
+fn the_start_of_a_capture_is_kept(rt: HostRuntime) {
+    let mut text = Vec::new(rt.alloc());
+    for number in 0..70_000u32 {
+        text.push((number % 251) as u8).expect(&rt, "memory");
+    }
+    let mut start = CaptureStart::new(text.as_slice());
+    let mut read = Vec::new(rt.alloc());
+    start.read_to_end(&mut read).expect(&rt, "a slice is read");
+    assert!(rt; read == text);
+    assert_eq!(rt; start.kept().len(), 65_536);
+    assert!(rt; text.as_slice().starts_with(start.kept()));
+    assert!(rt; CaptureStart::new(text.as_slice()).kept().is_empty());
 }
 
 #[test]

@@ -4,7 +4,6 @@ use Rattle.std.proofs.lemmas.List.{length-take}
 use Rattle.wsn_wire.specs.declared.endpoint.Role.{Role}
 use Rattle.wsn_wire.specs.declared.refusal.Reason.{Reason}
 use Rattle.wsn_wire.specs.Frame.{Frame, stream}
-use Rattle.wsn_rules.specs.declared.verdict.Verdict.{Verdict}
 use Rattle.wsn_rules.specs.declared.verdict.Verdict.TheVariants.{Accepted, Cut, Refused}
 use Rattle.wsn_rules.specs.declared.verdict.Summary.{Summary}
 use Rattle.wsn_rules.specs.declared.verdict.Refusal.{Refusal}

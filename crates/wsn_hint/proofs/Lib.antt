@@ -1,1 +1,2 @@
 mod EarlyVerdicts
+mod KeptBytes

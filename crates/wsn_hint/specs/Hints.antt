@@ -8,7 +8,7 @@ use Rattle.wsn_rules.specs.Limits.{Limits}
 use Rattle.wsn_rules.specs.Verdict.{IsRefused, IsVerdict}
 use Rattle.wsn_scan.specs.Judging.{IsUnrefused}
 use Rattle.wsn_hint.specs.declared.hint.Hint.{Hint}
-use Rattle.wsn_hint.specs.declared.hint.Hint.TheVariants.{Empty, Pcap, PcapNg, Gzip, Tls, ByteOrderMark, OtherRole, Stream}
+use Rattle.wsn_hint.specs.declared.hint.Hint.TheVariants.{Empty, Pcap, PcapNg, Gzip, Tls, ByteOrderMark, OtherRole, Stream, Json, SmallLetters, Blanks}
 
 -- This is the verdict on the bytes.
 abbrev pub HasVerdict : Role → Limits → List ℕ → Verdict → Type 0
@@ -47,9 +47,19 @@ pub record BeginsTls (bytes : List ℕ) : Type 0 where
 abbrev pub MayBeStream : List ℕ → Type 0
 MayBeStream bytes = (role : Role) × ((limits : Limits) × IsUnrefused role limits (take 2 bytes))
 
+-- The bytes begin with c or s, and what follows an endpoint's letter in a capture: a space or a dot.
+abbrev pub BeginsSmall : List ℕ → Type 0
+BeginsSmall bytes =
+    Begins (99 ∷ 32 ∷ []) bytes ⊎ Begins (99 ∷ 46 ∷ []) bytes
+    ⊎ Begins (115 ∷ 32 ∷ []) bytes ⊎ Begins (115 ∷ 46 ∷ []) bytes
+
+-- The bytes begin with C or S and a space, as a capture's line with bytes does.
+abbrev pub BeginsLine : List ℕ → Type 0
+BeginsLine bytes = Begins (67 ∷ 32 ∷ []) bytes ⊎ Begins (83 ∷ 32 ∷ []) bytes
+
 -- What the hint says is so of an input that begins with these bytes: a file format's mark is at the front, or the
--- other endpoint may have sent the first two bytes under the same limits. Of texts and of compressed frames, tests
--- alone say it.
+-- other endpoint may have sent the first two bytes under the same limits. Of texts, of blanks between digits and of
+-- compressed frames, tests alone say it.
 abbrev pub Fits : Limits → List ℕ → Hint → Type 0
 Fits limits bytes Empty = bytes ≡ []
 Fits limits bytes Pcap = BeginsPcap bytes
@@ -59,4 +69,7 @@ Fits limits bytes Tls = BeginsTls bytes
 Fits limits bytes ByteOrderMark = Begins (0xef ∷ 0xbb ∷ 0xbf ∷ []) bytes
 Fits limits bytes (OtherRole other) = IsUnrefused other limits (take 2 bytes)
 Fits limits bytes Stream = MayBeStream bytes
+Fits limits bytes Json = Begins (0x7b ∷ []) bytes
+Fits limits bytes SmallLetters = BeginsSmall bytes
+Fits limits bytes Blanks = BeginsLine bytes
 Fits limits bytes hint = ⊤

@@ -1,2 +1,4 @@
--- When a stream has a hint.
+-- When an input has a hint.
+pub mod CaptureStarts
 pub mod Hints
+pub mod SideHints

@@ -9,15 +9,35 @@ use wsn_rules::{INPUT_MAX, Limits, MESSAGE_MAX};
 use wsn_wire::Role;
 
 /// The hint for an input whose first bytes are these, its first 16 or all of them if there are fewer, where a capture is
-/// read and a line isn't accepted: they are of another format, or the stream of one endpoint. `None` for any other bytes,
-/// such as those of a capture.
+/// read and a line isn't accepted: they are of another format, the stream of one endpoint, or a first line that is nearly
+/// one of a capture. `None` for any other bytes, such as those of a capture.
 pub fn capture_hint_of(first: &[u8]) -> Option<Hint>
     ensures { (limits : Limits) → IfSome result (Fits limits first.now) }
 {
     match format_of(first) {
         Some(hint) => Some(hint),
         None if is_stream(first) => Some(Hint::Stream),
-        None => None,
+        None => line_hint(first),
+    }
+}
+
+/// The hint for a first line that is nearly one of a capture, or is of JSON.
+fn line_hint(first: &[u8]) -> Option<Hint>
+    ensures { (limits : Limits) → IfSome result (Fits limits first.now) }
+{
+    match first {
+        [b'{', ..] => Some(Hint::Json),
+        [b'c' | b's', b' ' | b'.', ..] => Some(Hint::SmallLetters),
+        [b'C' | b'S', b' ', rest @ ..] if has_blank(rest) => Some(Hint::Blanks),
+        _ => None,
+    }
+}
+
+/// Whether a blank or a colon comes after the digits that these bytes begin with.
+fn has_blank(digits: &[u8]) -> bool {
+    match digits.iter().find(|byte| !byte.is_ascii_hexdigit()) {
+        Some(byte) => matches!(*byte, b' ' | b':'),
+        None => false,
     }
 }
 

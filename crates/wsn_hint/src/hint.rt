@@ -37,6 +37,18 @@ pub enum Hint {
     OtherRole(Role),
     /// The bytes that one endpoint sent, where a capture of both is read.
     Stream,
+    /// JSON, such as a HAR file.
+    Json,
+    /// A capture whose lines begin with `c` and `s`.
+    SmallLetters,
+    /// A capture with blanks or colons between the digits.
+    Blanks,
+    /// A capture with a side that is refused where a compressed frame would begin, and no comment that says so.
+    MaybeCompressed,
+    /// A capture in which each side has the frames of the other.
+    Exchanged,
+    /// A capture with a text that isn't UTF-8.
+    NotUtf8,
 }
 
 impl Hint {
@@ -90,6 +102,24 @@ impl Hint {
             Hint::Stream => {
                 "hint: this is what one endpoint sent, and no capture: wsn judge --role R FILE"
             }
+            Hint::Json => {
+                "hint: JSON; a HAR file has messages, not frames: record with recipes/record"
+            }
+            Hint::SmallLetters => {
+                "hint: a line begins with a capital C or S: sed 's/^c/C/; s/^s/S/' FILE"
+            }
+            Hint::Blanks => {
+                "hint: blanks between digits: sed '/^[CS] /{s/[ :]//g;s/^./& /;}' FILE"
+            }
+            Hint::MaybeCompressed => {
+                "hint: compressed? recipes/inflate --extensions permessage-deflate CAPTURE"
+            }
+            Hint::Exchanged => {
+                "hint: the sides are exchanged: sed 's/^C/X/; s/^S/C/; s/^X/S/' FILE swaps them"
+            }
+            Hint::NotUtf8 => {
+                "hint: a text isn't UTF-8: is it in Latin-1, or binary? 'wsn explain text-bad'"
+            }
         }
     }
     /// What the hint says of one of two inputs, after the input's name: at most 68 bytes, so that `hint: SECOND` and
@@ -117,6 +147,12 @@ impl Hint {
             Hint::OtherRole(Role::Client) => " is masked: did a client send it? --role client",
             Hint::OtherRole(Role::Server) => " isn't masked: did a server send it? --role server",
             Hint::Stream => " is what one endpoint sent, and no capture: leave out --capture",
+            Hint::Json => " is JSON; a HAR file has messages, not frames: use recipes/record",
+            Hint::SmallLetters => " needs capital letters C and S: sed 's/^c/C/; s/^s/S/'",
+            Hint::Blanks => " has blanks between digits: sed '/^[CS] /{s/[ :]//g;s/^./& /;}'",
+            Hint::MaybeCompressed => " seems compressed: recipes/inflate --extensions undoes it",
+            Hint::Exchanged => " has its sides exchanged: sed 's/^C/X/; s/^S/C/; s/^X/S/'",
+            Hint::NotUtf8 => " has a text that isn't UTF-8: 'wsn explain text-bad'",
         }
     }
 }

@@ -1,20 +1,25 @@
 //! Hints: which everyday mistake an input looks like, by its first bytes.
 //!
-//! [`hint_of`] is for an input that is read as a stream, [`capture_hint_of`] for one that is read as a capture, and
-//! [`plan_hint_of`] for one that is read as a plan. A [`Hint`] has a line that says what to do next. A hint changes no
-//! answer: the bytes are those that were read in passing (`wsn_io::FirstBytes`).
+//! [`hint_of`] is for an input that is read as a stream, [`capture_hint_of`] for a capture of which a line isn't
+//! accepted, [`sides_hint_of`] for any other capture, and [`plan_hint_of`] for an input that is read as a plan. A
+//! [`Hint`] has a line that says what to do next. A hint changes no answer: the bytes are those that were read in passing
+//! ([`CaptureStart`], `wsn_io::FirstBytes`).
 //!
-//! `specs/Hints.antt` defines when a stream has a hint.
+//! `specs/Hints.antt` defines when a stream has a hint, `specs/SideHints.antt` when the sides of a capture have one.
 #![tactic(auto)]
 
+mod capture_start;
 mod captures;
 mod formats;
 mod hint;
 mod plans;
+mod sides;
 mod starts;
 mod streams;
 
+pub use capture_start::CaptureStart;
 pub use captures::capture_hint_of;
 pub use hint::Hint;
 pub use plans::plan_hint_of;
+pub use sides::sides_hint_of;
 pub use streams::hint_of;

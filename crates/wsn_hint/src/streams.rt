@@ -40,7 +40,9 @@ fn frame_hint(first: &[u8], reason: Reason, role: Role, limits: Limits) -> Optio
     ensures { IfSome result (Fits limits first.now) }
 {
     match reason {
-        Reason::ReservedBits if is_compressed(first, role, limits) => Some(Hint::Compressed),
+        Reason::ReservedBits if is_compressed_start(first, role, limits) && !is_text(first) => {
+            Some(Hint::Compressed)
+        }
         Reason::MaskMissing if is_lawful_start(first, Role::Server, limits) => {
             Some(Hint::OtherRole(Role::Server))
         }
@@ -53,11 +55,11 @@ fn frame_hint(first: &[u8], reason: Reason, role: Role, limits: Limits) -> Optio
 }
 
 /// Whether these bytes begin with a text or binary frame that is lawful but for RSV1, as compression sets it (RFC 7692
-/// section 6), and aren't all text in ASCII.
-fn is_compressed(first: &[u8], role: Role, limits: Limits) -> bool {
+/// section 6).
+pub fn is_compressed_start(first: &[u8], role: Role, limits: Limits) -> bool {
     match first {
         [head @ (0x41 | 0x42 | 0xc1 | 0xc2), second, ..] => {
-            is_lawful_start(&[*head & 0xbf, *second], role, limits) && !is_text(first)
+            is_lawful_start(&[*head & 0xbf, *second], role, limits)
         }
         _ => false,
     }

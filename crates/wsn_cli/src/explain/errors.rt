@@ -74,14 +74,15 @@ Next: ls -l FILE. In the printed name, \\x1b and the like are control characters
     Entry {
         words: &["hint"],
         text: "\
-hint: TEXT, on standard error: by its first bytes the input isn't what the
-command reads, and TEXT says what to do. Output and status are as without it.
-Each command has one for a stream that is empty, or refused at offset 0 or 1,
-and for a malformed capture that begins like another file; of two inputs it
-names FIRST or SECOND; recut has one for a plan with a byte order mark. None
-comes with --json. After 'usage' a hint says what is wrong with the words.
-Next: do what it says, and run the command again. It is a guess by at most 16
-bytes: xxd -l 32 FILE shows them.
+hint: TEXT, on standard error: the input looks like an everyday mistake, and
+TEXT says what to do. Output and status are as without it.
+Each command has one for a stream that is empty, or refused at offset 0 or 1;
+for a capture that is empty, or has a malformed line and begins like another
+file, or has a side that looks compressed, exchanged or in another encoding; of
+two inputs it names FIRST or SECOND; recut has one for a plan with a byte order
+mark. None comes with --json. After 'usage' it says what is wrong with words.
+Next: do what it says, and run the command again. It is a guess by the first 16
+bytes (xxd -l 32 FILE shows them), of a capture's sides by the first 65,536.
 ",
     },
 ];

@@ -97,8 +97,10 @@ static OUTCOMES: [Entry; 6] = [
 outcome failed: a side sent bytes that the other must refuse.
 RFC 6455, 7.1.7: the receiver fails the connection: it should send a Close with
 a code and must not read on. wsn reports that its application sees 1006.
-Usual causes: those of the reason. If both sides are refused early as
-reserved-bits, compression was on: recipes/inflate CAPTURE > inflated.capture.
+Usual causes: those of the reason. If a side is refused as reserved-bits where a
+message begins, compression was on: recipes/inflate CAPTURE > inflated.capture.
+If the client is refused at offset 1 as mask-missing, and the server as
+mask-present, each has the other's lines.
 Next: the line with 'refused' names side, offset and reason: 'wsn explain
 REASON'. 'wsn show CAPTURE' prints what was said before it; to list the side's
 frames: wsn frames --role server --capture CAPTURE (or --role client).
