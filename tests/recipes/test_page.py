@@ -253,7 +253,7 @@ def indented(pattern):
 
 @test
 def readme_says_what_its_lines_print(folder):
-    """The lines of README.md that read a sample, with what they print on either stream, and those that make a stream."""
+    """The lines of README.md that read a sample, with all that they print, and those that make a stream."""
     needs("bash", "xxd")
     (folder / "wsn").symlink_to(WSN)
     (folder / "tests").symlink_to(TOP / "tests")
