@@ -101,8 +101,8 @@ masked one.
 Usual causes: --role names the wrong side (then OFFSET is 1); a relay that
 passes on a client's frames unchanged; a client's library used in a server.
 Next: --role is the endpoint that sent the bytes: try --role client. If the
-server did send them, list both sides with 'wsn frames --role client': keys that
-are in both lists are those of frames that were passed on.
+server did send them, its frames' keys are the client's if they were passed on:
+sed -n 's/^S //p' CAPTURE | xxd -r -p | wsn frames --role client lists them.
 20 of 34 clients accept it (Firefox, aiohttp, Qt): see docs/PEERS.md.
 ",
     },
