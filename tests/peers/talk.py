@@ -14,6 +14,8 @@ import frames
 READY, OPENING, STEP, ANSWERS, ENDING = 40, 10, 0.25, 1.5, 2
 # After the handshake, so that a client has read its answer before the first frame comes.
 PAUSE = 0.05
+# Before a peer's own Close is answered, so that one that doesn't wait for the answer has ended the connection.
+RECORDED = 0.5
 PROBE = b"still here?"
 ENDED = "its program ends"
 
@@ -310,9 +312,11 @@ async def recorded(program, name):
             break
         seen = session.frames()
         for frame in seen[answered:]:
-            if frame.opcode in (frames.PING, frames.CLOSE):
-                answer = frames.PONG if frame.opcode == frames.PING else frames.CLOSE
-                send(writer, frames.control(answer, frame.payload, masks))
+            if frame.opcode == frames.PING:
+                send(writer, frames.control(frames.PONG, frame.payload, masks))
+            elif frame.opcode == frames.CLOSE:
+                await wait_until(session, lambda: session.ended, RECORDED)
+                send(writer, frames.control(frames.CLOSE, frame.payload, masks))
         answered = len(seen)
     await wait_until(session, lambda: session.ended, 1)
     await hang_up(session, writer, 1)
