@@ -172,7 +172,7 @@ PEERS = [
     Peer("websockets (Haskell) with checked text", "haskell_websockets.hs", "libghc-websockets-dev ghc",
          words=("strict",), is_variant=True,
          note="With `connectionStrictUnicode`, which is off by default and makes no difference to a client."),
-    Peer("lua-http", "lua_http.lua", "lua-http lua5.1",
+    Peer("lua-http", "lua_http.lua", "lua-http lua5.1", jobs=24,
          note="If a frame whose length has two bytes comes in parts, its `receive` raises an error, which the program "
          "doesn't catch: then it answers nothing and reports no end, and the connection stays until its memory is "
          "reclaimed, which the program prevents."),

@@ -291,10 +291,11 @@ async def probe(program, name, steps, is_answered, patience=1):
 
 
 async def send_bytes(writer, data):
-    """One byte at a time."""
+    """One byte at a time, and a pause after each head, so that a busy peer reads it before its payload."""
+    heads = {frame.end - frame.length for frame in frames.frames_of(data) if frame.length}
     for index in range(len(data)):
         send(writer, data[index : index + 1])
-        await asyncio.sleep(0.001)
+        await asyncio.sleep(STEP if index + 1 in heads else 0.001)
 
 
 async def recorded(program, name):
