@@ -23,7 +23,6 @@ Metadata-Version: 2.1
 Name: wsn
 Version: {version}
 Summary: Why a WebSocket session failed
-Requires-Python: >=3.8
 """
 WHEEL = """\
 Wheel-Version: 1.0
