@@ -7,6 +7,8 @@ REFUSES, LATER, EARLIER = "refuses what is accepted", "later", "earlier"
 CODE, NO_CLOSE, MESSAGES = "another close code", "no Close", "other messages"
 PINGS, CLOSES, FAULT = "pings", "Closes", "fault"
 WAITS = "it waits"
+# What is said of a peer whose Close may get lost, whether it came or not.
+LOST, LOST_WITH = "in some sessions, not in others", "with a Close that comes in some sessions, not in others"
 # The codes with which a connection fails.
 FAILURES = ("-", "1002", "1003", "1006", "1007", "1008", "1009", "1011")
 # The steps at which bytes are sent, and what the page calls a failure at them.
@@ -55,15 +57,15 @@ def is_answered(verdict):
     return lambda session: talk.PROBE in session.pongs()
 
 
-def differences(wire, verdict, session):
-    """Pairs of a kind and words."""
+def differences(wire, verdict, session, peer):
+    """Pairs of a kind and words. If it is left to chance whether the peer's Close comes, they don't depend on it."""
     if session.fault:
         yield FAULT, session.fault
         if session.fault.startswith("no connection"):
             return
-    found = list(of_refused(wire, verdict, session)) if verdict.word == "refused" else []
+    found = list(of_refused(wire, verdict, session, peer)) if verdict.word == "refused" else []
     if verdict.word == "accepted":
-        found = list(of_accepted(verdict, session))
+        found = list(of_accepted(verdict, session, peer))
     if not (found and found[0][0] in (ACCEPTS, HANGS)):
         yield from in_messages(verdict, session)
     yield from found
@@ -85,10 +87,12 @@ def in_messages(verdict, session):
         yield MESSAGES, f"its user gets {more}"
 
 
-def of_accepted(verdict, session):
+def of_accepted(verdict, session, peer):
     code = session.close()
     if verdict.close:
-        if code is None:
+        if peer.loses_close and session.ended and code != verdict.close and code in (None, "1002", "1007"):
+            yield REFUSES, LOST_WITH
+        elif code is None:
             yield CLOSES, "it ends the connection without a Close" if session.ended else "it doesn't answer the Close"
         elif code in ("1002", "1007") and code != verdict.close:
             yield REFUSES, f"with {code}"
@@ -96,7 +100,7 @@ def of_accepted(verdict, session):
             yield CLOSES, f"it answers with {'no code' if code == '-' else code}"
         return
     if session.failed_at:
-        yield REFUSES, f"with {code}" if code else "without a Close"
+        yield REFUSES, LOST_WITH if peer.loses_close else f"with {code}" if code else "without a Close"
         return
     pings, pongs = [*verdict.pings, talk.PROBE], session.pongs()
     if not pongs:
@@ -125,19 +129,23 @@ def accepted_how(wire, verdict, session):
     return WAITS
 
 
-def is_accepted(wire, verdict, session):
-    """Whether a peer has accepted what is refused: its user gets it, or a ping or Close after it is answered, or a Close
-    is answered as any Close."""
+def is_accepted(wire, verdict, session, peer):
+    """Whether a peer has accepted what is refused: its user gets it, or a ping or Close after it is answered, or a
+    Close is answered as any Close. If an answer without a code may as well be a failure, its user must be told of it."""
     code, own = session.close(), close_in(wire, verdict.offset)
     if len(session.messages) > len(verdict.messages) or not session.failed_at or talk.PROBE in session.pongs():
         return True
     if session.failed_at == "rest" and code is not None and code not in FAILURES:
         return True
-    return own is not None and code in {own, "-", "1000"} - {"1002", "1007"}
+    if own is None or code in ("1002", "1007"):
+        return False
+    if code == "-" and peer.fails_without_code:
+        return session.reported == ("1005" if own == "-" else own)
+    return code in (own, "-", "1000")
 
 
-def of_refused(wire, verdict, session):
-    if is_accepted(wire, verdict, session):
+def of_refused(wire, verdict, session, peer):
+    if is_accepted(wire, verdict, session, peer):
         how = accepted_how(wire, verdict, session)
         # Of a length of 2^63 or more the payload never comes.
         yield HANGS if how == WAITS and verdict.reason != "length-top-bit" else ACCEPTS, how
@@ -145,7 +153,9 @@ def of_refused(wire, verdict, session):
     code = session.close()
     if session.failed_at not in ("byte", "head"):
         yield EARLIER if session.failed_at == "before" else LATER, MOMENTS[session.failed_at]
-    if code is None:
+    if peer.loses_close:
+        yield NO_CLOSE, LOST
+    elif code is None:
         yield NO_CLOSE, "it ends the connection without a Close"
     elif code != verdict.code:
         yield CODE, "no code" if code == "-" else code

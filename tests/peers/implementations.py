@@ -16,13 +16,15 @@ class CannotRun(Exception):
 class Peer:
     """`packages` are Debian's, the one with the implementation first; `flags` are for the compiler, or Java's class path;
     `jobs` is the maximum number of sessions at once; `note` is for the page; `words` come before the role on the command
-    line; a variant of another peer isn't counted."""
+    line; a variant of another peer isn't counted. Of one that at times loses the Close with which it fails a
+    connection, no such Close is compared; of one that fails connections without a code, an answer without a code to a
+    Close is a failure unless its user is told of the Close."""
 
     def __init__(self, name, file, packages, roles=BOTH, flags="", jobs=48, note="", built_as=None, words=(),
-                 is_variant=False):
+                 is_variant=False, loses_close=False, fails_without_code=False):
         self.name, self.file, self.packages, self.roles = name, file, packages.split(), roles
         self.flags, self.jobs, self.note, self.words = flags, jobs, note, words
-        self.is_variant = is_variant
+        self.is_variant, self.loses_close, self.fails_without_code = is_variant, loses_close, fails_without_code
         self.stem = built_as or file.split(".")[0]
 
     def version(self):
@@ -118,15 +120,22 @@ PEERS = [
     Peer("Autobahn", "python_autobahn.py", "python3-autobahn"),
     Peer("websocket-client", "python_websocket_client.py", "python3-websocket", roles=("client",)),
     Peer("ws4py", "python_ws4py.py", "python3-ws4py"),
-    Peer("gevent-websocket", "python_gevent_websocket.py", "python3-gevent-websocket", roles=("server",)),
+    Peer("gevent-websocket", "python_gevent_websocket.py", "python3-gevent-websocket", roles=("server",),
+         fails_without_code=True,
+         note="Its Closes have no code, only a reason, and its user isn't told of a Close: whether it accepts one "
+         "can't be told, and it counts as refused."),
     Peer("ws", "node_ws.js", "node-ws"),
     Peer("websocket-driver (Node)", "node_websocket_driver.js", "node-websocket-driver", note=LOW_LEVEL),
     Peer("faye-websocket", "node_faye_websocket.js", "node-faye-websocket"),
-    Peer("wslay", "c_wslay.c", "libwslay-dev libssl-dev", flags="-lwslay -lcrypto", note=LOW_LEVEL),
+    Peer("wslay", "c_wslay.c", "libwslay-dev libssl-dev", flags="-lwslay -lcrypto", fails_without_code=True,
+         note=LOW_LEVEL),
     Peer("websocketpp", "cpp_websocketpp.cpp", "libwebsocketpp-dev libboost1.81-dev"),
     Peer("Boost.Beast", "cpp_beast.cpp", "libboost1.81-dev"),
     Peer("libwebsockets", "c_libwebsockets.c", "libwebsockets-dev", flags="-lwebsockets",
          note="It gives its user parts of messages; the program joins them."),
+    Peer("libwebsockets with checked text", "c_libwebsockets.c", "libwebsockets-dev",
+         flags="-DVALIDATE_UTF8 -lwebsockets", built_as="c_libwebsockets_utf8", is_variant=True,
+         note="With `LWS_SERVER_OPTION_VALIDATE_UTF8`, which is off by default."),
     Peer("libsoup 3", "c_libsoup.c", "libsoup-3.0-dev", flags="`pkg-config --cflags --libs libsoup-3.0`",
          built_as="libsoup3"),
     Peer("libsoup 3 without a limit", "c_libsoup.c", "libsoup-3.0-dev",
@@ -143,22 +152,30 @@ PEERS = [
          note="It gives its user frames, and answers no ping itself; the program joins them, and answers."),
     Peer("Poco", "cpp_poco.cpp", "libpoco-dev", flags="-lPocoNet -lPocoFoundation",
          note=SILENT + " By its documentation an empty frame without flags means that the connection has ended."),
-    Peer("gorilla/websocket", "go_gorilla.go", "golang-github-gorilla-websocket-dev golang-go"),
+    Peer("gorilla/websocket", "go_gorilla.go", "golang-github-gorilla-websocket-dev golang-go",
+         note="Its documentation leaves it to its user to check that text is UTF-8."),
     Peer("nhooyr.io/websocket", "go_nhooyr.go", "golang-nhooyr-websocket-dev golang-go"),
     Peer("x/net/websocket", "go_net.go", "golang-golang-x-net-dev golang-go",
          note="It gives its user each fragment as a message."),
     Peer("websocket-driver (Ruby)", "ruby_websocket_driver.rb", "ruby-websocket-driver", note=LOW_LEVEL),
     Peer("websocket (Ruby)", "ruby_websocket.rb", "ruby-websocket", note=SILENT),
     Peer("em-websocket", "ruby_em_websocket.rb", "ruby-em-websocket", roles=("server",)),
-    Peer("Mojolicious", "perl_mojolicious.pl", "libmojolicious-perl"),
+    Peer("Mojolicious", "perl_mojolicious.pl", "libmojolicious-perl",
+         note="As client it sends a second Close if its own is answered before it has ended the connection."),
     Peer("Protocol::WebSocket", "perl_protocol_websocket.pl", "libprotocol-websocket-perl", note=SILENT),
-    Peer("java.net.http", "JavaHttpClient.java", "openjdk-17-jdk-headless", roles=("client",),
-         note="It gives its user parts of messages; the program joins them. Whether its Close goes out before the end of "
-         "the connection differs from run to run."),
-    Peer("Jetty", "JavaJetty.java", "libjetty9-java default-jdk-headless", flags=JETTY),
+    Peer("java.net.http", "JavaHttpClient.java", "openjdk-17-jdk-headless", roles=("client",), loses_close=True,
+         note="It gives its user parts of messages; the program joins them. When it fails a connection, its Close "
+         "comes in some sessions and not in others, so the code isn't compared."),
+    Peer("Jetty", "JavaJetty.java", "libjetty9-java libjetty9-extra-java default-jdk-headless", flags=JETTY),
     Peer("Tomcat", "JavaTomcat.java", "libtomcat10-embed-java libtomcat10-java default-jdk-headless", flags=TOMCAT),
     Peer("websockets (Haskell)", "haskell_websockets.hs", "libghc-websockets-dev ghc"),
-    Peer("lua-http", "lua_http.lua", "lua-http lua5.1"),
+    Peer("websockets (Haskell) with checked text", "haskell_websockets.hs", "libghc-websockets-dev ghc",
+         words=("strict",), is_variant=True,
+         note="With `connectionStrictUnicode`, which is off by default and makes no difference to a client."),
+    Peer("lua-http", "lua_http.lua", "lua-http lua5.1", jobs=24,
+         note="If a frame whose length has two bytes comes in parts, its `receive` raises an error, which the program "
+         "doesn't catch: then it answers nothing and reports no end, and the connection stays until its memory is "
+         "reclaimed, which the program prevents."),
     Peer("Chromium", "browser.py", "chromium", roles=("client",), words=("chromium",)),
     Peer("Firefox", "browser.py", "firefox-esr", roles=("client",), words=("firefox",)),
 ]

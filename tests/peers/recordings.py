@@ -62,18 +62,37 @@ def sent_by(role, short, long):
             "kinds": kinds_of(short), "missing": list(missing_texts(role, short, long))}
 
 
+def without_keys(wire):
+    """Heads without keys, payloads, and what comes after the last whole frame."""
+    parts, end = [], 0
+    for frame in frames.whole_frames(wire):
+        parts += [wire[frame.start : frame.end - frame.length - (4 if frame.masked else 0)], frame.payload]
+        end = frame.end
+    return [*parts, wire[end:]]
+
+
+def is_kept(path, wire):
+    """Whether the sample there differs from these bytes at most in its keys, which no two sessions share."""
+    if not os.path.exists(path):
+        return False
+    with open(path, "rb") as file:
+        return without_keys(file.read()) == without_keys(wire)
+
+
 def keep(recorded):
     """Writes the samples and their verdicts; `recorded` has name, role, short and long bytes."""
     os.makedirs(SAMPLES, exist_ok=True)
-    for old in os.listdir(SAMPLES):
-        if old.endswith(".bin"):
-            os.remove(f"{SAMPLES}/{old}")
-    lines = []
+    lines, names = [], set()
     for name, role, short, long in recorded:
         kept = [(slug(name, role), short)] + ([(slug(name, role) + "-long", long)] if (name, role) == LONG_KEPT else [])
         for stem, wire in kept:
-            with open(f"{SAMPLES}/{stem}.bin", "wb") as file:
-                file.write(wire)
+            names.add(f"{stem}.bin")
+            if not is_kept(f"{SAMPLES}/{stem}.bin", wire):
+                with open(f"{SAMPLES}/{stem}.bin", "wb") as file:
+                    file.write(wire)
             lines.append(f"{stem}.bin {role} {verdicts.judged(role, wire)}\n")
     with open(f"{SAMPLES}/verdicts", "w", encoding="utf-8") as file:
         file.writelines(lines)
+    for old in os.listdir(SAMPLES):
+        if old.endswith(".bin") and old not in names:
+            os.remove(f"{SAMPLES}/{old}")

@@ -14,6 +14,8 @@ import frames
 READY, OPENING, STEP, ANSWERS, ENDING = 40, 10, 0.25, 1.5, 2
 # After the handshake, so that a client has read its answer before the first frame comes.
 PAUSE = 0.05
+# Before a peer's own Close is answered, so that one that doesn't wait for the answer has ended the connection.
+RECORDED = 0.5
 PROBE = b"still here?"
 ENDED = "its program ends"
 
@@ -289,10 +291,11 @@ async def probe(program, name, steps, is_answered, patience=1):
 
 
 async def send_bytes(writer, data):
-    """One byte at a time."""
+    """One byte at a time, and a pause after each head, so that a busy peer reads it before its payload."""
+    heads = {frame.end - frame.length for frame in frames.frames_of(data) if frame.length}
     for index in range(len(data)):
         send(writer, data[index : index + 1])
-        await asyncio.sleep(0.001)
+        await asyncio.sleep(STEP if index + 1 in heads else 0.001)
 
 
 async def recorded(program, name):
@@ -310,9 +313,11 @@ async def recorded(program, name):
             break
         seen = session.frames()
         for frame in seen[answered:]:
-            if frame.opcode in (frames.PING, frames.CLOSE):
-                answer = frames.PONG if frame.opcode == frames.PING else frames.CLOSE
-                send(writer, frames.control(answer, frame.payload, masks))
+            if frame.opcode == frames.PING:
+                send(writer, frames.control(frames.PONG, frame.payload, masks))
+            elif frame.opcode == frames.CLOSE:
+                await wait_until(session, lambda: session.ended, RECORDED)
+                send(writer, frames.control(frames.CLOSE, frame.payload, masks))
         answered = len(seen)
     await wait_until(session, lambda: session.ended, 1)
     await hang_up(session, writer, 1)

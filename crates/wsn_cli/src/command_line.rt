@@ -1,10 +1,14 @@
-ghost use Rattle.std.specs.Prelude.{◌≡◌, IfOk, IfSome};
-ghost use Rattle.wsn_job.specs.Jobs.{MayRun};
+ghost use Rattle.std.specs.Prelude.{◌≡◌, ◌↔◌, Some, IfOk, IfSome, codes};
+ghost use Rattle.clap.specs.Words.{found_of, first_value, one_text};
+ghost use Rattle.wsn_wire.specs.declared.endpoint.Role.TheVariants.{Server};
+ghost use Rattle.wsn_wire.specs.declared.length_forms.Lengths.TheVariants.{Any};
+ghost use Rattle.wsn_job.specs.Jobs.{MayRun, job_role};
+ghost use Rattle.wsn_cli.specs.Options.{IsAsked, IsAskedMaximum};
 ghost use Rattle.wsn_cli.specs.Requests.{AreAskedLimits, CanBeDone, job_limits};
 
 use crate::error_words::shown_in_errors;
 use crate::escaped::Escaped;
-use crate::explain::{explanation, list_of_words};
+use crate::explain::{explanation, list_of_words, similar_words};
 use crate::help;
 use crate::mistake::Mistake;
 use crate::options::{
@@ -214,6 +218,14 @@ fn refusal(alloc: Global, words: &[String]) -> Result<Usage, AllocError> {
 fn job_of(name: &str, matches: &ArgMatches<'_>) -> Option<Job>
     ensures may_run { IfSome result MayRun }
     ensures limits { IfSome result (λ job. AreAskedLimits (job_limits job)) }
+    ensures message { IfSome result (λ job.
+        IsAsked (one_text (found_of matches.now) (codes "limit")) 16777216 (job_limits job).message) }
+    ensures frames { IfSome result (λ job.
+        IsAskedMaximum (one_text (found_of matches.now) (codes "frames")) (job_limits job).frames) }
+    ensures lengths { IfSome result (λ job. (job_limits job).lengths ≡ Any
+        ↔ (first_value (found_of matches.now) (codes "lengths") ≡ Some (codes "any"))) }
+    ensures role { IfSome result (λ job. IfSome (job_role job) (λ role. role ≡ Server
+        ↔ (first_value (found_of matches.now) (codes "role") ≡ Some (codes "server")))) }
 {
     let role = role_of(matches);
     let limits = limits_of(matches)?;
@@ -232,6 +244,8 @@ fn job_of(name: &str, matches: &ArgMatches<'_>) -> Option<Job>
 fn show_of(matches: &ArgMatches<'_>, limits: Limits, style: Style) -> Job
     ensures may_run { MayRun result }
     ensures limits { job_limits result ≡ limits }
+    ensures role { IfSome (job_role result) (λ role. role ≡ Server
+        ↔ (first_value (found_of matches.now) (codes "role") ≡ Some (codes "server"))) }
 {
     match matches.get_str("role") {
         Some(_) => Job::ShowStream(role_of(matches), limits, style),
@@ -286,14 +300,23 @@ fn explained(alloc: Global, matches: &ArgMatches<'_>) -> Result<Request, Usage>
     let words = words.join(alloc, " ")?;
     match explanation(words.as_str()) {
         Some(text) => Ok(Request::Help(String::from_str(alloc, text)?)),
-        None => {
-            let words = Escaped::short(words.as_str());
-            let text = format!(in alloc;
-                "error: '{words}' isn't a word that wsn prints\n\n\
-                'wsn explain' lists the words that it explains.\n"
-            )?;
-            Err(Usage::Clap(text))
-        }
+        None => Err(Usage::Clap(unexplained(alloc, words.as_str())?)),
+    }
+}
+
+/// The text of the error for words that aren't explained, with the printed words that they resemble.
+fn unexplained(alloc: Global, words: &str) -> Result<String, AllocError> {
+    let shown = Escaped::short(words);
+    match similar_words(words) {
+        Some(printed) => format!(in alloc;
+            "error: '{shown}' isn't a word that wsn prints\n\n  \
+            tip: a similar word exists: '{printed}'\n\n\
+            'wsn explain' lists the words that it explains.\n"
+        ),
+        None => format!(in alloc;
+            "error: '{shown}' isn't a word that wsn prints\n\n\
+            'wsn explain' lists the words that it explains.\n"
+        ),
     }
 }
 

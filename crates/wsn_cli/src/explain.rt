@@ -60,6 +60,33 @@ pub fn explanation(words: &str) -> Option<&'static str> {
     None
 }
 
+/// The printed words that differ from these in capitals alone, or in `_` or a space for `-`; `None` if there are none.
+pub fn similar_words(words: &str) -> Option<&'static str> {
+    for group in &groups() {
+        if let Some(printed) = group.find_similar(words) {
+            return Some(printed);
+        }
+    }
+    None
+}
+
+/// Whether the words are the same but for capitals, and for `-`, `_` and spaces.
+fn are_similar(printed: &str, words: &str) -> bool {
+    printed.len() == words.len()
+        && printed
+            .bytes()
+            .zip(words.bytes())
+            .all(|(printed, byte)| plain(printed) == plain(byte))
+}
+
+/// A byte of a word as a small letter, and a space as `-`.
+fn plain(byte: u8) -> u8 {
+    match byte {
+        b'_' | b' ' => b'-',
+        _ => byte.to_ascii_lowercase(),
+    }
+}
+
 /// The words under which a printed word is explained. The codes from 3000 are explained by thousands.
 fn listed_words(words: &str) -> &str {
     match words.parse::<u16>() {
@@ -78,6 +105,17 @@ impl Group {
         for entry in self.entries {
             if entry.words.contains(&words) {
                 return Some(entry.text);
+            }
+        }
+        None
+    }
+
+    fn find_similar(&self, words: &str) -> Option<&'static str> {
+        for entry in self.entries {
+            for printed in entry.words {
+                if are_similar(printed, words) {
+                    return Some(printed);
+                }
             }
         }
         None

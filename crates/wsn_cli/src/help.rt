@@ -190,7 +190,8 @@ completes, as the lines come; then closing's report:
             the direction ended after OFFSET bytes
   # TEXT    a comment
     SIDE    C for the client, S for the server
-    TIME    of the last comment '# SECONDS' before, such as # 0.001356; or -
+    TIME    of the last comment '# SECONDS' before, such as # 0.001356; -
+            without one, and for what is left over at the end
     OFFSET  in the stream of that side, from 0
     VIEW    the first bytes of the payload: a quoted text, or hexadecimal
             digits; of a Close its code and reason; - if there is nothing;
@@ -230,9 +231,9 @@ side. Prints seven lines:
   echo V    whether both Closes have the same code: yes, no, or - unless both
             sides sent one
   client-sees V, server-sees V
-            the close code that each application is given: 1005 for a Close
-            without a code, 1006 if its stream is refused or ended without
-            a Close; - if more may come
+            the close code that each application is given, by the other
+            side's stream: 1005 for a Close without a code, 1006 if it is
+            refused or ended without a Close; - if more may come
   outcome V the first of these that applies:
             failed    a side is refused
             clean     both sent a Close, and both directions ended
@@ -287,8 +288,8 @@ The verdict's line:
     REASON  the rule that is broken, such as mask-missing: 'wsn explain REASON'
     CODE    the close code that an endpoint would send
 
-A line 'hint: TEXT' on standard error says what an input looks like that isn't
-what the command reads, such as a pcap, and what to do. It changes no answer.
+A line 'hint: TEXT' on standard error says what an input looks like, such as a
+pcap, or what a refusal usually means, and what to do. It changes no answer.
 
 Exit status:
   0  accepted; for same, equal; for plan, there is one; for recut, done; for

@@ -2,9 +2,10 @@ ghost use Rattle.std.specs.Prelude.{◌≡◌, ◌↔◌, None, Some, IfOk, IfSo
 ghost use Rattle.clap.specs.Words.{found_of, first_value, matched_of, one_text};
 ghost use Rattle.wsn_wire.specs.declared.endpoint.Role.TheVariants.{Server};
 ghost use Rattle.wsn_wire.specs.declared.length_forms.Lengths.TheVariants.{Any};
-ghost use Rattle.wsn_rules.specs.declared.detail.Detail.TheVariants.{Events};
+ghost use Rattle.wsn_rules.specs.declared.detail.Detail.TheVariants.{Events, Frames};
 ghost use Rattle.wsn_print.specs.declared.format.Format.TheVariants as formats;
 ghost use Rattle.wsn_cli.specs.Inputs.{IsInputNamed};
+ghost use Rattle.wsn_cli.specs.Options.{IsAsked, IsAskedMaximum};
 ghost use Rattle.wsn_cli.specs.Requests.{AreAskedLimits};
 
 use crate::mistake::Mistake;
@@ -185,19 +186,26 @@ fn lengths_of(matches: &ArgMatches<'_>) -> Lengths
 /// input limit is its maximum.
 pub fn limits_of(matches: &ArgMatches<'_>) -> Option<Limits>
     ensures asked { IfSome result AreAskedLimits }
-    ensures message { (one_text (found_of matches.now) (codes "limit") ≡ None)
-        → IfSome result (λ limits. limits.message ≡ 16777216) }
-    ensures frames { (one_text (found_of matches.now) (codes "frames") ≡ None)
-        → IfSome result (λ limits. limits.frames ≡ None) }
+    ensures message { IfSome result (λ limits.
+        IsAsked (one_text (found_of matches.now) (codes "limit")) 16777216 limits.message) }
+    ensures frames { IfSome result (λ limits.
+        IsAskedMaximum (one_text (found_of matches.now) (codes "frames")) limits.frames) }
     ensures lengths { IfSome result (λ limits. limits.lengths ≡ Any
         ↔ (first_value (found_of matches.now) (codes "lengths") ≡ Some (codes "any"))) }
 {
-    let message = matches.get_one::<u32>("limit").unwrap_or(MESSAGE_MAX);
+    let message = number_of(matches, "limit")?.unwrap_or(MESSAGE_MAX);
     let limits = Limits::new(message, INPUT_MAX)?.with_lengths(lengths_of(matches));
-    match matches.get_one::<u32>("frames") {
+    match number_of(matches, "frames")? {
         Some(frames) => limits.with_frames(frames),
         None => Some(limits),
     }
+}
+
+/// The number that an option asks for, or `None` without the option; `None` of that if its value is no number below 2^32.
+fn number_of(matches: &ArgMatches<'_>, name: &str) -> Option<Option<u32>>
+    ensures { IfSome result (IsAskedMaximum (one_text (found_of matches.now) name.now)) }
+{
+    matches.try_get_one::<u32>(name).ok()
 }
 
 /// The controls that a comparison leaves out, from `--without`.
@@ -221,7 +229,8 @@ pub fn without_of(matches: &ArgMatches<'_>) -> Without
 
 /// The format in which the answer is printed, from `--json`.
 pub fn format_of(matches: &ArgMatches<'_>) -> Format
-    ensures { (one_text (found_of matches.now) (codes "json") ≡ None) → result ≡ formats.Text }
+    ensures text { (one_text (found_of matches.now) (codes "json") ≡ None) → result ≡ formats.Text }
+    ensures json { (one_text (found_of matches.now) (codes "json") ≡ Some (codes "true")) → result ≡ formats.Json }
 {
     if matches.get_flag("json") {
         Format::Json
@@ -230,16 +239,20 @@ pub fn format_of(matches: &ArgMatches<'_>) -> Format
     }
 }
 
-/// What is shown, how much of it and in which format, from `--view`, `--wire` and `--json`; `None` if the number of bytes is out of range.
+/// What is shown, how much of it and in which format, from `--view`, `--wire` and `--json`; `None` if the number of bytes
+/// is out of range.
 pub fn style_of(matches: &ArgMatches<'_>) -> Option<Style>
-    ensures view { (one_text (found_of matches.now) (codes "view") ≡ None)
-        → IfSome result (λ style. style.view ≡ 48) }
+    ensures view { IfSome result (λ style. IsAsked (one_text (found_of matches.now) (codes "view")) 48 style.view) }
     ensures events { (one_text (found_of matches.now) (codes "wire") ≡ None)
         → IfSome result (λ style. style.detail ≡ Events) }
+    ensures frames { (one_text (found_of matches.now) (codes "wire") ≡ Some (codes "true"))
+        → IfSome result (λ style. style.detail ≡ Frames) }
     ensures text { (one_text (found_of matches.now) (codes "json") ≡ None)
         → IfSome result (λ style. style.format ≡ formats.Text) }
+    ensures json { (one_text (found_of matches.now) (codes "json") ≡ Some (codes "true"))
+        → IfSome result (λ style. style.format ≡ formats.Json) }
 {
-    let view = ViewLimit::new(matches.get_one::<u16>("view").unwrap_or(VIEW_DEFAULT))?;
+    let view = ViewLimit::new(view_of(matches)?.unwrap_or(VIEW_DEFAULT))?;
     let detail = if matches.get_flag("wire") {
         Detail::Frames
     } else {
@@ -253,15 +266,34 @@ pub fn style_of(matches: &ArgMatches<'_>) -> Option<Style>
     })
 }
 
+/// The number of bytes that `--view` asks for, or `None` without it; `None` of that if its value is no number below 2^16.
+fn view_of(matches: &ArgMatches<'_>) -> Option<Option<u16>>
+    ensures { IfSome result (IsAskedMaximum (one_text (found_of matches.now) (codes "view"))) }
+{
+    matches.try_get_one::<u16>("view").ok()
+}
+
 /// How two streams are compared, from the options of `same`; `None` if a number is out of range. No events are shown
 /// without `--view`.
 pub fn comparison_of(matches: &ArgMatches<'_>) -> Option<Comparison>
+    ensures role { IfSome result (λ comparison. comparison.role ≡ Server
+        ↔ (first_value (found_of matches.now) (codes "role") ≡ Some (codes "server"))) }
     ensures limits { IfSome result (λ comparison. AreAskedLimits comparison.limits) }
-    ensures view { (one_text (found_of matches.now) (codes "view") ≡ None)
-        → IfSome result (λ comparison. comparison.view ≡ None) }
+    ensures message { IfSome result (λ comparison.
+        IsAsked (one_text (found_of matches.now) (codes "limit")) 16777216 comparison.limits.message) }
+    ensures frames { IfSome result (λ comparison.
+        IsAskedMaximum (one_text (found_of matches.now) (codes "frames")) comparison.limits.frames) }
+    ensures lengths { IfSome result (λ comparison. comparison.limits.lengths ≡ Any
+        ↔ (first_value (found_of matches.now) (codes "lengths") ≡ Some (codes "any"))) }
+    ensures text { (one_text (found_of matches.now) (codes "json") ≡ None)
+        → IfSome result (λ comparison. comparison.format ≡ formats.Text) }
+    ensures json { (one_text (found_of matches.now) (codes "json") ≡ Some (codes "true"))
+        → IfSome result (λ comparison. comparison.format ≡ formats.Json) }
+    ensures view { IfSome result (λ comparison.
+        IsAskedMaximum (one_text (found_of matches.now) (codes "view")) comparison.view) }
 {
     let limits = limits_of(matches)?;
-    let view = match matches.get_one::<u16>("view") {
+    let view = match view_of(matches)? {
         Some(bytes) => Some(ViewLimit::new(bytes)?),
         None => None,
     };

@@ -120,6 +120,9 @@ int main(int count, char **words) {
     pthread_t thread;
     info.port = count > 2 ? atoi(words[2]) : CONTEXT_PORT_NO_LISTEN;
     lws_set_log_level(0, NULL);
+#ifdef VALIDATE_UTF8
+    info.options |= LWS_SERVER_OPTION_VALIDATE_UTF8;
+#endif
     struct lws_context *context = lws_create_context(&info);
     if (!context)
         return 1;

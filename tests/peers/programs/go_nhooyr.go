@@ -16,15 +16,15 @@ func say(connection *websocket.Conn, name string) {
 	}
 	if isShort(name) {
 		connection.Write(background, websocket.MessageBinary, binaryMessage)
-		go connection.Ping(background)
 		if writer, err := connection.Writer(background, websocket.MessageText); err == nil {
 			writer.Write([]byte("Hel"))
 			writer.Write([]byte("lo"))
 			writer.Close()
 		}
+		// It waits for the pong, which is read below.
+		go connection.Ping(background)
 	}
 	if texts(name) != nil {
-		// The ping goes out beside the messages.
 		time.Sleep(200 * time.Millisecond)
 		connection.Close(websocket.StatusNormalClosure, "bye")
 	}

@@ -1,5 +1,5 @@
 {-# LANGUAGE OverloadedStrings #-}
--- websockets: runServer and runClient.
+-- websockets: runServer and runClient. With the word `strict` before the role it checks that text is UTF-8.
 module Main (main) where
 
 import Control.Concurrent (forkIO)
@@ -60,18 +60,20 @@ serve printing pending = do
   connection <- WS.acceptRequest pending
   talk printing (drop 1 (Bytes.unpack (WS.requestPath (WS.pendingRequest pending)))) connection
 
-connectAll :: Printing -> IO ()
-connectAll printing = do
+connectAll :: Printing -> WS.ConnectionOptions -> IO ()
+connectAll printing options = do
   line printing ["ready"]
   urls <- lines <$> getContents
   forM_ urls $ \url -> do
     let (port, path) = break (== '/') (drop (length ("ws://127.0.0.1:" :: String)) url)
-    void (forkIO (WS.runClient "127.0.0.1" (read port) path (talk printing (drop 1 path))))
+    void (forkIO (WS.runClientWith "127.0.0.1" (read port) path options [] (talk printing (drop 1 path))))
 
 main :: IO ()
 main = do
   printing <- newMVar ()
   given <- getArgs
-  case given of
-    ["server", port] -> line printing ["ready"] >> WS.runServer "127.0.0.1" (read port) (serve printing)
-    _ -> connectAll printing
+  let options = WS.defaultConnectionOptions {WS.connectionStrictUnicode = take 1 given == ["strict"]}
+  case filter (/= "strict") given of
+    ["server", port] ->
+      line printing ["ready"] >> WS.runServerWith "127.0.0.1" (read port) options (serve printing)
+    _ -> connectAll printing options

@@ -3,6 +3,9 @@ local cqueues = require 'cqueues'
 local server = require 'http.server'
 local websocket = require 'http.websocket'
 
+-- After an error in a session its connection would end whenever its memory is reclaimed.
+collectgarbage('stop')
+
 local function line(...)
     io.stdout:write(table.concat({...}, ' '), '\n')
     io.stdout:flush()

@@ -14,7 +14,7 @@ Later on: an earlier wrong length, missing bytes, text written into the socket.
 Next: xxd -s OFFSET -l 32 FILE shows what it is. Compression: recipes/inflate
 CAPTURE, or record with recipes/record --plain. A pcap: recipes/pcap2wsn or
 wsn-pcap. A capture: add --capture. An HTTP head: LC_ALL=C sed '1,/^\\r$/d' FILE.
-8 of 36 implementations accept it (Poco, em-websocket): see docs/PEERS.md.
+7 of 36 implementations accept it (Poco, em-websocket): see docs/PEERS.md.
 ",
     },
     Entry {
@@ -43,7 +43,7 @@ empty line in the stream looks like this, and so does a pcapng file at offset 0.
 Next: look: xxd -s OFFSET -l 32 FILE. If it is text, a program writes to the
 socket past its WebSocket library. For a pcapng file, run recipes/pcap2wsn or
 wsn-pcap.
-8 of 36 implementations accept it (wslay, websocket-client): see docs/PEERS.md.
+6 of 36 implementations accept some (Poco, Mojolicious): see docs/PEERS.md.
 ",
     },
     Entry {
@@ -101,8 +101,8 @@ masked one.
 Usual causes: --role names the wrong side (then OFFSET is 1); a relay that
 passes on a client's frames unchanged; a client's library used in a server.
 Next: --role is the endpoint that sent the bytes: try --role client. If the
-server did send them, list both sides with 'wsn frames --role client': keys that
-are in both lists are those of frames that were passed on.
+server did send them, its frames' keys are the client's if they were passed on:
+sed -n 's/^S //p' CAPTURE | xxd -r -p | wsn frames --role client lists them.
 20 of 34 clients accept it (Firefox, aiohttp, Qt): see docs/PEERS.md.
 ",
     },
@@ -118,7 +118,7 @@ an earlier length is wrong, or two threads wrote at once.
 Next: 'wsn show CAPTURE' ends the line 'refused' with the frame's two bytes; the
 first says which it is: 88 a Close, 89 a ping, 8a a pong. Shorten the reason at
 the sender: count bytes, cut between characters.
-7 of 36 implementations accept it, 20 if the length is small: see docs/PEERS.md.
+18 of 36 implementations accept some (Jetty, Tomcat): see docs/PEERS.md.
 ",
     },
     Entry {
@@ -131,7 +131,7 @@ e8); a reason of one character without a code; a payload that was truncated.
 Next: find where the sender builds its Close: the code's high byte, its low
 byte, then the reason in UTF-8. For no code, send no payload at all; the other
 application then sees 1005.
-10 of 36 implementations accept it (Firefox, gorilla): see docs/PEERS.md.
+9 of 36 implementations accept it (Firefox, gorilla): see docs/PEERS.md.
 ",
     },
     Entry {
@@ -189,7 +189,7 @@ an HTTP status such as 500; the low byte first (e803 is 59395); no code before
 the reason, so that its first two letters are read as one.
 Next: 'wsn show CAPTURE' ends the line 'refused' with the code, unmasked, in hex
 (03ee is 1006). In a relay, send no code for 1005, and 1001 or 1011 for 1006.
-17 of 36 implementations accept some (Chromium, Firefox): see docs/PEERS.md.
+16 of 36 implementations accept some (Chromium, Firefox): see docs/PEERS.md.
 ",
     },
     Entry {
@@ -203,7 +203,7 @@ message of the system in another encoding (Latin-1, GBK, Shift JIS).
 Next: 'wsn show CAPTURE' ends the line 'refused' with the code and the reason up
 to that byte, in hex. At the sender, convert the reason to UTF-8 first, then
 shorten it between two characters. A short reason in ASCII is the safest.
-12 of 36 implementations accept it (nhooyr, wslay): see docs/PEERS.md.
+11 of 36 implementations accept some (nhooyr, wslay): see docs/PEERS.md.
 ",
     },
     Entry {
