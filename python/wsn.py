@@ -6,8 +6,8 @@
 
 Each call does what the command of `wsn` with its name does, over bytes (or any buffer: a `memoryview`, an `mmap`; nothing
 is copied) instead of files, by the proved library `libwsn.so`. It is looked for where the environment variable
-`WSN_LIBRARY` says, else beside this module, where ./install puts it, and where the system looks for libraries. If it isn't
-found, each call is an `OSError` that says how it is built: `./library FOLDER`.
+`WSN_LIBRARY` says, else beside this module, where ./install and pip put it, and where the system looks for libraries. If it
+isn't found, each call is an `OSError` that says how it is built: `./library FOLDER`.
 
 Wrong arguments are a `ValueError`, and so are `FaultyCapture` and `Fault`; `NotAccepted` and `Stopped` aren't. Calls in
 several threads don't disturb each other. Nothing is printed.

@@ -4,6 +4,7 @@ dumped(path) gives the page as --dump-dom prints it, as a tree of nodes. Browser
 --remote-debugging-pipe: evaluates expressions, presses keys, and notes errors and requests.
 """
 
+import base64
 import fcntl
 import html.parser
 import json
@@ -207,3 +208,19 @@ class Browser:
             if method == "Network.requestWillBeSent" and parameters.get("type") != "Document":
                 found.append(parameters["request"]["url"])
         return found
+
+
+def drop(browser, name, data):
+    """Drops a file on the page; what the page then says."""
+    encoded = base64.b64encode(data).decode()
+    return browser.get(
+        f"""(async () => {{
+            const transfer = new DataTransfer(), bytes = Uint8Array.from(atob({json.dumps(encoded)}), c => c.charCodeAt(0));
+            const says = () => ['status', 'trouble'].map(id => document.getElementById(id).textContent);
+            for (const id of ['status', 'trouble']) document.getElementById(id).replaceChildren();
+            transfer.items.add(new File([bytes], {json.dumps(name)}));
+            document.dispatchEvent(new DragEvent('drop', {{ dataTransfer: transfer, bubbles: true, cancelable: true }}));
+            while (!says().join('')) await new Promise(done => setTimeout(done, 5));
+            return says();
+        }})()"""
+    )

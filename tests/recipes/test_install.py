@@ -86,16 +86,20 @@ def named(called):
 @test
 def install_copies_the_library(folder):
     """The library that LIBRARY names, its header, and the module, which finds it; and away."""
-    made = {"lib/libwsn.a": b"archive", "lib/libwsn.so": b"shared", "include/wsn.h": b"header"}
+    made = {"lib/libwsn.a": b"archive", "lib/libwsn.so.0": b"shared", "include/wsn.h": b"header"}
     (folder / "built").mkdir()
     for name, data in made.items():
         (folder / "built" / os.path.basename(name)).write_bytes(data)
     prefix = folder / "prefix"
     run(TOP / "install", prefix, env=environment(LIBRARY=str(folder / "built")))
     same({name: (prefix / name).read_bytes() for name in made}, made, "the files")
+    same((prefix / "lib/libwsn.so").read_bytes(), b"shared", "what the link shows")
+    same(os.readlink(prefix / "lib/libwsn.so"), "libwsn.so.0", "the link")
+    described = (prefix / "lib/pkgconfig/libwsn.pc").read_text()
+    want(re.search(r"^Version: \d+\.\d+\.\d+$", described, re.MULTILINE), f"what pkg-config reads: {described}")
     place = "import wsn; print(wsn._places()[0])"
     found, _ = run("python3", "-c", place, env={**os.environ, "PYTHONPATH": str(prefix / "lib/wsn/python")})
-    same(os.path.realpath(found.decode().strip()), str(prefix / "lib/libwsn.so"), "where the module looks")
+    same(os.path.realpath(found.decode().strip()), str(prefix / "lib/libwsn.so.0"), "where the module looks")
     run(TOP / "install", "--remove", prefix)
     same(prefix.exists(), False, "what is left")
 

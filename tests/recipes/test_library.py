@@ -31,14 +31,15 @@ def repository(folder):
 
 @test
 def library_goes_into_a_folder_with_a_blank(folder):
-    """All three files, whole, and nothing else; from a repository with a blank in its path, also a second time."""
+    """All files, whole, and nothing else; from a repository with a blank in its path, also a second time."""
     needs("bash", "cc", "ar")
     top, environment = repository(folder)
     (folder / "main.c").write_text("#include <wsn.h>\nint main(void) { return judged(); }\n")
     for _ in range(2):
         run(top / "library", "its files", cwd=folder, env=environment)
         made = folder / "its files"
-        same(sorted(path.name for path in made.iterdir()), ["libwsn.a", "libwsn.so", "wsn.h"], "the files")
+        same(sorted(path.name for path in made.iterdir()), ["libwsn.a", "libwsn.so", "libwsn.so.0", "wsn.h"], "the files")
+        same(os.readlink(made / "libwsn.so"), "libwsn.so.0", "the link")
         same(sorted(run("ar", "t", made / "libwsn.a")[0].split()), [b"heap.o", b"judged.o"], "the archive")
     for name in "libwsn.a", "libwsn.so":
         run("cc", f"-I{made}", "-o", folder / "main", folder / "main.c", made / name, f"-Wl,-rpath,{made}")
