@@ -1,5 +1,5 @@
 -- The line in which a Close ends, as lines are added.
-use Rattle.std.proofs.Common.{◌≡◌, ℕ, suc, ◌-◌, ◌<◌, ◌≤◌, ◌⊎◌, Option, None, Some, List, [], ◌∷◌, ◌++◌, length, is_some, inl, inr, refl, sym, ap, ◌∙◌, subst, append_assoc, append-nil, arith, length-append}
+use Rattle.std.proofs.Common.{◌≡◌, ℕ, suc, ◌-◌, ◌<◌, ◌≤◌, ◌⊎◌, true, false, Option, None, Some, List, [], ◌∷◌, ◌++◌, length, is_some, inl, inr, refl, sym, ap, ◌∙◌, subst, append_assoc, append-nil, arith, length-append}
 use Rattle.std.proofs.lemmas.Bool.{cases_lt}
 use Rattle.std.proofs.lemmas.List.{take_all, take-append-le, take_at}
 use Rattle.std.proofs.lemmas.List.Concat.{flat_map-append}
@@ -22,7 +22,7 @@ use Rattle.wsn_scan.proofs.ScanVerdicts.{close_of_none}
 use Rattle.wsn_rules.specs.Entries.{Entry}
 use Rattle.wsn_rules.specs.Sides.{bytes_in, sent}
 use Rattle.wsn_rules.specs.Reports.{ClosesIn}
-use Rattle.wsn_capture.specs.Captures.{IsUnclosed, IsClosedBy, IsCloseLine, IsNoted}
+use Rattle.wsn_capture.specs.Closes.{IsUnclosed, IsClosedBy, IsCloseLine}
 
 module _ (role : Role) (limits : Limits) where
   -- ---- whether a stream has a Close
@@ -136,12 +136,17 @@ module _ (role : Role) (limits : Limits) where
         following = omega (arith, all, pushed, sizes);
       }
 
-  -- the line that is noted after an entry that adds these bytes
-  pub line_noted : (given : List Entry) (entry : Entry) (lines : ℕ) (known noted : Option ℕ) → lines ≡ length given → IsCloseLine role limits given known → IsNoted role limits (sent role given ++ bytes_in role entry) known lines noted
-      → IsCloseLine role limits (given ++ entry ∷ []) noted
-  line_noted given entry lines (Some line) noted count is stays = subst (IsCloseLine role limits (given ++ entry ∷ [])) (sym stays) (closes_longer given entry line is)
-  line_noted given entry lines None (Some line) count is closes = subst (ClosesIn role limits (given ++ entry ∷ [])) (sym count ∙ sym closes.0) (closes_last given entry closes.1.0 is closes.1.1 closes.1.2)
-  line_noted given entry lines None None count is unclosed = subst (IsUnclosed role limits) (sym (sent-push given entry)) unclosed
+  -- a line that is noted stays
+  pub line_stays : (given : List Entry) (entry : Entry) (line : ℕ) → IsCloseLine role limits given (Some line) → IsCloseLine role limits (given ++ entry ∷ []) (Some line)
+  line_stays given entry line is = closes_longer given entry line is
+
+  -- a Close that is new ends in the last line
+  pub line_new : (given : List Entry) (entry : Entry) → IsCloseLine role limits given None → IsClosedBy role limits (sent role given ++ bytes_in role entry) true → IsCloseLine role limits (given ++ entry ∷ []) (Some (length given))
+  line_new given entry unclosed closes = closes_last given entry closes.0 unclosed closes.1 closes.2
+
+  -- no line is noted while no Close comes
+  pub line_none : (given : List Entry) (entry : Entry) → IsClosedBy role limits (sent role given ++ bytes_in role entry) false → IsCloseLine role limits (given ++ entry ∷ []) None
+  line_none given entry unclosed = subst (IsUnclosed role limits) (sym (sent-push given entry)) unclosed
 
   -- the line that is noted after an entry that adds none
   pub line_kept : (given : List Entry) (entry : Entry) (known : Option ℕ) → bytes_in role entry ≡ [] → IsCloseLine role limits given known → IsCloseLine role limits (given ++ entry ∷ []) known

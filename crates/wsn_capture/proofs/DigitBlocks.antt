@@ -9,7 +9,7 @@ use lib.Lanes.{Each1, zip2, chunk, put_chunk, pick_l, sel_l, mask_l, top}
 use Rattle.hex.specs.Hex.{decode_of, decode_pairs, hex_digit_value, is_hex_digit, pair_value}
 use Rattle.hex.proofs.Pairs.{prepend, decode_start, decode_step, decode_done}
 use Rattle.hex.proofs.HexLemmas.{decode_of-ok}
-use Rattle.wsn_capture.specs.LineForms.{HasNoHex}
+use Rattle.wsn_capture.specs.LineEntries.{HasNoHex}
 use Rattle.wsn_capture.proofs.PairedDigits.{pair_of}
 
 -- The value of a digit, or 16 or more for a byte that isn't a digit.

@@ -25,10 +25,9 @@ use Rattle.wsn_rules.specs.Entries.{Entry, GivesEntry, AreEntries}
 use Rattle.wsn_rules.specs.Entries.Entry.{Nothing, Bytes, Mark}
 use Rattle.wsn_rules.specs.Sides.{bytes_in, sent, has_ended, side_of, IsSide}
 use Rattle.wsn_rules.specs.Reports.{IsRefusedSide, IsClosedSide, IsEndedEarly, OutcomeFits, outcome_order, echo_of, seen_of, IsOutcome, IsReport}
-use Rattle.wsn_capture.specs.CloseLines.{earlier_of}
-use Rattle.wsn_capture.specs.Captures.{IsUnclosed, IsClosedBy, IsCloseLine}
+use Rattle.wsn_capture.specs.Closes.{IsUnclosed, IsClosedBy, IsCloseLine, earlier_of}
 use Rattle.wsn_capture.proofs.PairedDigits.{pair_of}
-use Rattle.wsn_capture.proofs.ClosingLines.{accepted_closed, cut_unclosed, sent-push, closes_longer, line_noted}
+use Rattle.wsn_capture.proofs.ClosingLines.{accepted_closed, cut_unclosed, sent-push, closes_longer, line_new, line_none}
 use Rattle.wsn_capture.proofs.ReportedLines.{first_by_lines}
 use Rattle.wsn_capture.proofs.OneReport.{outcome_at, at_its_place}
 
@@ -114,8 +113,8 @@ module _ (role : Role) (limits : Limits) (range : InRange limits) where
       by_closed found.0 found.1
     where
       by_closed : (closed : Bool) → IsClosedBy role limits (sent role given ++ bytes_in role entry) closed → (noted : Option ℕ) × IsCloseLine role limits (given ++ entry ∷ []) noted
-      by_closed true closes = (Some (length given), line_noted role limits given entry (length given) None (Some (length given)) refl is (refl, closes))
-      by_closed false unclosed = (None, line_noted role limits given entry (length given) None None refl is unclosed)
+      by_closed true closes = (Some (length given), line_new role limits given entry is closes)
+      by_closed false unclosed = (None, line_none role limits given entry unclosed)
 
   further : (given rest : List Entry) (known : Option ℕ) → IsCloseLine role limits given known → IsBytes (sent role (given ++ rest)) → (noted : Option ℕ) × IsCloseLine role limits (given ++ rest) noted
   further given [] known is in_bytes = (known, subst (λ (es : List Entry). IsCloseLine role limits es known) (sym (append-nil given)) is)

@@ -9,7 +9,8 @@ use Rattle.wsn_rules.specs.declared.report.Report.{Report}
 use Rattle.wsn_capture.specs.declared.capture_stop.CaptureStop.{CaptureStop}
 use Rattle.wsn_capture.specs.declared.capture_stop.CaptureStop.TheVariants.{Read, Line}
 use Rattle.wsn_capture.specs.declared.line_splitter.LineSplitter.{LineSplitter}
-use Rattle.wsn_capture.specs.Captures.{count_of}
+use Rattle.wsn_capture.specs.CaptureLines.{count_of}
+use Rattle.wsn_capture.proofs.AcceptedLines.{accepted_count}
 use Rattle.wsn_capture.specs.CaptureAnswers.{IsFaulty, IsCaptureAnswerOf, IsCaptureAnswer, IsCaptureJudged}
 use Rattle.wsn_capture.specs.LineSplitters.{HasSplit, IsStopWithin}
 use Rattle.wsn_capture.proofs.SplitLines.{unfaulted}
@@ -23,9 +24,9 @@ pub record HasRead (limits : Limits) (old new : Incoming) (splitter : LineSplitt
 pub begins : (limits : Limits) (input : Incoming) (splitter : LineSplitter) → HasSplit limits splitter [] → HasRead limits input input splitter
 begins limits input splitter split = record { came = []; consumed = consumed_none input; split = split }
 
-module _ (limits : Limits) (old mid new : Incoming) (splitter : LineSplitter) (read : HasRead limits old mid splitter) (few : count_of splitter.capture ≤ 1000000) where
+module _ (limits : Limits) (old mid new : Incoming) (splitter : LineSplitter) (read : HasRead limits old mid splitter) (few : count_of splitter.capture.lines ≤ 1000000) where
   bounded : length read.came ≤ 1000000 * 8196 + 8195
-  bounded = let lines = read.split.taken.count in let all = read.split.few in let short = read.split.short in omega arith
+  bounded = let lines = accepted_count limits splitter.capture.lines read.split.lines read.split.taken.entries read.split.taken.accepted in let all = read.split.few in let short = read.split.short in omega arith
 
   -- a read failed
   pub stopped : IsKept mid new → new.failed ≡ true → IsCaptureJudged limits old new (Err Read)

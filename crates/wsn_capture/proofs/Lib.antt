@@ -2,12 +2,9 @@ pub mod OneEntry
 pub mod OneFault
 pub mod ComputedFaults
 pub mod OneReport
-pub mod StreamSteps
 pub mod LineEnds
 pub mod ClosingLines
-pub mod SentEntries
 pub mod AcceptedTexts
-pub mod BegunLines
 pub mod ReportedLines
 pub mod PairedDigits
 pub mod DigitBlocks
@@ -19,5 +16,7 @@ pub mod EveryReport
 pub mod OneAnswer
 pub mod SideEntries
 pub mod SideLaws
+pub mod AcceptedLines
+pub mod StreamSteps
 pub mod SideSteps
 pub mod SideSources

@@ -4,7 +4,7 @@ use Rattle.std.specs.Prelude.{MatchBool}
 use Rattle.hex.specs.Hex.{decode_of, decode_pairs, digit_or_error, hex_digit_value, is_hex_digit, pair_value, ◌>>=◌}
 use Rattle.hex.specs.declared.error.FromHexError.{FromHexError}
 use Rattle.hex.proofs.Pairs.{prepend, decode_step, decode_err, decode_done}
-use Rattle.wsn_capture.specs.LineForms.{HasNoHex}
+use Rattle.wsn_capture.specs.LineEntries.{HasNoHex}
 
 -- The first `i` pairs are digits and their bytes are decoded, or one of the digits isn't valid.
 abbrev pub AreDecoded : Bool → List ℕ → List ℕ → ℕ → Type 0

@@ -3,10 +3,9 @@ use Rattle.std.proofs.Common.{◌≡◌, ℕ, ◌+◌, ◌-◌, ◌<◌, ◌≤�
 use Rattle.std.proofs.Math.Seq.{take-add}
 use Rattle.std.proofs.lemmas.List.{take_all, length-take-le}
 use Rattle.wsn_rules.specs.Limits.{Limits}
-use Rattle.wsn_capture.specs.declared.capture.Capture.{Capture}
 use Rattle.wsn_capture.specs.declared.capture_stop.CaptureStop.{CaptureStop}
 use Rattle.wsn_rules.specs.TextLines.{IsLine}
-use Rattle.wsn_capture.specs.Captures.{HasAcceptedLines}
+use Rattle.wsn_capture.specs.Captures.{Captured, HasAcceptedLines}
 use Rattle.wsn_capture.specs.CaptureAnswers.{IsUnfaulted}
 use Rattle.wsn_capture.specs.SplitLines.{GoesOn, EndsLine}
 use Rattle.wsn_capture.specs.LineSplitters.{HasPassedOn, IsStopAt, IsStopBy, IsStopWithin}
@@ -65,7 +64,7 @@ stop_in_rest limits came piece at stop within =
 
 -- ---- a prefix of a piece
 
-module _ (limits : Limits) (old : Capture) (begun came : List ℕ) (split : HasPassedOn limits old begun came) where
+module _ (limits : Limits) (old : Captured) (begun came : List ℕ) (split : HasPassedOn limits old begun came) where
   -- it goes on with the line
   pub goes_on : (after piece : List ℕ) (count : ℕ) → GoesOn begun after piece count → HasPassedOn limits old after (came ++ take count piece)
   goes_on after piece count goes =
@@ -78,7 +77,7 @@ module _ (limits : Limits) (old : Capture) (begun came : List ℕ) (split : HasP
     size = ap (λ (bs : List ℕ). length bs) ends.is ∙ length-append begun ends.bytes
 
     -- it ends the line
-    pub ends_line : (new : Capture) → HasAcceptedLines limits new (split.lines ++ line ∷ []) → HasPassedOn limits new [] (came ++ take count piece)
+    pub ends_line : (new : Captured) → HasAcceptedLines limits new (split.lines ++ line ∷ []) → HasPassedOn limits new [] (came ++ take count piece)
     ends_line new consumes =
         elim ends.ends [
           | inl lf ↦

@@ -1,7 +1,7 @@
 -- A line's entry or first fault, as a function, is what the definitions of entries and faults say.
-use Rattle.std.proofs.Common.{◌≡◌, ◌≢◌, ℕ, ◌+◌, ◌<◌, ◌≤◌, ◌⊎◌, ◌==◌, Bool, true, false, cond, Result, Ok, Err, List, [], ◌∷◌, ◌++◌, length, inl, inr, refl, sym, ap, ◌∙◌, subst, arith}
-use Rattle.std.specs.Prelude.{nat_le, nat_lt}
-use Rattle.std.proofs.lemmas.Bool.{cases_eq, cases_lt}
+use Rattle.std.proofs.Common.{◌≡◌, ◌≢◌, ℕ, ◌+◌, ◌<◌, ◌≤◌, ◌==◌, Bool, true, false, cond, Result, Ok, Err, List, [], ◌∷◌, ◌++◌, length, inl, inr, refl, sym, ap, ◌∙◌, subst, arith}
+use Rattle.std.specs.Prelude.{nat_le, nat_lt, ⊤}
+use Rattle.std.proofs.lemmas.Bool.{cases_eq}
 use Rattle.std.proofs.lemmas.Bool.Decides.{nat_tests}
 use Rattle.hex.specs.Hex.{decode_of}
 use Rattle.hex.specs.declared.error.FromHexError.{FromHexError}
@@ -12,14 +12,14 @@ use Rattle.wsn_rules.specs.Entries.{without_cr, Entry, IsHex, GivesEntry, bytes_
 use Rattle.wsn_rules.specs.Entries.Entry.{Nothing, Bytes, Mark}
 use Rattle.wsn_rules.specs.Sides.{sent, has_ended}
 use Rattle.wsn_capture.specs.declared.line_fault.LineFault.{LineFault}
-use Rattle.wsn_capture.specs.declared.line_fault.LineFault.TheVariants.{TooManyLines, TooLong, BadForm, BadHex, AfterEnd}
+use Rattle.wsn_capture.specs.declared.line_fault.LineFault.TheVariants.{TooManyLines, TooLong, BadForm, BadHex, AfterEnd, InputLimit}
 use Rattle.wsn_capture.specs.declared.lines_before.LinesBefore.{LinesBefore}
-use Rattle.wsn_capture.specs.LineFaults.{fault_order, HasNoForm, HasFault, IsFirstLineFault, IsAcceptedLine, line_most, lines_most}
-use Rattle.wsn_capture.specs.LineForms.{HasNoHex}
+use Rattle.wsn_capture.specs.LineFaults.{fault_order, IsOfEndpoint, HasNoForm, HasFault, IsFirstLineFault, IsAcceptedLine, line_most, lines_most}
+use Rattle.wsn_capture.specs.LineEntries.{HasNoHex}
 use Rattle.wsn_capture.specs.SideTexts.{decoded_entry, digits_entry, dot_entry, endpoint_entry, text_entry, ended_before, unless_ended, entry_unless_ended, entry_after, lines_giving}
 use Rattle.hex.proofs.HexLemmas.{decode_of-ok}
-use Rattle.wsn_capture.proofs.OneEntry.{letter_of, front_is, mark_is, one_given}
-use Rattle.wsn_capture.proofs.OneFault.{one_first_fault, NoneBefore, none_at_first, none_further, none_at_all, Form, GivesNothing, OfBytes, IsMark, NoForm, form_of, hex_or_not, true_or_false, nothing_bad, bytes_formed, bytes_taken, mark_formed, mark_taken}
+use Rattle.wsn_capture.proofs.OneEntry.{letter_of, front_is, mark_is}
+use Rattle.wsn_capture.proofs.OneFault.{hex_or_not, true_or_false, taken_or_faulty}
 
 -- ---- tests of bytes and numbers
 
@@ -157,103 +157,191 @@ few_bytes role text digits bytes short is hex =
 abbrev pub HasRoom : Limits → List Entry → Type 0
 HasRoom limits given = length given < lines_most → (role : Role) → length (sent role given) + 4096 ≤ limits.input
 
-module _ (limits : Limits) (given : List Entry) (line : List ℕ) (room : HasRoom limits given) where
+module _ (limits : Limits) (given : List Entry) (line : List ℕ) where
   abbrev text : List ℕ
   text = without_cr line
 
   abbrev before : LinesBefore
   before = lines_giving given
 
-  -- The line is accepted with its entry, or has its fault.
-  abbrev pub IsLineDecided : Type 0
-  IsLineDecided = ((entry : Entry) × (entry_after (lines_giving given) line ≡ Ok entry) × IsAcceptedLine limits given line entry)
-      ⊎ ((fault : LineFault) × (entry_after (lines_giving given) line ≡ Err fault) × IsFirstLineFault limits given line fault)
+  -- The line has this fault.
+  abbrev Has : LineFault → Type 0
+  Has fault = HasFault limits given (without_cr line) fault
 
-  accepted : (entry : Entry) → entry_after before line ≡ Ok entry → GivesEntry text entry → NoneBefore limits given text 0 6 → IsLineDecided
-  accepted entry is gives none =
-      let not = none_at_all limits given text 0 none in
-      inl (entry, is, record { gives = gives; none = λ fault held. let less = not fault held in omega (arith, less) })
+  few_lines : (Has TooManyLines → ⊥) → length given < lines_most
+  few_lines none = omega (arith, none)
 
-  faulty : (fault : LineFault) → entry_after before line ≡ Err fault → HasFault limits given text fault → NoneBefore limits given text 0 (fault_order fault) → IsLineDecided
-  faulty fault is held first = inr (fault, is, record { held = held; first = λ other has. first other has (omega arith) })
+  short_line : (Has TooLong → ⊥) → length (without_cr line) ≤ line_most
+  short_line none = omega (arith, none)
 
-  over_before : (role : Role) → has_ended role given ≡ true → ended_before role before ≡ true
-  over_before role over = ended_lines_giving role given ∙ over
+  by_text : (entry : Result Entry LineFault) → (Has TooManyLines → ⊥) → (Has TooLong → ⊥) → text_entry text ≡ entry → entry_after before line ≡ entry_unless_ended before entry
+  by_text entry few short is = entry_by_text before line entry (few_lines few) (short_line short) is
 
-  going_before : (role : Role) → has_ended role given ≡ false → ended_before role before ≡ false
-  going_before role going = ended_lines_giving role given ∙ going
-
-  module _ (few : length given < lines_most) (short : length (without_cr line) ≤ line_most) where
-    by_text : (entry : Result Entry LineFault) → text_entry text ≡ entry → entry_after before line ≡ entry_unless_ended before entry
-    by_text entry is = entry_by_text before line entry few short is
-
-    of_bytes : (role : Role) (digits bytes : List ℕ) → text ≡ bytes_prefix role ++ digits → IsHex digits bytes → NoneBefore limits given text 0 4 → IsLineDecided
-    of_bytes role digits bytes is hex formed =
-        let reads = by_text (Ok (Bytes role bytes)) (ap text_entry is ∙ hex_text role digits bytes hex) in
-        elim (true_or_false (has_ended role given)) [
-          | inl over ↦ faulty AfterEnd (reads ∙ bytes_ended before role bytes (over_before role over)) (role, inl (digits, is), over) formed
-          | inr going ↦
-              let size = few_bytes role text digits bytes short is hex in
-              let enough = room few role in
-              accepted (Bytes role bytes) (reads ∙ bytes_going before role bytes (going_before role going)) (digits, is, hex)
-              (bytes_taken limits given text 0 role digits bytes is hex formed going (omega (arith, size, enough)))
-        ]
-
-    of_mark : (role : Role) → text ≡ end_mark role → NoneBefore limits given text 0 4 → IsLineDecided
-    of_mark role is formed =
-        let reads = by_text (Ok (Mark role)) (ap text_entry is ∙ mark_text role) in
-        elim (true_or_false (has_ended role given)) [
-          | inl over ↦ faulty AfterEnd (reads ∙ mark_ended before role (over_before role over)) (role, inr is, over) formed
-          | inr going ↦ accepted (Mark role) (reads ∙ mark_going before role (going_before role going)) is (mark_taken limits given text 0 role is formed going)
-        ]
-
-    by_form : NoneBefore limits given text 0 2 → Form text → IsLineDecided
-    by_form first (GivesNothing is) = accepted Nothing (by_text (Ok Nothing) (nothing_text text is)) is (nothing_bad limits given text 0 is first)
-    by_form first (OfBytes role digits is) =
-        elim (hex_or_not digits) [
-          | inl hex ↦ of_bytes role digits hex.0 is hex.1 (bytes_formed limits given text 0 role digits hex.0 is hex.1 first)
-          | inr none ↦ faulty BadHex (by_text (Err BadHex) (ap text_entry is ∙ no_hex_text role digits none)) (role, digits, is, none)
-              (none_further limits given text 0 2 first (λ bad. bad.1 role (inl (digits, is))))
-        ]
-    by_form first (IsMark role is) = of_mark role is (mark_formed limits given text 0 role is first)
-    by_form first (NoForm none) = faulty BadForm (by_text (Err BadForm) (no_form_text text none)) none first
-
-  line_decided : IsLineDecided
-  line_decided =
-      elim (cases_lt (length given) lines_most) [
-        | inr many ↦ faulty TooManyLines (too_many_lines before line (omega (arith, many))) (omega (arith, many)) (none_at_first limits given text 0)
-        | inl few ↦
-            let first = none_further limits given text 0 0 (none_at_first limits given text 0) (λ many. omega (arith, few, many)) in
-            elim (cases_lt line_most (length text)) [
-              | inl long ↦ faulty TooLong (too_long_line before line few long) long first
-              | inr short ↦ by_form few (omega (arith, short)) (none_further limits given text 0 1 first (λ long. omega (arith, short, long))) (form_of text)
-            ]
+  -- whether an endpoint has ended
+  going_before : (role : Role) → IsOfEndpoint role text → (Has AfterEnd → ⊥) → ended_before role before ≡ false
+  going_before role of none =
+      elim (true_or_false (has_ended role given)) [
+        | inl over ↦ absurd (none (role, of, over))
+        | inr going ↦ ended_lines_giving role given ∙ going
       ]
+
+  -- an entry that the line gives
+  read_entry : (entry : Entry) → GivesEntry text entry → text_entry text ≡ Ok entry
+  read_entry Nothing is = nothing_text text is
+  read_entry (Bytes role bytes) is = ap text_entry is.1 ∙ hex_text role is.0 bytes is.2
+  read_entry (Mark role) is = ap text_entry is ∙ mark_text role
+
+  going_entry : (entry : Entry) → GivesEntry text entry → (Has AfterEnd → ⊥) → unless_ended before entry ≡ Ok entry
+  going_entry Nothing is none = refl
+  going_entry (Bytes role bytes) is none = bytes_going before role bytes (going_before role (inl (is.0, is.1)) none)
+  going_entry (Mark role) is none = mark_going before role (going_before role (inr is) none)
+
+  given_entry : (entry : Entry) → GivesEntry text entry → (Has TooManyLines → ⊥) → (Has TooLong → ⊥) → (Has AfterEnd → ⊥) → entry_after (lines_giving given) line ≡ Ok entry
+  given_entry entry is few short going = by_text (Ok entry) few short (read_entry entry is) ∙ going_entry entry is going
 
   pub accepted_entry : (entry : Entry) → IsAcceptedLine limits given line entry → entry_after (lines_giving given) line ≡ Ok entry
-  accepted_entry entry is =
-      elim line_decided [
-        | inl taken ↦ taken.1 ∙ ap Ok (one_given text taken.0 entry taken.2.gives is.gives)
-        | inr bad ↦ absurd (is.none bad.0 bad.2.held)
+  accepted_entry entry is = given_entry entry is.gives (is.none TooManyLines) (is.none TooLong) (is.none AfterEnd)
+
+  -- ---- the first fault
+
+  module _ (fault : LineFault) (is : IsFirstLineFault limits given line fault) where
+    -- no fault comes before it
+    none : (other : LineFault) → fault_order other < fault_order fault → Has other → ⊥
+    none other earlier held = let le = is.first other held in omega (arith, earlier, le)
+
+  over_entry : (role : Role) → IsOfEndpoint role text → has_ended role given ≡ true → (is : IsFirstLineFault limits given line AfterEnd) → entry_after (lines_giving given) line ≡ Err AfterEnd
+  over_entry role (inl of) over is =
+      let ended = ended_lines_giving role given ∙ over in
+      elim (hex_or_not of.0) [
+        | inl hex ↦
+            by_text (Ok (Bytes role hex.0)) (none AfterEnd is TooManyLines (omega arith)) (none AfterEnd is TooLong (omega arith)) (read_entry (Bytes role hex.0) (of.0, of.1, hex.1))
+            ∙ bytes_ended before role hex.0 ended
+        | inr bad ↦ absurd (none AfterEnd is BadHex (omega arith) (role, of.0, of.1, bad))
+      ]
+  over_entry role (inr mark) over is =
+      by_text (Ok (Mark role)) (none AfterEnd is TooManyLines (omega arith)) (none AfterEnd is TooLong (omega arith)) (read_entry (Mark role) mark)
+      ∙ mark_ended before role (ended_lines_giving role given ∙ over)
+
+  -- Each fault but the input limit's is that of `entry_after`, which knows no limits.
+  abbrev Reads : LineFault → Type 0
+  Reads InputLimit =
+      (role : Role) × (bytes : List ℕ) × (entry_after (lines_giving given) line ≡ Ok (Bytes role bytes)) × GivesEntry (without_cr line) (Bytes role bytes)
+      × (limits.input < length (sent role given) + length bytes)
+  Reads fault = entry_after (lines_giving given) line ≡ Err fault
+
+  pub read_fault : (fault : LineFault) → IsFirstLineFault limits given line fault → Reads fault
+  read_fault TooManyLines is = too_many_lines before line is.held
+  read_fault TooLong is = too_long_line before line (few_lines (none TooLong is TooManyLines (omega arith))) is.held
+  read_fault BadForm is =
+      by_text (Err BadForm) (none BadForm is TooManyLines (omega arith)) (none BadForm is TooLong (omega arith)) (no_form_text text is.held)
+  read_fault BadHex is =
+      by_text (Err BadHex) (none BadHex is TooManyLines (omega arith)) (none BadHex is TooLong (omega arith))
+      (ap text_entry is.held.2 ∙ no_hex_text is.held.0 is.held.1 is.held.3)
+  read_fault AfterEnd is = over_entry is.held.0 is.held.1 is.held.2 is
+  read_fault InputLimit is = (
+    is.held.0,
+    is.held.1,
+    given_entry (Bytes is.held.0 is.held.1) is.held.2 (none InputLimit is TooManyLines (omega arith)) (none InputLimit is TooLong (omega arith)) (none InputLimit is AfterEnd (omega arith)),
+    is.held.2,
+    is.held.3,
+  )
+
+  -- ---- what the entry says
+
+  -- An endpoint's bytes are within its limit.
+  abbrev pub Fits : Entry → Type 0
+  Fits (Bytes role bytes) = length (sent role given) + length bytes ≤ limits.input
+  Fits entry = ⊤
+
+  over_limit : (entry : Entry) (role : Role) (bytes : List ℕ) → entry ≡ Bytes role bytes → Fits entry → limits.input < length (sent role given) + length bytes → ⊥
+  over_limit entry role bytes is fits more = let within : length (sent role given) + length bytes ≤ limits.input = subst Fits is fits in omega (arith, within, more)
+
+  by_fault : (entry : Entry) → entry_after (lines_giving given) line ≡ Ok entry → Fits entry → (fault : LineFault) → Reads fault → ⊥
+  by_fault entry is fits InputLimit reads = let same : entry ≡ Bytes reads.0 reads.1 = cc (is, reads.2) in over_limit entry reads.0 reads.1 same fits reads.4
+  by_fault entry is fits TooManyLines reads = cc (is, reads)
+  by_fault entry is fits TooLong reads = cc (is, reads)
+  by_fault entry is fits BadForm reads = cc (is, reads)
+  by_fault entry is fits BadHex reads = cc (is, reads)
+  by_fault entry is fits AfterEnd reads = cc (is, reads)
+
+  pub entry_accepted : (entry : Entry) → entry_after (lines_giving given) line ≡ Ok entry → Fits entry → IsAcceptedLine limits given line entry
+  entry_accepted entry is fits =
+      elim (taken_or_faulty limits given line) [
+        | inl taken ↦ let same : taken.0 ≡ entry = cc (accepted_entry taken.0 taken.1, is) in subst (IsAcceptedLine limits given line) same taken.1
+        | inr bad ↦ absurd (by_fault entry is fits bad.0 (read_fault bad.0 bad.1))
       ]
 
-  pub first_fault : (fault : LineFault) → IsFirstLineFault limits given line fault → entry_after (lines_giving given) line ≡ Err fault
-  first_fault fault is =
-      elim line_decided [
-        | inl taken ↦ absurd (taken.2.none fault is.held)
-        | inr bad ↦ bad.1 ∙ ap Err (one_first_fault limits given line bad.0 fault bad.2 is)
-      ]
-
-  pub entry_accepted : (entry : Entry) → entry_after (lines_giving given) line ≡ Ok entry → IsAcceptedLine limits given line entry
-  entry_accepted entry is =
-      elim line_decided [
-        | inl taken ↦ let same : taken.0 ≡ entry = cc (taken.1, is) in subst (IsAcceptedLine limits given line) same taken.2
-        | inr bad ↦ absurd (cc (bad.1, is))
-      ]
+  same_fault_read : (fault other : LineFault) → entry_after (lines_giving given) line ≡ Err fault → Reads other → fault ≡ other
+  same_fault_read fault InputLimit is reads = absurd (cc (is, reads.2))
+  same_fault_read fault TooManyLines is reads = cc (is, reads)
+  same_fault_read fault TooLong is reads = cc (is, reads)
+  same_fault_read fault BadForm is reads = cc (is, reads)
+  same_fault_read fault BadHex is reads = cc (is, reads)
+  same_fault_read fault AfterEnd is reads = cc (is, reads)
 
   pub fault_first : (fault : LineFault) → entry_after (lines_giving given) line ≡ Err fault → IsFirstLineFault limits given line fault
   fault_first fault is =
-      elim line_decided [
-        | inl taken ↦ absurd (cc (taken.1, is))
-        | inr bad ↦ let same : bad.0 ≡ fault = cc (bad.1, is) in subst (IsFirstLineFault limits given line) same bad.2
+      elim (taken_or_faulty limits given line) [
+        | inl taken ↦ absurd (cc (accepted_entry taken.0 taken.1, is))
+        | inr bad ↦ subst (IsFirstLineFault limits given line) (sym (same_fault_read fault bad.0 is (read_fault bad.0 bad.1))) bad.1
       ]
+
+  limit_read : (fault : LineFault) (role : Role) (bytes : List ℕ) → entry_after (lines_giving given) line ≡ Ok (Bytes role bytes) → Reads fault → fault ≡ InputLimit
+  limit_read InputLimit role bytes is reads = refl
+  limit_read TooManyLines role bytes is reads = absurd (cc (is, reads))
+  limit_read TooLong role bytes is reads = absurd (cc (is, reads))
+  limit_read BadForm role bytes is reads = absurd (cc (is, reads))
+  limit_read BadHex role bytes is reads = absurd (cc (is, reads))
+  limit_read AfterEnd role bytes is reads = absurd (cc (is, reads))
+
+  -- bytes past the limit
+  pub entry_limited : (role : Role) (bytes : List ℕ) → entry_after (lines_giving given) line ≡ Ok (Bytes role bytes) → limits.input < length (sent role given) + length bytes → IsFirstLineFault limits given line InputLimit
+  entry_limited role bytes is more =
+      elim (taken_or_faulty limits given line) [
+        | inl taken ↦
+            let same : taken.0 ≡ Bytes role bytes = cc (accepted_entry taken.0 taken.1, is) in
+            absurd (taken.1.none InputLimit (role, bytes, subst (GivesEntry (without_cr line)) same taken.1.gives, more))
+        | inr bad ↦ subst (IsFirstLineFault limits given line) (limit_read bad.0 role bytes is (read_fault bad.0 bad.1)) bad.1
+      ]
+
+  -- ---- lines that leave room
+
+  -- a line's bytes are within the limit
+  pub fits_line : (entry : Entry) → HasRoom limits given → entry_after (lines_giving given) line ≡ Ok entry → Fits entry
+  fits_line entry room is =
+      elim (taken_or_faulty limits given line) [
+        | inl taken ↦ let same : taken.0 ≡ entry = cc (accepted_entry taken.0 taken.1, is) in subst Fits same (of_taken taken.0 taken.1)
+        | inr bad ↦ of_fault bad.0 bad.1 (read_fault bad.0 bad.1)
+      ]
+    where
+      of_bytes : (role : Role) (bytes : List ℕ) → (Has TooManyLines → ⊥) → (Has TooLong → ⊥) → GivesEntry text (Bytes role bytes) → length (sent role given) + length bytes ≤ limits.input
+      of_bytes role bytes few short gives =
+          let size = few_bytes role text gives.0 bytes (short_line short) gives.1 gives.2 in
+          let enough = room (few_lines few) role in
+          omega (arith, size, enough)
+
+      of_taken : (entry : Entry) → IsAcceptedLine limits given line entry → Fits entry
+      of_taken Nothing taken = tt
+      of_taken (Bytes role bytes) taken = of_bytes role bytes (taken.none TooManyLines) (taken.none TooLong) taken.gives
+      of_taken (Mark role) taken = tt
+
+      of_fault : (fault : LineFault) → IsFirstLineFault limits given line fault → Reads fault → Fits entry
+      of_fault InputLimit first reads =
+          let within = of_bytes reads.0 reads.1 (none InputLimit first TooManyLines (omega arith)) (none InputLimit first TooLong (omega arith)) reads.3 in
+          absurd (omega (arith, within, reads.4))
+      of_fault TooManyLines first reads = absurd (cc (is, reads))
+      of_fault TooLong first reads = absurd (cc (is, reads))
+      of_fault BadForm first reads = absurd (cc (is, reads))
+      of_fault BadHex first reads = absurd (cc (is, reads))
+      of_fault AfterEnd first reads = absurd (cc (is, reads))
+
+  pub first_fault : HasRoom limits given → (fault : LineFault) → IsFirstLineFault limits given line fault → entry_after (lines_giving given) line ≡ Err fault
+  first_fault room InputLimit is =
+      let reads = read_fault InputLimit is in
+      let within = fits_line (Bytes reads.0 reads.1) room reads.2 in
+      absurd (omega (arith, within, reads.4))
+  first_fault room TooManyLines is = read_fault TooManyLines is
+  first_fault room TooLong is = read_fault TooLong is
+  first_fault room BadForm is = read_fault BadForm is
+  first_fault room BadHex is = read_fault BadHex is
+  first_fault room AfterEnd is = read_fault AfterEnd is

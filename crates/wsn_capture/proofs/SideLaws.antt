@@ -118,7 +118,7 @@ module _ (limits : Limits) (most : side_most ≤ limits.input) where
   side_more role given [] (entry ∷ entries) more short are = absurd are
   side_more role given (line ∷ lines) [] more short are = absurd are
   side_more role given (line ∷ lines) (entry ∷ entries) more short are =
-      let is = accepted_entry limits given line (has_room limits given most short) entry are.0 in
+      let is = accepted_entry limits given line entry are.0 in
       let rest = side_more role (given ++ entry ∷ []) lines entries more (short_push limits given line entry short are.0) are.1 in
       let whole : (given ++ entry ∷ []) ++ entries ≡ given ++ entry ∷ entries = append_assoc given (entry ∷ []) entries in
       side-entry role (lines_giving given) line (lines ++ more) entry is

@@ -1,38 +1,22 @@
 -- The lines of a side as they are taken.
-use Rattle.std.proofs.Common.{◌≡◌, ℕ, ◌+◌, ◌-◌, ◌*◌, ◌<◌, ◌≤◌, false, Option, None, List, [], ◌∷◌, ◌++◌, length, take, drop, slice_range, inl, inr, refl, sym, ap, ◌∙◌, subst, append_assoc, append-nil, take-append-drop, drop-drop, arith}
+use Rattle.std.proofs.Common.{◌≡◌, ℕ, ◌+◌, ◌-◌, ◌*◌, ◌<◌, ◌≤◌, Option, None, List, [], ◌∷◌, ◌++◌, length, take, drop, slice_range, inl, inr, sym, ap, ◌∙◌, subst, append_assoc, append-nil, take-append-drop, drop-drop, arith}
 use Rattle.std.proofs.lemmas.Bool.{cases_lt}
 use Rattle.std.proofs.lemmas.List.{drop-take, take_at}
 use Rattle.wsn_wire.specs.declared.endpoint.Role.{Role}
-use Rattle.wsn_wire.specs.declared.endpoint.Role.TheVariants.{Client, Server}
 use Rattle.wsn_rules.specs.TextLines.{IsLine, lines_of}
 use Rattle.wsn_rules.proofs.TextLines.{line_first, one_line, front_first}
-use Rattle.wsn_rules.specs.Entries.{without_cr, end_mark}
-use Rattle.wsn_rules.specs.Entries.Entry.{Mark}
-use Rattle.wsn_rules.specs.Sides.{bytes_in}
+use Rattle.wsn_rules.specs.Entries.{without_cr}
 use Rattle.wsn_capture.specs.declared.line_fault.LineFault.TheVariants.{TooManyLines, TooLong}
 use Rattle.wsn_capture.specs.declared.lines_before.LinesBefore.{LinesBefore}
 use Rattle.wsn_capture.specs.LineFaults.{line_most, lines_most}
-use Rattle.wsn_capture.specs.SideTexts.{text_entry, ended_before, entry_unless_ended, with_entry, sent_in_lines}
+use Rattle.wsn_capture.specs.SideTexts.{sent_in_lines}
 use Rattle.wsn_capture.specs.declared.side_bytes.FaultyLine.{FaultyLine}
 use Rattle.wsn_capture.specs.declared.side_bytes.SideBytes.{SideBytes}
 use Rattle.wsn_capture.specs.SplitLines.{EndsLine}
-use Rattle.wsn_capture.specs.SideStates.{TextGivesBytes, unless_faulty, side_left, IsReady, lines_ahead, lines_ahead_by}
-use Rattle.wsn_capture.proofs.SideEntries.{mark_text, mark_going, too_many_lines, too_long_line}
+use Rattle.wsn_capture.specs.SideStates.{unless_faulty, side_left, IsReady, lines_ahead, lines_ahead_by}
+use Rattle.wsn_capture.proofs.SideEntries.{too_many_lines, too_long_line}
 use Rattle.wsn_capture.proofs.SideLaws.{side-fault}
 use Rattle.wsn_capture.proofs.SplitLines.{too_long, line_join}
-
-no_bytes : (role other : Role) → [] ≡ bytes_in role (Mark other)
-no_bytes Client other = refl
-no_bytes Server other = refl
-
-pub mark_given : (role sender : Role) (old new : LinesBefore) (text : List ℕ) → text ≡ end_mark sender → ended_before sender old ≡ false → record new { count = new.count + 1 } ≡ with_entry old (Mark sender)
-    → TextGivesBytes role old new text []
-mark_given role sender old new text is going ended = record {
-  entry = Mark sender;
-  is = ap (λ (bs : List ℕ). entry_unless_ended old (text_entry bs)) is ∙ ap (entry_unless_ended old) (mark_text sender) ∙ mark_going old sender going;
-  adds = ended;
-  gives = no_bytes role sender;
-}
 
 -- ---- bytes that are given out
 

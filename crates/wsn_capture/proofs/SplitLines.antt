@@ -6,13 +6,12 @@ use Rattle.wsn_capture.specs.declared.line_fault.LineFault.{LineFault}
 use Rattle.wsn_capture.specs.declared.line_fault.LineFault.TheVariants.{TooManyLines, TooLong, BadForm, BadHex, AfterEnd, InputLimit}
 use Rattle.wsn_capture.specs.declared.capture_stop.CaptureStop.{CaptureStop}
 use Rattle.wsn_capture.specs.declared.capture_stop.CaptureStop.TheVariants.{Read, Line}
-use Rattle.wsn_capture.specs.declared.capture.Capture.{Capture}
 use Rattle.wsn_rules.specs.declared.report.Report.{Report}
 use Rattle.wsn_rules.specs.TextLines.{IsLine, ended, AreLines}
 use Rattle.wsn_rules.specs.Entries.{without_cr, Entry}
 use Rattle.wsn_capture.specs.LineFaults.{fault_order, HasFault, IsFirstLineFault, IsAcceptedLine, AreAcceptedAfter, IsFaultAfter}
 use Rattle.wsn_rules.specs.Reports.{IsReport}
-use Rattle.wsn_capture.specs.Captures.{HasAcceptedLines}
+use Rattle.wsn_capture.specs.Captures.{Captured, HasAcceptedLines}
 use Rattle.wsn_capture.specs.CaptureAnswers.{IsReported, IsFaulty, IsUnfaulted, IsCaptureAnswerOf}
 use Rattle.wsn_capture.specs.LineSplitters.{HasPassedOn, IsStopAt, IsStopBy, IsStopWithin}
 use Rattle.wsn_rules.proofs.TextLines.{has_lines, ended-push, each_join, lines_in_front, lines_at_end, first_line}
@@ -58,9 +57,9 @@ last_taken limits before [] line (entry ∷ entries) are = (before, entry, are.0
 last_taken limits before (l ∷ lines) line [] are = absurd are
 last_taken limits before (l ∷ lines) line (entry ∷ entries) are = last_taken limits (before ++ entry ∷ []) lines line entries are.1
 
-not_taken : (limits : Limits) (capture : Capture) (lines : List (List ℕ)) (line : List ℕ) → 8196 ≤ length line → HasAcceptedLines limits capture (lines ++ line ∷ []) → ⊥
+not_taken : (limits : Limits) (capture : Captured) (lines : List (List ℕ)) (line : List ℕ) → 8196 ≤ length line → HasAcceptedLines limits capture (lines ++ line ∷ []) → ⊥
 not_taken limits capture lines line long has =
-    let last = last_taken limits [] lines line has.entries has.taken in
+    let last = last_taken limits [] lines line has.entries has.accepted.taken in
     last.2.none TooLong (subst (λ (bs : List ℕ). 8194 < length (without_cr bs)) (append-nil line) (too_long line [] long))
 
 -- ---- further bytes
@@ -77,7 +76,7 @@ line_right : (line more : List ℕ) → IsLine (line ++ more) → IsLine more
 line_right [] more is = is
 line_right (b ∷ line) more is = line_right line more is.1
 
-module _ (limits : Limits) (old : Capture) (begun came : List ℕ) (split : HasPassedOn limits old begun came) where
+module _ (limits : Limits) (old : Captured) (begun came : List ℕ) (split : HasPassedOn limits old begun came) where
   -- the line isn't finished
   pub split_more : (bytes : List ℕ) → IsLine bytes → length begun + length bytes < 8196 → HasPassedOn limits old (begun ++ bytes) (came ++ bytes)
   split_more bytes line size = record {
@@ -94,7 +93,7 @@ module _ (limits : Limits) (old : Capture) (begun came : List ℕ) (split : HasP
   with_lf = ap (λ (bs : List ℕ). bs ++ 10 ∷ []) split.whole ∙ append_assoc (ended split.lines) begun (10 ∷ []) ∙ sym (ended-push split.lines begun)
 
   -- an LF ends it
-  split_lf : (new : Capture) → HasAcceptedLines limits new (split.lines ++ begun ∷ []) → HasPassedOn limits new [] (came ++ 10 ∷ [])
+  split_lf : (new : Captured) → HasAcceptedLines limits new (split.lines ++ begun ∷ []) → HasPassedOn limits new [] (came ++ 10 ∷ [])
   split_lf new consumes = record {
     lines = split.lines ++ begun ∷ [];
     whole = with_lf ∙ sym (append-nil (ended (split.lines ++ begun ∷ [])));
@@ -138,7 +137,7 @@ module _ (limits : Limits) (old : Capture) (begun came : List ℕ) (split : HasP
         is = still_faulty limits split.lines after first.0 fault (omega (arith, size)) stops.1;
       }
 
-  pub no_long : (capture : Capture) (after : List ℕ) → length after ≡ 8196 → HasAcceptedLines limits capture (split.lines ++ after ∷ []) → ⊥
+  pub no_long : (capture : Captured) (after : List ℕ) → length after ≡ 8196 → HasAcceptedLines limits capture (split.lines ++ after ∷ []) → ⊥
   no_long capture after size has = not_taken limits capture split.lines after (omega (arith, size)) has
 
   abbrev pub unfaulted : IsUnfaulted limits came
@@ -150,7 +149,7 @@ module _ (limits : Limits) (old : Capture) (begun came : List ℕ) (split : HasP
     in_line = split.in_line;
     short = split.short;
     given = split.taken.entries;
-    taken = split.taken.taken;
+    taken = split.taken.accepted.taken;
   }
 
   -- ---- the end of the text
@@ -160,15 +159,15 @@ module _ (limits : Limits) (old : Capture) (begun came : List ℕ) (split : HasP
     lines = split.lines;
     are = record { each = split.each; joined = inl (split.whole ∙ ap (λ (bs : List ℕ). ended split.lines ++ bs) none ∙ append-nil (ended split.lines)) };
     given = split.taken.entries;
-    taken = split.taken.taken;
+    taken = split.taken.accepted.taken;
     is = is;
   }
 
   at_end : begun ≢ [] → AreLines came (split.lines ++ begun ∷ [])
   at_end some = subst (λ (bs : List ℕ). AreLines bs (split.lines ++ begun ∷ [])) (sym split.whole) (lines_at_end split.lines begun split.each split.in_line some)
 
-  pub reported_last : (capture : Capture) (report : Report) → begun ≢ [] → (has : HasAcceptedLines limits capture (split.lines ++ begun ∷ [])) → IsReport limits (split.lines ++ begun ∷ []) report → IsReported limits came report
-  reported_last capture report some has is = record { lines = split.lines ++ begun ∷ []; are = at_end some; given = has.entries; taken = has.taken; is = is }
+  pub reported_last : (capture : Captured) (report : Report) → begun ≢ [] → (has : HasAcceptedLines limits capture (split.lines ++ begun ∷ [])) → IsReport limits (split.lines ++ begun ∷ []) report → IsReported limits came report
+  reported_last capture report some has is = record { lines = split.lines ++ begun ∷ []; are = at_end some; given = has.entries; taken = has.accepted.taken; is = is }
 
   pub faulty_last : (number : ℕ) (fault : LineFault) → begun ≢ [] → IsStopAt limits split.lines begun (Line number fault) → IsFaulty limits came number fault
   faulty_last number fault some is = record { before = split.lines; line = begun; after = []; are = at_end some; at = is.0; is = is.1 }
@@ -179,9 +178,9 @@ module _ (limits : Limits) (old : Capture) (begun came : List ℕ) (split : HasP
 
 -- ---- the prefix of a piece
 
-module _ (limits : Limits) (old : Capture) (begun came : List ℕ) (split : HasPassedOn limits old begun came) where
+module _ (limits : Limits) (old : Captured) (begun came : List ℕ) (split : HasPassedOn limits old begun came) where
   -- the rest of a line, and its LF
-  pub split_line : (bytes : List ℕ) (new : Capture) → IsLine bytes → length begun + length bytes < 8196 → HasAcceptedLines limits new (split.lines ++ (begun ++ bytes) ∷ []) → HasPassedOn limits new [] (came ++ (bytes ++ 10 ∷ []))
+  pub split_line : (bytes : List ℕ) (new : Captured) → IsLine bytes → length begun + length bytes < 8196 → HasAcceptedLines limits new (split.lines ++ (begun ++ bytes) ∷ []) → HasPassedOn limits new [] (came ++ (bytes ++ 10 ∷ []))
   unfolding split_more
   split_line bytes new line size consumes =
       subst (HasPassedOn limits new []) (append_assoc came bytes (10 ∷ []))

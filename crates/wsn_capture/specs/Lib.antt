@@ -4,11 +4,10 @@ pub mod CaptureAnswers
 pub mod SplitLines
 pub mod SideTexts
 -- how the state of the code is related to these
-pub mod LineForms
-pub mod CloseLines
-pub mod LimitedScans
+pub mod LineEntries
+pub mod Closes
+pub mod CaptureLines
 pub mod Captures
-pub mod BegunLines
 pub mod LineSplitters
 pub mod SideStates
 -- the names that the clauses in src/ import

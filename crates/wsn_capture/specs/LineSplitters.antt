@@ -4,15 +4,15 @@ use Rattle.std.specs.List.{AllByRecursion}
 use Rattle.wsn_rules.specs.Limits.{Limits}
 use Rattle.wsn_capture.specs.declared.capture_stop.CaptureStop.{CaptureStop}
 use Rattle.wsn_capture.specs.declared.capture_stop.CaptureStop.TheVariants.{Read, Line}
-use Rattle.wsn_capture.specs.declared.capture.Capture.{Capture}
 use Rattle.wsn_capture.specs.declared.line_splitter.LineSplitter.{LineSplitter}
 use Rattle.wsn_rules.specs.TextLines.{IsLine, ended}
 use Rattle.wsn_capture.specs.LineFaults.{IsFaultAfter}
-use Rattle.wsn_capture.specs.Captures.{HasAcceptedLines, count_of}
+use Rattle.wsn_capture.specs.CaptureLines.{count_of}
+use Rattle.wsn_capture.specs.Captures.{Captured, HasAcceptedLines}
 use Rattle.wsn_capture.specs.CaptureAnswers.{IsFaulty, IsUnfaulted, begun_most}
 
 -- These bytes came: whole lines, which the capture has accepted, and an unfinished line that isn't yet too long.
-pub record HasPassedOn (limits : Limits) (capture : Capture) (begun came : List ℕ) : Type 0 where
+pub record HasPassedOn (limits : Limits) (capture : Captured) (begun came : List ℕ) : Type 0 where
   pub lines : List (List ℕ)
   pub whole : came ≡ ended lines ++ begun
   pub each : AllByRecursion IsLine lines
@@ -37,7 +37,7 @@ IsStopBy limits came Read = ⊥
 
 -- the number of bytes that may still come
 abbrev pub bytes_left : LineSplitter → ℕ
-bytes_left splitter = (1000001 - count_of splitter.capture) * begun_most - length splitter.begun
+bytes_left splitter = (1000001 - count_of splitter.capture.lines) * begun_most - length splitter.begun
 
 -- The stop is certain from one byte of the piece on, which comes after the bytes `came`: this byte ends its line, or
 -- makes it too long.

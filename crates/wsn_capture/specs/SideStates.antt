@@ -1,34 +1,14 @@
 -- How the state of a side's reader is related to the text that is still to come.
-use Rattle.std.specs.Prelude.{◌≡◌, ℕ, ◌+◌, ◌-◌, ◌*◌, Bool, if◌then◌else◌, nat_lt, Option, None, Some, Ok, List, [], ◌∷◌, ◌++◌, length, slice_range}
+use Rattle.std.specs.Prelude.{◌≡◌, ℕ, ◌+◌, ◌-◌, ◌*◌, Bool, if◌then◌else◌, nat_lt, Option, None, Some, List, [], ◌∷◌, ◌++◌, length, slice_range}
 use Rattle.std.specs.Option.{option_map}
-use Rattle.wsn_wire.specs.declared.endpoint.Role.{Role}
 use Rattle.wsn_rules.specs.TextLines.{lines_of}
-use Rattle.wsn_rules.specs.Entries.{Entry}
-use Rattle.wsn_rules.specs.Sides.{bytes_in}
 use Rattle.wsn_capture.specs.declared.capture_stop.CaptureStop.{CaptureStop}
 use Rattle.wsn_capture.specs.declared.capture_stop.CaptureStop.TheVariants.{Read, Line}
-use Rattle.wsn_capture.specs.declared.lines_before.LinesBefore.{LinesBefore}
 use Rattle.wsn_capture.specs.declared.side_bytes.FaultyLine.{FaultyLine}
 use Rattle.wsn_capture.specs.declared.side_bytes.SideBytes.{SideBytes}
 use Rattle.wsn_capture.specs.declared.side_lines.SideLines.{SideLines}
 use Rattle.wsn_capture.specs.declared.side_source.SideSource.{SideSource}
-use Rattle.wsn_capture.specs.SideTexts.{text_entry, entry_unless_ended, entry_after, with_entry, sentinel, sent_in_lines}
-
--- ---- one line
-
--- After the lines before it, the line is accepted, and these are the endpoint's bytes in it.
-pub record GivesBytes (role : Role) (old new : LinesBefore) (line bytes : List ℕ) : Type 0 where
-  pub entry : Entry
-  pub is : entry_after old line ≡ Ok entry
-  pub adds : new ≡ with_entry old entry
-  pub gives : bytes ≡ bytes_in role entry
-
--- The same of the line's text, apart from the number and the length of lines.
-pub record TextGivesBytes (role : Role) (old new : LinesBefore) (text bytes : List ℕ) : Type 0 where
-  pub entry : Entry
-  pub is : entry_unless_ended old (text_entry text) ≡ Ok entry
-  pub adds : record new { count = new.count + 1 } ≡ with_entry old entry
-  pub gives : bytes ≡ bytes_in role entry
+use Rattle.wsn_capture.specs.SideTexts.{sentinel, sent_in_lines}
 
 -- ---- lines
 

@@ -27,19 +27,18 @@
 #![tactic(auto)]
 
 mod capture;
+mod capture_lines;
 mod capture_stop;
 mod hex_blocks;
 mod hex_pairs;
 mod judging;
 pub mod laws;
-mod limited_scan;
 mod line_fault;
 pub mod line_fault_examples;
-pub mod line_form;
+mod line_form;
 mod line_splitter;
 mod lines;
 mod lines_before;
-mod sent_stream;
 mod side_bytes;
 pub mod side_examples;
 mod side_lines;
@@ -47,9 +46,11 @@ mod side_reader;
 mod side_source;
 
 pub use capture::Capture;
+pub use capture_lines::CaptureLines;
 pub use capture_stop::CaptureStop;
 pub use judging::judge_capture;
 pub use line_fault::LineFault;
+pub use line_form::{BYTES_MAX, LineEntry, strip_cr};
 pub use lines::{BEGUN_MAX, Lines};
 pub use side_reader::SideReader;
 pub use wsn_print::put_report;

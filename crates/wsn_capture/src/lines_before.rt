@@ -1,11 +1,9 @@
-ghost use Rattle.std.specs.Prelude.{◌≡◌, ℕ, ◌≤◌, List, length, take};
-ghost use Rattle.wsn_rules.specs.Sides.{bytes_in};
-ghost use Rattle.wsn_rules.specs.Entries.Entry.{Bytes};
-
-use crate::capture::{LINE_MAX, LINES_MAX};
 use crate::line_fault::LineFault;
-use crate::line_form::{LineForm, decode, form_of, strip_cr};
+use crate::line_form::{BYTES_MAX, LINE_MAX, LineEntry, entry_of, strip_cr};
 use wsn_wire::Role;
+
+/// The maximum number of lines of a capture.
+pub(crate) const LINES_MAX: u32 = 1_000_000;
 
 /// What counts of the lines before a line of a capture: how many they are, and which endpoints have sent their end mark.
 #[derive(Clone, Copy)]
@@ -16,11 +14,9 @@ pub struct LinesBefore {
 }
 
 impl LinesBefore {
-    ghost use Rattle.std.specs.Prelude.{◌≡◌, ℕ, ◌+◌, ◌≤◌, false, true, length, take, Err, OnOk, IfOk, IfErr};
-    ghost use Rattle.wsn_rules.specs.Entries.Entry.{Mark};
-    ghost use Rattle.wsn_capture.specs.declared.line_fault.LineFault.TheVariants.{AfterEnd};
-    ghost use Rattle.wsn_capture.specs.SideTexts.{text_entry, ended_before, entry_unless_ended, entry_after, no_lines, with_entry};
-    ghost use Rattle.wsn_capture.specs.SideStates.{GivesBytes, TextGivesBytes};
+    ghost use Rattle.std.specs.Prelude.{◌≡◌, ℕ, ◌<◌, MatchResult, Ok, Err, OnOk, IfErr, List};
+    ghost use Rattle.wsn_capture.specs.LineEntries.{FitsInLine, held_entry};
+    ghost use Rattle.wsn_capture.specs.SideTexts.{ended_before, unless_ended, entry_after, no_lines, with_entry};
 
     /// No lines.
     pub fn new() -> LinesBefore
@@ -40,17 +36,25 @@ impl LinesBefore {
         self.count
     }
 
-    /// Accepts the next line, given without its LF, and returns the number of bytes that the endpoint sent in it, which
-    /// are then at the start of `bytes`; the contents of `bytes` after them are unspecified. The error is the line's first
-    /// fault; the contents of `bytes` are then unspecified.
+    /// Whether the endpoint has sent its end mark.
     #[tactic(none)]
-    pub fn accept(&mut self, role: Role, line: &[u8], bytes: &mut [u8]) -> Result<usize, LineFault>
-        requires { length bytes.old ≡ 4096 }
-        ensures few { IfOk result (λ count. count ≤ 4096) }
-        ensures accepted { IfOk result (λ count. GivesBytes role self.old self.new line.now (take count bytes.new)) }
-        ensures count { OnOk result ((self.new.count ≡ self.old.count + 1) × (self.new.count ≤ LINES_MAX)) }
-        ensures fault { IfErr result (λ fault. entry_after self.old line.now ≡ Err fault) }
-        ensures unchanged { IfErr result (λ _. self.new ≡ self.old) }
+    pub fn has_ended(&self, role: Role) -> bool
+        ensures { result ≡ ended_before role self.now }
+    {
+        match role {
+            Role::Client => self.client_ended,
+            Role::Server => self.server_ended,
+        }
+    }
+
+    /// What the next line gives, given without its LF; its bytes are then at the start of `bytes`. The error is the line's
+    /// first fault. The contents of the other bytes, and of all after an error, are unspecified.
+    #[tactic(none)]
+    pub fn entry(&self, line: &[u8], bytes: &mut [u8; BYTES_MAX]) -> Result<LineEntry, LineFault>
+        ensures entry { MatchResult result
+            (λ entry. FitsInLine entry × (entry_after self.now line.now ≡ Ok (held_entry entry bytes.new)))
+            (λ fault. entry_after self.now line.now ≡ Err fault) }
+        ensures few { OnOk result (self.now.count < LINES_MAX) }
     {
         if self.count >= LINES_MAX {
             return Err(LineFault::TooManyLines);
@@ -59,46 +63,22 @@ impl LinesBefore {
         if text.len() > LINE_MAX {
             return Err(LineFault::TooLong);
         }
-        let count = self.take(role, text, bytes)?;
-        self.count += 1;
-        Ok(count)
+        let entry = entry_of(text, bytes)?;
+        self.check_running(entry)?;
+        Ok(entry)
     }
 
-    /// Accepts the text of a line, without its CR, as `accept` does, and doesn't count it. The error is the first of the
-    /// text's faults after `TooLong`.
-    fn take(&mut self, role: Role, text: &[u8], bytes: &mut [u8]) -> Result<usize, LineFault>
-        requires size { length bytes.old ≡ 4096 }
-        requires short { length text.now ≤ LINE_MAX }
-        ensures few { IfOk result (λ count. count ≤ 4096) }
-        ensures accepted { IfOk result (λ count. TextGivesBytes role self.old self.new text.now (take count bytes.new)) }
-        ensures count { self.new.count ≡ self.old.count }
-        ensures fault { IfErr result (λ fault. entry_unless_ended self.old (text_entry text.now) ≡ Err fault) }
-        ensures unchanged { IfErr result (λ _. self.new ≡ self.old) }
-    {
-        match form_of(text) {
-            Some(LineForm::Nothing) => Ok(0),
-            Some(LineForm::Bytes(sender)) => {
-                let count = decode(&text[2..], bytes)?;
-                self.check_running(sender)?;
-                Ok(own_count(role, sender, count))
-            }
-            Some(LineForm::Mark(sender)) => {
-                self.end(sender)?;
-                Ok(0)
-            }
-            None => Err(LineFault::BadForm),
-        }
-    }
-
-    /// The error is `AfterEnd` if the endpoint has sent its end mark.
+    /// The error is `AfterEnd` if the entry is of an endpoint that has sent its end mark.
     #[tactic(none)]
-    fn check_running(&self, sender: Role) -> Result<(), LineFault>
-        ensures going { OnOk result (ended_before sender self.now ≡ false) }
-        ensures over { IfErr result (λ fault. (fault ≡ AfterEnd) × (ended_before sender self.now ≡ true)) }
+    fn check_running(&self, entry: LineEntry) -> Result<(), LineFault>
+        ensures going { OnOk result ((held : List ℕ) →
+            unless_ended self.now (held_entry entry held) ≡ Ok (held_entry entry held)) }
+        ensures over { IfErr result (λ fault. (held : List ℕ) →
+            unless_ended self.now (held_entry entry held) ≡ Err fault) }
     {
-        let ended = match sender {
-            Role::Client => self.client_ended,
-            Role::Server => self.server_ended,
+        let ended = match entry {
+            LineEntry::Nothing => false,
+            LineEntry::Bytes(role, _) | LineEntry::Mark(role) => self.has_ended(role),
         };
         if ended {
             return Err(LineFault::AfterEnd);
@@ -106,33 +86,17 @@ impl LinesBefore {
         Ok(())
     }
 
-    /// Accepts the endpoint's end mark. The error is `AfterEnd` if it has sent one; nothing has changed then.
+    /// Counts the line that gives this entry.
     #[tactic(none)]
-    fn end(&mut self, sender: Role) -> Result<(), LineFault>
-        ensures going { OnOk result (ended_before sender self.old ≡ false) }
-        ensures over { IfErr result (λ fault. (fault ≡ AfterEnd) × (ended_before sender self.old ≡ true)) }
-        ensures ended { OnOk result (record self.new { count = self.new.count + 1 } ≡ with_entry self.old (Mark sender)) }
-        ensures count { self.new.count ≡ self.old.count }
-        ensures unchanged { IfErr result (λ _. self.new ≡ self.old) }
+    pub fn add(&mut self, entry: LineEntry)
+        requires { self.old.count < LINES_MAX }
+        ensures { (held : List ℕ) → self.new ≡ with_entry self.old (held_entry entry held) }
     {
-        self.check_running(sender)?;
-        match sender {
-            Role::Client => self.client_ended = true,
-            Role::Server => self.server_ended = true,
+        self.count += 1;
+        match entry {
+            LineEntry::Mark(Role::Client) => self.client_ended = true,
+            LineEntry::Mark(Role::Server) => self.server_ended = true,
+            LineEntry::Nothing | LineEntry::Bytes(_, _) => {}
         }
-        Ok(())
-    }
-}
-
-/// The number of bytes in a line that are the endpoint's, given the line's sender: all of them, or none.
-#[tactic(none)]
-fn own_count(role: Role, sender: Role, count: usize) -> usize
-    ensures few { result ≤ count }
-    ensures bytes { (bytes : List ℕ) → take result bytes ≡ bytes_in role (Bytes sender (take count bytes)) }
-{
-    match (role, sender) {
-        (Role::Client, Role::Client) => count,
-        (Role::Server, Role::Server) => count,
-        _ => 0,
     }
 }

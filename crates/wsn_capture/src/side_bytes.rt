@@ -1,7 +1,9 @@
-ghost use Rattle.std.specs.Prelude.{◌≤◌};
+ghost use Rattle.std.specs.Prelude.{◌≡◌, ◌≤◌, ℕ, List, take};
+ghost use Rattle.wsn_rules.specs.Sides.{bytes_in};
+ghost use Rattle.wsn_capture.specs.LineEntries.{FitsInLine, held_entry};
 
 use crate::line_fault::LineFault;
-use crate::line_form::BYTES_MAX;
+use crate::line_form::{BYTES_MAX, LineEntry};
 use crate::lines_before::LinesBefore;
 use wsn_wire::Role;
 
@@ -68,10 +70,11 @@ impl SideBytes {
         ensures left { (lines : List (List ℕ)) → side_left self.new lines ≡ side_left self.old (line.now ∷ lines) }
         ensures fewer { lines_ahead self.new < lines_ahead self.old }
     {
-        match self.before.accept(self.role, line, &mut self.bytes) {
-            Ok(count) => {
+        match self.before.entry(line, &mut self.bytes) {
+            Ok(entry) => {
+                self.before.add(entry);
                 self.start = 0;
-                self.end = count;
+                self.end = own_count(self.role, entry);
             }
             Err(fault) => {
                 let number = self.before.count() + 1;
@@ -95,5 +98,18 @@ impl SideBytes {
         into[..count].copy_from_slice(&held[..count]);
         self.start += count;
         count
+    }
+}
+
+/// The number of bytes that the entry of a line gives of an endpoint.
+#[tactic(none)]
+fn own_count(role: Role, entry: LineEntry) -> usize
+    ensures few { FitsInLine entry → result ≤ 4096 }
+    ensures bytes { (held : List ℕ) → take result held ≡ bytes_in role (held_entry entry held) }
+{
+    match (role, entry) {
+        (Role::Client, LineEntry::Bytes(Role::Client, count)) => count,
+        (Role::Server, LineEntry::Bytes(Role::Server, count)) => count,
+        _ => 0,
     }
 }

@@ -1,5 +1,5 @@
 use Rattle.std.proofs.Common.{◌≡◌, ◌≤◌, ◌<◌, false, length}
-use Rattle.wsn_capture.specs.Captures.{count_of}
+use Rattle.wsn_capture.specs.CaptureLines.{count_of}
 use Rattle.wsn_capture.specs.LineSplitters.{bytes_left}
 use Rattle.wsn_capture.proofs.JudgedCaptures.{HasRead}
 use Rattle.wsn_capture.proofs.judging.judge_capture.Given as goal
@@ -9,7 +9,7 @@ abbrev pub invariant-loop-count : goal.invariant-loop-count
 invariant-loop-count g l = record {
   read : HasRead l.fn.limits l.fn.input l.input l.lines;
   unfailed : l.input.failed ≡ false;
-  few : count_of l.lines.capture ≤ 1000000;
+  few : count_of l.lines.capture.lines ≤ 1000000;
   short : length l.lines.begun < 8196;
   size : length l.piece ≡ 4096;
 }

@@ -1,6 +1,6 @@
 use Rattle.std.proofs.Common.{◌≤◌, ◌<◌, ◌+◌, ◌-◌, ℕ, List, ◌++◌, length, take}
 use Rattle.wsn_rules.specs.Limits.{Limits}
-use Rattle.wsn_capture.specs.Captures.{count_of}
+use Rattle.wsn_capture.specs.CaptureLines.{count_of}
 use Rattle.wsn_capture.specs.LineSplitters.{HasSplit, bytes_left}
 use Rattle.wsn_capture.proofs.line_splitter.LineSplitter.take.Given as goal
 
@@ -8,7 +8,7 @@ use Rattle.wsn_capture.proofs.line_splitter.LineSplitter.take.Given as goal
 abbrev pub invariant-loop-taken : goal.invariant-loop-taken
 invariant-loop-taken l = record {
   within : l.taken ≤ length l.piece;
-  few : count_of l.self.capture ≤ 1000000;
+  few : count_of l.self.capture.lines ≤ 1000000;
   short : length l.self.begun < 8196;
   split : (limits : Limits) (came : List ℕ) → HasSplit limits l.fn.self came → HasSplit limits l.self (came ++ take l.taken l.piece);
   left : bytes_left l.self + l.taken ≤ bytes_left l.fn.self;

@@ -1,11 +1,8 @@
 use Rattle.std.proofs.Common.{rules}
 use Rattle.wsn_capture.proofs.side_bytes.SideBytes.take_line.Goals as goal
 
-pub slice_bounds-accept-end : goal.slice_bounds-accept-end
-slice_bounds-accept-end c = search rules
-
-pub accept-requires : goal.accept-requires
-accept-requires c = search rules
+pub add-requires : goal.add-requires
+add-requires c = search rules
 
 pub invariant_of-self : goal.invariant_of-self
 invariant_of-self c = search rules

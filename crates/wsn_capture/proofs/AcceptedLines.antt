@@ -1,0 +1,198 @@
+-- The state of a capture's lines, as lines are added.
+use Rattle.std.proofs.Common.{◌≡◌, ℕ, ◌+◌, ◌-◌, ◌<◌, true, false, Bool, Option, None, Some, Result, Ok, Err, List, [], ◌∷◌, ◌++◌, length, take, refl, sym, ap, ◌∙◌, subst, length-append, length-take, length-take-le, arith}
+use Rattle.wsn_wire.specs.declared.endpoint.Role.{Role}
+use Rattle.wsn_wire.specs.declared.endpoint.Role.TheVariants.{Client, Server}
+use Rattle.wsn_rules.specs.Limits.{Limits}
+use Rattle.wsn_rules.specs.Entries.{Entry}
+use Rattle.wsn_rules.specs.Entries.Entry.{Nothing, Bytes, Mark}
+use Rattle.wsn_rules.specs.Sides.{bytes_in, sent}
+use Rattle.wsn_capture.specs.declared.line_fault.LineFault.{LineFault}
+use Rattle.wsn_capture.specs.declared.line_fault.LineFault.TheVariants.{InputLimit}
+use Rattle.wsn_capture.specs.declared.lines_before.LinesBefore.{LinesBefore}
+use Rattle.wsn_capture.specs.declared.capture_lines.CaptureLines.{CaptureLines}
+use Rattle.wsn_capture.specs.declared.capture_lines.SentBytes.{SentBytes}
+use Rattle.wsn_capture.specs.LineFaults.{IsFaultAfter}
+use Rattle.wsn_capture.specs.SideTexts.{entry_after, with_entry, lines_giving}
+use Rattle.wsn_capture.specs.declared.line_form.LineEntry.{LineEntry}
+use Rattle.wsn_capture.specs.declared.line_form.LineEntry.TheVariants as entries
+use Rattle.wsn_capture.specs.LineEntries.{held_entry, FitsInLine}
+use Rattle.wsn_capture.specs.Closes.{IsClosedBy, IsCloseLine, noted_line}
+use Rattle.wsn_capture.specs.CaptureLines.{HasAccepted, HasNotedCloses, HasNotedUpTo, count_of, room_left, close_line_of, with_room_less, FitsRoom, ExceedsRoom}
+use Rattle.wsn_capture.proofs.AcceptedTexts.{as_many, taken_push}
+use Rattle.wsn_capture.proofs.ClosingLines.{sent-push, line_stays, line_new, line_none, line_kept}
+use Rattle.wsn_capture.proofs.SideEntries.{Fits, entry_accepted, fault_first, entry_limited}
+use Rattle.wsn_capture.proofs.SideLaws.{before-push}
+
+module _ (limits : Limits) (accepted : CaptureLines) (lines : List (List ℕ)) (given : List Entry) (has : HasAccepted limits accepted lines given) where
+  pub accepted_count : count_of accepted ≡ length lines
+  accepted_count = ap (λ (b : LinesBefore). b.count) has.before ∙ as_many limits [] lines given has.taken
+
+  module _ (line : List ℕ) where
+    after : (r : Result Entry LineFault) → entry_after accepted.before line ≡ r → entry_after (lines_giving given) line ≡ r
+    after r is = ap (λ (b : LinesBefore). entry_after b line) (sym has.before) ∙ is
+
+    pub faulty_line : (fault : LineFault) → entry_after accepted.before line ≡ Err fault → IsFaultAfter limits lines line fault
+    faulty_line fault is = record { given = given; taken = has.taken; is = fault_first limits given line fault (after (Err fault) is) }
+
+    pub limited_line : (role : Role) (bytes : List ℕ) → entry_after accepted.before line ≡ Ok (Bytes role bytes) → room_left role accepted < length bytes → IsFaultAfter limits lines line InputLimit
+    limited_line role bytes is less = record {
+      given = given;
+      taken = has.taken;
+      is = entry_limited limits given line role bytes (after (Ok (Bytes role bytes)) is) (let room = has.room role in omega (arith, less, room));
+    }
+
+    -- one more line
+    pub accepted_push : (new : CaptureLines) (entry : Entry) → entry_after accepted.before line ≡ Ok entry → new.before ≡ with_entry accepted.before entry
+        → ((role : Role) → room_left role new + length (bytes_in role entry) ≡ room_left role accepted) → Fits limits given line entry
+        → HasAccepted limits new (lines ++ line ∷ []) (given ++ entry ∷ [])
+    accepted_push new entry is before room fits = record {
+      taken = taken_push limits [] lines given line entry has.taken (entry_accepted limits given line entry (after (Ok entry) is) fits);
+      before = before ∙ ap (λ (b : LinesBefore). with_entry b entry) has.before ∙ before-push given entry;
+      room = λ role.
+          let rest = room role in
+          let all = has.room role in
+          let size = ap (λ (bs : List ℕ). length bs) (sent-push role limits given entry) ∙ length-append (sent role given) (bytes_in role entry) in
+          omega (arith, rest, all, size);
+    }
+
+-- ---- room
+
+pub less_before : (entry : LineEntry) (old : CaptureLines) → (with_room_less entry old).before ≡ old.before
+less_before entries.Nothing old = refl
+less_before (entries.Bytes Client count) old = refl
+less_before (entries.Bytes Server count) old = refl
+less_before (entries.Mark role) old = refl
+
+pub less_closes : (entry : LineEntry) (old : CaptureLines) (role : Role) → close_line_of role (with_room_less entry old) ≡ close_line_of role old
+less_closes entries.Nothing old role = refl
+less_closes (entries.Bytes Client count) old Client = refl
+less_closes (entries.Bytes Client count) old Server = refl
+less_closes (entries.Bytes Server count) old Client = refl
+less_closes (entries.Bytes Server count) old Server = refl
+less_closes (entries.Mark other) old role = refl
+
+-- so much less as the entry has bytes
+pub less_room : (entry : LineEntry) (old : CaptureLines) (held : List ℕ) → FitsRoom old entry → FitsInLine entry → length held ≡ 4096
+    → (role : Role) → room_left role (with_room_less entry old) + length (bytes_in role (held_entry entry held)) ≡ room_left role old
+less_room entries.Nothing old held fits short size Client = omega arith
+less_room entries.Nothing old held fits short size Server = omega arith
+less_room (entries.Bytes Client count) old held fits short size Client = let all = length-take-le count held (omega (arith, short, size)) in omega (arith, all, fits)
+less_room (entries.Bytes Client count) old held fits short size Server = omega arith
+less_room (entries.Bytes Server count) old held fits short size Client = omega arith
+less_room (entries.Bytes Server count) old held fits short size Server = let all = length-take-le count held (omega (arith, short, size)) in omega (arith, all, fits)
+less_room (entries.Mark Client) old held fits short size Client = omega arith
+less_room (entries.Mark Client) old held fits short size Server = omega arith
+less_room (entries.Mark Server) old held fits short size Client = omega arith
+less_room (entries.Mark Server) old held fits short size Server = omega arith
+
+-- the same of a state that is known by equations
+pub room_by : (limits : Limits) (old : CaptureLines) (entry : LineEntry) (less : CaptureLines) (before : LinesBefore) (held : List ℕ) → less ≡ with_room_less entry old → FitsRoom old entry → FitsInLine entry → length held ≡ 4096
+    → (role : Role) → room_left role (record less { before = before }) + length (bytes_in role (held_entry entry held)) ≡ room_left role old
+room_by limits old entry less before held is fits short size Client = ap (λ (l : CaptureLines). l.client.room + length (bytes_in Client (held_entry entry held))) is ∙ less_room entry old held fits short size Client
+room_by limits old entry less before held is fits short size Server = ap (λ (l : CaptureLines). l.server.room + length (bytes_in Server (held_entry entry held))) is ∙ less_room entry old held fits short size Server
+
+pub closes_by : (old : CaptureLines) (entry : LineEntry) (less : CaptureLines) (before : LinesBefore) → less ≡ with_room_less entry old → (role : Role) → close_line_of role (record less { before = before }) ≡ close_line_of role old
+closes_by old entry less before is Client = ap (λ (l : CaptureLines). l.client.close_line) is ∙ less_closes entry old Client
+closes_by old entry less before is Server = ap (λ (l : CaptureLines). l.server.close_line) is ∙ less_closes entry old Server
+
+pub fits_given : (limits : Limits) (old : CaptureLines) (lines : List (List ℕ)) (given : List Entry) (line : List ℕ) (entry : LineEntry) (held : List ℕ) → HasAccepted limits old lines given → FitsRoom old entry
+    → Fits limits given line (held_entry entry held)
+fits_given limits old lines given line entries.Nothing held has fits = tt
+fits_given limits old lines given line (entries.Bytes role count) held has fits =
+    let room = has.room role in
+    let few = length-take count held in
+    omega (arith, room, fits, few)
+fits_given limits old lines given line (entries.Mark role) held has fits = tt
+
+pub exceeds_given : (limits : Limits) (old : CaptureLines) (lines : List (List ℕ)) (given : List Entry) (line : List ℕ) (entry : LineEntry) (held : List ℕ) → HasAccepted limits old lines given → FitsInLine entry → length held ≡ 4096
+    → entry_after old.before line ≡ Ok (held_entry entry held) → ExceedsRoom old entry → IsFaultAfter limits lines line InputLimit
+exceeds_given limits old lines given line entries.Nothing held has short size is more = absurd more
+exceeds_given limits old lines given line (entries.Bytes role count) held has short size is more =
+    let all = length-take-le count held (omega (arith, short, size)) in
+    limited_line limits old lines given has line role (take count held) is (omega (arith, all, more))
+exceeds_given limits old lines given line (entries.Mark role) held has short size is more = absurd more
+
+-- ---- the lines in which Closes end
+
+pub noted_same : (limits : Limits) (old new : CaptureLines) (given : List Entry) → ((role : Role) → close_line_of role new ≡ close_line_of role old) → HasNotedCloses limits old given → HasNotedCloses limits new given
+noted_same limits old new given same noted role = subst (IsCloseLine role limits given) (sym (same role)) (noted role)
+
+pub noted_kept : (limits : Limits) (noted : CaptureLines) (given : List Entry) (entry : Entry) → ((role : Role) → bytes_in role entry ≡ []) → HasNotedCloses limits noted given → HasNotedCloses limits noted (given ++ entry ∷ [])
+noted_kept limits noted given entry none has role = line_kept role limits given entry (close_line_of role noted) (none role) (has role)
+
+pub no_bytes_in_nothing : (role : Role) → bytes_in role Nothing ≡ []
+no_bytes_in_nothing Client = refl
+no_bytes_in_nothing Server = refl
+
+pub no_bytes_in_mark : (other role : Role) → bytes_in role (Mark other) ≡ []
+no_bytes_in_mark Client Client = refl
+no_bytes_in_mark Client Server = refl
+no_bytes_in_mark Server Client = refl
+no_bytes_in_mark Server Server = refl
+
+-- before the bytes of the next line are judged
+pub noted_up_to : (limits : Limits) (noted : CaptureLines) (given : List Entry) (entry : LineEntry) (held : List ℕ) → HasNotedCloses limits noted given → HasNotedUpTo limits noted given (held_entry entry held)
+noted_up_to limits noted given entries.Nothing held has = noted_kept limits noted given Nothing no_bytes_in_nothing has
+noted_up_to limits noted given (entries.Bytes role count) held has = has
+noted_up_to limits noted given (entries.Mark role) held has = noted_kept limits noted given (Mark role) (no_bytes_in_mark role) has
+
+pub own_bytes : (role : Role) (bytes : List ℕ) → bytes_in role (Bytes role bytes) ≡ bytes
+own_bytes Client bytes = refl
+own_bytes Server bytes = refl
+
+-- what is noted of the endpoint whose bytes came
+pub line_noted : (role : Role) (limits : Limits) (given : List Entry) (bytes : List ℕ) (known : Option ℕ) (line : ℕ) (closed : Bool) → line ≡ length given → IsCloseLine role limits given known
+    → IsClosedBy role limits (sent role given ++ bytes) closed → IsCloseLine role limits (given ++ Bytes role bytes ∷ []) (noted_line known line closed)
+line_noted role limits given bytes (Some known) line closed count is came = line_stays role limits given (Bytes role bytes) known is
+line_noted role limits given bytes None line true count is came =
+    subst (λ (n : ℕ). IsCloseLine role limits (given ++ Bytes role bytes ∷ []) (Some n)) (sym count)
+    (line_new role limits given (Bytes role bytes) is (subst (λ (bs : List ℕ). IsClosedBy role limits (sent role given ++ bs) true) (sym (own_bytes role bytes)) came))
+line_noted role limits given bytes None line false count is came =
+    line_none role limits given (Bytes role bytes) (subst (λ (bs : List ℕ). IsClosedBy role limits (sent role given ++ bs) false) (sym (own_bytes role bytes)) came)
+
+-- the number of lines before the last one
+pub line_number : (limits : Limits) (accepted : CaptureLines) (lines : List (List ℕ)) (given : List Entry) (entry : Entry) → HasAccepted limits accepted lines (given ++ entry ∷ []) → count_of accepted - 1 ≡ length given
+line_number limits accepted lines given entry has =
+    let size = ap (λ (b : LinesBefore). b.count) has.before in
+    omega (arith, size, length-append given (entry ∷ []))
+
+-- ---- what is noted in one endpoint's part
+
+pub client_kept : (limits : Limits) (old : CaptureLines) (client : SentBytes) (lines : List (List ℕ)) (given : List Entry) → client.room ≡ old.client.room → HasAccepted limits old lines given → HasAccepted limits (record old { client = client }) lines given
+client_kept limits old client lines given same has = record { taken = has.taken; before = has.before; room = room }
+  where
+    room : (role : Role) → room_left role (record old { client = client }) + length (sent role given) ≡ limits.input
+    room Client = ap (λ (n : ℕ). n + length (sent Client given)) same ∙ has.room Client
+    room Server = has.room Server
+
+pub server_kept : (limits : Limits) (old : CaptureLines) (server : SentBytes) (lines : List (List ℕ)) (given : List Entry) → server.room ≡ old.server.room → HasAccepted limits old lines given → HasAccepted limits (record old { server = server }) lines given
+server_kept limits old server lines given same has = record { taken = has.taken; before = has.before; room = room }
+  where
+    room : (role : Role) → room_left role (record old { server = server }) + length (sent role given) ≡ limits.input
+    room Client = has.room Client
+    room Server = ap (λ (n : ℕ). n + length (sent Server given)) same ∙ has.room Server
+
+module _ (limits : Limits) (old : CaptureLines) (lines : List (List ℕ)) (given : List Entry) (bytes : List ℕ) (line : ℕ) (closed : Bool) where
+  pub client_noted : (role : Role) (client : SentBytes) → role ≡ Client → client.close_line ≡ noted_line old.client.close_line line closed → line ≡ count_of old - 1
+      → HasAccepted limits old lines (given ++ Bytes role bytes ∷ []) → HasNotedCloses limits old given → IsClosedBy role limits (sent role given ++ bytes) closed
+      → HasNotedCloses limits (record old { client = client }) (given ++ Bytes role bytes ∷ [])
+  client_noted Server client is same number has noted came = absurd (cc is)
+  client_noted Client client is same number has noted came = both
+    where
+      both : (role : Role) → IsCloseLine role limits (given ++ Bytes Client bytes ∷ []) (close_line_of role (record old { client = client }))
+      both Client =
+          subst (IsCloseLine Client limits (given ++ Bytes Client bytes ∷ [])) (sym same)
+          (line_noted Client limits given bytes old.client.close_line line closed (number ∙ line_number limits old lines given (Bytes Client bytes) has) (noted Client) came)
+      both Server = line_kept Server limits given (Bytes Client bytes) old.server.close_line refl (noted Server)
+
+  pub server_noted : (role : Role) (server : SentBytes) → role ≡ Server → server.close_line ≡ noted_line old.server.close_line line closed → line ≡ count_of old - 1
+      → HasAccepted limits old lines (given ++ Bytes role bytes ∷ []) → HasNotedCloses limits old given → IsClosedBy role limits (sent role given ++ bytes) closed
+      → HasNotedCloses limits (record old { server = server }) (given ++ Bytes role bytes ∷ [])
+  server_noted Client server is same number has noted came = absurd (cc is)
+  server_noted Server server is same number has noted came = both
+    where
+      both : (role : Role) → IsCloseLine role limits (given ++ Bytes Server bytes ∷ []) (close_line_of role (record old { server = server }))
+      both Client = line_kept Client limits given (Bytes Server bytes) old.client.close_line refl (noted Client)
+      both Server =
+          subst (IsCloseLine Server limits (given ++ Bytes Server bytes ∷ [])) (sym same)
+          (line_noted Server limits given bytes old.server.close_line line closed (number ∙ line_number limits old lines given (Bytes Server bytes) has) (noted Server) came)

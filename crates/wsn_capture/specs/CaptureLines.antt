@@ -1,0 +1,68 @@
+-- What the state of a capture's lines says of the lines that were accepted.
+use Rattle.std.specs.Prelude.{◌≡◌, ℕ, ◌+◌, ◌-◌, ◌<◌, ◌≤◌, ⊤, Option, List, ◌∷◌, [], ◌++◌, length}
+use Rattle.wsn_wire.specs.declared.endpoint.Role.{Role}
+use Rattle.wsn_wire.specs.declared.endpoint.Role.TheVariants.{Client, Server}
+use Rattle.wsn_wire.specs.Frame.{Frame}
+use Rattle.wsn_rules.specs.declared.verdict.Verdict.{Verdict}
+use Rattle.wsn_rules.specs.Limits.{Limits}
+use Rattle.wsn_rules.specs.Verdict.{IsVerdict}
+use Rattle.wsn_rules.specs.Entries.{Entry}
+use Rattle.wsn_rules.specs.Entries.Entry.{Bytes}
+use Rattle.wsn_rules.specs.Sides.{sent}
+use Rattle.wsn_capture.specs.declared.capture_lines.CaptureLines.{CaptureLines}
+use Rattle.wsn_capture.specs.declared.line_form.LineEntry.{LineEntry}
+use Rattle.wsn_capture.specs.declared.line_form.LineEntry.TheVariants as entries
+use Rattle.wsn_capture.specs.LineFaults.{AreAcceptedLines}
+use Rattle.wsn_capture.specs.SideTexts.{lines_giving}
+use Rattle.wsn_capture.specs.Closes.{IsCloseLine}
+
+-- The number of lines accepted.
+abbrev pub count_of : CaptureLines → ℕ
+count_of lines = lines.before.count
+
+-- How many more bytes an endpoint's stream accepts.
+abbrev pub room_left : Role → CaptureLines → ℕ
+room_left Client lines = lines.client.room
+room_left Server lines = lines.server.room
+
+-- The line that is noted as that in which an endpoint's Close ends.
+abbrev pub close_line_of : Role → CaptureLines → Option ℕ
+close_line_of Client lines = lines.client.close_line
+close_line_of Server lines = lines.server.close_line
+
+-- The same lines, with less room: so much less as an entry has bytes, for its endpoint.
+abbrev pub with_room_less : LineEntry → CaptureLines → CaptureLines
+with_room_less (entries.Bytes Client count) lines =
+    record lines { client = record lines.client { room = lines.client.room - count } }
+with_room_less (entries.Bytes Server count) lines =
+    record lines { server = record lines.server { room = lines.server.room - count } }
+with_room_less entry lines = lines
+
+-- There is room for an entry's bytes.
+abbrev pub FitsRoom : CaptureLines → LineEntry → Type 0
+FitsRoom lines (entries.Bytes role count) = count ≤ room_left role lines
+FitsRoom lines entry = ⊤
+
+-- There is less room than an entry has bytes.
+abbrev pub ExceedsRoom : CaptureLines → LineEntry → Type 0
+ExceedsRoom lines (entries.Bytes role count) = room_left role lines < count
+ExceedsRoom lines entry = ⊥
+
+-- These lines were accepted, in this order, and gave these entries.
+pub record HasAccepted (limits : Limits) (accepted : CaptureLines) (lines : List (List ℕ)) (given : List Entry) : Type 0 where
+  pub taken : AreAcceptedLines limits lines given
+  pub before : accepted.before ≡ lines_giving given
+  pub room : (role : Role) → room_left role accepted + length (sent role given) ≡ limits.input
+
+-- The lines are noted in which both endpoints' Closes end.
+abbrev pub HasNotedCloses : Limits → CaptureLines → List Entry → Type 0
+HasNotedCloses limits noted given = (role : Role) → IsCloseLine role limits given (close_line_of role noted)
+
+-- The same after one more entry; but if it has bytes, then before them.
+abbrev pub HasNotedUpTo : Limits → CaptureLines → List Entry → Entry → Type 0
+HasNotedUpTo limits noted given (Bytes role bytes) = HasNotedCloses limits noted given
+HasNotedUpTo limits noted given entry = HasNotedCloses limits noted (given ++ entry ∷ [])
+
+-- This is the verdict on an endpoint's stream.
+abbrev pub IsJudged : Role → Limits → List Entry → Verdict → Type 0
+IsJudged role limits given verdict = (fs : List Frame) × IsVerdict role limits (sent role given) fs verdict
