@@ -26,19 +26,19 @@ begins limits input splitter split = record { came = []; consumed = consumed_non
 
 module _ (limits : Limits) (old mid new : Incoming) (splitter : LineSplitter) (read : HasRead limits old mid splitter) (few : count_of splitter.capture.lines ≤ 1000000) where
   bounded : length read.came ≤ 1000000 * 8196 + 8195
-  bounded = let lines = accepted_count limits splitter.capture.lines read.split.lines read.split.taken.entries read.split.taken.accepted in let all = read.split.few in let short = read.split.short in omega arith
+  bounded = let lines = accepted_count limits splitter.capture.lines read.split.lines read.split.accepted.entries read.split.accepted.accepted in let all = read.split.passed.few in let short = read.split.passed.short in omega arith
 
   -- a read failed
   pub stopped : IsKept mid new → new.failed ≡ true → IsCaptureJudged limits old new (Err Read)
   stopped keeps failed = record {
     came = read.came;
     received = received_of (1000001 * 8196 + 4095) old new read.came (consumed_kept old mid new read.came read.consumed keeps) (omega (arith, bounded));
-    answer = (failed, unfaulted limits splitter.capture splitter.begun read.came read.split);
+    answer = (failed, unfaulted limits read.split.lines splitter.begun read.came read.split.passed);
   }
 
   at_end : (result : Result Report CaptureStop) → IsAtEnd new.remaining → new.failed ≡ false → IsCaptureAnswerOf limits read.came result → IsCaptureAnswer limits new read.came result
   at_end (Ok report) ends unfailed is = (is, ends, unfailed)
-  at_end (Err (Line number fault)) ends unfailed is = (inr (is, unfaulted limits splitter.capture splitter.begun read.came read.split, ends), unfailed)
+  at_end (Err (Line number fault)) ends unfailed is = (inr (is, unfaulted limits read.split.lines splitter.begun read.came read.split.passed, ends), unfailed)
   at_end (Err Read) ends unfailed is = absurd is
 
   -- the input ended

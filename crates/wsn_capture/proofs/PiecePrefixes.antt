@@ -5,7 +5,8 @@ use Rattle.std.proofs.lemmas.List.{take_all, length-take-le}
 use Rattle.wsn_rules.specs.Limits.{Limits}
 use Rattle.wsn_capture.specs.declared.capture_stop.CaptureStop.{CaptureStop}
 use Rattle.wsn_rules.specs.TextLines.{IsLine}
-use Rattle.wsn_capture.specs.Captures.{Captured, HasAcceptedLines}
+use Rattle.wsn_rules.specs.Entries.{Entry}
+use Rattle.wsn_capture.specs.LineFaults.{AreAcceptedLines}
 use Rattle.wsn_capture.specs.CaptureAnswers.{IsUnfaulted}
 use Rattle.wsn_capture.specs.SplitLines.{GoesOn, EndsLine}
 use Rattle.wsn_capture.specs.LineSplitters.{HasPassedOn, IsStopAt, IsStopBy, IsStopWithin}
@@ -64,12 +65,12 @@ stop_in_rest limits came piece at stop within =
 
 -- ---- a prefix of a piece
 
-module _ (limits : Limits) (old : Captured) (begun came : List ℕ) (split : HasPassedOn limits old begun came) where
+module _ (limits : Limits) (lines : List (List ℕ)) (begun came : List ℕ) (split : HasPassedOn limits lines begun came) where
   -- it goes on with the line
-  pub goes_on : (after piece : List ℕ) (count : ℕ) → GoesOn begun after piece count → HasPassedOn limits old after (came ++ take count piece)
+  pub goes_on : (after piece : List ℕ) (count : ℕ) → GoesOn begun after piece count → HasPassedOn limits lines after (came ++ take count piece)
   goes_on after piece count goes =
-      subst (λ (bs : List ℕ). HasPassedOn limits old bs (came ++ take count piece)) (sym goes.is)
-      (split_more limits old begun came split (take count piece) goes.in_line
+      subst (λ (bs : List ℕ). HasPassedOn limits lines bs (came ++ take count piece)) (sym goes.is)
+      (split_more limits lines begun came split (take count piece) goes.in_line
       (omega (arith, goes.short, ap (λ (bs : List ℕ). length bs) goes.is, length-append begun (take count piece))))
 
   module _ (line piece : List ℕ) (count : ℕ) (ends : EndsLine begun line piece count) where
@@ -77,31 +78,32 @@ module _ (limits : Limits) (old : Captured) (begun came : List ℕ) (split : Has
     size = ap (λ (bs : List ℕ). length bs) ends.is ∙ length-append begun ends.bytes
 
     -- it ends the line
-    pub ends_line : (new : Captured) → HasAcceptedLines limits new (split.lines ++ line ∷ []) → HasPassedOn limits new [] (came ++ take count piece)
-    ends_line new consumes =
+    pub ends_line : (given : List Entry) → AreAcceptedLines limits (lines ++ line ∷ []) given → HasPassedOn limits (lines ++ line ∷ []) [] (came ++ take count piece)
+    ends_line given consumes =
         elim ends.ends [
           | inl lf ↦
-              subst (λ (bs : List ℕ). HasPassedOn limits new [] (came ++ bs)) (sym lf.0)
-              (split_line limits old begun came split ends.bytes new ends.in_line (omega (arith, size, lf.1)) (subst (λ (bs : List ℕ). HasAcceptedLines limits new (split.lines ++ bs ∷ [])) ends.is consumes))
-          | inr long ↦ absurd (no_long limits old begun came split new line long.1 consumes)
+              subst (λ (bs : List ℕ). HasPassedOn limits (lines ++ line ∷ []) [] (came ++ bs)) (sym lf.0)
+              (subst (λ (bs : List ℕ). HasPassedOn limits (lines ++ bs ∷ []) [] (came ++ (ends.bytes ++ 10 ∷ []))) (sym ends.is)
+              (split_line limits lines begun came split ends.bytes given ends.in_line (omega (arith, size, lf.1)) (subst (λ (bs : List ℕ). AreAcceptedLines limits (lines ++ bs ∷ []) given) ends.is consumes)))
+          | inr long ↦ absurd (no_long limits lines begun came split given line long.1 consumes)
         ]
 
     -- the line that it ends isn't accepted
-    pub stops_at_line : (stop : CaptureStop) → IsStopAt limits split.lines line stop → IsStopWithin limits came piece stop
+    pub stops_at_line : (stop : CaptureStop) → IsStopAt limits lines line stop → IsStopWithin limits came piece stop
     stops_at_line stop stops =
         let ahead = drop count piece in
-        let here = subst (λ (bs : List ℕ). IsStopAt limits split.lines bs stop) ends.is stops in
+        let here = subst (λ (bs : List ℕ). IsStopAt limits lines bs stop) ends.is stops in
         elim ends.ends [
           | inl lf ↦
               subst (λ (bs : List ℕ). IsStopWithin limits came bs stop)
               (sym (append_assoc ends.bytes (10 ∷ []) ahead) ∙ ap (λ (bs : List ℕ). bs ++ ahead) (sym lf.0) ∙ take-append-drop count piece)
-              (stop_line limits old begun came split ends.bytes ahead stop ends.in_line (omega (arith, size, lf.1)) here)
+              (stop_line limits lines begun came split ends.bytes ahead stop ends.in_line (omega (arith, size, lf.1)) here)
           | inr long ↦
               let sizes : length begun + length ends.bytes ≡ 8196 = sym size ∙ long.1 in
               let parts = last_of ends.bytes (omega (arith, sizes, split.short)) in
               subst (λ (bs : List ℕ). IsStopWithin limits came bs stop) (ap (λ (bs : List ℕ). bs ++ ahead) (sym long.0) ∙ take-append-drop count piece)
-              (subst (λ (bs : List ℕ). IsLine bs → length begun + length bs ≡ 8196 → IsStopAt limits split.lines (begun ++ bs) stop → IsStopWithin limits came (bs ++ ahead) stop) (sym parts.2)
-              (stop_at_most limits old begun came split parts.0 parts.1 ahead stop) ends.in_line sizes here)
+              (subst (λ (bs : List ℕ). IsLine bs → length begun + length bs ≡ 8196 → IsStopAt limits lines (begun ++ bs) stop → IsStopWithin limits came (bs ++ ahead) stop) (sym parts.2)
+              (stop_at_most limits lines begun came split parts.0 parts.1 ahead stop) ends.in_line sizes here)
         ]
 
 -- The line and the bytes consumed are no more than a line may hold.

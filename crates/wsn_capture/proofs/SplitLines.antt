@@ -9,9 +9,8 @@ use Rattle.wsn_capture.specs.declared.capture_stop.CaptureStop.TheVariants.{Read
 use Rattle.wsn_rules.specs.declared.report.Report.{Report}
 use Rattle.wsn_rules.specs.TextLines.{IsLine, ended, AreLines}
 use Rattle.wsn_rules.specs.Entries.{without_cr, Entry}
-use Rattle.wsn_capture.specs.LineFaults.{fault_order, HasFault, IsFirstLineFault, IsAcceptedLine, AreAcceptedAfter, IsFaultAfter}
+use Rattle.wsn_capture.specs.LineFaults.{fault_order, HasFault, IsFirstLineFault, IsAcceptedLine, AreAcceptedAfter, AreAcceptedLines, IsFaultAfter}
 use Rattle.wsn_rules.specs.Reports.{IsReport}
-use Rattle.wsn_capture.specs.Captures.{Captured, HasAcceptedLines}
 use Rattle.wsn_capture.specs.CaptureAnswers.{IsReported, IsFaulty, IsUnfaulted, IsCaptureAnswerOf}
 use Rattle.wsn_capture.specs.LineSplitters.{HasPassedOn, IsStopAt, IsStopBy, IsStopWithin}
 use Rattle.wsn_rules.proofs.TextLines.{has_lines, ended-push, each_join, lines_in_front, lines_at_end, first_line}
@@ -57,9 +56,9 @@ last_taken limits before [] line (entry ∷ entries) are = (before, entry, are.0
 last_taken limits before (l ∷ lines) line [] are = absurd are
 last_taken limits before (l ∷ lines) line (entry ∷ entries) are = last_taken limits (before ++ entry ∷ []) lines line entries are.1
 
-not_taken : (limits : Limits) (capture : Captured) (lines : List (List ℕ)) (line : List ℕ) → 8196 ≤ length line → HasAcceptedLines limits capture (lines ++ line ∷ []) → ⊥
-not_taken limits capture lines line long has =
-    let last = last_taken limits [] lines line has.entries has.accepted.taken in
+not_taken : (limits : Limits) (lines : List (List ℕ)) (line : List ℕ) (given : List Entry) → 8196 ≤ length line → AreAcceptedLines limits (lines ++ line ∷ []) given → ⊥
+not_taken limits lines line given long taken =
+    let last = last_taken limits [] lines line given taken in
     last.2.none TooLong (subst (λ (bs : List ℕ). 8194 < length (without_cr bs)) (append-nil line) (too_long line [] long))
 
 -- ---- further bytes
@@ -76,12 +75,12 @@ line_right : (line more : List ℕ) → IsLine (line ++ more) → IsLine more
 line_right [] more is = is
 line_right (b ∷ line) more is = line_right line more is.1
 
-module _ (limits : Limits) (old : Captured) (begun came : List ℕ) (split : HasPassedOn limits old begun came) where
+module _ (limits : Limits) (lines : List (List ℕ)) (begun came : List ℕ) (split : HasPassedOn limits lines begun came) where
   -- the line isn't finished
-  pub split_more : (bytes : List ℕ) → IsLine bytes → length begun + length bytes < 8196 → HasPassedOn limits old (begun ++ bytes) (came ++ bytes)
+  pub split_more : (bytes : List ℕ) → IsLine bytes → length begun + length bytes < 8196 → HasPassedOn limits lines (begun ++ bytes) (came ++ bytes)
   split_more bytes line size = record {
-    lines = split.lines;
-    whole = ap (λ (bs : List ℕ). bs ++ bytes) split.whole ∙ append_assoc (ended split.lines) begun bytes;
+    given = split.given;
+    whole = ap (λ (bs : List ℕ). bs ++ bytes) split.whole ∙ append_assoc (ended lines) begun bytes;
     each = split.each;
     in_line = line_join begun bytes split.in_line line;
     short = omega (arith, size, length-append begun bytes);
@@ -89,136 +88,137 @@ module _ (limits : Limits) (old : Captured) (begun came : List ℕ) (split : Has
     few = omega (arith, split.few, length-append begun bytes, length-append came bytes);
   }
 
-  with_lf : came ++ 10 ∷ [] ≡ ended (split.lines ++ begun ∷ [])
-  with_lf = ap (λ (bs : List ℕ). bs ++ 10 ∷ []) split.whole ∙ append_assoc (ended split.lines) begun (10 ∷ []) ∙ sym (ended-push split.lines begun)
+  with_lf : came ++ 10 ∷ [] ≡ ended (lines ++ begun ∷ [])
+  with_lf = ap (λ (bs : List ℕ). bs ++ 10 ∷ []) split.whole ∙ append_assoc (ended lines) begun (10 ∷ []) ∙ sym (ended-push lines begun)
 
   -- an LF ends it
-  split_lf : (new : Captured) → HasAcceptedLines limits new (split.lines ++ begun ∷ []) → HasPassedOn limits new [] (came ++ 10 ∷ [])
-  split_lf new consumes = record {
-    lines = split.lines ++ begun ∷ [];
-    whole = with_lf ∙ sym (append-nil (ended (split.lines ++ begun ∷ [])));
-    each = each_join split.lines (begun ∷ []) split.each (split.in_line, tt);
+  split_lf : (given : List Entry) → AreAcceptedLines limits (lines ++ begun ∷ []) given → HasPassedOn limits (lines ++ begun ∷ []) [] (came ++ 10 ∷ [])
+  split_lf given consumes = record {
+    given = given;
+    whole = with_lf ∙ sym (append-nil (ended (lines ++ begun ∷ [])));
+    each = each_join lines (begun ∷ []) split.each (split.in_line, tt);
     in_line = tt;
     short = omega arith;
     taken = consumes;
-    few = omega (arith, split.few, split.short, length-append came (10 ∷ []), length-append split.lines (begun ∷ []));
+    few = omega (arith, split.few, split.short, length-append came (10 ∷ []), length-append lines (begun ∷ []));
   }
 
-  stop_lf : (stop : CaptureStop) → IsStopAt limits split.lines begun stop → IsStopBy limits (came ++ 10 ∷ []) stop
+  stop_lf : (stop : CaptureStop) → IsStopAt limits lines begun stop → IsStopBy limits (came ++ 10 ∷ []) stop
   stop_lf Read is = is
   stop_lf (Line number fault) is = λ later.
       let rest = has_lines later in
       record {
-        before = split.lines;
+        before = lines;
         line = begun;
         after = rest.0;
-        are = subst (λ (ls : List (List ℕ)). AreLines ((came ++ 10 ∷ []) ++ later) ls) (append_assoc split.lines (begun ∷ []) rest.0)
-            (subst (λ (bs : List ℕ). AreLines (bs ++ later) ((split.lines ++ begun ∷ []) ++ rest.0)) (sym with_lf)
-            (lines_in_front (split.lines ++ begun ∷ []) later rest.0 (each_join split.lines (begun ∷ []) split.each (split.in_line, tt)) rest.1));
+        are = subst (λ (ls : List (List ℕ)). AreLines ((came ++ 10 ∷ []) ++ later) ls) (append_assoc lines (begun ∷ []) rest.0)
+            (subst (λ (bs : List ℕ). AreLines (bs ++ later) ((lines ++ begun ∷ []) ++ rest.0)) (sym with_lf)
+            (lines_in_front (lines ++ begun ∷ []) later rest.0 (each_join lines (begun ∷ []) split.each (split.in_line, tt)) rest.1));
         at = is.0;
         is = is.1;
       }
 
   -- one more byte makes it too long
-  stop_long : (byte : ℕ) (stop : CaptureStop) → IsLine (begun ++ byte ∷ []) → length (begun ++ byte ∷ []) ≡ 8196 → IsStopAt limits split.lines (begun ++ byte ∷ []) stop → IsStopBy limits (came ++ byte ∷ []) stop
+  stop_long : (byte : ℕ) (stop : CaptureStop) → IsLine (begun ++ byte ∷ []) → length (begun ++ byte ∷ []) ≡ 8196 → IsStopAt limits lines (begun ++ byte ∷ []) stop → IsStopBy limits (came ++ byte ∷ []) stop
   stop_long byte Read in_line size stops = stops
   stop_long byte (Line number fault) in_line size stops = λ later.
       let after = begun ++ byte ∷ [] in
       let found = has_lines (after ++ later) in
       let first = first_line after later found.0 in_line (omega (arith, size)) found.1 in
-      let whole : came ++ byte ∷ [] ≡ ended split.lines ++ after = ap (λ (bs : List ℕ). bs ++ byte ∷ []) split.whole ∙ append_assoc (ended split.lines) begun (byte ∷ []) in
+      let whole : came ++ byte ∷ [] ≡ ended lines ++ after = ap (λ (bs : List ℕ). bs ++ byte ∷ []) split.whole ∙ append_assoc (ended lines) begun (byte ∷ []) in
       record {
-        before = split.lines;
+        before = lines;
         line = after ++ first.0;
         after = first.1;
-        are = subst (λ (bs : List ℕ). AreLines bs (split.lines ++ (after ++ first.0) ∷ first.1)) (sym (ap (λ (bs : List ℕ). bs ++ later) whole ∙ append_assoc (ended split.lines) after later))
-            (lines_in_front split.lines (after ++ later) ((after ++ first.0) ∷ first.1) split.each (subst (AreLines (after ++ later)) first.2 found.1));
+        are = subst (λ (bs : List ℕ). AreLines bs (lines ++ (after ++ first.0) ∷ first.1)) (sym (ap (λ (bs : List ℕ). bs ++ later) whole ∙ append_assoc (ended lines) after later))
+            (lines_in_front lines (after ++ later) ((after ++ first.0) ∷ first.1) split.each (subst (AreLines (after ++ later)) first.2 found.1));
         at = stops.0;
-        is = still_faulty limits split.lines after first.0 fault (omega (arith, size)) stops.1;
+        is = still_faulty limits lines after first.0 fault (omega (arith, size)) stops.1;
       }
 
-  pub no_long : (capture : Captured) (after : List ℕ) → length after ≡ 8196 → HasAcceptedLines limits capture (split.lines ++ after ∷ []) → ⊥
-  no_long capture after size has = not_taken limits capture split.lines after (omega (arith, size)) has
+  pub no_long : (given : List Entry) (after : List ℕ) → length after ≡ 8196 → AreAcceptedLines limits (lines ++ after ∷ []) given → ⊥
+  no_long given after size taken = not_taken limits lines after given (omega (arith, size)) taken
 
   abbrev pub unfaulted : IsUnfaulted limits came
   unfaulted = record {
-    lines = split.lines;
+    lines = lines;
     begun = begun;
     whole = split.whole;
     each = split.each;
     in_line = split.in_line;
     short = split.short;
-    given = split.taken.entries;
-    taken = split.taken.accepted.taken;
+    given = split.given;
+    taken = split.taken;
   }
 
   -- ---- the end of the text
 
-  pub reported_whole : (report : Report) → begun ≡ [] → IsReport limits split.lines report → IsReported limits came report
+  pub reported_whole : (report : Report) → begun ≡ [] → IsReport limits lines report → IsReported limits came report
   reported_whole report none is = record {
-    lines = split.lines;
-    are = record { each = split.each; joined = inl (split.whole ∙ ap (λ (bs : List ℕ). ended split.lines ++ bs) none ∙ append-nil (ended split.lines)) };
-    given = split.taken.entries;
-    taken = split.taken.accepted.taken;
+    lines = lines;
+    are = record { each = split.each; joined = inl (split.whole ∙ ap (λ (bs : List ℕ). ended lines ++ bs) none ∙ append-nil (ended lines)) };
+    given = split.given;
+    taken = split.taken;
     is = is;
   }
 
-  at_end : begun ≢ [] → AreLines came (split.lines ++ begun ∷ [])
-  at_end some = subst (λ (bs : List ℕ). AreLines bs (split.lines ++ begun ∷ [])) (sym split.whole) (lines_at_end split.lines begun split.each split.in_line some)
+  at_end : begun ≢ [] → AreLines came (lines ++ begun ∷ [])
+  at_end some = subst (λ (bs : List ℕ). AreLines bs (lines ++ begun ∷ [])) (sym split.whole) (lines_at_end lines begun split.each split.in_line some)
 
-  pub reported_last : (capture : Captured) (report : Report) → begun ≢ [] → (has : HasAcceptedLines limits capture (split.lines ++ begun ∷ [])) → IsReport limits (split.lines ++ begun ∷ []) report → IsReported limits came report
-  reported_last capture report some has is = record { lines = split.lines ++ begun ∷ []; are = at_end some; given = has.entries; taken = has.accepted.taken; is = is }
+  pub reported_last : (given : List Entry) (report : Report) → begun ≢ [] → AreAcceptedLines limits (lines ++ begun ∷ []) given → IsReport limits (lines ++ begun ∷ []) report → IsReported limits came report
+  reported_last given report some taken is = record { lines = lines ++ begun ∷ []; are = at_end some; given = given; taken = taken; is = is }
 
-  pub faulty_last : (number : ℕ) (fault : LineFault) → begun ≢ [] → IsStopAt limits split.lines begun (Line number fault) → IsFaulty limits came number fault
-  faulty_last number fault some is = record { before = split.lines; line = begun; after = []; are = at_end some; at = is.0; is = is.1 }
+  pub faulty_last : (number : ℕ) (fault : LineFault) → begun ≢ [] → IsStopAt limits lines begun (Line number fault) → IsFaulty limits came number fault
+  faulty_last number fault some is = record { before = lines; line = begun; after = []; are = at_end some; at = is.0; is = is.1 }
 
-  pub stop_last : (stop : CaptureStop) → begun ≢ [] → IsStopAt limits split.lines begun stop → IsCaptureAnswerOf limits came (Err stop)
+  pub stop_last : (stop : CaptureStop) → begun ≢ [] → IsStopAt limits lines begun stop → IsCaptureAnswerOf limits came (Err stop)
   stop_last Read some is = is
   stop_last (Line number fault) some is = faulty_last number fault some is
 
 -- ---- the prefix of a piece
 
-module _ (limits : Limits) (old : Captured) (begun came : List ℕ) (split : HasPassedOn limits old begun came) where
+module _ (limits : Limits) (lines : List (List ℕ)) (begun came : List ℕ) (split : HasPassedOn limits lines begun came) where
   -- the rest of a line, and its LF
-  pub split_line : (bytes : List ℕ) (new : Captured) → IsLine bytes → length begun + length bytes < 8196 → HasAcceptedLines limits new (split.lines ++ (begun ++ bytes) ∷ []) → HasPassedOn limits new [] (came ++ (bytes ++ 10 ∷ []))
+  pub split_line : (bytes : List ℕ) (given : List Entry) → IsLine bytes → length begun + length bytes < 8196 → AreAcceptedLines limits (lines ++ (begun ++ bytes) ∷ []) given
+      → HasPassedOn limits (lines ++ (begun ++ bytes) ∷ []) [] (came ++ (bytes ++ 10 ∷ []))
   unfolding split_more
-  split_line bytes new line size consumes =
-      subst (HasPassedOn limits new []) (append_assoc came bytes (10 ∷ []))
-      (split_lf limits old (begun ++ bytes) (came ++ bytes) (split_more limits old begun came split bytes line size) new consumes)
+  split_line bytes given line size consumes =
+      subst (HasPassedOn limits (lines ++ (begun ++ bytes) ∷ []) []) (append_assoc came bytes (10 ∷ []))
+      (split_lf limits lines (begun ++ bytes) (came ++ bytes) (split_more limits lines begun came split bytes line size) given consumes)
 
-  pub stop_line : (bytes ahead : List ℕ) (stop : CaptureStop) → IsLine bytes → length begun + length bytes < 8196 → IsStopAt limits split.lines (begun ++ bytes) stop → IsStopWithin limits came (bytes ++ 10 ∷ ahead) stop
+  pub stop_line : (bytes ahead : List ℕ) (stop : CaptureStop) → IsLine bytes → length begun + length bytes < 8196 → IsStopAt limits lines (begun ++ bytes) stop → IsStopWithin limits came (bytes ++ 10 ∷ ahead) stop
   unfolding split_more
   stop_line bytes ahead stop line size stops =
-      let more = split_more limits old begun came split bytes line size in
+      let more = split_more limits lines begun came split bytes line size in
       record {
         earlier = bytes;
         last = 10;
         ahead = ahead;
         whole = refl;
-        unfaulted = unfaulted limits old (begun ++ bytes) (came ++ bytes) more;
+        unfaulted = unfaulted limits lines (begun ++ bytes) (came ++ bytes) more;
         is_evident = inl refl;
-        stops = stop_lf limits old (begun ++ bytes) (came ++ bytes) more stop stops;
+        stops = stop_lf limits lines (begun ++ bytes) (came ++ bytes) more stop stops;
       }
 
   -- the bytes that make a line too long
-  pub stop_at_most : (earlier : List ℕ) (last : ℕ) (ahead : List ℕ) (stop : CaptureStop) → IsLine (earlier ++ last ∷ []) → length begun + length (earlier ++ last ∷ []) ≡ 8196 → IsStopAt limits split.lines (begun ++ (earlier ++ last ∷ [])) stop → IsStopWithin limits came ((earlier ++ last ∷ []) ++ ahead) stop
+  pub stop_at_most : (earlier : List ℕ) (last : ℕ) (ahead : List ℕ) (stop : CaptureStop) → IsLine (earlier ++ last ∷ []) → length begun + length (earlier ++ last ∷ []) ≡ 8196 → IsStopAt limits lines (begun ++ (earlier ++ last ∷ [])) stop → IsStopWithin limits came ((earlier ++ last ∷ []) ++ ahead) stop
   unfolding split_more
   stop_at_most earlier last ahead stop line size stops =
       let sizes = length-append earlier (last ∷ []) in
       let short : length begun + length earlier < 8196 = omega (arith, size, sizes) in
-      let more = split_more limits old begun came split earlier (line_left earlier (last ∷ []) line) short in
+      let more = split_more limits lines begun came split earlier (line_left earlier (last ∷ []) line) short in
       let same = append_assoc begun earlier (last ∷ []) in
       record {
         earlier = earlier;
         last = last;
         ahead = ahead;
         whole = append_assoc earlier (last ∷ []) ahead;
-        unfaulted = unfaulted limits old (begun ++ earlier) (came ++ earlier) more;
+        unfaulted = unfaulted limits lines (begun ++ earlier) (came ++ earlier) more;
         is_evident = inr (omega (arith, size, sizes, length-append begun earlier));
-        stops = stop_long limits old (begun ++ earlier) (came ++ earlier) more last stop
+        stops = stop_long limits lines (begun ++ earlier) (came ++ earlier) more last stop
             (line_join (begun ++ earlier) (last ∷ []) more.in_line (line_right earlier (last ∷ []) line))
             (ap (λ (bs : List ℕ). length bs) same ∙ length-append begun (earlier ++ last ∷ []) ∙ size)
-            (subst (λ (bs : List ℕ). IsStopAt limits split.lines bs stop) (sym same) stops);
+            (subst (λ (bs : List ℕ). IsStopAt limits lines bs stop) (sym same) stops);
       }
 
 -- ---- lists

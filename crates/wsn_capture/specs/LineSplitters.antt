@@ -6,24 +6,27 @@ use Rattle.wsn_capture.specs.declared.capture_stop.CaptureStop.{CaptureStop}
 use Rattle.wsn_capture.specs.declared.capture_stop.CaptureStop.TheVariants.{Read, Line}
 use Rattle.wsn_capture.specs.declared.line_splitter.LineSplitter.{LineSplitter}
 use Rattle.wsn_rules.specs.TextLines.{IsLine, ended}
-use Rattle.wsn_capture.specs.LineFaults.{IsFaultAfter}
+use Rattle.wsn_rules.specs.Entries.{Entry}
+use Rattle.wsn_capture.specs.LineFaults.{AreAcceptedLines, IsFaultAfter}
 use Rattle.wsn_capture.specs.CaptureLines.{count_of}
-use Rattle.wsn_capture.specs.Captures.{Captured, HasAcceptedLines}
+use Rattle.wsn_capture.specs.Captures.{HasAcceptedLines}
 use Rattle.wsn_capture.specs.CaptureAnswers.{IsFaulty, IsUnfaulted, begun_most}
 
--- These bytes came: whole lines, which the capture has accepted, and an unfinished line that isn't yet too long.
-pub record HasPassedOn (limits : Limits) (capture : Captured) (begun came : List ℕ) : Type 0 where
-  pub lines : List (List ℕ)
+-- These bytes came: these whole lines, all of which are accepted, and an unfinished line that isn't yet too long.
+pub record HasPassedOn (limits : Limits) (lines : List (List ℕ)) (begun came : List ℕ) : Type 0 where
   pub whole : came ≡ ended lines ++ begun
   pub each : AllByRecursion IsLine lines
   pub in_line : IsLine begun
   pub short : length begun < begun_most
-  pub taken : HasAcceptedLines limits capture lines
+  pub given : List Entry
+  pub taken : AreAcceptedLines limits lines given
   pub few : length came ≤ length lines * begun_most + length begun
 
--- The splitter has consumed these bytes.
-abbrev pub HasSplit : Limits → LineSplitter → List ℕ → Type 0
-HasSplit limits splitter came = HasPassedOn limits splitter.capture splitter.begun came
+-- The splitter has consumed these bytes, and its capture has accepted their lines.
+pub record HasSplit (limits : Limits) (splitter : LineSplitter) (came : List ℕ) : Type 0 where
+  pub lines : List (List ℕ)
+  pub passed : HasPassedOn limits lines splitter.begun came
+  pub accepted : HasAcceptedLines limits splitter.capture lines
 
 -- The stop is at the line after these lines.
 abbrev pub IsStopAt : Limits → List (List ℕ) → List ℕ → CaptureStop → Type 0

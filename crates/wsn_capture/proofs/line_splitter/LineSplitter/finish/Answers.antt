@@ -8,19 +8,19 @@ use Rattle.wsn_capture.proofs.line_splitter.LineSplitter.finish.Goals as goal
 
 pub returns-then-is_empty : goal.returns-then-is_empty
 returns-then-is_empty c limits came split =
-    reported_whole limits c.args.self.capture c.args.self.begun came split c.report.result (empty_is c.args.self.begun (ap (λ (bs : List ℕ). length bs == 0) (sym c.line.ensures) ∙ sym c.is_empty.ensures ∙ c.if-is_empty.true)) (c.report.ensures limits split.lines split.taken)
+    reported_whole limits split.lines c.args.self.begun came split.passed c.report.result (empty_is c.args.self.begun (ap (λ (bs : List ℕ). length bs == 0) (sym c.line.ensures) ∙ sym c.is_empty.ensures ∙ c.if-is_empty.true)) (c.report.ensures limits split.lines split.accepted)
 
 pub returns-in_err-end_line : goal.returns-in_err-end_line
 returns-in_err-end_line c limits came split =
     let out = err_from_is_err_and c.from_residual.result c.from_residual.ensures.1 in
     let is : c.from_residual.result ≡ Err c.in_err-end_line.field-0.0 = out.1 ∙ ap Err out.2 in
     subst (λ (r : Result Report CaptureStop). IsCaptureAnswerOf limits came r) (sym is)
-    (stop_last limits c.args.self.capture c.args.self.begun came split c.in_err-end_line.field-0.0 (not_empty c.args.self.begun (ap (λ (bs : List ℕ). length bs == 0) (sym c.line.ensures) ∙ sym c.is_empty.ensures ∙ c.if-is_empty.false)) (c.in_err-end_line.ensures.stop limits split.lines split.taken))
+    (stop_last limits split.lines c.args.self.begun came split.passed c.in_err-end_line.field-0.0 (not_empty c.args.self.begun (ap (λ (bs : List ℕ). length bs == 0) (sym c.line.ensures) ∙ sym c.is_empty.ensures ∙ c.if-is_empty.false)) (c.in_err-end_line.ensures.stop limits split.lines split.accepted))
 
 pub returns : goal.returns
 returns c limits came split =
-    let has = c.in_ok-end_line.ensures.taken limits split.lines split.taken in
-    reported_last limits c.args.self.capture c.args.self.begun came split c.end_line.new.self.capture c.report-2.result (not_empty c.args.self.begun (ap (λ (bs : List ℕ). length bs == 0) (sym c.line.ensures) ∙ sym c.is_empty.ensures ∙ c.if-is_empty.false)) has (c.report-2.ensures limits _ has)
+    let has = c.in_ok-end_line.ensures.taken limits split.lines split.accepted in
+    reported_last limits split.lines c.args.self.begun came split.passed has.entries c.report-2.result (not_empty c.args.self.begun (ap (λ (bs : List ℕ). length bs == 0) (sym c.line.ensures) ∙ sym c.is_empty.ensures ∙ c.if-is_empty.false)) has.accepted.taken (c.report-2.ensures limits _ has)
 
 pub is_empty-requires : goal.is_empty-requires
 is_empty-requires c = search rules

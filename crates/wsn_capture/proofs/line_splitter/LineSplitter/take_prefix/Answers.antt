@@ -1,4 +1,4 @@
-use Rattle.std.proofs.Common.{◌≡◌, ◌++◌, ℕ, List, Result, Err, length, take, sym, subst, arith, ap, ◌∙◌}
+use Rattle.std.proofs.Common.{◌≡◌, [], ◌∷◌, ◌++◌, ℕ, List, Result, Err, length, take, sym, subst, arith, ap, ◌∙◌}
 use Rattle.std.proofs.lemmas.Result.{err_from_is_err_and}
 use Rattle.std.specs.Prelude.{IfErr}
 use Rattle.std.proofs.Common.{length-take-le, length-append}
@@ -14,15 +14,20 @@ returns-in_err-end_line-clause-stop c =
     let is : c.from_residual.result ≡ Err c.in_err-end_line.field-0.0 = out.1 ∙ ap Err out.2 in
     let ends = c.take-count.ensures.ends c.if-ended.true in
     subst (λ (r : Result ℕ CaptureStop). IfErr r (λ stop. (limits : Limits) (came : List ℕ) → HasSplit limits c.args.self.now came → IsStopWithin limits came c.args.piece.now stop)) (sym is)
-    (λ limits came split. stops_at_line limits c.args.self.now.capture c.args.self.now.begun came split c.take-count.new.self c.args.piece.now c.take-count.result.0 ends c.in_err-end_line.field-0.0
-    (c.in_err-end_line.ensures.stop limits split.lines split.taken))
+    (λ limits came split. stops_at_line limits split.lines c.args.self.now.begun came split.passed c.take-count.new.self c.args.piece.now c.take-count.result.0 ends c.in_err-end_line.field-0.0
+    (c.in_err-end_line.ensures.stop limits split.lines split.accepted))
 
 pub returns-in_ok-end_line-clause-split : goal.returns-in_ok-end_line-clause-split
 returns-in_ok-end_line-clause-split c limits came split =
     let ends = c.take-count.ensures.ends c.if-ended.true in
-    subst (λ (bs : List ℕ). HasPassedOn limits c.end_line.new.self.capture bs (came ++ take c.take-count.result.0 c.args.piece.now)) (sym c.in_ok-end_line.ensures.begun)
-    (ends_line limits c.args.self.now.capture c.args.self.now.begun came split c.take-count.new.self c.args.piece.now c.take-count.result.0 ends c.end_line.new.self.capture
-    (c.in_ok-end_line.ensures.taken limits split.lines split.taken))
+    let lines = split.lines ++ c.take-count.new.self ∷ [] in
+    let has = c.in_ok-end_line.ensures.taken limits split.lines split.accepted in
+    record {
+      lines = lines;
+      passed = subst (λ (bs : List ℕ). HasPassedOn limits lines bs (came ++ take c.take-count.result.0 c.args.piece.now)) (sym c.in_ok-end_line.ensures.begun)
+          (ends_line limits split.lines c.args.self.now.begun came split.passed c.take-count.new.self c.args.piece.now c.take-count.result.0 ends has.entries has.accepted.taken);
+      accepted = has;
+    }
 
 pub returns-in_ok-end_line-clause-left : goal.returns-in_ok-end_line-clause-left
 returns-in_ok-end_line-clause-left c =
@@ -33,7 +38,11 @@ returns-in_ok-end_line-clause-left c =
 
 pub returns-else-ended-clause-split : goal.returns-else-ended-clause-split
 returns-else-ended-clause-split c limits came split =
-    goes_on limits c.args.self.now.capture c.args.self.now.begun came split c.take-count.new.self c.args.piece.now c.take-count.result.0 (c.take-count.ensures.goes_on c.if-ended.false)
+    record {
+      lines = split.lines;
+      passed = goes_on limits split.lines c.args.self.now.begun came split.passed c.take-count.new.self c.args.piece.now c.take-count.result.0 (c.take-count.ensures.goes_on c.if-ended.false);
+      accepted = split.accepted;
+    }
 
 pub returns-else-ended-clause-left : goal.returns-else-ended-clause-left
 returns-else-ended-clause-left c =
