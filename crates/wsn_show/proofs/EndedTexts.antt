@@ -12,9 +12,7 @@ use Rattle.wsn_show.specs.declared.style.Style.{Style}
 use Rattle.wsn_show.specs.Styles.{styled_line_item, styled_line, styled_report}
 use Rattle.wsn_print.specs.ShownObjects.Position.{AtEnd}
 use Rattle.wsn_capture.specs.declared.capture_stop.CaptureStop.TheVariants as capture
-use Rattle.wsn_capture.specs.LineFaults.{AreAcceptedLines}
 use Rattle.wsn_capture.proofs.SplitLines.{unfaulted, faulty_last}
-use Rattle.wsn_capture.proofs.OneEntry.{same_entries}
 use Rattle.wsn_capture.proofs.AcceptedTexts.{taken_given}
 use Rattle.wsn_show.specs.declared.capture_view.CaptureView.{CaptureView}
 use Rattle.wsn_show.specs.declared.showing.ShowStop.{ShowStop}
@@ -40,18 +38,16 @@ module _ (limits : Limits) (style : Style) (first : Outgoing) (came : List ℕ) 
 
   pub whole_text : IsWholeText limits style came report (lines_text ++ last_text ++ styled_report style report)
   whole_text =
-      let accepted = has.has_shown.accepted in
-      let same = same_entries lines accepted.entries has.entries (taken_given limits [] lines accepted.entries accepted.taken) has.has_shown.given in
       record {
         lines = lines;
         are_lines = are_lines;
         entries = has.entries;
-        taken = subst (AreAcceptedLines limits lines) same accepted.taken;
+        taken = has.has_shown.accepted.taken;
         shown = has.shown;
         last = last;
         is_shown = record {
           entries = has.entries;
-          given = has.has_shown.given;
+          given = taken_given limits [] lines has.entries has.has_shown.accepted.taken;
           each = has.are;
           client_left = finishes.client_left;
           server_left = finishes.server_left;
@@ -91,23 +87,23 @@ module _ (limits : Limits) (style : Style) (first : Outgoing) (came : List ℕ) 
 module _ (limits : Limits) (style : Style) (first : Outgoing) (view : CaptureView) (begun : List ℕ) (now : Outgoing) (came : List ℕ)
     (has : HasPrinted limits style first view begun now came) where
   -- there is none
-  pub no_more_lines : begun ≡ [] → AreLines came has.passed.lines
+  pub no_more_lines : begun ≡ [] → AreLines came has.lines
   no_more_lines none = record {
     each = has.passed.each;
-    joined = inl (has.passed.whole ∙ ap (λ (bs : List ℕ). ended has.passed.lines ++ bs) none ∙ append-nil (ended has.passed.lines));
+    joined = inl (has.passed.whole ∙ ap (λ (bs : List ℕ). ended has.lines ++ bs) none ∙ append-nil (ended has.lines));
   }
 
-  pub all_printed : HasPrintedLines limits style first view has.passed.lines now
+  pub all_printed : HasPrintedLines limits style first view has.lines now
   all_printed = record { entries = has.entries; has_shown = has.has_shown; shown = has.shown; are = has.are; printed = has.printed }
 
   module _ (some : begun ≡ [] → ⊥) (new : CaptureView) (after : Outgoing) where
-    pub with_last : AreLines came (has.passed.lines ++ begun ∷ [])
+    pub with_last : AreLines came (has.lines ++ begun ∷ [])
     with_last =
-        subst (λ (bs : List ℕ). AreLines bs (has.passed.lines ++ begun ∷ [])) (sym has.passed.whole)
-        (lines_at_end has.passed.lines begun has.passed.each has.passed.in_line some)
+        subst (λ (bs : List ℕ). AreLines bs (has.lines ++ begun ∷ [])) (sym has.passed.whole)
+        (lines_at_end has.lines begun has.passed.each has.passed.in_line some)
 
-    pub last_printed : (shows : ShowsLine limits style new has.passed.lines has.entries begun now after) → after.failed ≡ false
-        → HasPrintedLines limits style first new (has.passed.lines ++ begun ∷ []) after
+    pub last_printed : (shows : ShowsLine limits style new has.lines has.entries begun now after) → after.failed ≡ false
+        → HasPrintedLines limits style first new (has.lines ++ begun ∷ []) after
     last_printed shows works =
         let text = text_with_line limits style first view begun now came has new begun after shows in
         record {
@@ -119,12 +115,12 @@ module _ (limits : Limits) (style : Style) (first : Outgoing) (view : CaptureVie
               (printed_with_line limits style first view begun now came has new begun after shows (whole_part now after (styled_line style shows.shown) works shows.printed));
         }
 
-    pub last_stops : (s : ShowStop) → StopsAtLine limits style new has.passed.lines has.entries begun now after s → EndsShowing limits style first after came (Err s)
+    pub last_stops : (s : ShowStop) → StopsAtLine limits style new has.lines has.entries begun now after s → EndsShowing limits style first after came (Err s)
     last_stops (stop.Capture (capture.Line number fault)) stops = (
-      faulty_last limits view.capture begun came has.passed number fault some (stops.0, stops.1),
-      unfaulted limits view.capture begun came has.passed,
+      faulty_last limits has.lines begun came has.passed number fault some (stops.0, stops.1),
+      unfaulted limits has.lines begun came has.passed,
       (
-        has.passed.lines,
+        has.lines,
         flat_map (styled_line style) has.shown,
         inl (begun, has.passed.each, has.passed.whole),
         stops.0,
@@ -135,6 +131,6 @@ module _ (limits : Limits) (style : Style) (first : Outgoing) (view : CaptureVie
     last_stops (stop.Capture capture.Read) stops = absurd stops
     last_stops stop.Write stops = (
       flat_map (styled_line style) has.shown ++ styled_line style stops.0.shown,
-      inl (has.passed.lines ++ begun ∷ [], inr with_last, text_with_line limits style first view begun now came has new begun after stops.0),
+      inl (has.lines ++ begun ∷ [], inr with_last, text_with_line limits style first view begun now came has new begun after stops.0),
       partly_with_line limits style first view begun now came has new begun after stops.0 (failed_part now after (styled_line style stops.0.shown) stops.1 stops.0.printed),
     )

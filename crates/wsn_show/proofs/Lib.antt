@@ -15,7 +15,6 @@ pub mod ViewedStreams
 pub mod Points
 pub mod ShownEntries
 pub mod AcceptedLines
-pub mod ScannedLines
 pub mod PassedPieces
 pub mod EndedTexts
 pub mod ShownInputs

@@ -14,11 +14,9 @@ use Rattle.wsn_show.specs.declared.style.Style.{Style}
 use Rattle.wsn_show.specs.Styles.{styled_line}
 use Rattle.wsn_capture.specs.declared.capture_stop.CaptureStop.TheVariants as capture
 use Rattle.wsn_capture.specs.LineFaults.{AreAcceptedLines}
-use Rattle.wsn_capture.specs.LineSplitters.{IsStopAt, IsStopWithin}
-use Rattle.wsn_capture.proofs.SplitLines.{line_join, stop_line, stop_at_most, no_long}
-use Rattle.wsn_capture.proofs.PiecePrefixes.{rest_is, stop_in_rest}
-use Rattle.wsn_capture.proofs.OneEntry.{same_entries}
-use Rattle.wsn_capture.proofs.AcceptedTexts.{taken_given}
+use Rattle.wsn_capture.specs.LineSplitters.{HasPassedOn, IsStopAt, IsStopWithin}
+use Rattle.wsn_capture.proofs.SplitLines.{split_line, line_join, stop_line, stop_at_most, no_long}
+use Rattle.wsn_capture.proofs.PiecePrefixes.{goes_on, rest_is, stop_in_rest}
 use Rattle.wsn_show.specs.declared.capture_view.CaptureView.{CaptureView}
 use Rattle.wsn_show.specs.declared.showing.ShowStop.{ShowStop}
 use Rattle.wsn_show.specs.declared.showing.ShowStop.TheVariants as stop
@@ -60,58 +58,34 @@ text_pushed style shown s =
 module _ (limits : Limits) (style : Style) (first : Outgoing) (view : CaptureView) (begun : List ℕ) (now : Outgoing) (came : List ℕ)
     (has : HasPrinted limits style first view begun now came) where
   -- the text of the lines so far
-  pub text_so_far : IsTextOfLines limits style has.passed.lines (flat_map (styled_line style) has.shown)
-  text_so_far =
-      let accepted = has.has_shown.accepted in
-      let same = same_entries has.passed.lines accepted.entries has.entries (taken_given limits [] has.passed.lines accepted.entries accepted.taken) has.has_shown.given in
-      record {
-        entries = has.entries;
-        taken = subst (AreAcceptedLines limits has.passed.lines) same accepted.taken;
-        shown = has.shown;
-        are = has.are;
-        is = refl;
-      }
+  pub text_so_far : IsTextOfLines limits style has.lines (flat_map (styled_line style) has.shown)
+  text_so_far = record { entries = has.entries; taken = has.has_shown.accepted.taken; shown = has.shown; are = has.are; is = refl }
 
   -- the line goes on
   pub printed_on : (after piece : List ℕ) (k : ℕ) → GoesOn begun after piece k → HasPrinted limits style first view after now (came ++ take k piece)
-  printed_on after piece k goes =
-      let bytes = take k piece in
-      let passed = has.passed in
-      subst (λ (bs : List ℕ). HasPrinted limits style first view bs now (came ++ bytes)) (sym goes.is) (record {
-        passed = record {
-          lines = passed.lines;
-          whole = ap (λ (bs : List ℕ). bs ++ bytes) passed.whole ∙ append_assoc (ended passed.lines) begun bytes;
-          each = passed.each;
-          in_line = line_join begun bytes passed.in_line goes.in_line;
-          short = subst (λ (bs : List ℕ). length bs < 8196) goes.is goes.short;
-          taken = passed.taken;
-          few = omega (arith, passed.few, length-append begun bytes, length-append came bytes);
-        };
-        entries = has.entries;
-        has_shown = has.has_shown;
-        shown = has.shown;
-        are = has.are;
-        printed = has.printed;
-      })
+  printed_on after piece k goes = record {
+    lines = has.lines;
+    passed = goes_on limits has.lines begun came has.passed after piece k goes;
+    entries = has.entries;
+    has_shown = has.has_shown;
+    shown = has.shown;
+    are = has.are;
+    printed = has.printed;
+  }
 
   -- one line more was shown
-  module _ (new : CaptureView) (line : List ℕ) (after : Outgoing) (shows : ShowsLine limits style new has.passed.lines has.entries line now after) where
-    pub one_more : AreShownAfter style.detail limits [] [] (has.passed.lines ++ line ∷ []) (has.entries ++ shows.entry ∷ []) (has.shown ++ shows.shown ∷ [])
-    one_more = shown_pushed style.detail limits [] [] has.passed.lines has.entries has.shown line shows.entry shows.shown has.are (shows.numbered, shows.at, shows.shows, tt)
+  module _ (new : CaptureView) (line : List ℕ) (after : Outgoing) (shows : ShowsLine limits style new has.lines has.entries line now after) where
+    pub one_more : AreShownAfter style.detail limits [] [] (has.lines ++ line ∷ []) (has.entries ++ shows.entry ∷ []) (has.shown ++ shows.shown ∷ [])
+    one_more = shown_pushed style.detail limits [] [] has.lines has.entries has.shown line shows.entry shows.shown has.are (shows.numbered, shows.at, shows.shows, tt)
 
-    abbrev pub text_with_line : IsTextOfLines limits style (has.passed.lines ++ line ∷ []) (flat_map (styled_line style) has.shown ++ styled_line style shows.shown)
-    text_with_line =
-        let accepted = shows.has_shown.accepted in
-        let lines = has.passed.lines ++ line ∷ [] in
-        let entries = has.entries ++ shows.entry ∷ [] in
-        let same = same_entries lines accepted.entries entries (taken_given limits [] lines accepted.entries accepted.taken) shows.has_shown.given in
-        record {
-          entries = entries;
-          taken = subst (AreAcceptedLines limits lines) same accepted.taken;
-          shown = has.shown ++ shows.shown ∷ [];
-          are = one_more;
-          is = sym (text_pushed style has.shown shows.shown);
-        }
+    abbrev pub text_with_line : IsTextOfLines limits style (has.lines ++ line ∷ []) (flat_map (styled_line style) has.shown ++ styled_line style shows.shown)
+    text_with_line = record {
+      entries = has.entries ++ shows.entry ∷ [];
+      taken = shows.has_shown.accepted.taken;
+      shown = has.shown ++ shows.shown ∷ [];
+      are = one_more;
+      is = sym (text_pushed style has.shown shows.shown);
+    }
 
     pub printed_with_line : IsWritten now after (styled_line style shows.shown) → IsWritten first after (flat_map (styled_line style) has.shown ++ styled_line style shows.shown)
     printed_with_line written = put_both first now after (flat_map (styled_line style) has.shown) (styled_line style shows.shown) has.printed written
@@ -123,23 +97,14 @@ module _ (limits : Limits) (style : Style) (first : Outgoing) (view : CaptureVie
     pub printed_line : (bytes : List ℕ) → line ≡ begun ++ bytes → IsLine bytes → length line < 8196 → IsWritten now after (styled_line style shows.shown)
         → HasPrinted limits style first new [] after (came ++ (bytes ++ 10 ∷ []))
     printed_line bytes is in_line short written =
-        let passed = has.passed in
-        let lines = passed.lines ++ line ∷ [] in
-        let whole : came ++ (bytes ++ 10 ∷ []) ≡ ended lines =
-        ap (λ (bs : List ℕ). bs ++ (bytes ++ 10 ∷ [])) passed.whole ∙ append_assoc (ended passed.lines) begun (bytes ++ 10 ∷ [])
-        ∙ ap (λ (bs : List ℕ). ended passed.lines ++ bs) (sym (append_assoc begun bytes (10 ∷ [])) ∙ ap (λ (bs : List ℕ). bs ++ 10 ∷ []) (sym is))
-        ∙ sym (ended-push passed.lines line) in
+        let lines = has.lines ++ line ∷ [] in
+        let entries = has.entries ++ shows.entry ∷ [] in
+        let size : length begun + length bytes < 8196 = omega (arith, short, length-append begun bytes, ap (λ (bs : List ℕ). length bs) is) in
+        let taken = subst (λ (l : List ℕ). AreAcceptedLines limits (has.lines ++ l ∷ []) entries) is shows.has_shown.accepted.taken in
         record {
-          passed = record {
-            lines = lines;
-            whole = whole ∙ sym (append-nil (ended lines));
-            each = each_join passed.lines (line ∷ []) passed.each (subst IsLine (sym is) (line_join begun bytes passed.in_line in_line), tt);
-            in_line = tt;
-            short = omega arith;
-            taken = shows.has_shown.accepted;
-            few = omega (arith, short, passed.few, length-append came (bytes ++ 10 ∷ []), length-append bytes (10 ∷ []), length-append begun bytes, ap (λ (bs : List ℕ). length bs) is, length-append passed.lines (line ∷ []));
-          };
-          entries = has.entries ++ shows.entry ∷ [];
+          lines = lines;
+          passed = subst (λ (l : List ℕ). HasPassedOn limits (has.lines ++ l ∷ []) [] (came ++ (bytes ++ 10 ∷ []))) (sym is) (split_line limits has.lines begun came has.passed bytes entries in_line size taken);
+          entries = entries;
           has_shown = shows.has_shown;
           shown = has.shown ++ shows.shown ∷ [];
           are = one_more;
@@ -160,12 +125,12 @@ failed_part before after text failed (inr partly) = partly
 module _ (limits : Limits) (style : Style) (first : Outgoing) (view : CaptureView) (begun : List ℕ) (now : Outgoing) (came : List ℕ)
     (has : HasPrinted limits style first view begun now came) (new : CaptureView) (line bytes : List ℕ) (after : Outgoing) (is : line ≡ begun ++ bytes)
     (in_line : IsLine bytes) where
-  begins : (piece : List ℕ) → BeginWithLines (came ++ piece) has.passed.lines
-  begins piece = inl (begun ++ piece, has.passed.each, ap (λ (bs : List ℕ). bs ++ piece) has.passed.whole ∙ append_assoc (ended has.passed.lines) begun piece)
+  begins : (piece : List ℕ) → BeginWithLines (came ++ piece) has.lines
+  begins piece = inl (begun ++ piece, has.passed.each, ap (λ (bs : List ℕ). bs ++ piece) has.passed.whole ∙ append_assoc (ended has.lines) begun piece)
 
-  begins_with : (ahead : List ℕ) → BeginWithLines (came ++ (bytes ++ 10 ∷ ahead)) (has.passed.lines ++ line ∷ [])
+  begins_with : (ahead : List ℕ) → BeginWithLines (came ++ (bytes ++ 10 ∷ ahead)) (has.lines ++ line ∷ [])
   begins_with ahead =
-      let lines = has.passed.lines in
+      let lines = has.lines in
       inl (
         ahead,
         each_join lines (line ∷ []) has.passed.each (subst IsLine (sym is) (line_join begun bytes has.passed.in_line in_line), tt),
@@ -174,11 +139,11 @@ module _ (limits : Limits) (style : Style) (first : Outgoing) (view : CaptureVie
             ∙ sym (append_assoc (ended lines) (line ++ 10 ∷ []) ahead) ∙ ap (λ (bs : List ℕ). bs ++ ahead) (sym (ended-push lines line)),
       )
 
-  before_line : (piece : List ℕ) (number : ℕ) → number ≡ length has.passed.lines + 1 → after ≡ now
+  before_line : (piece : List ℕ) (number : ℕ) → number ≡ length has.lines + 1 → after ≡ now
       → (lines : List (List ℕ)) × (text : List ℕ) × BeginWithLines (came ++ piece) lines × (number ≡ length lines + 1)
       × IsTextOfLines limits style lines text × IsWritten first after text
   before_line piece number at same = (
-    has.passed.lines,
+    has.lines,
     flat_map (styled_line style) has.shown,
     begins piece,
     at,
@@ -187,34 +152,34 @@ module _ (limits : Limits) (style : Style) (first : Outgoing) (view : CaptureVie
   )
 
   -- an LF ends the line
-  pub stops_lf : (ahead : List ℕ) (s : ShowStop) → length line < 8196 → StopsAtLine limits style new has.passed.lines has.entries line now after s
+  pub stops_lf : (ahead : List ℕ) (s : ShowStop) → length line < 8196 → StopsAtLine limits style new has.lines has.entries line now after s
       → StopsWithin limits style first after came (bytes ++ 10 ∷ ahead) s
   stops_lf ahead (stop.Capture (capture.Line number fault)) short stops =
       let size : length begun + length bytes < 8196 = omega (arith, short, length-append begun bytes, ap (λ (bs : List ℕ). length bs) is) in (
-        stop_line limits view.capture begun came has.passed bytes ahead (capture.Line number fault) in_line size
-            (subst (λ (bs : List ℕ). IsStopAt limits has.passed.lines bs (capture.Line number fault)) is (stops.0, stops.1)),
+        stop_line limits has.lines begun came has.passed bytes ahead (capture.Line number fault) in_line size
+            (subst (λ (bs : List ℕ). IsStopAt limits has.lines bs (capture.Line number fault)) is (stops.0, stops.1)),
         before_line (bytes ++ 10 ∷ ahead) number stops.0 stops.2,
       )
   stops_lf ahead (stop.Capture capture.Read) short stops = absurd stops
   stops_lf ahead stop.Write short stops = (
     flat_map (styled_line style) has.shown ++ styled_line style stops.0.shown,
-    inl (has.passed.lines ++ line ∷ [], begins_with ahead, text_with_line limits style first view begun now came has new line after stops.0),
+    inl (has.lines ++ line ∷ [], begins_with ahead, text_with_line limits style first view begun now came has new line after stops.0),
     partly_with_line limits style first view begun now came has new line after stops.0 (failed_part now after (styled_line style stops.0.shown) stops.1 stops.0.printed),
   )
 
   -- a line that is too long isn't shown
-  pub not_long : length line ≡ 8196 → ShowsLine limits style new has.passed.lines has.entries line now after → ⊥
-  not_long size shows = no_long limits view.capture begun came has.passed new.capture line size shows.has_shown.accepted
+  pub not_long : length line ≡ 8196 → ShowsLine limits style new has.lines has.entries line now after → ⊥
+  not_long size shows = no_long limits has.lines begun came has.passed (has.entries ++ shows.entry ∷ []) line size shows.has_shown.accepted.taken
 
-  pub stops_long : (ahead : List ℕ) (s : ShowStop) → length line ≡ 8196 → StopsAtLine limits style new has.passed.lines has.entries line now after s
+  pub stops_long : (ahead : List ℕ) (s : ShowStop) → length line ≡ 8196 → StopsAtLine limits style new has.lines has.entries line now after s
       → StopsWithin limits style first after came (bytes ++ ahead) s
   stops_long ahead (stop.Capture (capture.Line number fault)) size stops =
       let sizes : length begun + length bytes ≡ 8196 = sym (length-append begun bytes) ∙ ap (λ (bs : List ℕ). length bs) (sym is) ∙ size in
       let parts = last_of bytes (omega (arith, sizes, has.passed.short)) in (
-        subst (λ (bs : List ℕ). IsLine bs → length begun + length bs ≡ 8196 → IsStopAt limits has.passed.lines (begun ++ bs) (capture.Line number fault)
+        subst (λ (bs : List ℕ). IsLine bs → length begun + length bs ≡ 8196 → IsStopAt limits has.lines (begun ++ bs) (capture.Line number fault)
             → IsStopWithin limits came (bs ++ ahead) (capture.Line number fault)) (sym parts.2)
-            (stop_at_most limits view.capture begun came has.passed parts.0 parts.1 ahead (capture.Line number fault)) in_line sizes
-            (subst (λ (bs : List ℕ). IsStopAt limits has.passed.lines bs (capture.Line number fault)) is (stops.0, stops.1)),
+            (stop_at_most limits has.lines begun came has.passed parts.0 parts.1 ahead (capture.Line number fault)) in_line sizes
+            (subst (λ (bs : List ℕ). IsStopAt limits has.lines bs (capture.Line number fault)) is (stops.0, stops.1)),
         before_line (bytes ++ ahead) number stops.0 stops.2,
       )
   stops_long ahead (stop.Capture capture.Read) size stops = absurd stops
@@ -229,7 +194,7 @@ whole_part before after text works (inr partly) = let both : true ≡ false = sy
 module _ (limits : Limits) (style : Style) (first : Outgoing) (view : CaptureView) (begun : List ℕ) (now : Outgoing) (came : List ℕ)
     (has : HasPrinted limits style first view begun now came) (new : CaptureView) (line : List ℕ) (after : Outgoing) (piece : List ℕ) (k : ℕ)
     (ends : EndsLine begun line piece k) where
-  pub stops_in : (s : ShowStop) → StopsAtLine limits style new has.passed.lines has.entries line now after s → StopsWithin limits style first after came piece s
+  pub stops_in : (s : ShowStop) → StopsAtLine limits style new has.lines has.entries line now after s → StopsWithin limits style first after came piece s
   stops_in s stops =
       let ahead = drop k piece in
       elim ends.ends [
@@ -243,7 +208,7 @@ module _ (limits : Limits) (style : Style) (first : Outgoing) (view : CaptureVie
             (stops_long limits style first view begun now came has new line ends.bytes after ends.is ends.in_line ahead s long.1 stops)
       ]
 
-  pub printed_in : ShowsLine limits style new has.passed.lines has.entries line now after → after.failed ≡ false
+  pub printed_in : ShowsLine limits style new has.lines has.entries line now after → after.failed ≡ false
       → HasPrinted limits style first new [] after (came ++ take k piece)
   printed_in shows works =
       elim ends.ends [

@@ -14,12 +14,13 @@ use Rattle.wsn_rules.specs.ShownCapture.{of_stream, beyond, GivesTime, GivesNoTi
 use Rattle.wsn_rules.specs.ShownCapture.LineItem.{End, Comment}
 use Rattle.wsn_print.specs.ShownObjects.{Position}
 use Rattle.wsn_print.specs.Formats.{end_entry, comment_entry}
-use Rattle.wsn_capture.specs.Captures.{count_of}
+use Rattle.wsn_capture.specs.CaptureLines.{count_of}
 use Rattle.wsn_show.specs.declared.style.Style.{Style}
 use Rattle.wsn_show.specs.Styles.{styled_item, styled_items, styled_line_item}
 use Rattle.wsn_capture.specs.declared.line_fault.LineFault.TheVariants.{InputLimit}
 use Rattle.wsn_rules.proofs.Prefixes.{head_same}
 use Rattle.wsn_capture.proofs.OneEntry.{letter_of, front_is, mark_is, one_given}
+use Rattle.wsn_capture.specs.declared.capture_lines.CaptureLines.{CaptureLines}
 use Rattle.wsn_show.specs.declared.capture_view.CaptureView.{CaptureView}
 use Rattle.wsn_show.specs.declared.stream_view.StreamView.{StreamView}
 use Rattle.wsn_show.specs.StreamViews.{HasViewed}
@@ -93,14 +94,14 @@ module _ (limits : Limits) (style : Style) (given : List Entry) (old : CaptureVi
   }
 
   module _ (entry : Entry) (before after : Outgoing) where
-    pub shows_client : (new : StreamView) (digits bytes : List ℕ) → IsAcceptedText limits given (bytes_prefix Client ++ digits) entry → IsHex digits bytes
+    pub shows_client : (lines : CaptureLines) (new : StreamView) (digits bytes : List ℕ) → IsAcceptedText limits given (bytes_prefix Client ++ digits) entry → IsHex digits bytes
         → Takes Client limits style new (sent Client given) bytes (line_position old) before after
-        → ShowsText limits style old (record old { client = new }) given (bytes_prefix Client ++ digits) entry before after
-    shows_client new digits bytes accepted hex takes =
+        → ShowsText limits style old (record old { lines = lines; client = new }) given (bytes_prefix Client ++ digits) entry before after
+    shows_client lines new digits bytes accepted hex takes =
         let text = bytes_prefix Client ++ digits in
         let is : Bytes Client bytes ≡ entry = one_given text (Bytes Client bytes) entry (digits, refl, hex) accepted.gives in
         let items = of_stream Client (beyond (length (sent Client given)) takes.shown) in
-        subst (λ (e : Entry). ShowsText limits style old (record old { client = new }) given text e before after) is (record {
+        subst (λ (e : Entry). ShowsText limits style old (record old { lines = lines; client = new }) given text e before after) is (record {
           viewed = record {
             client = subst (HasViewed Client limits style new) (sym (sent_push Client given (Bytes Client bytes))) takes.viewed;
             server = subst (HasViewed Server limits style old.server) (sent_kept Server given (Bytes Client bytes) refl) viewed.server;
@@ -111,14 +112,14 @@ module _ (limits : Limits) (style : Style) (given : List Entry) (old : CaptureVi
           printed = subst (IsWrittenUpToFailure before after) (sym (of_stream_text style Client (line_position old) (beyond (length (sent Client given)) takes.shown))) takes.printed;
         })
 
-    pub shows_server : (new : StreamView) (digits bytes : List ℕ) → IsAcceptedText limits given (bytes_prefix Server ++ digits) entry → IsHex digits bytes
+    pub shows_server : (lines : CaptureLines) (new : StreamView) (digits bytes : List ℕ) → IsAcceptedText limits given (bytes_prefix Server ++ digits) entry → IsHex digits bytes
         → Takes Server limits style new (sent Server given) bytes (line_position old) before after
-        → ShowsText limits style old (record old { server = new }) given (bytes_prefix Server ++ digits) entry before after
-    shows_server new digits bytes accepted hex takes =
+        → ShowsText limits style old (record old { lines = lines; server = new }) given (bytes_prefix Server ++ digits) entry before after
+    shows_server lines new digits bytes accepted hex takes =
         let text = bytes_prefix Server ++ digits in
         let is : Bytes Server bytes ≡ entry = one_given text (Bytes Server bytes) entry (digits, refl, hex) accepted.gives in
         let items = of_stream Server (beyond (length (sent Server given)) takes.shown) in
-        subst (λ (e : Entry). ShowsText limits style old (record old { server = new }) given text e before after) is (record {
+        subst (λ (e : Entry). ShowsText limits style old (record old { lines = lines; server = new }) given text e before after) is (record {
           viewed = record {
             client = subst (HasViewed Client limits style old.client) (sent_kept Client given (Bytes Server bytes) refl) viewed.client;
             server = subst (HasViewed Server limits style new) (sym (sent_push Server given (Bytes Server bytes))) takes.viewed;
@@ -172,7 +173,7 @@ module _ (limits : Limits) (style : Style) (given : List Entry) (old : CaptureVi
 
     -- a comment
     pub shows_comment : (text : List ℕ) → IsAcceptedText limits given text entry → (text ≡ [] → ⊥) → GivesEntry text Nothing → GivesNoTime text
-        → IsWrittenUpToFailure before after (comment_entry style.format (count_of old.capture) text) → ShowsText limits style old old given text entry before after
+        → IsWrittenUpToFailure before after (comment_entry style.format (count_of old.lines) text) → ShowsText limits style old old given text entry before after
     shows_comment text accepted some nothing none printed =
         let is : Nothing ≡ entry = one_given text Nothing entry nothing accepted.gives in
         subst (λ (e : Entry). ShowsText limits style old old given text e before after) is (record {
@@ -180,7 +181,7 @@ module _ (limits : Limits) (style : Style) (given : List Entry) (old : CaptureVi
           time = inr (none, refl);
           items = Comment text ∷ [];
           shows = inl (some, none, refl);
-          printed = subst (IsWrittenUpToFailure before after) (sym (append-nil (comment_entry style.format (count_of old.capture) text))) printed;
+          printed = subst (IsWrittenUpToFailure before after) (sym (append-nil (comment_entry style.format (count_of old.lines) text))) printed;
         })
 
 -- ---- room

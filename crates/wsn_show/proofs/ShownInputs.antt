@@ -10,7 +10,8 @@ use Rattle.wsn_show.specs.declared.style.Style.{Style}
 use Rattle.wsn_show.specs.Styles.{styled_line}
 use Rattle.wsn_capture.specs.declared.line_fault.LineFault.{LineFault}
 use Rattle.wsn_capture.specs.declared.capture_stop.CaptureStop.TheVariants as capture
-use Rattle.wsn_capture.specs.Captures.{count_of}
+use Rattle.wsn_capture.specs.CaptureLines.{count_of}
+use Rattle.wsn_capture.proofs.AcceptedLines.{accepted_count}
 use Rattle.wsn_capture.specs.CaptureAnswers.{IsFaulty, IsPrompt}
 use Rattle.wsn_capture.specs.LineSplitters.{IsStopWithin}
 use Rattle.wsn_capture.proofs.SplitLines.{unfaulted}
@@ -36,13 +37,14 @@ begins limits style input output view begun none shown works = record {
   came = [];
   consumed = consumed_none input;
   printed = subst (λ (bs : List ℕ). HasPrinted limits style output view bs output []) (sym none) (record {
+    lines = [];
     passed = record {
-      lines = [];
       whole = refl;
       each = tt;
       in_line = tt;
       short = omega arith;
-      taken = shown.accepted;
+      given = [];
+      taken = tt;
       few = omega arith;
     };
     entries = [];
@@ -54,10 +56,10 @@ begins limits style input output view begun none shown works = record {
 }
 
 module _ (limits : Limits) (style : Style) (old mid new : Incoming) (first : Outgoing) (view : CaptureView) (begun : List ℕ) (now : Outgoing)
-    (read : HasReadOn limits style old mid first view begun now) (few : count_of view.capture ≤ 1000000) where
+    (read : HasReadOn limits style old mid first view begun now) (few : count_of view.lines ≤ 1000000) where
   bounded : length read.came ≤ 1000000 * 8196 + 8195
   bounded =
-      let lines = read.printed.passed.taken.count in let all = read.printed.passed.few in let short = read.printed.passed.short in
+      let lines = accepted_count limits view.lines read.printed.lines read.printed.entries read.printed.has_shown.accepted in let all = read.printed.passed.few in let short = read.printed.passed.short in
       omega (arith, lines, all, short, few)
 
   -- a read failed
@@ -67,9 +69,9 @@ module _ (limits : Limits) (style : Style) (old mid new : Incoming) (first : Out
     received = received_of (1000001 * 8196 + 4095) old new read.came (consumed_kept old mid new read.came read.consumed keeps) (omega (arith, bounded));
     answer = (
       failed,
-      unfaulted limits view.capture begun read.came read.printed.passed,
+      unfaulted limits read.printed.lines begun read.came read.printed.passed,
       (
-        read.printed.passed.lines,
+        read.printed.lines,
         begun,
         flat_map (styled_line style) read.printed.shown,
         read.printed.passed.each,

@@ -4,7 +4,7 @@ use Rattle.wsn_wire.specs.declared.endpoint.Role.{Role}
 use Rattle.wsn_wire.specs.declared.endpoint.Role.TheVariants.{Client, Server}
 use Rattle.wsn_io.specs.Transfer.{Outgoing, IsWrittenUpToFailure}
 use Rattle.wsn_rules.specs.Limits.{Limits}
-use Rattle.wsn_rules.specs.Entries.{Entry, GivesEntry, without_cr, end_mark, AreEntries}
+use Rattle.wsn_rules.specs.Entries.{Entry, GivesEntry, without_cr, end_mark}
 use Rattle.wsn_rules.specs.Entries.Entry.{Mark}
 use Rattle.wsn_rules.specs.Sides.{sent}
 use Rattle.wsn_rules.specs.ShownStream.{Item}
@@ -15,7 +15,7 @@ use Rattle.wsn_show.specs.declared.style.Style.{Style}
 use Rattle.wsn_show.specs.Styles.{styled_items, styled_line_item, styled_line}
 use Rattle.wsn_capture.specs.declared.line_fault.LineFault.{LineFault}
 use Rattle.wsn_capture.specs.LineFaults.{HasFault}
-use Rattle.wsn_capture.specs.Captures.{HasAcceptedLines, count_of}
+use Rattle.wsn_capture.specs.CaptureLines.{HasAccepted, HasNotedCloses, count_of}
 use Rattle.wsn_print.specs.ShownObjects.{Position}
 use Rattle.wsn_print.specs.ShownObjects.Position.{InLine, AtEnd}
 use Rattle.wsn_show.specs.StreamViews.{Viewed, HasViewed}
@@ -31,8 +31,8 @@ pub record AreViewed (limits : Limits) (style : Style) (view : CaptureView) (ent
 -- The view has shown these lines, which gave these entries, in this style.
 pub record HasShownLines (limits : Limits) (style : Style) (view : CaptureView) (lines : List (List ℕ))
     (entries : List Entry) : Type 0 where
-  pub accepted : HasAcceptedLines limits view.capture lines
-  pub given : AreEntries lines entries
+  pub accepted : HasAccepted limits view.lines lines entries
+  pub noted : HasNotedCloses limits view.lines entries
   pub viewed : AreViewed limits style view entries
   pub time : IsTimeAfter lines view.time
 
@@ -72,7 +72,7 @@ IsTimeNext before text after =
 
 -- Where the view's last line is: its number, and the time that holds.
 abbrev pub line_position : CaptureView → Position
-line_position view = InLine (count_of view.capture) view.time
+line_position view = InLine (count_of view.lines) view.time
 
 -- What a text with this entry shows was printed, with the time that held before it.
 pub record ShowsText (limits : Limits) (style : Style) (old new : CaptureView) (given : List Entry) (text : List ℕ)

@@ -9,7 +9,7 @@ use Rattle.wsn_show.specs.declared.style.Style.{Style}
 use Rattle.wsn_show.specs.Styles.{styled_line}
 use Rattle.wsn_capture.specs.declared.capture_stop.CaptureStop.TheVariants as capture
 use Rattle.wsn_capture.specs.LineFaults.{IsFaultAfter}
-use Rattle.wsn_capture.specs.Captures.{count_of}
+use Rattle.wsn_capture.specs.CaptureLines.{count_of}
 use Rattle.wsn_capture.specs.LineSplitters.{HasPassedOn, IsStopWithin}
 use Rattle.wsn_capture.specs.CaptureAnswers.{begun_most, IsFaulty, IsUnfaulted}
 use Rattle.wsn_show.specs.declared.capture_view.CaptureView.{CaptureView}
@@ -21,11 +21,12 @@ use Rattle.wsn_show.specs.Showing.{IsTextOfLines, BeginWithLines, IsTextOf, IsWh
 -- These bytes came: whole lines, which the view has shown, and a line that has begun. What the lines show was printed.
 pub record HasPrinted (limits : Limits) (style : Style) (first : Outgoing) (view : CaptureView) (begun : List ℕ)
     (now : Outgoing) (came : List ℕ) : Type 0 where
-  pub passed : HasPassedOn limits view.capture begun came
+  pub lines : List (List ℕ)
+  pub passed : HasPassedOn limits lines begun came
   pub entries : List Entry
-  pub has_shown : HasShownLines limits style view passed.lines entries
+  pub has_shown : HasShownLines limits style view lines entries
   pub shown : List ShownLine
-  pub are : AreShownAfter style.detail limits [] [] passed.lines entries shown
+  pub are : AreShownAfter style.detail limits [] [] lines entries shown
   pub printed : IsWritten first now (flat_map (styled_line style) shown)
 
 -- Some bytes came.
@@ -57,7 +58,7 @@ StopsWithin limits style first now came piece Write =
 
 -- the number of bytes that may still come
 abbrev pub bytes_ahead : CaptureView → List ℕ → ℕ
-bytes_ahead view begun = (1000001 - count_of view.capture) * begun_most - length begun
+bytes_ahead view begun = (1000001 - count_of view.lines) * begun_most - length begun
 
 -- ---- the end of the text
 

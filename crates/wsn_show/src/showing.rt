@@ -3,7 +3,7 @@ ghost use Rattle.wsn_io.specs.Transfer.{Outgoing};
 ghost use Rattle.wsn_rules.specs.Limits.{Limits};
 ghost use Rattle.wsn_rules.specs.Entries.{Entry};
 ghost use Rattle.wsn_rules.specs.TextLines.{AreLines};
-ghost use Rattle.wsn_capture.specs.Captures.{count_of};
+ghost use Rattle.wsn_capture.specs.CaptureLines.{count_of};
 ghost use Rattle.wsn_show.specs.declared.style.Style.{Style};
 ghost use Rattle.wsn_show.specs.CaptureViews.{HasShownLines, IsShowingLines, ShowsLine};
 ghost use Rattle.wsn_show.specs.Showing.{IsShown};
@@ -12,7 +12,7 @@ ghost use Rattle.wsn_show.specs.PassedLines.{HasPrinted, HasPrintedLines, IsPrin
 use crate::capture_view::CaptureView;
 use crate::style::Style;
 use std::io::{Read, Write};
-use wsn_capture::{BEGUN_MAX, CaptureStop, Lines, Report};
+use wsn_capture::{BEGUN_MAX, BYTES_MAX, CaptureStop, Lines, Report};
 use wsn_io::{Input, Output};
 use wsn_print::put_report_as;
 use wsn_rules::Limits;
@@ -48,26 +48,34 @@ pub fn show<R: Read, W: Write>(
 {
     let mut capture = CaptureView::new(limits, style);
     let mut lines = Lines::new();
+    let mut bytes = [0; BYTES_MAX];
     let mut piece = [0; CHUNK];
     loop {
         let Some(count) = input.read(&mut piece) else {
             return Err(ShowStop::Capture(CaptureStop::Read));
         };
         if count == 0 {
-            return end(&mut capture, lines.line(), output);
+            return end(&mut capture, lines.line(), &mut bytes, output);
         }
-        show_piece(&mut capture, &mut lines, &piece[..count], output)?;
+        show_piece(
+            &mut capture,
+            &mut lines,
+            &piece[..count],
+            &mut bytes,
+            output,
+        )?;
     }
 }
 
-/// Shows the next line.
+/// Shows the next line. The contents of `bytes` are then unspecified.
 fn show_line<W: Write>(
     view: &mut CaptureView,
     line: &[u8],
+    bytes: &mut [u8; BYTES_MAX],
     output: &mut Output<W>,
 ) -> Result<(), ShowStop>
     requires showing { IsShowingLines view.old }
-    requires few { count_of view.old.capture ≤ 1000000 }
+    requires few { count_of view.old.lines ≤ 1000000 }
     requires writable { output.old.failed ≡ false }
     ensures shown { OnOk result ((limits : Limits) (style : Style) (lines : List (List ℕ)) (entries : List Entry) →
         HasShownLines limits style view.old lines entries →
@@ -77,11 +85,11 @@ fn show_line<W: Write>(
         (entries : List Entry) →
         HasShownLines limits style view.old lines entries →
         StopsAtLine limits style view.new lines entries line.now output.old output.new stop) }
-    ensures count { OnOk result ((count_of view.new.capture ≡ count_of view.old.capture + 1)
-        × (count_of view.new.capture ≤ 1000000)) }
+    ensures count { OnOk result ((count_of view.new.lines ≡ count_of view.old.lines + 1)
+        × (count_of view.new.lines ≤ 1000000)) }
 {
     let number = view.count() + 1;
-    if let Err(fault) = view.line(line, output) {
+    if let Err(fault) = view.line(line, bytes, output) {
         return Err(ShowStop::Capture(CaptureStop::Line { number, fault }));
     }
     if output.failed() {
@@ -91,15 +99,16 @@ fn show_line<W: Write>(
 }
 
 /// Shows the lines that a piece of the text ends. The error `Line` is returned at the first byte at which a line isn't
-/// accepted, whatever follows.
+/// accepted, whatever follows. The contents of `bytes` are then unspecified.
 fn show_piece<W: Write>(
     view: &mut CaptureView,
     lines: &mut Lines,
     piece: &[u8],
+    bytes: &mut [u8; BYTES_MAX],
     output: &mut Output<W>,
 ) -> Result<(), ShowStop>
     requires printing { IsPrinting view.old lines.old output.old }
-    requires few { count_of view.old.capture ≤ 1000000 }
+    requires few { count_of view.old.lines ≤ 1000000 }
     requires short { length lines.old < BEGUN_MAX }
     requires writable { output.old.failed ≡ false }
     ensures printed { OnOk result ((limits : Limits) (style : Style) (first : Outgoing) (came : List ℕ) →
@@ -108,7 +117,7 @@ fn show_piece<W: Write>(
     ensures stop { IfErr result (λ stop. (limits : Limits) (style : Style) (first : Outgoing) (came : List ℕ) →
         HasPrinted limits style first view.old lines.old output.old came →
         StopsWithin limits style first output.new came piece.now stop) }
-    ensures few { OnOk result (count_of view.new.capture ≤ 1000000) }
+    ensures few { OnOk result (count_of view.new.lines ≤ 1000000) }
     ensures short { OnOk result (length lines.new < BEGUN_MAX) }
     ensures writable { OnOk result (output.new.failed ≡ false) }
     ensures left { OnOk result (bytes_ahead view.new lines.new + length piece.now
@@ -119,21 +128,22 @@ fn show_piece<W: Write>(
         let (count, ended) = lines.take(&piece[taken..]);
         taken += count;
         if ended {
-            show_line(view, lines.line(), output)?;
+            show_line(view, lines.line(), bytes, output)?;
             lines.clear();
         }
     }
     Ok(())
 }
 
-/// Shows the last line, unless it is empty, and then the end of the capture.
+/// Shows the last line, unless it is empty, and then the end of the capture. The contents of `bytes` are then unspecified.
 fn end<W: Write>(
     view: &mut CaptureView,
     last: &[u8],
+    bytes: &mut [u8; BYTES_MAX],
     output: &mut Output<W>,
 ) -> Result<Report, ShowStop>
     requires printing { IsPrinting view.old last.now output.old }
-    requires few { count_of view.old.capture ≤ 1000000 }
+    requires few { count_of view.old.lines ≤ 1000000 }
     requires writable { output.old.failed ≡ false }
     ensures { (limits : Limits) (style : Style) (first : Outgoing) (came : List ℕ) →
         HasPrinted limits style first view.old last.now output.old came →
@@ -142,7 +152,7 @@ fn end<W: Write>(
     if last.is_empty() {
         return put_end_of_capture(view, output);
     }
-    show_line(view, last, output)?;
+    show_line(view, last, bytes, output)?;
     put_end_of_capture(view, output)
 }
 

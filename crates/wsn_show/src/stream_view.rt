@@ -6,7 +6,6 @@ use std::marker::Model;
 use wsn_io::Output;
 use wsn_print::Origin;
 use wsn_rules::{Limits, Verdict};
-use wsn_scan::Scan;
 use wsn_wire::Role;
 
 /// Shows the stream that one endpoint sent, as its bytes come (RFC 6455 sections 5 and 7): prints each event with its
@@ -54,6 +53,7 @@ impl StreamView {
     ghost use Rattle.wsn_rules.specs.Verdict.{IsVerdict};
     ghost use Rattle.wsn_rules.specs.ShownStream.{Item, Shown, IsShownStream, IsLeftOver};
     ghost use Rattle.wsn_rules.specs.ShownCapture.{beyond};
+    ghost use Rattle.wsn_capture.specs.Closes.{IsClosedBy};
     ghost use Rattle.wsn_print.specs.ShownParts.{position_of};
     ghost use Rattle.wsn_show.specs.declared.style.Style.{Style};
     ghost use Rattle.wsn_show.specs.Styles.{styled_items};
@@ -103,11 +103,16 @@ impl StreamView {
         self.stream.verdict()
     }
 
-    /// A copy of the scan that has consumed the bytes that came, or those up to a refusal.
-    pub(crate) fn scan(&self) -> Scan
-        ensures { result ≡ self.now.scan }
+    /// Whether the stream has a Close.
+    #[tactic(none)]
+    pub fn has_close(&self) -> bool
+        ensures { (role : Role) (limits : Limits) (style : Style) (came : List ℕ) →
+            HasViewed role limits style self.now came → IsClosedBy role limits came result }
     {
-        self.stream.scan.copied()
+        match self.verdict() {
+            Verdict::Accepted(summary) => summary.close.is_some(),
+            Verdict::Cut(_) | Verdict::Refused(_) => false,
+        }
     }
 
     /// Consumes bytes, at most `room` of them, and prints what they complete, up to a failed write. `origin` is where

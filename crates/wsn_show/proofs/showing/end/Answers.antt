@@ -10,7 +10,7 @@ use Rattle.wsn_show.proofs.showing.end.Goals as goal
 pub returns-then-is_empty : goal.returns-then-is_empty
 returns-then-is_empty g c limits style first came has =
     let none = empty_text c.args.last.now (sym c.is_empty.ensures ∙ c.if-is_empty.true) in
-    c.put_end_of_capture.ensures limits style first came has.passed.lines
+    c.put_end_of_capture.ensures limits style first came has.lines
     (no_more_lines limits style first c.args.view.now c.args.last.now c.args.output.now came has none)
     (all_printed limits style first c.args.view.now c.args.last.now c.args.output.now came has)
 
@@ -21,7 +21,7 @@ returns-in_err-show_line g c limits style first came has =
     let some = some_text c.args.last.now (sym c.is_empty.ensures ∙ c.if-is_empty.false) in
     subst (λ (r : Result Report ShowStop). EndsShowing limits style first c.show_line.new.output came r) (sym is)
     (last_stops limits style first c.args.view.now c.args.last.now c.args.output.now came has some c.show_line.new.view c.show_line.new.output c.in_err-show_line.field-0.0
-    (c.in_err-show_line.ensures.stop limits style has.passed.lines has.entries has.has_shown))
+    (c.in_err-show_line.ensures.stop limits style has.lines has.entries has.has_shown))
 
 pub returns : goal.returns
 returns g c limits style first came has =
@@ -29,4 +29,4 @@ returns g c limits style first came has =
     c.put_end_of_capture-2.ensures limits style first came _
     (with_last limits style first c.args.view.now c.args.last.now c.args.output.now came has some c.show_line.new.view c.show_line.new.output)
     (last_printed limits style first c.args.view.now c.args.last.now c.args.output.now came has some c.show_line.new.view c.show_line.new.output
-    (c.in_ok-show_line.ensures.shown limits style has.passed.lines has.entries has.has_shown) c.in_ok-show_line.ensures.writable)
+    (c.in_ok-show_line.ensures.shown limits style has.lines has.entries has.has_shown) c.in_ok-show_line.ensures.writable)

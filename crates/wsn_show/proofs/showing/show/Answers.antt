@@ -1,4 +1,4 @@
-use Rattle.std.proofs.Common.{◌≡◌, ◌≤◌, ℕ, List, Result, Err, length, take, refl, sym, ap, ◌∙◌, subst, rules, arith, length-take-le}
+use Rattle.std.proofs.Common.{◌≡◌, ◌≤◌, ℕ, List, [], Result, Err, length, take, refl, sym, ap, ◌∙◌, subst, rules, arith, length-take-le}
 use Rattle.std.proofs.lemmas.Result.{err_from_is_err_and}
 use Rattle.wsn_io.specs.Transfer.{IsConsumed}
 use Rattle.wsn_io.proofs.Received.{consumed_read}
@@ -6,6 +6,7 @@ use Rattle.wsn_rules.specs.declared.report.Report.{Report}
 use Rattle.wsn_show.specs.declared.showing.ShowStop.{ShowStop}
 use Rattle.wsn_show.specs.Showing.{IsShown}
 use Rattle.wsn_show.specs.PassedLines.{HasPrinted, IsPrinting}
+use Rattle.wsn_capture.proofs.AcceptedLines.{accepted_count}
 use Rattle.wsn_show.proofs.ShownInputs.{begins, stopped, ended, goes_on, stops_here}
 use Rattle.wsn_show.proofs.showing.show.Goals as goal
 
@@ -15,7 +16,7 @@ loop-count-init g c = record {
       (c.new-capture.ensures) c.requires.writable;
   unfailed = c.requires.readable;
   writable = c.requires.writable;
-  few = let count = c.new-capture.ensures.accepted.count in omega (arith, count);
+  few = let count = accepted_count c.args.limits c.new-capture.result.lines [] [] c.new-capture.ensures.accepted in omega (arith, count);
   short = let empty = ap (λ (bs : List ℕ). length bs) c.new-lines.ensures in omega (arith, empty);
   size = refl;
 }

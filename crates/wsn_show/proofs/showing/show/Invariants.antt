@@ -1,5 +1,5 @@
 use Rattle.std.proofs.Common.{◌≡◌, ◌≤◌, ◌<◌, false, length}
-use Rattle.wsn_capture.specs.Captures.{count_of}
+use Rattle.wsn_capture.specs.CaptureLines.{count_of}
 use Rattle.wsn_show.specs.PassedLines.{bytes_ahead}
 use Rattle.wsn_show.proofs.ShownInputs.{HasReadOn}
 use Rattle.wsn_show.proofs.showing.show.Given as goal
@@ -10,7 +10,7 @@ invariant-loop-count g l = record {
   read : HasReadOn l.fn.limits l.fn.style l.fn.input l.input l.fn.output l.capture l.lines l.output;
   unfailed : l.input.failed ≡ false;
   writable : l.output.failed ≡ false;
-  few : count_of l.capture.capture ≤ 1000000;
+  few : count_of l.capture.lines ≤ 1000000;
   short : length l.lines < 8196;
   size : length l.piece ≡ 4096;
 }

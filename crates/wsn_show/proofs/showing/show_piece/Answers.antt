@@ -28,7 +28,7 @@ returns-in_err-show_line-clause-stop g c =
     stops_in_rest limits style first now came piece at c.in_err-show_line.field-0.0
     (stops_in limits style first c.loop-taken.view c.loop-taken.lines c.loop-taken.output (came ++ take at piece) has c.show_line.new.view c.line.result.now now
     (take (length piece - at) (drop at piece)) c.take-count.result.0 ends c.in_err-show_line.field-0.0
-    (c.in_err-show_line.ensures.stop limits style has.passed.lines has.entries has.has_shown)))
+    (c.in_err-show_line.ensures.stop limits style has.lines has.entries has.has_shown)))
 
 pub loop-taken-preserved-then-ended : goal.loop-taken-preserved-then-ended
 loop-taken-preserved-then-ended g c =
@@ -43,7 +43,7 @@ loop-taken-preserved-then-ended g c =
     λ limits style first came has.
     subst (λ (bs : List ℕ). HasPrinted limits style first c.show_line.new.view bs c.show_line.new.output (came ++ take c.take-count.result.0 rest)) (sym c.clear.ensures)
     (printed_in limits style first c.loop-taken.view c.loop-taken.lines c.loop-taken.output came has c.show_line.new.view c.line.result.now c.show_line.new.output
-    rest c.take-count.result.0 ends (c.in_ok-show_line.ensures.shown limits style has.passed.lines has.entries has.has_shown) c.in_ok-show_line.ensures.writable) in
+    rest c.take-count.result.0 ends (c.in_ok-show_line.ensures.shown limits style has.lines has.entries has.has_shown) c.in_ok-show_line.ensures.writable) in
     let some = inv.printing in
     let size : length rest ≡ length piece - at = ap (λ (bs : List ℕ). length bs) (rest_is piece at) ∙ length-drop at piece in
     let room = room_for_line c.loop-taken.lines c.line.result.now rest c.take-count.result.0 c.take-count.ensures.within.1 ends in

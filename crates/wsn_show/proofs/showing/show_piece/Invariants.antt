@@ -1,7 +1,7 @@
 use Rattle.std.proofs.Common.{◌≡◌, ◌≤◌, ◌<◌, ◌+◌, ◌-◌, ◌++◌, ℕ, List, false, length, take}
 use Rattle.wsn_io.specs.Transfer.{Outgoing}
 use Rattle.wsn_rules.specs.Limits.{Limits}
-use Rattle.wsn_capture.specs.Captures.{count_of}
+use Rattle.wsn_capture.specs.CaptureLines.{count_of}
 use Rattle.wsn_show.specs.declared.style.Style.{Style}
 use Rattle.wsn_show.specs.PassedLines.{HasPrinted, IsPrinting, bytes_ahead}
 use Rattle.wsn_show.proofs.showing.show_piece.Given as goal
@@ -11,7 +11,7 @@ abbrev pub invariant-loop-taken : goal.invariant-loop-taken
 invariant-loop-taken g l = record {
   within : l.taken ≤ length l.piece;
   printing : IsPrinting l.view l.lines l.output;
-  few : count_of l.view.capture ≤ 1000000;
+  few : count_of l.view.lines ≤ 1000000;
   short : length l.lines < 8196;
   writable : l.output.failed ≡ false;
   printed : (limits : Limits) (style : Style) (first : Outgoing) (came : List ℕ) → HasPrinted limits style first l.fn.view l.fn.lines l.fn.output came

@@ -7,7 +7,7 @@ use Rattle.wsn_show.specs.StreamViews.{HasViewed}
 use Rattle.wsn_show.specs.CaptureViews.{IsAcceptedText, line_position, ShowsText, ShowsMark}
 use Rattle.wsn_show.proofs.ShownEntries.{shows_mark}
 use Rattle.wsn_rules.specs.Entries.{end_mark}
-use Rattle.wsn_show.proofs.capture_view.LinesView.show_mark.Goals as goal
+use Rattle.wsn_show.proofs.capture_view.CaptureView.show_mark.Goals as goal
 
 pub returns-in-Client-clause-shows : goal.returns-in-Client-clause-shows
 returns-in-Client-clause-shows g c limits style given entry viewed accepted =

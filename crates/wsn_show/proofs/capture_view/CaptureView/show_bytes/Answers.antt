@@ -1,12 +1,14 @@
-use Rattle.std.proofs.Common.{◌++◌, sym, subst}
+use Rattle.std.proofs.Common.{[], ◌∷◌, ◌++◌, sym, subst}
 use Rattle.wsn_wire.specs.declared.endpoint.Role.{Role}
 use Rattle.wsn_wire.specs.declared.endpoint.Role.TheVariants.{Client, Server}
 use Rattle.wsn_rules.specs.Entries.{bytes_prefix}
+use Rattle.wsn_rules.specs.Entries.Entry.{Bytes}
 use Rattle.wsn_rules.specs.Sides.{sent}
+use Rattle.wsn_capture.specs.CaptureLines.{HasAccepted, HasNotedCloses}
 use Rattle.wsn_print.specs.ShownObjects.{Position}
 use Rattle.wsn_show.specs.CaptureViews.{IsAcceptedText, CanShow, ShowsText}
 use Rattle.wsn_show.proofs.ShownEntries.{Takes, shows_client, shows_server, room_for_client, room_for_server}
-use Rattle.wsn_show.proofs.capture_view.LinesView.show_bytes.Goals as goal
+use Rattle.wsn_show.proofs.capture_view.CaptureView.show_bytes.Goals as goal
 
 pub take-requires-clause-fits : goal.take-requires-clause-fits
 take-requires-clause-fits g c =
@@ -33,8 +35,8 @@ returns-in-Client-clause-shows g c digits hex limits style given entry viewed ac
       is_shown = printed.1;
       printed = printed.2;
     }) in
-    subst (λ (r : Role). ShowsText limits style old (record old { client = c.take.new.self }) given (bytes_prefix r ++ digits) entry c.args.output.now c.take.new.output) (sym is)
-    (shows_client limits style given old viewed entry c.args.output.now c.take.new.output c.take.new.self digits bytes here hex takes)
+    subst (λ (r : Role). ShowsText limits style old (record old { lines = c.note.new.self; client = c.take.new.self }) given (bytes_prefix r ++ digits) entry c.args.output.now c.take.new.output) (sym is)
+    (shows_client limits style given old viewed entry c.args.output.now c.take.new.output c.note.new.self c.take.new.self digits bytes here hex takes)
 
 pub returns-in-Server-clause-shows : goal.returns-in-Server-clause-shows
 returns-in-Server-clause-shows g c digits hex limits style given entry viewed accepted =
@@ -49,5 +51,23 @@ returns-in-Server-clause-shows g c digits hex limits style given entry viewed ac
       is_shown = printed.1;
       printed = printed.2;
     }) in
-    subst (λ (r : Role). ShowsText limits style old (record old { server = c.take-in-Server.new.self }) given (bytes_prefix r ++ digits) entry c.args.output.now c.take-in-Server.new.output) (sym is)
-    (shows_server limits style given old viewed entry c.args.output.now c.take-in-Server.new.output c.take-in-Server.new.self digits bytes here hex takes)
+    subst (λ (r : Role). ShowsText limits style old (record old { lines = c.note-in-Server.new.self; server = c.take-in-Server.new.self }) given (bytes_prefix r ++ digits) entry c.args.output.now c.take-in-Server.new.output) (sym is)
+    (shows_server limits style given old viewed entry c.args.output.now c.take-in-Server.new.output c.note-in-Server.new.self c.take-in-Server.new.self digits bytes here hex takes)
+
+pub returns-in-Client-clause-noted : goal.returns-in-Client-clause-noted
+returns-in-Client-clause-noted g c limits style lines given has noted viewed =
+    let old = c.args.self.now in
+    let bytes = c.args.bytes.now in
+    let came = c.take.ensures.viewed Client limits style (sent Client given) viewed.client in
+    let closed = c.has_close.ensures Client limits style (sent Client given ++ bytes) came in
+    subst (λ (r : Role). HasAccepted limits old.lines lines (given ++ Bytes r bytes ∷ []) → HasNotedCloses limits c.note.new.self (given ++ Bytes r bytes ∷ [])) (sym c.in-Client.is)
+    (λ accepted. c.note.ensures.noted limits lines given bytes accepted noted closed) has
+
+pub returns-in-Server-clause-noted : goal.returns-in-Server-clause-noted
+returns-in-Server-clause-noted g c limits style lines given has noted viewed =
+    let old = c.args.self.now in
+    let bytes = c.args.bytes.now in
+    let came = c.take-in-Server.ensures.viewed Server limits style (sent Server given) viewed.server in
+    let closed = c.has_close-in-Server.ensures Server limits style (sent Server given ++ bytes) came in
+    subst (λ (r : Role). HasAccepted limits old.lines lines (given ++ Bytes r bytes ∷ []) → HasNotedCloses limits c.note-in-Server.new.self (given ++ Bytes r bytes ∷ [])) (sym c.in-Server.is)
+    (λ accepted. c.note-in-Server.ensures.noted limits lines given bytes accepted noted closed) has
