@@ -10,7 +10,6 @@ pub mod Appended
 pub mod ObjectPieces
 pub mod FrameObjects
 pub mod PlacedItems
-pub mod LaidHeads
 pub mod DigitPairs
 pub mod PutParts
 pub mod MaskedLanes

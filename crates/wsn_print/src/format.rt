@@ -1,12 +1,10 @@
 ghost use Rattle.std.specs.Prelude.{◌≡◌, false};
 ghost use Rattle.wsn_io.specs.Stops.{IsWrittenOrStops};
-ghost use Rattle.wsn_print.specs.Formats.{verdict_text, head_text, report_text, comparison_text, end_entry, comment_entry};
+ghost use Rattle.wsn_print.specs.Formats.{verdict_text, report_text, comparison_text, end_entry, comment_entry};
 ghost use Rattle.wsn_print.specs.ShownParts.{position_of};
 
 use crate::comparisons::put_compared;
 use crate::entries::put_end;
-use crate::frame_objects::put_frame_object;
-use crate::heads::put_head;
 use crate::objects::{put_compared_object, put_report_object, put_verdict_object};
 use crate::quoted::put_comment;
 use crate::reports::put_report;
@@ -15,7 +13,7 @@ use crate::shown_objects::{put_comment_object, put_end_object};
 use crate::verdicts::put_verdict;
 use std::io::Write;
 use wsn_io::{Output, Stop};
-use wsn_rules::{Compared, HeadInfo, Report, Verdict};
+use wsn_rules::{Compared, Report, Verdict};
 
 /// The format of answers.
 #[derive(Clone, Copy, Debug, PartialEq, Eq)]
@@ -38,21 +36,6 @@ pub fn put_verdict_as<W: Write>(
     match format {
         Format::Text => put_verdict(to, verdict),
         Format::Json => put_verdict_object(to, verdict),
-    }
-}
-
-/// Writes a frame's head in a format. `Stop::Write` if the writer fails: a prefix of the line was written.
-pub fn put_head_as<W: Write>(
-    to: &mut Output<W>,
-    format: Format,
-    head: &HeadInfo,
-) -> Result<(), Stop>
-    requires { to.old.failed ≡ false }
-    ensures { IsWrittenOrStops to.old to.new (head_text format head.now) result }
-{
-    match format {
-        Format::Text => put_head(to, head),
-        Format::Json => put_frame_object(to, head),
     }
 }
 

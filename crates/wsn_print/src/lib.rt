@@ -1,11 +1,11 @@
 //! The lines of answers: verdicts, frames, comparisons, reports, faults and stops, and what is shown of a stream or a
 //! capture. Each has a definition in `specs/` and a function. (A plan's text is in `wsn_plan_text`.)
 //!
-//! [`put_verdict`] writes the line of a verdict, [`put_head`] the line of a frame, [`put_compared`] the line of a
-//! comparison, and [`put_report`] the seven lines of a report. The lines of faults and stops are built as a [`Line`], a
-//! text in a fixed array. [`put`], [`put_number`], [`put_key`] and [`put_form`] write the parts of a line where they
-//! stay, from the first to the last. [`HeadLines`] holds the lines of many frames, so that one write takes them. The
-//! `status_of_..` functions return the exit status of an answer. Nothing here allocates.
+//! [`put_verdict`] writes the line of a verdict, [`put_compared`] the line of a comparison, and [`put_report`] the seven
+//! lines of a report. [`HeadLines`] holds the lines or objects of frames, so that one write takes them. The lines of
+//! faults and stops are built as a [`Line`], a text in a fixed array. [`put`], [`put_number`], [`put_key`] and
+//! [`put_form`] write the parts of a line where they stay. The `status_of_..` functions return the exit status of an
+//! answer. Nothing here allocates.
 //!
 //! Of what is shown, [`put_event`] writes the line of a complete event, [`put_frame`] that of a frame,
 //! [`put_unfinished`] and [`put_unfinished_head`] that of what isn't complete, [`put_refused`] that of a refusal,
@@ -13,7 +13,7 @@
 //! They take only the part of a payload that a [`ViewLimit`] shows.
 //!
 //! Each answer and each entry can also be a JSON object in one line: `put_.._object` writes it, and [`put_verdict_as`],
-//! [`put_head_as`], [`put_report_as`] and [`put_compared_as`] write an answer in a [`Format`]. An [`EntryFront`] says
+//! [`put_report_as`] and [`put_compared_as`] write an answer in a [`Format`]. An [`EntryFront`] says
 //! where an entry is. [`put_difference_as`] writes a difference with the events that differ.
 //!
 //! `specs/Fields.antt` defines the fields of lines; `VerdictText`, `HeadText`, `ReportText`, `ComparisonText`,
@@ -37,7 +37,6 @@ mod heads;
 mod held_text;
 mod json;
 mod kept_digits;
-mod laid;
 mod line;
 mod object_views;
 mod objects;
@@ -62,11 +61,9 @@ pub use entries::{
 };
 pub use faults::{line_of_line_fault, line_of_recut_fault, line_of_unfinished};
 pub use format::{
-    Format, put_comment_as, put_compared_as, put_end_as, put_head_as, put_report_as, put_verdict_as,
+    Format, put_comment_as, put_compared_as, put_end_as, put_report_as, put_verdict_as,
 };
-pub use frame_objects::put_frame_object;
 pub use head_lines::HeadLines;
-pub use heads::put_head;
 pub use line::Line;
 pub use objects::{put_compared_object, put_report_object, put_verdict_object};
 pub use parts::{put, put_form, put_key, put_number};

@@ -2,7 +2,7 @@ ghost use Rattle.std.specs.Prelude.{◌≡◌, ℕ, ◌+◌, ◌*◌, ◌<◌, �
 ghost use Rattle.hex.specs.Hex.{encode_lower, lower_digits};
 ghost use Rattle.wsn_print.specs.Fields.{number_text, refusal_text, key_text, form_text};
 
-use crate::parts::{put, put_key, put_key_digits, put_number, put_slice};
+use crate::parts::{put, put_key, put_number, put_slice};
 use std::marker::Model;
 use wsn_rules::Refusal;
 use wsn_wire::Form;
@@ -138,14 +138,4 @@ impl<const MAX: usize> Line<MAX> {
         self.push(" ");
         self.push_number(u64::from(reason.code()));
     }
-}
-
-/// The eight lower-case hexadecimal digits of a key.
-#[inline(always)]
-pub(crate) fn key_digits(key: [u8; 4]) -> [u8; 8]
-    ensures { result ≡ encode_lower key }
-{
-    let mut digits = [0; 8];
-    put_key_digits(key, &mut digits, 0);
-    digits
 }

@@ -4,7 +4,7 @@ use crate::reading::expect_object;
 use std::alloc::Global;
 use std::process::Abort;
 use wsn_io::Output;
-use wsn_print::{Format, put_compared_as, put_head_as, put_report_as, put_verdict_as};
+use wsn_print::{Format, HeadLines, put_compared_as, put_report_as, put_verdict_as};
 use wsn_rules::{Compared, HeadInfo, Outcome, Refusal, Report, Side, Summary, Verdict};
 use wsn_wire::{Form, Op, Reason, Role};
 
@@ -102,10 +102,9 @@ fn a_refused_stream(rt: HostRuntime) {
 
 /// Fails unless the object of a head has these members.
 fn expect_frame(rt: &impl Abort, alloc: Global, head: &HeadInfo, members: &[(&str, &str)]) {
-    let mut line = Vec::new(alloc);
-    let put = put_head_as(&mut Output::new(&mut line), Format::Json, head);
-    assert_eq!(rt; put, Ok(()));
-    expect_object(rt, alloc, line.as_slice(), 7, members);
+    let mut lines = HeadLines::new();
+    lines.add(Format::Json, head);
+    expect_object(rt, alloc, lines.text(), 7, members);
 }
 
 #[test]

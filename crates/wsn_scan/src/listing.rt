@@ -6,8 +6,8 @@ use crate::refill::{CHUNK, refill};
 use crate::scan::{Empty, Scan};
 use std::io::{Read, Write};
 use wsn_io::{Stop, put_line};
-use wsn_print::{Format, HeadLines, put_head_as, put_verdict_as};
-use wsn_rules::{HeadInfo, Limits, Refusal, Verdict};
+use wsn_print::{Format, HeadLines, put_verdict_as};
+use wsn_rules::{Limits, Refusal, Verdict};
 use wsn_wire::{Input, Output, Role};
 
 /// Prints a line for each frame of an input and then the verdict's line, and returns the verdict (RFC 6455 section
@@ -106,7 +106,7 @@ fn list_chunk<W: Write>(
     while at < piece.len() {
         let (taken, notice) = scan.next(&mut piece[at..]);
         at += taken;
-        print(output, format, &notice);
+        print(&notice, lines, output, format);
         if let Notice::Refused(refusal) = notice {
             return Some(refusal);
         }
@@ -178,22 +178,21 @@ fn print_text<W: Write>(output: &mut Output<W>, text: &[u8])
     }
 }
 
-/// Prints the head that a notice reports, if it reports one and no write has failed.
+/// Prints the head that a notice reports, if it reports one and no write has failed. `lines` is empty before and
+/// afterwards.
 #[tactic(none)]
-fn print<W: Write>(output: &mut Output<W>, format: Format, notice: &Notice)
-    ensures { PrintsMore output.old output.new (heads_text format (heads_in notice.now)) }
+fn print<W: Write>(
+    notice: &Notice,
+    lines: &mut HeadLines,
+    output: &mut Output<W>,
+    format: Format,
+)
+    requires { lines.old ≡ [] }
+    ensures printed { PrintsMore output.old output.new (heads_text format (heads_in notice.now)) }
+    ensures none_held { lines.new ≡ [] }
 {
     if let Notice::Head(head) = notice {
-        print_head(output, format, head);
-    }
-}
-
-/// Prints a head if no write has failed.
-#[tactic(none)]
-fn print_head<W: Write>(output: &mut Output<W>, format: Format, head: &HeadInfo)
-    ensures { PrintsMore output.old output.new (heads_text format (head.now ∷ [])) }
-{
-    if !output.failed() {
-        let _stop = put_head_as(output, format, head);
+        lines.add(format, head);
+        print_lines(lines, output);
     }
 }

@@ -28,7 +28,7 @@ returns-in-Refused-clause-listed g c =
     let share = mid_of at (length c.loop-at.piece - at) c.loop-at.piece in
     let is : share ≡ drop at c.args.piece.now = share_is at c.loop-at.piece ∙ c.loop-at.invariant.kept in
     let more = c.loop-at.invariant.consumes.0 in
-    let printed = lines_on c.args.format c.args.output.now c.print.new.output more (heads_in c.next-taken.result.1) (c.print.ensures c.args.output.now (heads_text c.args.format more) c.loop-at.invariant.consumes.2) in
+    let printed = lines_on c.args.format c.args.output.now c.print.new.output more (heads_in c.next-taken.result.1) (c.print.ensures.printed c.args.output.now (heads_text c.args.format more) c.loop-at.invariant.consumes.2) in
     record {
       fed = record {
         count = at + taken;
@@ -82,7 +82,7 @@ loop-at-preserved g c =
     let next = fed_further c.args.scan.now c.loop-at.scan mid piece here c.next-taken.new.piece at taken fed c.next-taken.ensures.within c.next-taken.auto.piece c.next-taken.ensures.kept c.next-taken.ensures.room
     (λ in_bytes. (heads, takes_by c.loop-at.scan mid c.next-taken.result.1 share c.next-taken.new.piece taken c.next-taken.ensures.taken in_bytes)) in
     let first = takes_on c.args.scan.now c.loop-at.scan mid c.next-taken.result.1 piece share c.next-taken.new.piece at taken known.consumes.0 known.in_bytes is known.consumes.1 c.next-taken.ensures.taken in
-    let printed = lines_on c.args.format c.args.output.now c.print.new.output known.consumes.0 heads (c.print.ensures c.args.output.now (heads_text c.args.format known.consumes.0) known.consumes.2) in
+    let printed = lines_on c.args.format c.args.output.now c.print.new.output known.consumes.0 heads (c.print.ensures.printed c.args.output.now (heads_text c.args.format known.consumes.0) known.consumes.2) in
     let frames = c.list_frames-at in
     let left = mid_of (at + taken) (length there - (at + taken)) there in
     let left_is : left ≡ drop (at + taken) piece = share_is (at + taken) there ∙ next.kept in
@@ -156,3 +156,6 @@ returns-clause-none_held g c = search rules
 
 pub overflow_add-at-in-loop-at : goal.overflow_add-at-in-loop-at
 overflow_add-at-in-loop-at g c = search rules
+
+pub print-requires : goal.print-requires
+print-requires g c = c.loop-at.invariant.none_held
