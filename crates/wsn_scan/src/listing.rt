@@ -181,12 +181,7 @@ fn print_text<W: Write>(output: &mut Output<W>, text: &[u8])
 /// Prints the head that a notice reports, if it reports one and no write has failed. `lines` is empty before and
 /// afterwards.
 #[tactic(none)]
-fn print<W: Write>(
-    notice: &Notice,
-    lines: &mut HeadLines,
-    output: &mut Output<W>,
-    format: Format,
-)
+fn print<W: Write>(notice: &Notice, lines: &mut HeadLines, output: &mut Output<W>, format: Format)
     requires { lines.old ≡ [] }
     ensures printed { PrintsMore output.old output.new (heads_text format (heads_in notice.now)) }
     ensures none_held { lines.new ≡ [] }

@@ -1,5 +1,5 @@
-use Rattle.std.proofs.Common.{◌≡◌, ◌++◌, [], ◌∷◌, List, ℕ, sym, ap, ◌∙◌, append-nil, subst, rules}
-use Rattle.std.proofs.Common.{◌≤◌, length, arith}
+use Rattle.std.proofs.Common.{◌≡◌, ◌++◌, List, ℕ, sym, ap, ◌∙◌, append-nil, subst, rules}
+use Rattle.std.proofs.Common.{length, arith}
 use Rattle.wsn_scan.specs.declared.notice.Notice.{Notice}
 use Rattle.wsn_scan.specs.Feeding.{heads_in}
 use Rattle.wsn_print.specs.Formats.{head_text, heads_text}
