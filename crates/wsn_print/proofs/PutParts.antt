@@ -7,9 +7,9 @@ use Rattle.std.proofs.lemmas.Fmt.{decimal_digit}
 use Rattle.hex.specs.Hex.{encode_with, encode_lower}
 use Rattle.wsn_rules.specs.declared.head_info.HeadInfo.{HeadInfo}
 use Rattle.wsn_print.specs.Fields.{fin_word, op_word, key_text, form_text}
-use Rattle.wsn_print.specs.HeadText.{head_line}
+use Rattle.wsn_print.specs.HeadText.{head_fields, head_line}
 use Rattle.itoa.proofs.Decimal.{decimal_two, decimal_pair, decimal_four}
-use Rattle.wsn_print.proofs.Appended.{four}
+use Rattle.wsn_print.proofs.Appended.{two, four}
 
 -- The front of a block that was written whole.
 pub front_of_block : (at len : ℕ) (old new block : List ℕ) → at ≤ length old → len ≤ length block → take (at + length block) new ≡ take at old ++ block
@@ -60,17 +60,28 @@ last_four n = (48 + n % 10000 / 100 / 10) ∷ (48 + n % 10000 / 100 % 10) ∷ (4
 pub of_last_four : (n : ℕ) → 10000 ≤ n → n < 2 ^ 64 → decimal n ≡ decimal (n / 10000) ++ last_four n
 of_last_four n least most = decimal_four n least most
 
--- ---- the line of a head
+-- ---- the fields of a head
 
-one_after_another : (t0 place space fin op key len form end : List ℕ)
-    → ((((((t0 ++ place) ++ (space ++ fin)) ++ (space ++ op ++ space)) ++ key) ++ space) ++ len) ++ (form ++ end)
-    ≡ t0 ++ (place ++ space ++ (fin ++ space ++ op ++ space ++ key ++ space ++ len ++ form) ++ end)
-one_after_another t0 place space fin op key len form end = simp append_assoc
+one_after_another : (t0 space fin op key len form end : List ℕ)
+    → (((((t0 ++ (space ++ fin)) ++ (space ++ op ++ space)) ++ key) ++ space) ++ len) ++ (form ++ end)
+    ≡ t0 ++ (space ++ (fin ++ space ++ op ++ space ++ key ++ space ++ len ++ form) ++ end)
+one_after_another t0 space fin op key len form end = simp append_assoc
 
 -- The text after each part, from the first.
-pub line_of_parts : (h : HeadInfo) (t0 t1 t2 t3 t4 t5 t6 t7 : List ℕ) → t1 ≡ t0 ++ decimal h.place → t2 ≡ t1 ++ (codes " " ++ fin_word h.fin) → t3 ≡ t2 ++ (codes " " ++ op_word h.op ++ codes " ")
-    → t4 ≡ t3 ++ key_text h.key → t5 ≡ t4 ++ codes " " → t6 ≡ t5 ++ decimal h.len → t7 ≡ t6 ++ (form_text h.form ++ codes "\n") → t7 ≡ t0 ++ head_line h
-line_of_parts h t0 t1 t2 t3 t4 t5 t6 t7 is1 is2 is3 is4 is5 is6 is7 =
+pub fields_of_parts : (h : HeadInfo) (t0 t2 t3 t4 t5 t6 t7 : List ℕ) → t2 ≡ t0 ++ (codes " " ++ fin_word h.fin) → t3 ≡ t2 ++ (codes " " ++ op_word h.op ++ codes " ")
+    → t4 ≡ t3 ++ key_text h.key → t5 ≡ t4 ++ codes " " → t6 ≡ t5 ++ decimal h.len → t7 ≡ t6 ++ (form_text h.form ++ codes "\n") → t7 ≡ t0 ++ (codes " " ++ head_fields h ++ codes "\n")
+fields_of_parts h t0 t2 t3 t4 t5 t6 t7 is2 is3 is4 is5 is6 is7 =
     is7 ∙ ap (λ (t : List ℕ). t ++ (form_text h.form ++ codes "\n")) (is6 ∙ ap (λ (t : List ℕ). t ++ decimal h.len) (is5 ∙ ap (λ (t : List ℕ). t ++ codes " ") (is4 ∙ ap (λ (t : List ℕ). t ++ key_text h.key)
-    (is3 ∙ ap (λ (t : List ℕ). t ++ (codes " " ++ op_word h.op ++ codes " ")) (is2 ∙ ap (λ (t : List ℕ). t ++ (codes " " ++ fin_word h.fin)) is1)))))
-    ∙ one_after_another t0 (decimal h.place) (codes " ") (fin_word h.fin) (op_word h.op) (key_text h.key) (decimal h.len) (form_text h.form) (codes "\n")
+    (is3 ∙ ap (λ (t : List ℕ). t ++ (codes " " ++ op_word h.op ++ codes " ")) is2))))
+    ∙ one_after_another t0 (codes " ") (fin_word h.fin) (op_word h.op) (key_text h.key) (decimal h.len) (form_text h.form) (codes "\n")
+
+fields_whole : (t0 place space fin op key len form end : List ℕ)
+    → t0 ++ (place ++ (space ++ (fin ++ space ++ op ++ space ++ key ++ space ++ len ++ form) ++ end))
+    ≡ t0 ++ (place ++ space ++ (fin ++ space ++ op ++ space ++ key ++ space ++ len ++ form) ++ end)
+fields_whole t0 place space fin op key len form end = simp append_assoc
+
+-- The texts after the offset and the fields.
+pub line_of_parts : (h : HeadInfo) (t0 t1 t2 : List ℕ) → t1 ≡ t0 ++ decimal h.place → t2 ≡ t1 ++ (codes " " ++ head_fields h ++ codes "\n") → t2 ≡ t0 ++ head_line h
+line_of_parts h t0 t1 t2 is1 is2 =
+    two t0 t1 t2 (decimal h.place) (codes " " ++ head_fields h ++ codes "\n") is1 is2
+    ∙ fields_whole t0 (decimal h.place) (codes " ") (fin_word h.fin) (op_word h.op) (key_text h.key) (decimal h.len) (form_text h.form) (codes "\n")

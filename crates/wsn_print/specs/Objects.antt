@@ -67,12 +67,16 @@ form_word Shortest = codes "shortest"
 form_word Two = codes "two"
 form_word Eight = codes "eight"
 
--- The head of a frame: its offset, FIN, the opcode, the key, and the payload's length with its form.
+-- FIN, the opcode, the key, and the payload's length with its form.
+abbrev pub head_members : HeadInfo → List ℕ
+head_members h =
+    field (codes "fin") (boolean h.fin) ++ string_field (codes "opcode") (op_word h.op)
+    ++ field (codes "key") (key_value h.key) ++ number_field (codes "length") h.len
+    ++ string_field (codes "form") (form_word h.form)
+
+-- The head of a frame: its offset, and these members.
 abbrev pub head_fields : HeadInfo → List ℕ
-head_fields h =
-    number_field (codes "offset") h.place ++ field (codes "fin") (boolean h.fin)
-    ++ string_field (codes "opcode") (op_word h.op) ++ field (codes "key") (key_value h.key)
-    ++ number_field (codes "length") h.len ++ string_field (codes "form") (form_word h.form)
+head_fields h = number_field (codes "offset") h.place ++ head_members h
 
 -- A frame.
 abbrev pub frame_object : HeadInfo → List ℕ

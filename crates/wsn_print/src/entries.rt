@@ -7,7 +7,7 @@ ghost use Rattle.wsn_print.specs.HeadText.{head_fields};
 ghost use Rattle.wsn_print.specs.ShownText.{item_line, end_line, front_text, event_text, role_letter, time_text};
 ghost use Rattle.wsn_print.specs.ShownParts.{time_of, Represents, HasTextReason, IsFrontOf, IsEndOf, item_of_remainder, remainder_word};
 
-use crate::heads::{op_word, push_fields};
+use crate::heads::op_word;
 use crate::line::Line;
 use crate::shown::{Front, HeldBytes, Remainder, ShownEvent, ViewLimit};
 use crate::views::{put_end_view, put_event_view, put_hex_view, put_unfinished_view};
@@ -22,8 +22,8 @@ const OFFSET_MAX: usize = 22;
 /// The maximum length in bytes of the offset and the fields of an event, with three numbers of twenty digits.
 const EVENT_MAX: usize = 71;
 
-/// The maximum length in bytes of the fields of a head, with a number of twenty digits, and an LF.
-const FIELDS_MAX: usize = 48;
+/// The maximum length in bytes of the offset and the fields of a head, with two numbers of twenty digits, and an LF.
+const FRAME_MAX: usize = 70;
 
 /// The maximum length in bytes of the fields of an event that isn't complete, with three numbers of twenty digits.
 const UNFINISHED_MAX: usize = 88;
@@ -67,8 +67,8 @@ pub fn put_frame<W: Write>(
     ensures { (n : ℕ) → IsWrittenOrStops to.old to.new (item_line n front.now.role (time_of front.now)
         (Head (record head.now { place = front.now.offset }))) result }
 {
-    put_front(to, front)?;
-    put_line(to, line_of_fields(head).bytes())
+    put_endpoint(to, front)?;
+    put_line(to, line_of_frame(front.offset, head).bytes())
 }
 
 /// Writes the line of an event that isn't complete, such as `S - 17 unfinished binary 56 1 lacks 144 00ff00ff ..`: as
@@ -228,13 +228,14 @@ fn line_of_event(offset: u64, event: &ShownEvent<'_>) -> Line<EVENT_MAX>
     line
 }
 
-#[tactic(none)]
-fn line_of_fields(head: &HeadInfo) -> Line<FIELDS_MAX>
-    ensures { result ≡ head_fields head.now ++ codes "\n" }
+/// The offset and the fields of a frame.
+fn line_of_frame(offset: u64, head: &HeadInfo) -> Line<FRAME_MAX>
+    ensures { result ≡ codes " " ++ decimal offset ++ codes " " ++ head_fields head.now ++ codes "\n" }
 {
     let mut line = Line::new();
-    push_fields(&mut line, head);
-    line.push("\n");
+    line.push(" ");
+    line.push_number(offset);
+    line.push_fields(head);
     line
 }
 

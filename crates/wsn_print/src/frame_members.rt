@@ -1,8 +1,8 @@
 //! The members of a frame's object after its offset, written from the first to the last.
-ghost use Rattle.std.specs.Prelude.{◌≡◌, ◌+◌, ◌≤◌, ◌++◌, codes, decimal, length, take};
+ghost use Rattle.std.specs.Prelude.{◌≡◌, ◌+◌, ◌≤◌, ◌++◌, codes, length, take};
 ghost use Rattle.wsn_print.specs.Json.{field, string_field, boolean};
 ghost use Rattle.wsn_print.specs.Fields.{op_word};
-ghost use Rattle.wsn_print.specs.Objects.{key_value, form_word};
+ghost use Rattle.wsn_print.specs.Objects.{key_value, form_word, head_members};
 
 use crate::parts::{put, put_key_digits, put_number};
 use wsn_rules::HeadInfo;
@@ -14,11 +14,7 @@ use wsn_wire::{Form, Op};
 pub(crate) fn put_members(head: &HeadInfo, text: &mut [u8], at: usize) -> usize
     requires { at + 97 ≤ length text.old }
     ensures end { (at ≤ result) × (result ≤ at + 97) }
-    ensures written { take result text.new ≡ take at text.old ++ (field (codes "fin") (boolean head.now.fin)
-        ++ (string_field (codes "opcode") (op_word head.now.op)
-        ++ (field (codes "key") (key_value head.now.key)
-        ++ (codes ",\"length\":" ++ (decimal head.now.len
-        ++ (string_field (codes "form") (form_word head.now.form) ++ codes "}\n")))))) }
+    ensures written { take result text.new ≡ take at text.old ++ (head_members head.now ++ codes "}\n") }
 {
     let at = put_fin(head.fin, text, at);
     let at = put_opcode(head.op, text, at);

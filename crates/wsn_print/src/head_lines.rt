@@ -1,16 +1,15 @@
-ghost use Rattle.std.specs.Prelude.{◌≡◌, ℕ, ◌+◌, ◌<◌, ◌≤◌, true, false, List, [], ◌++◌, length, take, codes, decimal};
-ghost use Rattle.wsn_print.specs.Fields.{fin_word, op_word};
+ghost use Rattle.std.specs.Prelude.{◌≡◌, ℕ, ◌+◌, ◌<◌, ◌≤◌, true, false, List, [], ◌++◌, length, take, decimal};
 ghost use Rattle.wsn_print.specs.HeadText.{head_line};
 ghost use Rattle.wsn_print.specs.Formats.{head_text};
 ghost use Rattle.wsn_print.specs.Objects.{frame_object};
 
 use crate::format::Format;
 use crate::frame_members::put_members;
+use crate::heads::put_fields;
 use crate::kept_digits::KeptDigits;
-use crate::parts::{put, put_form, put_key, put_last_four, put_number};
+use crate::parts::{put, put_last_four, put_number};
 use std::marker::Model;
 use wsn_rules::HeadInfo;
-use wsn_wire::Op;
 
 /// The maximum length in bytes of the lines that are held.
 const HELD_MAX: usize = 4_096;
@@ -86,8 +85,8 @@ impl HeadLines {
     }
 }
 
-/// Writes the line of a head at `at`, and returns where it ends. Its parts are written from the first to the last, and
-/// the digits above the last four of its offset are kept for the next line.
+/// Writes the line of a head at `at`, and returns where it ends. The digits above the last four of its offset are kept for
+/// the next line.
 #[inline(always)]
 fn put_head_at(head: &HeadInfo, above: &mut KeptDigits, text: &mut [u8], at: usize) -> usize
     requires { at + 69 ≤ length text.old }
@@ -95,12 +94,7 @@ fn put_head_at(head: &HeadInfo, above: &mut KeptDigits, text: &mut [u8], at: usi
     ensures written { take result text.new ≡ take at text.old ++ head_line head.now }
 {
     let at = put_offset(head.place, above, text, at);
-    let at = put_fin(head.fin, text, at);
-    let at = put_op(head.op, text, at);
-    let at = put_key(head.key, text, at);
-    let at = put(*b" ", text, at);
-    let at = put_number(head.len, text, at);
-    put_form(head.form, text, at)
+    put_fields(head, text, at)
 }
 
 /// Writes the object of a head at `at`, and returns where it ends, as [`put_head_at`] writes its line.
@@ -127,35 +121,4 @@ fn put_offset(n: u64, above: &mut KeptDigits, text: &mut [u8], at: usize) -> usi
     }
     let at = above.put(n / 10_000, text, at);
     put_last_four(n, text, at)
-}
-
-/// Writes a space and whether a frame has FIN, at most 5 bytes, at `at`, and returns where they end.
-#[inline(always)]
-fn put_fin(fin: bool, text: &mut [u8], at: usize) -> usize
-    requires { at + 5 ≤ length text.old }
-    ensures end { (at ≤ result) × (result ≤ at + 5) }
-    ensures written { take result text.new ≡ take at text.old ++ (codes " " ++ fin_word fin) }
-{
-    if fin {
-        put(*b" fin", text, at)
-    } else {
-        put(*b" more", text, at)
-    }
-}
-
-/// Writes the word for an opcode between two spaces, at most 8 bytes, at `at`, and returns where they end.
-#[inline(always)]
-fn put_op(op: Op, text: &mut [u8], at: usize) -> usize
-    requires { at + 8 ≤ length text.old }
-    ensures end { (at ≤ result) × (result ≤ at + 8) }
-    ensures written { take result text.new ≡ take at text.old ++ (codes " " ++ op_word op ++ codes " ") }
-{
-    match op {
-        Op::Continue => put(*b" cont ", text, at),
-        Op::Text => put(*b" text ", text, at),
-        Op::Binary => put(*b" binary ", text, at),
-        Op::Close => put(*b" close ", text, at),
-        Op::Ping => put(*b" ping ", text, at),
-        Op::Pong => put(*b" pong ", text, at),
-    }
 }

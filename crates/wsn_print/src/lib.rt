@@ -31,7 +31,6 @@ mod escapes;
 mod faults;
 mod format;
 mod frame_members;
-mod frame_objects;
 mod head_lines;
 mod heads;
 mod held_text;

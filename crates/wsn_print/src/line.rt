@@ -1,11 +1,14 @@
-ghost use Rattle.std.specs.Prelude.{◌≡◌, ℕ, ◌+◌, ◌*◌, ◌<◌, ◌≤◌, List, [], ◌∷◌, ◌++◌, length, take, decimal, slice_index};
-ghost use Rattle.hex.specs.Hex.{encode_lower, lower_digits};
-ghost use Rattle.wsn_print.specs.Fields.{number_text, refusal_text, key_text, form_text};
+ghost use Rattle.std.specs.Prelude.{◌≡◌, ℕ, ◌+◌, ◌*◌, ◌≤◌, List, [], ◌∷◌, ◌++◌, length, take, codes, decimal};
+ghost use Rattle.hex.specs.Hex.{encode_lower};
+ghost use Rattle.wsn_print.specs.Fields.{number_text, refusal_text};
+ghost use Rattle.wsn_print.specs.HeadText.{head_fields};
+ghost use Rattle.wsn_print.specs.Objects.{head_members};
 
-use crate::parts::{put, put_key, put_number, put_slice};
+use crate::frame_members::put_members;
+use crate::heads::put_fields;
+use crate::parts::{put, put_number, put_slice};
 use std::marker::Model;
-use wsn_rules::Refusal;
-use wsn_wire::Form;
+use wsn_rules::{HeadInfo, Refusal};
 
 /// A line that is being built: its bytes so far, at most `MAX`.
 #[derive(Drop)]
@@ -75,16 +78,6 @@ impl<const MAX: usize> Line<MAX> {
         }
     }
 
-    /// Appends a key's four bytes as eight lower-case hexadecimal digits, or a dash for `None`.
-    #[inline(always)]
-    pub fn push_key(&mut self, key: Option<[u8; 4]>)
-        requires { length self.old + 8 ≤ MAX }
-        ensures text { self.new ≡ self.old ++ key_text key }
-        ensures len { length self.new ≤ length self.old + 8 }
-    {
-        self.len = put_key(key, &mut self.text, self.len);
-    }
-
     /// Appends a byte as it is.
     pub(crate) fn push_byte(&mut self, b: u8)
         requires { length self.old + 1 ≤ MAX }
@@ -107,20 +100,22 @@ impl<const MAX: usize> Line<MAX> {
         self.len = put_slice(digits, &mut self.text, self.len);
     }
 
-    /// Appends ` two` or ` eight` for a length in a longer encoding, and nothing for the shortest (RFC 6455 section
-    /// 5.2).
-    #[inline(always)]
-    #[tactic(none)]
-    pub fn push_form(&mut self, form: Form)
-        requires { length self.old + 6 ≤ MAX }
-        ensures text { self.new ≡ self.old ++ form_text form }
-        ensures len { length self.new ≤ length self.old + 6 }
+    /// Appends a space, the fields of a head and the LF, at most 49 bytes.
+    pub(crate) fn push_fields(&mut self, head: &HeadInfo)
+        requires { length self.old + 49 ≤ MAX }
+        ensures text { self.new ≡ self.old ++ (codes " " ++ head_fields head.now ++ codes "\n") }
+        ensures len { length self.new ≤ length self.old + 49 }
     {
-        match form {
-            Form::Shortest => {}
-            Form::Two => self.push(" two"),
-            Form::Eight => self.push(" eight"),
-        }
+        self.len = put_fields(head, &mut self.text, self.len);
+    }
+
+    /// Appends the members of a head after its offset, the end of the object and the LF, at most 97 bytes.
+    pub(crate) fn push_members(&mut self, head: &HeadInfo)
+        requires { length self.old + 97 ≤ MAX }
+        ensures text { self.new ≡ self.old ++ (head_members head.now ++ codes "}\n") }
+        ensures len { length self.new ≤ length self.old + 97 }
+    {
+        self.len = put_members(head, &mut self.text, self.len);
     }
 
     /// Appends a refusal: `refused`, the offset of the offending byte, the reason's word and the close code.

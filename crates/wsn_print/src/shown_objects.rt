@@ -9,7 +9,6 @@ ghost use Rattle.wsn_print.specs.ShownObjects.{item_object, item_fields, shown_f
 ghost use Rattle.wsn_print.specs.ShownParts.{position_of, Represents, HasTextReason, IsFrontOf, IsEndOf, item_of_remainder, remainder_word};
 
 use crate::entries::remainder_word;
-use crate::frame_objects::push_head;
 use crate::heads::op_word;
 use crate::json::{push_number_field, push_number_or_null_field, push_string_field};
 use crate::line::Line;
@@ -336,8 +335,8 @@ fn line_of_head(head: &HeadInfo) -> Line<FRAME_MAX>
     ensures { result ≡ head_fields head.now ++ codes "}\n" }
 {
     let mut line = Line::new();
-    push_head(&mut line, head);
-    line.push("}\n");
+    push_number_field(&mut line, "offset", head.place);
+    line.push_members(head);
     line
 }
 
