@@ -4,6 +4,7 @@ use Rattle.std.specs.Str.{IsUtf8}
 use Rattle.wsn_wire.specs.declared.opcode.Kind.TheVariants as kinds
 use Rattle.wsn_wire.specs.declared.opcode.Op.{Op}
 use Rattle.wsn_wire.specs.declared.opcode.Op.TheVariants as ops
+use Rattle.wsn_text.specs.Utf8.{BeginsText}
 use Rattle.wsn_rules.specs.Meaning.{MeantEvent, Message, Control}
 use Rattle.wsn_rules.specs.ShownStream.{Item}
 use Rattle.wsn_rules.specs.ShownStream.Item.{Event, Unread, Tail}
@@ -69,12 +70,22 @@ abbrev pub HasTextReason : MeantEvent → Type 0
 HasTextReason (Control ops.Close body) = IsUtf8 (drop 2 body)
 HasTextReason event = ⊤
 
+-- The payload of a text message is UTF-8, and so is the reason of a Close.
+abbrev pub HasText : MeantEvent → Type 0
+HasText (Message kinds.Text payload) = IsUtf8 payload
+HasText event = HasTextReason event
+
+-- The payload of an event that isn't complete begins UTF-8 if it is that of a text message.
+abbrev pub HasBegunText : MeantEvent → Type 0
+HasBegunText (Message kinds.Text payload) = BeginsText payload
+HasBegunText event = ⊤
+
 -- For a view of n bytes this stands for the event of these frames at this offset.
 pub record IsPlaced (n : ℕ) (placed : PlacedEvent) (offset : ℕ) (event : MeantEvent) (frames : ℕ) : Type 0 where
   pub offset_is : placed.offset ≡ offset
   pub frames_are : placed.event.frames ≡ frames
   pub represents : Represents n placed.event event
-  pub reason : HasTextReason event
+  pub text : HasText event
 
 -- For a view of n bytes this stands for the item, which is an event; or there is neither.
 abbrev pub StandsFor : ℕ → Option PlacedEvent → Option Item → Type 0
