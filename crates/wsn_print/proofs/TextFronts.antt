@@ -15,7 +15,7 @@ use Rattle.wsn_print.specs.ShownParts.{HoldsFirst}
 use Rattle.wsn_print.proofs.HeldViews.{take_held}
 use Rattle.wsn_print.proofs.VisibleTexts.{front_is_utf8}
 
-pub utf8_begins : (bytes : List ℕ) → IsUtf8 bytes → BeginsText bytes
+utf8_begins : (bytes : List ℕ) → IsUtf8 bytes → BeginsText bytes
 utf8_begins bytes utf8 = text_begins bytes ((text_is_utf8 bytes).1 utf8)
 
 printable_ascii : (bytes : List ℕ) → is_printable bytes ≡ true → IsAscii bytes

@@ -70,15 +70,15 @@ abbrev pub HasTextReason : MeantEvent → Type 0
 HasTextReason (Control ops.Close body) = IsUtf8 (drop 2 body)
 HasTextReason event = ⊤
 
--- The payload of a text message is UTF-8, and so is the reason of a Close.
-abbrev pub HasText : MeantEvent → Type 0
-HasText (Message kinds.Text payload) = IsUtf8 payload
-HasText event = HasTextReason event
+-- If the event is a text message, its payload begins UTF-8, as that of a whole message and of each part of one does.
+abbrev pub HasTextPayload : MeantEvent → Type 0
+HasTextPayload (Message kinds.Text payload) = BeginsText payload
+HasTextPayload event = ⊤
 
--- The payload of an event that isn't complete begins UTF-8 if it is that of a text message.
-abbrev pub HasBegunText : MeantEvent → Type 0
-HasBegunText (Message kinds.Text payload) = BeginsText payload
-HasBegunText event = ⊤
+-- What is shown of the event as a text is UTF-8: the payload of a message, and a Close's reason.
+abbrev pub HasText : MeantEvent → Type 0
+HasText (Message kind payload) = HasTextPayload (Message kind payload)
+HasText (Control op body) = HasTextReason (Control op body)
 
 -- For a view of n bytes this stands for the event of these frames at this offset.
 pub record IsPlaced (n : ℕ) (placed : PlacedEvent) (offset : ℕ) (event : MeantEvent) (frames : ℕ) : Type 0 where

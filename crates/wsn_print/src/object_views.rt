@@ -4,7 +4,7 @@ ghost use Rattle.wsn_io.specs.Stops.{IsWrittenOrStops};
 ghost use Rattle.wsn_text.specs.Utf8.{BeginsText};
 ghost use Rattle.wsn_rules.specs.Meaning.{MeantEvent};
 ghost use Rattle.wsn_print.specs.Json.{number_field};
-ghost use Rattle.wsn_print.specs.ShownParts.{Represents, HasText, HasBegunText, IsFrontOf, IsEndOf};
+ghost use Rattle.wsn_print.specs.ShownParts.{Represents, HasText, HasTextPayload, IsFrontOf, IsEndOf};
 ghost use Rattle.wsn_print.specs.ShownObjects.{truncated_field, text_fields, hex_field, hex_fields, end_fields, body_fields, reason_field, close_fields, event_view_fields, unfinished_view_fields};
 
 use crate::json::push_number_field;
@@ -21,7 +21,6 @@ use wsn_wire::Op;
 const CODE_MAX: usize = 28;
 
 /// Writes what is shown of a complete event's payload.
-#[tactic(auto, using(crate::proofs::TextFronts::utf8_begins))]
 pub(crate) fn put_event_view_fields<W: Write>(
     to: &mut Output<W>,
     view: ViewLimit,
@@ -47,7 +46,7 @@ pub(crate) fn put_unfinished_view_fields<W: Write>(
     event: &ShownEvent<'_>,
 ) -> Result<(), Stop>
     requires { to.old.failed ≡ false }
-    ensures text { (e : MeantEvent) → Represents view event.now e → HasBegunText e →
+    ensures text { (e : MeantEvent) → Represents view event.now e → HasTextPayload e →
         IsWrittenOrStops to.old to.new (unfinished_view_fields view e) result }
     ensures unfailed { IfOk result (λ done. to.new.failed ≡ false) }
 {

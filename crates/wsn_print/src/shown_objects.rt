@@ -6,7 +6,7 @@ ghost use Rattle.wsn_print.specs.Fields.{op_word};
 ghost use Rattle.wsn_print.specs.Json.{number_field, number_or_null_field, string_field};
 ghost use Rattle.wsn_print.specs.Objects.{head_fields, refusal_fields};
 ghost use Rattle.wsn_print.specs.ShownObjects.{item_object, item_fields, shown_frame_object, end_object, comment_object, object_front, event_fields, line_field, side_word, time_key, time_value};
-ghost use Rattle.wsn_print.specs.ShownParts.{position_of, Represents, HasText, HasBegunText, IsFrontOf, IsEndOf, item_of_remainder, remainder_word};
+ghost use Rattle.wsn_print.specs.ShownParts.{position_of, Represents, HasText, HasTextPayload, IsFrontOf, IsEndOf, item_of_remainder, remainder_word};
 
 use crate::entries::remainder_word;
 use crate::frame_objects::push_head;
@@ -86,7 +86,7 @@ pub fn put_unfinished_object<W: Write>(
     lacks: Option<u64>,
 ) -> Result<(), Stop>
     requires { to.old.failed ≡ false }
-    ensures { (e : MeantEvent) → Represents view event.now e → HasBegunText e →
+    ensures { (e : MeantEvent) → Represents view event.now e → HasTextPayload e →
         IsWrittenOrStops to.old to.new (item_object view front.now.role (position_of front.now.origin)
         (Unfinished front.now.offset e event.now.frames lacks)) result }
 {

@@ -5,7 +5,7 @@ ghost use Rattle.wsn_io.specs.Stops.{IsWrittenOrStops};
 ghost use Rattle.wsn_text.specs.Utf8.{BeginsText};
 ghost use Rattle.wsn_rules.specs.Meaning.{MeantEvent};
 ghost use Rattle.wsn_print.specs.ShownText.{left_out, text_view, hex_text, hex_view, end_view, is_printable, body_view, reason_text, close_view, event_view, unfinished_view};
-ghost use Rattle.wsn_print.specs.ShownParts.{Represents, HasText, HasBegunText, IsFrontOf, IsEndOf};
+ghost use Rattle.wsn_print.specs.ShownParts.{Represents, HasText, HasTextPayload, IsFrontOf, IsEndOf};
 
 use crate::line::Line;
 use crate::quoted::put_quoted;
@@ -25,7 +25,6 @@ const CHUNK_DIGITS: usize = 64;
 const CODE_MAX: usize = 20;
 
 /// Writes what is shown of a complete event's payload.
-#[tactic(auto, using(crate::proofs::TextFronts::utf8_begins))]
 pub(crate) fn put_event_view<W: Write>(
     to: &mut Output<W>,
     view: ViewLimit,
@@ -51,7 +50,7 @@ pub(crate) fn put_unfinished_view<W: Write>(
     event: &ShownEvent<'_>,
 ) -> Result<(), Stop>
     requires { to.old.failed ≡ false }
-    ensures text { (e : MeantEvent) → Represents view event.now e → HasBegunText e →
+    ensures text { (e : MeantEvent) → Represents view event.now e → HasTextPayload e →
         IsWrittenOrStops to.old to.new (unfinished_view view e) result }
     ensures unfailed { IfOk result (λ done. to.new.failed ≡ false) }
 {
