@@ -70,12 +70,12 @@ abbrev pub HasTextReason : MeantEvent → Type 0
 HasTextReason (Control ops.Close body) = IsUtf8 (drop 2 body)
 HasTextReason event = ⊤
 
--- If the event is a text message, its payload begins UTF-8, as that of a whole message and of each part of one does.
+-- If the event is a text message, its payload is UTF-8, or begins UTF-8 where it isn't complete.
 abbrev pub HasTextPayload : MeantEvent → Type 0
 HasTextPayload (Message kinds.Text payload) = BeginsText payload
 HasTextPayload event = ⊤
 
--- What is shown of the event as a text is UTF-8: the payload of a message, and a Close's reason.
+-- A text message has such a payload, and a Close such a reason.
 abbrev pub HasText : MeantEvent → Type 0
 HasText (Message kind payload) = HasTextPayload (Message kind payload)
 HasText (Control op body) = HasTextReason (Control op body)
