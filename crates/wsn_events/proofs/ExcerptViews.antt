@@ -4,12 +4,13 @@ use Rattle.std.specs.Prelude.{◌↔◌, IsOk, OnOk}
 use Rattle.std.proofs.lemmas.List.{take_all, take_min}
 use Rattle.wsn_wire.specs.declared.opcode.Op.{Op}
 use Rattle.wsn_wire.specs.declared.opcode.Op.TheVariants.{Continue, Text, Binary, Close, Ping, Pong}
+use Rattle.wsn_text.proofs.Prefixes.{text_begins}
 use Rattle.wsn_text.proofs.Scalars.{text_is_utf8}
 use Rattle.wsn_rules.specs.LawfulEvents.{IsLawfulEvent}
 use Rattle.wsn_rules.specs.Meaning.{MeantEvent}
 use Rattle.wsn_rules.proofs.MessageText.{reason_is_text}
 use Rattle.wsn_print.specs.declared.shown.PlacedEvent.{PlacedEvent}
-use Rattle.wsn_print.specs.ShownParts.{event_of, HoldsPayload, HasTextReason, IsPlaced}
+use Rattle.wsn_print.specs.ShownParts.{event_of, HoldsPayload, HasText, IsPlaced}
 use Rattle.wsn_print.proofs.HeldViews.{first_held}
 use Rattle.wsn_events.specs.declared.excerpt.Excerpt.{Excerpt}
 use Rattle.wsn_events.specs.Excerpts.{IsExcerptOf}
@@ -33,13 +34,13 @@ holds n Close payload held few lawful is = let short = lawful.size in is ∙ tak
 holds n Ping payload held few lawful is = let short = lawful.size in is ∙ take_all 4096 payload (omega (arith, short))
 holds n Pong payload held few lawful is = let short = lawful.size in is ∙ take_all 4096 payload (omega (arith, short))
 
-reason : (op : Op) (payload : List ℕ) → IsLawfulEvent (event_of op payload) → HasTextReason (event_of op payload)
-reason Close payload lawful = (text_is_utf8 (drop 2 payload)).0 (reason_is_text payload (lawful.close refl))
-reason Continue payload lawful = tt
-reason Text payload lawful = tt
-reason Binary payload lawful = tt
-reason Ping payload lawful = tt
-reason Pong payload lawful = tt
+text : (op : Op) (payload : List ℕ) → IsLawfulEvent (event_of op payload) → HasText (event_of op payload)
+text Text payload lawful = text_begins payload (lawful.utf8 refl)
+text Close payload lawful = (text_is_utf8 (drop 2 payload)).0 (reason_is_text payload (lawful.close refl))
+text Continue payload lawful = tt
+text Binary payload lawful = tt
+text Ping payload lawful = tt
+text Pong payload lawful = tt
 
 pub is_placed : (n offset : ℕ) (event : MeantEvent) (frames : ℕ) (excerpt : Excerpt) (placed : PlacedEvent) → n ≤ 4096 → IsExcerptOf excerpt offset event frames → placed.offset ≡ excerpt.offset
     → placed.event.op ≡ excerpt.op → placed.event.bytes ≡ excerpt.bytes → placed.event.frames ≡ excerpt.frames → placed.event.held.now ≡ excerpt.held.items → IsPlaced n placed offset event frames
@@ -54,5 +55,5 @@ is_placed n offset event frames excerpt placed few is at op bytes count held =
         size = bytes ∙ is.has.size;
         holds = subst (λ (e : MeantEvent). HoldsPayload n e placed.event.held.now) (sym is.is) (holds n is.op is.payload placed.event.held.now few lawful (held ∙ is.has.first));
       };
-      reason = subst HasTextReason (sym is.is) (reason is.op is.payload lawful);
+      text = subst HasText (sym is.is) (text is.op is.payload lawful);
     }

@@ -4,8 +4,7 @@ use Rattle.std.proofs.Math.Seq.{take-length, take-add}
 use Rattle.std.proofs.lemmas.List.{length-take, length-take-le, take-take, take-append-drop, take_all, take_min, drop-drop}
 use Rattle.std.proofs.lemmas.Bool.{cases_lt}
 use Rattle.std.proofs.lemmas.Bool.Decides.{nat_tests}
-use Rattle.std.proofs.lemmas.Str.{utf8_valid_len_le, utf8_valid_len-IsUtf8}
-use Rattle.std.specs.Str.{IsUtf8}
+use Rattle.std.proofs.lemmas.Str.{utf8_valid_len_le}
 use Rattle.std.specs.Str.Lossy.{utf8_valid_len}
 use Rattle.hex.specs.Hex.{encode_with, encode_lower, lower_digits}
 use Rattle.wsn_wire.specs.declared.endpoint.Role.{Role}
@@ -77,9 +76,6 @@ text_view_is n size all shown is_size is some =
 pub reason_is : (reason : List ℕ) → (length reason == 0) ≡ false → codes " " ++ quoted reason ≡ reason_text reason
 reason_is [] some = cc
 reason_is (b ∷ reason) some = refl
-
-pub whole_text : (text : List ℕ) → IsUtf8 text → take (utf8_valid_len text) text ≡ text
-whole_text text utf8 = ap (λ (k : ℕ). take k text) (utf8_valid_len-IsUtf8 text utf8) ∙ take-length text
 
 -- ---- hexadecimal
 

@@ -5,6 +5,7 @@ pub mod Gathered
 pub mod HeldViews
 pub mod JsonTexts
 pub mod VisibleTexts
+pub mod TextFronts
 pub mod VisibleLines
 pub mod Appended
 pub mod ObjectPieces

@@ -1,14 +1,11 @@
 -- Nothing of a line of `show` is hidden but the LF at its end.
-use Rattle.std.proofs.Common.{◌≡◌, ℕ, zero, suc, ◌+◌, ◌*◌, ◌-◌, ◌/◌, ◌%◌, ◌<◌, ◌≤◌, Bool, true, false, nat_lt, ◌==◌, ◌&&◌, if◌then◌else◌, Option, None, Some, List, [], ◌∷◌, ◌++◌, length, take, drop, codes, decimal, refl, sym, subst, inl, inr, append_assoc, arith}
+use Rattle.std.proofs.Common.{◌≡◌, ℕ, zero, suc, ◌+◌, ◌*◌, ◌-◌, ◌/◌, ◌%◌, ◌<◌, Bool, true, false, nat_lt, ◌==◌, ◌&&◌, if◌then◌else◌, Option, None, Some, List, [], ◌∷◌, ◌++◌, length, take, drop, codes, decimal, refl, sym, inl, inr, append_assoc, arith}
 use Rattle.std.specs.Fmt.{digits, digits_onto, digit_glyph}
 use Rattle.std.specs.List.{AllByRecursion}
 use Rattle.std.specs.Option.{IfSome}
 use Rattle.std.specs.Str.{IsUtf8}
-use Rattle.std.specs.Str.Lossy.{utf8_valid_len}
 use Rattle.std.proofs.lemmas.Bool.{cases_Bool, and_parts}
 use Rattle.std.proofs.lemmas.Bool.Decides.{nat_tests}
-use Rattle.std.proofs.lemmas.List.{length-take, take-take}
-use Rattle.std.proofs.lemmas.Str.{utf8_valid_len_le}
 use Rattle.hex.specs.Hex.{encode_lower}
 use Rattle.wsn_wire.specs.declared.endpoint.Role.{Role}
 use Rattle.wsn_wire.specs.declared.endpoint.Role.TheVariants.{Client, Server}
@@ -31,7 +28,8 @@ use Rattle.wsn_print.specs.HeadText.{head_fields}
 use Rattle.wsn_print.specs.ShownText.{is_from, quoted, left_out, text_part, text_view, hex_text, hex_view, end_view, is_printable, body_view, reason_text, close_view, event_view, unfinished_view, event_word, event_size, event_text, role_letter, time_text, front_text, offset_of, item_text, item_line, end_line, comment_line, comment_text}
 use Rattle.wsn_print.specs.ShownParts.{HasTextReason}
 use Rattle.wsn_print.specs.QuotedTexts.{IsAllVisible, bytes_in, payload_in, ShowsTextReason, IsVisibleLine}
-use Rattle.wsn_print.proofs.VisibleTexts.{IsPrintable, visible_append, visible_ascii, digits_printable, front_is_utf8, quoted_text_visible, comment_visible}
+use Rattle.wsn_print.proofs.TextFronts.{part_is_utf8}
+use Rattle.wsn_print.proofs.VisibleTexts.{IsPrintable, visible_append, visible_ascii, digits_printable, quoted_text_visible, comment_visible}
 
 -- A text of which nothing is hidden.
 record Seen (bytes : List ℕ) : Type 0 where
@@ -159,12 +157,6 @@ more shown all = seen_if (nat_lt shown all) (codes " ..") [] (word (codes " ..")
 
 in_quotes : (text : List ℕ) → IsUtf8 text → Seen (quoted text)
 in_quotes text utf8 = record { is = quoted_text_visible text utf8 }
-
-part_is_utf8 : (n : ℕ) (text : List ℕ) → IsUtf8 (take (text_part n text) text)
-unfolding utf8_valid_len
-part_is_utf8 n text =
-    let few : utf8_valid_len (take n text) ≤ n = omega (arith, utf8_valid_len_le (take n text), length-take n text) in
-    subst IsUtf8 (take-take (utf8_valid_len (take n text)) n text few) (front_is_utf8 (take n text) (length (take n text)))
 
 text_seen : (n : ℕ) (text : List ℕ) → Seen (text_view n text)
 text_seen n text =

@@ -4,6 +4,7 @@ use Rattle.std.specs.Str.{IsUtf8}
 use Rattle.wsn_wire.specs.declared.opcode.Kind.TheVariants as kinds
 use Rattle.wsn_wire.specs.declared.opcode.Op.{Op}
 use Rattle.wsn_wire.specs.declared.opcode.Op.TheVariants as ops
+use Rattle.wsn_text.specs.Utf8.{BeginsText}
 use Rattle.wsn_rules.specs.Meaning.{MeantEvent, Message, Control}
 use Rattle.wsn_rules.specs.ShownStream.{Item}
 use Rattle.wsn_rules.specs.ShownStream.Item.{Event, Unread, Tail}
@@ -69,12 +70,22 @@ abbrev pub HasTextReason : MeantEvent → Type 0
 HasTextReason (Control ops.Close body) = IsUtf8 (drop 2 body)
 HasTextReason event = ⊤
 
+-- If the event is a text message, its payload is UTF-8, or begins UTF-8 where it isn't complete.
+abbrev pub HasTextPayload : MeantEvent → Type 0
+HasTextPayload (Message kinds.Text payload) = BeginsText payload
+HasTextPayload event = ⊤
+
+-- A text message has such a payload, and a Close such a reason.
+abbrev pub HasText : MeantEvent → Type 0
+HasText (Message kind payload) = HasTextPayload (Message kind payload)
+HasText (Control op body) = HasTextReason (Control op body)
+
 -- For a view of n bytes this stands for the event of these frames at this offset.
 pub record IsPlaced (n : ℕ) (placed : PlacedEvent) (offset : ℕ) (event : MeantEvent) (frames : ℕ) : Type 0 where
   pub offset_is : placed.offset ≡ offset
   pub frames_are : placed.event.frames ≡ frames
   pub represents : Represents n placed.event event
-  pub reason : HasTextReason event
+  pub text : HasText event
 
 -- For a view of n bytes this stands for the item, which is an event; or there is neither.
 abbrev pub StandsFor : ℕ → Option PlacedEvent → Option Item → Type 0

@@ -5,7 +5,7 @@ ghost use Rattle.wsn_rules.specs.ShownStream.Item.{Event, Head, Unfinished, Unfi
 ghost use Rattle.wsn_print.specs.Fields.{number_text, refusal_text};
 ghost use Rattle.wsn_print.specs.HeadText.{head_fields};
 ghost use Rattle.wsn_print.specs.ShownText.{item_line, end_line, front_text, event_text, role_letter, time_text};
-ghost use Rattle.wsn_print.specs.ShownParts.{time_of, Represents, HasTextReason, IsFrontOf, IsEndOf, item_of_remainder, remainder_word};
+ghost use Rattle.wsn_print.specs.ShownParts.{time_of, Represents, HasText, HasTextPayload, IsFrontOf, IsEndOf, item_of_remainder, remainder_word};
 
 use crate::heads::op_word;
 use crate::line::Line;
@@ -43,7 +43,7 @@ pub fn put_event<W: Write>(
     event: &ShownEvent<'_>,
 ) -> Result<(), Stop>
     requires { to.old.failed ≡ false }
-    ensures text { (e : MeantEvent) → Represents view event.now e → HasTextReason e →
+    ensures text { (e : MeantEvent) → Represents view event.now e → HasText e →
         IsWrittenOrStops to.old to.new (item_line view front.now.role (time_of front.now)
         (Event front.now.offset e event.now.frames)) result }
     ensures unfailed { IfOk result (λ done. to.new.failed ≡ false) }
@@ -82,7 +82,7 @@ pub fn put_unfinished<W: Write>(
     lacks: Option<u64>,
 ) -> Result<(), Stop>
     requires { to.old.failed ≡ false }
-    ensures { (e : MeantEvent) → Represents view event.now e →
+    ensures { (e : MeantEvent) → Represents view event.now e → HasTextPayload e →
         IsWrittenOrStops to.old to.new (item_line view front.now.role (time_of front.now)
         (Unfinished front.now.offset e event.now.frames lacks)) result }
 {

@@ -1,18 +1,20 @@
 ghost use Rattle.std.specs.Prelude.{◌≡◌, ℕ, ◌/◌, ◌≤◌, false, List, IfOk, drop, length, codes};
 ghost use Rattle.std.specs.Str.{IsUtf8};
 ghost use Rattle.wsn_io.specs.Stops.{IsWrittenOrStops};
+ghost use Rattle.wsn_text.specs.Utf8.{BeginsText};
 ghost use Rattle.wsn_rules.specs.Meaning.{MeantEvent};
 ghost use Rattle.wsn_print.specs.Json.{number_field};
-ghost use Rattle.wsn_print.specs.ShownParts.{Represents, HasTextReason, IsFrontOf, IsEndOf};
+ghost use Rattle.wsn_print.specs.ShownParts.{Represents, HasText, HasTextPayload, IsFrontOf, IsEndOf};
 ghost use Rattle.wsn_print.specs.ShownObjects.{truncated_field, text_fields, hex_field, hex_fields, end_fields, body_fields, reason_field, close_fields, event_view_fields, unfinished_view_fields};
 
 use crate::json::push_number_field;
 use crate::line::Line;
 use crate::quoted::put_quoted;
 use crate::shown::{HeldBytes, ShownEvent, ViewLimit};
-use crate::views::{end_of, front_of, is_printable, payload_of, put_hex, whole_characters};
+use crate::views::{end_of, front_of, is_printable, payload_of, put_hex};
 use std::io::Write;
 use wsn_io::{Output, Stop, put_line};
+use wsn_text::whole_characters;
 use wsn_wire::Op;
 
 /// The space for a member with a close code in bytes.
@@ -25,7 +27,7 @@ pub(crate) fn put_event_view_fields<W: Write>(
     event: &ShownEvent<'_>,
 ) -> Result<(), Stop>
     requires { to.old.failed ≡ false }
-    ensures text { (e : MeantEvent) → Represents view event.now e → HasTextReason e →
+    ensures text { (e : MeantEvent) → Represents view event.now e → HasText e →
         IsWrittenOrStops to.old to.new (event_view_fields view e) result }
     ensures unfailed { IfOk result (λ done. to.new.failed ≡ false) }
 {
@@ -44,7 +46,7 @@ pub(crate) fn put_unfinished_view_fields<W: Write>(
     event: &ShownEvent<'_>,
 ) -> Result<(), Stop>
     requires { to.old.failed ≡ false }
-    ensures text { (e : MeantEvent) → Represents view event.now e →
+    ensures text { (e : MeantEvent) → Represents view event.now e → HasTextPayload e →
         IsWrittenOrStops to.old to.new (unfinished_view_fields view e) result }
     ensures unfailed { IfOk result (λ done. to.new.failed ≡ false) }
 {
@@ -61,7 +63,7 @@ fn put_text_fields<W: Write>(
     text: &HeldBytes<'_>,
 ) -> Result<(), Stop>
     requires { to.old.failed ≡ false }
-    ensures text { (all : List ℕ) → IsFrontOf view all text.now →
+    ensures text { (all : List ℕ) → IsFrontOf view all text.now → BeginsText all →
         IsWrittenOrStops to.old to.new (text_fields view all) result }
     ensures unfailed { IfOk result (λ done. to.new.failed ≡ false) }
 {
@@ -154,7 +156,7 @@ fn put_reason_field<W: Write>(to: &mut Output<W>, reason: &[u8]) -> Result<(), S
         return Ok(());
     }
     put_line(to, b",\"reason\":")?;
-    put_quoted(to, whole_characters(reason))
+    put_quoted(to, reason)
 }
 
 /// Writes bytes in hexadecimal.

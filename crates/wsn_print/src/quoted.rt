@@ -1,6 +1,6 @@
-ghost use Rattle.std.specs.Prelude.{◌≡◌, ℕ, List, ◌+◌, ◌++◌, ◌/◌, ◌%◌, [], ◌∷◌, ◌==◌, ◌<◌, ◌≤◌, false, true, length, if◌then◌else◌, flat_map, codes};
+ghost use Rattle.std.specs.Prelude.{◌≡◌, ℕ, List, ◌+◌, ◌++◌, ◌/◌, ◌%◌, [], ◌∷◌, ◌==◌, ◌<◌, ◌≤◌, false, true, length, if◌then◌else◌, flat_map, codes, IfOk};
 ghost use Rattle.hex.specs.Hex.{encode_lower};
-ghost use Rattle.std.specs.Str.{chars};
+ghost use Rattle.std.specs.Str.{chars, IsUtf8};
 ghost use Rattle.std.specs.Str.Lossy.{utf8_valid_len};
 ghost use Rattle.wsn_io.specs.Stops.{IsWrittenOrStops};
 ghost use Rattle.wsn_print.specs.ShownText.{is_hidden, unicode_escape, shown_character, quoted_character, quoted, shown_byte, comment_text, comment_line};
@@ -40,15 +40,16 @@ fn put_comment_text<W: Write>(to: &mut Output<W>, text: &[u8]) -> Result<(), Sto
     }
 }
 
-/// Writes a text between quotation marks.
+/// Writes a text in UTF-8 between quotation marks. It isn't validated.
 #[inline(never)]
-pub(crate) fn put_quoted<W: Write>(to: &mut Output<W>, text: &str) -> Result<(), Stop>
+pub(crate) fn put_quoted<W: Write>(to: &mut Output<W>, text: &[u8]) -> Result<(), Stop>
     requires { to.old.failed ≡ false }
-    ensures { IsWrittenOrStops to.old to.new (quoted text.now) result }
+    ensures text { IsUtf8 text.now → IsWrittenOrStops to.old to.new (quoted text.now) result }
+    ensures unfailed { IfOk result (λ done. to.new.failed ≡ false) }
 {
     let mut held = HeldText::new();
     held.add_mark();
-    hold_escaped(to, &mut held, Escapes::Quoted, text.as_bytes())?;
+    hold_escaped(to, &mut held, Escapes::Quoted, text)?;
     make_room(to, &mut held)?;
     held.add_mark();
     put_line(to, held.text())

@@ -117,7 +117,8 @@ pub struct ShownEvent<'a> {
     pub bytes: u64,
     /// The number of its frames.
     pub frames: u64,
-    /// The first bytes of its payload: of a message at least as many as a view shows, of a control all.
+    /// The first bytes of its payload: of a message at least as many as a view shows, of a control all. A text isn't
+    /// validated again.
     pub held: &'a [u8],
 }
 

@@ -6,7 +6,7 @@ ghost use Rattle.wsn_print.specs.Fields.{op_word};
 ghost use Rattle.wsn_print.specs.Json.{number_field, number_or_null_field, string_field};
 ghost use Rattle.wsn_print.specs.Objects.{head_fields, refusal_fields};
 ghost use Rattle.wsn_print.specs.ShownObjects.{item_object, item_fields, shown_frame_object, end_object, comment_object, object_front, event_fields, line_field, side_word, time_key, time_value};
-ghost use Rattle.wsn_print.specs.ShownParts.{position_of, Represents, HasTextReason, IsFrontOf, IsEndOf, item_of_remainder, remainder_word};
+ghost use Rattle.wsn_print.specs.ShownParts.{position_of, Represents, HasText, HasTextPayload, IsFrontOf, IsEndOf, item_of_remainder, remainder_word};
 
 use crate::entries::remainder_word;
 use crate::heads::op_word;
@@ -47,7 +47,7 @@ pub fn put_event_object<W: Write>(
     event: &ShownEvent<'_>,
 ) -> Result<(), Stop>
     requires { to.old.failed ≡ false }
-    ensures { (e : MeantEvent) → Represents view event.now e → HasTextReason e →
+    ensures { (e : MeantEvent) → Represents view event.now e → HasText e →
         IsWrittenOrStops to.old to.new (item_object view front.now.role (position_of front.now.origin)
         (Event front.now.offset e event.now.frames)) result }
 {
@@ -63,7 +63,7 @@ pub(crate) fn put_event_members<W: Write>(
     event: &ShownEvent<'_>,
 ) -> Result<(), Stop>
     requires { to.old.failed ≡ false }
-    ensures text { (e : MeantEvent) → Represents view event.now e → HasTextReason e →
+    ensures text { (e : MeantEvent) → Represents view event.now e → HasText e →
         IsWrittenOrStops to.old to.new (object_front (codes "event") front.now.role (position_of front.now.origin)
         ++ number_field (codes "offset") front.now.offset
         ++ item_fields view (Event front.now.offset e event.now.frames)) result }
@@ -85,7 +85,7 @@ pub fn put_unfinished_object<W: Write>(
     lacks: Option<u64>,
 ) -> Result<(), Stop>
     requires { to.old.failed ≡ false }
-    ensures { (e : MeantEvent) → Represents view event.now e →
+    ensures { (e : MeantEvent) → Represents view event.now e → HasTextPayload e →
         IsWrittenOrStops to.old to.new (item_object view front.now.role (position_of front.now.origin)
         (Unfinished front.now.offset e event.now.frames lacks)) result }
 {

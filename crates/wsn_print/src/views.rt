@@ -1,18 +1,18 @@
 ghost use Rattle.std.specs.Prelude.{◌≡◌, ℕ, ◌-◌, ◌/◌, ◌<◌, ◌≤◌, [], ◌++◌, ◌==◌, ◌&&◌, nat_lt, if◌then◌else◌, false, List, IfOk, take, drop, length, decimal, codes};
 ghost use Rattle.std.specs.Str.{IsUtf8};
-ghost use Rattle.std.specs.Str.Lossy.{utf8_valid_len};
 ghost use Rattle.hex.specs.Hex.{encode_lower};
 ghost use Rattle.wsn_io.specs.Stops.{IsWrittenOrStops};
+ghost use Rattle.wsn_text.specs.Utf8.{BeginsText};
 ghost use Rattle.wsn_rules.specs.Meaning.{MeantEvent};
 ghost use Rattle.wsn_print.specs.ShownText.{left_out, text_view, hex_text, hex_view, end_view, is_printable, body_view, reason_text, close_view, event_view, unfinished_view};
-ghost use Rattle.wsn_print.specs.ShownParts.{Represents, HasTextReason, IsFrontOf, IsEndOf};
+ghost use Rattle.wsn_print.specs.ShownParts.{Represents, HasText, HasTextPayload, IsFrontOf, IsEndOf};
 
 use crate::line::Line;
 use crate::quoted::put_quoted;
 use crate::shown::{HeldBytes, ShownEvent, ViewLimit};
 use std::io::Write;
-use std::str;
 use wsn_io::{Output, Stop, put_line};
+use wsn_text::whole_characters;
 use wsn_wire::Op;
 
 /// The most bytes that are encoded at once.
@@ -31,7 +31,7 @@ pub(crate) fn put_event_view<W: Write>(
     event: &ShownEvent<'_>,
 ) -> Result<(), Stop>
     requires { to.old.failed ≡ false }
-    ensures text { (e : MeantEvent) → Represents view event.now e → HasTextReason e →
+    ensures text { (e : MeantEvent) → Represents view event.now e → HasText e →
         IsWrittenOrStops to.old to.new (event_view view e) result }
     ensures unfailed { IfOk result (λ done. to.new.failed ≡ false) }
 {
@@ -50,7 +50,7 @@ pub(crate) fn put_unfinished_view<W: Write>(
     event: &ShownEvent<'_>,
 ) -> Result<(), Stop>
     requires { to.old.failed ≡ false }
-    ensures text { (e : MeantEvent) → Represents view event.now e →
+    ensures text { (e : MeantEvent) → Represents view event.now e → HasTextPayload e →
         IsWrittenOrStops to.old to.new (unfinished_view view e) result }
     ensures unfailed { IfOk result (λ done. to.new.failed ≡ false) }
 {
@@ -79,7 +79,7 @@ fn put_text_view<W: Write>(
     text: &HeldBytes<'_>,
 ) -> Result<(), Stop>
     requires { to.old.failed ≡ false }
-    ensures text { (all : List ℕ) → IsFrontOf view all text.now →
+    ensures text { (all : List ℕ) → IsFrontOf view all text.now → BeginsText all →
         IsWrittenOrStops to.old to.new (text_view view all) result }
     ensures unfailed { IfOk result (λ done. to.new.failed ≡ false) }
 {
@@ -191,18 +191,7 @@ fn put_reason<W: Write>(to: &mut Output<W>, reason: &[u8]) -> Result<(), Stop>
         return Ok(());
     }
     put_line(to, b" ")?;
-    put_quoted(to, whole_characters(reason))
-}
-
-/// The whole characters at the front.
-#[tactic(none)]
-pub(crate) fn whole_characters(bytes: &[u8]) -> &str
-    ensures { result.now ≡ take (utf8_valid_len bytes.now) bytes.now }
-{
-    match str::from_utf8(bytes) {
-        Ok(text) => text,
-        Err(error) => str::from_utf8(&bytes[..error.valid_up_to()]).unwrap_or(""),
-    }
+    put_quoted(to, reason)
 }
 
 /// Whether all bytes are printable ASCII characters.

@@ -6,7 +6,7 @@ use std::str;
 use wsn_io::Output;
 use wsn_print::{
     EntryFront, Front, Origin, ShownEvent, ViewLimit, put_comment, put_comment_object, put_event,
-    put_event_object,
+    put_event_object, put_unfinished, put_unfinished_object,
 };
 use wsn_wire::{Op, Role};
 
@@ -183,6 +183,60 @@ fn expect_view(rt: &impl Abort, alloc: Global, text: &str, most: u16) {
     );
 }
 
+/// Fails unless the first bytes of a message's text are written as they should be while no more have come, in words and
+/// as an object.
+fn expect_unfinished(rt: &impl Abort, alloc: Global, text: &str, count: usize) {
+    let view = ViewLimit::new(4_096).expect(rt, "a view of at most 4096 bytes");
+    let bytes = text.as_bytes().get(..count).expect(rt, "so many bytes");
+    let shown = whole(bytes);
+    let event = ShownEvent {
+        op: Op::Text,
+        bytes: bytes.len() as u64,
+        frames: 1,
+        held: bytes,
+    };
+    let is_cut = shown.len() < bytes.len();
+    let front = EntryFront {
+        role: Role::Server,
+        origin: Origin::Stream,
+        offset: 0,
+    };
+    let mut line = Vec::new(alloc);
+    assert_eq!(rt;
+        put_unfinished(
+            &mut Output::new(&mut line),
+            view,
+            &front.of_line(),
+            &event,
+            Some(7)
+        ),
+        Ok(())
+    );
+    let end: &[u8] = if is_cut { b"\" ..\n" } else { b"\"\n" };
+    let expected = written(alloc, b" lacks 7 \"", shown, true, end).expect(rt, "memory");
+    assert!(rt;
+        line.as_slice().ends_with(expected.as_slice()),
+        "{text} {count}"
+    );
+    let mut object = Vec::new(alloc);
+    assert_eq!(rt;
+        put_unfinished_object(&mut Output::new(&mut object), view, &front, &event, Some(7)),
+        Ok(())
+    );
+    let end: &[u8] = if is_cut {
+        b"\",\"truncated\":true}\n"
+    } else {
+        b"\"}\n"
+    };
+    let expected = written(alloc, b",\"lacks\":7,\"text\":\"", shown, true, end).expect(
+        rt, "memory",
+    );
+    assert!(rt;
+        object.as_slice().ends_with(expected.as_slice()),
+        "{text} {count}"
+    );
+}
+
 /// A text of `before` letters, a character, and 40 letters less.
 fn text_with(alloc: Global, before: usize, c: char) -> Result<String, AllocError> {
     let mut text = String::new(alloc);
@@ -220,6 +274,9 @@ fn all_characters_cut_at_each_byte(rt: HostRuntime) {
     for most in 0..=150u16 {
         expect_view(&rt, alloc, text.as_str(), most);
     }
+    for count in 0..=text.len() {
+        expect_unfinished(&rt, alloc, text.as_str(), count);
+    }
 }
 
 /// Random texts of up to 99 characters, of which half are letters.
@@ -238,5 +295,26 @@ fn random_texts(rt: HostRuntime) {
         expect_comment(&rt, alloc, text.as_str());
         expect_view(&rt, alloc, text.as_str(), 4_096);
         expect_view(&rt, alloc, text.as_str(), 48);
+    }
+}
+
+/// Random texts of up to 19 characters, cut after each byte.
+#[test]
+fn random_texts_cut_at_each_byte(rt: HostRuntime) {
+    let alloc = rt.alloc();
+    let mut state = 2u32;
+    for round in 0..400usize {
+        let mut text = String::new(alloc);
+        for _ in 0..round % 20 {
+            state = state.wrapping_mul(1_664_525).wrapping_add(1_013_904_223);
+            let which = (state >> 16) as usize % 60;
+            text.push(CHARACTERS.get(which).copied().unwrap_or('a'))
+                .expect(&rt, "memory");
+        }
+        for count in 0..=text.len() {
+            let most = u16::try_from(count).expect(&rt, "a short text");
+            expect_view(&rt, alloc, text.as_str(), most);
+            expect_unfinished(&rt, alloc, text.as_str(), count);
+        }
     }
 }

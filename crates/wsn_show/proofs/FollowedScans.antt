@@ -1,14 +1,16 @@
 -- What one call of a scan says of the frames that it follows.
-use Rattle.std.proofs.Common.{◌≡◌, ℕ, ◌+◌, ◌<◌, ◌≤◌, ◌^◌, ◌⊎◌, Bool, Option, None, Some, List, [], ◌∷◌, ◌++◌, length, take, inl, inr, true, refl, sym, ap, ◌∙◌, subst, arith, append_assoc, append-nil, length-append}
+use Rattle.std.proofs.Common.{◌≡◌, ℕ, ◌+◌, ◌<◌, ◌≤◌, ◌^◌, ◌⊎◌, Bool, false, Option, None, Some, List, [], ◌∷◌, ◌++◌, length, take, inl, inr, true, refl, sym, ap, ◌∙◌, subst, arith, append_assoc, append-nil, length-append}
 use Rattle.std.proofs.lemmas.List.{length-take-le}
 use Rattle.wsn_wire.specs.declared.endpoint.Role.{Role}
-use Rattle.wsn_wire.specs.Frame.{Frame, head_bytes, wire_payload, stream}
+use Rattle.wsn_wire.specs.Frame.{Frame, head_bytes, is_control, wire_payload, stream}
 use Rattle.wsn_rules.specs.declared.head_info.HeadInfo.{HeadInfo}
 use Rattle.wsn_rules.specs.declared.verdict.Refusal.{Refusal}
 use Rattle.wsn_rules.specs.Limits.{Limits}
 use Rattle.wsn_rules.specs.Accepted.{HasNoClose, EndsWithClose}
+use Rattle.wsn_rules.specs.Group.{unfinished}
 use Rattle.wsn_rules.specs.Heads.{info_of, heads_of, BeginsWithHead, IsBegun, AreHeads}
 use Rattle.wsn_rules.specs.Lawful.{IsLawful}
+use Rattle.wsn_rules.specs.ShownStream.{frame_so_far}
 use Rattle.wsn_rules.specs.Verdict.{IsRefused}
 use Rattle.wsn_rules.proofs.Prefixes.{append_cancel, head_same}
 use Rattle.wsn_frame.specs.Payloads.{unmasked_by}
@@ -27,6 +29,8 @@ use Rattle.wsn_scan.proofs.FramesReported.{IsSaidAt, said, settled, same_by_ends
 use Rattle.wsn_scan.proofs.HeadsSoFar.{heads_reported}
 use Rattle.wsn_scan.proofs.PayloadPrefixes.{all_so_far}
 use Rattle.wsn_scan.proofs.Unrefused.{unrefused, place_after}
+use Rattle.wsn_show.specs.StreamParts.{BeginsIfText}
+use Rattle.wsn_show.proofs.TextsSoFar.{text_so_far}
 use Rattle.wsn_show.specs.FollowedScans.{HasFollowed, IsSettled, IsCall}
 
 pub wire_payload_is : (key : Option (List ℕ)) (payload : List ℕ) → wire_payload key payload ≡ unmasked_by key 0 payload
@@ -57,6 +61,7 @@ module _ (role : Role) (limits : Limits) where
       pub payload_is : payload ≡ wire_payload info.key begins.following
       pub within : length payload ≤ info.len
       pub size : length begins.following ≡ length payload
+      pub text : is_control info.op ≡ false → BeginsIfText (unfinished done ++ frame_so_far info payload ∷ [])
 
     module _ (same : done ≡ h.frames) where
       rest_is : (other : List ℕ) → came ≡ stream h.frames ++ other → other ≡ rest
@@ -80,10 +85,17 @@ module _ (role : Role) (limits : Limits) where
           has : h.reported.payload ≡ payload
           has = subst (λ (p : Position). HasPayload p h.reported.payload) is h.ended.payload
 
+          heads_are : h.reported.heads ≡ heads_of h.frames ++ info ∷ []
+          heads_are = h.ended.heads ∙ ap (λ (fs : List Frame). heads_of fs ++ begun_at at) same ∙ ap (λ (hs : List HeadInfo). heads_of h.frames ++ hs) begun
+
           so_far : IsPayloadSoFar h.frames came info h.reported.payload
-          so_far =
-              all_so_far role limits scan came h.frames h.since h.reported info h.has_scanned h.unrefused
-              (h.ended.heads ∙ ap (λ (fs : List Frame). heads_of fs ++ begun_at at) same ∙ ap (λ (hs : List HeadInfo). heads_of h.frames ++ hs) begun)
+          so_far = all_so_far role limits scan came h.frames h.since h.reported info h.has_scanned h.unrefused heads_are
+
+          text : is_control info.op ≡ false → BeginsIfText (unfinished done ++ frame_so_far info payload ∷ [])
+          text other =
+              subst (λ (fs : List Frame). BeginsIfText (unfinished fs ++ frame_so_far info payload ∷ [])) (sym same)
+              (subst (λ (bs : List ℕ). BeginsIfText (unfinished h.frames ++ frame_so_far info bs ∷ [])) has
+              (text_so_far role limits scan came h.frames h.since h.reported info h.has_scanned h.unrefused heads_are other))
 
           wire_is : (b : BeginsWithHead role limits done rest info) → so_far.wire ≡ b.following
           wire_is b =
@@ -102,6 +114,7 @@ module _ (role : Role) (limits : Limits) where
                 payload_is = is ∙ sym (wire_payload_is info.key b.following);
                 within = omega (arith, size, fits, ap (λ (bs : List ℕ). length bs) wire);
                 size = sym size;
+                text = text;
               }
 
           by : IsBegun role limits done rest (begun_at at) → HasBegun info payload

@@ -23,7 +23,7 @@ use Rattle.wsn_show.specs.declared.first_bytes.FirstBytes.{FirstBytes}
 use Rattle.wsn_show.specs.declared.evidence.Evidence.{Evidence}
 use Rattle.wsn_show.specs.declared.message_so_far.MessageSoFar.{MessageSoFar}
 use Rattle.wsn_show.specs.HeldParts.{HasFirst, IsEvidence}
-use Rattle.wsn_show.specs.StreamParts.{KeepsMessage, HasJoined}
+use Rattle.wsn_show.specs.StreamParts.{BeginsIfText, KeepsMessage, HasJoined}
 
 -- ---- bytes
 
@@ -152,6 +152,9 @@ module _ (role : Role) (limits : Limits) (fs : List Frame) (f : Frame) (lawful :
       some : (group : List Frame) → group ++ f ∷ [] ≢ []
       some [] is = cc
       some (g ∷ group) is = cc
+
+  pub text_of_data : is_control f.op ≡ false → BeginsIfText (unfinished fs ++ f ∷ [])
+  text_of_data other = (law.group (ap not other)).begins
 
   pub control_short : is_control f.op ≡ true → length f.payload ≤ 125
   control_short control = (law.frame.encoded.control control).short

@@ -255,6 +255,7 @@ module _ (detail : Detail) (role : Role) (limits : Limits) (scan : Scan) (parts 
           begun.begins.place,
           λ control. let short = begun_control role limits fs frames.rest info begun.begins control in omega (arith, short, within),
           λ other. begun_kind role limits fs frames.rest info payload h.ended.lawful begun.begins other,
+          begun.text,
         )
 
     with_verdict : (verdict : Verdict) → IsVerdict role limits came h.frames verdict → IsVerdict role limits came fs verdict

@@ -20,7 +20,7 @@ use Rattle.wsn_rules.proofs.MessageText.{text_of_push}
 use Rattle.wsn_rules.proofs.OpenOffsets.{offset_of_none, none_open}
 use Rattle.wsn_rules.proofs.Prefixes.{append_cancel}
 use Rattle.wsn_print.specs.declared.shown.ShownEvent.{ShownEvent}
-use Rattle.wsn_print.specs.ShownParts.{event_of, Represents, HasTextReason}
+use Rattle.wsn_print.specs.ShownParts.{event_of, Represents, HasText}
 use Rattle.wsn_print.proofs.HeldViews.{first_held}
 use Rattle.wsn_scan.specs.declared.scan.Scan.{Scan}
 use Rattle.wsn_scan.specs.declared.stage.Stage.{Stage}
@@ -42,7 +42,8 @@ use Rattle.wsn_show.specs.StreamParts.{KeepsMessage, Keeps}
 use Rattle.wsn_show.specs.WholeFrames.{IsWholeFrame, IsAlone, items_of_end, items_of_whole}
 use Rattle.wsn_show.proofs.FollowedScans.{few, rest_few}
 use Rattle.wsn_show.proofs.FramesSoFar.{shown_begun, shown_ended, begun_items, ended_items, unended_items, same_so_far, begun_so_far, ended_so_far}
-use Rattle.wsn_show.proofs.HeldItems.{control_is, represents_message, kind_of_data, control_short, text_reason}
+use Rattle.wsn_show.proofs.HeldItems.{control_is, represents_message, kind_of_data, text_of_data, control_short, text_reason}
+use Rattle.wsn_show.proofs.TextsSoFar.{text_payload}
 use Rattle.wsn_show.proofs.OpenMessages.{kept_after_control, kept_after_final}
 use Rattle.wsn_show.proofs.PrintedItems.{prints_both}
 use Rattle.wsn_show.proofs.PrintedParts.{no_close_of_data, final_control, final_message}
@@ -86,7 +87,7 @@ module _ (role : Role) (limits : Limits) (fs : List Frame) (f : Frame) (head : H
   pub record AloneEvent (n : ℕ) (shown : ShownEvent) : Type 0 where
     pub event : MeantEvent
     pub represents : Represents n shown event
-    pub reason : HasTextReason event
+    pub text : HasText event
     pub items : items_of_final fs f ≡ (if is_close f.op then open_items fs (Some 0) else []) ++ Event (length (stream fs)) event 1 ∷ []
 
   module _ (n : ℕ) (shown : ShownEvent) (few_shown : n ≤ 4096) (op : shown.op ≡ head.op) (bytes : shown.bytes ≡ length payload) (held : shown.held.now ≡ take (min (length payload) 4096) payload) where
@@ -108,7 +109,7 @@ module _ (role : Role) (limits : Limits) (fs : List Frame) (f : Frame) (head : H
         size = size_is;
         holds = let short = control_short role limits fs f w.lawful control in held_first ∙ take_all 4096 f.payload (omega (arith, short));
       };
-      reason = text_reason role limits fs f w.lawful;
+      text = text_reason role limits fs f w.lawful;
       items = final_control fs f control;
     }
 
@@ -116,14 +117,14 @@ module _ (role : Role) (limits : Limits) (fs : List Frame) (f : Frame) (head : H
     of_data other none =
         let group = unfinished fs ++ f ∷ [] in
         let event = Message (kind_of group) (payload_of group) in
-        let text : payload_of group ≡ f.payload = text_of_push (unfinished fs) f ∙ ap (λ (gs : List Frame). payload_of gs ++ f.payload) none in
+        let payload_is : payload_of group ≡ f.payload = text_of_push (unfinished fs) f ∙ ap (λ (gs : List Frame). payload_of gs ++ f.payload) none in
         let one : length group ≡ 1 = ap (λ (gs : List Frame). length (gs ++ f ∷ [])) none in
         let begins : shown.op ≡ first_op group = op ∙ sym op_is ∙ sym (ap (λ (gs : List Frame). first_op (gs ++ f ∷ [])) none) in
         record {
           event = event;
-          represents = represents_message n shown group (payload_of group) (kind_of_data role limits fs f w.lawful other) begins (size_is ∙ ap (λ (bs : List ℕ). length bs) (sym text))
-              (first_held n (payload_of group) shown.held.now few_shown (held_first ∙ ap (λ (bs : List ℕ). take 4096 bs) (sym text)));
-          reason = tt;
+          represents = represents_message n shown group (payload_of group) (kind_of_data role limits fs f w.lawful other) begins (size_is ∙ ap (λ (bs : List ℕ). length bs) (sym payload_is))
+              (first_held n (payload_of group) shown.held.now few_shown (held_first ∙ ap (λ (bs : List ℕ). take 4096 bs) (sym payload_is)));
+          text = text_payload group (text_of_data role limits fs f w.lawful other);
           items =
               final_message fs f other
               ∙ ap (λ (m : ℕ). Event m event (length group) ∷ []) (offset_of_none fs none)

@@ -9,7 +9,7 @@ use Rattle.wsn_rules.specs.Meaning.{MeantEvent}
 use Rattle.wsn_rules.specs.ShownStream.{Item, items_of_final}
 use Rattle.wsn_rules.specs.ShownStream.Item.{Event, Head, Unfinished, UnfinishedHead, RefusedFrame}
 use Rattle.wsn_print.specs.ShownObjects.{Position}
-use Rattle.wsn_print.specs.ShownParts.{position_of, Represents, HasTextReason, IsFrontOf, IsEndOf, item_of_remainder}
+use Rattle.wsn_print.specs.ShownParts.{position_of, Represents, HasText, HasTextPayload, IsFrontOf, IsEndOf, item_of_remainder}
 use Rattle.wsn_show.specs.Styles.{styled_items}
 use Rattle.wsn_show.specs.declared.entry_context.EntryContext.{EntryContext}
 use Rattle.wsn_show.specs.declared.shown_item.ShownItem.{ShownItem}
@@ -17,10 +17,10 @@ use Rattle.wsn_show.specs.declared.shown_item.ShownItem.TheVariants as shown
 
 -- For views of n bytes, this is held of the item, which has this offset.
 abbrev pub IsItem : ℕ → ℕ → ShownItem → Item → Type 0
-IsItem n offset (shown.Event held) item = (event : MeantEvent) × Represents n held event × HasTextReason event
+IsItem n offset (shown.Event held) item = (event : MeantEvent) × Represents n held event × HasText event
     × (item ≡ Event offset event held.frames)
 IsItem n offset (shown.Frame info) item = item ≡ Head (record info { place = offset })
-IsItem n offset (shown.Unfinished held lacks) item = (event : MeantEvent) × Represents n held event
+IsItem n offset (shown.Unfinished held lacks) item = (event : MeantEvent) × Represents n held event × HasTextPayload event
     × (item ≡ Unfinished offset event held.frames lacks)
 IsItem n offset shown.UnfinishedHead item = item ≡ UnfinishedHead offset
 IsItem n offset (shown.Refused refusal evidence) item = (all : List ℕ) × IsEndOf (n / 2) all evidence

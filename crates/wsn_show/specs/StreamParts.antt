@@ -3,6 +3,7 @@ use Rattle.std.specs.Prelude.{◌≡◌, ◌≢◌, ℕ, ◌+◌, ◌≤◌, ◌
 use Rattle.wsn_wire.specs.declared.opcode.Op.{Op}
 use Rattle.wsn_wire.specs.declared.opcode.Op.TheVariants.{Text, Binary}
 use Rattle.wsn_wire.specs.Frame.{Frame, is_control, wire_payload, stream}
+use Rattle.wsn_text.specs.Utf8.{BeginsText}
 use Rattle.wsn_rules.specs.declared.head_info.HeadInfo.{HeadInfo}
 use Rattle.wsn_rules.specs.Group.{unfinished, first_op, payload_of}
 use Rattle.wsn_rules.specs.ShownStream.{Item, open_offset, frame_so_far, items_of_head, items_of_part}
@@ -85,9 +86,15 @@ abbrev pub items_left : List Frame → Position → List ℕ → List Item
 items_left fs BetweenFrames rest = items_of_head fs rest
 items_left fs (InFrame head payload) rest = items_of_part fs head payload
 
--- The frame that has begun can follow: a control has at most 125 bytes, and a data frame belongs to a message.
+-- If the frames are of a text message, their payload begins UTF-8.
+abbrev pub BeginsIfText : List Frame → Type 0
+BeginsIfText group = first_op group ≡ Text → BeginsText (payload_of group)
+
+-- The frame that has begun can follow: a control has at most 125 bytes, and a data frame belongs to a message, which
+-- begins UTF-8 if it is a text.
 abbrev pub IsSoundPart : List Frame → Position → Type 0
 IsSoundPart fs BetweenFrames = ⊤
 IsSoundPart fs (InFrame head payload) = (head.place ≡ length (stream fs))
     × (is_control head.op ≡ true → length payload ≤ 125)
     × (is_control head.op ≡ false → HasKind (first_op (unfinished fs ++ frame_so_far head payload ∷ [])))
+    × (is_control head.op ≡ false → BeginsIfText (unfinished fs ++ frame_so_far head payload ∷ []))

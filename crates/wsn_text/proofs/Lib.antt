@@ -9,3 +9,4 @@ pub mod Taking
 pub mod TextBlocks
 pub mod States
 pub mod Numbers
+pub mod WholeCharacters

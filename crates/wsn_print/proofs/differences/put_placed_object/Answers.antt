@@ -12,7 +12,7 @@ returns-in_err-put_event_members-clause-text g c = λ offset event frames is.
     let own = text c.args.placed.now.offset c.args.placed.now.event.frames in
     let same : own ++ codes "}" ≡ text offset frames ++ codes "}" = ap (λ (at : ℕ). text at c.args.placed.now.event.frames ++ codes "}") is.offset_is ∙ ap (λ (k : ℕ). text offset k ++ codes "}") is.frames_are in
     first_stops c.args.to.now c.put_event_members.new.to own (codes "}") (text offset frames ++ codes "}") c.in_err-put_event_members.field-0.0 c.from_residual.result
-    same (c.in_err-put_event_members.ensures.text event is.represents is.reason) c.from_residual.ensures.1
+    same (c.in_err-put_event_members.ensures.text event is.represents is.text) c.from_residual.ensures.1
 
 pub returns-clause-text : goal.returns-clause-text
 returns-clause-text g c = λ offset event frames is.
@@ -20,4 +20,4 @@ returns-clause-text g c = λ offset event frames is.
     let own = text c.args.placed.now.offset c.args.placed.now.event.frames in
     let same : own ++ codes "}" ≡ text offset frames ++ codes "}" = ap (λ (at : ℕ). text at c.args.placed.now.event.frames ++ codes "}") is.offset_is ∙ ap (λ (k : ℕ). text offset k ++ codes "}") is.frames_are in
     two_pieces c.args.to.now c.put_event_members.new.to c.put_line.new.to own (codes "}") (text offset frames ++ codes "}") c.put_line.result
-    same (c.in_ok-put_event_members.ensures.text event is.represents is.reason) c.put_line.ensures
+    same (c.in_ok-put_event_members.ensures.text event is.represents is.text) c.put_line.ensures

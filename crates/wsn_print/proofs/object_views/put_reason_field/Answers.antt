@@ -1,8 +1,6 @@
-use Rattle.std.proofs.Common.{ℕ, List, codes, ap, sym, ◌∙◌, subst}
-use Rattle.wsn_io.specs.Stops.{IsWrittenOrStops}
+use Rattle.std.proofs.Common.{codes, sym, ◌∙◌}
 use Rattle.wsn_print.specs.ShownText.{quoted}
 use Rattle.wsn_print.specs.ShownObjects.{reason_field}
-use Rattle.wsn_print.proofs.HeldViews.{whole_text}
 use Rattle.wsn_print.proofs.ObjectPieces.{reason_field_is}
 use Rattle.wsn_print.proofs.Pieces.{first_stops, two_pieces}
 use Rattle.wsn_print.proofs.object_views.put_reason_field.Goals as goal
@@ -13,4 +11,4 @@ returns-in_err-put_line-clause-text g c = λ utf8.
 
 pub returns-clause-text : goal.returns-clause-text
 returns-clause-text g c = λ utf8.
-    two_pieces c.args.to.now c.put_line.new.to c.put_quoted.new.to (codes ",\"reason\":") (quoted c.args.reason.now) (reason_field c.args.reason.now) c.put_quoted.result (reason_field_is c.args.reason.now (sym c.is_empty.ensures ∙ c.if-is_empty.false)) (c.in_ok-put_line.ensures) (subst (λ (t : List ℕ). IsWrittenOrStops c.put_line.new.to c.put_quoted.new.to t c.put_quoted.result) (ap quoted (c.whole_characters.ensures ∙ whole_text c.args.reason.now utf8)) c.put_quoted.ensures)
+    two_pieces c.args.to.now c.put_line.new.to c.put_quoted.new.to (codes ",\"reason\":") (quoted c.args.reason.now) (reason_field c.args.reason.now) c.put_quoted.result (reason_field_is c.args.reason.now (sym c.is_empty.ensures ∙ c.if-is_empty.false)) (c.in_ok-put_line.ensures) (c.put_quoted.ensures.text utf8)

@@ -12,39 +12,39 @@ use Rattle.wsn_print.proofs.RunTexts.{text_written}
 use Rattle.wsn_print.proofs.quoted.put_quoted.Goals as goal
 
 -- a text after a quotation mark
-begun : (text bytes held none : List ℕ) → none ≡ [] → held ≡ none ++ codes "\"" → bytes ≡ text → IsUtf8 text
-    → held ++ escaped Quoted bytes ≡ codes "\"" ++ flat_map quoted_character (chars text)
-begun text bytes held none is_none is same utf8 =
-    ap₂ (λ (front rest : List ℕ). front ++ rest) (is ∙ ap (λ (t : List ℕ). t ++ codes "\"") is_none) (ap (escaped Quoted) same ∙ text_written Quoted text utf8)
+begun : (text held none : List ℕ) → none ≡ [] → held ≡ none ++ codes "\"" → IsUtf8 text
+    → held ++ escaped Quoted text ≡ codes "\"" ++ flat_map quoted_character (chars text)
+begun text held none is_none is utf8 =
+    ap₂ (λ (front rest : List ℕ). front ++ rest) (is ∙ ap (λ (t : List ℕ). t ++ codes "\"") is_none) (text_written Quoted text utf8)
 
-pub returns-in_err-hold_escaped : goal.returns-in_err-hold_escaped
-returns-in_err-hold_escaped g c =
+pub returns-in_err-hold_escaped-clause-text : goal.returns-in_err-hold_escaped-clause-text
+returns-in_err-hold_escaped-clause-text g c = λ utf8.
     let text : List ℕ = codes "\"" ++ flat_map quoted_character (chars c.args.text.now) in
     let put = subst (λ (t : List ℕ). (c.in_err-hold_escaped.field-0.0 ≡ stop.Write) × IsPartlyWritten c.args.to.now c.hold_escaped.new.to t)
-    (begun c.args.text.now c.as_bytes.result.now c.add_mark.new.self c.new-held.result c.new-held.ensures c.add_mark.ensures c.as_bytes.ensures.value c.utf8.text) c.in_err-hold_escaped.ensures in
+    (begun c.args.text.now c.add_mark.new.self c.new-held.result c.new-held.ensures c.add_mark.ensures utf8) c.in_err-hold_escaped.ensures in
     adding_stopped c.args.to.now c.hold_escaped.new.to text (codes "\"") c.in_err-hold_escaped.field-0.0 c.from_residual.result put c.from_residual.ensures.1
 
-pub returns-in_err-make_room : goal.returns-in_err-make_room
-returns-in_err-make_room g c =
+pub returns-in_err-make_room-clause-text : goal.returns-in_err-make_room-clause-text
+returns-in_err-make_room-clause-text g c = λ utf8.
     let text : List ℕ = codes "\"" ++ flat_map quoted_character (chars c.args.text.now) in
     let held = c.in_ok-hold_escaped.ensures in
     let room = c.in_err-make_room.ensures.held in
     let one : IsGathered c.args.to.now c.hold_escaped.new.to text c.hold_escaped.new.held = (
       held.0,
-      held.1 ∙ begun c.args.text.now c.as_bytes.result.now c.add_mark.new.self c.new-held.result c.new-held.ensures c.add_mark.ensures c.as_bytes.ensures.value c.utf8.text,
+      held.1 ∙ begun c.args.text.now c.add_mark.new.self c.new-held.result c.new-held.ensures c.add_mark.ensures utf8,
       held.2,
     ) in
     gathering_stopped c.args.to.now c.hold_escaped.new.to c.make_room.new.to text c.hold_escaped.new.held room.0 c.make_room.new.held (codes "\"") (quoted c.args.text.now)
     c.in_err-make_room.field-0.0 c.from_residual-in_err-make_room.result one refl room.1 room.2 c.from_residual-in_err-make_room.ensures.1
 
-pub returns : goal.returns
-returns g c =
+pub returns-clause-text : goal.returns-clause-text
+returns-clause-text g c = λ utf8.
     let text : List ℕ = codes "\"" ++ flat_map quoted_character (chars c.args.text.now) in
     let held = c.in_ok-hold_escaped.ensures in
     let room = c.in_ok-make_room.ensures.held in
     let one : IsGathered c.args.to.now c.hold_escaped.new.to text c.hold_escaped.new.held = (
       held.0,
-      held.1 ∙ begun c.args.text.now c.as_bytes.result.now c.add_mark.new.self c.new-held.result c.new-held.ensures c.add_mark.ensures c.as_bytes.ensures.value c.utf8.text,
+      held.1 ∙ begun c.args.text.now c.add_mark.new.self c.new-held.result c.new-held.ensures c.add_mark.ensures utf8,
       held.2,
     ) in
     let all = gathers_on c.args.to.now c.hold_escaped.new.to c.make_room.new.to text c.hold_escaped.new.held c.make_room.new.held c.add_mark-2.new.self (codes "\"") one

@@ -11,7 +11,7 @@ use Rattle.wsn_print.proofs.Pieces.{first_stops, three_pieces, second_stops}
 use Rattle.wsn_print.proofs.shown_objects.put_event_members.Goals as goal
 
 pub returns-in_err-put_front-clause-text : goal.returns-in_err-put_front-clause-text
-returns-in_err-put_front-clause-text g c = λ e shows reason.
+returns-in_err-put_front-clause-text g c = λ e shows text.
     let n = c.args.view in
     let frames = c.args.event.now.frames in
     let front = object_front (codes "event") c.args.front.now.role (position_of c.args.front.now.origin) in
@@ -21,7 +21,7 @@ returns-in_err-put_front-clause-text g c = λ e shows reason.
     (of_members front offset fields (event_view_fields n e)) (c.in_err-put_front.ensures) c.from_residual.ensures.1
 
 pub returns-in_err-put_line-clause-text : goal.returns-in_err-put_line-clause-text
-returns-in_err-put_line-clause-text g c = λ e shows reason.
+returns-in_err-put_line-clause-text g c = λ e shows text.
     let n = c.args.view in
     let frames = c.args.event.now.frames in
     let front = object_front (codes "event") c.args.front.now.role (position_of c.args.front.now.origin) in
@@ -33,7 +33,7 @@ returns-in_err-put_line-clause-text g c = λ e shows reason.
     c.from_residual-in_err-put_line.ensures.1
 
 pub returns-clause-text : goal.returns-clause-text
-returns-clause-text g c = λ e shows reason.
+returns-clause-text g c = λ e shows text.
     let n = c.args.view in
     let frames = c.args.event.now.frames in
     let front = object_front (codes "event") c.args.front.now.role (position_of c.args.front.now.origin) in
@@ -42,4 +42,4 @@ returns-clause-text g c = λ e shows reason.
     three_pieces c.args.to.now c.put_front.new.to c.put_line.new.to c.put_event_view_fields.new.to front (offset ++ fields) (event_view_fields n e) (front ++ offset ++ item_fields n (Event c.args.front.now.offset e frames)) c.put_event_view_fields.result
     (of_members front offset fields (event_view_fields n e)) (c.in_ok-put_front.ensures)
     (subst (IsWritten c.put_front.new.to c.put_line.new.to) (c.bytes.ensures ∙ c.line_of_event.ensures ∙ ap (λ (t : List ℕ). offset ++ t) (represented n c.args.event.now e frames shows)) c.in_ok-put_line.ensures)
-    (c.put_event_view_fields.ensures.text e shows reason)
+    (c.put_event_view_fields.ensures.text e shows text)

@@ -1,8 +1,6 @@
-use Rattle.std.proofs.Common.{ℕ, List, codes, ◌∙◌, subst, sym, rules}
-use Rattle.wsn_io.specs.Stops.{IsWrittenOrStops}
-use Rattle.std.proofs.Common.{ap}
+use Rattle.std.proofs.Common.{codes, ◌∙◌, sym, rules}
 use Rattle.wsn_print.specs.ShownText.{quoted, reason_text}
-use Rattle.wsn_print.proofs.HeldViews.{reason_is, whole_text}
+use Rattle.wsn_print.proofs.HeldViews.{reason_is}
 use Rattle.wsn_print.proofs.Pieces.{first_stops, two_pieces}
 use Rattle.wsn_print.proofs.views.put_reason.Goals as goal
 
@@ -12,7 +10,7 @@ returns-in_err-put_line-clause-text g c = λ utf8.
 
 pub returns-clause-text : goal.returns-clause-text
 returns-clause-text g c = λ utf8.
-    two_pieces c.args.to.now c.put_line.new.to c.put_quoted.new.to (codes " ") (quoted c.args.reason.now) (reason_text c.args.reason.now) c.put_quoted.result (reason_is c.args.reason.now (sym c.is_empty.ensures ∙ c.if-is_empty.false)) (c.in_ok-put_line.ensures) (subst (λ (t : List ℕ). IsWrittenOrStops c.put_line.new.to c.put_quoted.new.to t c.put_quoted.result) (ap quoted (c.whole_characters.ensures ∙ whole_text c.args.reason.now utf8)) c.put_quoted.ensures)
+    two_pieces c.args.to.now c.put_line.new.to c.put_quoted.new.to (codes " ") (quoted c.args.reason.now) (reason_text c.args.reason.now) c.put_quoted.result (reason_is c.args.reason.now (sym c.is_empty.ensures ∙ c.if-is_empty.false)) (c.in_ok-put_line.ensures) (c.put_quoted.ensures.text utf8)
 
 pub returns-then-is_empty-clause-text : goal.returns-then-is_empty-clause-text
 returns-then-is_empty-clause-text g c = search rules

@@ -22,8 +22,8 @@ returns-in-Frame g c shown is =
 pub returns-in-Unfinished : goal.returns-in-Unfinished
 returns-in-Unfinished g c shown is =
     let item = subst (λ (i : ShownItem). IsItem c.args.view c.args.front.now.offset i shown) c.in-Unfinished.is is in
-    subst (λ (i : Item). IsWrittenOrStops c.args.output.now c.put_unfinished_object.new.to (item_object c.args.view c.args.front.now.role (position_of c.args.front.now.origin) i) c.put_unfinished_object.result) (sym item.2)
-    (c.put_unfinished_object.ensures item.0 item.1)
+    subst (λ (i : Item). IsWrittenOrStops c.args.output.now c.put_unfinished_object.new.to (item_object c.args.view c.args.front.now.role (position_of c.args.front.now.origin) i) c.put_unfinished_object.result) (sym item.3)
+    (c.put_unfinished_object.ensures item.0 item.1 item.2)
 
 pub returns-in-UnfinishedHead : goal.returns-in-UnfinishedHead
 returns-in-UnfinishedHead g c shown is =

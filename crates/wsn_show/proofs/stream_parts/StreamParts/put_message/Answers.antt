@@ -4,7 +4,8 @@ use Rattle.wsn_rules.specs.Meaning.{Message}
 use Rattle.wsn_rules.specs.ShownStream.{open_offset}
 use Rattle.wsn_rules.specs.ShownStream.Item.{Event}
 use Rattle.wsn_show.specs.ShownItems.{Prints}
-use Rattle.wsn_show.proofs.HeldItems.{represents_joined, kind_of_data}
+use Rattle.wsn_show.proofs.HeldItems.{represents_joined, kind_of_data, text_of_data}
+use Rattle.wsn_show.proofs.TextsSoFar.{text_payload}
 use Rattle.wsn_show.proofs.PrintedParts.{final_message}
 use Rattle.wsn_show.proofs.stream_parts.StreamParts.put_message.Goals as goal
 
@@ -20,4 +21,4 @@ returns g c role limits fs f lawful other small keeps joined =
     let count : length group ≡ c.all_parts.result.frames = let own = c.all_parts.ensures.frames (omega (arith, frames, small)) in omega (arith, own, frames, length-append (unfinished fs) (f ∷ [])) in
     let is : Event (open_offset fs) event (length group) ≡ Event message.offset event c.all_parts.result.frames =
     ap (λ (m : ℕ). Event m event (length group)) (sym joined.offset) ∙ ap (λ (m : ℕ). Event message.offset event m) count in
-    subst (Prints context c.args.output.now c.put_item.new.output) (sym (final_message fs f other)) (c.put_item.ensures (Event (open_offset fs) event (length group)) (event, represents, tt, is))
+    subst (Prints context c.args.output.now c.put_item.new.output) (sym (final_message fs f other)) (c.put_item.ensures (Event (open_offset fs) event (length group)) (event, represents, text_payload group (text_of_data role limits fs f lawful other), is))

@@ -7,6 +7,7 @@ use Rattle.wsn_show.specs.StreamParts.{KeepsMessage}
 use Rattle.wsn_show.specs.ShownItems.{Prints}
 use Rattle.wsn_show.proofs.HeldItems.{represents_control, represents_joined}
 use Rattle.wsn_show.proofs.KeptParts.{part_of_data}
+use Rattle.wsn_show.proofs.TextsSoFar.{text_payload}
 use Rattle.wsn_show.proofs.PrintedItems.{prints_both}
 use Rattle.wsn_show.proofs.PrintedParts.{part_of_control_is, part_of_data_is}
 use Rattle.wsn_show.proofs.stream_parts.StreamParts.put_part.Goals as goal
@@ -27,7 +28,7 @@ returns-then-is_control g c role limits fs part rest lawful small sound kept =
     subst (Prints context c.args.output.now c.put_item.new.output) (sym (part_of_control_is fs head part control))
     (prints_both context c.args.output.now c.put_open.new.output c.put_item.new.output (open_items fs (Some 0)) (Unfinished head.place event 1 (Some (head.len - length part)) ∷ [])
     (c.put_open.ensures role limits fs _ lawful kept.message)
-    (c.put_item.ensures (Unfinished head.place event 1 (Some (head.len - length part))) (event, represents, is)))
+    (c.put_item.ensures (Unfinished head.place event 1 (Some (head.len - length part))) (event, represents, tt, is)))
 
 pub returns-else-is_control : goal.returns-else-is_control
 returns-else-is_control g c role limits fs part rest lawful small sound kept =
@@ -50,4 +51,4 @@ returns-else-is_control g c role limits fs part rest lawful small sound kept =
     ∙ ap (λ (m : ℕ). Unfinished message.offset event m (Some (head.len - length part))) count
     ∙ ap (λ (m : ℕ). Unfinished message.offset event c.all_parts.result.frames (Some m)) lacks in
     subst (Prints context c.args.output.now c.put_item-else-is_control.new.output) (sym (part_of_data_is fs head part other))
-    (c.put_item-else-is_control.ensures (open_item fs group (Some (head.len - length part))) (event, represents, is))
+    (c.put_item-else-is_control.ensures (open_item fs group (Some (head.len - length part))) (event, represents, text_payload group (sound.3 other), is))

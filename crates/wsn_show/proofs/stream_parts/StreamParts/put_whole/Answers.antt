@@ -28,7 +28,7 @@ returns-in-Events g c role limits fs f size w kept none =
     let op = op_is role limits fs f head payload size w in
     let first = subst (λ (o : Op). Prints context old mid (if is_close o then open_items fs (Some 0) else [])) (sym op) (c.put_before_close.ensures role limits fs [] (lawful_front role limits fs (f ∷ []) w.lawful) kept) in
     let is : Event (length (stream fs)) a.event 1 ≡ Event head.place a.event 1 = ap (λ (m : ℕ). Event m a.event 1) (sym (place_is role limits fs f head payload size w)) in
-    let second = c.put_item.ensures (Event (length (stream fs)) a.event 1) (a.event, a.represents, a.reason, is) in
+    let second = c.put_item.ensures (Event (length (stream fs)) a.event 1) (a.event, a.represents, a.text, is) in
     subst (λ (d : Detail). Prints context old new (items_of_ended d fs f)) (sym c.in-Events.is)
     (subst (Prints context old new) (sym a.items)
     (prints_both context old mid new (if is_close f.op then open_items fs (Some 0) else []) (Event (length (stream fs)) a.event 1 ∷ []) first second))
