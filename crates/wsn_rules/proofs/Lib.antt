@@ -32,3 +32,4 @@ pub mod ShownStreams
 pub mod ShownLines
 pub mod ShownEvents
 pub mod ShownBytes
+pub mod ShownPlaces
