@@ -13,6 +13,7 @@ ghost use Rattle.wsn_rules.specs.LeftOut.{events_without};
 ghost use Rattle.wsn_rules.specs.Sides.{sent};
 ghost use Rattle.wsn_rules.specs.ShownStream.{Item, Shown, IsShownStream, IsLeftOver, events_shown, heads_shown};
 ghost use Rattle.wsn_rules.specs.ShownBytes.{AreSharedOut};
+ghost use Rattle.wsn_rules.specs.ShownPlaces.{AreInPlace};
 ghost use Rattle.wsn_rules.specs.ShownEvents.{IsShownAt, ShowsEvent};
 ghost use Rattle.wsn_rules.specs.ShownCapture.{beyond, ShownLine, AreShownAfter, items_with_bytes};
 
@@ -48,6 +49,15 @@ pub fn law_shown_bytes()
     ensures { (role : Role) (limits : Limits) (bytes : List ℕ) (shown : List Shown) (left : List Item) →
         IsShownStream Events role limits bytes shown → IsLeftOver role limits bytes left →
         AreSharedOut bytes (map (λ s. s.item) shown ++ left) }
+{}
+
+/// Each of these items is where it says: the first of its bytes is at its offset, its frames and their number are those
+/// that it counts, an unfinished frame lacks as many bytes as it says, a refused frame ends with the offending byte and
+/// has the evidence that it shows. The items end in order, except for messages that aren't complete.
+pub fn law_shown_places()
+    ensures { (role : Role) (limits : Limits) (bytes : List ℕ) (shown : List Shown) (left : List Item) →
+        IsShownStream Events role limits bytes shown → IsLeftOver role limits bytes left →
+        AreInPlace bytes (map (λ s. s.item) shown ++ left) }
 {}
 
 /// With more bytes a stream shows the same items and perhaps more, which are shown with the new bytes.
