@@ -32,4 +32,6 @@ pub mod ShownStreams
 pub mod ShownLines
 pub mod ShownEvents
 pub mod ShownBytes
+pub mod BegunHeads
+pub mod PlacedBytes
 pub mod ShownPlaces

@@ -1,13 +1,15 @@
--- Where the items that are shown of a stream are in it. Every byte of the stream, with its offset, is in exactly one
--- item; each item has the bytes that it says, and the first of them is at its offset.
+-- Where the items that are shown of a stream are in it: every byte of the stream, with its offset, is in exactly one
+-- item, each item has the bytes that it says, the first of them is at its offset, and it is shown with the last of them.
 use Rattle.std.specs.Prelude.{◌≡◌, ◌≢◌, ℕ, ◌+◌, ◌<◌, ◌≤◌, ◌^◌, ◌⊎◌, ⊤, Bool, true, false, IfSome, Option, None, Some, List, [], ◌∷◌, ◌++◌, length, map}
 use Rattle.std.specs.List.{AllByRecursion, flat_map}
 use Rattle.wsn_wire.specs.declared.opcode.Kind.{Kind}
+use Rattle.wsn_wire.specs.declared.opcode.Op.TheVariants.{Continue}
 use Rattle.wsn_wire.specs.Frame.{Frame, IsKey, FormFits, IsEncodable, is_control, frame_bytes, wire_payload}
+use Rattle.wsn_wire.specs.Layout.{len_form_at, length_count, key_count}
 use Rattle.wsn_rules.specs.declared.head_info.HeadInfo.{HeadInfo}
 use Rattle.wsn_rules.specs.Group.{is_data}
 use Rattle.wsn_rules.specs.Meaning.{Message, Control}
-use Rattle.wsn_rules.specs.ShownStream.{Item, frame_so_far}
+use Rattle.wsn_rules.specs.ShownStream.{Item, Shown, shown_after, frame_so_far}
 use Rattle.wsn_rules.specs.ShownStream.Item.{Event, Head, Unfinished, UnfinishedHead, RefusedFrame, Unread, Tail}
 use Rattle.wsn_rules.specs.ShownBytes.{AreDealt, IsGroupOf, begun_bytes}
 
@@ -18,7 +20,7 @@ pub record PlacedByte : Type 0 where
   pub place : ℕ
   pub byte : ℕ
 
--- These bytes in one piece, the first of them at this offset.
+-- Bytes in one piece, the first of them at this offset.
 abbrev pub placed : ℕ → List ℕ → List PlacedByte
 placed place [] = []
 placed place (b ∷ bytes) = record { place = place; byte = b } ∷ placed (place + 1) bytes
@@ -28,10 +30,14 @@ abbrev pub BeginsAt : ℕ → List PlacedByte → Type 0
 BeginsAt offset [] = ⊥
 BeginsAt offset (b ∷ pile) = b.place ≡ offset
 
--- The offset after the last of the bytes; if there are none, n.
-abbrev pub end_after : ℕ → List PlacedByte → ℕ
-end_after n [] = n
-end_after n (b ∷ pile) = end_after (b.place + 1) pile
+-- The offset after the last of the bytes; n if there are none.
+abbrev pub end_or : ℕ → List PlacedByte → ℕ
+end_or n [] = n
+end_or n (b ∷ pile) = end_or (b.place + 1) pile
+
+-- The offset after the last of the bytes.
+abbrev pub end_of : List PlacedByte → ℕ
+end_of = end_or 0
 
 -- A whole frame, and the offset of its first byte.
 pub record PlacedFrame : Type 0 where
@@ -46,7 +52,7 @@ frames_in = map (λ f. f.frame)
 abbrev pub placed_frames : List PlacedFrame → List PlacedByte
 placed_frames = flat_map (λ f. placed f.place (frame_bytes f.frame))
 
--- ---- whole frames and begun ones
+-- ---- frames
 
 -- A frame of a message that isn't its last one.
 pub record IsFragment (f : Frame) : Type 0 where
@@ -66,23 +72,40 @@ pub record IsControlFrame (f : Frame) : Type 0 where
   pub control : is_control f.op ≡ true
   pub final : f.fin ≡ true
 
--- The head of a frame that can be encoded.
+-- The first frame begins a message, and the others continue it.
+abbrev pub BeginOnce : List Frame → Type 0
+BeginOnce [] = ⊤
+BeginOnce (f ∷ fs) = (f.op ≢ Continue) × AllByRecursion (λ g. g.op ≡ Continue) fs
+
+-- The frames are those of one message of this kind, with this payload and this number of frames.
+pub record IsMessageOf (frames : List Frame) (kind : Kind) (payload : List ℕ) (count : ℕ) : Type 0 where
+  pub group : IsGroupOf frames kind payload count
+  pub once : BeginOnce frames
+
+-- ---- frames that aren't whole
+
+-- A head that can be encoded.
 pub record IsEncodableHead (info : HeadInfo) : Type 0 where
   pub key : IfSome info.key IsKey
   pub form : FormFits info.form info.len
   pub size : info.len < 2 ^ 63
 
--- After the whole head these bytes of the payload have come, and it lacks this number of bytes, at least one.
+-- A part of a head: it ends before the second byte, or before the length and the key that the second byte requires.
+abbrev pub IsPartOfHead : List ℕ → Type 0
+IsPartOfHead [] = ⊥
+IsPartOfHead (first ∷ []) = ⊤
+IsPartOfHead (first ∷ second ∷ came) = length came < length_count (len_form_at second) + key_count second
+
+-- After a whole head these bytes of the payload have come, and it lacks this number of bytes, at least one.
 pub record HasBegun (info : HeadInfo) (following : List ℕ) (lacks : ℕ) : Type 0 where
   pub head : IsEncodableHead info
   pub some : 1 ≤ lacks
   pub exact : length following + lacks ≡ info.len
 
--- At least one byte, and no whole head.
-pub record IsPartOfHead (bytes : List ℕ) : Type 0 where
-  pub some : bytes ≢ []
-  pub not_whole :
-      (info : HeadInfo) (following : List ℕ) → IsEncodableHead info → bytes ≡ begun_bytes info following → ⊥
+-- Bytes of one frame: after a whole head there are no more bytes than its payload has.
+abbrev pub AreOfOneFrame : List ℕ → Type 0
+AreOfOneFrame bytes = (info : HeadInfo) (following : List ℕ) → IsEncodableHead info → bytes ≡ begun_bytes info following
+    → length following ≤ info.len
 
 -- The evidence of a refused frame whose bytes up to the offending one are `seen`: the payload so far, unmasked, if a
 -- whole head and some of the payload have come; otherwise the bytes as they came.
@@ -95,24 +118,24 @@ IsEvidenceIn seen evidence =
 
 -- ---- the bytes of an item
 
--- The bytes of an open message after these fragments of it: nothing more, or a part of the next head, or a frame that
--- has begun.
+-- The bytes of an open message with these fragments: they alone; or they and a part of the next head; or they and a
+-- frame that has begun.
 abbrev pub IsOpenPile : List PlacedFrame → Kind → List ℕ → ℕ → Option ℕ → List PlacedByte → Type 0
 IsOpenPile fragments kind payload count None pile =
-    (place : ℕ) × (part : List ℕ) × IsPartOfHead part × IsGroupOf (frames_in fragments) kind payload count
+    (place : ℕ) × (part : List ℕ) × IsPartOfHead part × IsMessageOf (frames_in fragments) kind payload count
     × (pile ≡ placed_frames fragments ++ placed place part)
 IsOpenPile fragments kind payload count (Some lacks) pile =
-    ((lacks ≡ 0) × IsGroupOf (frames_in fragments) kind payload count × (pile ≡ placed_frames fragments))
+    ((lacks ≡ 0) × IsMessageOf (frames_in fragments) kind payload count × (pile ≡ placed_frames fragments))
     ⊎ ((info : HeadInfo) × (following : List ℕ) × HasBegun info following lacks
-    × IsGroupOf (frames_in fragments ++ frame_so_far info (wire_payload info.key following) ∷ []) kind payload count
+    × IsMessageOf (frames_in fragments ++ frame_so_far info (wire_payload info.key following) ∷ []) kind payload count
     × (pile ≡ placed_frames fragments ++ placed info.place (begun_bytes info following)))
 
--- The bytes of an item. A message has whole fragments, each in one piece, and perhaps controls between them; any other
--- item is one piece.
+-- The bytes of an item. Each frame of a message is one piece, and controls may be between them; any other item is one
+-- piece.
 abbrev pub IsPileOf : Item → List PlacedByte → Type 0
 IsPileOf (Event offset (Message kind payload) count) pile =
     (fragments : List PlacedFrame) × (last : PlacedFrame) × AllByRecursion IsFragment (frames_in fragments)
-    × IsLastFrame last.frame × IsGroupOf (frames_in fragments ++ last.frame ∷ []) kind payload count
+    × IsLastFrame last.frame × IsMessageOf (frames_in fragments ++ last.frame ∷ []) kind payload count
     × (pile ≡ placed_frames fragments ++ placed last.place (frame_bytes last.frame))
 IsPileOf (Event offset (Control op body) count) pile =
     (f : Frame) × IsControlFrame f × (f.op ≡ op) × (f.payload ≡ body) × (count ≡ 1)
@@ -124,10 +147,11 @@ IsPileOf (Unfinished offset (Control op body) count lacks) pile =
     (info : HeadInfo) × (following : List ℕ) × (missing : ℕ) × HasBegun info following missing
     × (is_control info.op ≡ true) × (info.op ≡ op) × (wire_payload info.key following ≡ body) × (count ≡ 1)
     × (lacks ≡ Some missing) × (pile ≡ placed offset (begun_bytes info following))
-IsPileOf (Head info) pile = (following : List ℕ) × (pile ≡ placed info.place (begun_bytes info following))
-IsPileOf (UnfinishedHead offset) pile = (bytes : List ℕ) × IsPartOfHead bytes × (pile ≡ placed offset bytes)
+IsPileOf (Head info) pile =
+    (following : List ℕ) × IsEncodableHead info × (pile ≡ placed info.place (begun_bytes info following))
+IsPileOf (UnfinishedHead offset) pile = (part : List ℕ) × IsPartOfHead part × (pile ≡ placed offset part)
 IsPileOf (RefusedFrame offset refusal evidence) pile =
-    (seen : List ℕ) × (offset + length seen ≡ refusal.place + 1) × IsEvidenceIn seen evidence
+    (seen : List ℕ) × AreOfOneFrame seen × IsEvidenceIn seen evidence × (offset + length seen ≡ refusal.place + 1)
     × (pile ≡ placed offset seen)
 IsPileOf (Unread offset bytes) pile = pile ≡ placed offset bytes
 IsPileOf (Tail offset bytes) pile = pile ≡ placed offset bytes
@@ -142,36 +166,43 @@ offset_of (RefusedFrame offset refusal evidence) = offset
 offset_of (Unread offset bytes) = offset
 offset_of (Tail offset bytes) = offset
 
--- The bytes are the item's, and the first of them is at its offset.
-pub record IsPlaced (item : Item) (pile : List PlacedByte) : Type 0 where
-  pub begins : BeginsAt (offset_of item) pile
-  pub is_pile : IsPileOf item pile
+-- The bytes are the item's, the first of them is at its offset, and all have come when it is shown.
+pub record IsPlaced (s : Shown) (pile : List PlacedByte) : Type 0 where
+  pub begins : BeginsAt (offset_of s.item) pile
+  pub is_pile : IsPileOf s.item pile
+  pub within : end_of pile ≤ s.after
 
 -- ---- all items
 
 -- Each pile is placed as its item says.
-abbrev pub ArePlaced : List Item → List (List PlacedByte) → Type 0
+abbrev pub ArePlaced : List Shown → List (List PlacedByte) → Type 0
 ArePlaced [] [] = ⊤
-ArePlaced (item ∷ items) (pile ∷ piles) = IsPlaced item pile × ArePlaced items piles
-ArePlaced items piles = ⊥
+ArePlaced (s ∷ shown) (pile ∷ piles) = IsPlaced s pile × ArePlaced shown piles
+ArePlaced shown piles = ⊥
 
 -- The item is a message that isn't complete.
 abbrev pub is_open_message : Item → Bool
 is_open_message (Unfinished offset (Message kind payload) count lacks) = true
 is_open_message item = false
 
--- The items end one after another, the first of them after the offset n. A message that isn't complete is exempt: it is
--- shown with what interrupts it.
-abbrev pub EndInOrder : ℕ → List Item → List (List PlacedByte) → Type 0
-EndInOrder n [] [] = ⊤
-EndInOrder n (item ∷ items) (pile ∷ piles) =
-    ((is_open_message item ≡ true) × EndInOrder n items piles)
-    ⊎ ((is_open_message item ≡ false) × (n < end_after 0 pile) × EndInOrder (end_after 0 pile) items piles)
-EndInOrder n items piles = ⊥
+-- The number of bytes with which the first of the items is shown; if there is none, that of all bytes.
+abbrev pub next_after : ℕ → List Shown → ℕ
+next_after total [] = total
+next_after total (s ∷ shown) = s.after
 
--- Every byte of the stream is in exactly one of the items, each item is where it says, and the items end in order.
-pub record AreInPlace (bytes : List ℕ) (items : List Item) : Type 0 where
+-- The items are in the order of their last bytes, and those of the first are after n bytes. Each is shown with its last
+-- byte. But a message that isn't complete is shown with the next item, which interrupts it, or with all bytes.
+abbrev pub AreInOrder : ℕ → ℕ → List Shown → List (List PlacedByte) → Type 0
+AreInOrder total n [] [] = ⊤
+AreInOrder total n (s ∷ shown) (pile ∷ piles) =
+    ((is_open_message s.item ≡ true) × (s.after ≡ next_after total shown) × AreInOrder total n shown piles)
+    ⊎ ((is_open_message s.item ≡ false) × (s.after ≡ end_of pile) × (n < s.after)
+    × AreInOrder total s.after shown piles)
+AreInOrder total n shown piles = ⊥
+
+-- Every byte of the stream is in exactly one of these items, and each is where it says.
+pub record AreInPlace (bytes : List ℕ) (shown : List Shown) : Type 0 where
   pub piles : List (List PlacedByte)
   pub dealt : AreDealt (placed 0 bytes) piles
-  pub are_placed : ArePlaced items piles
-  pub in_order : EndInOrder 0 items piles
+  pub are_placed : ArePlaced shown piles
+  pub in_order : AreInOrder (length bytes) 0 shown piles

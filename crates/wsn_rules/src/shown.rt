@@ -11,7 +11,7 @@ ghost use Rattle.wsn_rules.specs.Entries.{Entry};
 ghost use Rattle.wsn_rules.specs.Heads.{AreHeads};
 ghost use Rattle.wsn_rules.specs.LeftOut.{events_without};
 ghost use Rattle.wsn_rules.specs.Sides.{sent};
-ghost use Rattle.wsn_rules.specs.ShownStream.{Item, Shown, IsShownStream, IsLeftOver, events_shown, heads_shown};
+ghost use Rattle.wsn_rules.specs.ShownStream.{Item, Shown, shown_after, IsShownStream, IsLeftOver, events_shown, heads_shown};
 ghost use Rattle.wsn_rules.specs.ShownBytes.{AreSharedOut};
 ghost use Rattle.wsn_rules.specs.ShownPlaces.{AreInPlace};
 ghost use Rattle.wsn_rules.specs.ShownEvents.{IsShownAt, ShowsEvent};
@@ -57,7 +57,7 @@ pub fn law_shown_bytes()
 pub fn law_shown_places()
     ensures { (role : Role) (limits : Limits) (bytes : List ℕ) (shown : List Shown) (left : List Item) →
         IsShownStream Events role limits bytes shown → IsLeftOver role limits bytes left →
-        AreInPlace bytes (map (λ s. s.item) shown ++ left) }
+        AreInPlace bytes (shown ++ shown_after (length bytes) left) }
 {}
 
 /// With more bytes a stream shows the same items and perhaps more, which are shown with the new bytes.
