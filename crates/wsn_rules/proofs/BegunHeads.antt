@@ -31,11 +31,11 @@ use Rattle.wsn_rules.proofs.MessageText.{continue_or_not, opcode_of_beginning}
 
 -- ---- the parts of bytes that begin with a whole head
 
-record SameParts (info : HeadInfo) (following : List ℕ) (second : ℕ) (len key rest : List ℕ) : Type 0 where
+pub record SameParts (info : HeadInfo) (following : List ℕ) (second : ℕ) (len key rest : List ℕ) : Type 0 where
   pub following_is : following ≡ rest
   pub len_is : info.len ≡ encoded_length (len_form_at second) len
 
-same_parts : (info : HeadInfo) (following : List ℕ) (first second : ℕ) (len key rest : List ℕ) → IsEncodableHead info → begun_bytes info following ≡ first ∷ second ∷ (len ++ (key ++ rest)) → length len ≡ length_count (len_form_at second)
+pub same_parts : (info : HeadInfo) (following : List ℕ) (first second : ℕ) (len key rest : List ℕ) → IsEncodableHead info → begun_bytes info following ≡ first ∷ second ∷ (len ++ (key ++ rest)) → length len ≡ length_count (len_form_at second)
     → length key ≡ key_count second → SameParts info following second len key rest
 same_parts info following first second len key rest is same len_count key_counted =
     let field = len_form_of info.form info.len in

@@ -35,3 +35,4 @@ pub mod ShownBytes
 pub mod BegunHeads
 pub mod PlacedBytes
 pub mod ShownPlaces
+pub mod PlacedExamples

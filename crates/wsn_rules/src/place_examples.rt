@@ -1,0 +1,70 @@
+//! Examples of where items that are shown are in a stream, from the definitions in `specs/ShownPlaces.antt`: items that
+//! are where they say, and similar ones that are excluded.
+
+ghost use Rattle.std.specs.Prelude.{ℕ, None, Some, [], ◌∷◌, codes};
+ghost use Rattle.wsn_wire.specs.declared.opcode.Kind.TheVariants as kind;
+ghost use Rattle.wsn_wire.specs.declared.opcode.Op.TheVariants.{Ping, Pong};
+ghost use Rattle.wsn_wire.specs.declared.refusal.Reason.TheVariants.{ReservedBits};
+ghost use Rattle.wsn_rules.specs.Meaning.{Message, Control};
+ghost use Rattle.wsn_rules.specs.ShownStream.Item.{Event, Unfinished, RefusedFrame};
+ghost use Rattle.wsn_rules.specs.ShownPlaces.{AreInPlace};
+
+/// A ping, and a text message with the ping between its frames.
+pub fn in_place()
+    ensures ping { AreInPlace (0x89 ∷ 0x00 ∷ []) (record { after = 2; item = Event 0 (Control Ping []) 1 } ∷ []) }
+    ensures ping_between { AreInPlace (0x01 ∷ 0x01 ∷ 0x41 ∷ 0x89 ∷ 0x00 ∷ 0x80 ∷ 0x01 ∷ 0x42 ∷ [])
+        (record { after = 5; item = Event 3 (Control Ping []) 1 }
+        ∷ record { after = 8; item = Event 0 (Message kind.Text (codes "AB")) 2 } ∷ []) }
+{}
+
+/// A wrong offset, a wrong number of frames, and a wrong number of bytes with which an event is shown.
+pub fn wrong_events()
+    ensures offset { (after : ℕ) →
+        ¬ (AreInPlace (0x89 ∷ 0x00 ∷ []) (record { after = after; item = Event 77 (Control Ping []) 1 } ∷ [])) }
+    ensures count { (after : ℕ) →
+        ¬ (AreInPlace (0x89 ∷ 0x00 ∷ []) (record { after = after; item = Event 0 (Control Ping []) 9 } ∷ [])) }
+    ensures offset_and_count { (after : ℕ) →
+        ¬ (AreInPlace (0x89 ∷ 0x00 ∷ []) (record { after = after; item = Event 77 (Control Ping []) 9 } ∷ [])) }
+    ensures after {
+        ¬ (AreInPlace (0x89 ∷ 0x00 ∷ []) (record { after = 1; item = Event 0 (Control Ping []) 1 } ∷ [])) }
+    ensures two_messages { (after : ℕ) →
+        ¬ (AreInPlace (0x81 ∷ 0x01 ∷ 0x41 ∷ 0x81 ∷ 0x01 ∷ 0x42 ∷ [])
+        (record { after = after; item = Event 0 (Message kind.Text (codes "AB")) 2 } ∷ [])) }
+    ensures order {
+        ¬ (AreInPlace (0x89 ∷ 0x00 ∷ 0x8a ∷ 0x00 ∷ [])
+        (record { after = 4; item = Event 2 (Control Pong []) 1 }
+        ∷ record { after = 2; item = Event 0 (Control Ping []) 1 } ∷ [])) }
+{}
+
+/// A ping that lacks one byte, shown with other counts.
+pub fn wrong_unfinished()
+    ensures lacks { (after : ℕ) →
+        ¬ (AreInPlace (0x89 ∷ 0x02 ∷ 0x41 ∷ [])
+        (record { after = after; item = Unfinished 0 (Control Ping (0x41 ∷ [])) 1 (Some 5) } ∷ [])) }
+    ensures lacks_nothing { (after : ℕ) →
+        ¬ (AreInPlace (0x89 ∷ 0x02 ∷ 0x41 ∷ [])
+        (record { after = after; item = Unfinished 0 (Control Ping (0x41 ∷ [])) 1 None } ∷ [])) }
+    ensures count { (after : ℕ) →
+        ¬ (AreInPlace (0x89 ∷ 0x02 ∷ 0x41 ∷ [])
+        (record { after = after; item = Unfinished 0 (Control Ping (0x41 ∷ [])) 2 (Some 1) } ∷ [])) }
+{}
+
+/// A frame that is refused for its first byte, shown with other evidence or another offset of that byte, or together with
+/// the frame before it.
+pub fn wrong_refusals()
+    ensures evidence { (after : ℕ) →
+        ¬ (AreInPlace (0xc1 ∷ []) (record {
+          after = after;
+          item = RefusedFrame 0 (record { place = 0; reason = ReservedBits }) (0xde ∷ 0xad ∷ []);
+        } ∷ [])) }
+    ensures place { (after : ℕ) →
+        ¬ (AreInPlace (0xc1 ∷ []) (record {
+          after = after;
+          item = RefusedFrame 0 (record { place = 5; reason = ReservedBits }) (0xc1 ∷ []);
+        } ∷ [])) }
+    ensures two_frames { (after : ℕ) →
+        ¬ (AreInPlace (0x89 ∷ 0x00 ∷ 0xc1 ∷ []) (record {
+          after = after;
+          item = RefusedFrame 0 (record { place = 2; reason = ReservedBits }) (0xc1 ∷ []);
+        } ∷ [])) }
+{}
