@@ -31,8 +31,8 @@ pub mod OpenOffsets
 pub mod ShownStreams
 pub mod ShownLines
 pub mod ShownEvents
-pub mod ShownBytes
 pub mod BegunHeads
 pub mod PlacedBytes
 pub mod ShownPlaces
+pub mod ShownBytes
 pub mod PlacedExamples

@@ -1,5 +1,5 @@
 -- Bytes and frames at their offsets, and how they are dealt to the items of a stream.
-use Rattle.std.proofs.Common.{◌≡◌, ℕ, ◌+◌, ◌<◌, ◌≤◌, Bool, true, false, List, [], ◌∷◌, ◌++◌, ◌⊎◌, length, if◌then◌else◌, refl, sym, ap, ◌∙◌, subst, inl, inr, append-nil, append_assoc, arith}
+use Rattle.std.proofs.Common.{◌≡◌, ℕ, ◌+◌, ◌<◌, ◌≤◌, Bool, true, false, List, [], ◌∷◌, ◌++◌, ◌⊎◌, length, map, if◌then◌else◌, refl, sym, ap, ◌∙◌, subst, inl, inr, append-nil, append_assoc, arith}
 use Rattle.std.proofs.lemmas.Bool.{cases_Bool, cond-true, cond-false}
 use Rattle.std.proofs.lemmas.List.{map-append}
 use Rattle.std.proofs.lemmas.List.Concat.{flat_map-append}
@@ -37,6 +37,11 @@ placed-append n (x ∷ xs) ys =
     let first : PlacedByte = record { place = n; byte = x } in
     let same : (n + 1) + length xs ≡ n + length (x ∷ xs) = omega arith in
     ap (λ (ps : List PlacedByte). first ∷ ps) (placed-append (n + 1) xs ys ∙ ap (λ k. placed (n + 1) xs ++ placed k ys) same)
+
+-- The bytes without their offsets.
+pub bytes_of_placed : (n : ℕ) (bytes : List ℕ) → map (λ (b : PlacedByte). b.byte) (placed n bytes) ≡ bytes
+bytes_of_placed n [] = refl
+bytes_of_placed n (b ∷ bytes) = ap (λ (bs : List ℕ). b ∷ bs) (bytes_of_placed (n + 1) bytes)
 
 end_or-append : (n : ℕ) (xs ys : List PlacedByte) → end_or n (xs ++ ys) ≡ end_or (end_or n xs) ys
 end_or-append n [] ys = refl

@@ -4,6 +4,7 @@ use Rattle.wsn_rules.specs.ShownBytes.{AreDealt}
 use Rattle.wsn_rules.specs.ShownPlaces.{PlacedByte, placed, IsPlaced, ArePlaced, AreInOrder, AreInPlace}
 use Rattle.wsn_rules.specs.ShownStream.{Shown}
 use Rattle.wsn_rules.proofs.Prefixes.{nil-push, head_same, tail_same}
+use Rattle.wsn_rules.proofs.PlacedBytes.{bytes_of_placed}
 
 -- ---- dealing to one pile
 
@@ -24,10 +25,6 @@ only_item bytes s are = by are.piles are.dealt are.are_placed
     by [] d p = absurd p
     by (pile ∷ []) d p = subst (IsPlaced s) (dealt_to_one (placed 0 bytes) pile d) p.0
     by (pile ∷ other ∷ piles) d p = absurd p.1
-
-pub bytes_of_placed : (n : ℕ) (bytes : List ℕ) → map (λ (b : PlacedByte). b.byte) (placed n bytes) ≡ bytes
-bytes_of_placed n [] = refl
-bytes_of_placed n (b ∷ bytes) = ap (λ (bs : List ℕ). b ∷ bs) (bytes_of_placed (n + 1) bytes)
 
 pub same_bytes : (m n : ℕ) (bytes others : List ℕ) → placed m bytes ≡ placed n others → bytes ≡ others
 same_bytes m n bytes others same = sym (bytes_of_placed m bytes) ∙ ap (λ (ps : List PlacedByte). map (λ (b : PlacedByte). b.byte) ps) same ∙ bytes_of_placed n others
