@@ -1,5 +1,5 @@
 -- A whole head at the front of bytes: what has come after it, and that there is one unless a part of it is missing.
-use Rattle.std.proofs.Common.{◌≡◌, ◌≢◌, ℕ, ◌+◌, ◌-◌, ◌<◌, ◌≤◌, Bool, true, false, not, List, [], ◌∷◌, ◌++◌, ◌⊎◌, length, if◌then◌else◌, refl, sym, ap, ◌∙◌, subst, inl, inr, append-nil, append_assoc, length-append, arith}
+use Rattle.std.proofs.Common.{◌≡◌, ◌≢◌, ℕ, ◌+◌, ◌-◌, ◌≤◌, Bool, true, not, List, [], ◌∷◌, ◌++◌, ◌⊎◌, length, if◌then◌else◌, refl, sym, ap, ◌∙◌, subst, inl, inr, append-nil, append_assoc, length-append, arith}
 use Rattle.std.specs.Prelude.{◌↔◌}
 use Rattle.std.proofs.lemmas.Bool.{cases_lt}
 use Rattle.wsn_wire.specs.declared.endpoint.Role.{Role}
@@ -7,7 +7,7 @@ use Rattle.wsn_wire.specs.declared.length_forms.LenForm.{LenForm}
 use Rattle.wsn_wire.specs.declared.opcode.Op.TheVariants.{Continue}
 use Rattle.wsn_wire.specs.declared.refusal.Reason.{Reason}
 use Rattle.wsn_wire.specs.declared.refusal.Reason.TheVariants.{NothingToContinue, MessageOpen}
-use Rattle.wsn_wire.specs.Frame.{Frame, opcode, first_byte, second_byte, len_form_of, length_bytes, key_bytes, head_bytes, frame_bytes, stream, is_control, wire_payload}
+use Rattle.wsn_wire.specs.Frame.{Frame, opcode, first_byte, second_byte, len_form_of, length_bytes, key_bytes, head_bytes, stream, is_control, wire_payload}
 use Rattle.wsn_wire.specs.Layout.{HasLayout, opcode_field, mask_bit, len_form_at, length_count, encoded_length, key_count}
 use Rattle.wsn_wire.specs.Sender.{HeadHasNoEvidence}
 use Rattle.wsn_wire.proofs.FrameLemmas.{IsFirstByteOf, first_byte_fields, second_byte_fields, length_bytes_fields, spells-len_form_of, key_bytes_count, fronts_agree, length-wire_payload, frame_at}
@@ -19,12 +19,11 @@ use Rattle.wsn_rules.specs.Evidence.{Evidence, EvidentByFirst}
 use Rattle.wsn_rules.specs.Evidence.Evidence.{ByFirst, BySecond, ByLength, ByPayload}
 use Rattle.wsn_rules.specs.Group.{unfinished}
 use Rattle.wsn_rules.specs.Heads.{BeginsWithHead, info_of}
-use Rattle.wsn_rules.specs.NoEvidence.{HasNoEvidence}
 use Rattle.wsn_rules.specs.Verdict.{ComesFirst, EndsWithinFrame, IsCut, IsEvidentAt, IsRefused}
 use Rattle.wsn_rules.specs.ShownBytes.{begun_bytes}
 use Rattle.wsn_rules.specs.ShownPlaces.{IsEncodableHead, IsPartOfHead, HasBegun, AreOfOneFrame, IsEvidenceIn}
 use Rattle.wsn_rules.specs.ShownStream.{IsShownEvidence}
-use Rattle.wsn_rules.proofs.Prefixes.{GoesOn, two_fronts}
+use Rattle.wsn_rules.proofs.Prefixes.{two_fronts}
 use Rattle.wsn_rules.proofs.HeadEvidence.{first_row, encoding_row}
 use Rattle.wsn_rules.proofs.LeastEvident.{evidence_is_some}
 use Rattle.wsn_rules.proofs.MessageText.{continue_or_not, opcode_of_beginning}

@@ -1,5 +1,5 @@
 -- Every byte of a stream is in exactly one of the items that are shown of it: without the offsets of the bytes.
-use Rattle.std.proofs.Common.{◌≡◌, ◌≢◌, ℕ, ◌+◌, ◌-◌, Option, None, Some, List, [], ◌∷◌, ◌++◌, ◌⊎◌, length, map, refl, sym, ap, ◌∙◌, subst, inl, inr, arith}
+use Rattle.std.proofs.Common.{◌≡◌, ◌≢◌, ℕ, ◌+◌, ◌-◌, Option, None, Some, List, [], ◌∷◌, ◌++◌, length, map, refl, sym, ap, ◌∙◌, subst, inl, inr, arith}
 use Rattle.std.specs.List.{AllByRecursion}
 use Rattle.std.proofs.lemmas.List.{map-append}
 use Rattle.wsn_wire.specs.declared.endpoint.Role.{Role}
@@ -105,8 +105,7 @@ module _ (role : Role) (limits : Limits) where
       let are = all_in_place role limits bytes shown left p q in
       let all = shown ++ shown_after (length bytes) left in
       let items : map (λ (s : Shown). s.item) all ≡ map (λ (s : Shown). s.item) shown ++ left =
-      map-append (λ (s : Shown). s.item) shown (shown_after (length bytes) left) ∙ ap (λ (is : List Item). map (λ (s : Shown). s.item) shown ++ is) (items_after (length bytes) left) in
-      (
+      map-append (λ (s : Shown). s.item) shown (shown_after (length bytes) left) ∙ ap (λ (is : List Item). map (λ (s : Shown). s.item) shown ++ is) (items_after (length bytes) left) in (
         map bytes_of are.piles,
         subst (λ (bs : List ℕ). AreDealt bs (map bytes_of are.piles)) (bytes_of_placed 0 bytes) (dealt_mapped (λ (b : PlacedByte). b.byte) (placed 0 bytes) are.piles are.dealt),
         subst (λ (is : List Item). HaveBytes is (map bytes_of are.piles)) items (have_bytes all are.piles are.are_placed),

@@ -9,7 +9,7 @@ use Rattle.wsn_wire.specs.Layout.{len_form_at, length_count, key_count}
 use Rattle.wsn_rules.specs.declared.head_info.HeadInfo.{HeadInfo}
 use Rattle.wsn_rules.specs.Group.{is_data}
 use Rattle.wsn_rules.specs.Meaning.{Message, Control}
-use Rattle.wsn_rules.specs.ShownStream.{Item, Shown, shown_after, frame_so_far}
+use Rattle.wsn_rules.specs.ShownStream.{Item, Shown, frame_so_far}
 use Rattle.wsn_rules.specs.ShownStream.Item.{Event, Head, Unfinished, UnfinishedHead, RefusedFrame, Unread, Tail}
 use Rattle.wsn_rules.specs.ShownBytes.{AreDealt, IsGroupOf, begun_bytes}
 

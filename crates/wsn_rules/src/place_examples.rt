@@ -25,13 +25,11 @@ pub fn wrong_events()
         ¬ (AreInPlace (0x89 ∷ 0x00 ∷ []) (record { after = after; item = Event 0 (Control Ping []) 9 } ∷ [])) }
     ensures offset_and_count { (after : ℕ) →
         ¬ (AreInPlace (0x89 ∷ 0x00 ∷ []) (record { after = after; item = Event 77 (Control Ping []) 9 } ∷ [])) }
-    ensures after {
-        ¬ (AreInPlace (0x89 ∷ 0x00 ∷ []) (record { after = 1; item = Event 0 (Control Ping []) 1 } ∷ [])) }
+    ensures after { ¬ (AreInPlace (0x89 ∷ 0x00 ∷ []) (record { after = 1; item = Event 0 (Control Ping []) 1 } ∷ [])) }
     ensures two_messages { (after : ℕ) →
         ¬ (AreInPlace (0x81 ∷ 0x01 ∷ 0x41 ∷ 0x81 ∷ 0x01 ∷ 0x42 ∷ [])
         (record { after = after; item = Event 0 (Message kind.Text (codes "AB")) 2 } ∷ [])) }
-    ensures order {
-        ¬ (AreInPlace (0x89 ∷ 0x00 ∷ 0x8a ∷ 0x00 ∷ [])
+    ensures order { ¬ (AreInPlace (0x89 ∷ 0x00 ∷ 0x8a ∷ 0x00 ∷ [])
         (record { after = 4; item = Event 2 (Control Pong []) 1 }
         ∷ record { after = 2; item = Event 0 (Control Ping []) 1 } ∷ [])) }
 {}

@@ -1,13 +1,9 @@
-use Rattle.std.proofs.Common.{◌≡◌, ℕ, ◌+◌, ◌<◌, ◌≤◌, true, false, None, List, [], ◌∷◌, ◌++◌, length, refl, inr, arith, codes}
-use Rattle.wsn_wire.specs.declared.opcode.Kind.TheVariants as kind
+use Rattle.std.proofs.Common.{true, false, List, [], ◌∷◌, ◌++◌, refl, inr, arith}
 use Rattle.wsn_wire.specs.declared.opcode.Op.TheVariants.{Continue, Text, Ping}
-use Rattle.wsn_wire.specs.Frame.{Frame, IsEncodable}
-use Rattle.wsn_rules.specs.Meaning.{Message, Control}
+use Rattle.wsn_wire.specs.Frame.{IsEncodable}
 use Rattle.wsn_rules.specs.ShownBytes.{AreDealt}
 use Rattle.wsn_rules.specs.ShownExamples.{server_frame}
-use Rattle.wsn_rules.specs.ShownPlaces.{PlacedByte, placed, IsPlaced}
-use Rattle.wsn_rules.specs.ShownStream.{Shown}
-use Rattle.wsn_rules.specs.ShownStream.Item.{Event}
+use Rattle.wsn_rules.specs.ShownPlaces.{PlacedByte, placed}
 use Rattle.wsn_rules.proofs.place_examples.in_place.Goals as goal
 
 ping_encodable : IsEncodable (server_frame true Ping [])

@@ -1,13 +1,12 @@
-use Rattle.std.proofs.Common.{◌≡◌, ℕ, ◌+◌, ◌<◌, ◌≤◌, Bool, true, false, List, [], ◌∷◌, ◌++◌, length, refl, sym, ap, ◌∙◌, inl, inr, true≢false, arith, codes}
+use Rattle.std.proofs.Common.{◌≡◌, ℕ, List, [], ◌∷◌, ◌++◌, sym, ap, ◌∙◌, inl, inr, true≢false, arith, codes}
 use Rattle.std.specs.List.{AllByRecursion}
 use Rattle.wsn_wire.specs.declared.opcode.Kind.TheVariants as kind
 use Rattle.wsn_wire.specs.declared.opcode.Op.TheVariants.{Ping, Pong}
-use Rattle.wsn_wire.specs.Frame.{Frame, first_byte, frame_bytes}
+use Rattle.wsn_wire.specs.Frame.{frame_bytes}
 use Rattle.wsn_wire.specs.Layout.{fin_bit}
 use Rattle.wsn_wire.proofs.FrameLemmas.{first_byte_fields}
 use Rattle.wsn_rules.specs.Meaning.{Message, Control}
-use Rattle.wsn_rules.specs.ShownPlaces.{PlacedByte, placed, PlacedFrame, frames_in, placed_frames, IsFragment, IsMessageOf, IsPlaced, AreInOrder, AreInPlace}
-use Rattle.wsn_rules.specs.ShownStream.{Item, Shown}
+use Rattle.wsn_rules.specs.ShownPlaces.{PlacedByte, placed, PlacedFrame, frames_in, placed_frames, IsFragment, IsMessageOf, AreInOrder}
 use Rattle.wsn_rules.specs.ShownStream.Item.{Event}
 use Rattle.wsn_rules.proofs.PlacedExamples.{only_item}
 use Rattle.wsn_rules.proofs.place_examples.wrong_events.Goals as goal

@@ -1,10 +1,9 @@
-use Rattle.std.proofs.Common.{◌≡◌, ℕ, ◌+◌, ◌<◌, ◌≤◌, ◌⊎◌, true, None, List, [], ◌∷◌, length, refl, sym, ap, ◌∙◌, subst, inl, inr, arith}
+use Rattle.std.proofs.Common.{◌≡◌, ℕ, true, None, List, [], ◌∷◌, length, sym, ap, ◌∙◌, inl, inr, arith}
 use Rattle.wsn_wire.specs.declared.opcode.Op.TheVariants.{Ping}
 use Rattle.wsn_wire.specs.declared.length_forms.Form.TheVariants.{Shortest}
 use Rattle.wsn_wire.specs.declared.refusal.Reason.TheVariants.{ReservedBits}
 use Rattle.wsn_rules.specs.declared.head_info.HeadInfo.{HeadInfo}
-use Rattle.wsn_rules.specs.ShownBytes.{begun_bytes}
-use Rattle.wsn_rules.specs.ShownPlaces.{IsEncodableHead, IsEvidenceIn, AreOfOneFrame}
+use Rattle.wsn_rules.specs.ShownPlaces.{IsEncodableHead, IsEvidenceIn}
 use Rattle.wsn_rules.specs.ShownStream.Item.{RefusedFrame}
 use Rattle.wsn_rules.proofs.PlacedExamples.{only_item, same_bytes}
 use Rattle.wsn_rules.proofs.place_examples.wrong_refusals.Goals as goal

@@ -1,4 +1,4 @@
-use Rattle.std.proofs.Common.{◌≡◌, ℕ, ◌+◌, ◌<◌, ◌≤◌, None, Some, List, [], ◌∷◌, length, refl, sym, ap, ◌∙◌, arith}
+use Rattle.std.proofs.Common.{◌≡◌, ℕ, None, Some, List, [], ◌∷◌, length, refl, sym, ap, arith}
 use Rattle.wsn_wire.specs.declared.opcode.Op.TheVariants.{Ping}
 use Rattle.wsn_rules.specs.Meaning.{Control}
 use Rattle.wsn_rules.specs.ShownStream.Item.{Unfinished}
