@@ -30,7 +30,7 @@ use Rattle.wsn_capture.specs.Captures.{IsUnclosed, IsClosedBy, IsCloseLine}
 use Rattle.wsn_capture.proofs.PairedDigits.{pair_of}
 use Rattle.wsn_capture.proofs.ClosingLines.{accepted_closed, cut_unclosed, sent-push, closes_longer, line_noted}
 use Rattle.wsn_capture.proofs.ReportedLines.{first_by_lines}
-use Rattle.wsn_capture.proofs.OneReport.{outcome_at, at_its_place}
+use Rattle.wsn_rules.proofs.Outcomes.{outcome_at, at_its_place}
 
 -- ---- digits encode bytes
 

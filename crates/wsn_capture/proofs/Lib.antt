@@ -1,7 +1,5 @@
-pub mod OneEntry
 pub mod OneFault
 pub mod ComputedFaults
-pub mod OneReport
 pub mod StreamSteps
 pub mod LineEnds
 pub mod ClosingLines

@@ -18,7 +18,7 @@ use Rattle.wsn_capture.specs.LineFaults.{fault_order, HasNoForm, HasFault, IsFir
 use Rattle.wsn_capture.specs.LineForms.{HasNoHex}
 use Rattle.wsn_capture.specs.SideTexts.{decoded_entry, digits_entry, dot_entry, endpoint_entry, text_entry, ended_before, unless_ended, entry_unless_ended, entry_after, lines_giving}
 use Rattle.hex.proofs.HexLemmas.{decode_of-ok}
-use Rattle.wsn_capture.proofs.OneEntry.{letter_of, front_is, mark_is, one_given}
+use Rattle.wsn_rules.proofs.OneEntry.{letter_of, front_is, mark_is, one_given}
 use Rattle.wsn_capture.proofs.OneFault.{one_first_fault, NoneBefore, none_at_first, none_further, none_at_all, Form, GivesNothing, OfBytes, IsMark, NoForm, form_of, hex_or_not, true_or_false, nothing_bad, bytes_formed, bytes_taken, mark_formed, mark_taken}
 
 -- ---- tests of bytes and numbers

@@ -15,7 +15,8 @@ ghost use Rattle.wsn_rules.specs.ShownStream.{Item, Shown, shown_after, IsShownS
 ghost use Rattle.wsn_rules.specs.ShownBytes.{AreSharedOut};
 ghost use Rattle.wsn_rules.specs.ShownPlaces.{AreInPlace};
 ghost use Rattle.wsn_rules.specs.ShownEvents.{IsShownAt, ShowsEvent};
-ghost use Rattle.wsn_rules.specs.ShownCapture.{beyond, ShownLine, AreShownAfter, items_with_bytes};
+ghost use Rattle.wsn_rules.specs.declared.report.Report.{Report};
+ghost use Rattle.wsn_rules.specs.ShownCapture.{beyond, LineItem, ShownLine, IsTimeAfter, AreShownAfter, items_with_bytes, IsShownCapture};
 
 /// One list of items is shown of a stream in each detail. Its events are the meaning of the stream's frames, in order;
 /// its heads are those that are reported of the stream, in order.
@@ -77,4 +78,21 @@ pub fn law_shown_lines()
         AreShownAfter detail limits [] [] lines entries shown →
         (all : List Shown) × IsShownStream detail role limits (sent role entries) all
         × (items_with_bytes role entries shown ≡ map (λ s. s.item) all) }
+{}
+
+/// At most one list is left over of a stream, at most one time holds after lines, and at most one list of lines, with
+/// what is left over after them and a report, is shown of a capture.
+pub fn law_one_shown_capture()
+    ensures left { (role : Role) (limits : Limits) (bytes : List ℕ) (items others : List Item) →
+        IsLeftOver role limits bytes items → IsLeftOver role limits bytes others → items ≡ others }
+    ensures time { (lines : List (List ℕ)) (time other : Option (List ℕ)) →
+        IsTimeAfter lines time → IsTimeAfter lines other → time ≡ other }
+    ensures lines { (detail : Detail) (limits : Limits) (before : List (List ℕ)) (given : List Entry)
+        (lines : List (List ℕ)) (entries : List Entry) (shown others : List ShownLine) →
+        AreShownAfter detail limits before given lines entries shown →
+        AreShownAfter detail limits before given lines entries others → shown ≡ others }
+    ensures capture { (detail : Detail) (limits : Limits) (lines : List (List ℕ)) (shown others : List ShownLine)
+        (last rest : List LineItem) (report other : Report) →
+        IsShownCapture detail limits lines shown last report →
+        IsShownCapture detail limits lines others rest other → (shown ≡ others) × (last ≡ rest) × (report ≡ other) }
 {}

@@ -14,7 +14,7 @@ use Rattle.wsn_capture.specs.Captures.{HasAcceptedLines, count_of}
 use Rattle.wsn_capture.specs.declared.line_fault.LineFault.TheVariants.{TooLong, BadHex}
 use Rattle.wsn_capture.specs.LineFaults.{IsAcceptedLine, AreAcceptedAfter}
 use Rattle.wsn_capture.proofs.AcceptedTexts.{taken_given, digits_after}
-use Rattle.wsn_capture.proofs.OneEntry.{same_entries, front_is, not_nothing, not_mark}
+use Rattle.wsn_rules.proofs.OneEntry.{same_entries, front_is, not_nothing, not_mark}
 use Rattle.wsn_capture.specs.declared.line_form.LineForm.TheVariants as forms
 use Rattle.wsn_capture.specs.LineForms.{IsForm, HasNoHex}
 use Rattle.wsn_show.specs.declared.style.Style.{Style}

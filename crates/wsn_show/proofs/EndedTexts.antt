@@ -14,7 +14,7 @@ use Rattle.wsn_print.specs.ShownObjects.Position.{AtEnd}
 use Rattle.wsn_capture.specs.declared.capture_stop.CaptureStop.TheVariants as capture
 use Rattle.wsn_capture.specs.LineFaults.{AreAcceptedLines}
 use Rattle.wsn_capture.proofs.SplitLines.{unfaulted, faulty_last}
-use Rattle.wsn_capture.proofs.OneEntry.{same_entries}
+use Rattle.wsn_rules.proofs.OneEntry.{same_entries}
 use Rattle.wsn_capture.proofs.AcceptedTexts.{taken_given}
 use Rattle.wsn_show.specs.declared.capture_view.CaptureView.{CaptureView}
 use Rattle.wsn_show.specs.declared.showing.ShowStop.{ShowStop}

@@ -17,7 +17,7 @@ use Rattle.wsn_capture.specs.LineFaults.{AreAcceptedLines}
 use Rattle.wsn_capture.specs.LineSplitters.{IsStopAt, IsStopWithin}
 use Rattle.wsn_capture.proofs.SplitLines.{line_join, stop_line, stop_at_most, no_long}
 use Rattle.wsn_capture.proofs.PiecePrefixes.{rest_is, stop_in_rest}
-use Rattle.wsn_capture.proofs.OneEntry.{same_entries}
+use Rattle.wsn_rules.proofs.OneEntry.{same_entries}
 use Rattle.wsn_capture.proofs.AcceptedTexts.{taken_given}
 use Rattle.wsn_show.specs.declared.capture_view.CaptureView.{CaptureView}
 use Rattle.wsn_show.specs.declared.showing.ShowStop.{ShowStop}
