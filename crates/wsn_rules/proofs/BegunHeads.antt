@@ -60,6 +60,24 @@ same_parts info following first second len key rest is same len_count key_counte
       len_is = sym of_length.decoded ∙ ap (λ (bs : List ℕ). encoded_length field bs) same_lengths.0 ∙ ap (λ (f : LenForm). encoded_length f len) (sym field_is);
     }
 
+-- After the second byte at least the length and the key have come.
+pub head_came : (info : HeadInfo) (following : List ℕ) (first second : ℕ) (came : List ℕ) → IsEncodableHead info → begun_bytes info following ≡ first ∷ second ∷ came → length_count (len_form_at second) + key_count second ≤ length came
+head_came info following first second came is same =
+    let field = len_form_of info.form info.len in
+    let lengths = length_bytes field info.len in
+    let keys = key_bytes info.key in
+    let spells = spells-len_form_of info.form info.len is.form is.size in
+    let of_second = second_byte_fields info.key field info.len spells in
+    let of_length = length_bytes_fields field info.len spells in
+    let parts : first_byte info.fin info.op ∷ second_byte info.key field ∷ ((lengths ++ keys) ++ following) ≡ first ∷ second ∷ came = same in
+    let seconds : second_byte info.key field ≡ second = cc in
+    let tails : (lengths ++ keys) ++ following ≡ came = cc in
+    let of_len : length lengths ≡ length_count (len_form_at second) = of_length.count ∙ ap length_count (sym of_second.field_is ∙ ap len_form_at seconds) in
+    let of_key : length keys ≡ key_count second = key_bytes_count info.key is.key ∙ ap (λ (b : Bool). if b then 4 else 0) (sym of_second.mask_is ∙ ap mask_bit seconds) in
+    let sizes : length came ≡ (length lengths + length keys) + length following =
+    ap (λ (bs : List ℕ). length bs) (sym tails) ∙ length-append (lengths ++ keys) following ∙ ap (λ n. n + length following) (length-append lengths keys) in
+    omega (arith, of_len, of_key, sizes)
+
 -- ---- a frame that lacks bytes
 
 -- Bytes with the layout of a frame that begin with this head have as much payload as the head says.

@@ -36,6 +36,7 @@ pub mod ShownEvents
 pub mod OneShownCapture
 pub mod BegunHeads
 pub mod PlacedBytes
+pub mod EveryShown
 pub mod ShownPlaces
 pub mod ShownBytes
 pub mod PlacedExamples
