@@ -37,6 +37,8 @@ pub mod OneShownCapture
 pub mod BegunHeads
 pub mod PlacedBytes
 pub mod EveryShown
+pub mod EveryTime
+pub mod EveryCapture
 pub mod ShownPlaces
 pub mod ShownBytes
 pub mod PlacedExamples

@@ -2,14 +2,15 @@
 
 ghost use Rattle.std.specs.Prelude.{◌≡◌, ℕ, ◌<◌, ◌≤◌, Option, List, [], ◌++◌, length, map, slice_get};
 ghost use Rattle.std.specs.List.{AllByRecursion};
-ghost use Rattle.wsn_rules.specs.Words.{Role, Frame, Limits, Verdict, IsVerdict, meaning};
+ghost use Rattle.wsn_rules.specs.Words.{Role, Frame, IsBytes, Limits, InRange, Verdict, IsVerdict, meaning};
 ghost use Rattle.wsn_rules.specs.declared.detail.Detail.{Detail};
 ghost use Rattle.wsn_rules.specs.declared.detail.Detail.TheVariants.{Events, Frames};
 ghost use Rattle.wsn_rules.specs.declared.head_info.HeadInfo.{HeadInfo};
 ghost use Rattle.wsn_rules.specs.declared.without.Without.{Without};
-ghost use Rattle.wsn_rules.specs.Entries.{Entry};
+ghost use Rattle.wsn_rules.specs.Entries.{Entry, AreEntries};
 ghost use Rattle.wsn_rules.specs.Heads.{AreHeads};
 ghost use Rattle.wsn_rules.specs.LeftOut.{events_without};
+ghost use Rattle.wsn_rules.specs.Reports.{IsReportOf};
 ghost use Rattle.wsn_rules.specs.Sides.{sent};
 ghost use Rattle.wsn_rules.specs.ShownStream.{Item, Shown, shown_after, IsShownStream, IsLeftOver, events_shown, heads_shown};
 ghost use Rattle.wsn_rules.specs.ShownBytes.{AreSharedOut};
@@ -95,4 +96,17 @@ pub fn law_one_shown_capture()
         (last rest : List LineItem) (report other : Report) →
         IsShownCapture detail limits lines shown last report →
         IsShownCapture detail limits lines others rest other → (shown ≡ others) × (last ≡ rest) × (report ≡ other) }
+{}
+
+/// Every stream of bytes has a list of items in each detail, and one that is left over, if the limits are in range. So
+/// does a capture of such streams that has a report.
+pub fn law_every_stream_is_shown()
+    ensures shown { (detail : Detail) (role : Role) (limits : Limits) (bytes : List ℕ) → InRange limits → IsBytes bytes →
+        (shown : List Shown) × IsShownStream detail role limits bytes shown }
+    ensures left { (role : Role) (limits : Limits) (bytes : List ℕ) → InRange limits → IsBytes bytes →
+        (items : List Item) × IsLeftOver role limits bytes items }
+    ensures capture { (detail : Detail) (limits : Limits) (lines : List (List ℕ)) (entries : List Entry)
+        (report : Report) → InRange limits →
+        AreEntries lines entries → ((role : Role) → IsBytes (sent role entries)) → IsReportOf limits entries report →
+        (shown : List ShownLine) × (last : List LineItem) × IsShownCapture detail limits lines shown last report }
 {}
