@@ -6,7 +6,7 @@ use Rattle.std.proofs.lemmas.List.Concat.{flat_map-append}
 use Rattle.wsn_wire.specs.Frame.{Frame, frame_bytes}
 use Rattle.wsn_rules.specs.Meaning.{Message, Control}
 use Rattle.wsn_rules.specs.ShownBytes.{AreDealt}
-use Rattle.wsn_rules.specs.ShownPlaces.{PlacedByte, placed, end_or, end_of, PlacedFrame, frames_in, placed_frames, IsPlaced, ArePlaced, is_open_message, next_after, AreInOrder}
+use Rattle.wsn_rules.specs.ShownPlaces.{PlacedByte, placed, end_or, end_of, PlacedFrame, frames_in, placed_frames, IsPlaced, ArePlaced, is_open_message, IsShownWithNext, IsEnd, AreInOrder}
 use Rattle.wsn_rules.specs.ShownStream.{Item, Shown}
 use Rattle.wsn_rules.specs.ShownStream.Item.{Event, Head, Unfinished, UnfinishedHead, RefusedFrame, Unread, Tail}
 use Rattle.wsn_rules.proofs.Prefixes.{nil-push}
@@ -80,18 +80,18 @@ module _ (total : ℕ) where
   in_order_from m n [] [] le o = tt
   in_order_from m n [] (pile ∷ piles) le o = absurd o
   in_order_from m n (s ∷ shown) [] le o = absurd o
-  in_order_from m n (s ∷ shown) (pile ∷ piles) le (inl o) = inl (o.0, o.1, in_order_from m n shown piles le o.2)
-  in_order_from m n (s ∷ shown) (pile ∷ piles) le (inr o) = let later = o.2 in inr (o.0, o.1, omega (arith, later, le), o.3)
+  in_order_from m n (s ∷ shown) (pile ∷ piles) le (last, inl o) = (last, inl (o.0, o.1, in_order_from m n shown piles le o.2))
+  in_order_from m n (s ∷ shown) (pile ∷ piles) le (last, inr o) = let later = o.2 in (last, inr (o.0, o.1, omega (arith, later, le), o.3))
 
   -- More bytes at the front of a pile don't change the order.
   in_order_with : (chunk : List PlacedByte) (n : ℕ) (shown : List Shown) (before : List (List PlacedByte)) (pile : List PlacedByte) (after : List (List PlacedByte)) → AreInOrder total n shown (before ++ pile ∷ after) → AreInOrder total n shown (before ++ (chunk ++ pile) ∷ after)
   in_order_with chunk n [] [] pile after o = absurd o
   in_order_with chunk n [] (b ∷ before) pile after o = absurd o
-  in_order_with chunk n (s ∷ shown) [] pile after (inl o) = inl o
-  in_order_with chunk n (s ∷ shown) [] pile after (inr o) =
-      inr (o.0, o.1 ∙ sym (same_end n chunk pile (subst (λ k. n < k) o.1 o.2)), o.2, o.3)
-  in_order_with chunk n (s ∷ shown) (b ∷ before) pile after (inl o) = inl (o.0, o.1, in_order_with chunk n shown before pile after o.2)
-  in_order_with chunk n (s ∷ shown) (b ∷ before) pile after (inr o) = inr (o.0, o.1, o.2, in_order_with chunk s.after shown before pile after o.3)
+  in_order_with chunk n (s ∷ shown) [] pile after (last, inl o) = (last, inl o)
+  in_order_with chunk n (s ∷ shown) [] pile after (last, inr o) =
+      (last, inr (o.0, o.1 ∙ sym (same_end n chunk pile (subst (λ k. n < k) o.1 o.2)), o.2, o.3))
+  in_order_with chunk n (s ∷ shown) (b ∷ before) pile after (last, inl o) = (last, inl (o.0, o.1, in_order_with chunk n shown before pile after o.2))
+  in_order_with chunk n (s ∷ shown) (b ∷ before) pile after (last, inr o) = (last, inr (o.0, o.1, o.2, in_order_with chunk s.after shown before pile after o.3))
 
 -- ---- what is held of an open message goes to the first item that shows it
 
@@ -131,29 +131,29 @@ piece_dealt n chunk rest piles d =
     subst (λ (ps : List PlacedByte). AreDealt ps (placed n chunk ∷ piles)) (sym (placed-append n chunk rest)) (deal_pile (placed n chunk) (placed (n + length chunk) rest) piles d)
 
 -- An item that isn't an open message ends with its piece.
-ends_with_piece : (total n : ℕ) (s : Shown) (shown : List Shown) (chunk : List ℕ) (piles : List (List PlacedByte)) → is_open_message s.item ≡ false → 0 < length chunk → s.after ≡ n + length chunk → AreInOrder total (n + length chunk) shown piles
+ends_with_piece : (total n : ℕ) (s : Shown) (shown : List Shown) (chunk : List ℕ) (piles : List (List PlacedByte)) → (IsEnd s.item → shown ≡ []) → is_open_message s.item ≡ false → 0 < length chunk → s.after ≡ n + length chunk → AreInOrder total (n + length chunk) shown piles
     → AreInOrder total n (s ∷ shown) (placed n chunk ∷ piles)
-ends_with_piece total n s shown chunk piles whole some last o =
-    inr (whole, last ∙ sym (end_is n chunk some), omega (arith, last, some), subst (λ k. AreInOrder total k shown piles) (sym last) o)
+ends_with_piece total n s shown chunk piles end whole some last o =
+    (end, inr (whole, last ∙ sym (end_is n chunk some), omega (arith, last, some), subst (λ k. AreInOrder total k shown piles) (sym last) o))
 
 -- An item that doesn't show the open message.
-pub other_item : (total n : ℕ) (held : List PlacedFrame) (s : Shown) (shown : List Shown) (chunk rest : List ℕ) → takes s.item ≡ false → is_open_message s.item ≡ false → 0 < length chunk → s.after ≡ n + length chunk → IsPlaced s (placed n chunk)
+pub other_item : (total n : ℕ) (held : List PlacedFrame) (s : Shown) (shown : List Shown) (chunk rest : List ℕ) → takes s.item ≡ false → (IsEnd s.item → shown ≡ []) → is_open_message s.item ≡ false → 0 < length chunk → s.after ≡ n + length chunk → IsPlaced s (placed n chunk)
     → Dealt total (n + length chunk) held shown rest → Dealt total n held (s ∷ shown) (chunk ++ rest)
-other_item total n held s shown chunk rest fails whole some last of d = record {
+other_item total n held s shown chunk rest fails end whole some last of d = record {
   piles = placed n chunk ∷ d.piles;
   dealt = piece_dealt n chunk rest d.piles d.dealt;
   have = (
     subst (λ (fs : List PlacedFrame). IsPlaced s (placed_frames fs ++ placed n chunk)) (sym (cond-false (takes s.item) held [] fails)) of,
     subst (λ (fs : List PlacedFrame). ArePlacedAfter fs shown d.piles) (sym (cond-false (takes s.item) [] held fails)) d.have,
   );
-  order = ends_with_piece total n s shown chunk d.piles whole some last d.order;
+  order = ends_with_piece total n s shown chunk d.piles end whole some last d.order;
 }
 
 -- The item that shows it.
-pub its_item : (total n : ℕ) (held : List PlacedFrame) (s : Shown) (shown : List Shown) (chunk rest : List ℕ) → takes s.item ≡ true
-    → ((is_open_message s.item ≡ true) × (s.after ≡ next_after total shown)) ⊎ ((is_open_message s.item ≡ false) × (0 < length chunk) × (s.after ≡ n + length chunk)) → IsPlaced s (placed_frames held ++ placed n chunk)
+pub its_item : (total n : ℕ) (held : List PlacedFrame) (s : Shown) (shown : List Shown) (chunk rest : List ℕ) → takes s.item ≡ true → (IsEnd s.item → shown ≡ [])
+    → ((is_open_message s.item ≡ true) × IsShownWithNext total s.after shown) ⊎ ((is_open_message s.item ≡ false) × (0 < length chunk) × (s.after ≡ n + length chunk)) → IsPlaced s (placed_frames held ++ placed n chunk)
     → Dealt total (n + length chunk) [] shown rest → Dealt total n held (s ∷ shown) (chunk ++ rest)
-its_item total n held s shown chunk rest holds kind of d = record {
+its_item total n held s shown chunk rest holds end kind of d = record {
   piles = placed n chunk ∷ d.piles;
   dealt = piece_dealt n chunk rest d.piles d.dealt;
   have = (
@@ -163,9 +163,9 @@ its_item total n held s shown chunk rest holds kind of d = record {
   order = by kind;
 }
   where
-    by : ((is_open_message s.item ≡ true) × (s.after ≡ next_after total shown)) ⊎ ((is_open_message s.item ≡ false) × (0 < length chunk) × (s.after ≡ n + length chunk)) → AreInOrder total n (s ∷ shown) (placed n chunk ∷ d.piles)
-    by (inl p) = inl (p.0, p.1, in_order_from total n (n + length chunk) shown d.piles (omega arith) d.order)
-    by (inr p) = ends_with_piece total n s shown chunk d.piles p.0 p.1 p.2 d.order
+    by : ((is_open_message s.item ≡ true) × IsShownWithNext total s.after shown) ⊎ ((is_open_message s.item ≡ false) × (0 < length chunk) × (s.after ≡ n + length chunk)) → AreInOrder total n (s ∷ shown) (placed n chunk ∷ d.piles)
+    by (inl p) = (end, inl (p.0, p.1, in_order_from total n (n + length chunk) shown d.piles (omega arith) d.order))
+    by (inr p) = ends_with_piece total n s shown chunk d.piles end p.0 p.1 p.2 d.order
 
 -- Where a fragment goes.
 record Found (held : List PlacedFrame) (f : PlacedFrame) (shown : List Shown) (piles : List (List PlacedByte)) : Type 0 where

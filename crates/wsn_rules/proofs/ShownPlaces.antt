@@ -22,7 +22,7 @@ use Rattle.wsn_rules.specs.Meaning.{MeantEvent, Message, Control, event_at}
 use Rattle.wsn_rules.specs.Summary.{is_close}
 use Rattle.wsn_rules.specs.Verdict.{EndsWithinFrame, IsCut, IsVerdict}
 use Rattle.wsn_rules.specs.ShownBytes.{IsGroupOf, begun_bytes}
-use Rattle.wsn_rules.specs.ShownPlaces.{PlacedByte, placed, BeginsAt, end_of, PlacedFrame, frames_in, placed_frames, IsFragment, IsLastFrame, IsControlFrame, BeginOnce, IsMessageOf, IsEncodableHead, IsPartOfHead, HasBegun, IsPlaced, is_open_message, next_after, AreInPlace}
+use Rattle.wsn_rules.specs.ShownPlaces.{PlacedByte, placed, BeginsAt, end_of, PlacedFrame, frames_in, placed_frames, IsFragment, IsLastFrame, IsControlFrame, BeginOnce, IsMessageOf, IsEncodableHead, IsPartOfHead, HasBegun, IsPlaced, is_open_message, Interrupts, IsShownWithNext, AreInPlace}
 use Rattle.wsn_rules.specs.ShownStream.{Item, Shown, shown_after, open_offset, open_item, open_items, event_offset, event_frames, items_of_final, shown_at, shown_of, items_of_bytes, frame_so_far, items_of_part, items_of_head, IsLeftOfRest, IsLeftOf, IsLeftOver, IsShownEvidence, IsShownVerdict, IsShownStream}
 use Rattle.wsn_rules.specs.ShownStream.Item.{Event, Unfinished, UnfinishedHead, RefusedFrame, Unread, Tail}
 use Rattle.wsn_rules.proofs.Prefixes.{nil-push, push-append}
@@ -172,7 +172,7 @@ abbrev with : ℕ → Item → Shown
 with k item = record { after = k; item = item }
 
 -- A message that is interrupted.
-open_in_front : (total : ℕ) (fs : List Frame) (held : List PlacedFrame) (k : ℕ) (shown : List Shown) (rest : List ℕ) → IsHeld fs held → k ≡ next_after total shown → length (stream fs) ≤ k → Dealt total (length (stream fs)) [] shown rest
+open_in_front : (total : ℕ) (fs : List Frame) (held : List PlacedFrame) (k : ℕ) (shown : List Shown) (rest : List ℕ) → IsHeld fs held → IsShownWithNext total k shown → length (stream fs) ≤ k → Dealt total (length (stream fs)) [] shown rest
     → Dealt total (length (stream fs)) held (shown_after k (open_items fs (Some 0)) ++ shown) rest
 open_in_front total fs held k shown rest is next later d =
     let n = length (stream fs) in
@@ -190,7 +190,7 @@ open_in_front total fs held k shown rest is next later d =
           } in
           let same : n ≡ n + length {A = ℕ} [] = omega arith in
           subst (λ (is : List Item). Dealt total n held (shown_after k is ++ shown) rest) (sym (cond-true some (item ∷ []) [] holds))
-          (its_item total n held (with k item) shown [] rest refl (inl (refl, next)) of (subst (λ m. Dealt total m [] shown rest) same d))
+          (its_item total n held (with k item) shown [] rest refl (λ some_lack. absurd (some_lack refl)) (inl (refl, next)) of (subst (λ m. Dealt total m [] shown rest) same d))
       | inr fails ↦
           subst (λ (is : List Item). Dealt total n held (shown_after k is ++ shown) rest) (sym (cond-false some (item ∷ []) [] fails))
           (subst (λ (gs : List PlacedFrame). Dealt total n gs shown rest) (sym (none_held_of fs held is (none_open group fails))) d)
@@ -279,7 +279,7 @@ message_ends total before held f later rest last on is d =
       within = omega (arith, end, next);
     } in
     subst (λ (i : Item). Dealt total n held (with k i ∷ later) (frame_bytes f ++ rest)) (sym (message_item before f last.data_frame))
-    (its_item total n held (with k item) later (frame_bytes f) rest refl (inr (refl, frame_some f, next)) of d)
+    (its_item total n held (with k item) later (frame_bytes f) rest refl (λ e. absurd e) (inr (refl, frame_some f, next)) of d)
 
 control_ends : (total : ℕ) (held : List PlacedFrame) (before : List Frame) (f : Frame) (later : List Shown) (rest : List ℕ) → IsControlFrame f → Dealt total (length (stream before) + length (frame_bytes f)) held later rest
     → Dealt total (length (stream before)) held (with (last_of before f) (event_of before f) ∷ later) (frame_bytes f ++ rest)
@@ -295,7 +295,7 @@ control_ends total held before f later rest control d =
       within = omega (arith, end, next);
     } in
     subst (λ (i : Item). Dealt total n held (with k i ∷ later) (frame_bytes f ++ rest)) (sym (control_item before f control.control))
-    (other_item total n held (with k item) later (frame_bytes f) rest refl refl (frame_some f) next of d)
+    (other_item total n held (with k item) later (frame_bytes f) rest refl (λ e. absurd e) refl (frame_some f) next of d)
 
 -- What comes after frames, whatever is held of them.
 abbrev DealtAfter : ℕ → List Frame → List Shown → List ℕ → Type 0
@@ -337,10 +337,12 @@ close_ends total before f last rest close control d held is =
     let k = last_of before f in
     let next = next_offset before f in
     let ended = with k (event_of before f) in
+    let item_is : event_of before f ≡ Event n (Control Close f.payload) 1 = control_item before f control.control ∙ ap (λ (op : Op). Event n (Control op f.payload) 1) close in
+    let interrupting : Interrupts (event_of before f) = subst Interrupts (sym item_is) tt in
     let all : shown_at before f ++ last ≡ shown_after k (open_items before (Some 0)) ++ ended ∷ last =
     ap (λ (ss : List Shown). ss ++ last) (shown_close before f control.final (ap is_close close)) ∙ append_assoc (shown_after k (open_items before (Some 0))) (ended ∷ []) last in
     subst (λ (ss : List Shown). Dealt total n held ss (frame_bytes f ++ rest)) (sym all)
-    (open_in_front total before held k (ended ∷ last) (frame_bytes f ++ rest) is refl (omega (arith, next))
+    (open_in_front total before held k (ended ∷ last) (frame_bytes f ++ rest) is (interrupting, refl) (omega (arith, next))
     (control_ends total [] before f last rest control (subst (λ m. Dealt total m [] last rest) next d)))
 
 drop_front : (front rest : List ℕ) → drop (length front) (front ++ rest) ≡ rest
@@ -437,7 +439,7 @@ module _ (role : Role) (limits : Limits) where
             is_pile = (held, is.fragments, inr (info, begun.following, lacks_some info begun within, message, ap (λ (ps : List PlacedByte). placed_frames held ++ ps) piece));
             within = omega (arith, end, all);
           } in
-          its_item total n held (with total item) [] rest [] refl (inl (refl, refl)) of (nothing_dealt total (n + length rest))
+          its_item total n held (with total item) [] rest [] refl (λ e. refl) (inl (refl, refl)) of (nothing_dealt total (n + length rest))
 
       -- A control has begun.
       begun_control : (info : HeadInfo) (begun : BeginsWithHead role limits fs rest info) → EndsWithinFrame rest → is_control info.op ≡ true
@@ -456,8 +458,8 @@ module _ (role : Role) (limits : Limits) where
             within = omega (arith, end, all);
           } in
           subst (λ (ss : List Shown). Dealt total n held ss (rest ++ [])) (sym (map-append (λ (i : Item). with total i) (open_items fs (Some 0)) (item ∷ [])))
-          (open_in_front total fs held total (with total item ∷ []) (rest ++ []) is refl (omega (arith, all))
-          (other_item total n [] (with total item) [] rest [] refl refl some all of (nothing_dealt total (n + length rest))))
+          (open_in_front total fs held total (with total item ∷ []) (rest ++ []) is (tt, refl) (omega (arith, all))
+          (other_item total n [] (with total item) [] rest [] refl (λ e. refl) refl some all of (nothing_dealt total (n + length rest))))
 
       begun_part : (info : HeadInfo) (begun : BeginsWithHead role limits fs rest info) → EndsWithinFrame rest → DealtAfter total fs (shown_after total (items_of_part fs info (wire_payload info.key begun.following))) (rest ++ [])
       begun_part info begun within =
@@ -491,13 +493,13 @@ module _ (role : Role) (limits : Limits) where
                 within = omega (arith, end, all);
               } in
               subst (λ (is : List Item). Dealt total n held (shown_after total is) ((b ∷ rest) ++ [])) (sym (cond-true some of_open (head ∷ []) holds ∙ cond-true some (item ∷ []) [] holds))
-              (its_item total n held (with total item) [] (b ∷ rest) [] refl (inl (refl, refl)) of (nothing_dealt total (n + length (b ∷ rest))))
+              (its_item total n held (with total item) [] (b ∷ rest) [] refl (λ e. refl) (inl (refl, refl)) of (nothing_dealt total (n + length (b ∷ rest))))
           | inr fails ↦
               let end = end_is n (b ∷ rest) size in
               let of : IsPlaced (with total head) (placed n (b ∷ rest)) = record { begins = refl; is_pile = (b ∷ rest, is_part, refl); within = omega (arith, end, all) } in
               subst (λ (is : List Item). Dealt total n held (shown_after total is) ((b ∷ rest) ++ [])) (sym (cond-false some of_open (head ∷ []) fails))
               (subst (λ (gs : List PlacedFrame). Dealt total n gs (with total head ∷ []) ((b ∷ rest) ++ [])) (sym (none_held_of fs held is (none_open group fails)))
-              (other_item total n [] (with total head) [] (b ∷ rest) [] refl refl size all of (nothing_dealt total (n + length (b ∷ rest)))))
+              (other_item total n [] (with total head) [] (b ∷ rest) [] refl (λ e. refl) refl size all of (nothing_dealt total (n + length (b ∷ rest)))))
         ]
 
     left_of_rest : (bytes : List ℕ) (fs : List Frame) (c : IsCut role limits bytes fs) (left : List Item) → total ≡ length (stream fs) + length c.rest → IsLeftOfRest role limits fs c.rest left → DealtAfter total fs (shown_after total left) c.rest
@@ -521,7 +523,7 @@ module _ (role : Role) (limits : Limits) where
         let size : 0 < length (b ∷ bytes) = omega arith in
         let end = end_is offset (b ∷ bytes) size in
         subst (Dealt total offset [] (with total (item offset (b ∷ bytes)) ∷ [])) (append-nil (b ∷ bytes))
-        (other_item total offset [] (with total (item offset (b ∷ bytes))) [] (b ∷ bytes) [] (other (b ∷ bytes)) (whole (b ∷ bytes)) size all (each b bytes (omega (arith, end, all))) (nothing_dealt total (offset + length (b ∷ bytes))))
+        (other_item total offset [] (with total (item offset (b ∷ bytes))) [] (b ∷ bytes) [] (other (b ∷ bytes)) (λ e. refl) (whole (b ∷ bytes)) size all (each b bytes (omega (arith, end, all))) (nothing_dealt total (offset + length (b ∷ bytes))))
 
     unread : (offset : ℕ) (bytes : List ℕ) → total ≡ offset + length bytes → Dealt total offset [] (shown_after total (items_of_bytes Unread offset bytes)) bytes
     unread offset bytes all = of_bytes Unread offset bytes all (λ some. refl) (λ some. refl) (λ b some fits. record { begins = refl; is_pile = refl; within = fits })
@@ -592,8 +594,8 @@ module _ (role : Role) (limits : Limits) where
       ap (λ (ss : List Shown). ss ++ shown_after total left) of_refusal ∙ append_assoc (shown_after k (open_items fs (Some 0))) (with k item ∷ []) (shown_after total left)
       ∙ ap (λ (is : List Item). shown_after k (open_items fs (Some 0)) ++ with k item ∷ shown_after total is) (is_left ∙ ap (λ (bs : List ℕ). items_of_bytes Unread (refusal.place + 1) bs) past) in
       let all : DealtAfter total fs (shown_after k (open_items fs (Some 0)) ++ with k item ∷ rest) (seen ++ later) = λ held is.
-      open_in_front total fs held k (with k item ∷ rest) (seen ++ later) is refl (omega (arith, stops))
-      (other_item total n [] (with k item) rest seen later refl refl some stops of (subst (λ m. Dealt total m [] rest later) stops (unread total (refusal.place + 1) later all_size))) in
+      open_in_front total fs held k (with k item ∷ rest) (seen ++ later) is (tt, refl) (omega (arith, stops))
+      (other_item total n [] (with k item) rest seen later refl (λ e. absurd e) refl some stops of (subst (λ m. Dealt total m [] rest later) stops (unread total (refusal.place + 1) later all_size))) in
       subst (λ (ss : List Shown). Dealt total 0 [] (shown_of [] fs ++ ss) bytes) (sym last)
       (subst (Dealt total 0 [] (shown_of [] fs ++ (shown_after k (open_items fs (Some 0)) ++ with k item ∷ rest))) (sym whole)
       (frames_without_close total fs (shown_after k (open_items fs (Some 0)) ++ with k item ∷ rest) (seen ++ later) refused.lawful refused.no_close all))

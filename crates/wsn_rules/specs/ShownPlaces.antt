@@ -3,7 +3,7 @@
 use Rattle.std.specs.Prelude.{◌≡◌, ◌≢◌, ℕ, ◌+◌, ◌<◌, ◌≤◌, ◌^◌, ◌⊎◌, ⊤, Bool, true, false, IfSome, Option, None, Some, List, [], ◌∷◌, ◌++◌, length, map}
 use Rattle.std.specs.List.{AllByRecursion, flat_map}
 use Rattle.wsn_wire.specs.declared.opcode.Kind.{Kind}
-use Rattle.wsn_wire.specs.declared.opcode.Op.TheVariants.{Continue}
+use Rattle.wsn_wire.specs.declared.opcode.Op.TheVariants.{Continue, Close}
 use Rattle.wsn_wire.specs.Frame.{Frame, IsKey, FormFits, IsEncodable, is_control, frame_bytes, wire_payload}
 use Rattle.wsn_wire.specs.Layout.{len_form_at, length_count, key_count}
 use Rattle.wsn_rules.specs.declared.head_info.HeadInfo.{HeadInfo}
@@ -185,19 +185,35 @@ abbrev pub is_open_message : Item → Bool
 is_open_message (Unfinished offset (Message kind payload) count lacks) = true
 is_open_message item = false
 
--- The number of bytes with which the first of the items is shown; if there is none, that of all bytes.
-abbrev pub next_after : ℕ → List Shown → ℕ
-next_after total [] = total
-next_after total (s ∷ shown) = s.after
+-- The item interrupts a message: a Close, a control that isn't complete, or a refused frame.
+abbrev pub Interrupts : Item → Type 0
+Interrupts (Event offset (Control Close body) count) = ⊤
+Interrupts (Unfinished offset (Control op body) count lacks) = ⊤
+Interrupts (RefusedFrame offset refusal evidence) = ⊤
+Interrupts item = ⊥
 
--- The items are in the order of their last bytes, and those of the first are after n bytes. Each is shown with its last
--- byte. But a message that isn't complete is shown with the next item, which interrupts it, or with all bytes.
+-- A message that isn't complete is shown with this number of bytes: with the next item, which interrupts it; or with
+-- all bytes, if there is none.
+abbrev pub IsShownWithNext : ℕ → ℕ → List Shown → Type 0
+IsShownWithNext total after [] = after ≡ total
+IsShownWithNext total after (s ∷ shown) = Interrupts s.item × (after ≡ s.after)
+
+-- The item is the end of the stream: a frame lacks bytes, or bytes come after a refusal or a Close.
+abbrev pub IsEnd : Item → Type 0
+IsEnd (Unfinished offset event count lacks) = lacks ≢ Some 0
+IsEnd (UnfinishedHead offset) = ⊤
+IsEnd (Unread offset bytes) = ⊤
+IsEnd (Tail offset bytes) = ⊤
+IsEnd item = ⊥
+
+-- The items are in the order of their last bytes, and those of the first are after n bytes: each is shown with its last
+-- byte, or is a message that isn't complete. What is the end of the stream is last.
 abbrev pub AreInOrder : ℕ → ℕ → List Shown → List (List PlacedByte) → Type 0
 AreInOrder total n [] [] = ⊤
-AreInOrder total n (s ∷ shown) (pile ∷ piles) =
-    ((is_open_message s.item ≡ true) × (s.after ≡ next_after total shown) × AreInOrder total n shown piles)
+AreInOrder total n (s ∷ shown) (pile ∷ piles) = (IsEnd s.item → shown ≡ [])
+    × (((is_open_message s.item ≡ true) × IsShownWithNext total s.after shown × AreInOrder total n shown piles)
     ⊎ ((is_open_message s.item ≡ false) × (s.after ≡ end_of pile) × (n < s.after)
-    × AreInOrder total s.after shown piles)
+    × AreInOrder total s.after shown piles))
 AreInOrder total n shown piles = ⊥
 
 -- Every byte of the stream is in exactly one of these items, and each is where it says.

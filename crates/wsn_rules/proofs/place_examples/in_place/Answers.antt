@@ -27,7 +27,7 @@ returns-clause-ping c = record {
     },
     tt,
   );
-  in_order = inr (refl, refl, omega arith, tt);
+  in_order = ((λ e. absurd e), inr (refl, refl, omega arith, tt));
 }
 
 -- The bytes of the ping, and those of the message after it.
@@ -68,5 +68,5 @@ returns-clause-ping_between c = record {
       tt,
     ),
   );
-  in_order = inr (refl, refl, omega arith, inr (refl, refl, omega arith, tt));
+  in_order = ((λ e. absurd e), inr (refl, refl, omega arith, ((λ e. absurd e), inr (refl, refl, omega arith, tt))));
 }

@@ -58,10 +58,10 @@ returns-clause-order c are = by are.piles are.in_order
   where
     second : (piles : List (List PlacedByte)) → AreInOrder 4 4 (record { after = 2; item = Event 0 (Control Ping []) 1 } ∷ []) piles → ⊥
     second [] o = o
-    second (pile ∷ piles) (inl o) = true≢false (sym o.0)
-    second (pile ∷ piles) (inr o) = let less = o.2 in omega (arith, less)
+    second (pile ∷ piles) (last, inl o) = true≢false (sym o.0)
+    second (pile ∷ piles) (last, inr o) = let less = o.2 in omega (arith, less)
 
     by : (piles : List (List PlacedByte)) → AreInOrder 4 0 (record { after = 4; item = Event 2 (Control Pong []) 1 } ∷ record { after = 2; item = Event 0 (Control Ping []) 1 } ∷ []) piles → ⊥
     by [] o = o
-    by (pile ∷ piles) (inl o) = true≢false (sym o.0)
-    by (pile ∷ piles) (inr o) = second piles o.3
+    by (pile ∷ piles) (last, inl o) = true≢false (sym o.0)
+    by (pile ∷ piles) (last, inr o) = second piles o.3
