@@ -1,11 +1,11 @@
 -- Every capture with a report is shown.
-use Rattle.std.proofs.Common.{◌≡◌, ℕ, ◌+◌, Bool, true, false, Option, None, Some, List, [], ◌∷◌, ◌++◌, ◌⊎◌, length, refl, sym, ap, ◌∙◌, subst, inl, inr, append_assoc, append-nil}
+use Rattle.std.proofs.Common.{◌≡◌, ℕ, ◌+◌, Option, None, List, [], ◌∷◌, ◌++◌, length, refl, sym, ap, ◌∙◌, subst, inl, inr, append_assoc, append-nil}
 use Rattle.std.proofs.lemmas.Bool.{cases_Bool}
 use Rattle.std.proofs.lemmas.List.Concat.{flat_map-append}
 use Rattle.wsn_wire.specs.declared.endpoint.Role.{Role}
 use Rattle.wsn_wire.specs.declared.endpoint.Role.TheVariants.{Client, Server}
 use Rattle.wsn_wire.specs.Frame.{IsBytes}
-use Rattle.wsn_wire.proofs.FrameLemmas.{IsBytes-append, IsBytes-left, IsBytes-right}
+use Rattle.wsn_wire.proofs.FrameLemmas.{IsBytes-left}
 use Rattle.wsn_rules.specs.declared.detail.Detail.{Detail}
 use Rattle.wsn_rules.specs.declared.report.Report.{Report}
 use Rattle.wsn_rules.specs.Limits.{Limits, InRange}
@@ -15,7 +15,7 @@ use Rattle.wsn_rules.specs.Reports.{IsReportOf}
 use Rattle.wsn_rules.specs.Sides.{bytes_in, sent, has_ended}
 use Rattle.wsn_rules.specs.ShownCapture.{IsTimeAfter, LineItem, of_stream, beyond, IsShownNothing, IsShownOfEntry, ShownLine, AreShownAfter, IsLeftAtEnd, IsShownCapture}
 use Rattle.wsn_rules.specs.ShownCapture.LineItem.{End, Comment}
-use Rattle.wsn_rules.specs.ShownStream.{Item, Shown, IsShownStream, IsLeftOver}
+use Rattle.wsn_rules.specs.ShownStream.{Item}
 use Rattle.wsn_rules.proofs.EveryShown.{some_left, some_shown}
 use Rattle.wsn_rules.proofs.EveryTime.{gives_time, time_after}
 
@@ -78,8 +78,7 @@ module _ (detail : Detail) (limits : Limits) (range : InRange limits) where
   some_shown_capture lines entries report are all is =
       let shown = some_shown_after [] [] lines entries None tt are all in
       let client = some_at_end Client entries all in
-      let server = some_at_end Server entries all in
-      (
+      let server = some_at_end Server entries all in (
         shown.0,
         of_stream Client client.0 ++ of_stream Server server.0,
         record {

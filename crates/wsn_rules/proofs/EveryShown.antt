@@ -3,15 +3,14 @@ use Rattle.std.proofs.Common.{◌≡◌, ◌≢◌, ℕ, ◌+◌, ◌<◌, ◌�
 use Rattle.std.proofs.lemmas.List.{take_at}
 use Rattle.wsn_wire.specs.declared.endpoint.Role.{Role}
 use Rattle.wsn_wire.specs.declared.refusal.Reason.{Reason}
-use Rattle.wsn_wire.specs.Frame.{Frame, IsBytes, head_bytes, frame_bytes, stream, wire_payload}
+use Rattle.wsn_wire.specs.Frame.{Frame, IsBytes, head_bytes, stream, wire_payload}
 use Rattle.wsn_wire.specs.Layout.{HasLayout, len_form_at, length_count, encoded_length, key_count}
 use Rattle.wsn_wire.specs.Sender.{HeadHasNoEvidence}
 use Rattle.wsn_wire.proofs.FrameLemmas.{IsBytes-append, IsBytes-left, IsBytes-right, fronts_agree, frame_at}
-use Rattle.wsn_wire.proofs.HeadLemmas.{IsSpelledBy, frame_of_layout}
+use Rattle.wsn_wire.proofs.HeadLemmas.{frame_of_layout}
 use Rattle.wsn_rules.specs.declared.detail.Detail.{Detail}
 use Rattle.wsn_rules.specs.declared.detail.Detail.TheVariants.{Events, Frames}
 use Rattle.wsn_rules.specs.declared.head_info.HeadInfo.{HeadInfo}
-use Rattle.wsn_rules.specs.declared.verdict.Refusal.{Refusal}
 use Rattle.wsn_rules.specs.declared.verdict.Verdict.{Verdict}
 use Rattle.wsn_rules.specs.declared.verdict.Verdict.TheVariants.{Accepted, Cut, Refused}
 use Rattle.wsn_rules.specs.Limits.{Limits, InRange}
@@ -19,15 +18,13 @@ use Rattle.wsn_rules.specs.Accepted.{HasNoClose, EndsWithClose}
 use Rattle.wsn_rules.specs.Evidence.{Evidence}
 use Rattle.wsn_rules.specs.Evidence.Evidence.{ByFirst, BySecond, ByLength}
 use Rattle.wsn_rules.specs.Group.{unfinished}
-use Rattle.wsn_rules.specs.Heads.{BeginsWithHead, IsBegun, AreHeads, info_of, heads_of}
-use Rattle.wsn_rules.specs.NoEvidence.{HasNoEvidence}
+use Rattle.wsn_rules.specs.Heads.{BeginsWithHead, IsBegun, info_of, heads_of}
 use Rattle.wsn_rules.specs.Verdict.{IsVerdict}
-use Rattle.wsn_rules.specs.ShownBytes.{begun_bytes}
 use Rattle.wsn_rules.specs.ShownPlaces.{IsEncodableHead}
 use Rattle.wsn_rules.specs.ShownStream.{Item, Shown, shown_after, shown_of, shown_head, AreShownFrames, interrupted, IsShownEvidence, IsShownVerdict, IsShownStream, items_of_bytes, items_of_part, items_of_head, IsLeftOf, IsLeftOver}
 use Rattle.wsn_rules.specs.ShownStream.Item.{RefusedFrame, Unread, Tail}
 use Rattle.wsn_rules.proofs.LawfulLists.{close_is_last}
-use Rattle.wsn_rules.proofs.LayoutPrefixes.{zeros, length-zeros, zeros_bytes, Front, Missing, front_or_missing}
+use Rattle.wsn_rules.proofs.LayoutPrefixes.{zeros, length-zeros, zeros_bytes, Missing, front_or_missing}
 use Rattle.wsn_rules.proofs.LeastEvident.{LeastFront, least_front}
 use Rattle.wsn_rules.proofs.EveryInput.{has_verdict}
 use Rattle.wsn_rules.proofs.OneVerdict.{all_of_verdict}
@@ -134,8 +131,7 @@ module _ (role : Role) (limits : Limits) (fs : List Frame) where
           let both : front ++ wire ≡ head ++ payload = encoded.bytes_are ∙ ap (λ (bs : List ℕ). first ∷ second ∷ bs) (sym (append_assoc len key payload)) in
           let sizes : length front + length wire ≡ length head + length payload = sym (length-append front wire) ∙ ap (λ (bs : List ℕ). length bs) both ∙ length-append head payload in
           let tails : length wire ≡ length payload = ap (λ (bs : List ℕ). length bs) parts.following_is in
-          let same : front ≡ head = (fronts_agree front head wire payload (omega (arith, sizes, tails)) both).0 in
-          (
+          let same : front ≡ head = (fronts_agree front head wire payload (omega (arith, sizes, tails)) both).0 in (
             info,
             record {
               head = head;
@@ -208,8 +204,7 @@ module _ (role : Role) (limits : Limits) (range : InRange limits) where
   some_of_frames Events bytes fs v all is = (shown_of [] fs, refl)
   some_of_frames Frames bytes fs v all is =
       let parts = all_of_verdict role limits bytes fs v is in
-      let begun = some_begun fs parts.rest (IsBytes-right (stream fs) parts.rest (subst IsBytes parts.whole all)) (close_is_last role limits fs parts.lawful) in
-      (
+      let begun = some_begun fs parts.rest (IsBytes-right (stream fs) parts.rest (subst IsBytes parts.whole all)) (close_is_last role limits fs parts.lawful) in (
         map shown_head (heads_of fs ++ begun.0),
         (heads_of fs ++ begun.0, record { rest = parts.rest; begun = begun.0; lawful = parts.lawful; whole = parts.whole; is_begun = begun.1; all = refl }, refl),
       )
@@ -230,8 +225,7 @@ module _ (role : Role) (limits : Limits) (range : InRange limits) where
   some_of_verdict detail bytes fs (Cut summary) all = ([], refl)
   some_of_verdict detail bytes fs (Refused refusal) all =
       let seen = drop (length (stream fs)) (take (refusal.place + 1) bytes) in
-      let evidence = some_evidence fs seen (IsBytes-drop (length (stream fs)) (take (refusal.place + 1) bytes) (IsBytes-take (refusal.place + 1) bytes all)) in
-      (
+      let evidence = some_evidence fs seen (IsBytes-drop (length (stream fs)) (take (refusal.place + 1) bytes) (IsBytes-take (refusal.place + 1) bytes all)) in (
         shown_after (refusal.place + 1) (interrupted detail fs ++ RefusedFrame (length (stream fs)) refusal evidence.0 ∷ []),
         record { evidence = evidence.0; is_evidence = evidence.1; is = refl },
       )
@@ -240,8 +234,7 @@ module _ (role : Role) (limits : Limits) (range : InRange limits) where
   some_shown detail bytes all =
       let found = has_verdict role limits range bytes all in
       let of_frames = some_of_frames detail bytes found.frames found.verdict all found.is in
-      let of_verdict = some_of_verdict detail bytes found.frames found.verdict all in
-      (
+      let of_verdict = some_of_verdict detail bytes found.frames found.verdict all in (
         of_frames.0 ++ of_verdict.0,
         record {
           frames = found.frames;

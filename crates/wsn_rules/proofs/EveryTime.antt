@@ -1,9 +1,9 @@
 -- Whether a text is a time is decided, so a time or none holds after any lines.
-use Rattle.std.proofs.Common.{◌≡◌, ◌≢◌, ℕ, ◌+◌, ◌<◌, ◌≤◌, Option, None, Some, List, [], ◌∷◌, ◌++◌, ◌⊎◌, length, refl, sym, ap, ◌∙◌, subst, inl, inr, append_assoc, codes, arith}
+use Rattle.std.proofs.Common.{◌≡◌, ℕ, ◌≤◌, Option, None, Some, List, [], ◌∷◌, ◌++◌, ◌⊎◌, length, refl, sym, ap, ◌∙◌, subst, inl, inr, append_assoc, arith}
 use Rattle.std.specs.List.{AllByRecursion}
 use Rattle.std.proofs.lemmas.Bool.{cases_lt, cases_eq}
 use Rattle.wsn_rules.specs.Entries.{without_cr}
-use Rattle.wsn_rules.specs.ShownCapture.{IsDigit, IsSeconds, GivesTime, GivesNoTime, IsTime, IsNoTime, IsTimeAfter}
+use Rattle.wsn_rules.specs.ShownCapture.{IsDigit, IsSeconds, GivesTime, GivesNoTime, IsNoTime, IsTimeAfter}
 use Rattle.wsn_rules.proofs.Prefixes.{head_same, tail_same}
 use Rattle.wsn_rules.proofs.Outcomes.{Decided}
 

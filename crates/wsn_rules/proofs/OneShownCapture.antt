@@ -1,5 +1,5 @@
 -- What is left over of a stream is one list, and what is shown of a capture is one list of lines.
-use Rattle.std.proofs.Common.{◌≡◌, ◌≢◌, ℕ, ◌+◌, Bool, true, false, Option, None, Some, List, [], ◌∷◌, ◌++◌, ◌⊎◌, length, drop, refl, sym, ap, ◌∙◌, subst, inl, inr, true≢false, codes}
+use Rattle.std.proofs.Common.{◌≡◌, ℕ, Option, None, Some, List, [], ◌∷◌, ◌++◌, ◌⊎◌, length, drop, refl, sym, ap, ◌∙◌, subst, inl, inr, true≢false, codes}
 use Rattle.std.specs.List.{AllByRecursion}
 use Rattle.wsn_wire.specs.declared.endpoint.Role.{Role}
 use Rattle.wsn_wire.specs.declared.endpoint.Role.TheVariants.{Client, Server}
@@ -10,14 +10,13 @@ use Rattle.wsn_rules.specs.declared.report.Report.{Report}
 use Rattle.wsn_rules.specs.declared.verdict.Verdict.{Verdict}
 use Rattle.wsn_rules.specs.declared.verdict.Verdict.TheVariants.{Accepted, Cut, Refused}
 use Rattle.wsn_rules.specs.Limits.{Limits}
-use Rattle.wsn_rules.specs.Entries.{Entry, without_cr, AreEntries}
+use Rattle.wsn_rules.specs.Entries.{Entry, without_cr}
 use Rattle.wsn_rules.specs.Entries.Entry.{Nothing, Bytes, Mark}
 use Rattle.wsn_rules.specs.Reports.{IsReportOf}
-use Rattle.wsn_rules.specs.Sides.{sent, has_ended}
-use Rattle.wsn_rules.specs.Verdict.{IsVerdict}
-use Rattle.wsn_rules.specs.ShownCapture.{GivesTime, GivesNoTime, IsTime, IsNoTime, IsTimeAfter, LineItem, of_stream, beyond, IsShownNothing, IsShownOfEntry, ShownLine, AreShownAfter, IsLeftAtEnd, IsShownCapture}
-use Rattle.wsn_rules.specs.ShownCapture.LineItem.{End, Comment}
-use Rattle.wsn_rules.specs.ShownStream.{Item, Shown, items_of_part, items_of_head, IsLeftOfRest, IsLeftOf, IsLeftOver, IsShownStream}
+use Rattle.wsn_rules.specs.Sides.{sent}
+use Rattle.wsn_rules.specs.ShownCapture.{GivesTime, IsTime, IsNoTime, IsTimeAfter, LineItem, of_stream, beyond, IsShownNothing, IsShownOfEntry, ShownLine, AreShownAfter, IsLeftAtEnd, IsShownCapture}
+use Rattle.wsn_rules.specs.ShownCapture.LineItem.{End}
+use Rattle.wsn_rules.specs.ShownStream.{Item, Shown, items_of_part, IsLeftOfRest, IsLeftOf, IsLeftOver}
 use Rattle.wsn_rules.proofs.Prefixes.{append_cancel, head_same, tail_same, GoesOn, two_fronts}
 use Rattle.wsn_rules.proofs.OneVerdict.{one_verdict}
 use Rattle.wsn_rules.proofs.OneHead.{one_begun, one_following}
@@ -132,8 +131,7 @@ module _ (detail : Detail) (limits : Limits) where
       let same = same_entries lines p.entries q.entries p.given q.given in
       let each = subst (λ (es : List Entry). AreShownAfter detail limits [] [] lines es shown) same p.each in
       let client = one_at_end Client q.entries p.client_left q.client_left (subst (λ (es : List Entry). IsLeftAtEnd Client limits es p.client_left) same p.of_client) q.of_client in
-      let server = one_at_end Server q.entries p.server_left q.server_left (subst (λ (es : List Entry). IsLeftAtEnd Server limits es p.server_left) same p.of_server) q.of_server in
-      (
+      let server = one_at_end Server q.entries p.server_left q.server_left (subst (λ (es : List Entry). IsLeftAtEnd Server limits es p.server_left) same p.of_server) q.of_server in (
         one_shown_after [] [] lines q.entries shown others each q.each,
         p.left_over ∙ ap (λ (is : List Item). of_stream Client is ++ of_stream Server p.server_left) client ∙ ap (λ (is : List Item). of_stream Client q.client_left ++ of_stream Server is) server ∙ sym q.left_over,
         one_report_of limits q.entries other report q.is_report (subst (λ (es : List Entry). IsReportOf limits es report) same p.is_report),

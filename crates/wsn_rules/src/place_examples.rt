@@ -6,7 +6,7 @@ ghost use Rattle.wsn_wire.specs.declared.opcode.Kind.TheVariants as kind;
 ghost use Rattle.wsn_wire.specs.declared.opcode.Op.TheVariants.{Ping, Pong};
 ghost use Rattle.wsn_wire.specs.declared.refusal.Reason.TheVariants.{ReservedBits};
 ghost use Rattle.wsn_rules.specs.Meaning.{Message, Control};
-ghost use Rattle.wsn_rules.specs.ShownStream.Item.{Event, Unfinished, RefusedFrame};
+ghost use Rattle.wsn_rules.specs.ShownStream.Item.{Event, Unfinished, UnfinishedHead, RefusedFrame};
 ghost use Rattle.wsn_rules.specs.ShownPlaces.{AreInPlace};
 
 /// A ping, and a text message with the ping between its frames.
@@ -34,7 +34,8 @@ pub fn wrong_events()
         ∷ record { after = 2; item = Event 0 (Control Ping []) 1 } ∷ [])) }
 {}
 
-/// A ping that lacks one byte, shown with other counts.
+/// Frames that lack one byte, shown with other counts; a message that a ping interrupts, and a part of a head before a
+/// frame.
 pub fn wrong_unfinished()
     ensures lacks { (after : ℕ) →
         ¬ (AreInPlace (0x89 ∷ 0x02 ∷ 0x41 ∷ [])
@@ -45,6 +46,14 @@ pub fn wrong_unfinished()
     ensures count { (after : ℕ) →
         ¬ (AreInPlace (0x89 ∷ 0x02 ∷ 0x41 ∷ [])
         (record { after = after; item = Unfinished 0 (Control Ping (0x41 ∷ [])) 2 (Some 1) } ∷ [])) }
+    ensures message_lacks { (after : ℕ) →
+        ¬ (AreInPlace (0x81 ∷ 0x02 ∷ 0x41 ∷ [])
+        (record { after = after; item = Unfinished 0 (Message kind.Text (0x41 ∷ [])) 1 (Some 7) } ∷ [])) }
+    ensures not_interrupted { ¬ (AreInPlace (0x01 ∷ 0x01 ∷ 0x41 ∷ 0x89 ∷ 0x00 ∷ [])
+        (record { after = 5; item = Unfinished 0 (Message kind.Text (0x41 ∷ [])) 1 (Some 0) }
+        ∷ record { after = 5; item = Event 3 (Control Ping []) 1 } ∷ [])) }
+    ensures head_in_front { ¬ (AreInPlace (0x89 ∷ 0x89 ∷ 0x00 ∷ [])
+        (record { after = 1; item = UnfinishedHead 0 } ∷ record { after = 3; item = Event 1 (Control Ping []) 1 } ∷ [])) }
 {}
 
 /// A frame that is refused for its first byte, shown with other evidence or another offset of that byte, or together with
