@@ -53,9 +53,9 @@ pub fn law_shown_bytes()
         AreSharedOut bytes (map (λ s. s.item) shown ++ left) }
 {}
 
-/// Each of these items is where it says: the first of its bytes is at its offset, its frames and their number are those
-/// that it counts, an unfinished frame lacks as many bytes as it says, a refused frame ends with the offending byte and
-/// has the evidence that it shows. The items end in order, except for messages that aren't complete.
+/// Each of these items is where it says. The first of its bytes is at its offset; its frames, their number and the number
+/// of bytes that it lacks are exact; a refused frame ends with the offending byte and shows the evidence in its bytes.
+/// Each is shown with its last byte, in order; a message that isn't complete, with what interrupts it.
 pub fn law_shown_places()
     ensures { (role : Role) (limits : Limits) (bytes : List ℕ) (shown : List Shown) (left : List Item) →
         IsShownStream Events role limits bytes shown → IsLeftOver role limits bytes left →
