@@ -40,5 +40,6 @@ pub mod EveryShown
 pub mod EveryTime
 pub mod EveryCapture
 pub mod ShownPlaces
+pub mod ShownHeads
 pub mod ShownBytes
 pub mod PlacedExamples

@@ -76,7 +76,7 @@ placed_frames-push held f =
 -- ---- the order
 
 module _ (total : ℕ) where
-  in_order_from : (m n : ℕ) (shown : List Shown) (piles : List (List PlacedByte)) → m ≤ n → AreInOrder total n shown piles → AreInOrder total m shown piles
+  pub in_order_from : (m n : ℕ) (shown : List Shown) (piles : List (List PlacedByte)) → m ≤ n → AreInOrder total n shown piles → AreInOrder total m shown piles
   in_order_from m n [] [] le o = tt
   in_order_from m n [] (pile ∷ piles) le o = absurd o
   in_order_from m n (s ∷ shown) [] le o = absurd o

@@ -1,10 +1,10 @@
 -- Every byte of a stream is in exactly one of the items that are shown of it: without the offsets of the bytes.
-use Rattle.std.proofs.Common.{◌≡◌, ◌≢◌, ℕ, ◌+◌, ◌-◌, Option, None, Some, List, [], ◌∷◌, ◌++◌, length, map, refl, sym, ap, ◌∙◌, subst, inl, inr, arith}
+use Rattle.std.proofs.Common.{◌≡◌, ◌≢◌, ℕ, ◌+◌, ◌-◌, Option, None, Some, List, [], ◌∷◌, ◌++◌, length, map, refl, sym, ap, ◌∙◌, subst, inl, inr, append-nil, arith}
 use Rattle.std.specs.List.{AllByRecursion}
 use Rattle.std.proofs.lemmas.List.{map-append}
 use Rattle.wsn_wire.specs.declared.endpoint.Role.{Role}
 use Rattle.wsn_wire.specs.declared.opcode.Kind.{Kind}
-use Rattle.wsn_wire.specs.Frame.{Frame, frame_bytes, stream, wire_payload}
+use Rattle.wsn_wire.specs.Frame.{Frame, head_bytes, frame_bytes, stream, wire_payload}
 use Rattle.wsn_wire.proofs.FrameLemmas.{length-wire_payload}
 use Rattle.wsn_rules.specs.declared.detail.Detail.TheVariants.{Events}
 use Rattle.wsn_rules.specs.declared.head_info.HeadInfo.{HeadInfo}
@@ -81,7 +81,9 @@ item_bytes (Event offset (Control op body) count) pile (f, control, same_op, sam
 item_bytes (Unfinished offset (Message kind payload) count lacks) pile p = of_open p.0 kind payload count lacks pile p.2
 item_bytes (Unfinished offset (Control op body) count lacks) pile (info, following, missing, begun, control, same_op, same_body, counted, lack, is) =
     (info, following, same_op, same_body, of_piece offset (begun_bytes info following) pile is)
-item_bytes (Head info) pile p = (p.0, of_piece info.place (begun_bytes info p.0) pile p.2)
+item_bytes (Head info) pile p =
+    let head = head_bytes info.fin info.op info.key info.form info.len in
+    ([], of_piece info.place head pile p.1 ∙ sym (append-nil head))
 item_bytes (UnfinishedHead offset) pile (part, is_part, is) = λ none. some_part part is_part (sym (of_piece offset part pile is) ∙ none)
 item_bytes (RefusedFrame offset refusal evidence) pile (seen, one, is_evidence, ends, is) = ap (λ (bs : List ℕ). offset + length bs) (of_piece offset seen pile is) ∙ ends
 item_bytes (Unread offset bytes) pile is = of_piece offset bytes pile is

@@ -10,6 +10,7 @@ use Rattle.wsn_wire.specs.declared.opcode.Op.TheVariants.{Continue, Text, Binary
 use Rattle.wsn_wire.specs.Frame.{Frame, IsEncodable, frame_bytes, stream, is_control, wire_payload}
 use Rattle.wsn_rules.specs.declared.detail.Detail.TheVariants.{Events}
 use Rattle.wsn_rules.specs.declared.head_info.HeadInfo.{HeadInfo}
+use Rattle.wsn_rules.specs.declared.verdict.Refusal.{Refusal}
 use Rattle.wsn_rules.specs.declared.verdict.Verdict.{Verdict}
 use Rattle.wsn_rules.specs.declared.verdict.Verdict.TheVariants.{Accepted, Cut, Refused}
 use Rattle.wsn_rules.specs.Limits.{Limits}
@@ -20,7 +21,7 @@ use Rattle.wsn_rules.specs.Lawful.{IsLawful}
 use Rattle.wsn_rules.specs.LawfulAfter.{AreLawfulAfter}
 use Rattle.wsn_rules.specs.Meaning.{MeantEvent, Message, Control, event_at}
 use Rattle.wsn_rules.specs.Summary.{is_close}
-use Rattle.wsn_rules.specs.Verdict.{EndsWithinFrame, IsCut, IsVerdict}
+use Rattle.wsn_rules.specs.Verdict.{EndsWithinFrame, IsCut, IsRefused, IsVerdict}
 use Rattle.wsn_rules.specs.ShownBytes.{IsGroupOf, begun_bytes}
 use Rattle.wsn_rules.specs.ShownPlaces.{PlacedByte, placed, BeginsAt, end_of, PlacedFrame, frames_in, placed_frames, IsFragment, IsLastFrame, IsControlFrame, BeginOnce, IsMessageOf, IsEncodableHead, IsPartOfHead, HasBegun, IsPlaced, is_open_message, Interrupts, IsShownWithNext, AreInPlace}
 use Rattle.wsn_rules.specs.ShownStream.{Item, Shown, shown_after, open_offset, open_item, open_items, event_offset, event_frames, items_of_final, shown_at, shown_of, items_of_bytes, frame_so_far, items_of_part, items_of_head, IsLeftOfRest, IsLeftOf, IsLeftOver, IsShownEvidence, IsShownVerdict, IsShownStream}
@@ -531,6 +532,33 @@ module _ (role : Role) (limits : Limits) where
     tail : (offset : ℕ) (bytes : List ℕ) → total ≡ offset + length bytes → Dealt total offset [] (shown_after total (items_of_bytes Tail offset bytes)) bytes
     tail offset bytes all = of_bytes Tail offset bytes all (λ some. refl) (λ some. refl) (λ b some fits. record { begins = refl; is_pile = refl; within = fits })
 
+  -- ---- a refused frame
+
+  begins_some : (n : ℕ) (bytes : List ℕ) → 0 < length bytes → BeginsAt n (placed n bytes)
+  begins_some n [] some = absurd (omega (arith, some))
+  begins_some n (b ∷ bytes) some = refl
+
+  pub refused_placed : (bytes : List ℕ) (fs : List Frame) (refusal : Refusal) (refused : IsRefused role limits bytes fs refusal.place refusal.reason) (evidence : List ℕ)
+      → IsShownEvidence role limits fs (drop (length (stream fs)) (take (refusal.place + 1) bytes)) evidence
+      → IsPlaced (with (refusal.place + 1) (RefusedFrame (length (stream fs)) refusal evidence)) (placed (length (stream fs)) refused.is_evident.seen)
+  refused_placed bytes fs refusal refused evidence is_evidence =
+      let n = length (stream fs) in
+      let seen = refused.is_evident.seen in
+      let later = refused.is_evident.later in
+      let stops : refusal.place + 1 ≡ n + length seen = refused.is_evident.at_place in
+      let some = evidence_is_some role limits (unfinished fs) refusal.reason seen refused.is_evident.evidence in
+      let grouped : bytes ≡ (stream fs ++ seen) ++ later = refused.is_evident.whole ∙ sym (append_assoc (stream fs) seen later) in
+      let to_seen : length (stream fs ++ seen) ≡ refusal.place + 1 = length-append (stream fs) seen ∙ sym stops in
+      let front : drop n (take (refusal.place + 1) bytes) ≡ seen =
+      ap (λ (bs : List ℕ). drop n (take (refusal.place + 1) bs)) grouped ∙ ap (λ (bs : List ℕ). drop n bs) (take_at (stream fs ++ seen) later (refusal.place + 1) to_seen) ∙ drop_front (stream fs) seen in
+      let is = shown_evidence role limits bytes fs refusal refused evidence (subst (λ (bs : List ℕ). IsShownEvidence role limits fs bs evidence) front is_evidence) in
+      let end = end_is n seen some in
+      record {
+        begins = begins_some n seen some;
+        is_pile = (seen, of_one_frame role limits (unfinished fs) refusal.reason seen refused.is_evident.evidence, is, sym stops, refl);
+        within = omega (arith, end, stops);
+      }
+
   -- ---- the verdicts
 
   size_of : (bytes front rest : List ℕ) → bytes ≡ front ++ rest → length bytes ≡ length front + length rest
@@ -576,17 +604,9 @@ module _ (role : Role) (limits : Limits) where
       let item = RefusedFrame n refusal shown.evidence in
       let grouped : bytes ≡ (stream fs ++ seen) ++ later = whole ∙ sym (append_assoc (stream fs) seen later) in
       let to_seen : length (stream fs ++ seen) ≡ refusal.place + 1 = length-append (stream fs) seen ∙ sym stops in
-      let front : drop n (take (refusal.place + 1) bytes) ≡ seen =
-      ap (λ (bs : List ℕ). drop n (take (refusal.place + 1) bs)) grouped ∙ ap (λ (bs : List ℕ). drop n bs) (take_at (stream fs ++ seen) later (refusal.place + 1) to_seen) ∙ drop_front (stream fs) seen in
       let past : drop (refusal.place + 1) bytes ≡ later =
       ap (λ (m : ℕ). drop m bytes) (sym to_seen) ∙ ap (λ (bs : List ℕ). drop (length (stream fs ++ seen)) bs) grouped ∙ drop_front (stream fs ++ seen) later in
-      let evidence = shown_evidence role limits bytes fs refusal refused shown.evidence (subst (λ (bs : List ℕ). IsShownEvidence role limits fs bs shown.evidence) front shown.is_evidence) in
-      let end = end_is n seen some in
-      let of : IsPlaced (with k item) (placed n seen) = record {
-        begins = begins_some n seen some;
-        is_pile = (seen, of_one_frame role limits (unfinished fs) refusal.reason seen refused.is_evident.evidence, evidence, sym stops, refl);
-        within = omega (arith, end, stops);
-      } in
+      let of = refused_placed bytes fs refusal refused shown.evidence shown.is_evidence in
       let rest = shown_after total (items_of_bytes Unread (refusal.place + 1) later) in
       let all_size : total ≡ (refusal.place + 1) + length later = size_of bytes (stream fs ++ seen) later grouped ∙ ap (λ m. m + length later) to_seen in
       let of_refusal : of_verdict ≡ shown_after k (open_items fs (Some 0)) ++ with k item ∷ [] = shown.is ∙ map-append (λ (i : Item). with k i) (open_items fs (Some 0)) (item ∷ []) in
@@ -599,10 +619,6 @@ module _ (role : Role) (limits : Limits) where
       subst (λ (ss : List Shown). Dealt total 0 [] (shown_of [] fs ++ ss) bytes) (sym last)
       (subst (Dealt total 0 [] (shown_of [] fs ++ (shown_after k (open_items fs (Some 0)) ++ with k item ∷ rest))) (sym whole)
       (frames_without_close total fs (shown_after k (open_items fs (Some 0)) ++ with k item ∷ rest) (seen ++ later) refused.lawful refused.no_close all))
-    where
-      begins_some : (n : ℕ) (bytes : List ℕ) → 0 < length bytes → BeginsAt n (placed n bytes)
-      begins_some n [] some = absurd (omega (arith, some))
-      begins_some n (b ∷ bytes) some = refl
 
   pub all_in_place : (bytes : List ℕ) (shown : List Shown) (left : List Item) → IsShownStream Events role limits bytes shown → IsLeftOver role limits bytes left → AreInPlace bytes (shown ++ shown_after (length bytes) left)
   all_in_place bytes shown left p q =

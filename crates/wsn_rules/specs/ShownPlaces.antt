@@ -4,7 +4,7 @@ use Rattle.std.specs.Prelude.{◌≡◌, ◌≢◌, ℕ, ◌+◌, ◌<◌, ◌�
 use Rattle.std.specs.List.{AllByRecursion, flat_map}
 use Rattle.wsn_wire.specs.declared.opcode.Kind.{Kind}
 use Rattle.wsn_wire.specs.declared.opcode.Op.TheVariants.{Continue, Close}
-use Rattle.wsn_wire.specs.Frame.{Frame, IsKey, FormFits, IsEncodable, is_control, frame_bytes, wire_payload}
+use Rattle.wsn_wire.specs.Frame.{Frame, IsKey, FormFits, IsEncodable, is_control, head_bytes, frame_bytes, wire_payload}
 use Rattle.wsn_wire.specs.Layout.{len_form_at, length_count, key_count}
 use Rattle.wsn_rules.specs.declared.head_info.HeadInfo.{HeadInfo}
 use Rattle.wsn_rules.specs.Group.{is_data}
@@ -148,7 +148,7 @@ IsPileOf (Unfinished offset (Control op body) count lacks) pile =
     × (is_control info.op ≡ true) × (info.op ≡ op) × (wire_payload info.key following ≡ body) × (count ≡ 1)
     × (lacks ≡ Some missing) × (pile ≡ placed offset (begun_bytes info following))
 IsPileOf (Head info) pile =
-    (following : List ℕ) × IsEncodableHead info × (pile ≡ placed info.place (begun_bytes info following))
+    IsEncodableHead info × (pile ≡ placed info.place (head_bytes info.fin info.op info.key info.form info.len))
 IsPileOf (UnfinishedHead offset) pile = (part : List ℕ) × IsPartOfHead part × (pile ≡ placed offset part)
 IsPileOf (RefusedFrame offset refusal evidence) pile =
     (seen : List ℕ) × AreOfOneFrame seen × IsEvidenceIn seen evidence × (offset + length seen ≡ refusal.place + 1)
@@ -216,9 +216,20 @@ AreInOrder total n (s ∷ shown) (pile ∷ piles) = (IsEnd s.item → shown ≡ 
     × AreInOrder total s.after shown piles))
 AreInOrder total n shown piles = ⊥
 
--- Every byte of the stream is in exactly one of these items, and each is where it says.
+-- With the detail of events every byte of the stream is in exactly one of its items, and each is where it says.
 pub record AreInPlace (bytes : List ℕ) (shown : List Shown) : Type 0 where
   pub piles : List (List PlacedByte)
   pub dealt : AreDealt (placed 0 bytes) piles
+  pub are_placed : ArePlaced shown piles
+  pub in_order : AreInOrder (length bytes) 0 shown piles
+
+-- The pile is a part of these bytes, in one piece.
+abbrev pub IsPartOf : List PlacedByte → List PlacedByte → Type 0
+IsPartOf bytes pile = (before after : List PlacedByte) × (bytes ≡ before ++ (pile ++ after))
+
+-- With the detail of frames each item, a head or a refused frame, is where it says.
+pub record AreHeadsInPlace (bytes : List ℕ) (shown : List Shown) : Type 0 where
+  pub piles : List (List PlacedByte)
+  pub parts : AllByRecursion (IsPartOf (placed 0 bytes)) piles
   pub are_placed : ArePlaced shown piles
   pub in_order : AreInOrder (length bytes) 0 shown piles

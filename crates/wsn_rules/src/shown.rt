@@ -14,7 +14,7 @@ ghost use Rattle.wsn_rules.specs.Reports.{IsReportOf};
 ghost use Rattle.wsn_rules.specs.Sides.{sent};
 ghost use Rattle.wsn_rules.specs.ShownStream.{Item, Shown, shown_after, IsShownStream, IsLeftOver, events_shown, heads_shown};
 ghost use Rattle.wsn_rules.specs.ShownBytes.{AreSharedOut};
-ghost use Rattle.wsn_rules.specs.ShownPlaces.{AreInPlace};
+ghost use Rattle.wsn_rules.specs.ShownPlaces.{AreInPlace, AreHeadsInPlace};
 ghost use Rattle.wsn_rules.specs.ShownEvents.{IsShownAt, ShowsEvent};
 ghost use Rattle.wsn_rules.specs.declared.report.Report.{Report};
 ghost use Rattle.wsn_rules.specs.ShownCapture.{beyond, LineItem, ShownLine, IsTimeAfter, AreShownAfter, items_with_bytes, IsShownCapture};
@@ -55,11 +55,14 @@ pub fn law_shown_bytes()
 
 /// Each of these items is where it says. The first of its bytes is at its offset; its frames, their number and the number
 /// of bytes that it lacks are exact; a refused frame ends with the offending byte and shows the evidence in its bytes.
-/// Each is shown with its last byte, in order; a message that isn't complete, with what interrupts it.
+/// Each is shown with its last byte, in order; a message that isn't complete, with what interrupts it. In the detail of
+/// frames each head is at its offset, and shown with its last byte.
 pub fn law_shown_places()
-    ensures { (role : Role) (limits : Limits) (bytes : List ℕ) (shown : List Shown) (left : List Item) →
+    ensures events { (role : Role) (limits : Limits) (bytes : List ℕ) (shown : List Shown) (left : List Item) →
         IsShownStream Events role limits bytes shown → IsLeftOver role limits bytes left →
         AreInPlace bytes (shown ++ shown_after (length bytes) left) }
+    ensures heads { (role : Role) (limits : Limits) (bytes : List ℕ) (shown : List Shown) →
+        IsShownStream Frames role limits bytes shown → AreHeadsInPlace bytes shown }
 {}
 
 /// With more bytes a stream shows the same items and perhaps more, which are shown with the new bytes.
