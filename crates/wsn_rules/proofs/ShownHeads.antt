@@ -1,10 +1,9 @@
 -- With the detail of frames each item that is shown of a stream is where it says.
-use Rattle.std.proofs.Common.{◌≡◌, ℕ, ◌+◌, ◌<◌, ◌≤◌, false, List, [], ◌∷◌, ◌++◌, ◌⊎◌, length, map, refl, sym, ap, ◌∙◌, subst, inl, inr, append-nil, append_assoc, length-append, arith}
+use Rattle.std.proofs.Common.{◌≡◌, ℕ, ◌+◌, ◌<◌, ◌≤◌, false, List, [], ◌∷◌, ◌++◌, length, map, refl, sym, ap, ◌∙◌, subst, inl, inr, append-nil, append_assoc, length-append, arith}
 use Rattle.std.specs.List.{AllByRecursion}
 use Rattle.std.proofs.lemmas.List.{map-append}
 use Rattle.wsn_wire.specs.declared.endpoint.Role.{Role}
-use Rattle.wsn_wire.specs.declared.refusal.Reason.{Reason}
-use Rattle.wsn_wire.specs.Frame.{Frame, IsEncodable, head_bytes, frame_bytes, stream, wire_payload}
+use Rattle.wsn_wire.specs.Frame.{Frame, head_bytes, frame_bytes, stream, wire_payload}
 use Rattle.wsn_rules.specs.declared.detail.Detail.TheVariants.{Frames}
 use Rattle.wsn_rules.specs.declared.head_info.HeadInfo.{HeadInfo}
 use Rattle.wsn_rules.specs.declared.verdict.Refusal.{Refusal}
@@ -14,7 +13,7 @@ use Rattle.wsn_rules.specs.Limits.{Limits}
 use Rattle.wsn_rules.specs.Group.{unfinished}
 use Rattle.wsn_rules.specs.Heads.{info_of, heads_from, heads_of, BeginsWithHead, IsBegun}
 use Rattle.wsn_rules.specs.Verdict.{IsRefused, IsVerdict}
-use Rattle.wsn_rules.specs.ShownPlaces.{PlacedByte, placed, end_of, IsEncodableHead, IsPlaced, ArePlaced, is_open_message, IsEnd, AreInOrder, IsPartOf, AreHeadsInPlace}
+use Rattle.wsn_rules.specs.ShownPlaces.{PlacedByte, placed, IsEncodableHead, IsPlaced, ArePlaced, is_open_message, IsEnd, AreInOrder, IsPartOf, AreHeadsInPlace}
 use Rattle.wsn_rules.specs.ShownStream.{Shown, shown_head, IsShownVerdict, IsShownStream}
 use Rattle.wsn_rules.proofs.Prefixes.{append_cancel, two_fronts}
 use Rattle.wsn_rules.proofs.Walk.{AreSpellable, spellable_of_lawful}
@@ -38,8 +37,7 @@ placed_earlier bytes m n shown le p = record { piles = p.piles; parts = p.parts;
 
 is_part : (bytes front piece after : List ℕ) → bytes ≡ front ++ (piece ++ after) → IsPartOf (placed 0 bytes) (placed (length front) piece)
 is_part bytes front piece after whole =
-    let same : 0 + length front ≡ length front = omega arith in
-    (
+    let same : 0 + length front ≡ length front = omega arith in (
       placed 0 front,
       placed (length front + length piece) after,
       ap (placed 0) whole ∙ placed-append 0 front (piece ++ after) ∙ ap (λ n. placed 0 front ++ placed n (piece ++ after)) same ∙ ap (λ (ps : List PlacedByte). placed 0 front ++ ps) (placed-append (length front) piece after),

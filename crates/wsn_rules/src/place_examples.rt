@@ -1,13 +1,14 @@
 //! Examples of where items that are shown are in a stream, from the definitions in `specs/ShownPlaces.antt`: items that
 //! are where they say, and similar ones that are excluded.
 
-ghost use Rattle.std.specs.Prelude.{ℕ, None, Some, [], ◌∷◌, codes};
+ghost use Rattle.std.specs.Prelude.{ℕ, true, None, Some, [], ◌∷◌, codes};
 ghost use Rattle.wsn_wire.specs.declared.opcode.Kind.TheVariants as kind;
 ghost use Rattle.wsn_wire.specs.declared.opcode.Op.TheVariants.{Ping, Pong};
+ghost use Rattle.wsn_wire.specs.declared.length_forms.Form.TheVariants.{Shortest};
 ghost use Rattle.wsn_wire.specs.declared.refusal.Reason.TheVariants.{ReservedBits};
 ghost use Rattle.wsn_rules.specs.Meaning.{Message, Control};
-ghost use Rattle.wsn_rules.specs.ShownStream.Item.{Event, Unfinished, UnfinishedHead, RefusedFrame};
-ghost use Rattle.wsn_rules.specs.ShownPlaces.{AreInPlace};
+ghost use Rattle.wsn_rules.specs.ShownStream.Item.{Event, Head, Unfinished, UnfinishedHead, RefusedFrame};
+ghost use Rattle.wsn_rules.specs.ShownPlaces.{AreInPlace, AreHeadsInPlace};
 
 /// A ping, and a text message with the ping between its frames.
 pub fn in_place()
@@ -74,4 +75,17 @@ pub fn wrong_refusals()
           after = after;
           item = RefusedFrame 0 (record { place = 2; reason = ReservedBits }) (0xc1 ∷ []);
         } ∷ [])) }
+{}
+
+/// The head of a ping at another offset, and shown with other bytes.
+pub fn wrong_heads()
+    ensures offset { (after : ℕ) →
+        ¬ (AreHeadsInPlace (0x89 ∷ 0x00 ∷ []) (record {
+          after = after;
+          item = Head (record { place = 5; fin = true; op = Ping; key = None; form = Shortest; len = 0 });
+        } ∷ [])) }
+    ensures after { ¬ (AreHeadsInPlace (0x89 ∷ 0x00 ∷ []) (record {
+      after = 1;
+      item = Head (record { place = 0; fin = true; op = Ping; key = None; form = Shortest; len = 0 });
+    } ∷ [])) }
 {}
