@@ -29,7 +29,7 @@ use Rattle.wsn_capture.specs.Closes.{IsUnclosed, IsClosedBy, IsCloseLine, earlie
 use Rattle.wsn_capture.proofs.PairedDigits.{pair_of}
 use Rattle.wsn_capture.proofs.ClosingLines.{accepted_closed, cut_unclosed, sent-push, closes_longer, line_new, line_none}
 use Rattle.wsn_capture.proofs.ReportedLines.{first_by_lines}
-use Rattle.wsn_capture.proofs.OneReport.{outcome_at, at_its_place}
+use Rattle.wsn_rules.proofs.Outcomes.{outcome_at, at_its_place}
 
 -- ---- digits encode bytes
 

@@ -1,7 +1,5 @@
-pub mod OneEntry
 pub mod OneFault
 pub mod ComputedFaults
-pub mod OneReport
 pub mod LineEnds
 pub mod ClosingLines
 pub mod AcceptedTexts

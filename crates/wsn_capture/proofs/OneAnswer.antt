@@ -12,9 +12,9 @@ use Rattle.wsn_rules.specs.Entries.{Entry}
 use Rattle.wsn_capture.specs.LineFaults.{IsFirstLineFault, IsAcceptedLine, AreAcceptedAfter, AreAcceptedLines, IsFaultAfter}
 use Rattle.wsn_rules.specs.Reports.{IsReport}
 use Rattle.wsn_capture.specs.CaptureAnswers.{IsReported, IsFaulty, IsCaptureAnswerOf}
-use Rattle.wsn_capture.proofs.OneEntry.{same_entries}
+use Rattle.wsn_rules.proofs.OneEntry.{same_entries}
 use Rattle.wsn_capture.proofs.OneFault.{taken_or_faulty, one_first_fault}
-use Rattle.wsn_capture.proofs.OneReport.{one_report}
+use Rattle.wsn_rules.proofs.OneReport.{one_report}
 use Rattle.wsn_capture.proofs.EveryReport.{has_report}
 use Rattle.wsn_capture.proofs.AcceptedTexts.{taken_given}
 

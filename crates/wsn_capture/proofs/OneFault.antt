@@ -13,7 +13,7 @@ use Rattle.wsn_rules.specs.Entries.{without_cr, Entry, IsHex, GivesEntry, bytes_
 use Rattle.wsn_rules.specs.Entries.Entry.{Nothing, Bytes, Mark}
 use Rattle.wsn_rules.specs.Sides.{sent, has_ended}
 use Rattle.wsn_capture.specs.LineFaults.{fault_order, IsOfEndpoint, HasNoForm, HasFault, IsFirstLineFault, IsAcceptedLine, lines_most, line_most}
-use Rattle.wsn_capture.proofs.OneEntry.{letter_of, front_is, mark_is, not_nothing, same_bytes_line, not_mark, same_mark, one_given}
+use Rattle.wsn_rules.proofs.OneEntry.{letter_of, front_is, mark_is, not_nothing, same_bytes_line, not_mark, same_mark, one_given}
 
 -- ---- the order of the faults
 

@@ -8,7 +8,7 @@ use Rattle.wsn_rules.specs.Entries.{Entry}
 use Rattle.wsn_rules.specs.Sides.{sent}
 use Rattle.wsn_rules.specs.Reports.{ClosesIn, IsFirst}
 use Rattle.wsn_capture.specs.Closes.{IsCloseLine, IsUnclosed, earlier_of}
-use Rattle.wsn_capture.proofs.OneReport.{one_line, two_lines}
+use Rattle.wsn_rules.proofs.OneReport.{one_line, two_lines}
 
 module _ (limits : Limits) (given : List Entry) where
   unclosed : (role : Role) (line : ℕ) → IsUnclosed role limits (sent role given) → ClosesIn role limits given line → ⊥

@@ -18,7 +18,7 @@ use Rattle.wsn_capture.specs.LineFaults.{fault_order, IsOfEndpoint, HasNoForm, H
 use Rattle.wsn_capture.specs.LineEntries.{HasNoHex}
 use Rattle.wsn_capture.specs.SideTexts.{decoded_entry, digits_entry, dot_entry, endpoint_entry, text_entry, ended_before, unless_ended, entry_unless_ended, entry_after, lines_giving}
 use Rattle.hex.proofs.HexLemmas.{decode_of-ok}
-use Rattle.wsn_capture.proofs.OneEntry.{letter_of, front_is, mark_is}
+use Rattle.wsn_rules.proofs.OneEntry.{letter_of, front_is, mark_is}
 use Rattle.wsn_capture.proofs.OneFault.{hex_or_not, true_or_false, taken_or_faulty}
 
 -- ---- tests of bytes and numbers

@@ -2,6 +2,8 @@
 
 ghost use Rattle.std.specs.Prelude.{◌≡◌, ℕ, ◌+◌, ◌≤◌, ◌⊎◌, ◌↔◌, List, [], ◌∷◌, ◌++◌, length, Result, Ok, Err};
 ghost use Rattle.std.specs.List.{AllByRecursion};
+ghost use Rattle.wsn_rules.specs.declared.detail.Detail.{Detail};
+ghost use Rattle.wsn_rules.specs.ShownCapture.{LineItem, ShownLine, IsShownCapture};
 ghost use Rattle.wsn_rules.specs.TextLines.{IsLine, ended, AreLines, lines_of};
 ghost use Rattle.wsn_capture.specs.CaptureAnswers.{IsFaulty};
 ghost use Rattle.wsn_capture.specs.LineFaults.{AreAcceptedLines, IsFaultAfter};
@@ -38,6 +40,14 @@ pub fn law_any_lines()
     ensures { (limits : Limits) (lines others : List (List ℕ)) (report other : Report) →
         SendAlike lines others → IsReport limits lines report → IsReport limits others other →
         other ≡ record report { first = other.first } }
+{}
+
+/// Lines with entries have a report, and are shown in each detail, if the limits are in range.
+pub fn law_every_capture_is_shown()
+    ensures { (detail : Detail) (limits : Limits) (lines : List (List ℕ)) (entries : List Entry) →
+        InRange limits → AreEntries lines entries →
+        (shown : List ShownLine) × (last : List LineItem) × (report : Report)
+        × IsShownCapture detail limits lines shown last report }
 {}
 
 /// A text has exactly one correct answer: the report of its lines, or its first line that isn't accepted with that

@@ -24,6 +24,8 @@ pub mod NormalLaws
 pub mod PlanTheory
 pub mod TextLines
 pub mod Outcomes
+pub mod OneEntry
+pub mod OneReport
 pub mod ComputedReports
 pub mod OneHead
 pub mod HeadsGoOn
@@ -31,4 +33,13 @@ pub mod OpenOffsets
 pub mod ShownStreams
 pub mod ShownLines
 pub mod ShownEvents
+pub mod OneShownCapture
+pub mod BegunHeads
+pub mod PlacedBytes
+pub mod EveryShown
+pub mod EveryTime
+pub mod EveryCapture
+pub mod ShownPlaces
+pub mod ShownHeads
 pub mod ShownBytes
+pub mod PlacedExamples

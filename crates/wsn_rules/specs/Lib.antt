@@ -38,6 +38,7 @@ pub mod Reports
 pub mod ShownStream
 pub mod ShownEvents
 pub mod ShownBytes
+pub mod ShownPlaces
 pub mod ShownCapture
 -- for the examples
 pub mod Examples

@@ -7,7 +7,7 @@
 //! and [`shown`] what is shown of a stream and of a capture. The examples are computed from the definitions: verdicts
 //! and meanings in [`examples`], normal forms in [`normal_forms`], plans of inputs and recuts in [`plan_examples`],
 //! plans and their faults in [`fault_examples`], captures and their reports in [`capture_examples`], what is shown of
-//! frames in [`shown_examples`].
+//! frames in [`shown_examples`], where it is in [`place_examples`].
 #![tactic(auto)]
 
 pub mod capture_examples;
@@ -21,6 +21,7 @@ pub mod laws;
 mod limits;
 pub mod lists;
 pub mod normal_forms;
+pub mod place_examples;
 pub mod plan_examples;
 pub mod recuts;
 mod report;

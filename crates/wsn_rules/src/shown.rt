@@ -2,19 +2,22 @@
 
 ghost use Rattle.std.specs.Prelude.{◌≡◌, ℕ, ◌<◌, ◌≤◌, Option, List, [], ◌++◌, length, map, slice_get};
 ghost use Rattle.std.specs.List.{AllByRecursion};
-ghost use Rattle.wsn_rules.specs.Words.{Role, Frame, Limits, Verdict, IsVerdict, meaning};
+ghost use Rattle.wsn_rules.specs.Words.{Role, Frame, IsBytes, Limits, InRange, Verdict, IsVerdict, meaning};
 ghost use Rattle.wsn_rules.specs.declared.detail.Detail.{Detail};
 ghost use Rattle.wsn_rules.specs.declared.detail.Detail.TheVariants.{Events, Frames};
 ghost use Rattle.wsn_rules.specs.declared.head_info.HeadInfo.{HeadInfo};
 ghost use Rattle.wsn_rules.specs.declared.without.Without.{Without};
-ghost use Rattle.wsn_rules.specs.Entries.{Entry};
+ghost use Rattle.wsn_rules.specs.Entries.{Entry, AreEntries};
 ghost use Rattle.wsn_rules.specs.Heads.{AreHeads};
 ghost use Rattle.wsn_rules.specs.LeftOut.{events_without};
+ghost use Rattle.wsn_rules.specs.Reports.{IsReportOf};
 ghost use Rattle.wsn_rules.specs.Sides.{sent};
-ghost use Rattle.wsn_rules.specs.ShownStream.{Item, Shown, IsShownStream, IsLeftOver, events_shown, heads_shown};
+ghost use Rattle.wsn_rules.specs.ShownStream.{Item, Shown, shown_after, IsShownStream, IsLeftOver, events_shown, heads_shown};
 ghost use Rattle.wsn_rules.specs.ShownBytes.{AreSharedOut};
+ghost use Rattle.wsn_rules.specs.ShownPlaces.{AreInPlace, AreHeadsInPlace};
 ghost use Rattle.wsn_rules.specs.ShownEvents.{IsShownAt, ShowsEvent};
-ghost use Rattle.wsn_rules.specs.ShownCapture.{beyond, ShownLine, AreShownAfter, items_with_bytes};
+ghost use Rattle.wsn_rules.specs.declared.report.Report.{Report};
+ghost use Rattle.wsn_rules.specs.ShownCapture.{beyond, LineItem, ShownLine, IsTimeAfter, AreShownAfter, items_with_bytes, IsShownCapture};
 
 /// One list of items is shown of a stream in each detail. Its events are the meaning of the stream's frames, in order;
 /// its heads are those that are reported of the stream, in order.
@@ -50,6 +53,18 @@ pub fn law_shown_bytes()
         AreSharedOut bytes (map (λ s. s.item) shown ++ left) }
 {}
 
+/// Each of these items is where it says. The first of its bytes is at its offset; its frames, their number and the number
+/// of bytes that it lacks are exact; a refused frame ends with the offending byte and shows the evidence in its bytes.
+/// Each is shown with its last byte, in order; a message that isn't complete, with what interrupts it. In the detail of
+/// frames each head is at its offset, and shown with its last byte.
+pub fn law_shown_places()
+    ensures events { (role : Role) (limits : Limits) (bytes : List ℕ) (shown : List Shown) (left : List Item) →
+        IsShownStream Events role limits bytes shown → IsLeftOver role limits bytes left →
+        AreInPlace bytes (shown ++ shown_after (length bytes) left) }
+    ensures heads { (role : Role) (limits : Limits) (bytes : List ℕ) (shown : List Shown) →
+        IsShownStream Frames role limits bytes shown → AreHeadsInPlace bytes shown }
+{}
+
 /// With more bytes a stream shows the same items and perhaps more, which are shown with the new bytes.
 pub fn law_shown_goes_on()
     ensures { (detail : Detail) (role : Role) (limits : Limits) (bytes more : List ℕ) (shown longer : List Shown) →
@@ -67,4 +82,34 @@ pub fn law_shown_lines()
         AreShownAfter detail limits [] [] lines entries shown →
         (all : List Shown) × IsShownStream detail role limits (sent role entries) all
         × (items_with_bytes role entries shown ≡ map (λ s. s.item) all) }
+{}
+
+/// At most one list is left over of a stream, at most one time holds after lines, and at most one list of lines, with
+/// what is left over after them and a report, is shown of a capture.
+pub fn law_one_shown_capture()
+    ensures left { (role : Role) (limits : Limits) (bytes : List ℕ) (items others : List Item) →
+        IsLeftOver role limits bytes items → IsLeftOver role limits bytes others → items ≡ others }
+    ensures time { (lines : List (List ℕ)) (time other : Option (List ℕ)) →
+        IsTimeAfter lines time → IsTimeAfter lines other → time ≡ other }
+    ensures lines { (detail : Detail) (limits : Limits) (before : List (List ℕ)) (given : List Entry)
+        (lines : List (List ℕ)) (entries : List Entry) (shown others : List ShownLine) →
+        AreShownAfter detail limits before given lines entries shown →
+        AreShownAfter detail limits before given lines entries others → shown ≡ others }
+    ensures capture { (detail : Detail) (limits : Limits) (lines : List (List ℕ)) (shown others : List ShownLine)
+        (last rest : List LineItem) (report other : Report) →
+        IsShownCapture detail limits lines shown last report →
+        IsShownCapture detail limits lines others rest other → (shown ≡ others) × (last ≡ rest) × (report ≡ other) }
+{}
+
+/// Every stream of bytes has a list of items in each detail, and one that is left over, if the limits are in range. So
+/// does a capture of such streams that has a report.
+pub fn law_every_stream_is_shown()
+    ensures shown { (detail : Detail) (role : Role) (limits : Limits) (bytes : List ℕ) → InRange limits → IsBytes bytes →
+        (shown : List Shown) × IsShownStream detail role limits bytes shown }
+    ensures left { (role : Role) (limits : Limits) (bytes : List ℕ) → InRange limits → IsBytes bytes →
+        (items : List Item) × IsLeftOver role limits bytes items }
+    ensures capture { (detail : Detail) (limits : Limits) (lines : List (List ℕ)) (entries : List Entry)
+        (report : Report) → InRange limits →
+        AreEntries lines entries → ((role : Role) → IsBytes (sent role entries)) → IsReportOf limits entries report →
+        (shown : List ShownLine) × (last : List LineItem) × IsShownCapture detail limits lines shown last report }
 {}

@@ -19,7 +19,7 @@ use Rattle.wsn_show.specs.declared.style.Style.{Style}
 use Rattle.wsn_show.specs.Styles.{styled_item, styled_items, styled_line_item}
 use Rattle.wsn_capture.specs.declared.line_fault.LineFault.TheVariants.{InputLimit}
 use Rattle.wsn_rules.proofs.Prefixes.{head_same}
-use Rattle.wsn_capture.proofs.OneEntry.{letter_of, front_is, mark_is, one_given}
+use Rattle.wsn_rules.proofs.OneEntry.{letter_of, front_is, mark_is, one_given}
 use Rattle.wsn_capture.specs.declared.capture_lines.CaptureLines.{CaptureLines}
 use Rattle.wsn_show.specs.declared.capture_view.CaptureView.{CaptureView}
 use Rattle.wsn_show.specs.declared.stream_view.StreamView.{StreamView}

@@ -1,4 +1,4 @@
-use Rattle.wsn_capture.proofs.OneEntry.{one_entry, same_entries}
+use Rattle.wsn_rules.proofs.OneEntry.{one_entry, same_entries}
 use Rattle.wsn_capture.proofs.laws.law_one_entry.Goals as goal
 
 pub returns-clause-line : goal.returns-clause-line

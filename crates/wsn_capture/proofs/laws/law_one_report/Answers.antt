@@ -1,4 +1,4 @@
-use Rattle.wsn_capture.proofs.OneReport.{one_report}
+use Rattle.wsn_rules.proofs.OneReport.{one_report}
 use Rattle.wsn_capture.proofs.laws.law_one_report.Goals as goal
 
 pub returns : goal.returns

@@ -14,13 +14,13 @@ use Rattle.wsn_rules.specs.Summary.{counted}
 use Rattle.wsn_rules.proofs.OneVerdict.{one_verdict}
 use Rattle.wsn_rules.specs.declared.report.Side.{Side}
 use Rattle.wsn_rules.specs.declared.report.Outcome.{Outcome}
-use Rattle.wsn_rules.specs.declared.report.Outcome.TheVariants.{Failed, Clean, Complete, Abnormal, Half, Live}
 use Rattle.wsn_rules.specs.declared.report.Report.{Report}
 use Rattle.wsn_rules.specs.Entries.{Entry}
 use Rattle.wsn_rules.specs.Entries.Entry.{Nothing, Bytes, Mark}
 use Rattle.wsn_rules.specs.Sides.{bytes_in, sent, side_of, has_ended, IsSide}
 use Rattle.wsn_rules.specs.Reports.{ClosesIn, IsFirst, other_endpoint, echo_of, seen_of, outcome_order, IsOutcome, IsReportOf, IsReport, SendAlike}
-use Rattle.wsn_capture.proofs.OneEntry.{same_entries}
+use Rattle.wsn_rules.proofs.OneEntry.{same_entries}
+use Rattle.wsn_rules.proofs.Outcomes.{outcome_at, at_its_place}
 
 -- ---- a side
 
@@ -124,22 +124,6 @@ one_first limits entries (Some Server) (Some Client) is also = absurd (not_both 
 one_first limits entries (Some Server) (Some Server) is also = refl
 
 -- ---- the outcome
-
-abbrev pub outcome_at : ℕ → Outcome
-outcome_at zero = Failed
-outcome_at (suc zero) = Clean
-outcome_at (suc (suc zero)) = Complete
-outcome_at (suc (suc (suc zero))) = Abnormal
-outcome_at (suc (suc (suc (suc zero)))) = Half
-outcome_at (suc (suc (suc (suc (suc n))))) = Live
-
-pub at_its_place : (outcome : Outcome) → outcome_at (outcome_order outcome) ≡ outcome
-at_its_place Failed = refl
-at_its_place Clean = refl
-at_its_place Complete = refl
-at_its_place Abnormal = refl
-at_its_place Half = refl
-at_its_place Live = refl
 
 pub one_outcome : (client server : Side) (client_ended server_ended : Bool) (outcome other : Outcome) → IsOutcome client server client_ended server_ended outcome → IsOutcome client server client_ended server_ended other → outcome ≡ other
 one_outcome client server client_ended server_ended outcome other is also =
