@@ -10,7 +10,7 @@ use std::io::{self, Read};
 use std::process::ExitCode;
 use wsn_capture::SideReader;
 use wsn_io::Input;
-use wsn_rules::{INPUT_MAX, Limits, MESSAGE_MAX, Verdict};
+use wsn_rules::{INPUT_MAX, Limits, MESSAGE_MAX, Refusal, Verdict};
 use wsn_scan::judge;
 use wsn_wire::Role;
 
@@ -24,10 +24,9 @@ fn main(rt: HostRuntime) -> io::Result<ExitCode> {
     for role in [Role::Client, Role::Server] {
         let mut side = Input::new(SideReader::new(capture.as_slice(), role));
         match judge(&mut side, role, limits) {
-            Ok(Verdict::Refused(refusal)) => {
-                let (name, reason) = (name_of(role), refusal.reason);
-                let (word, code) = (reason.word(), reason.code());
-                println!(rt; "{name} broke {word} at byte {}: close code {code}", refusal.place)?;
+            Ok(Verdict::Refused(Refusal { place, reason })) => {
+                let (name, word, code) = (name_of(role), reason.word(), reason.code());
+                println!(rt; "{name} broke {word} at byte {place}: close code {code}")?;
                 status = 1;
             }
             Ok(_) => {}
