@@ -3,7 +3,7 @@
 //!     wsn_example < session.capture
 //!
 //! An example for programs in Rattle, as `examples/who_broke_it.c` is for those in C. The status is 1 if a side broke the
-//! protocol, and 2 if the capture can't be read.
+//! protocol, and 2 if a line of the capture is malformed.
 #![tactic(auto)]
 
 use std::io::{self, Read};
