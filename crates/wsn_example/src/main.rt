@@ -1,0 +1,51 @@
+//! Reads a capture from standard input, and prints which side broke the protocol, at which byte and why:
+//!
+//!     wsn_example < session.capture
+//!
+//! An example for programs in Rattle, as `examples/who_broke_it.c` is for those in C. The status is 1 if a side broke the
+//! protocol, and 2 if a line of the capture is malformed.
+#![tactic(auto)]
+
+use std::io::{self, Read};
+use std::process::ExitCode;
+use wsn_capture::SideReader;
+use wsn_io::Input;
+use wsn_rules::{INPUT_MAX, Limits, MESSAGE_MAX, Refusal, Verdict};
+use wsn_scan::judge;
+use wsn_wire::Role;
+
+fn main(rt: HostRuntime) -> io::Result<ExitCode> {
+    let Some(limits) = Limits::new(MESSAGE_MAX, INPUT_MAX) else {
+        unreachable!();
+    };
+    let mut capture = Vec::new(rt.alloc());
+    rt.reader().read_to_end(&mut capture)?;
+    let mut status = 0;
+    for role in [Role::Client, Role::Server] {
+        let mut side = Input::new(SideReader::new(capture.as_slice(), role));
+        match judge(&mut side, role, limits) {
+            Ok(Verdict::Refused(Refusal { place, reason })) => {
+                let (name, word, code) = (name_of(role), reason.word(), reason.code());
+                println!(rt; "{name} broke {word} at byte {place}: close code {code}")?;
+                status = 1;
+            }
+            Ok(_) => {}
+            Err(stop) => {
+                match side.reader().stop() {
+                    Some(why) => eprintln!(rt; "{why}")?,
+                    None => eprintln!(rt; "{stop}")?,
+                }
+                return Ok(ExitCode::from(2));
+            }
+        }
+    }
+    Ok(ExitCode::from(status))
+}
+
+/// The word for an endpoint.
+fn name_of(role: Role) -> &'static str {
+    match role {
+        Role::Client => "client",
+        Role::Server => "server",
+    }
+}
