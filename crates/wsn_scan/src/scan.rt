@@ -1,4 +1,3 @@
-mod copies;
 mod event_frames;
 mod feeding;
 mod frame_starts;
