@@ -1,5 +1,6 @@
 -- What the verdict on the first two bytes says of all.
-use Rattle.std.proofs.Common.{◌≡◌, ℕ, ◌+◌, ◌<◌, List, ◌++◌, length, take, drop, sym, ap, ◌∙◌, subst, append_assoc, length-append, take-append-drop, arith}
+use Rattle.std.proofs.Common.{◌≡◌, ℕ, ◌+◌, ◌<◌, List, ◌++◌, length, take, drop, sym, ap, ◌∙◌, subst, append_assoc, length-append, take-append-drop, arith, ◌≤◌, [], ◌∷◌, refl}
+use Rattle.std.specs.Prelude.{get_or}
 use Rattle.std.proofs.lemmas.List.{length-take}
 use Rattle.wsn_wire.specs.declared.endpoint.Role.{Role}
 use Rattle.wsn_wire.specs.declared.refusal.Reason.{Reason}
@@ -44,3 +45,9 @@ refused_early role limits first later refusal has =
       early = omega (arith, inside, length-take 2 first);
       refused = subst (λ (bs : List ℕ). IsRefused role limits bs has.0 refusal.place refusal.reason) split (stays_refused role limits has.0 (take 2 first) (drop 2 first ++ later) refusal.place refusal.reason has.1);
     }
+
+-- the first two of some bytes
+pub two_at_front : (bytes : List ℕ) → 2 ≤ length bytes → bytes ≡ get_or bytes 0 0 ∷ get_or bytes 1 0 ∷ drop 2 bytes
+two_at_front [] some = absurd (omega (arith, some))
+two_at_front (b ∷ []) some = absurd (omega (arith, some))
+two_at_front (b ∷ c ∷ rest) some = refl

@@ -1,6 +1,7 @@
-ghost use Rattle.std.specs.Prelude.{◌≤◌, length, IfSome};
+ghost use Rattle.std.specs.Prelude.{◌≡◌, ◌↔◌, ◌≤◌, true, IsTrue, length, IfSome};
+ghost use Rattle.std.specs.List.{AllByRecursion};
 ghost use Rattle.wsn_rules.specs.Limits.{Limits};
-ghost use Rattle.wsn_hint.specs.Hints.{Fits};
+ghost use Rattle.wsn_hint.specs.Hints.{Fits, IsHexByte, IsHexText};
 
 use crate::hint::Hint;
 
@@ -63,14 +64,28 @@ fn is_offset_dump(first: &[u8]) -> bool {
 }
 
 /// Whether these bytes begin with digits, two for each byte, and are digits, spaces, colons and line ends.
-fn is_hexadecimal(first: &[u8]) -> bool {
+fn is_hexadecimal(first: &[u8]) -> bool
+    ensures { result ≡ true → IsHexText first.now }
+{
     let digits = digits_at_start(first);
-    first.len() > 3
-        && digits > 0
-        && (digits % 2 == 0 || digits == first.len())
-        && first
-            .iter()
-            .all(|byte| byte.is_ascii_hexdigit() || is_separator(*byte))
+    match first {
+        [digit, _, _, _, ..] if digits % 2 == 0 || digits == first.len() => {
+            digit.is_ascii_hexdigit() && are_hex_bytes(first)
+        }
+        _ => false,
+    }
+}
+
+fn are_hex_bytes(bytes: &[u8]) -> bool
+    ensures { result ≡ true → AllByRecursion IsHexByte bytes.now }
+{
+    bytes.iter().all(|byte| is_hex_byte(*byte))
+}
+
+fn is_hex_byte(byte: u8) -> bool
+    ensures { IsTrue result ↔ IsHexByte byte }
+{
+    byte.is_ascii_hexdigit() || matches!(byte, b' ' | b':' | b'\t' | b'\r' | b'\n')
 }
 
 /// The number of hexadecimal digits that these bytes begin with.
@@ -81,8 +96,4 @@ fn digits_at_start(first: &[u8]) -> usize
         .iter()
         .position(|byte| !byte.is_ascii_hexdigit())
         .unwrap_or(first.len())
-}
-
-fn is_separator(byte: u8) -> bool {
-    matches!(byte, b' ' | b':' | b'\t' | b'\r' | b'\n')
 }

@@ -1,6 +1,7 @@
-ghost use Rattle.std.specs.Prelude.{◌≡◌, ◌⊎◌, ℕ, Some, IsSome, IfSome, List, [], ◌++◌};
+ghost use Rattle.std.specs.Prelude.{◌≡◌, ◌⊎◌, ◌↔◌, ◌+◌, ℕ, true, IsTrue, Some, IsSome, IfSome, List, [], ◌++◌};
+ghost use Rattle.std.specs.List.{AllByRecursion};
 ghost use Rattle.wsn_hint.specs.declared.hint.Hint.TheVariants.{Empty};
-ghost use Rattle.wsn_hint.specs.Hints.{IsRefusedEarly, Fits};
+ghost use Rattle.wsn_hint.specs.Hints.{IsRefusedEarly, Fits, IsDataHead, BeginsCompressed, BeginsCapture, IsTextByte};
 
 use crate::formats::format_of;
 use crate::hint::Hint;
@@ -56,24 +57,48 @@ fn frame_hint(first: &[u8], reason: Reason, role: Role, limits: Limits) -> Optio
 
 /// Whether these bytes begin with a text or binary frame that is lawful but for RSV1, as compression sets it (RFC 7692
 /// section 6).
-pub fn is_compressed_start(first: &[u8], role: Role, limits: Limits) -> bool {
+pub fn is_compressed_start(first: &[u8], role: Role, limits: Limits) -> bool
+    ensures { result ≡ true → BeginsCompressed role limits first.now }
+{
     match first {
-        [head @ (0x41 | 0x42 | 0xc1 | 0xc2), second, ..] => {
-            is_lawful_start(&[*head & 0xbf, *second], role, limits)
-        }
+        [head, second, ..] => match without_compression(*head) {
+            Some(plain) => is_lawful_start(&[plain, *second], role, limits),
+            None => false,
+        },
         _ => false,
     }
 }
 
+/// The first byte of the head of a text or binary frame, without RSV1; `None` if this isn't such a byte with RSV1 alone.
+fn without_compression(head: u8) -> Option<u8>
+    ensures { IfSome result (λ plain. (head ≡ plain + 0x40) × IsDataHead plain) }
+{
+    match head {
+        0x41 => Some(0x01),
+        0x42 => Some(0x02),
+        0xc1 => Some(0x81),
+        0xc2 => Some(0x82),
+        _ => None,
+    }
+}
+
 /// Whether all these bytes are of a text in ASCII.
-fn is_text(first: &[u8]) -> bool {
-    first
-        .iter()
-        .all(|byte| matches!(byte, b'\t' | b'\r' | b'\n' | 0x20..=0x7e))
+fn is_text(first: &[u8]) -> bool
+    ensures { result ≡ true → AllByRecursion IsTextByte first.now }
+{
+    first.iter().all(|byte| is_text_byte(*byte))
+}
+
+fn is_text_byte(byte: u8) -> bool
+    ensures { IsTrue result ↔ IsTextByte byte }
+{
+    matches!(byte, b'\t' | b'\r' | b'\n' | 0x20..=0x7e)
 }
 
 /// Whether these bytes begin a line of a capture that has bytes, an end mark, or a comment after a space.
-fn is_capture_text(first: &[u8]) -> bool {
+fn is_capture_text(first: &[u8]) -> bool
+    ensures { result ≡ true → BeginsCapture first.now }
+{
     match first {
         [b'C' | b'S', b' ', high, low, ..] => high.is_ascii_hexdigit() && low.is_ascii_hexdigit(),
         [b'C' | b'S', b'.'] | [b'C' | b'S', b'.', b'\r' | b'\n', ..] => true,
