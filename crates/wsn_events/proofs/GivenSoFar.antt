@@ -1,5 +1,5 @@
 -- The events given so far are a prefix of the meaning of the bytes that came.
-use Rattle.std.proofs.Common.{◌≡◌, ◌≢◌, ℕ, ◌+◌, ◌<◌, false, List, [], ◌∷◌, ◌++◌, length, take, drop, refl, sym, ap, ◌∙◌, subst, arith, append_assoc, length-append, take-append-drop}
+use Rattle.std.proofs.Common.{◌≡◌, ◌≢◌, ℕ, ◌<◌, false, List, [], ◌∷◌, ◌++◌, length, take, drop, refl, sym, ap, ◌∙◌, subst, arith, append_assoc, take-append-drop}
 use Rattle.wsn_wire.specs.declared.endpoint.Role.{Role}
 use Rattle.wsn_wire.specs.Frame.{Frame, IsBytes, is_control, stream}
 use Rattle.wsn_wire.proofs.FrameLemmas.{IsBytes-left}
@@ -10,7 +10,6 @@ use Rattle.wsn_rules.proofs.EveryInput.{has_verdict}
 use Rattle.wsn_rules.proofs.Groups.{meaning-append}
 use Rattle.wsn_rules.proofs.OneVerdict.{all_of_verdict, all_go_on}
 use Rattle.wsn_scan.specs.ReportedFrames.{Position, InFrame, IsBegunBy, IsReportedOf}
-use Rattle.wsn_rules.proofs.HeadsGoOn.{begins_longer}
 use Rattle.wsn_scan.proofs.ReaderReports.{payload_within}
 use Rattle.wsn_events.specs.declared.event_reader.EventReader.{EventReader}
 use Rattle.wsn_events.specs.EventReaders.{HasGiven, IsAtWork}
@@ -35,9 +34,8 @@ module _ (role : Role) (limits : Limits) (came : List ℕ) (done : List Frame) (
       ap (λ (fs : List Frame). meaning fs) on.1 ∙ meaning-append done on.0 ∙ ap (λ (es : List MeantEvent). es ++ events_after done on.0) (sym events) in
       (found.verdict, events_after done on.0, (found.frames, found.is, sym means))
 
-  -- a payload byte of a data frame came
-  pub data_came : (info : HeadInfo) (payload : List ℕ) → at ≡ InFrame info payload → payload ≢ [] → is_control info.op ≡ false → HasDataPayload role limits came
-  unfolding begins_longer
+  -- a payload byte of a data frame came within the limit
+  pub data_came : (info : HeadInfo) (payload : List ℕ) → at ≡ InFrame info payload → payload ≢ [] → is_control info.op ≡ false → HasDataPayload role limits (take limits.input came)
   data_came info payload is some other =
       let begun : IsBegunBy role limits done has_reported.rest (InFrame info payload) = subst (IsBegunBy role limits done has_reported.rest) is has_reported.begun in
       let begins = begun.2.0 in
@@ -45,14 +43,14 @@ module _ (role : Role) (limits : Limits) (came : List ℕ) (done : List Frame) (
         frames = done;
         lawful = has_reported.lawful;
         no_close = begun.0;
-        rest = has_reported.rest ++ drop limits.input came;
-        whole = all_came;
+        rest = has_reported.rest;
+        whole = has_reported.whole;
         info = info;
-        begins = begins_longer role limits done has_reported.rest (drop limits.input came) info begins;
+        begins = begins;
         of_data = other;
         some = omega (arith, positive payload some, begun.1);
         payload = λ none.
-            let size : length begins.following + length (drop limits.input came) ≡ 0 = sym (length-append begins.following (drop limits.input came)) ∙ ap (λ (bs : List ℕ). length bs) none in
+            let size : length begins.following ≡ 0 = ap (λ (bs : List ℕ). length bs) none in
             omega (arith, size, positive payload some, payload_within info payload begins.following begun.2.1);
       }
 

@@ -40,10 +40,12 @@ pub record HasDataPayload (role : Role) (limits : Limits) (bytes : List ℕ) : T
   pub payload : begins.following ≢ []
 
 -- The stop after the bytes that came. At a failed read or the input limit, the events that end within the limit were
--- given. At a failed allocation, some first events were given, and a data frame's payload had begun.
+-- given. At a failed allocation, some first events of those were given, and a data frame's payload had begun within the
+-- limit.
 abbrev pub IsHalted : Role → Limits → Incoming → List ℕ → List MeantEvent → Stop → Type 0
 IsHalted role limits new came given stop.Memory =
-    HasDataPayload role limits came × AreFirstOf role limits (take limits.input came) given × (new.failed ≡ false)
+    HasDataPayload role limits (take limits.input came) × AreFirstOf role limits (take limits.input came) given
+    × (new.failed ≡ false)
 IsHalted role limits new came given halted =
     IsStopped role limits new came halted
     × ((verdict : Verdict) × IsMeaningOf role limits (take limits.input came) verdict given)

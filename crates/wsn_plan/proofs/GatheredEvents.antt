@@ -1,22 +1,23 @@
 -- All of a stream's events, kept, at each answer of their source.
-use Rattle.std.proofs.Common.{◌≡◌, ℕ, ◌+◌, Option, None, Some, refl, Result, Ok, Err, false, List, [], ◌∷◌, ◌++◌, map, inl, inr, sym, ap, ◌∙◌, subst}
+use Rattle.std.proofs.Common.{◌≡◌, ℕ, ◌+◌, Option, None, Some, refl, Result, Ok, Err, false, List, [], ◌∷◌, ◌++◌, map, take, inl, inr, sym, ap, ◌∙◌, subst}
 use Rattle.std.specs.Prelude.{IfNone}
 use Rattle.wsn_io.proofs.Received.{received_none, received_on}
 use Rattle.wsn_wire.specs.declared.endpoint.Role.{Role}
 use Rattle.wsn_wire.specs.declared.opcode.Kind.{Kind}
-use Rattle.wsn_wire.specs.Frame.{Frame}
 use Rattle.wsn_io.specs.Transfer.{Incoming, IsReceived}
 use Rattle.wsn_rules.specs.declared.verdict.Verdict.{Verdict}
 use Rattle.wsn_rules.specs.Limits.{Limits}
 use Rattle.wsn_rules.specs.Meaning.{MeantEvent, meaning}
 use Rattle.wsn_io.specs.declared.stop.Stop.{Stop}
 use Rattle.wsn_io.specs.declared.stop.Stop.TheVariants as stop
+use Rattle.wsn_scan.specs.ReportedFrames.{IsReportedOf}
+use Rattle.wsn_scan.proofs.ReaderReports.{reported_of}
 use Rattle.wsn_events.specs.declared.event.Event.{Event}
 use Rattle.wsn_events.specs.declared.event_reader.EventReader.{EventReader}
 use Rattle.wsn_events.specs.declared.source.Next.{Next}
 use Rattle.wsn_events.specs.declared.source.Next.TheVariants as nexts
 use Rattle.wsn_events.specs.EventsMeant.{meant}
-use Rattle.wsn_events.specs.EventReaders.{HasGiven, GoesOn, IsAsBefore, IsGiven}
+use Rattle.wsn_events.specs.EventReaders.{HasGiven, GoesOn, IsAsBefore}
 use Rattle.wsn_events.specs.LentMessages.{LendsMessage, lent_message}
 use Rattle.wsn_events.specs.Sources.{IsLast}
 use Rattle.wsn_plan.specs.declared.gathering.Gathered.{Gathered}
@@ -36,13 +37,22 @@ pub unchanged : {A : Type 0} (lent : Option Kind) (source next : EventReader A) 
 unchanged None source next none same = same
 unchanged (Some kind) source next none same = absurd (none kind refl)
 
-nothing_is_frames : (before : List Frame) (f : Frame) → before ++ f ∷ [] ≡ [] → ⊥
-nothing_is_frames [] f is = cc
-nothing_is_frames (b ∷ before) f is = cc
-
 nothing_is_meant : (before : List MeantEvent) (e : MeantEvent) → before ++ e ∷ [] ≡ [] → ⊥
 nothing_is_meant [] e is = cc
 nothing_is_meant (b ∷ before) e is = cc
+
+-- an event was given: the bytes within the limit have a whole frame
+frame_within : {A : Type 0} (role : Role) (limits : Limits) (source : EventReader A) (came : List ℕ) (given : List MeantEvent) (event : MeantEvent) → HasGiven role limits source came (given ++ event ∷ [])
+    → HasWholeFrame role limits (take limits.input came)
+frame_within role limits source came given event has =
+    let is : IsReportedOf role limits came has.done has.at = reported_of role limits source.reader came has.done has.at has.has_reported in
+    record {
+      frames = has.done;
+      lawful = is.lawful;
+      some = λ none. nothing_is_meant given event (has.events ∙ ap meaning none);
+      rest = is.rest;
+      whole = is.whole;
+    }
 
 module _ {A B : Type 0} (role : Role) (limits : Limits) (old : Incoming) where
   pub begins : (source : EventReader A) → HasGiven role limits source [] [] → old.failed ≡ false → HasGathered {B = B} role limits old old source []
@@ -111,21 +121,15 @@ module _ {A B : Type 0} (role : Role) (limits : Limits) (old : Incoming) where
         readable = on.next.2;
       }
 
-      has_frame : (given : IsGiven role limits next (gathered.came ++ on.more) (map kept_meant events) event) → HasWholeFrame role limits (gathered.came ++ on.more)
-      has_frame given = record {
-        frames = given.frames;
-        lawful = given.are_lawful;
-        some = λ none. nothing_is_meant (map kept_meant events) (meant event) (given.last ∙ ap meaning none);
-        rest = given.rest;
-        whole = given.whole;
-      }
+      has_frame : HasWholeFrame role limits (take limits.input (gathered.came ++ on.more))
+      has_frame = frame_within role limits next (gathered.came ++ on.more) (map kept_meant events) (meant event) on.next.0
 
       pub no_memory : IsGathered {A = A} {B = B} role limits old new (Err stop.Memory)
       no_memory = record {
         came = gathered.came ++ on.more;
         received = all_received (Ok (nexts.Event event)) on;
         range = gathered.has.has_reported.has_scanned.has_consumed.in_range;
-        of_bytes = (inr (has_frame on.next.1), on.next.2);
+        of_bytes = (inr has_frame, on.next.2);
       }
 
     -- a message that the source lends, which is kept or isn't
@@ -141,22 +145,13 @@ module _ {A B : Type 0} (role : Role) (limits : Limits) (old : Incoming) where
         readable = gathered.readable;
       }
 
-      no_frames : lent.before ++ lent.frame ∷ [] ≡ [] → ⊥
-      no_frames = nothing_is_frames lent.before lent.frame
-
       pub no_memory_lent : IsGathered {A = A} {B = B} role limits old mid (Err stop.Memory)
       no_memory_lent = record {
         came = gathered.came;
         received = gathered.received;
         range = gathered.has.has_reported.has_scanned.has_consumed.in_range;
         of_bytes = (
-          inr (record {
-            frames = lent.before ++ lent.frame ∷ [];
-            lawful = lent.are_lawful;
-            some = no_frames;
-            rest = lent.rest;
-            whole = lent.whole;
-          }),
+          inr (frame_within role limits next gathered.came (map kept_meant events) (lent_message next kind) lent.has),
           gathered.readable,
         );
       }

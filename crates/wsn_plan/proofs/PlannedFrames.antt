@@ -1,5 +1,5 @@
 -- The plan of a stream's frames, at each notice of their reader.
-use Rattle.std.proofs.Common.{◌≡◌, ◌≢◌, ℕ, ◌+◌, false, Bool, Option, None, Some, Result, Ok, Err, List, [], ◌∷◌, ◌++◌, drop, refl, sym, ap, ◌∙◌, subst}
+use Rattle.std.proofs.Common.{◌≡◌, ◌≢◌, ℕ, ◌+◌, false, Bool, Option, None, Some, Result, Ok, Err, List, [], ◌∷◌, ◌++◌, take, refl, sym, ap, ◌∙◌, subst}
 use Rattle.std.specs.Prelude.{⊤}
 use Rattle.std.proofs.lemmas.List.{map-append}
 use Rattle.wsn_io.proofs.Received.{received_none, received_on}
@@ -27,7 +27,6 @@ use Rattle.wsn_scan.specs.NoticeReaders.{HasReported, IsReading, held_payload}
 use Rattle.wsn_scan.specs.ReadNotices.{ReadsOn, IsHaltedAt, ReportsStart, ReportsFrame}
 use Rattle.wsn_scan.proofs.ReaderReports.{reported_of}
 use Rattle.wsn_events.specs.Normalised.{IsWithinLimit}
-use Rattle.wsn_events.proofs.GivenSoFar.{all_came}
 use Rattle.wsn_events.proofs.WholeNormalForms.{of_all}
 use Rattle.wsn_plan.specs.declared.planning.PlanAnswer.{PlanAnswer}
 use Rattle.wsn_plan.specs.declared.planning.PlanAnswer.TheVariants.{Plan, NotAccepted, Unfinished}
@@ -75,16 +74,16 @@ no_frame : (before : List Frame) (f : Frame) → before ++ f ∷ [] ≡ [] → �
 no_frame [] f is = cc
 no_frame (b ∷ before) f is = cc
 
--- A frame that was reported to its end is a whole one.
-whole_frame_came : (role : Role) (limits : Limits) (reader : NoticeReader) (came : List ℕ) (done : List Frame) (f : Frame) → HasReported role limits reader came (done ++ f ∷ []) BetweenFrames → HasWholeFrame role limits came
+-- A frame that was reported to its end is a whole one within the limit.
+whole_frame_came : (role : Role) (limits : Limits) (reader : NoticeReader) (came : List ℕ) (done : List Frame) (f : Frame) → HasReported role limits reader came (done ++ f ∷ []) BetweenFrames → HasWholeFrame role limits (take limits.input came)
 whole_frame_came role limits reader came done f has_reported =
     let is : IsReportedOf role limits came (done ++ f ∷ []) BetweenFrames = reported_of role limits reader came (done ++ f ∷ []) BetweenFrames has_reported in
     record {
       frames = done ++ f ∷ [];
       lawful = is.lawful;
       some = no_frame done f;
-      rest = is.rest ++ drop limits.input came;
-      whole = all_came role limits came (done ++ f ∷ []) BetweenFrames is;
+      rest = is.rest;
+      whole = is.whole;
     }
 
 module _ (role : Role) (limits : Limits) (old : Incoming) where
@@ -212,7 +211,7 @@ module _ (role : Role) (limits : Limits) (old : Incoming) where
         readable = on.next.1;
       }
 
-      has_frame : HasWholeFrame role limits (planned.came ++ on.more)
+      has_frame : HasWholeFrame role limits (take limits.input (planned.came ++ on.more))
       has_frame = whole_frame_came role limits next (planned.came ++ on.more) planned.done frame on.next.0.3
 
       pub no_memory : {A : Type 0} → IsPlanned {A = A} role limits old new (Err stop.Memory)

@@ -1,6 +1,6 @@
 -- What a recut answers at each of its ends, for the bytes that came and for all bytes of an input.
 use Rattle.std.proofs.Common.{◌≡◌, ℕ, ◌+◌, ◌<◌, Option, None, Some, Result, Ok, Err, List, [], ◌++◌, length, take, map, inl, inr, refl, sym, ap, ◌∙◌, subst, append-nil, length-append, arith}
-use Rattle.std.proofs.lemmas.List.{take-append-le, length-map}
+use Rattle.std.proofs.lemmas.List.{take-append-le, take_all, length-map}
 use Rattle.std.specs.Io.KnownBytes.{Consumes}
 use Rattle.wsn_wire.specs.declared.endpoint.Role.{Role}
 use Rattle.wsn_wire.specs.Frame.{Frame, stream}
@@ -86,8 +86,14 @@ module _ {A B : Type 0} (role : Role) (limits : Limits) (planned : Planner) (old
           of (Err stop.InputLimit) has_reported = let no : stop.InputLimit ≡ stop.Write = has_reported.0 in absurd cc
           of (Err stop.Memory) has_reported = let no : stop.Memory ≡ stop.Write = has_reported.0 in absurd cc
 
+      reached : IsReached role limits new gathered.came (Accepted s)
+      reached = subst (λ (v : Verdict). IsReached role limits new gathered.came v) is gathered.of_bytes.0
+
+      all_within : take limits.input gathered.came ≡ gathered.came
+      all_within = take_all limits.input gathered.came reached.3
+
       -- an allocation for the plan failed: there is an event, and so a whole frame
-      whole_frame : 0 < length g.events.items → HasWholeFrame role limits gathered.came
+      whole_frame : 0 < length g.events.items → HasWholeFrame role limits (take limits.input gathered.came)
       whole_frame some =
           let front = frames_front role limits gathered.came frames_of.0 frames_of.1 in
           record {
@@ -95,14 +101,14 @@ module _ {A B : Type 0} (role : Role) (limits : Limits) (planned : Planner) (old
             lawful = frames_of.1.lawful;
             some = λ none. omega (arith, length-map g.events.items kept_meant, ap (λ (es : List MeantEvent). length es) (frames_of.2 ∙ ap meaning none), some);
             rest = front.0;
-            whole = front.1;
+            whole = all_within ∙ front.1;
           }
 
       pub no_memory : 0 < length g.events.items → IsRecut role limits planned old new before before (Err stop.Memory)
       no_memory some = record {
         came = gathered.came;
         received = gathered.received;
-        of_bytes = ((inr (whole_frame some), (subst (λ (v : Verdict). IsReached role limits new gathered.came v) is gathered.of_bytes.0).4), refl);
+        of_bytes = ((inr (whole_frame some), reached.4), refl);
       }
 
 -- ---- of all the bytes

@@ -1,5 +1,5 @@
 -- What reading an input to its verdict gives when all its events are kept.
-use Rattle.std.specs.Prelude.{◌≡◌, ◌≢◌, ℕ, ◌+◌, ◌⊎◌, false, Result, Ok, Err, List, [], ◌++◌, map}
+use Rattle.std.specs.Prelude.{◌≡◌, ◌≢◌, ℕ, ◌+◌, ◌⊎◌, false, Result, Ok, Err, List, [], ◌++◌, map, take}
 use Rattle.wsn_wire.specs.declared.endpoint.Role.{Role}
 use Rattle.wsn_wire.specs.Frame.{Frame, stream}
 use Rattle.wsn_io.specs.Transfer.{Incoming, IsReceived}
@@ -24,9 +24,10 @@ pub record HasWholeFrame (role : Role) (limits : Limits) (bytes : List ℕ) : Ty
 abbrev pub HasSomethingKept : Role → Limits → List ℕ → Type 0
 HasSomethingKept role limits bytes = HasDataPayload role limits bytes ⊎ HasWholeFrame role limits bytes
 
--- The stop after the bytes that came.
+-- The stop after the bytes that came. At a failed allocation, there was something to keep within the input limit.
 abbrev pub IsStoppedAfter : Role → Limits → Incoming → List ℕ → Stop → Type 0
-IsStoppedAfter role limits new came stop.Memory = HasSomethingKept role limits came × (new.failed ≡ false)
+IsStoppedAfter role limits new came stop.Memory =
+    HasSomethingKept role limits (take limits.input came) × (new.failed ≡ false)
 IsStoppedAfter role limits new came stopped = IsStopped role limits new came stopped
 
 -- The result is right for the bytes that came: their verdict, and events that are their meaning; or a stop.

@@ -30,12 +30,13 @@ IsPlanFor frames verdict (Plan plan) = IsAnAccepted verdict × (unfinished frame
 IsPlanFor frames verdict (NotAccepted answered) = (answered ≡ verdict) × ¬ (IsAnAccepted verdict)
 IsPlanFor frames verdict Unfinished = IsAnAccepted verdict × IsOpen frames
 
--- The result is right for the bytes that came. An allocation fails only after a whole frame.
+-- The result is right for the bytes that came. An allocation fails only after a whole frame within the input limit.
 abbrev pub IsPlanOf : {A : Type 0} → Role → Limits → Incoming → List ℕ → Result (PlanAnswer A) Stop → Type 0
 IsPlanOf role limits new came (Ok answer) =
     (verdict : Verdict) × (frames : List Frame) × IsReached role limits new came verdict
     × IsVerdict role limits came frames verdict × IsPlanFor frames verdict answer
-IsPlanOf role limits new came (Err stop.Memory) = HasWholeFrame role limits came × (new.failed ≡ false)
+IsPlanOf role limits new came (Err stop.Memory) =
+    HasWholeFrame role limits (take limits.input came) × (new.failed ≡ false)
 IsPlanOf role limits new came (Err stopped) = IsStopped role limits new came stopped
 
 -- These bytes came from the input, at most one past its limit, and the result is right for them.
