@@ -6,3 +6,8 @@ pub mod Words
 pub mod Fields
 pub mod Verdicts
 pub mod StreamVerdicts
+pub mod Members
+pub mod Keys
+pub mod Heads
+pub mod Reports
+pub mod Comparisons

@@ -1,5 +1,12 @@
 -- Which answers the laws are about: those whose numbers have the range of their fields' types.
 use Rattle.std.specs.Prelude.{◌≡◌, ℕ, ◌<◌, ◌^◌, Option, None, Some, IfSome, ⊤}
+use Rattle.wsn_wire.specs.Frame.{IsBytes}
+use Rattle.wsn_rules.specs.declared.compared.Compared.{Compared}
+use Rattle.wsn_rules.specs.declared.compared.Compared.TheVariants.{Equal, Different, NotAccepted}
+use Rattle.wsn_rules.specs.declared.head_info.HeadInfo.{HeadInfo}
+use Rattle.wsn_rules.specs.declared.report.Report.{Report}
+use Rattle.wsn_rules.specs.declared.report.Side.{Side}
+use Rattle.wsn_rules.specs.declared.report.Side.TheVariants as side
 use Rattle.wsn_rules.specs.declared.verdict.Summary.{Summary}
 use Rattle.wsn_rules.specs.declared.verdict.Verdict.{Verdict}
 use Rattle.wsn_rules.specs.declared.verdict.Verdict.TheVariants.{Accepted, Cut, Refused}
@@ -37,3 +44,42 @@ abbrev pub IsPrintedWhole : Verdict → Type 0
 IsPrintedWhole (Accepted s) = ⊤
 IsPrintedWhole (Cut s) = (s.tail ≡ 0) × (s.close ≡ None)
 IsPrintedWhole (Refused refusal) = ⊤
+
+-- ---- heads
+
+-- The numbers and the key's bytes are in range.
+pub record IsHeadInRange (h : HeadInfo) : Type 0 where
+  pub place : IsInU64 h.place
+  pub key : IfSome h.key IsBytes
+  pub len : IsInU64 h.len
+
+-- ---- reports
+
+-- Each number of what became of a stream is in range.
+abbrev pub IsSideInRange : Side → Type 0
+IsSideInRange (side.Closed code) = IfSome code IsInU64
+IsSideInRange (side.Refused refusal) = IsInU64 refusal.place
+IsSideInRange side.Ended = ⊤
+IsSideInRange side.Cut = ⊤
+IsSideInRange side.Running = ⊤
+
+-- Each number of the report is in range.
+pub record IsReportInRange (report : Report) : Type 0 where
+  pub client : IsSideInRange report.client
+  pub server : IsSideInRange report.server
+  pub client_sees : IfSome report.client_sees IsInU64
+  pub server_sees : IfSome report.server_sees IsInU64
+
+-- ---- comparisons
+
+-- Each number of the comparison is in range.
+abbrev pub IsComparisonInRange : Compared → Type 0
+IsComparisonInRange Equal = ⊤
+IsComparisonInRange (Different k) = IsInU64 k
+IsComparisonInRange (NotAccepted second verdict) = IsVerdictInRange verdict
+
+-- All that it says is printed.
+abbrev pub IsComparisonPrintedWhole : Compared → Type 0
+IsComparisonPrintedWhole Equal = ⊤
+IsComparisonPrintedWhole (Different k) = ⊤
+IsComparisonPrintedWhole (NotAccepted second verdict) = IsPrintedWhole verdict

@@ -3,13 +3,16 @@
 ghost use Rattle.std.specs.Prelude.{◌≡◌, ℕ, Option, List};
 ghost use Rattle.wsn_wire.specs.declared.endpoint.Role.{Role};
 ghost use Rattle.wsn_wire.specs.Frame.{Frame};
+ghost use Rattle.wsn_rules.specs.declared.compared.Compared.{Compared};
+ghost use Rattle.wsn_rules.specs.declared.head_info.HeadInfo.{HeadInfo};
+ghost use Rattle.wsn_rules.specs.declared.report.Report.{Report};
 ghost use Rattle.wsn_rules.specs.declared.verdict.Summary.{Summary};
 ghost use Rattle.wsn_rules.specs.declared.verdict.Verdict.{Verdict};
 ghost use Rattle.wsn_rules.specs.Limits.{Limits};
 ghost use Rattle.wsn_rules.specs.Verdict.{IsVerdict};
-ghost use Rattle.wsn_print.specs.Objects.{verdict_object};
+ghost use Rattle.wsn_print.specs.Objects.{verdict_object, frame_object, report_object, comparison_object};
 ghost use Rattle.wsn_print_laws.specs.JsonText.{Value, IsJsonLine};
-ghost use Rattle.wsn_print_laws.specs.Answers.{IsVerdictInRange, IsPrintedWhole};
+ghost use Rattle.wsn_print_laws.specs.Answers.{IsVerdictInRange, IsPrintedWhole, IsHeadInRange, IsReportInRange, IsComparisonInRange, IsComparisonPrintedWhole};
 
 /// A line is the JSON text of one value at most, so whoever reads it by the grammar reads what was written.
 pub fn law_one_value()
@@ -26,4 +29,24 @@ pub fn law_verdict_objects()
         IsVerdict role limits bytes fs verdict → IsPrintedWhole verdict }
     ensures left_out { (s : Summary) (tail : ℕ) (close : Option (Option ℕ)) →
         verdict_object (Verdict.Cut (record s { tail = tail; close = close })) ≡ verdict_object (Verdict.Cut s) }
+{}
+
+/// Two different heads of frames never print the same object.
+pub fn law_frame_objects()
+    ensures { (head other : HeadInfo) → IsHeadInRange head → IsHeadInRange other →
+        frame_object head ≡ frame_object other → head ≡ other }
+{}
+
+/// Two different reports of `closing` never print the same object.
+pub fn law_report_objects()
+    ensures { (report other : Report) → IsReportInRange report → IsReportInRange other →
+        report_object report ≡ report_object other → report ≡ other }
+{}
+
+/// Two different comparisons never print the same object. It says which event differs, or which stream isn't accepted
+/// and all that its verdict says.
+pub fn law_comparison_objects()
+    ensures { (compared other : Compared) → IsComparisonInRange compared → IsComparisonInRange other →
+        IsComparisonPrintedWhole compared → IsComparisonPrintedWhole other →
+        comparison_object compared ≡ comparison_object other → compared ≡ other }
 {}
