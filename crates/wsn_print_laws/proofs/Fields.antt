@@ -6,7 +6,7 @@ use Rattle.wsn_print.specs.Json.{string_of, number_or_null, field, string_field,
 use Rattle.wsn_print_laws.specs.JsonText.{Value, Null, Number, Object, Members, IsObjectLine, IsJsonLine, HasDistinctNames}
 use Rattle.wsn_print_laws.specs.Answers.{IsInU64}
 use Rattle.wsn_print_laws.proofs.Written.{write, IsPlainValue, line_of}
-use Rattle.wsn_print_laws.proofs.OneValue.{one_value}
+use Rattle.wsn_print_laws.proofs.OneValue.{one_value, stops_after}
 use Rattle.wsn_print_laws.proofs.Words.{decimal_number}
 
 -- ---- lines
@@ -14,7 +14,7 @@ use Rattle.wsn_print_laws.proofs.Words.{decimal_number}
 -- Two lines of values that are equal bytes are of one value.
 pub one_line : (v w : Value) (line : List ℕ) → IsJsonLine v line → IsJsonLine w line → v ≡ w
 one_line v w line is_v is_w =
-    (one_value v w is_v.0 is_w.0 (codes "\n") (codes "\n") is_v.3 is_w.3 refl refl
+    (one_value v w is_v.0 is_w.0 (codes "\n") (codes "\n") is_v.3 is_w.3 (stops_after v (codes "\n") refl) (stops_after w (codes "\n") refl)
     (ap (λ (bs : List ℕ). is_v.0 ++ bs) (sym is_v.4) ∙ sym is_v.2 ∙ is_w.2 ∙ ap (λ (bs : List ℕ). is_w.0 ++ bs) is_w.4)).0
 
 -- So are what is written of them.

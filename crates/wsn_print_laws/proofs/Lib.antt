@@ -11,3 +11,7 @@ pub mod Keys
 pub mod Heads
 pub mod Reports
 pub mod Comparisons
+pub mod Distinct
+pub mod ObjectLines
+pub mod RefusedNumbers
+pub mod RefusedTexts

@@ -1,5 +1,6 @@
--- A value's text at the front of bytes is the text of no other value, if no character of a number follows it.
+-- A value's text at the front of bytes is the text of no other value, if no character of a number follows a number.
 use Rattle.std.proofs.Common.{◌≡◌, ℕ, Bool, if◌then◌else◌, List, [], ◌∷◌, ◌++◌, drop, codes, refl, sym, ap, ◌∙◌, subst, arith, append_assoc}
+use Rattle.std.specs.Prelude.{⊤}
 use Rattle.wsn_print_laws.specs.JsonText.{Are, ◌and_then◌, IsString, IsNumber, Value, Null, True, False, Number, String, Object, Members, End, Member, IsValue, AreOthers}
 use Rattle.wsn_print_laws.proofs.Strings.{one_string}
 use Rattle.wsn_print_laws.proofs.Numbers.{is_numeric, Stops, number_characters, some_number, one_number}
@@ -38,10 +39,10 @@ named name other Q Q' p q r t is_p is_q same =
 
 -- ---- what a value begins with
 
-class : ℕ → ℕ
+abbrev pub class : ℕ → ℕ
 class b = if is_numeric b then 48 else b
 
-abbrev kind : Value → ℕ
+abbrev pub kind : Value → ℕ
 kind Null = 110
 kind True = 116
 kind False = 102
@@ -50,35 +51,33 @@ kind (String characters) = 34
 kind (Object members) = 123
 
 -- The bytes begin with a byte of this class.
-Begins : ℕ → List ℕ → Type 0
+abbrev pub Begins : ℕ → List ℕ → Type 0
 Begins k bytes = (b : ℕ) × (others : List ℕ) × (bytes ≡ b ∷ others) × (class b ≡ k)
 
 number_begins : (digits r : List ℕ) → IsNumber digits → Begins 48 (digits ++ r)
-unfolding class Begins
 number_begins [] r is = absurd (omega (arith, some_number [] is))
 number_begins (b ∷ bytes) r is =
     (b, bytes ++ r, refl, ap (λ (test : Bool). if test then 48 else b) (number_characters (b ∷ bytes) is).0)
 
-begins : (v : Value) (p r : List ℕ) → IsValue v p → Begins (kind v) (p ++ r)
-unfolding class Begins
+pub begins : (v : Value) (p r : List ℕ) → IsValue v p → Begins (kind v) (p ++ r)
 begins Null p r is = (110, codes "ull" ++ r, ap (λ (bs : List ℕ). bs ++ r) is, refl)
 begins True p r is = (116, codes "rue" ++ r, ap (λ (bs : List ℕ). bs ++ r) is, refl)
 begins False p r is = (102, codes "alse" ++ r, ap (λ (bs : List ℕ). bs ++ r) is, refl)
 begins (Number digits) p r is = subst (λ (bs : List ℕ). Begins 48 (bs ++ r)) (sym is.0) (number_begins digits r is.1)
 begins (String characters) p r is =
-    (34, is.1 ++ r, ap (λ (bs : List ℕ). bs ++ r) (is.2 ∙ ap (λ (bs : List ℕ). bs ++ is.1) is.3), refl)
+    let text = is.1 in
+    (34, text.1 ++ r, ap (λ (bs : List ℕ). bs ++ r) (text.2 ∙ ap (λ (bs : List ℕ). bs ++ text.1) text.3), refl)
 begins (Object End) p r is = (123, codes "}" ++ r, ap (λ (bs : List ℕ). bs ++ r) is, refl)
 begins (Object (Member name value others)) p r is =
     (123, is.1 ++ r, ap (λ (bs : List ℕ). bs ++ r) (is.2 ∙ ap (λ (bs : List ℕ). bs ++ is.1) is.3), refl)
 
-one_class : (k l : ℕ) (bs : List ℕ) → Begins k bs → Begins l bs → k ≡ l
-unfolding Begins
+pub one_class : (k l : ℕ) (bs : List ℕ) → Begins k bs → Begins l bs → k ≡ l
 one_class k l bs one other =
     let whole : one.0 ∷ one.1 ≡ other.0 ∷ other.1 = sym one.2 ∙ other.2 in
     let head : one.0 ≡ other.0 = cc in
     sym one.3 ∙ ap class head ∙ other.3
 
-same_kind : (v w : Value) (p q r t : List ℕ) → IsValue v p → IsValue w q → p ++ r ≡ q ++ t → kind v ≡ kind w
+pub same_kind : (v w : Value) (p q r t : List ℕ) → IsValue v p → IsValue w q → p ++ r ≡ q ++ t → kind v ≡ kind w
 same_kind v w p q r t is_p is_q same =
     one_class (kind v) (kind w) (q ++ t) (subst (Begins (kind v)) same (begins v p r is_p)) (begins w q t is_q)
 
@@ -93,7 +92,7 @@ others_stop (Member name value others) p more is stops =
     comma_stops (p ++ more) (is.1 ++ more) (ap (λ (bs : List ℕ). bs ++ more) (is.2 ∙ ap (λ (bs : List ℕ). bs ++ is.1) is.3))
 
 -- What follows the first member of an object stops a number.
-rest_stops : (m : Members) (p r : List ℕ) → (AreOthers m and_then Are (codes "}")) p → Stops (p ++ r)
+pub rest_stops : (m : Members) (p r : List ℕ) → (AreOthers m and_then Are (codes "}")) p → Stops (p ++ r)
 rest_stops m p r is =
     subst Stops (sym (parts (AreOthers m) (Are (codes "}")) p r is))
     (others_stop m is.0 (is.1 ++ r) is.3 (subst (λ (bs : List ℕ). Stops (bs ++ r)) (sym is.4) refl))
@@ -108,7 +107,6 @@ brace_or_quote k l brace quote same = omega arith
 
 -- An object without members isn't one with members.
 no_member : (name : List ℕ) (Q : List ℕ → Type 0) (p q r t : List ℕ) → p ≡ codes "{}" → (Are (codes "{") and_then IsString name and_then Q) q → p ++ r ≡ q ++ t → ⊥
-unfolding class Begins
 no_member name Q p q r t is_p is_q same =
     let whole : 123 ∷ 125 ∷ r ≡ is_q.0 ++ (is_q.1 ++ t) =
     ap (λ (bs : List ℕ). bs ++ r) (sym is_p) ∙ same ∙ parts (Are (codes "{")) (IsString name and_then Q) q t is_q in
@@ -135,8 +133,25 @@ same_object name other v w m n names values members = cc
 same_members : (name other : List ℕ) (v w : Value) (m n : Members) → name ≡ other → v ≡ w → m ≡ n → Member name v m ≡ Member other w n
 same_members name other v w m n names values members = cc
 
+-- What follows doesn't continue the value, if that is a number.
+abbrev pub StopsAfter : Value → List ℕ → Type 0
+StopsAfter Null r = ⊤
+StopsAfter True r = ⊤
+StopsAfter False r = ⊤
+StopsAfter (Number digits) r = Stops r
+StopsAfter (String characters) r = ⊤
+StopsAfter (Object members) r = ⊤
+
+pub stops_after : (v : Value) (r : List ℕ) → Stops r → StopsAfter v r
+stops_after Null r stops = tt
+stops_after True r stops = tt
+stops_after False r stops = tt
+stops_after (Number digits) r stops = stops
+stops_after (String characters) r stops = tt
+stops_after (Object members) r stops = tt
+
 mutual
-  pub one_value : (v w : Value) (p q r t : List ℕ) → IsValue v p → IsValue w q → Stops r → Stops t → p ++ r ≡ q ++ t → (v ≡ w) × (r ≡ t)
+  pub one_value : (v w : Value) (p q r t : List ℕ) → IsValue v p → IsValue w q → StopsAfter v r → StopsAfter w t → p ++ r ≡ q ++ t → (v ≡ w) × (r ≡ t)
   one_value Null Null p q r t is_p is_q stops also same = (refl, ap (drop 4) (literal (codes "null") r t p q is_p is_q same))
   one_value True True p q r t is_p is_q stops also same = (refl, ap (drop 4) (literal (codes "true") r t p q is_p is_q same))
   one_value False False p q r t is_p is_q stops also same = (refl, ap (drop 5) (literal (codes "false") r t p q is_p is_q same))
@@ -163,7 +178,7 @@ mutual
       let y = is_q.4.4.4 in
       let whole = aligned (IsValue value) (IsValue w) (AreOthers others and_then Are (codes "}")) (AreOthers more and_then Are (codes "}"))
       is_p.4.4.1 is_q.4.4.1 r t x y names.1 in
-      let values = one_value value w x.0 y.0 (x.1 ++ r) (y.1 ++ t) x.3 y.3 (rest_stops others x.1 r x.4) (rest_stops more y.1 t y.4) whole in
+      let values = one_value value w x.0 y.0 (x.1 ++ r) (y.1 ++ t) x.3 y.3 (stops_after value (x.1 ++ r) (rest_stops others x.1 r x.4)) (stops_after w (y.1 ++ t) (rest_stops more y.1 t y.4)) whole in
       let members = one_others others more x.4.0 y.4.0 r t x.4.3 y.4.3 (sym (brace others x.1 r x.4) ∙ values.1 ∙ brace more y.1 t y.4) in
       (same_object name other value w others more names.0 values.0 members.0, members.1)
   one_value v w p q r t is_p is_q stops also same =
@@ -187,6 +202,6 @@ mutual
       let y = is_q.4.4.4 in
       let whole = aligned (IsValue value) (IsValue w) (AreOthers others) (AreOthers more)
       is_p.4.4.1 is_q.4.4.1 (125 ∷ r) (125 ∷ t) x y names.1 in
-      let values = one_value value w x.0 y.0 (x.1 ++ (125 ∷ r)) (y.1 ++ (125 ∷ t)) x.3 y.3 (others_stop others x.1 (125 ∷ r) x.4 refl) (others_stop more y.1 (125 ∷ t) y.4 refl) whole in
+      let values = one_value value w x.0 y.0 (x.1 ++ (125 ∷ r)) (y.1 ++ (125 ∷ t)) x.3 y.3 (stops_after value (x.1 ++ (125 ∷ r)) (others_stop others x.1 (125 ∷ r) x.4 refl)) (stops_after w (y.1 ++ (125 ∷ t)) (others_stop more y.1 (125 ∷ t) y.4 refl)) whole in
       let members = one_others others more x.1 y.1 r t x.4 y.4 values.1 in
       (same_members name other value w others more names.0 values.0 members.0, members.1)

@@ -4,7 +4,8 @@ use Rattle.std.proofs.Math.Seq.{take-append_seam, drop-append_seam}
 use Rattle.std.proofs.lemmas.Bool.Decides.{nat_tests}
 use Rattle.std.proofs.lemmas.Bool.{and_parts}
 use Rattle.std.proofs.lemmas.Str.{encode_same, encode_ascii, char_from_byte}
-use Rattle.std.specs.Char.{encode_utf8}
+use Rattle.std.specs.Char.{IsScalar, encode_utf8}
+use Rattle.std.specs.List.{AllByRecursion}
 use Rattle.hex.specs.Hex.{decode_of}
 use Rattle.hex.proofs.HexLemmas.{decode_of-ok}
 use Rattle.wsn_print.specs.ShownText.{is_from}
@@ -106,17 +107,18 @@ one_run (c ∷ cs) (d ∷ ds) a b r t is_a is_b same =
 -- ---- a string
 
 -- A string's bytes, with those after it.
-string_bytes : (cs p r : List ℕ) (is : IsString cs p) → p ++ r ≡ 34 ∷ (is.4.0 ++ (34 ∷ r))
+string_bytes : (cs p r : List ℕ) (is : IsString cs p) → p ++ r ≡ 34 ∷ (is.1.4.0 ++ (34 ∷ r))
 string_bytes cs p r is =
-    let inner = is.4.0 in
+    let text = is.1 in
+    let inner = text.4.0 in
     let whole : p ≡ 34 ∷ (inner ++ (34 ∷ [])) =
-    is.2 ∙ ap (λ (bs : List ℕ). bs ++ is.1) is.3 ∙ ap (λ (bs : List ℕ). 34 ∷ bs) (is.4.2 ∙ ap (λ (bs : List ℕ). inner ++ bs) is.4.4) in
+    text.2 ∙ ap (λ (bs : List ℕ). bs ++ text.1) text.3 ∙ ap (λ (bs : List ℕ). 34 ∷ bs) (text.4.2 ∙ ap (λ (bs : List ℕ). inner ++ bs) text.4.4) in
     ap (λ (bs : List ℕ). bs ++ r) whole ∙ ap (λ (bs : List ℕ). 34 ∷ bs) (append_assoc inner (34 ∷ []) r)
 
 pub one_string : (cs ds p q r t : List ℕ) → IsString cs p → IsString ds q → p ++ r ≡ q ++ t → (cs ≡ ds) × (r ≡ t)
 one_string cs ds p q r t a b same =
-    let whole : 34 ∷ (a.4.0 ++ (34 ∷ r)) ≡ 34 ∷ (b.4.0 ++ (34 ∷ t)) = sym (string_bytes cs p r a) ∙ same ∙ string_bytes ds q t b in
-    one_run cs ds a.4.0 b.4.0 r t a.4.3 b.4.3 (ap (drop 1) whole)
+    let whole : 34 ∷ (a.1.4.0 ++ (34 ∷ r)) ≡ 34 ∷ (b.1.4.0 ++ (34 ∷ t)) = sym (string_bytes cs p r a) ∙ same ∙ string_bytes ds q t b in
+    one_run cs ds a.1.4.0 b.1.4.0 r t a.1.4.3 b.1.4.3 (ap (drop 1) whole)
 
 -- ---- a string of characters that need no escape
 
@@ -141,11 +143,21 @@ no_quote c is quote = grind (arith, nat_tests)
 no_backslash : (c : ℕ) → is_unescaped c ≡ true → c ≡ 92 → ⊥
 no_backslash c is backslash = grind (arith, nat_tests)
 
+ascii_is_scalar : (c : ℕ) → c < 128 → IsScalar c
+ascii_is_scalar c small = grind (arith, nat_tests)
+
 plain_characters : (cs : List ℕ) → are_unescaped cs ≡ true → AreJsonCharacters cs cs
 plain_characters [] are = refl
 plain_characters (c ∷ cs) are =
     let parts = and_parts (is_unescaped c) (are_unescaped cs) are in
     (c ∷ [], cs, refl, inl (from_space c parts.0, no_quote c parts.0, no_backslash c parts.0, sym (encode_ascii c (below_delete c parts.0))), plain_characters cs parts.1)
 
+scalars : (cs : List ℕ) → are_unescaped cs ≡ true → AllByRecursion IsScalar cs
+scalars [] are = tt
+scalars (c ∷ cs) are =
+    let parts = and_parts (is_unescaped c) (are_unescaped cs) are in
+    (ascii_is_scalar c (below_delete c parts.0), scalars cs parts.1)
+
 pub plain_string : (cs : List ℕ) → are_unescaped cs ≡ true → IsString cs (34 ∷ (cs ++ (34 ∷ [])))
-plain_string cs are = (34 ∷ [], cs ++ (34 ∷ []), refl, refl, (cs, 34 ∷ [], refl, plain_characters cs are, refl))
+plain_string cs are =
+    (scalars cs are, (34 ∷ [], cs ++ (34 ∷ []), refl, refl, (cs, 34 ∷ [], refl, plain_characters cs are, refl)))

@@ -1,7 +1,8 @@
--- Which bytes are JSON, and of which value: the grammar of RFC 8259, section by section. Two things are left out, since
--- no object that is printed has them: arrays, and spaces between the parts of a text. So what is JSON here is JSON by
--- the RFC, but not the other way round.
+-- Which bytes are JSON, and of which value: the grammar of RFC 8259, section by section. Left out is what no object that
+-- is printed has: arrays, spaces between the parts of a text, and escaped surrogates. So what is JSON here is JSON by the
+-- RFC, but not the other way round.
 use Rattle.std.specs.Prelude.{◌≡◌, ◌≢◌, ℕ, ◌≤◌, ◌⊎◌, List, [], ◌∷◌, ◌++◌, codes, ⊤}
+use Rattle.std.specs.Char.{IsScalar}
 use Rattle.std.specs.List.{AllByRecursion}
 use Rattle.wsn_print.specs.QuotedTexts.{AreJsonCharacters}
 
@@ -62,9 +63,11 @@ IsNumber = Optional (Are (codes "-")) and_then IsInteger and_then Optional IsFra
 
 -- ---- strings: section 7
 
--- A string of these characters, between quotation marks.
+-- A string of these characters, each of which is one of Unicode, between quotation marks.
 abbrev pub IsString : List ℕ → List ℕ → Type 0
-IsString characters = Are (codes "\"") and_then AreJsonCharacters characters and_then Are (codes "\"")
+IsString characters = λ bytes.
+    AllByRecursion IsScalar characters
+    × (Are (codes "\"") and_then AreJsonCharacters characters and_then Are (codes "\"")) bytes
 
 -- ---- values and objects: sections 3 and 4
 

@@ -1,6 +1,6 @@
 //! The laws. Each function does nothing: its contract is the law.
 
-ghost use Rattle.std.specs.Prelude.{◌≡◌, ℕ, Option, List};
+ghost use Rattle.std.specs.Prelude.{◌≡◌, ℕ, Option, List, [], ◌++◌, codes};
 ghost use Rattle.wsn_wire.specs.declared.endpoint.Role.{Role};
 ghost use Rattle.wsn_wire.specs.Frame.{Frame};
 ghost use Rattle.wsn_rules.specs.declared.compared.Compared.{Compared};
@@ -11,12 +11,42 @@ ghost use Rattle.wsn_rules.specs.declared.verdict.Verdict.{Verdict};
 ghost use Rattle.wsn_rules.specs.Limits.{Limits};
 ghost use Rattle.wsn_rules.specs.Verdict.{IsVerdict};
 ghost use Rattle.wsn_print.specs.Objects.{verdict_object, frame_object, report_object, comparison_object};
-ghost use Rattle.wsn_print_laws.specs.JsonText.{Value, IsJsonLine};
+ghost use Rattle.wsn_print_laws.specs.JsonText.{Value, Object, Members, Member, IsValue, HasDistinctNames, IsJsonLine, IsObjectLine};
 ghost use Rattle.wsn_print_laws.specs.Answers.{IsVerdictInRange, IsPrintedWhole, IsHeadInRange, IsReportInRange, IsComparisonInRange, IsComparisonPrintedWhole};
 
 /// A line is the JSON text of one value at most, so whoever reads it by the grammar reads what was written.
 pub fn law_one_value()
     ensures { (value other : Value) (line : List ℕ) → IsJsonLine value line → IsJsonLine other line → value ≡ other }
+{}
+
+/// The grammar refuses what isn't JSON. A text that ends before an object's last brace, or goes on after it, is no text:
+/// of an object's text and a longer one, the longer one is none. Nor is there a value with any of these texts, and two
+/// members of one name don't have distinct names.
+pub fn law_what_is_not_json()
+    ensures object_ends { (members : Members) (other : Value) (text more : List ℕ) →
+        IsValue (Object members) text → IsValue other (text ++ more) → more ≡ [] }
+    ensures empty { (value : Value) → ¬ (IsValue value []) }
+    ensures bare_name { (value : Value) → ¬ (IsValue value (codes "{a:1}")) }
+    ensures without_colon { (value : Value) → ¬ (IsValue value (codes "{\"a\" 1}")) }
+    ensures without_value { (value : Value) → ¬ (IsValue value (codes "{\"a\":}")) }
+    ensures last_comma { (value : Value) → ¬ (IsValue value (codes "{\"a\":1,}")) }
+    ensures leading_zero { (value : Value) → ¬ (IsValue value (codes "{\"a\":01}")) }
+    ensures plus { (value : Value) → ¬ (IsValue value (codes "{\"a\":+1}")) }
+    ensures bare_point { (value : Value) → ¬ (IsValue value (codes "{\"a\":1.}")) }
+    ensures bare_fraction { (value : Value) → ¬ (IsValue value (codes "{\"a\":.5}")) }
+    ensures bare_exponent { (value : Value) → ¬ (IsValue value (codes "{\"a\":1e}")) }
+    ensures same_name { (name : List ℕ) (value other : Value) (others : Members) →
+        ¬ (HasDistinctNames (Object (Member name value (Member name other others)))) }
+    ensures line_feed { (value : Value) → ¬ (IsValue value (codes "{\"a\":\"\n\"}")) }
+{}
+
+/// Each of these objects is JSON: one object and an LF, in which no name occurs twice, nor in an object inside it.
+pub fn law_objects_are_json()
+    ensures verdict { (verdict : Verdict) → IsVerdictInRange verdict → IsObjectLine (verdict_object verdict) }
+    ensures frame { (head : HeadInfo) → IsHeadInRange head → IsObjectLine (frame_object head) }
+    ensures report { (report : Report) → IsReportInRange report → IsObjectLine (report_object report) }
+    ensures comparison { (compared : Compared) → IsComparisonInRange compared →
+        IsObjectLine (comparison_object compared) }
 {}
 
 /// Two different verdicts never print the same object: it says all that the verdict does. The object of `cut` leaves out

@@ -2,9 +2,12 @@
 //!
 //! [`laws`] has them. Two different answers never print the same object, so an object says all that its answer does:
 //! verdicts ([`laws::law_verdict_objects`]), heads of frames ([`laws::law_frame_objects`]), reports of `closing`
-//! ([`laws::law_report_objects`]) and comparisons ([`laws::law_comparison_objects`]). `specs/JsonText.antt` says which
-//! bytes are JSON and of which value, by the grammar of RFC 8259. No bytes are a text of two values
-//! ([`laws::law_one_value`]). `specs/Answers.antt` says which answers the laws are about.
+//! ([`laws::law_report_objects`]) and comparisons ([`laws::law_comparison_objects`]). `specs/Answers.antt` says which
+//! answers the laws are about.
+//!
+//! Each object is JSON with distinct names ([`laws::law_objects_are_json`]). `specs/JsonText.antt` says which bytes are
+//! JSON, and of which value, by the grammar of RFC 8259. No bytes are a text of two values ([`laws::law_one_value`]), and
+//! [`laws::law_what_is_not_json`] has texts that the grammar refuses.
 //!
 //! The definitions of the objects are those of `wsn_print` (`specs/Objects.antt`), whose functions write them. Nothing
 //! here runs.
