@@ -19,7 +19,7 @@ abbrev pub HaveDistinctNames : Members → Type 0
 HaveDistinctNames End = ⊤
 HaveDistinctNames (Member name value others) = HasDistinctNames value × HaveDistinctNames others
 
-differ : (name other : List ℕ) → not (bytes_eq name other) ≡ true → name ≡ other → ⊥
+pub differ : (name other : List ℕ) → not (bytes_eq name other) ≡ true → name ≡ other → ⊥
 differ name other test same =
     let yes : bytes_eq name other ≡ true = (bytes_eq-Decides name other).1 same in
     let no : not true ≡ true = ap not (sym yes) ∙ test in

@@ -64,7 +64,7 @@ form_back forms.Eight = refl
 one_form : (form other : Form) → form_word form ≡ form_word other → form ≡ other
 one_form form other same = sym (form_back form) ∙ ap form_with same ∙ form_back other
 
-plain_form : (form : Form) → are_unescaped (form_word form) ≡ true
+pub plain_form : (form : Form) → are_unescaped (form_word form) ≡ true
 plain_form forms.Shortest = refl
 plain_form forms.Two = refl
 plain_form forms.Eight = refl
@@ -103,6 +103,10 @@ frame_written h =
 
 -- ---- plain
 
+pub plain_boolean : (b : Bool) → IsPlainValue (boolean_json b)
+plain_boolean true = tt
+plain_boolean false = tt
+
 pub head_plain : (h : HeadInfo) → IsHeadInRange h → ArePlain (head_json h)
 head_plain h fits = (
   refl,
@@ -121,10 +125,6 @@ head_plain h fits = (
     ),
   ),
 )
-  where
-    plain_boolean : (b : Bool) → IsPlainValue (boolean_json b)
-    plain_boolean true = tt
-    plain_boolean false = tt
 
 pub frame_plain : (h : HeadInfo) → IsHeadInRange h → IsPlainValue (Object (frame_members h))
 frame_plain h fits = (refl, refl, head_plain h fits)

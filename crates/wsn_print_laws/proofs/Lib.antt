@@ -15,3 +15,6 @@ pub mod Distinct
 pub mod ObjectLines
 pub mod RefusedNumbers
 pub mod RefusedTexts
+pub mod Texts
+pub mod ShownJson
+pub mod ShownReader

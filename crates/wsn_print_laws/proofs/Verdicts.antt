@@ -106,7 +106,7 @@ close_plain : (close : Option (Option ℕ)) → IsCloseInRange close → IsPlain
 close_plain None fits = tt
 close_plain (Some code) fits = (refl, plain_optional code fits, tt)
 
-code_fits : (reason : Reason) → IsInU64 (code_of reason)
+pub code_fits : (reason : Reason) → IsInU64 (code_of reason)
 code_fits ReservedBits = omega arith
 code_fits ReservedOpcode = omega arith
 code_fits ControlNotFinal = omega arith
@@ -174,7 +174,7 @@ refusal_of place reason = record { place = place; reason = reason }
 refusals : (p q : ℕ) (r t : Reason) → p ≡ q → r ≡ t → refusal_of p r ≡ refusal_of q t
 refusals p q r t places reasons = cc
 
-refusal_same : (refusal other : Refusal) → refusal.place ≡ other.place → refusal.reason ≡ other.reason → refusal ≡ other
+pub refusal_same : (refusal other : Refusal) → refusal.place ≡ other.place → refusal.reason ≡ other.reason → refusal ≡ other
 unfolding refusal_of
 refusal_same refusal other places reasons = refusals refusal.place other.place refusal.reason other.reason places reasons
 

@@ -9,9 +9,13 @@ ghost use Rattle.wsn_rules.specs.declared.report.Report.{Report};
 ghost use Rattle.wsn_rules.specs.declared.verdict.Summary.{Summary};
 ghost use Rattle.wsn_rules.specs.declared.verdict.Verdict.{Verdict};
 ghost use Rattle.wsn_rules.specs.Limits.{Limits};
+ghost use Rattle.wsn_rules.specs.ShownStream.{Item};
 ghost use Rattle.wsn_rules.specs.Verdict.{IsVerdict};
 ghost use Rattle.wsn_print.specs.Objects.{verdict_object, frame_object, report_object, comparison_object};
+ghost use Rattle.wsn_print.specs.QuotedTexts.{ShowsTextReason};
+ghost use Rattle.wsn_print.specs.ShownObjects.{Position, item_object};
 ghost use Rattle.wsn_print_laws.specs.JsonText.{Value, Object, Members, Member, IsValue, HasDistinctNames, IsJsonLine, IsObjectLine};
+ghost use Rattle.wsn_print_laws.specs.ShownItems.{IsPositionInRange, IsItemInRange, LookAlike};
 ghost use Rattle.wsn_print_laws.specs.Answers.{IsVerdictInRange, IsPrintedWhole, IsHeadInRange, IsReportInRange, IsComparisonInRange, IsComparisonPrintedWhole};
 
 /// A line is the JSON text of one value at most, so whoever reads it by the grammar reads what was written.
@@ -79,4 +83,14 @@ pub fn law_comparison_objects()
     ensures { (compared other : Compared) → IsComparisonInRange compared → IsComparisonInRange other →
         IsComparisonPrintedWhole compared → IsComparisonPrintedWhole other →
         comparison_object compared ≡ comparison_object other → compared ≡ other }
+{}
+
+/// The object of a shown item says which endpoint sent it, in which line and at which time, and the item up to the bytes
+/// that its view leaves out.
+pub fn law_item_objects()
+    ensures { (n : ℕ) (role other_role : Role) (position other_position : Position) (item other : Item) →
+        IsPositionInRange position → IsPositionInRange other_position → IsItemInRange item → IsItemInRange other →
+        ShowsTextReason item → ShowsTextReason other →
+        item_object n role position item ≡ item_object n other_role other_position other →
+        (role ≡ other_role) × (position ≡ other_position) × LookAlike n item other }
 {}

@@ -3,7 +3,8 @@
 //! [`laws`] has them. Two different answers never print the same object, so an object says all that its answer does:
 //! verdicts ([`laws::law_verdict_objects`]), heads of frames ([`laws::law_frame_objects`]), reports of `closing`
 //! ([`laws::law_report_objects`]) and comparisons ([`laws::law_comparison_objects`]). `specs/Answers.antt` says which
-//! answers the laws are about.
+//! answers the laws are about. The object of a shown item says all of the item that its view shows
+//! ([`laws::law_item_objects`], `specs/ShownItems.antt`).
 //!
 //! Each object is JSON with distinct names ([`laws::law_objects_are_json`]). `specs/JsonText.antt` says which bytes are
 //! JSON, and of which value, by the grammar of RFC 8259. No bytes are a text of two values ([`laws::law_one_value`]), and
