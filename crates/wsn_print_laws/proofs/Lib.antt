@@ -18,3 +18,4 @@ pub mod RefusedTexts
 pub mod Texts
 pub mod ShownJson
 pub mod ShownReader
+pub mod ShownNames

@@ -28,11 +28,11 @@ close_distinct : (close : Option (Option ℕ)) → HasDistinctNames (close_json 
 close_distinct None = tt
 close_distinct (Some code) = (tt, optional_distinct code, tt)
 
-boolean_distinct : (b : Bool) → HasDistinctNames (boolean_json b)
+pub boolean_distinct : (b : Bool) → HasDistinctNames (boolean_json b)
 boolean_distinct true = tt
 boolean_distinct false = tt
 
-key_distinct : (key : Option (List ℕ)) → HasDistinctNames (key_json key)
+pub key_distinct : (key : Option (List ℕ)) → HasDistinctNames (key_json key)
 key_distinct None = tt
 key_distinct (Some key) = tt
 

@@ -44,13 +44,17 @@ pub fn law_what_is_not_json()
     ensures line_feed { (value : Value) → ¬ (IsValue value (codes "{\"a\":\"\n\"}")) }
 {}
 
-/// Each of these objects is JSON: one object and an LF, in which no name occurs twice, nor in an object inside it.
+/// The objects of answers and of shown items are JSON: one object and an LF. No name occurs twice in it, nor in an object
+/// inside it.
 pub fn law_objects_are_json()
     ensures verdict { (verdict : Verdict) → IsVerdictInRange verdict → IsObjectLine (verdict_object verdict) }
     ensures frame { (head : HeadInfo) → IsHeadInRange head → IsObjectLine (frame_object head) }
     ensures report { (report : Report) → IsReportInRange report → IsObjectLine (report_object report) }
     ensures comparison { (compared : Compared) → IsComparisonInRange compared →
         IsObjectLine (comparison_object compared) }
+    ensures item { (n : ℕ) (role : Role) (position : Position) (item : Item) →
+        IsPositionInRange position → IsItemInRange item → ShowsTextReason item →
+        IsObjectLine (item_object n role position item) }
 {}
 
 /// Two different verdicts never print the same object: it says all that the verdict does. The object of `cut` leaves out

@@ -6,7 +6,7 @@
 //! answers the laws are about. The object of a shown item says all of the item that its view shows
 //! ([`laws::law_item_objects`], `specs/ShownItems.antt`).
 //!
-//! Each object is JSON with distinct names ([`laws::law_objects_are_json`]). `specs/JsonText.antt` says which bytes are
+//! Each of these objects is JSON with distinct names ([`laws::law_objects_are_json`]). `specs/JsonText.antt` says which bytes are
 //! JSON, and of which value, by the grammar of RFC 8259. No bytes are a text of two values ([`laws::law_one_value`]), and
 //! [`laws::law_what_is_not_json`] has texts that the grammar refuses.
 //!

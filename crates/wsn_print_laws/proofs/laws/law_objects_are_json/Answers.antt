@@ -1,3 +1,4 @@
+use Rattle.wsn_print_laws.proofs.ShownNames.{item_line}
 use Rattle.wsn_print_laws.proofs.ObjectLines.{verdict_line, frame_line, report_line, comparison_line}
 use Rattle.wsn_print_laws.proofs.laws.law_objects_are_json.Goals as goal
 
@@ -12,3 +13,6 @@ returns-clause-report c = report_line
 
 pub returns-clause-comparison : goal.returns-clause-comparison
 returns-clause-comparison c = comparison_line
+
+pub returns-clause-item : goal.returns-clause-item
+returns-clause-item c = item_line
