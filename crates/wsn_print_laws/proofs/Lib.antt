@@ -19,3 +19,4 @@ pub mod Texts
 pub mod ShownJson
 pub mod ShownReader
 pub mod ShownNames
+pub mod EndMarks

@@ -295,20 +295,20 @@ seconds_number seconds is = (
 
 -- ---- the whole
 
-time_texts : (position : Position) (others : Members) (text : List ℕ) → IsPositionInRange position → AreTextsOf others text
+pub time_texts : (position : Position) (others : Members) (text : List ℕ) → IsPositionInRange position → AreTextsOf others text
     → AreTextsOf (time_json position others) ((time_key position ++ time_value position) ++ text)
 time_texts (InLine line (Some seconds)) others text fits are = member (codes "time") refl (record { is = (refl, seconds_number seconds fits.1) }) are
 time_texts (InLine line None) others text fits are = member (codes "time") refl null_text are
 time_texts AtEnd others text fits are = member (codes "time") refl null_text are
 time_texts InStream others text fits are = are
 
-line_texts : (position : Position) (others : Members) (text : List ℕ) → IsPositionInRange position → AreTextsOf others text
+pub line_texts : (position : Position) (others : Members) (text : List ℕ) → IsPositionInRange position → AreTextsOf others text
     → AreTextsOf (line_json position others) (line_field position ++ text)
 line_texts (InLine line time) others text fits are = member (codes "line") refl (number_text line fits.0) are
 line_texts AtEnd others text fits are = are
 line_texts InStream others text fits are = are
 
-plain_side : (role : Role) → are_unescaped (side_word role) ≡ true
+pub plain_side : (role : Role) → are_unescaped (side_word role) ≡ true
 plain_side Client = refl
 plain_side Server = refl
 

@@ -205,7 +205,7 @@ timed_distinct role time offset m plain is = (
   ),
 )
 
-placed_distinct : (role : Role) (position : Position) (offset : ℕ) (kind : List ℕ) (m : Members) → IsItem m
+pub placed_distinct : (role : Role) (position : Position) (offset : ℕ) (kind : List ℕ) (m : Members) → IsItem m
     → AreDistinct (Member (codes "type") (String kind) (placed_json role position offset m))
 placed_distinct role (InLine line None) offset kind m is = (
   (differ (codes "type") (codes "line") refl, (differ (codes "type") (codes "side") refl, (differ (codes "type") (codes "time") refl, (differ (codes "type") (codes "offset") refl, new_to item_names (codes "type") refl m is.names)))),

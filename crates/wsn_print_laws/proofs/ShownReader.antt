@@ -154,11 +154,11 @@ abbrev after_first : Members → Members
 after_first End = End
 after_first (Member name value others) = others
 
-abbrev Placed : Role → Role → Position → Position → ℕ → ℕ → Members → Members → Type 0
+abbrev pub Placed : Role → Role → Position → Position → ℕ → ℕ → Members → Members → Type 0
 Placed role other place other_place offset other_offset rest other_rest =
     (role ≡ other) × (place ≡ other_place) × (number offset ≡ number other_offset) × (rest ≡ other_rest)
 
-one_place : (role other : Role) (place other_place : Position) (offset other_offset : ℕ) (rest other_rest : Members) → IsPositionInRange place → IsPositionInRange other_place
+pub one_place : (role other : Role) (place other_place : Position) (offset other_offset : ℕ) (rest other_rest : Members) → IsPositionInRange place → IsPositionInRange other_place
     → placed_json role place offset rest ≡ placed_json other other_place other_offset other_rest → Placed role other place other_place offset other_offset rest other_rest
 one_place role other (InLine k None) (InLine j None) offset other_offset rest other_rest fits also same =
     let lines : number k ≡ number j = cc in

@@ -13,10 +13,10 @@ ghost use Rattle.wsn_rules.specs.ShownStream.{Item};
 ghost use Rattle.wsn_rules.specs.Verdict.{IsVerdict};
 ghost use Rattle.wsn_print.specs.Objects.{verdict_object, frame_object, report_object, comparison_object};
 ghost use Rattle.wsn_print.specs.QuotedTexts.{ShowsTextReason};
-ghost use Rattle.wsn_print.specs.ShownObjects.{Position, item_object};
+ghost use Rattle.wsn_print.specs.ShownObjects.{Position, item_object, end_object};
 ghost use Rattle.wsn_print_laws.specs.JsonText.{Value, Object, Members, Member, IsValue, HasDistinctNames, IsJsonLine, IsObjectLine};
 ghost use Rattle.wsn_print_laws.specs.ShownItems.{IsPositionInRange, IsItemInRange, LookAlike};
-ghost use Rattle.wsn_print_laws.specs.Answers.{IsVerdictInRange, IsPrintedWhole, IsHeadInRange, IsReportInRange, IsComparisonInRange, IsComparisonPrintedWhole};
+ghost use Rattle.wsn_print_laws.specs.Answers.{IsInU64, IsVerdictInRange, IsPrintedWhole, IsHeadInRange, IsReportInRange, IsComparisonInRange, IsComparisonPrintedWhole};
 
 /// A line is the JSON text of one value at most, so whoever reads it by the grammar reads what was written.
 pub fn law_one_value()
@@ -44,7 +44,7 @@ pub fn law_what_is_not_json()
     ensures line_feed { (value : Value) → ¬ (IsValue value (codes "{\"a\":\"\n\"}")) }
 {}
 
-/// The objects of answers and of shown items are JSON: one object and an LF. No name occurs twice in it, nor in an object
+/// The objects of answers, shown items and end marks are JSON: one object and an LF. No name occurs twice in it, nor in an object
 /// inside it.
 pub fn law_objects_are_json()
     ensures verdict { (verdict : Verdict) → IsVerdictInRange verdict → IsObjectLine (verdict_object verdict) }
@@ -55,6 +55,8 @@ pub fn law_objects_are_json()
     ensures item { (n : ℕ) (role : Role) (position : Position) (item : Item) →
         IsPositionInRange position → IsItemInRange item → ShowsTextReason item →
         IsObjectLine (item_object n role position item) }
+    ensures end_mark { (role : Role) (position : Position) (sent : ℕ) →
+        IsPositionInRange position → IsInU64 sent → IsObjectLine (end_object role position sent) }
 {}
 
 /// Two different verdicts never print the same object: it says all that the verdict does. The object of `cut` leaves out
@@ -87,6 +89,14 @@ pub fn law_comparison_objects()
     ensures { (compared other : Compared) → IsComparisonInRange compared → IsComparisonInRange other →
         IsComparisonPrintedWhole compared → IsComparisonPrintedWhole other →
         comparison_object compared ≡ comparison_object other → compared ≡ other }
+{}
+
+/// The object of an end mark says which endpoint sent how many bytes, in which line it is and at which time.
+pub fn law_end_objects()
+    ensures { (role other : Role) (position other_position : Position) (sent other_sent : ℕ) →
+        IsPositionInRange position → IsPositionInRange other_position → IsInU64 sent → IsInU64 other_sent →
+        end_object role position sent ≡ end_object other other_position other_sent →
+        (role ≡ other) × (position ≡ other_position) × (sent ≡ other_sent) }
 {}
 
 /// The object of a shown item says which endpoint sent it, in which line and at which time, and the item up to the bytes

@@ -1,3 +1,4 @@
+use Rattle.wsn_print_laws.proofs.EndMarks.{end_line}
 use Rattle.wsn_print_laws.proofs.ShownNames.{item_line}
 use Rattle.wsn_print_laws.proofs.ObjectLines.{verdict_line, frame_line, report_line, comparison_line}
 use Rattle.wsn_print_laws.proofs.laws.law_objects_are_json.Goals as goal
@@ -16,3 +17,6 @@ returns-clause-comparison c = comparison_line
 
 pub returns-clause-item : goal.returns-clause-item
 returns-clause-item c = item_line
+
+pub returns-clause-end_mark : goal.returns-clause-end_mark
+returns-clause-end_mark c = end_line
