@@ -20,3 +20,4 @@ pub mod ShownJson
 pub mod ShownReader
 pub mod ShownNames
 pub mod EndMarks
+pub mod Comments

@@ -143,16 +143,16 @@ no_quote c is quote = grind (arith, nat_tests)
 no_backslash : (c : ℕ) → is_unescaped c ≡ true → c ≡ 92 → ⊥
 no_backslash c is backslash = grind (arith, nat_tests)
 
-ascii_is_scalar : (c : ℕ) → c < 128 → IsScalar c
+pub ascii_is_scalar : (c : ℕ) → c < 128 → IsScalar c
 ascii_is_scalar c small = grind (arith, nat_tests)
 
-plain_characters : (cs : List ℕ) → are_unescaped cs ≡ true → AreJsonCharacters cs cs
+pub plain_characters : (cs : List ℕ) → are_unescaped cs ≡ true → AreJsonCharacters cs cs
 plain_characters [] are = refl
 plain_characters (c ∷ cs) are =
     let parts = and_parts (is_unescaped c) (are_unescaped cs) are in
     (c ∷ [], cs, refl, inl (from_space c parts.0, no_quote c parts.0, no_backslash c parts.0, sym (encode_ascii c (below_delete c parts.0))), plain_characters cs parts.1)
 
-scalars : (cs : List ℕ) → are_unescaped cs ≡ true → AllByRecursion IsScalar cs
+pub scalars : (cs : List ℕ) → are_unescaped cs ≡ true → AllByRecursion IsScalar cs
 scalars [] are = tt
 scalars (c ∷ cs) are =
     let parts = and_parts (is_unescaped c) (are_unescaped cs) are in

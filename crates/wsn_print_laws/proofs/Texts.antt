@@ -72,7 +72,7 @@ plain_text v text plain is =
     let same : whole.0 ≡ text = sym (append-nil whole.0) ∙ sym (whole.1 []) ∙ is [] ∙ append-nil text in
     record { is = subst (IsValue v) same whole.2 }
 
-each_scalar : (cs : List ℕ) → all_scalars cs ≡ true → AllByRecursion IsScalar cs
+pub each_scalar : (cs : List ℕ) → all_scalars cs ≡ true → AllByRecursion IsScalar cs
 each_scalar [] all = tt
 each_scalar (c ∷ cs) all =
     let parts = and_parts _ (all_scalars cs) all in

@@ -1,8 +1,8 @@
 //! The laws. Each function does nothing: its contract is the law.
 
-ghost use Rattle.std.specs.Prelude.{◌≡◌, ℕ, Option, List, [], ◌++◌, codes};
+ghost use Rattle.std.specs.Prelude.{◌≡◌, ℕ, Option, List, [], ◌∷◌, ◌++◌, codes};
 ghost use Rattle.wsn_wire.specs.declared.endpoint.Role.{Role};
-ghost use Rattle.wsn_wire.specs.Frame.{Frame};
+ghost use Rattle.wsn_wire.specs.Frame.{Frame, IsBytes};
 ghost use Rattle.wsn_rules.specs.declared.compared.Compared.{Compared};
 ghost use Rattle.wsn_rules.specs.declared.head_info.HeadInfo.{HeadInfo};
 ghost use Rattle.wsn_rules.specs.declared.report.Report.{Report};
@@ -13,7 +13,7 @@ ghost use Rattle.wsn_rules.specs.ShownStream.{Item};
 ghost use Rattle.wsn_rules.specs.Verdict.{IsVerdict};
 ghost use Rattle.wsn_print.specs.Objects.{verdict_object, frame_object, report_object, comparison_object};
 ghost use Rattle.wsn_print.specs.QuotedTexts.{ShowsTextReason};
-ghost use Rattle.wsn_print.specs.ShownObjects.{Position, item_object, end_object};
+ghost use Rattle.wsn_print.specs.ShownObjects.{Position, item_object, end_object, comment_object};
 ghost use Rattle.wsn_print_laws.specs.JsonText.{Value, Object, Members, Member, IsValue, HasDistinctNames, IsJsonLine, IsObjectLine};
 ghost use Rattle.wsn_print_laws.specs.ShownItems.{IsPositionInRange, IsItemInRange, LookAlike};
 ghost use Rattle.wsn_print_laws.specs.Answers.{IsInU64, IsVerdictInRange, IsPrintedWhole, IsHeadInRange, IsReportInRange, IsComparisonInRange, IsComparisonPrintedWhole};
@@ -44,7 +44,7 @@ pub fn law_what_is_not_json()
     ensures line_feed { (value : Value) → ¬ (IsValue value (codes "{\"a\":\"\n\"}")) }
 {}
 
-/// The objects of answers, shown items and end marks are JSON: one object and an LF. No name occurs twice in it, nor in an object
+/// The objects of answers, shown items, end marks and comments are JSON: one object and an LF. No name occurs twice in it, nor in an object
 /// inside it.
 pub fn law_objects_are_json()
     ensures verdict { (verdict : Verdict) → IsVerdictInRange verdict → IsObjectLine (verdict_object verdict) }
@@ -57,6 +57,8 @@ pub fn law_objects_are_json()
         IsObjectLine (item_object n role position item) }
     ensures end_mark { (role : Role) (position : Position) (sent : ℕ) →
         IsPositionInRange position → IsInU64 sent → IsObjectLine (end_object role position sent) }
+    ensures comment { (line : ℕ) (text : List ℕ) → IsInU64 line → IsBytes text →
+        IsObjectLine (comment_object line text) }
 {}
 
 /// Two different verdicts never print the same object: it says all that the verdict does. The object of `cut` leaves out
@@ -97,6 +99,12 @@ pub fn law_end_objects()
         IsPositionInRange position → IsPositionInRange other_position → IsInU64 sent → IsInU64 other_sent →
         end_object role position sent ≡ end_object other other_position other_sent →
         (role ≡ other) × (position ≡ other_position) × (sent ≡ other_sent) }
+{}
+
+/// The object of a comment doesn't say which bytes it has: a byte that isn't UTF-8 is shown as an escape, which is also the
+/// text of another comment.
+pub fn law_comment_objects()
+    ensures { (line : ℕ) → comment_object line (codes "#\\xfe") ≡ comment_object line (35 ∷ 254 ∷ []) }
 {}
 
 /// The object of a shown item says which endpoint sent it, in which line and at which time, and the item up to the bytes

@@ -4,7 +4,8 @@
 //! verdicts ([`laws::law_verdict_objects`]), heads of frames ([`laws::law_frame_objects`]), reports of `closing`
 //! ([`laws::law_report_objects`]) and comparisons ([`laws::law_comparison_objects`]). `specs/Answers.antt` says which
 //! answers the laws are about. The object of a shown item says all of the item that its view shows
-//! ([`laws::law_item_objects`], `specs/ShownItems.antt`).
+//! ([`laws::law_item_objects`], `specs/ShownItems.antt`), that of an end mark all of it ([`laws::law_end_objects`]). That
+//! of a comment doesn't say which bytes the comment has ([`laws::law_comment_objects`]).
 //!
 //! Each of these objects is JSON with distinct names ([`laws::law_objects_are_json`]). `specs/JsonText.antt` says which bytes are
 //! JSON, and of which value, by the grammar of RFC 8259. No bytes are a text of two values ([`laws::law_one_value`]), and

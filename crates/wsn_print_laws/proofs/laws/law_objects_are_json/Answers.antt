@@ -1,3 +1,4 @@
+use Rattle.wsn_print_laws.proofs.Comments.{comment_line}
 use Rattle.wsn_print_laws.proofs.EndMarks.{end_line}
 use Rattle.wsn_print_laws.proofs.ShownNames.{item_line}
 use Rattle.wsn_print_laws.proofs.ObjectLines.{verdict_line, frame_line, report_line, comparison_line}
@@ -20,3 +21,6 @@ returns-clause-item c = item_line
 
 pub returns-clause-end_mark : goal.returns-clause-end_mark
 returns-clause-end_mark c = end_line
+
+pub returns-clause-comment : goal.returns-clause-comment
+returns-clause-comment c = comment_line
