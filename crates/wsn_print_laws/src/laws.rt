@@ -23,9 +23,8 @@ pub fn law_one_value()
     ensures { (value other : Value) (line : List ℕ) → IsJsonLine value line → IsJsonLine other line → value ≡ other }
 {}
 
-/// The grammar refuses what isn't JSON. A text that ends before an object's last brace, or goes on after it, is no text:
-/// of an object's text and a longer one, the longer one is none. Nor is there a value with any of these texts, and two
-/// members of one name don't have distinct names.
+/// The grammar refuses what isn't JSON. An object's text is no text if bytes follow it, or if its last bytes are missing.
+/// No value has any of these texts, and two members with one name don't have distinct names.
 pub fn law_what_is_not_json()
     ensures object_ends { (members : Members) (other : Value) (text more : List ℕ) →
         IsValue (Object members) text → IsValue other (text ++ more) → more ≡ [] }
@@ -44,8 +43,8 @@ pub fn law_what_is_not_json()
     ensures line_feed { (value : Value) → ¬ (IsValue value (codes "{\"a\":\"\n\"}")) }
 {}
 
-/// The objects of answers, shown items, end marks and comments are JSON: one object and an LF. No name occurs twice in it, nor in an object
-/// inside it.
+/// The objects of answers, shown items, end marks and comments are JSON: one object and an LF. No name occurs twice in
+/// it, nor in an object inside it.
 pub fn law_objects_are_json()
     ensures verdict { (verdict : Verdict) → IsVerdictInRange verdict → IsObjectLine (verdict_object verdict) }
     ensures frame { (head : HeadInfo) → IsHeadInRange head → IsObjectLine (frame_object head) }
@@ -101,8 +100,8 @@ pub fn law_end_objects()
         (role ≡ other) × (position ≡ other_position) × (sent ≡ other_sent) }
 {}
 
-/// The object of a comment doesn't say which bytes it has: a byte that isn't UTF-8 is shown as an escape, which is also the
-/// text of another comment.
+/// The object of a comment doesn't say which bytes the comment has: a byte that isn't UTF-8 is shown as an escape, which
+/// may also be the text of a comment.
 pub fn law_comment_objects()
     ensures { (line : ℕ) → comment_object line (codes "#\\xfe") ≡ comment_object line (35 ∷ 254 ∷ []) }
 {}
