@@ -21,3 +21,4 @@ pub mod ShownReader
 pub mod ShownNames
 pub mod EndMarks
 pub mod Comments
+pub mod AnyAnswers

@@ -1,5 +1,5 @@
 -- Which answers the laws are about: those whose numbers have the range of their fields' types.
-use Rattle.std.specs.Prelude.{◌≡◌, ℕ, ◌<◌, ◌^◌, Option, None, Some, IfSome, ⊤}
+use Rattle.std.specs.Prelude.{◌≡◌, ℕ, ◌<◌, ◌^◌, Option, None, Some, IfSome, List, ⊤}
 use Rattle.wsn_wire.specs.Frame.{IsBytes}
 use Rattle.wsn_rules.specs.declared.compared.Compared.{Compared}
 use Rattle.wsn_rules.specs.declared.compared.Compared.TheVariants.{Equal, Different, NotAccepted}
@@ -10,6 +10,7 @@ use Rattle.wsn_rules.specs.declared.report.Side.TheVariants as side
 use Rattle.wsn_rules.specs.declared.verdict.Summary.{Summary}
 use Rattle.wsn_rules.specs.declared.verdict.Verdict.{Verdict}
 use Rattle.wsn_rules.specs.declared.verdict.Verdict.TheVariants.{Accepted, Cut, Refused}
+use Rattle.wsn_print.specs.Objects.{verdict_object, frame_object, report_object, comparison_object}
 
 -- The number fits in 64 bits. No field of an answer has a wider type.
 abbrev pub IsInU64 : ℕ → Type 0
@@ -83,3 +84,33 @@ abbrev pub IsComparisonPrintedWhole : Compared → Type 0
 IsComparisonPrintedWhole Equal = ⊤
 IsComparisonPrintedWhole (Different k) = ⊤
 IsComparisonPrintedWhole (NotAccepted second verdict) = IsPrintedWhole verdict
+
+-- ---- any of them
+
+-- An answer that has an object of its own.
+pub data Answer : Type 0 where
+  OfVerdict : Verdict → Answer
+  OfHead : HeadInfo → Answer
+  OfReport : Report → Answer
+  OfComparison : Compared → Answer
+
+-- Its object.
+abbrev pub answer_object : Answer → List ℕ
+answer_object (OfVerdict verdict) = verdict_object verdict
+answer_object (OfHead head) = frame_object head
+answer_object (OfReport report) = report_object report
+answer_object (OfComparison compared) = comparison_object compared
+
+-- Each number of it is in range.
+abbrev pub IsAnswerInRange : Answer → Type 0
+IsAnswerInRange (OfVerdict verdict) = IsVerdictInRange verdict
+IsAnswerInRange (OfHead head) = IsHeadInRange head
+IsAnswerInRange (OfReport report) = IsReportInRange report
+IsAnswerInRange (OfComparison compared) = IsComparisonInRange compared
+
+-- All that it says is printed.
+abbrev pub IsAnswerPrintedWhole : Answer → Type 0
+IsAnswerPrintedWhole (OfVerdict verdict) = IsPrintedWhole verdict
+IsAnswerPrintedWhole (OfHead head) = ⊤
+IsAnswerPrintedWhole (OfReport report) = ⊤
+IsAnswerPrintedWhole (OfComparison compared) = IsComparisonPrintedWhole compared

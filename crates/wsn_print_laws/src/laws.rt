@@ -16,7 +16,7 @@ ghost use Rattle.wsn_print.specs.QuotedTexts.{ShowsTextReason};
 ghost use Rattle.wsn_print.specs.ShownObjects.{Position, item_object, end_object, comment_object};
 ghost use Rattle.wsn_print_laws.specs.JsonText.{Value, Object, Members, Member, IsValue, HasDistinctNames, IsJsonLine, IsObjectLine};
 ghost use Rattle.wsn_print_laws.specs.ShownItems.{IsPositionInRange, IsItemInRange, LookAlike};
-ghost use Rattle.wsn_print_laws.specs.Answers.{IsInU64, IsVerdictInRange, IsPrintedWhole, IsHeadInRange, IsReportInRange, IsComparisonInRange, IsComparisonPrintedWhole};
+ghost use Rattle.wsn_print_laws.specs.Answers.{IsInU64, IsVerdictInRange, IsPrintedWhole, IsHeadInRange, IsReportInRange, IsComparisonInRange, IsComparisonPrintedWhole, Answer, answer_object, IsAnswerInRange, IsAnswerPrintedWhole};
 
 /// A line is the JSON text of one value at most, so whoever reads it by the grammar reads what was written.
 pub fn law_one_value()
@@ -58,6 +58,14 @@ pub fn law_objects_are_json()
         IsPositionInRange position → IsInU64 sent → IsObjectLine (end_object role position sent) }
     ensures comment { (line : ℕ) (text : List ℕ) → IsInU64 line → IsBytes text →
         IsObjectLine (comment_object line text) }
+{}
+
+/// Two different answers never print the same object, also where one is a verdict and the other a report, say. So an
+/// object determines the answer that it was printed for.
+pub fn law_answer_objects()
+    ensures { (answer other : Answer) → IsAnswerInRange answer → IsAnswerInRange other →
+        IsAnswerPrintedWhole answer → IsAnswerPrintedWhole other → answer_object answer ≡ answer_object other →
+        answer ≡ other }
 {}
 
 /// Two different verdicts never print the same object: it says all that the verdict does. The object of `cut` leaves out

@@ -1,7 +1,7 @@
 //! Laws of the JSON objects of answers: what a program that reads a line of `wsn` with `--json` can rely on.
 //!
-//! [`laws`] has them. Two different answers never print the same object, so an object says all that its answer does:
-//! verdicts ([`laws::law_verdict_objects`]), heads of frames ([`laws::law_frame_objects`]), reports of `closing`
+//! [`laws`] has them. Two different answers never print the same object, so an object says all that its answer does
+//! ([`laws::law_answer_objects`]): verdicts ([`laws::law_verdict_objects`]), heads of frames ([`laws::law_frame_objects`]), reports of `closing`
 //! ([`laws::law_report_objects`]) and comparisons ([`laws::law_comparison_objects`]). `specs/Answers.antt` says which
 //! answers the laws are about. The object of a shown item says all of the item that its view shows
 //! ([`laws::law_item_objects`], `specs/ShownItems.antt`), that of an end mark all of it ([`laws::law_end_objects`]). That
