@@ -7,7 +7,7 @@ use Rattle.wsn_print.specs.QuotedTexts.{IsJsonCharacter, AreJsonCharacters}
 use Rattle.wsn_print_laws.specs.JsonText.{Are, ◌and_then◌, IsString, IsNumber, Value, Null, True, False, Number, String, Object, Members, End, Member, IsValue, AreOthers}
 use Rattle.wsn_print_laws.proofs.Strings.{are_unescaped, plain_string, one_string}
 use Rattle.wsn_print_laws.proofs.Numbers.{is_numeric, AreNumeric, Stops, number_characters, one_number}
-use Rattle.wsn_print_laws.proofs.OneValue.{Begins, kind, begins, one_class, rest_stops, one_value, stops_after}
+use Rattle.wsn_print_laws.proofs.OneValue.{Begins, kind, begins, one_class, rest_stops, same_kind, one_value, StopsAfter, stops_after}
 use Rattle.wsn_print_laws.proofs.Words.{decimal_number}
 use Rattle.wsn_print_laws.proofs.RefusedNumbers.{Start, run, accepts, no_number}
 
@@ -16,6 +16,20 @@ use Rattle.wsn_print_laws.proofs.RefusedNumbers.{Start, run, accepts, no_number}
 pub object_ends : (m : Members) (other : Value) (text more : List ℕ) → IsValue (Object m) text → IsValue other (text ++ more) → more ≡ []
 object_ends m other text more is also =
     (one_value (Object m) other text (text ++ more) more [] is also tt (stops_after other [] tt) (sym (append-nil (text ++ more)))).1
+
+stops_by_kind : (v : Value) (more : List ℕ) → kind v ≡ 123 → StopsAfter v more
+stops_by_kind Null more same = tt
+stops_by_kind True more same = tt
+stops_by_kind False more same = tt
+stops_by_kind (Number digits) more same = absurd (omega arith)
+stops_by_kind (String characters) more same = tt
+stops_by_kind (Object members) more same = tt
+
+pub object_not_cut : (m : Members) (other : Value) (text more : List ℕ) → IsValue (Object m) (text ++ more) → IsValue other text → more ≡ []
+object_not_cut m other text more is also =
+    let same : (text ++ more) ++ [] ≡ text ++ more = append-nil (text ++ more) in
+    let kinds : 123 ≡ kind other = same_kind (Object m) other (text ++ more) text [] more is also same in
+    sym (one_value (Object m) other (text ++ more) text [] more is also tt (stops_by_kind other more (sym kinds)) same).1
 
 -- ---- what a text begins with
 

@@ -28,6 +28,8 @@ pub fn law_one_value()
 pub fn law_what_is_not_json()
     ensures object_ends { (members : Members) (other : Value) (text more : List ℕ) →
         IsValue (Object members) text → IsValue other (text ++ more) → more ≡ [] }
+    ensures object_not_cut { (members : Members) (other : Value) (text more : List ℕ) →
+        IsValue (Object members) (text ++ more) → IsValue other text → more ≡ [] }
     ensures empty { (value : Value) → ¬ (IsValue value []) }
     ensures bare_name { (value : Value) → ¬ (IsValue value (codes "{a:1}")) }
     ensures without_colon { (value : Value) → ¬ (IsValue value (codes "{\"a\" 1}")) }

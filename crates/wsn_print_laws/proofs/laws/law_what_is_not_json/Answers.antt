@@ -1,5 +1,5 @@
 use Rattle.std.proofs.Common.{[], ◌∷◌, refl}
-use Rattle.wsn_print_laws.proofs.RefusedTexts.{object_ends, no_empty, no_bare_name, no_colon, no_value, no_last_comma, no_digits, no_raw_line_feed}
+use Rattle.wsn_print_laws.proofs.RefusedTexts.{object_ends, object_not_cut, no_empty, no_bare_name, no_colon, no_value, no_last_comma, no_digits, no_raw_line_feed}
 use Rattle.wsn_print_laws.proofs.laws.law_what_is_not_json.Goals as goal
 
 pub returns-clause-object_ends : goal.returns-clause-object_ends
@@ -40,3 +40,6 @@ returns-clause-line_feed c = no_raw_line_feed
 
 pub returns-clause-same_name : goal.returns-clause-same_name
 returns-clause-same_name c = λ name value other others distinct. distinct.0.0 refl
+
+pub returns-clause-object_not_cut : goal.returns-clause-object_not_cut
+returns-clause-object_not_cut c = object_not_cut
