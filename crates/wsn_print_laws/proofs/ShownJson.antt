@@ -1,0 +1,367 @@
+-- The value of a shown item's object.
+use Rattle.std.proofs.Common.{◌≡◌, ◌≢◌, ℕ, zero, suc, ◌+◌, ◌*◌, ◌-◌, ◌/◌, ◌<◌, ◌≤◌, ◌==◌, inl, inr, Bool, true, false, if◌then◌else◌, Option, None, Some, List, [], ◌∷◌, ◌++◌, length, take, drop, codes, refl, sym, ap, ◌∙◌, subst, arith, append_assoc, append-nil}
+use Rattle.std.specs.Prelude.{nat_lt, IfSome}
+use Rattle.std.specs.List.{AllByRecursion}
+use Rattle.std.specs.Str.{chars, IsUtf8}
+use Rattle.std.proofs.lemmas.Bool.{cases_lt}
+use Rattle.hex.specs.Hex.{encode_lower}
+use Rattle.wsn_wire.specs.declared.endpoint.Role.{Role}
+use Rattle.wsn_wire.specs.declared.endpoint.Role.TheVariants.{Client, Server}
+use Rattle.wsn_wire.specs.declared.opcode.Kind.{Kind}
+use Rattle.wsn_wire.specs.declared.opcode.Kind.TheVariants as kinds
+use Rattle.wsn_wire.specs.declared.opcode.Op.{Op}
+use Rattle.wsn_wire.specs.declared.opcode.Op.TheVariants as ops
+use Rattle.wsn_wire.specs.Frame.{IsBytes}
+use Rattle.wsn_wire.specs.Refusal.{word_of, code_of}
+use Rattle.wsn_rules.specs.Meaning.{MeantEvent, Message, Control}
+use Rattle.wsn_rules.specs.ShownCapture.{IsSeconds}
+use Rattle.wsn_rules.specs.ShownStream.{Item}
+use Rattle.wsn_rules.specs.ShownStream.Item.{Event, Head, Unfinished, UnfinishedHead, RefusedFrame, Unread, Tail}
+use Rattle.wsn_print.specs.Fields.{op_word}
+use Rattle.wsn_print.specs.Json.{number_or_null, boolean, field, string_field, number_field, number_or_null_field}
+use Rattle.wsn_print.specs.Objects.{key_value, form_word, head_members}
+use Rattle.wsn_print.specs.QuotedTexts.{payload_in, ShowsTextReason}
+use Rattle.wsn_print.specs.ShownParts.{HasTextReason}
+use Rattle.wsn_print.specs.ShownText.{text_part, is_printable, event_word, event_size, offset_of}
+use Rattle.wsn_print.specs.ShownObjects.{Position, truncated_field, text_fields, hex_fields, end_fields, body_fields, reason_field, close_fields, event_view_fields, unfinished_view_fields, line_field, side_word, time_key, time_value, event_fields, item_type, item_fields, item_object}
+use Rattle.wsn_print.specs.ShownObjects.Position.{InLine, AtEnd, InStream}
+use Rattle.wsn_print.proofs.TextFronts.{part_is_utf8}
+use Rattle.wsn_print_laws.specs.JsonText.{IsNumber, IsInteger, Value, Null, True, Number, String, Object, Members, End, Member, IsJsonLine}
+use Rattle.wsn_print_laws.specs.Answers.{IsInU64}
+use Rattle.wsn_print_laws.specs.ShownItems.{IsPositionInRange, IsItemInRange}
+use Rattle.wsn_print_laws.proofs.Strings.{are_unescaped}
+use Rattle.wsn_print_laws.proofs.Words.{plain_reason}
+use Rattle.wsn_print_laws.proofs.Fields.{number, optional_number, optional_written, plain_optional}
+use Rattle.wsn_print_laws.proofs.Members.{boolean_json, boolean_is}
+use Rattle.wsn_print_laws.proofs.Verdicts.{code_fits}
+use Rattle.wsn_print_laws.proofs.Keys.{key_json, key_is, key_plain, plain_digits}
+use Rattle.wsn_print_laws.proofs.Heads.{plain_op, plain_form, plain_boolean}
+use Rattle.wsn_print_laws.proofs.Texts.{IsTextOf, AreTextsOf, none, member, same_text, last, null_text, true_text, number_text, word_text, plain_text, quoted_text, typed_line}
+
+-- ---- views
+
+abbrev pub truncated_json : ℕ → ℕ → Members
+truncated_json shown all = if nat_lt shown all then Member (codes "truncated") True End else End
+
+abbrev pub text_json : ℕ → List ℕ → Members
+text_json n text = Member (codes "text") (String (chars (take (text_part n text) text))) (truncated_json (text_part n text) (length text))
+
+abbrev pub hex_json : ℕ → List ℕ → Members
+hex_json n bytes = Member (codes "hex") (String (encode_lower (take (n / 2) bytes))) (truncated_json (n / 2) (length bytes))
+
+abbrev pub end_json : ℕ → List ℕ → Members
+end_json n bytes = Member (codes "hex") (String (encode_lower (drop (length bytes - n / 2) bytes))) (truncated_json (n / 2) (length bytes))
+
+abbrev pub body_json : ℕ → List ℕ → Members
+body_json n body = if is_printable body then text_json n body else hex_json n body
+
+abbrev pub reason_json : List ℕ → Members
+reason_json [] = End
+reason_json (b ∷ reason) = Member (codes "reason") (String (chars (b ∷ reason))) End
+
+abbrev pub close_json : ℕ → List ℕ → Members
+close_json n (high ∷ low ∷ reason) =
+    if n == 0 then Member (codes "code") Null (Member (codes "truncated") True End)
+    else Member (codes "code") (number (high * 256 + low)) (reason_json reason)
+close_json n body = Member (codes "code") Null End
+
+abbrev pub control_json : ℕ → Op → List ℕ → Members
+control_json n ops.Close body = close_json n body
+control_json n op body = body_json n body
+
+abbrev pub message_json : ℕ → Kind → List ℕ → Members
+message_json n kinds.Text payload = text_json n payload
+message_json n kinds.Binary payload = hex_json n payload
+
+abbrev pub event_view_json : ℕ → MeantEvent → Members
+event_view_json n (Message kind payload) = message_json n kind payload
+event_view_json n (Control op body) = control_json n op body
+
+abbrev pub unfinished_view_json : ℕ → MeantEvent → Members
+unfinished_view_json n (Message kind payload) = message_json n kind payload
+unfinished_view_json n (Control op body) = hex_json n body
+
+-- ---- items, after the offset
+
+abbrev pub event_json : List ℕ → ℕ → ℕ → Members → Members
+event_json word bytes frames others = Member (codes "event") (String word) (Member (codes "bytes") (number bytes) (Member (codes "frames") (number frames) others))
+
+abbrev pub item_json : ℕ → Item → Members
+item_json n (Event offset event frames) = event_json (event_word event) (event_size event) frames (event_view_json n event)
+item_json n (Head h) =
+    Member (codes "fin") (boolean_json h.fin) (Member (codes "opcode") (String (op_word h.op))
+    (Member (codes "key") (key_json h.key) (Member (codes "length") (number h.len) (Member (codes "form") (String (form_word h.form)) End))))
+item_json n (Unfinished offset event frames lacks) =
+    event_json (event_word event) (event_size event) frames (Member (codes "lacks") (optional_number lacks) (unfinished_view_json n event))
+item_json n (UnfinishedHead offset) =
+    event_json (codes "head") 0 0 (Member (codes "lacks") Null (Member (codes "hex") (String (encode_lower [])) End))
+item_json n (RefusedFrame offset refusal evidence) =
+    Member (codes "place") (number refusal.place) (Member (codes "reason") (String (word_of refusal.reason)) (Member (codes "code") (number (code_of refusal.reason)) (end_json n evidence)))
+item_json n (Unread offset bytes) = Member (codes "bytes") (number (length bytes)) (hex_json n bytes)
+item_json n (Tail offset bytes) = Member (codes "bytes") (number (length bytes)) (hex_json n bytes)
+
+-- ---- where it is
+
+abbrev pub time_json : Position → Members → Members
+time_json (InLine number (Some seconds)) others = Member (codes "time") (Number seconds) others
+time_json (InLine number None) others = Member (codes "time") Null others
+time_json AtEnd others = Member (codes "time") Null others
+time_json InStream others = others
+
+abbrev pub line_json : Position → Members → Members
+line_json (InLine line time) others = Member (codes "line") (number line) others
+line_json AtEnd others = others
+line_json InStream others = others
+
+abbrev pub placed_json : Role → Position → ℕ → Members → Members
+placed_json role position offset others =
+    line_json position (Member (codes "side") (String (side_word role)) (time_json position (Member (codes "offset") (number offset) others)))
+
+abbrev pub shown_json : ℕ → Role → Position → Item → Members
+shown_json n role position item = placed_json role position (offset_of item) (item_json n item)
+
+-- ---- texts of views
+
+truncated_by : (t : Bool) → AreTextsOf (if t then Member (codes "truncated") True End else End) (if t then codes ",\"truncated\":true" else [])
+truncated_by true = last (codes "truncated") refl true_text
+truncated_by false = none
+
+truncated_texts : (shown all : ℕ) → AreTextsOf (truncated_json shown all) (truncated_field shown all)
+truncated_texts shown all = truncated_by (nat_lt shown all)
+
+text_texts : (n : ℕ) (text : List ℕ) → AreTextsOf (text_json n text) (text_fields n text)
+text_texts n text =
+    member (codes "text") refl (quoted_text (take (text_part n text) text) (part_is_utf8 n text)) (truncated_texts (text_part n text) (length text))
+
+take_bytes : (n : ℕ) (bytes : List ℕ) → IsBytes bytes → IsBytes (take n bytes)
+take_bytes zero bytes are = tt
+take_bytes (suc n) [] are = tt
+take_bytes (suc n) (b ∷ bytes) are = (are.0, take_bytes n bytes are.1)
+
+drop_bytes : (n : ℕ) (bytes : List ℕ) → IsBytes bytes → IsBytes (drop n bytes)
+drop_bytes zero bytes are = are
+drop_bytes (suc n) [] are = tt
+drop_bytes (suc n) (b ∷ bytes) are = drop_bytes n bytes are.1
+
+hex_texts : (n : ℕ) (bytes : List ℕ) → IsBytes bytes → AreTextsOf (hex_json n bytes) (hex_fields n bytes)
+hex_texts n bytes are =
+    member (codes "hex") refl (word_text (encode_lower (take (n / 2) bytes)) (plain_digits (take (n / 2) bytes) (take_bytes (n / 2) bytes are))) (truncated_texts (n / 2) (length bytes))
+
+end_texts : (n : ℕ) (bytes : List ℕ) → IsBytes bytes → AreTextsOf (end_json n bytes) (end_fields n bytes)
+end_texts n bytes are =
+    member (codes "hex") refl (word_text (encode_lower (drop (length bytes - n / 2) bytes)) (plain_digits (drop (length bytes - n / 2) bytes) (drop_bytes (length bytes - n / 2) bytes are))) (truncated_texts (n / 2) (length bytes))
+
+either : (t : Bool) (m other : Members) (text other_text : List ℕ) → AreTextsOf m text → AreTextsOf other other_text → AreTextsOf (if t then m else other) (if t then text else other_text)
+either true m other text other_text one two = one
+either false m other text other_text one two = two
+
+body_texts : (n : ℕ) (body : List ℕ) → IsBytes body → AreTextsOf (body_json n body) (body_fields n body)
+body_texts n body are = either (is_printable body) (text_json n body) (hex_json n body) (text_fields n body) (hex_fields n body) (text_texts n body) (hex_texts n body are)
+
+reason_texts : (reason : List ℕ) → IsUtf8 reason → AreTextsOf (reason_json reason) (reason_field reason)
+reason_texts [] utf8 = none
+reason_texts (b ∷ reason) utf8 = last (codes "reason") refl (quoted_text (b ∷ reason) utf8)
+
+close_texts : (n : ℕ) (body : List ℕ) → IsBytes body → IsUtf8 (drop 2 body) → AreTextsOf (close_json n body) (close_fields n body)
+close_texts n [] are utf8 = last (codes "code") refl null_text
+close_texts n (b ∷ []) are utf8 = last (codes "code") refl null_text
+close_texts n (high ∷ low ∷ reason) are utf8 =
+    let fits : IsInU64 (high * 256 + low) = code_small high low are.0 are.1.0 in
+    either (n == 0) (Member (codes "code") Null (Member (codes "truncated") True End)) (Member (codes "code") (number (high * 256 + low)) (reason_json reason))
+    (codes ",\"code\":null,\"truncated\":true") (number_field (codes "code") (high * 256 + low) ++ reason_field reason)
+    (member (codes "code") refl null_text (last (codes "truncated") refl true_text))
+    (member (codes "code") refl (number_text (high * 256 + low) fits) (reason_texts reason utf8))
+  where
+    code_small : (high low : ℕ) → high < 256 → low < 256 → IsInU64 (high * 256 + low)
+    code_small high low one two = omega arith
+
+view_texts : (n : ℕ) (event : MeantEvent) → IsBytes (payload_in event) → HasTextReason event → AreTextsOf (event_view_json n event) (event_view_fields n event)
+view_texts n (Message kinds.Text payload) are reason = text_texts n payload
+view_texts n (Message kinds.Binary payload) are reason = hex_texts n payload are
+view_texts n (Control ops.Close body) are reason = close_texts n body are reason
+view_texts n (Control op body) are reason = body_texts n body are
+
+unfinished_texts : (n : ℕ) (event : MeantEvent) → IsBytes (payload_in event) → AreTextsOf (unfinished_view_json n event) (unfinished_view_fields n event)
+unfinished_texts n (Message kinds.Text payload) are = text_texts n payload
+unfinished_texts n (Message kinds.Binary payload) are = hex_texts n payload are
+unfinished_texts n (Control op body) are = hex_texts n body are
+
+-- ---- texts of items
+
+plain_event : (event : MeantEvent) → are_unescaped (event_word event) ≡ true
+plain_event (Message kinds.Text payload) = refl
+plain_event (Message kinds.Binary payload) = refl
+plain_event (Control op body) = plain_op op
+
+three : (a b c rest : List ℕ) → a ++ (b ++ (c ++ rest)) ≡ a ++ b ++ c ++ rest
+three a b c rest = simp append_assoc
+
+four : (a b c d rest : List ℕ) → a ++ (b ++ (c ++ (d ++ rest))) ≡ (a ++ b ++ c) ++ d ++ rest
+four a b c d rest = simp append_assoc
+
+event_texts : (word : List ℕ) (bytes frames : ℕ) (others : Members) (text : List ℕ) → are_unescaped word ≡ true → IsInU64 bytes → IsInU64 frames → AreTextsOf others text
+    → AreTextsOf (event_json word bytes frames others) (event_fields word bytes frames ++ text)
+event_texts word bytes frames others text plain fits also are =
+    same_text (event_fields word bytes frames ++ text)
+    (member (codes "event") refl (word_text word plain) (member (codes "bytes") refl (number_text bytes fits) (member (codes "frames") refl (number_text frames also) are)))
+    (three (string_field (codes "event") word) (number_field (codes "bytes") bytes) (number_field (codes "frames") frames) text)
+
+pub size_fits : (event : MeantEvent) → IsInU64 (length (payload_in event)) → IsInU64 (event_size event)
+size_fits (Message kind payload) fits = fits
+size_fits (Control op body) fits = fits
+
+optional_text : (n : Option ℕ) → IfSome n IsInU64 → IsTextOf (optional_number n) (number_or_null n)
+optional_text n fits = plain_text (optional_number n) (number_or_null n) (plain_optional n fits) (optional_written n)
+
+-- The members after the offset, as they are written.
+abbrev pub fields_of : ℕ → Item → List ℕ
+fields_of n (Head h) = head_members h
+fields_of n item = item_fields n item
+
+five : (a b c d e : List ℕ) → a ++ (b ++ (c ++ (d ++ e))) ≡ a ++ b ++ c ++ d ++ e
+five a b c d e = simp append_assoc
+
+item_texts : (n : ℕ) (item : Item) → IsItemInRange item → ShowsTextReason item → AreTextsOf (item_json n item) (fields_of n item)
+item_texts n (Event offset event frames) fits reason =
+    event_texts (event_word event) (event_size event) frames (event_view_json n event) (event_view_fields n event) (plain_event event) (size_fits event fits.2.0) fits.1 (view_texts n event fits.2.1 reason)
+item_texts n (Head h) fits reason =
+    same_text (head_members h)
+    (member (codes "fin") refl (plain_text (boolean_json h.fin) (boolean h.fin) (plain_boolean h.fin) (boolean_is h.fin).is)
+    (member (codes "opcode") refl (word_text (op_word h.op) (plain_op h.op))
+    (member (codes "key") refl (plain_text (key_json h.key) (key_value h.key) (key_plain h.key fits.key) (key_is h.key).is)
+    (member (codes "length") refl (number_text h.len fits.len)
+    (last (codes "form") refl (word_text (form_word h.form) (plain_form h.form)))))))
+    (five (field (codes "fin") (boolean h.fin)) (string_field (codes "opcode") (op_word h.op)) (field (codes "key") (key_value h.key)) (number_field (codes "length") h.len) (string_field (codes "form") (form_word h.form)))
+item_texts n (Unfinished offset event frames lacks) fits reason =
+    same_text (item_fields n (Unfinished offset event frames lacks))
+    (event_texts (event_word event) (event_size event) frames (Member (codes "lacks") (optional_number lacks) (unfinished_view_json n event)) (number_or_null_field (codes "lacks") lacks ++ unfinished_view_fields n event)
+    (plain_event event) (size_fits event fits.2.0) fits.1 (member (codes "lacks") refl (optional_text lacks fits.3) (unfinished_texts n event fits.2.1)))
+    (sym (append_assoc (event_fields (event_word event) (event_size event) frames) (number_or_null_field (codes "lacks") lacks) (unfinished_view_fields n event)))
+item_texts n (UnfinishedHead offset) fits reason =
+    same_text (item_fields n (UnfinishedHead offset))
+    (event_texts (codes "head") 0 0 (Member (codes "lacks") Null (Member (codes "hex") (String (encode_lower [])) End)) (number_or_null_field (codes "lacks") None ++ string_field (codes "hex") (encode_lower []))
+    refl (omega arith) (omega arith) (member (codes "lacks") refl null_text (last (codes "hex") refl (word_text (encode_lower []) (plain_digits [] tt)))))
+    (sym (append_assoc (event_fields (codes "head") 0 0) (number_or_null_field (codes "lacks") None) (string_field (codes "hex") (encode_lower []))))
+item_texts n (RefusedFrame offset refusal evidence) fits reason =
+    same_text (item_fields n (RefusedFrame offset refusal evidence))
+    (member (codes "place") refl (number_text refusal.place fits.1) (member (codes "reason") refl (word_text (word_of refusal.reason) (plain_reason refusal.reason))
+    (member (codes "code") refl (number_text (code_of refusal.reason) (code_fits refusal.reason)) (end_texts n evidence fits.2.1))))
+    (three (number_field (codes "place") refusal.place) (string_field (codes "reason") (word_of refusal.reason)) (number_field (codes "code") (code_of refusal.reason)) (end_fields n evidence))
+item_texts n (Unread offset bytes) fits reason = member (codes "bytes") refl (number_text (length bytes) fits.1.0) (hex_texts n bytes fits.1.1)
+item_texts n (Tail offset bytes) fits reason = member (codes "bytes") refl (number_text (length bytes) fits.1.0) (hex_texts n bytes fits.1.1)
+
+-- ---- times
+
+seconds_integer : (whole : List ℕ) → AllByRecursion (λ b. (48 ≤ b) × (b ≤ 57)) whole → 1 ≤ length whole → ((digit : ℕ) (following : List ℕ) → whole ≡ 48 ∷ digit ∷ following → ⊥) → IsInteger whole
+seconds_integer [] are some no_zero = absurd (omega arith)
+seconds_integer (b ∷ []) are some no_zero = elim (cases_lt 48 b) [
+  | inl above ↦ inr (b, [], refl, above, are.0.1, tt)
+  | inr low ↦ inl (only b (omega (arith, are.0.0)))
+]
+  where
+    only : (b : ℕ) → b ≡ 48 → b ∷ [] ≡ codes "0"
+    only b is = ap (λ (c : ℕ). c ∷ []) is
+seconds_integer (b ∷ c ∷ others) are some no_zero = elim (cases_lt 48 b) [
+  | inl above ↦ inr (b, c ∷ others, refl, above, are.0.1, are.1)
+  | inr low ↦ absurd (no_zero c others (ap (λ (d : ℕ). d ∷ c ∷ others) (equal b (omega (arith, are.0.0)))))
+]
+  where
+    equal : (b : ℕ) → b ≡ 48 → b ≡ 48
+    equal b is = is
+
+seconds_number : (seconds : List ℕ) → IsSeconds seconds → IsNumber seconds
+seconds_number seconds is = (
+  [],
+  seconds,
+  refl,
+  inl refl,
+  (
+    is.whole,
+    codes "." ++ is.fraction,
+    is.is ∙ append_assoc is.whole (codes ".") is.fraction,
+    seconds_integer is.whole is.whole_digits is.some is.no_leading_zero,
+    (
+      codes "." ++ is.fraction,
+      [],
+      sym (append-nil (codes "." ++ is.fraction)),
+      inr (codes ".", is.fraction, refl, refl, (some is.fraction is.some_more, is.fraction_digits)),
+      inl refl,
+    ),
+  ),
+)
+  where
+    some : (fraction : List ℕ) → 1 ≤ length fraction → fraction ≢ []
+    some fraction long none = absurd (omega (arith, ap length none))
+
+-- ---- the whole
+
+pub time_texts : (position : Position) (others : Members) (text : List ℕ) → IsPositionInRange position → AreTextsOf others text
+    → AreTextsOf (time_json position others) ((time_key position ++ time_value position) ++ text)
+time_texts (InLine line (Some seconds)) others text fits are = member (codes "time") refl (record { is = (refl, seconds_number seconds fits.1) }) are
+time_texts (InLine line None) others text fits are = member (codes "time") refl null_text are
+time_texts AtEnd others text fits are = member (codes "time") refl null_text are
+time_texts InStream others text fits are = are
+
+pub line_texts : (position : Position) (others : Members) (text : List ℕ) → IsPositionInRange position → AreTextsOf others text
+    → AreTextsOf (line_json position others) (line_field position ++ text)
+line_texts (InLine line time) others text fits are = member (codes "line") refl (number_text line fits.0) are
+line_texts AtEnd others text fits are = are
+line_texts InStream others text fits are = are
+
+pub plain_side : (role : Role) → are_unescaped (side_word role) ≡ true
+plain_side Client = refl
+plain_side Server = refl
+
+pub offset_fits : (item : Item) → IsItemInRange item → IsInU64 (offset_of item)
+offset_fits (Event offset event frames) fits = fits.0
+offset_fits (Head h) fits = fits.place
+offset_fits (Unfinished offset event frames lacks) fits = fits.0
+offset_fits (UnfinishedHead offset) fits = fits
+offset_fits (RefusedFrame offset refusal evidence) fits = fits.0
+offset_fits (Unread offset bytes) fits = fits.0
+offset_fits (Tail offset bytes) fits = fits.0
+
+plain_type : (item : Item) → are_unescaped (item_type item) ≡ true
+plain_type (Event offset event frames) = refl
+plain_type (Head h) = refl
+plain_type (Unfinished offset event frames lacks) = refl
+plain_type (UnfinishedHead offset) = refl
+plain_type (RefusedFrame offset refusal evidence) = refl
+plain_type (Unread offset bytes) = refl
+plain_type (Tail offset bytes) = refl
+
+-- The text of the members after the type.
+abbrev pub text_after : ℕ → Role → Position → Item → List ℕ
+text_after n role position item =
+    line_field position ++ (string_field (codes "side") (side_word role) ++ ((time_key position ++ time_value position) ++ (number_field (codes "offset") (offset_of item) ++ fields_of n item)))
+
+shown_texts : (n : ℕ) (role : Role) (position : Position) (item : Item) → IsPositionInRange position → IsItemInRange item → ShowsTextReason item
+    → AreTextsOf (shown_json n role position item) (text_after n role position item)
+shown_texts n role position item place fits reason =
+    let offset = member (codes "offset") refl (number_text (offset_of item) (offset_fits item fits)) (item_texts n item fits reason) in
+    let time = time_texts position (Member (codes "offset") (number (offset_of item)) (item_json n item)) (number_field (codes "offset") (offset_of item) ++ fields_of n item) place offset in
+    let side = member (codes "side") refl (word_text (side_word role) (plain_side role)) time in
+    line_texts position (Member (codes "side") (String (side_word role)) (time_json position (Member (codes "offset") (number (offset_of item)) (item_json n item))))
+    (string_field (codes "side") (side_word role) ++ ((time_key position ++ time_value position) ++ (number_field (codes "offset") (offset_of item) ++ fields_of n item))) place side
+
+ten : (a k q l s t v o f z : List ℕ) → a ++ (k ++ (q ++ ((l ++ (s ++ ((t ++ v) ++ (o ++ f)))) ++ z))) ≡ (a ++ k ++ q ++ l ++ s ++ t ++ v) ++ o ++ f ++ z
+ten a k q l s t v o f z = simp append_assoc
+
+head_ten : (a k q l s t v o f z : List ℕ) → a ++ (k ++ (q ++ ((l ++ (s ++ ((t ++ v) ++ (o ++ f)))) ++ z))) ≡ (a ++ k ++ q ++ l ++ s ++ t ++ v) ++ (o ++ f) ++ z
+head_ten a k q l s t v o f z = simp append_assoc
+
+whole : (n : ℕ) (role : Role) (position : Position) (item : Item)
+    → codes "{\"type\":\"" ++ (item_type item ++ (codes "\"" ++ (text_after n role position item ++ codes "}\n"))) ≡ item_object n role position item
+whole n role position (Head h) =
+    head_ten (codes "{\"type\":\"") (codes "frame") (codes "\"") (line_field position) (string_field (codes "side") (side_word role)) (time_key position) (time_value position) (number_field (codes "offset") h.place) (head_members h) (codes "}\n")
+whole n role position item =
+    ten (codes "{\"type\":\"") (item_type item) (codes "\"") (line_field position) (string_field (codes "side") (side_word role)) (time_key position) (time_value position) (number_field (codes "offset") (offset_of item)) (item_fields n item) (codes "}\n")
+
+abbrev pub shown_value : ℕ → Role → Position → Item → Value
+shown_value n role position item = Object (Member (codes "type") (String (item_type item)) (shown_json n role position item))
+
+pub shown_line : (n : ℕ) (role : Role) (position : Position) (item : Item) → IsPositionInRange position → IsItemInRange item → ShowsTextReason item
+    → IsJsonLine (shown_value n role position item) (item_object n role position item)
+shown_line n role position item place fits reason =
+    subst (IsJsonLine (shown_value n role position item)) (whole n role position item)
+    (typed_line (item_type item) (text_after n role position item) (shown_json n role position item) (plain_type item) (shown_texts n role position item place fits reason))

@@ -1,0 +1,249 @@
+-- The names in a shown item's object are distinct.
+use Rattle.std.proofs.Common.{◌≡◌, ◌≢◌, ℕ, ◌+◌, ◌*◌, ◌/◌, ◌==◌, Bool, true, false, ◌||◌, if◌then◌else◌, None, Some, List, [], ◌∷◌, ◌-◌, length, take, drop, codes, refl, sym, ap, ◌∙◌}
+use Rattle.std.specs.Prelude.{nat_lt, ⊤}
+use Rattle.std.specs.Str.{chars, bytes_eq}
+use Rattle.wsn_wire.specs.declared.endpoint.Role.{Role}
+use Rattle.wsn_wire.specs.declared.opcode.Kind.TheVariants as kinds
+use Rattle.wsn_wire.specs.declared.opcode.Op.TheVariants as ops
+use Rattle.hex.specs.Hex.{encode_lower}
+use Rattle.wsn_wire.specs.Refusal.{word_of, code_of}
+use Rattle.wsn_rules.specs.Meaning.{MeantEvent, Message, Control}
+use Rattle.wsn_rules.specs.ShownStream.{Item}
+use Rattle.wsn_rules.specs.ShownStream.Item.{Event, Head, Unfinished, UnfinishedHead, RefusedFrame, Unread, Tail}
+use Rattle.wsn_print.specs.QuotedTexts.{ShowsTextReason}
+use Rattle.wsn_print.specs.ShownText.{text_part, is_printable, event_word, event_size, offset_of}
+use Rattle.wsn_print.specs.ShownObjects.{Position, side_word, item_type, item_object}
+use Rattle.wsn_print.specs.ShownObjects.Position.{InLine, AtEnd, InStream}
+use Rattle.wsn_print_laws.specs.JsonText.{Value, Null, True, Number, String, Members, End, Member, IsNew, HasDistinctNames, AreDistinct, IsObjectLine}
+use Rattle.wsn_print_laws.specs.ShownItems.{IsPositionInRange, IsItemInRange}
+use Rattle.wsn_print_laws.proofs.Fields.{number, optional_number, optional_distinct}
+use Rattle.wsn_print_laws.proofs.Distinct.{differ, distinct}
+use Rattle.wsn_print_laws.proofs.ObjectLines.{boolean_distinct, key_distinct}
+use Rattle.wsn_print_laws.proofs.ShownJson.{text_json, hex_json, body_json, reason_json, close_json, event_view_json, unfinished_view_json, event_json, item_json, placed_json, shown_json, shown_line}
+
+-- ---- names among some
+
+abbrev pub is_among : List ℕ → List (List ℕ) → Bool
+is_among name [] = false
+is_among name (other ∷ names) = bytes_eq name other || is_among name names
+
+abbrev pub AreAmong : List (List ℕ) → Members → Type 0
+AreAmong names End = ⊤
+AreAmong names (Member name value others) = (is_among name names ≡ true) × AreAmong names others
+
+-- A name that isn't among them is new to members whose names are.
+new_to : (names : List (List ℕ)) (name : List ℕ) → is_among name names ≡ false → (m : Members) → AreAmong names m → IsNew name m
+new_to names name none End are = tt
+new_to names name none (Member other value others) are =
+    (λ same. different (sym none ∙ ap (λ (n : List ℕ). is_among n names) same ∙ are.0), new_to names name none others are.1)
+  where
+    different : false ≡ true → ⊥
+    different same = cc
+
+-- ---- views
+
+abbrev pub view_names : List (List ℕ)
+view_names = codes "text" ∷ codes "hex" ∷ codes "truncated" ∷ codes "code" ∷ codes "reason" ∷ []
+
+-- The members of a view have names of views, which are distinct.
+pub record IsView (m : Members) : Type 0 where
+  pub names : AreAmong view_names m
+  pub are_distinct : AreDistinct m
+
+shown_by : (t : Bool) (value : Value) → HasDistinctNames value → (name : List ℕ) → is_among name view_names ≡ true → name ≢ codes "truncated"
+    → IsView (Member name value (if t then Member (codes "truncated") True End else End))
+shown_by true value is name among other = record { names = (among, (refl, tt)); are_distinct = ((other, tt), is, (tt, tt, tt)) }
+shown_by false value is name among other = record { names = (among, tt); are_distinct = (tt, is, tt) }
+
+either : (t : Bool) (m other : Members) → IsView m → IsView other → IsView (if t then m else other)
+either true m other one two = one
+either false m other one two = two
+
+text_names : (n : ℕ) (text : List ℕ) → IsView (text_json n text)
+text_names n text =
+    shown_by (nat_lt (text_part n text) (length text)) (String (chars (take (text_part n text) text))) tt (codes "text") refl (differ (codes "text") (codes "truncated") refl)
+
+hex_names : (n : ℕ) (bytes : List ℕ) → IsView (hex_json n bytes)
+hex_names n bytes = shown_by (nat_lt (n / 2) (length bytes)) (String (encode_lower (take (n / 2) bytes))) tt (codes "hex") refl (differ (codes "hex") (codes "truncated") refl)
+
+reason_by : (code : ℕ) (reason : List ℕ) → IsView (Member (codes "code") (number code) (reason_json reason))
+reason_by code [] = record { names = (refl, tt); are_distinct = (tt, tt, tt) }
+reason_by code (b ∷ reason) = record { names = (refl, (refl, tt)); are_distinct = ((differ (codes "code") (codes "reason") refl, tt), tt, (tt, tt, tt)) }
+
+close_names : (n : ℕ) (body : List ℕ) → IsView (close_json n body)
+close_names n [] = record { names = (refl, tt); are_distinct = (tt, tt, tt) }
+close_names n (b ∷ []) = record { names = (refl, tt); are_distinct = (tt, tt, tt) }
+close_names n (high ∷ low ∷ reason) =
+    either (n == 0) (Member (codes "code") Null (Member (codes "truncated") True End)) (Member (codes "code") (number (high * 256 + low)) (reason_json reason))
+    (record { names = (refl, (refl, tt)); are_distinct = ((differ (codes "code") (codes "truncated") refl, tt), tt, (tt, tt, tt)) })
+    (reason_by (high * 256 + low) reason)
+
+body_names : (n : ℕ) (body : List ℕ) → IsView (body_json n body)
+body_names n body = either (is_printable body) (text_json n body) (hex_json n body) (text_names n body) (hex_names n body)
+
+view_is : (n : ℕ) (event : MeantEvent) → IsView (event_view_json n event)
+view_is n (Message kinds.Text payload) = text_names n payload
+view_is n (Message kinds.Binary payload) = hex_names n payload
+view_is n (Control ops.Close body) = close_names n body
+view_is n (Control op body) = body_names n body
+
+unfinished_is : (n : ℕ) (event : MeantEvent) → IsView (unfinished_view_json n event)
+unfinished_is n (Message kinds.Text payload) = text_names n payload
+unfinished_is n (Message kinds.Binary payload) = hex_names n payload
+unfinished_is n (Control op body) = hex_names n body
+
+-- ---- items
+
+abbrev pub item_names : List (List ℕ)
+item_names =
+    codes "text" ∷ codes "hex" ∷ codes "truncated" ∷ codes "code" ∷ codes "reason" ∷ codes "event" ∷ codes "bytes" ∷ codes "frames" ∷ codes "lacks" ∷ codes "place"
+    ∷ codes "fin" ∷ codes "opcode" ∷ codes "key" ∷ codes "length" ∷ codes "form" ∷ []
+
+-- The names of an item's members after the offset.
+pub record IsItem (m : Members) : Type 0 where
+  pub names : AreAmong item_names m
+  pub are_distinct : AreDistinct m
+
+wider_by : (a b c d e : Bool) (f : Bool) → (a || (b || (c || (d || (e || false))))) ≡ true → (a || (b || (c || (d || (e || f))))) ≡ true
+wider_by true b c d e f is = refl
+wider_by false true c d e f is = refl
+wider_by false false true d e f is = refl
+wider_by false false false true e f is = refl
+wider_by false false false false true f is = refl
+wider_by false false false false false f is = absurd cc
+
+wider : (m : Members) → AreAmong view_names m → AreAmong item_names m
+wider End are = tt
+wider (Member name value others) are = (
+  wider_by (bytes_eq name (codes "text")) (bytes_eq name (codes "hex")) (bytes_eq name (codes "truncated")) (bytes_eq name (codes "code")) (bytes_eq name (codes "reason"))
+      (is_among name (codes "event" ∷ codes "bytes" ∷ codes "frames" ∷ codes "lacks" ∷ codes "place" ∷ codes "fin" ∷ codes "opcode" ∷ codes "key" ∷ codes "length" ∷ codes "form" ∷ [])) are.0,
+  wider others are.1,
+)
+
+pub event_names : (word : List ℕ) (bytes frames : ℕ) (m : Members) → IsView m → IsItem (event_json word bytes frames m)
+event_names word bytes frames m view = record {
+  names = (refl, (refl, (refl, wider m view.names)));
+  are_distinct = (
+    (differ (codes "event") (codes "bytes") refl, (differ (codes "event") (codes "frames") refl, new_to view_names (codes "event") refl m view.names)),
+    tt,
+    (
+      (differ (codes "bytes") (codes "frames") refl, new_to view_names (codes "bytes") refl m view.names),
+      tt,
+      (new_to view_names (codes "frames") refl m view.names, tt, view.are_distinct),
+    ),
+  );
+}
+
+-- A member that no view has, in front of a view.
+before_view : (name : List ℕ) (value : Value) (m : Members) → is_among name view_names ≡ false → is_among name item_names ≡ true → HasDistinctNames value → IsView m → IsItem (Member name value m)
+before_view name value m new among is view = record {
+  names = (among, wider m view.names);
+  are_distinct = (new_to view_names name new m view.names, is, view.are_distinct);
+}
+
+-- An event whose view has `lacks` in front.
+lacking_names : (word : List ℕ) (bytes frames : ℕ) (lacks : Value) (m : Members) → HasDistinctNames lacks → IsView m → IsItem (event_json word bytes frames (Member (codes "lacks") lacks m))
+lacking_names word bytes frames lacks m is view = record {
+  names = (refl, (refl, (refl, (refl, wider m view.names))));
+  are_distinct = (
+    (differ (codes "event") (codes "bytes") refl, (differ (codes "event") (codes "frames") refl, (differ (codes "event") (codes "lacks") refl, new_to view_names (codes "event") refl m view.names))),
+    tt,
+    (
+      (differ (codes "bytes") (codes "frames") refl, (differ (codes "bytes") (codes "lacks") refl, new_to view_names (codes "bytes") refl m view.names)),
+      tt,
+      (
+        (differ (codes "frames") (codes "lacks") refl, new_to view_names (codes "frames") refl m view.names),
+        tt,
+        (new_to view_names (codes "lacks") refl m view.names, is, view.are_distinct),
+      ),
+    ),
+  );
+}
+
+refused_by : (t : Bool) (place code : ℕ) (word digits : List ℕ)
+    → IsItem (Member (codes "place") (number place) (Member (codes "reason") (String word) (Member (codes "code") (number code) (Member (codes "hex") (String digits) (if t then Member (codes "truncated") True End else End)))))
+refused_by true place code word digits = record {
+  names = (refl, (refl, (refl, (refl, (refl, tt)))));
+  are_distinct = distinct (Member (codes "place") (number place) (Member (codes "reason") (String word) (Member (codes "code") (number code) (Member (codes "hex") (String digits) (Member (codes "truncated") True End))))) refl (tt, (tt, (tt, (tt, (tt, tt)))));
+}
+refused_by false place code word digits = record {
+  names = (refl, (refl, (refl, (refl, tt))));
+  are_distinct = distinct (Member (codes "place") (number place) (Member (codes "reason") (String word) (Member (codes "code") (number code) (Member (codes "hex") (String digits) End)))) refl (tt, (tt, (tt, (tt, tt))));
+}
+
+item_is : (n : ℕ) (item : Item) → IsItem (item_json n item)
+item_is n (Event offset event frames) = event_names (event_word event) (event_size event) frames (event_view_json n event) (view_is n event)
+item_is n (Head h) = record {
+  names = (refl, (refl, (refl, (refl, (refl, tt)))));
+  are_distinct = distinct (item_json n (Head h)) refl (boolean_distinct h.fin, (tt, (key_distinct h.key, (tt, (tt, tt)))));
+}
+item_is n (Unfinished offset event frames lacks) =
+    lacking_names (event_word event) (event_size event) frames (optional_number lacks) (unfinished_view_json n event) (optional_distinct lacks) (unfinished_is n event)
+item_is n (UnfinishedHead offset) = record {
+  names = (refl, (refl, (refl, (refl, (refl, tt)))));
+  are_distinct = distinct (item_json n (UnfinishedHead offset)) refl (tt, (tt, (tt, (tt, (tt, tt)))));
+}
+item_is n (RefusedFrame offset refusal evidence) =
+    refused_by (nat_lt (n / 2) (length evidence)) refusal.place (code_of refusal.reason) (word_of refusal.reason) (encode_lower (drop (length evidence - n / 2) evidence))
+item_is n (Unread offset bytes) = before_view (codes "bytes") (number (length bytes)) (hex_json n bytes) refl refl tt (hex_names n bytes)
+item_is n (Tail offset bytes) = before_view (codes "bytes") (number (length bytes)) (hex_json n bytes) refl refl tt (hex_names n bytes)
+
+-- ---- the whole
+
+offset_distinct : (offset : ℕ) (m : Members) → IsItem m → AreDistinct (Member (codes "offset") (number offset) m)
+offset_distinct offset m is = (new_to item_names (codes "offset") refl m is.names, tt, is.are_distinct)
+
+timed_distinct : (role : Role) (time : Value) (offset : ℕ) (m : Members) → HasDistinctNames time → IsItem m
+    → AreDistinct (Member (codes "side") (String (side_word role)) (Member (codes "time") time (Member (codes "offset") (number offset) m)))
+timed_distinct role time offset m plain is = (
+  (differ (codes "side") (codes "time") refl, (differ (codes "side") (codes "offset") refl, new_to item_names (codes "side") refl m is.names)),
+  tt,
+  (
+    (differ (codes "time") (codes "offset") refl, new_to item_names (codes "time") refl m is.names),
+    plain,
+    offset_distinct offset m is,
+  ),
+)
+
+pub placed_distinct : (role : Role) (position : Position) (offset : ℕ) (kind : List ℕ) (m : Members) → IsItem m
+    → AreDistinct (Member (codes "type") (String kind) (placed_json role position offset m))
+placed_distinct role (InLine line None) offset kind m is = (
+  (differ (codes "type") (codes "line") refl, (differ (codes "type") (codes "side") refl, (differ (codes "type") (codes "time") refl, (differ (codes "type") (codes "offset") refl, new_to item_names (codes "type") refl m is.names)))),
+  tt,
+  (
+    (differ (codes "line") (codes "side") refl, (differ (codes "line") (codes "time") refl, (differ (codes "line") (codes "offset") refl, new_to item_names (codes "line") refl m is.names))),
+    tt,
+    timed_distinct role Null offset m tt is,
+  ),
+)
+placed_distinct role (InLine line (Some seconds)) offset kind m is = (
+  (differ (codes "type") (codes "line") refl, (differ (codes "type") (codes "side") refl, (differ (codes "type") (codes "time") refl, (differ (codes "type") (codes "offset") refl, new_to item_names (codes "type") refl m is.names)))),
+  tt,
+  (
+    (differ (codes "line") (codes "side") refl, (differ (codes "line") (codes "time") refl, (differ (codes "line") (codes "offset") refl, new_to item_names (codes "line") refl m is.names))),
+    tt,
+    timed_distinct role (Number seconds) offset m tt is,
+  ),
+)
+placed_distinct role AtEnd offset kind m is = (
+  (differ (codes "type") (codes "side") refl, (differ (codes "type") (codes "time") refl, (differ (codes "type") (codes "offset") refl, new_to item_names (codes "type") refl m is.names))),
+  tt,
+  timed_distinct role Null offset m tt is,
+)
+placed_distinct role InStream offset kind m is = (
+  (differ (codes "type") (codes "side") refl, (differ (codes "type") (codes "offset") refl, new_to item_names (codes "type") refl m is.names)),
+  tt,
+  (
+    (differ (codes "side") (codes "offset") refl, new_to item_names (codes "side") refl m is.names),
+    tt,
+    offset_distinct offset m is,
+  ),
+)
+
+pub item_line : (n : ℕ) (role : Role) (position : Position) (item : Item) → IsPositionInRange position → IsItemInRange item → ShowsTextReason item
+    → IsObjectLine (item_object n role position item)
+item_line n role position item place fits reason = (
+  Member (codes "type") (String (item_type item)) (shown_json n role position item),
+  shown_line n role position item place fits reason,
+  placed_distinct role position (offset_of item) (item_type item) (item_json n item) (item_is n item),
+)

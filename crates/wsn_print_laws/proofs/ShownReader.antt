@@ -1,0 +1,291 @@
+-- What the value of a shown item's object determines: where it is, and the item up to its view.
+use Rattle.std.proofs.Common.{◌≡◌, ℕ, ◌+◌, ◌*◌, ◌-◌, ◌/◌, ◌≤◌, ◌==◌, Bool, true, false, ◌&&◌, if◌then◌else◌, None, Some, List, [], ◌∷◌, ◌++◌, length, take, drop, codes, refl, sym, ap, ◌∙◌, subst, arith, eqb-true}
+use Rattle.std.specs.Prelude.{decimal, nat_lt, flat_map}
+use Rattle.std.specs.Str.{chars, bytes_eq}
+use Rattle.std.specs.Str.Lossy.{utf8_valid_len}
+use Rattle.std.proofs.lemmas.Str.{utf8_valid_len_le}
+use Rattle.hex.specs.Hex.{encode_with, encode_lower}
+use Rattle.wsn_wire.specs.declared.endpoint.Role.{Role}
+use Rattle.wsn_wire.specs.declared.endpoint.Role.TheVariants.{Client, Server}
+use Rattle.wsn_wire.specs.declared.opcode.Kind.TheVariants as kinds
+use Rattle.wsn_wire.specs.declared.opcode.Op.TheVariants as ops
+use Rattle.wsn_wire.specs.Refusal.{word_of}
+use Rattle.wsn_rules.specs.Meaning.{MeantEvent, Message, Control}
+use Rattle.wsn_rules.specs.ShownStream.{Item}
+use Rattle.wsn_rules.specs.ShownStream.Item.{Event, Head, Unfinished, UnfinishedHead, RefusedFrame, Unread, Tail}
+use Rattle.wsn_print.specs.QuotedTexts.{payload_in, ShowsTextReason}
+use Rattle.wsn_print.specs.ShownText.{quoted_character, text_part, text_view, hex_text, hex_view, end_view, is_printable, reason_text, close_view, event_view, unfinished_view, event_word, event_size, offset_of}
+use Rattle.wsn_print.specs.ShownObjects.{Position, side_word, item_type, item_object}
+use Rattle.wsn_print.specs.ShownObjects.Position.{InLine, AtEnd, InStream}
+use Rattle.wsn_print_laws.specs.JsonText.{Null, True, Number, String, Members, End, Member, IsJsonLine}
+use Rattle.wsn_print_laws.specs.Answers.{IsInU64}
+use Rattle.wsn_print_laws.specs.ShownItems.{IsPositionInRange, AreBytesInRange, IsItemInRange, AreAlike, LookAlike}
+use Rattle.wsn_print_laws.proofs.Distinct.{differ}
+use Rattle.wsn_print_laws.proofs.Fields.{number, optional_number, one_number, one_optional, one_line}
+use Rattle.wsn_print_laws.proofs.Words.{one_reason}
+use Rattle.wsn_print_laws.proofs.Verdicts.{refusal_same}
+use Rattle.wsn_print_laws.proofs.Heads.{one_head}
+use Rattle.wsn_print_laws.proofs.ShownJson.{truncated_json, text_json, hex_json, end_json, reason_json, close_json, event_view_json, unfinished_view_json, event_json, item_json, placed_json, shown_json, shown_value, shown_line, offset_fits, size_fits}
+
+-- ---- a view, read from the members that show it
+
+abbrev has_more : Members → Bool
+has_more End = false
+has_more (Member name value others) = true
+
+abbrev quoted_in : List ℕ → List ℕ
+quoted_in cs = codes "\"" ++ flat_map quoted_character cs ++ codes "\""
+
+abbrev dots : Bool → List ℕ
+dots more = if more then codes " .." else []
+
+abbrev text_in : ℕ → List ℕ → Bool → List ℕ
+text_in n cs more = if n == 0 && more then codes "-" else quoted_in cs ++ dots more
+
+abbrev dash_for_none : List ℕ → List ℕ
+dash_for_none [] = codes "-"
+dash_for_none (d ∷ digits) = d ∷ digits
+
+abbrev hex_in : ℕ → List ℕ → Bool → List ℕ
+hex_in n digits more = if n == 0 then codes "-" else dash_for_none digits ++ dots more
+
+abbrev end_in : ℕ → List ℕ → Bool → List ℕ
+end_in n digits more = if n == 0 then codes "-" else (if more then codes ".." else []) ++ digits
+
+abbrev reason_in : Members → List ℕ
+reason_in (Member name (String cs) others) = codes " " ++ quoted_in cs
+reason_in _ = []
+
+abbrev view_in : ℕ → Members → List ℕ
+view_in n (Member name (String cs) others) =
+    if bytes_eq name (codes "text") then text_in n cs (has_more others) else hex_in n cs (has_more others)
+view_in n (Member name (Number code) others) = code ++ reason_in others
+view_in n _ = codes "-"
+
+-- The view of a refusal's evidence.
+abbrev evidence_in : ℕ → Members → List ℕ
+evidence_in n (Member name (String digits) others) = end_in n digits (has_more others)
+evidence_in n _ = []
+
+-- ---- it is the view
+
+more_by : (t : Bool) → has_more (if t then Member (codes "truncated") True End else End) ≡ t
+more_by true = refl
+more_by false = refl
+
+more : (shown all : ℕ) → has_more (truncated_json shown all) ≡ nat_lt shown all
+more shown all = more_by (nat_lt shown all)
+
+-- With n 0, no byte of a text is shown.
+none_shown : (n : ℕ) (text : List ℕ) → n ≡ 0 → text_part n text ≡ 0
+none_shown n text is =
+    let few : utf8_valid_len (take n text) ≤ length (take n text) = utf8_valid_len_le (take n text) in
+    let size : length (take n text) ≡ 0 = ap (λ (m : ℕ). length (take m text)) is in
+    omega (arith, few, size)
+
+same_by : (n : ℕ) (text : List ℕ) (t : Bool) → (n == 0) ≡ t → (t && nat_lt (text_part n text) (length text)) ≡ (t && nat_lt 0 (length text))
+same_by n text true zero_n = ap (λ (k : ℕ). nat_lt k (length text)) (none_shown n text (eqb-true n 0 zero_n))
+same_by n text false some_n = refl
+
+same_test : (n : ℕ) (text : List ℕ) → (n == 0 && nat_lt (text_part n text) (length text)) ≡ (n == 0 && nat_lt 0 (length text))
+same_test n text = same_by n text (n == 0) refl
+
+text_is : (n : ℕ) (text : List ℕ) → view_in n (text_json n text) ≡ text_view n text
+text_is n text =
+    ap (text_in n (chars (take (text_part n text) text))) (more (text_part n text) (length text))
+    ∙ ap (λ (t : Bool). if t then codes "-" else quoted_in (chars (take (text_part n text) text)) ++ dots (nat_lt (text_part n text) (length text))) (same_test n text)
+
+dash_is : (bytes : List ℕ) → dash_for_none (encode_lower bytes) ≡ hex_text bytes
+unfolding encode_with
+dash_is [] = refl
+dash_is (b ∷ bytes) = refl
+
+hex_is : (n : ℕ) (bytes : List ℕ) → view_in n (hex_json n bytes) ≡ hex_view n bytes
+hex_is n bytes =
+    ap (hex_in n (encode_lower (take (n / 2) bytes))) (more (n / 2) (length bytes))
+    ∙ ap (λ (bs : List ℕ). if n == 0 then codes "-" else bs ++ dots (nat_lt (n / 2) (length bytes))) (dash_is (take (n / 2) bytes))
+
+end_is : (n : ℕ) (bytes : List ℕ) → evidence_in n (end_json n bytes) ≡ end_view n bytes
+end_is n bytes = ap (end_in n (encode_lower (drop (length bytes - n / 2) bytes))) (more (n / 2) (length bytes))
+
+body_by : (n : ℕ) (t : Bool) (body : List ℕ) → view_in n (if t then text_json n body else hex_json n body) ≡ (if t then text_view n body else hex_view n body)
+body_by n true body = text_is n body
+body_by n false body = hex_is n body
+
+reason_is : (reason : List ℕ) → reason_in (reason_json reason) ≡ reason_text reason
+reason_is [] = refl
+reason_is (b ∷ reason) = refl
+
+close_by : (n high low : ℕ) (reason : List ℕ) (t : Bool) → view_in n (if t then Member (codes "code") Null (Member (codes "truncated") True End) else Member (codes "code") (number (high * 256 + low)) (reason_json reason))
+    ≡ (if t then codes "-" else decimal (high * 256 + low) ++ reason_text reason)
+close_by n high low reason true = refl
+close_by n high low reason false = ap (λ (bs : List ℕ). decimal (high * 256 + low) ++ bs) (reason_is reason)
+
+close_is : (n : ℕ) (body : List ℕ) → view_in n (close_json n body) ≡ close_view n body
+close_is n [] = refl
+close_is n (b ∷ []) = refl
+close_is n (high ∷ low ∷ reason) = close_by n high low reason (n == 0)
+
+view_is : (n : ℕ) (event : MeantEvent) → view_in n (event_view_json n event) ≡ event_view n event
+view_is n (Message kinds.Text payload) = text_is n payload
+view_is n (Message kinds.Binary payload) = hex_is n payload
+view_is n (Control ops.Close body) = close_is n body
+view_is n (Control op body) = body_by n (is_printable body) body
+
+unfinished_is : (n : ℕ) (event : MeantEvent) → view_in n (unfinished_view_json n event) ≡ unfinished_view n event
+unfinished_is n (Message kinds.Text payload) = text_is n payload
+unfinished_is n (Message kinds.Binary payload) = hex_is n payload
+unfinished_is n (Control op body) = hex_is n body
+
+-- ---- where it is
+
+one_role : (role other : Role) → side_word role ≡ side_word other → role ≡ other
+one_role Client Client same = refl
+one_role Server Server same = refl
+one_role Client Server same = absurd (differ (codes "client") (codes "server") refl same)
+one_role Server Client same = absurd (differ (codes "server") (codes "client") refl same)
+
+-- What a value and the members after it are.
+abbrev name_of : Members → List ℕ
+name_of End = []
+name_of (Member name value others) = name
+
+abbrev after_first : Members → Members
+after_first End = End
+after_first (Member name value others) = others
+
+abbrev pub Placed : Role → Role → Position → Position → ℕ → ℕ → Members → Members → Type 0
+Placed role other place other_place offset other_offset rest other_rest =
+    (role ≡ other) × (place ≡ other_place) × (number offset ≡ number other_offset) × (rest ≡ other_rest)
+
+pub one_place : (role other : Role) (place other_place : Position) (offset other_offset : ℕ) (rest other_rest : Members) → IsPositionInRange place → IsPositionInRange other_place
+    → placed_json role place offset rest ≡ placed_json other other_place other_offset other_rest → Placed role other place other_place offset other_offset rest other_rest
+one_place role other (InLine k None) (InLine j None) offset other_offset rest other_rest fits also same =
+    let lines : number k ≡ number j = cc in
+    let sides : side_word role ≡ side_word other = cc in
+    let offsets : number offset ≡ number other_offset = cc in
+    let rests : rest ≡ other_rest = cc in
+    (one_role role other sides, ap (λ (n : ℕ). InLine n None) (one_number k j fits.0 also.0 lines), offsets, rests)
+one_place role other (InLine k (Some seconds)) (InLine j (Some other_seconds)) offset other_offset rest other_rest fits also same =
+    let lines : number k ≡ number j = cc in
+    let sides : side_word role ≡ side_word other = cc in
+    let times : seconds ≡ other_seconds = cc in
+    let offsets : number offset ≡ number other_offset = cc in
+    let rests : rest ≡ other_rest = cc in
+    (one_role role other sides, ap (λ (n : ℕ). InLine n (Some seconds)) (one_number k j fits.0 also.0 lines) ∙ ap (λ (s : List ℕ). InLine j (Some s)) times, offsets, rests)
+one_place role other AtEnd AtEnd offset other_offset rest other_rest fits also same =
+    let sides : side_word role ≡ side_word other = cc in
+    let offsets : number offset ≡ number other_offset = cc in
+    let rests : rest ≡ other_rest = cc in
+    (one_role role other sides, refl, offsets, rests)
+one_place role other InStream InStream offset other_offset rest other_rest fits also same =
+    let sides : side_word role ≡ side_word other = cc in
+    let offsets : number offset ≡ number other_offset = cc in
+    let rests : rest ≡ other_rest = cc in
+    (one_role role other sides, refl, offsets, rests)
+one_place role other (InLine k None) (InLine j (Some seconds)) offset other_offset rest other_rest fits also same =
+    let times : Null ≡ Number seconds = cc in
+    absurd cc
+one_place role other (InLine k (Some seconds)) (InLine j None) offset other_offset rest other_rest fits also same =
+    let times : Number seconds ≡ Null = cc in
+    absurd cc
+one_place role other (InLine k time) AtEnd offset other_offset rest other_rest fits also same =
+    absurd (differ (codes "line") (codes "side") refl (ap name_of same))
+one_place role other (InLine k time) InStream offset other_offset rest other_rest fits also same =
+    absurd (differ (codes "line") (codes "side") refl (ap name_of same))
+one_place role other AtEnd (InLine j time) offset other_offset rest other_rest fits also same =
+    absurd (differ (codes "side") (codes "line") refl (ap name_of same))
+one_place role other InStream (InLine j time) offset other_offset rest other_rest fits also same =
+    absurd (differ (codes "side") (codes "line") refl (ap name_of same))
+one_place role other AtEnd InStream offset other_offset rest other_rest fits also same =
+    absurd (differ (codes "time") (codes "offset") refl (ap (λ (m : Members). name_of (after_first m)) same))
+one_place role other InStream AtEnd offset other_offset rest other_rest fits also same =
+    absurd (differ (codes "offset") (codes "time") refl (ap (λ (m : Members). name_of (after_first m)) same))
+
+-- ---- two items with one object
+
+-- No event is called a head.
+no_head : (event : MeantEvent) → codes "head" ≡ event_word event → ⊥
+no_head (Message kinds.Text payload) same = differ (codes "head") (codes "text") refl same
+no_head (Message kinds.Binary payload) same = differ (codes "head") (codes "binary") refl same
+no_head (Control ops.Continue body) same = differ (codes "head") (codes "cont") refl same
+no_head (Control ops.Text body) same = differ (codes "head") (codes "text") refl same
+no_head (Control ops.Binary body) same = differ (codes "head") (codes "binary") refl same
+no_head (Control ops.Close body) same = differ (codes "head") (codes "close") refl same
+no_head (Control ops.Ping body) same = differ (codes "head") (codes "ping") refl same
+no_head (Control ops.Pong body) same = differ (codes "head") (codes "pong") refl same
+
+-- The size and the number of frames of an event, and what follows them.
+event_same : (event other : MeantEvent) (frames more_frames : ℕ) (rest other_rest : Members) → AreBytesInRange (payload_in event) → AreBytesInRange (payload_in other)
+    → IsInU64 frames → IsInU64 more_frames → event_json (event_word event) (event_size event) frames rest ≡ event_json (event_word other) (event_size other) more_frames other_rest
+    → AreAlike event other × (frames ≡ more_frames) × (rest ≡ other_rest)
+event_same event other frames more_frames rest other_rest fits also frames_fit more_fit same =
+    let words : event_word event ≡ event_word other = cc in
+    let sizes : number (event_size event) ≡ number (event_size other) = cc in
+    let counts : number frames ≡ number more_frames = cc in
+    let rests : rest ≡ other_rest = cc in
+    ((words, one_number (event_size event) (event_size other) (size_fits event fits.0) (size_fits other also.0) sizes), one_number frames more_frames frames_fit more_fit counts, rests)
+
+-- The number of some bytes, and the first of them.
+bytes_same : (n : ℕ) (bytes other : List ℕ) → AreBytesInRange bytes → AreBytesInRange other
+    → Member (codes "bytes") (number (length bytes)) (hex_json n bytes) ≡ Member (codes "bytes") (number (length other)) (hex_json n other)
+    → (length bytes ≡ length other) × (hex_view n bytes ≡ hex_view n other)
+bytes_same n bytes other fits also same =
+    let sizes : number (length bytes) ≡ number (length other) = cc in
+    let views : hex_json n bytes ≡ hex_json n other = ap after_first same in
+    (one_number (length bytes) (length other) fits.0 also.0 sizes, sym (hex_is n bytes) ∙ ap (view_in n) views ∙ hex_is n other)
+
+look_alike : (n : ℕ) (item other : Item) → IsItemInRange item → IsItemInRange other → item_type item ≡ item_type other → offset_of item ≡ offset_of other
+    → item_json n item ≡ item_json n other → LookAlike n item other
+look_alike n (Event offset event frames) (Event another other more_frames) fits also types offsets same =
+    let parts = event_same event other frames more_frames (event_view_json n event) (event_view_json n other) fits.2 also.2 fits.1 also.1 same in
+    (offsets, parts.0, parts.1, sym (view_is n event) ∙ ap (view_in n) parts.2 ∙ view_is n other)
+look_alike n (Head h) (Head g) fits also types offsets same =
+    one_head h g fits also (ap (Member (codes "offset") (number h.place)) same ∙ ap (λ (k : ℕ). Member (codes "offset") (number k) (item_json n (Head g))) offsets)
+look_alike n (Unfinished offset event frames lacks) (Unfinished another other more_frames lacking) fits also types offsets same =
+    let parts = event_same event other frames more_frames (Member (codes "lacks") (optional_number lacks) (unfinished_view_json n event)) (Member (codes "lacks") (optional_number lacking) (unfinished_view_json n other))
+    fits.2 also.2 fits.1 also.1 same in
+    let rests : Member (codes "lacks") (optional_number lacks) (unfinished_view_json n event) ≡ Member (codes "lacks") (optional_number lacking) (unfinished_view_json n other) = parts.2 in
+    let lacks_same : optional_number lacks ≡ optional_number lacking = cc in (
+      offsets,
+      parts.0,
+      parts.1,
+      one_optional lacks lacking fits.3 also.3 lacks_same,
+      sym (unfinished_is n event) ∙ ap (λ (m : Members). view_in n (after_first m)) rests ∙ unfinished_is n other,
+    )
+look_alike n (UnfinishedHead offset) (UnfinishedHead another) fits also types offsets same = offsets
+look_alike n (UnfinishedHead offset) (Unfinished another other more_frames lacking) fits also types offsets same =
+    let words : codes "head" ≡ event_word other = cc in
+    absurd (no_head other words)
+look_alike n (Unfinished offset event frames lacks) (UnfinishedHead another) fits also types offsets same =
+    let words : codes "head" ≡ event_word event = cc in
+    absurd (no_head event words)
+look_alike n (RefusedFrame offset refusal evidence) (RefusedFrame another other bytes) fits also types offsets same =
+    let places : number refusal.place ≡ number other.place = cc in
+    let words : word_of refusal.reason ≡ word_of other.reason = cc in (
+      offsets,
+      refusal_same refusal other (one_number refusal.place other.place fits.1 also.1 places) (one_reason refusal.reason other.reason words),
+      sym (end_is n evidence) ∙ ap (λ (m : Members). evidence_in n (after_first (after_first (after_first m)))) same ∙ end_is n bytes,
+    )
+look_alike n (Unread offset bytes) (Unread another other) fits also types offsets same =
+    let parts = bytes_same n bytes other fits.1 also.1 same in
+    (offsets, parts.0, parts.1)
+look_alike n (Tail offset bytes) (Tail another other) fits also types offsets same =
+    let parts = bytes_same n bytes other fits.1 also.1 same in
+    (offsets, parts.0, parts.1)
+look_alike n item other fits also types offsets same = absurd (differ (item_type item) (item_type other) refl types)
+
+pub one_shown : (n : ℕ) (role other : Role) (place other_place : Position) (item another : Item) → IsPositionInRange place → IsPositionInRange other_place
+    → IsItemInRange item → IsItemInRange another → ShowsTextReason item → ShowsTextReason another
+    → item_object n role place item ≡ item_object n other other_place another
+    → (role ≡ other) × (place ≡ other_place) × LookAlike n item another
+one_shown n role other place other_place item another fits also range range_too reason reason_too same =
+    let values : shown_value n role place item ≡ shown_value n other other_place another =
+    one_line (shown_value n role place item) (shown_value n other other_place another) (item_object n other other_place another)
+    (subst (λ (line : List ℕ). IsJsonLine (shown_value n role place item) line) same (shown_line n role place item fits range reason))
+    (shown_line n other other_place another also range_too reason_too) in
+    let types : item_type item ≡ item_type another = cc in
+    let members : shown_json n role place item ≡ shown_json n other other_place another = cc in
+    let placed = one_place role other place other_place (offset_of item) (offset_of another) (item_json n item) (item_json n another) fits also members in
+    let offsets = one_number (offset_of item) (offset_of another) (offset_fits item range) (offset_fits another range_too) placed.2 in
+    (placed.0, placed.1, look_alike n item another range range_too types offsets placed.3)

@@ -1,0 +1,127 @@
+//! The laws. Each function does nothing: its contract is the law.
+
+ghost use Rattle.std.specs.Prelude.{◌≡◌, ℕ, Option, List, [], ◌∷◌, ◌++◌, codes};
+ghost use Rattle.wsn_wire.specs.declared.endpoint.Role.{Role};
+ghost use Rattle.wsn_wire.specs.Frame.{Frame, IsBytes};
+ghost use Rattle.wsn_rules.specs.declared.compared.Compared.{Compared};
+ghost use Rattle.wsn_rules.specs.declared.head_info.HeadInfo.{HeadInfo};
+ghost use Rattle.wsn_rules.specs.declared.report.Report.{Report};
+ghost use Rattle.wsn_rules.specs.declared.verdict.Summary.{Summary};
+ghost use Rattle.wsn_rules.specs.declared.verdict.Verdict.{Verdict};
+ghost use Rattle.wsn_rules.specs.Limits.{Limits};
+ghost use Rattle.wsn_rules.specs.ShownStream.{Item};
+ghost use Rattle.wsn_rules.specs.Verdict.{IsVerdict};
+ghost use Rattle.wsn_print.specs.Objects.{verdict_object, frame_object, report_object, comparison_object};
+ghost use Rattle.wsn_print.specs.QuotedTexts.{ShowsTextReason};
+ghost use Rattle.wsn_print.specs.ShownObjects.{Position, item_object, end_object, comment_object};
+ghost use Rattle.wsn_print_laws.specs.JsonText.{Value, Object, Members, Member, IsValue, HasDistinctNames, IsJsonLine, IsObjectLine};
+ghost use Rattle.wsn_print_laws.specs.ShownItems.{IsPositionInRange, IsItemInRange, LookAlike};
+ghost use Rattle.wsn_print_laws.specs.Answers.{IsInU64, IsVerdictInRange, IsPrintedWhole, IsHeadInRange, IsReportInRange, IsComparisonInRange, IsComparisonPrintedWhole, Answer, answer_object, IsAnswerInRange, IsAnswerPrintedWhole};
+
+/// A line is the JSON text of one value at most, so whoever reads it by the grammar reads what was written.
+pub fn law_one_value()
+    ensures { (value other : Value) (line : List ℕ) → IsJsonLine value line → IsJsonLine other line → value ≡ other }
+{}
+
+/// The grammar refuses what isn't JSON. An object's text is no text if bytes follow it, or if its last bytes are missing.
+/// No value has any of these texts, and two members with one name don't have distinct names.
+pub fn law_what_is_not_json()
+    ensures object_ends { (members : Members) (other : Value) (text more : List ℕ) →
+        IsValue (Object members) text → IsValue other (text ++ more) → more ≡ [] }
+    ensures object_not_cut { (members : Members) (other : Value) (text more : List ℕ) →
+        IsValue (Object members) (text ++ more) → IsValue other text → more ≡ [] }
+    ensures empty { (value : Value) → ¬ (IsValue value []) }
+    ensures bare_name { (value : Value) → ¬ (IsValue value (codes "{a:1}")) }
+    ensures without_colon { (value : Value) → ¬ (IsValue value (codes "{\"a\" 1}")) }
+    ensures without_value { (value : Value) → ¬ (IsValue value (codes "{\"a\":}")) }
+    ensures last_comma { (value : Value) → ¬ (IsValue value (codes "{\"a\":1,}")) }
+    ensures leading_zero { (value : Value) → ¬ (IsValue value (codes "{\"a\":01}")) }
+    ensures plus { (value : Value) → ¬ (IsValue value (codes "{\"a\":+1}")) }
+    ensures bare_point { (value : Value) → ¬ (IsValue value (codes "{\"a\":1.}")) }
+    ensures bare_fraction { (value : Value) → ¬ (IsValue value (codes "{\"a\":.5}")) }
+    ensures bare_exponent { (value : Value) → ¬ (IsValue value (codes "{\"a\":1e}")) }
+    ensures same_name { (name : List ℕ) (value other : Value) (others : Members) →
+        ¬ (HasDistinctNames (Object (Member name value (Member name other others)))) }
+    ensures line_feed { (value : Value) → ¬ (IsValue value (codes "{\"a\":\"\n\"}")) }
+{}
+
+/// The objects of answers, shown items, end marks and comments are JSON: one object and an LF. No name occurs twice in
+/// it, nor in an object inside it.
+pub fn law_objects_are_json()
+    ensures verdict { (verdict : Verdict) → IsVerdictInRange verdict → IsObjectLine (verdict_object verdict) }
+    ensures frame { (head : HeadInfo) → IsHeadInRange head → IsObjectLine (frame_object head) }
+    ensures report { (report : Report) → IsReportInRange report → IsObjectLine (report_object report) }
+    ensures comparison { (compared : Compared) → IsComparisonInRange compared →
+        IsObjectLine (comparison_object compared) }
+    ensures item { (n : ℕ) (role : Role) (position : Position) (item : Item) →
+        IsPositionInRange position → IsItemInRange item → ShowsTextReason item →
+        IsObjectLine (item_object n role position item) }
+    ensures end_mark { (role : Role) (position : Position) (sent : ℕ) →
+        IsPositionInRange position → IsInU64 sent → IsObjectLine (end_object role position sent) }
+    ensures comment { (line : ℕ) (text : List ℕ) → IsInU64 line → IsBytes text →
+        IsObjectLine (comment_object line text) }
+{}
+
+/// Two different answers never print the same object, also where one is a verdict and the other a report, say. So an
+/// object determines the answer that it was printed for.
+pub fn law_answer_objects()
+    ensures { (answer other : Answer) → IsAnswerInRange answer → IsAnswerInRange other →
+        IsAnswerPrintedWhole answer → IsAnswerPrintedWhole other → answer_object answer ≡ answer_object other →
+        answer ≡ other }
+{}
+
+/// Two different verdicts never print the same object: it says all that the verdict does. The object of `cut` leaves out
+/// the tail and the Close, which a stream that is cut doesn't have.
+pub fn law_verdict_objects()
+    ensures differ { (verdict other : Verdict) → IsVerdictInRange verdict → IsVerdictInRange other →
+        IsPrintedWhole verdict → IsPrintedWhole other → verdict_object verdict ≡ verdict_object other →
+        verdict ≡ other }
+    ensures stream { (role : Role) (limits : Limits) (bytes : List ℕ) (fs : List Frame) (verdict : Verdict) →
+        IsVerdict role limits bytes fs verdict → IsPrintedWhole verdict }
+    ensures left_out { (s : Summary) (tail : ℕ) (close : Option (Option ℕ)) →
+        verdict_object (Verdict.Cut (record s { tail = tail; close = close })) ≡ verdict_object (Verdict.Cut s) }
+{}
+
+/// Two different heads of frames never print the same object.
+pub fn law_frame_objects()
+    ensures { (head other : HeadInfo) → IsHeadInRange head → IsHeadInRange other →
+        frame_object head ≡ frame_object other → head ≡ other }
+{}
+
+/// Two different reports of `closing` never print the same object.
+pub fn law_report_objects()
+    ensures { (report other : Report) → IsReportInRange report → IsReportInRange other →
+        report_object report ≡ report_object other → report ≡ other }
+{}
+
+/// Two different comparisons never print the same object. It says which event differs, or which stream isn't accepted
+/// and all that its verdict says.
+pub fn law_comparison_objects()
+    ensures { (compared other : Compared) → IsComparisonInRange compared → IsComparisonInRange other →
+        IsComparisonPrintedWhole compared → IsComparisonPrintedWhole other →
+        comparison_object compared ≡ comparison_object other → compared ≡ other }
+{}
+
+/// The object of an end mark says which endpoint sent how many bytes, in which line it is and at which time.
+pub fn law_end_objects()
+    ensures { (role other : Role) (position other_position : Position) (sent other_sent : ℕ) →
+        IsPositionInRange position → IsPositionInRange other_position → IsInU64 sent → IsInU64 other_sent →
+        end_object role position sent ≡ end_object other other_position other_sent →
+        (role ≡ other) × (position ≡ other_position) × (sent ≡ other_sent) }
+{}
+
+/// The object of a comment doesn't say which bytes the comment has: a byte that isn't UTF-8 is shown as an escape, which
+/// may also be the text of a comment.
+pub fn law_comment_objects()
+    ensures { (line : ℕ) → comment_object line (codes "#\\xfe") ≡ comment_object line (35 ∷ 254 ∷ []) }
+{}
+
+/// The object of a shown item says which endpoint sent it, in which line and at which time, and the item up to the bytes
+/// that its view leaves out.
+pub fn law_item_objects()
+    ensures { (n : ℕ) (role other_role : Role) (position other_position : Position) (item other : Item) →
+        IsPositionInRange position → IsPositionInRange other_position → IsItemInRange item → IsItemInRange other →
+        ShowsTextReason item → ShowsTextReason other →
+        item_object n role position item ≡ item_object n other_role other_position other →
+        (role ≡ other_role) × (position ≡ other_position) × LookAlike n item other }
+{}
