@@ -1,0 +1,144 @@
+-- The bytes that a scan has consumed are refused exactly as the scan reports it.
+use Rattle.std.proofs.Common.{◌≡◌, ℕ, ◌+◌, ◌-◌, ◌≤◌, ◌⊎◌, Option, None, Some, List, [], ◌++◌, length, inl, inr, refl, sym, ap, ◌∙◌, subst, arith}
+use Rattle.std.proofs.lemmas.Bool.{cases_lt}
+use Rattle.std.proofs.lemmas.List.{take-append-le}
+use Rattle.wsn_wire.specs.declared.endpoint.Role.{Role}
+use Rattle.wsn_wire.specs.declared.refusal.Reason.{Reason}
+use Rattle.wsn_wire.specs.Frame.{Frame, IsBytes, stream}
+use Rattle.wsn_wire.proofs.FrameLemmas.{IsBytes-right}
+use Rattle.wsn_frame.specs.declared.open_message.OpenMessage.{OpenMessage}
+use Rattle.wsn_rules.specs.declared.verdict.Refusal.{Refusal}
+use Rattle.wsn_rules.specs.declared.verdict.Verdict.{Verdict}
+use Rattle.wsn_rules.specs.declared.verdict.Verdict.TheVariants.{Accepted, Cut, Refused}
+use Rattle.wsn_frame.specs.declared.partial_head.PartialHead.{PartialHead}
+use Rattle.wsn_frame.specs.declared.partial_head.PartialHead.TheVariants.{Empty, First, Two, Eight, Key}
+use Rattle.wsn_parts.specs.declared.stage.Stage.{Stage}
+use Rattle.wsn_parts.specs.declared.stage.Stage.TheVariants as stages
+use Rattle.wsn_parts.specs.declared.scan.Scan.{Scan}
+use Rattle.wsn_rules.specs.Limits.{Limits}
+use Rattle.wsn_rules.specs.Group.{unfinished}
+use Rattle.wsn_frame.specs.PartialHeads.{HasHeadBytes}
+use Rattle.wsn_rules.specs.Verdict.{IsRefused, IsVerdict}
+use Rattle.wsn_parts.specs.Scans.{HasScannedAt, summary_of, taken_of, verdict_between, refusal_at, refusal_in, refusal_judged, IsRefusedThere}
+use Rattle.wsn_parts.specs.Positions.{Position}
+use Rattle.wsn_rules.specs.Heads.{AreHeads}
+use Rattle.wsn_parts.specs.Judging.{IsUnrefused}
+use Rattle.wsn_rules.specs.declared.head_info.HeadInfo.{HeadInfo}
+use Rattle.wsn_parts.specs.Feeding.{HasScannedBytes}
+use Rattle.wsn_parts.specs.Listing.{HasVerdictAndHeads}
+use Rattle.wsn_parts.proofs.HeadsSoFar.{heads_reported}
+use Rattle.wsn_rules.proofs.OneVerdict.{one_verdict}
+use Rattle.wsn_rules.proofs.StaysRefused.{place_within, refused_alike}
+use Rattle.wsn_parts.proofs.ScanVerdicts.{closed_verdict, cut_verdict, between_verdict, some_head, some_payload}
+use Rattle.wsn_parts.proofs.WithinFrames.{head_within, payload_within}
+
+-- The bytes have a verdict other than a refusal.
+record NotRefused (role : Role) (limits : Limits) (bytes : List ℕ) (fs : List Frame) : Type 0 where
+  pub verdict : Verdict
+  pub is : IsVerdict role limits bytes fs verdict
+  pub other : refusal_judged verdict ≡ None
+
+between_other : (scan : Scan) (m : Option OpenMessage) → refusal_judged (verdict_between scan m) ≡ None
+between_other scan None = refl
+between_other scan (Some m) = refl
+
+empty_or_some : (part : PartialHead) → (part ≡ Empty) ⊎ (part ≡ Empty → ⊥)
+empty_or_some Empty = inl refl
+empty_or_some (First f) = inr (λ is. cc)
+empty_or_some (Two f came) = inr (λ is. cc)
+empty_or_some (Eight f came) = inr (λ is. cc)
+empty_or_some (Key f encoded len came) = inr (λ is. cc)
+
+module _ (role : Role) (limits : Limits) where
+  -- at each stage but a refusal
+  not_refused_at : (scan : Scan) (bytes rest : List ℕ) (fs : List Frame) (at : Position) (stage : Stage) → HasScannedAt role limits scan stage bytes fs rest at → refusal_at stage ≡ None → NotRefused role limits bytes fs
+  not_refused_at scan bytes rest fs at (stages.Head part) has_scanned none =
+      elim (empty_or_some part) [
+        | inl empty ↦
+            let nothing : rest ≡ [] = subst (λ (p : PartialHead). HasHeadBytes role p rest) empty has_scanned.is_at.1.has_bytes in
+            record { verdict = verdict_between scan scan.context.message; is = between_verdict role limits scan bytes rest fs at (stages.Head part) has_scanned has_scanned.is_at.0 nothing; other = between_other scan scan.context.message }
+        | inr other ↦ record {
+          verdict = Cut (summary_of scan (taken_of scan) 0 None);
+          is = cut_verdict role limits scan bytes rest fs at (stages.Head part) has_scanned has_scanned.is_at.0 has_scanned.is_at.1.has_no_evidence (head_within role limits (unfinished fs) part rest has_scanned.is_at.1)
+              (inl (some_head role part rest has_scanned.is_at.1.has_bytes other));
+          other = refl;
+        }
+      ]
+  not_refused_at scan bytes rest fs at (stages.Payload inside) has_scanned none =
+      let in_bytes = IsBytes-right (stream fs) rest (subst IsBytes has_scanned.has_consumed.whole has_scanned.has_consumed.in_bytes) in
+      record {
+        verdict = Cut (summary_of scan (taken_of scan) 0 None);
+        is = cut_verdict role limits scan bytes rest fs at (stages.Payload inside) has_scanned has_scanned.is_at.0 has_scanned.is_at.1.1.holds.has_no_evidence (payload_within role limits (unfinished fs) inside rest has_scanned.is_at.1.0 in_bytes has_scanned.is_at.1.1)
+            (inl (some_payload role limits (unfinished fs) inside rest has_scanned.is_at.1.0 has_scanned.is_at.1.1));
+        other = refl;
+      }
+  not_refused_at scan bytes rest fs at stages.Between has_scanned none =
+      record { verdict = verdict_between scan scan.context.message; is = between_verdict role limits scan bytes rest fs at stages.Between has_scanned has_scanned.is_at.0 has_scanned.is_at.1; other = between_other scan scan.context.message }
+  not_refused_at scan bytes rest fs at (stages.Closed code) has_scanned none =
+      record { verdict = Accepted (summary_of scan scan.used (taken_of scan - scan.used) (Some code)); is = closed_verdict role limits scan bytes rest fs at (stages.Closed code) has_scanned code has_scanned.is_at.0 has_scanned.is_at.1; other = refl }
+  not_refused_at scan bytes rest fs at (stages.Refused refusal) has_scanned none = absurd cc
+
+  pub not_refused : (scan : Scan) (bytes rest : List ℕ) (fs : List Frame) (at : Position) → HasScannedAt role limits scan scan.stage bytes fs rest at → refusal_in scan ≡ None → (verdict : Verdict) × IsVerdict role limits bytes fs verdict
+  not_refused scan bytes rest fs at has_scanned none = let not = not_refused_at scan bytes rest fs at scan.stage has_scanned none in (not.verdict, not.is)
+
+  -- bytes with another verdict are not refused
+  no_refusal_of : (bytes : List ℕ) (fs : List Frame) → NotRefused role limits bytes fs → IsUnrefused role limits bytes
+  no_refusal_of bytes fs not gs place reason refused =
+      let one = one_verdict role limits bytes fs gs not.verdict (Refused (record { place = place; reason = reason })) not.is refused in
+      let reported : refusal_judged not.verdict ≡ Some (record { place = place; reason = reason }) = ap (λ (v : Verdict). refusal_judged v) one.1 in
+      let both : Some (record { place = place; reason = reason }) ≡ None = sym reported ∙ not.other in
+      cc
+
+  -- a scan that has not refused
+  pub unrefused : (scan : Scan) (bytes : List ℕ) (heads : List HeadInfo) → HasScannedBytes role limits scan bytes heads → refusal_in scan ≡ None → IsUnrefused role limits bytes
+  unrefused scan bytes heads taken none = no_refusal_of bytes taken.frames (not_refused_at scan bytes taken.since taken.frames taken.position scan.stage taken.has_scanned none)
+
+  refused_at_stage : (scan : Scan) (bytes rest : List ℕ) (fs : List Frame) (at : Position) (stage : Stage) (refusal : Refusal) → HasScannedAt role limits scan stage bytes fs rest at → refusal_at stage ≡ Some refusal
+      → IsRefusedThere role limits refusal bytes fs at
+  refused_at_stage scan bytes rest fs at stages.Between refusal has_scanned is = absurd cc
+  refused_at_stage scan bytes rest fs at (stages.Head part) refusal has_scanned is = absurd cc
+  refused_at_stage scan bytes rest fs at (stages.Payload inside) refusal has_scanned is = absurd cc
+  refused_at_stage scan bytes rest fs at (stages.Closed code) refusal has_scanned is = absurd cc
+  refused_at_stage scan bytes rest fs at (stages.Refused held) refusal has_scanned is =
+      let same : held ≡ refusal = cc in
+      subst (λ (r : Refusal). IsRefusedThere role limits r bytes fs at) same has_scanned.is_at
+
+  -- a scan that has refused
+  pub refused : (scan : Scan) (bytes : List ℕ) (heads : List HeadInfo) (refusal : Refusal) → (taken : HasScannedBytes role limits scan bytes heads) → refusal_in scan ≡ Some refusal
+      → IsRefusedThere role limits refusal bytes taken.frames taken.position
+  refused scan bytes heads refusal taken is = refused_at_stage scan bytes taken.since taken.frames taken.position scan.stage refusal taken.has_scanned is
+
+  -- an empty list of bytes is not refused
+  pub unrefused_first : (scan : Scan) (heads : List HeadInfo) → HasScannedBytes role limits scan [] heads → refusal_in scan ≡ None
+  unrefused_first scan heads taken = by_refusal (refusal_in scan) refl
+    where
+      by_refusal : (reported : Option Refusal) → refusal_in scan ≡ reported → refusal_in scan ≡ None
+      by_refusal None is = is
+      by_refusal (Some refusal) is =
+          let is_evident = ((refused scan [] heads refusal taken is).refused []).is_evident in
+          absurd (omega (arith, place_within role limits taken.frames [] refusal.place refusal.reason is_evident))
+
+  -- ---- the heads
+
+  -- a scan that has not refused has a verdict and has taken all heads
+  pub reported_so_far : (scan : Scan) (bytes : List ℕ) (heads : List HeadInfo) → HasScannedBytes role limits scan bytes heads → refusal_in scan ≡ None → (verdict : Verdict) × HasVerdictAndHeads role limits bytes heads verdict
+  reported_so_far scan bytes heads taken none =
+      let not = not_refused_at scan bytes taken.since taken.frames taken.position scan.stage taken.has_scanned none in
+      let are_heads = heads_reported role limits scan bytes taken.since taken.frames taken.position taken.has_scanned in
+      (not.verdict, record { frames = taken.frames; is_verdict = not.is; are_heads = subst (λ (hs : List HeadInfo). AreHeads role limits bytes taken.frames hs) (sym taken.heads_are) are_heads })
+
+  -- a scan that has refused has taken all heads, whatever follows
+  pub reported_refused : (scan : Scan) (bytes later : List ℕ) (heads : List HeadInfo) (refusal : Refusal) → HasScannedBytes role limits scan bytes heads → refusal_in scan ≡ Some refusal
+      → HasVerdictAndHeads role limits (bytes ++ later) heads (Refused refusal)
+  reported_refused scan bytes later heads refusal taken is =
+      let there = refused scan bytes heads refusal taken is in
+      record { frames = taken.frames; is_verdict = there.refused later; are_heads = subst (λ (hs : List HeadInfo). AreHeads role limits (bytes ++ later) taken.frames hs) (sym taken.heads_are) (there.heads later) }
+
+  -- bytes that are not refused end before the offset of a later refusal
+  pub place_after : (before more : List ℕ) (fs : List Frame) (place : ℕ) (reason : Reason) → IsUnrefused role limits before → IsRefused role limits (before ++ more) fs place reason → length before ≤ place
+  place_after before more fs place reason none is_evident =
+      elim (cases_lt place (length before)) [
+        | inl less ↦
+            absurd (none fs place reason (refused_alike role limits fs (before ++ more) before place reason (sym (take-append-le (place + 1) before more (omega arith))) is_evident))
+        | inr within ↦ within
+      ]

@@ -1,0 +1,19 @@
+use Rattle.std.proofs.Common.{◌≡◌, ◌-◌, ◌≤◌, length, drop}
+use Rattle.wsn_wire.specs.Frame.{IsBytes}
+use Rattle.wsn_parts.specs.EventFrames.{TakesEvents, IsIdle}
+use Rattle.wsn_parts.proofs.EventRuns.{after_frames}
+use Rattle.wsn_parts.proofs.scan.Scan.take_events.Given as goal
+
+-- The frames so far are consumed, with their events' normal form in their place, and the rest of the piece is unchanged.
+abbrev pub invariant-loop-frame : goal.invariant-loop-frame
+invariant-loop-frame l = record {
+  in_bytes : IsBytes l.fn.piece;
+  idle : IsIdle l.fn.self;
+  within : l.at ≤ length l.fn.piece;
+  size : length l.piece ≡ length l.fn.piece;
+  kept : drop l.at l.piece ≡ drop l.at l.fn.piece;
+  takes : TakesEvents l.fn.self (after_frames l.fn.self l.at l.counts) l.fn.piece l.piece l.at;
+}
+
+abbrev pub decreases-loop-frame : goal.decreases-loop-frame
+decreases-loop-frame l = length l.initial.piece - l.at

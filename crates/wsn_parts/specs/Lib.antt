@@ -1,0 +1,15 @@
+-- for callers: a scan, its engines, and a reader of frames
+pub mod Positions
+pub mod Parts
+pub mod Feeding
+pub mod Judging
+pub mod Listing
+pub mod FrameReaders
+pub mod ReadParts
+-- for private functions
+pub mod Scans
+pub mod Refill
+pub mod ReaderSteps
+pub mod EventFrames
+-- for the clauses in src/
+pub mod Words

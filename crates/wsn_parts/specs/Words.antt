@@ -1,0 +1,33 @@
+-- The names that the clauses in src/ use, re-exported.
+pub use Rattle.std.specs.Io.KnownBytes.{IsAtEnd}
+pub use Rattle.wsn_wire.specs.Frame.{Frame, IsBytes}
+pub use Rattle.wsn_io.specs.Transfer.{Incoming, Outgoing, IsWritten, IsWrittenUpToFailure}
+pub use Rattle.wsn_wire.specs.declared.endpoint.Role.{Role}
+pub use Rattle.wsn_rules.specs.Group.{unfinished}
+pub use Rattle.wsn_rules.specs.Heads.{AreHeads, heads_of}
+pub use Rattle.wsn_rules.specs.Limits.{Limits}
+pub use Rattle.wsn_print.specs.VerdictText.{verdict_line}
+pub use Rattle.wsn_print.specs.declared.format.Format.{Format}
+pub use Rattle.wsn_print.specs.Formats.{heads_text}
+pub use Rattle.wsn_rules.specs.Verdict.{IsVerdict}
+pub use Rattle.wsn_rules.specs.declared.head_info.HeadInfo.{HeadInfo}
+pub use Rattle.wsn_rules.specs.declared.verdict.Verdict.{Verdict}
+pub use Rattle.wsn_parts.specs.Judging.{IsJudged, IsUnrefused}
+pub use Rattle.wsn_parts.specs.Refill.{IsRefilled}
+pub use Rattle.wsn_io.specs.Stops.{IsWrittenOrStops, HasNoFailure}
+pub use Rattle.wsn_parts.specs.declared.scan.Scan.{Scan}
+pub use Rattle.wsn_io.specs.declared.stop.Stop.{Stop}
+pub use Rattle.wsn_frame.specs.PartialHeads.{info_at}
+pub use Rattle.wsn_parts.specs.Feeding.{HasScannedBytes, IsRunning, heads_in, HasFed, ConsumesPrefix}
+pub use Rattle.wsn_parts.specs.Positions.{Position, BetweenFrames, InFrame, begun_at, IsPayloadPrefix, IsPayloadSoFar, IsPositionIn, IsTakenOf}
+pub use Rattle.wsn_parts.specs.Parts.{IsPart, Finds, Consumes, FindsByCase}
+pub use Rattle.wsn_parts.specs.FrameReaders.{HasTaken, IsReading, parts_left, held_payload, TakesRun}
+pub use Rattle.wsn_parts.specs.ReadParts.{ReadsOn}
+pub use Rattle.wsn_parts.specs.ReaderSteps.{StepsOn, Progresses, IsUsed, IsFilled}
+pub use Rattle.wsn_parts.specs.Scans.{HasScanned, refusal_in, room_of, taken_of, ScanCall, IsAdvance, IsAnswered, AdvancesFrom, BeginsFrame, BeginsAt}
+pub use Rattle.wsn_parts.specs.Scans.{AddsPart, EndsFrame, IsCutAt, IsStageAfter, refusal_of, refusal_at, refusal_judged, summary_of}
+pub use Rattle.wsn_parts.specs.Scans.{verdict_between}
+pub use Rattle.wsn_parts.specs.declared.part.Part.{Part}
+pub use Rattle.wsn_parts.specs.declared.part.Taken.{Taken}
+pub use Rattle.wsn_parts.specs.declared.frame_reader.FrameReader.{FrameReader}
+pub use Rattle.wsn_parts.specs.Listing.{IsEnded, IsListedChunk, PrintsMore, PrintsHeld, IsListed, IsListedAs, IsListedWhole, IsListedWholeAs}

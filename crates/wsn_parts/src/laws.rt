@@ -1,0 +1,58 @@
+//! Laws about this crate's answers and definitions. Each function does nothing: its contract is the law.
+
+ghost use Rattle.std.specs.Prelude.{◌≡◌, ℕ, ◌+◌, false, None, Some, Result, List, length};
+ghost use Rattle.wsn_parts.specs.Words.{Frame, IsBytes, Role, Incoming, Limits, Verdict, Stop, FrameReader, Position, InFrame, HasTaken, IsTakenOf, IsJudged, Outgoing, IsWritten, IsListedWholeAs, Format, HasNoFailure, Scan, HasScanned, IsPositionIn, IsPayloadSoFar, HeadInfo, refusal_in, room_of, ScanCall, IsAnswered, FindsByCase};
+
+/// [`judge`](crate::judge) has one right answer for an input whose bytes are known, in whatever chunks they come,
+/// unless a read fails.
+pub fn law_one_answer()
+    ensures { (role : Role) (limits : Limits) (old new other : Incoming) (all : List ℕ)
+        (result same : Result Verdict Stop) →
+        old.remaining ≡ Some all → new.failed ≡ false → other.failed ≡ false →
+        IsJudged role limits old new result → IsJudged role limits old other same → result ≡ same }
+{}
+
+/// [`list_as`](crate::list_as) has one answer for an input whose bytes are known and prints one text in each format, in
+/// whatever chunks they come, unless a read or a write fails. So has [`list`](crate::list).
+pub fn law_one_listing()
+    ensures { (format : Format) (role : Role) (limits : Limits) (all : List ℕ)
+        (before after other_before other_after : Outgoing) (result other : Result Verdict Stop) →
+        HasNoFailure result → HasNoFailure other → IsListedWholeAs format role limits all before after result →
+        IsListedWholeAs format role limits all other_before other_after other →
+        (result ≡ other) × ((bytes : List ℕ) × IsWritten before after bytes
+        × IsWritten other_before other_after bytes) }
+{}
+
+/// Where a scan is in the bytes that it has consumed, in whatever pieces they came. They begin with the frames that it
+/// has taken, which are lawful, and it has taken all their heads. If another frame has begun, it has taken a prefix of
+/// its payload, unmasked: unless it has refused, all of the payload that came. The room and the bytes consumed are the
+/// input limit together.
+pub fn law_positions()
+    ensures taken { (role : Role) (limits : Limits) (scan : Scan) (bytes : List ℕ) (fs : List Frame) (rest : List ℕ)
+        (at : Position) →
+        HasScanned role limits scan bytes fs rest at → IsPositionIn role limits bytes fs rest at }
+    ensures all { (role : Role) (limits : Limits) (scan : Scan) (bytes : List ℕ) (fs : List Frame) (rest : List ℕ)
+        (at : Position) (head : HeadInfo) (payload : List ℕ) →
+        HasScanned role limits scan bytes fs rest at → refusal_in scan ≡ None → at ≡ InFrame head payload →
+        IsPayloadSoFar fs bytes head payload }
+    ensures room { (role : Role) (limits : Limits) (scan : Scan) (bytes : List ℕ) (fs : List Frame) (rest : List ℕ)
+        (at : Position) →
+        HasScanned role limits scan bytes fs rest at → room_of scan + length bytes ≡ limits.input }
+{}
+
+/// What a call of [`Scan::next`](crate::Scan::next) finds: after a refusal the refusal again, and no bytes; after a Close
+/// all of the piece; otherwise part of a head, a part of a frame, or a refusal, and how many bytes that consumes.
+pub fn law_next_by_case()
+    ensures { (role : Role) (limits : Limits) (bytes : List ℕ) (fs : List Frame) (rest : List ℕ) (at : Position)
+        (call : ScanCall) →
+        HasScanned role limits call.before bytes fs rest at → IsBytes call.piece → IsAnswered call →
+        FindsByCase fs (refusal_in call.before) (length call.piece) call.count call.found call.part }
+{}
+
+/// What a [`FrameReader`](crate::FrameReader) has taken is in the bytes that came. They begin with its frames, which are
+/// lawful. If another frame has begun, its head comes next, valid so far, and then the payload that was taken.
+pub fn law_taken_frames()
+    ensures { (role : Role) (limits : Limits) (reader : FrameReader) (came : List ℕ) (fs : List Frame)
+        (at : Position) →
+        HasTaken role limits reader came fs at → IsTakenOf role limits came fs at }
+{}

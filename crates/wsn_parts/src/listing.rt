@@ -1,0 +1,154 @@
+ghost use Rattle.std.specs.Prelude.{◌≡◌, ℕ, ◌+◌, ◌≤◌, List, [], length, false, Some};
+ghost use Rattle.wsn_parts.specs.Words.{room_of, IsRunning, IsEnded, IsListedChunk, PrintsMore, PrintsHeld, IsListed, IsListedAs, IsListedWhole, IsListedWholeAs};
+
+use crate::part::{Part, Taken};
+use crate::refill::{CHUNK, refill};
+use crate::scan::Scan;
+use std::io::{Read, Write};
+use wsn_io::{Stop, put_line};
+use wsn_print::{Format, HeadLines, put_verdict_as};
+use wsn_rules::{Limits, Refusal, Verdict};
+use wsn_wire::{Input, Output, Role};
+
+/// Prints a line for each frame of an input and then the verdict's line, and returns the verdict (RFC 6455 section
+/// 5.2). It reads as [`judge`](crate::judge) does. A frame's line is printed as soon as its head is complete, if the
+/// head is valid so far.
+///
+/// Errors: `Read` if a read fails, and `InputLimit` if a byte past the input limit comes. With either, the lines of the
+/// heads that came within the limit are printed, and no verdict. `Write` if the writer fails: a prefix of the lines is
+/// written.
+pub fn list<R: Read, W: Write>(
+    input: &mut Input<R>,
+    output: &mut Output<W>,
+    role: Role,
+    limits: Limits,
+) -> Result<Verdict, Stop>
+    requires readable { input.old.failed ≡ false }
+    requires writable { output.old.failed ≡ false }
+    ensures listed { IsListed role limits input.old input.new output.old output.new result }
+    ensures whole { (all : List ℕ) → input.old.remaining ≡ Some all →
+        IsListedWhole role limits all output.old output.new result }
+{
+    list_as(input, output, role, limits, Format::Text)
+}
+
+/// Prints in a format what [`list`] prints: of each frame its line or its object, and then that of the verdict. It reads
+/// and answers as [`list`] does, with the same errors.
+#[tactic(none)]
+pub fn list_as<R: Read, W: Write>(
+    input: &mut Input<R>,
+    output: &mut Output<W>,
+    role: Role,
+    limits: Limits,
+    format: Format,
+) -> Result<Verdict, Stop>
+    requires readable { input.old.failed ≡ false }
+    requires writable { output.old.failed ≡ false }
+    ensures listed { IsListedAs format role limits input.old input.new output.old output.new result }
+    ensures whole { (all : List ℕ) → input.old.remaining ≡ Some all →
+        IsListedWholeAs format role limits all output.old output.new result }
+{
+    let mut scan = Scan::new(role, limits);
+    let mut buffer = [0; CHUNK];
+    let mut lines = HeadLines::new();
+    loop {
+        let Some(chunk) = refill(input, scan.room(), &mut buffer)? else {
+            return end(output, format, scan.finish());
+        };
+        let refusal = list_chunk(
+            &mut scan,
+            &mut buffer[..chunk.len],
+            &mut lines,
+            output,
+            format,
+        );
+        if output.failed() {
+            return Err(Stop::Write);
+        }
+        if let Some(refusal) = refusal {
+            return end(output, format, Verdict::Refused(refusal));
+        }
+        if chunk.past_limit {
+            return Err(Stop::InputLimit);
+        }
+    }
+}
+
+/// Prints the verdict's line and returns the verdict. `Write` if the writer fails: a prefix of the line is written.
+#[tactic(none)]
+fn end<W: Write>(output: &mut Output<W>, format: Format, verdict: Verdict) -> Result<Verdict, Stop>
+    requires { output.old.failed ≡ false }
+    ensures { IsEnded format output.old output.new verdict result }
+{
+    put_verdict_as(output, format, &verdict)?;
+    Ok(verdict)
+}
+
+/// Feeds the piece to the scan, all of it or the bytes up to a refusal, and prints the head of each frame that begins:
+/// many lines by one write, and all of them before it returns. Returns the refusal, if there is one. `lines` is empty
+/// before and afterwards. After a failed write it scans on and prints nothing.
+#[tactic(none)]
+fn list_chunk<W: Write>(
+    scan: &mut Scan,
+    piece: &mut [u8],
+    lines: &mut HeadLines,
+    output: &mut Output<W>,
+    format: Format,
+) -> Option<Refusal>
+    requires begun { IsRunning scan.old }
+    requires fits { length piece.old ≤ room_of scan.old }
+    requires writable { output.old.failed ≡ false }
+    requires none_held { lines.old ≡ [] }
+    ensures listed { IsListedChunk format scan.old scan.new output.old output.new piece.old result }
+    ensures none_held { lines.new ≡ [] }
+{
+    let mut part = Part::new();
+    let mut at = 0;
+    while at < piece.len() {
+        let (taken, found) = scan.next(&mut piece[at..], &mut part);
+        at += taken;
+        match found {
+            Taken::Part => {
+                if part.begins {
+                    make_room(lines, output);
+                    lines.add(format, &part.head);
+                }
+            }
+            Taken::Refused => break,
+            Taken::More | Taken::Closed => {}
+        }
+    }
+    print_lines(lines, output);
+    scan.refusal()
+}
+
+/// Prints the lines that are held if there is no room for another.
+#[inline(always)]
+fn make_room<W: Write>(lines: &mut HeadLines, output: &mut Output<W>)
+    ensures held { PrintsHeld output.old output.new lines.old lines.new }
+    ensures room { length lines.new + 142 ≤ 4096 }
+{
+    if lines.is_full() {
+        print_lines(lines, output);
+    }
+}
+
+/// Prints the lines that are held, if no write has failed, and removes them.
+#[inline(never)]
+fn print_lines<W: Write>(lines: &mut HeadLines, output: &mut Output<W>)
+    ensures printed { PrintsMore output.old output.new lines.old }
+    ensures none_held { lines.new ≡ [] }
+{
+    print_text(output, lines.text());
+    lines.clear();
+}
+
+/// Prints a text if no write has failed.
+#[tactic(none)]
+fn print_text<W: Write>(output: &mut Output<W>, text: &[u8])
+    ensures { PrintsMore output.old output.new text.now }
+{
+    if !output.failed() {
+        let _stop = put_line(output, text);
+    }
+}

@@ -1,0 +1,83 @@
+//! The verdict on the bytes that a scan has consumed.
+
+use super::Scan;
+use crate::stage::Stage;
+use wsn_rules::{Summary, Verdict};
+
+impl Scan {
+    ghost use Rattle.std.specs.Prelude.{◌≡◌, ℕ, ◌-◌, ◌++◌, List, Some};
+    ghost use Rattle.wsn_parts.specs.Words.{Frame, AreHeads, HasScanned, Position, refusal_in, taken_of, summary_of, verdict_between, refusal_judged, heads_of, begun_at, IsVerdict};
+
+    /// The verdict on the bytes consumed so far, as if the input ended here (RFC 6455 sections 5 and 7).
+    #[tactic(auto, using(crate::proofs::HeadsSoFar::heads_reported))]
+    pub fn finish(&self) -> Verdict
+        ensures verdict { (role : _) (limits : _) (bytes rest : List ℕ) (fs : List Frame) (at : Position) →
+            HasScanned role limits self.now bytes fs rest at → IsVerdict role limits bytes fs result }
+        ensures heads { (role : _) (limits : _) (bytes rest : List ℕ) (fs : List Frame) (at : Position) →
+            HasScanned role limits self.now bytes fs rest at →
+            AreHeads role limits bytes fs (heads_of fs ++ begun_at at) }
+        ensures reported { refusal_judged result ≡ refusal_in self.now }
+    {
+        match &self.stage {
+            Stage::Refused(refusal) => Verdict::Refused(*refusal),
+            Stage::Closed(code) => self.closed(*code),
+            Stage::Between => self.between(),
+            Stage::Head(part) => {
+                if part.is_empty() {
+                    self.between()
+                } else {
+                    self.cut()
+                }
+            }
+            Stage::Payload(_) => self.cut(),
+        }
+    }
+
+    /// After a Close: the bytes after it are the tail.
+    #[tactic(none)]
+    fn closed(&self, code: Option<u16>) -> Verdict
+        ensures { result ≡ Verdict.Accepted (summary_of self.now self.now.used (taken_of self.now - self.now.used)
+            (Some code)) }
+    {
+        let tail = self.taken().saturating_sub(self.used);
+        Verdict::Accepted(self.summary(self.used, tail, Some(code)))
+    }
+
+    /// Between frames: accepted, or cut if a message is unfinished.
+    #[tactic(none)]
+    fn between(&self) -> Verdict
+        ensures { result ≡ verdict_between self.now self.now.context.message }
+    {
+        let summary = self.summary(self.taken(), 0, None);
+        match &self.context.message {
+            None => Verdict::Accepted(summary),
+            Some(_) => Verdict::Cut(summary),
+        }
+    }
+
+    /// Within a frame: cut.
+    fn cut(&self) -> Verdict
+        ensures { result ≡ Verdict.Cut (summary_of self.now (taken_of self.now) 0 None) }
+    {
+        Verdict::Cut(self.summary(self.taken(), 0, None))
+    }
+
+    fn summary(&self, used: u64, tail: u64, close: Option<Option<u16>>) -> Summary
+        ensures { result ≡ summary_of self.now used tail close }
+    {
+        let unfinished = match &self.context.message {
+            Some(message) => Some(message.size),
+            None => None,
+        };
+        Summary {
+            used,
+            tail,
+            unfinished,
+            frames: self.counts.frames,
+            messages: self.counts.messages,
+            pings: self.counts.pings,
+            pongs: self.counts.pongs,
+            close,
+        }
+    }
+}
