@@ -30,5 +30,6 @@ pub mod ReaderSteps
 pub mod Refusals
 pub mod ScanVerdicts
 pub mod Unrefused
+pub mod UnmaskedParts
 pub mod WholeInputs
 pub mod WithinFrames

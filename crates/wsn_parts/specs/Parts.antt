@@ -4,6 +4,7 @@ use Rattle.wsn_wire.specs.Frame.{Frame, stream}
 use Rattle.wsn_rules.specs.Heads.{info_of}
 use Rattle.wsn_rules.specs.declared.verdict.Refusal.{Refusal}
 use Rattle.wsn_rules.specs.Accepted.{HasNoClose, EndsWithClose}
+use Rattle.wsn_frame.specs.Payloads.{unmasked_by}
 use Rattle.wsn_parts.specs.declared.part.Part.{Part}
 use Rattle.wsn_parts.specs.declared.part.Taken.{Taken}
 use Rattle.wsn_parts.specs.declared.part.Taken.TheVariants as taken
@@ -56,3 +57,8 @@ pub record FindsByCase (fs : List Frame) (refused : Option Refusal) (size n : �
   pub tail : refused ≡ None → EndsWithClose fs → (found ≡ taken.Closed) × (n ≡ size)
   -- otherwise part of a head, a part of a frame, or a refusal
   pub frame : refused ≡ None → HasNoClose fs → (found ≢ taken.Closed) × Consumes found part size n
+
+-- The next bytes after this position: payload unmasked, others as they came.
+abbrev pub unmasked_at : Position → List ℕ → List ℕ
+unmasked_at BetweenFrames bytes = bytes
+unmasked_at (InFrame head payload) bytes = unmasked_by head.key (length payload) bytes

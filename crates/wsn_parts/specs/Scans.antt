@@ -32,7 +32,7 @@ use Rattle.wsn_rules.specs.Heads.{heads_of, info_of, AreHeads}
 use Rattle.wsn_frame.specs.PayloadChecks.{HasChecked}
 use Rattle.wsn_frame.specs.Counts.{AreCounts}
 use Rattle.wsn_parts.specs.Positions.{Position, BetweenFrames, InFrame, begun_at, IsPayloadPrefix}
-use Rattle.wsn_parts.specs.Parts.{Finds, Consumes, GoesOn}
+use Rattle.wsn_parts.specs.Parts.{Finds, Consumes, GoesOn, unmasked_at}
 
 -- ---- a scan's state
 
@@ -72,6 +72,10 @@ room_of scan = scan.room
 -- how many bytes a scan has consumed
 abbrev pub taken_of : Scan → ℕ
 taken_of scan = scan.context.limits.input - scan.room
+
+-- All the bytes that a scan has consumed are in whole frames.
+abbrev pub HasNoRest : Scan → Type 0
+HasNoRest scan = scan.used ≡ taken_of scan
 
 -- At any stage, the scan has consumed these bytes: whole lawful frames, and a rest that came since.
 pub record HasConsumed (role : Role) (limits : Limits) (scan : Scan) (bytes : List ℕ) (fs : List Frame) (rest : List ℕ)
@@ -181,6 +185,12 @@ pub record IsAnswered (call : ScanCall) : Type 0 where
   pub advances : IsAdvance call
   pub reported : IsSome (refusal_in call.after) ↔ (call.found ≡ taken.Refused)
   pub again : IfSome (refusal_in call.before) (λ _. (call.found ≡ taken.Refused) × (call.count ≡ 0))
+
+-- Whatever the scan has consumed at this stage, the first n bytes of the piece were unmasked if they are payload.
+abbrev pub Unmasks : Stage → Scan → List ℕ → List ℕ → ℕ → Type 0
+Unmasks stage old piece after n =
+    (role : Role) (limits : Limits) (bytes rest : List ℕ) (fs : List Frame) (at : Position) →
+    HasScannedAt role limits old stage bytes fs rest at → take n after ≡ unmasked_at at (take n piece)
 
 -- ---- the parts of a call
 

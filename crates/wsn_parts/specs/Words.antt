@@ -24,7 +24,7 @@ pub use Rattle.wsn_parts.specs.Parts.{IsPart, Finds, Consumes, FindsByCase}
 pub use Rattle.wsn_parts.specs.FrameReaders.{HasTaken, IsReading, parts_left, held_payload, TakesRun}
 pub use Rattle.wsn_parts.specs.ReadParts.{ReadsOn}
 pub use Rattle.wsn_parts.specs.ReaderSteps.{StepsOn, Progresses, IsUsed, IsFilled}
-pub use Rattle.wsn_parts.specs.Scans.{HasScanned, refusal_in, room_of, taken_of, ScanCall, IsAdvance, IsAnswered, AdvancesFrom, BeginsFrame, BeginsAt}
+pub use Rattle.wsn_parts.specs.Scans.{HasScanned, refusal_in, room_of, taken_of, ScanCall, IsAdvance, IsAnswered, AdvancesFrom, BeginsFrame, BeginsAt, Unmasks, HasNoRest}
 pub use Rattle.wsn_parts.specs.Scans.{AddsPart, EndsFrame, IsCutAt, IsStageAfter, refusal_of, refusal_at, refusal_judged, summary_of}
 pub use Rattle.wsn_parts.specs.Scans.{verdict_between}
 pub use Rattle.wsn_parts.specs.declared.part.Part.{Part}

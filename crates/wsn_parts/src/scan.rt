@@ -23,7 +23,7 @@ pub struct Scan {
 
 impl Scan {
     ghost use Rattle.std.specs.Prelude.{◌≡◌, ◌≢◌, ◌+◌, ◌≤◌, ◌⊎◌, ◌↔◌, [], length, take, drop, true, IfSome, IsSome};
-    ghost use Rattle.wsn_parts.specs.Words.{HasScanned, BetweenFrames, room_of, taken_of, refusal_in, IsAdvance};
+    ghost use Rattle.wsn_parts.specs.Words.{HasScanned, BetweenFrames, room_of, taken_of, refusal_in, IsAdvance, Unmasks, HasNoRest};
 
     /// A scan that has consumed nothing. `role` is the endpoint that sent the stream.
     #[tactic(none)]
@@ -95,6 +95,8 @@ impl Scan {
         ensures head { result.1 ≡ Taken.Part → (part.new.start ≤ result.0)
             × (take part.new.start piece.new ≡ take part.new.start piece.old) }
         ensures untouched { result.1 ≢ Taken.Part → result.1 ≢ Taken.Refused → piece.new ≡ piece.old }
+        ensures whole { result.1 ≡ Taken.Part → part.new.ends ≡ true → HasNoRest self.new }
+        ensures refused { result.1 ≡ Taken.Refused → Unmasks self.old.stage self.old piece.old piece.new result.0 }
         ensures room { room_of self.new + result.0 ≡ room_of self.old }
         ensures reported { IsSome (refusal_in self.new) ↔ (result.1 ≡ Taken.Refused) }
         ensures again { IfSome (refusal_in self.old) (λ _. (self.new ≡ self.old) × (piece.new ≡ piece.old)

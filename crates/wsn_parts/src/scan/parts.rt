@@ -22,7 +22,7 @@ use wsn_wire::{Op, Reason};
 
 impl Scan {
     ghost use Rattle.std.specs.Prelude.{◌≡◌, ◌≢◌, ◌+◌, ◌-◌, ◌<◌, ◌≤◌, ◌↔◌, true, None, length, take, drop, IfSome, IfNone, IsSome, IsTrue};
-    ghost use Rattle.wsn_parts.specs.Words.{AdvancesFrom, BeginsAt, BeginsFrame, AddsPart, EndsFrame, IsCutAt, room_of, refusal_in, refusal_of, info_at};
+    ghost use Rattle.wsn_parts.specs.Words.{AdvancesFrom, Unmasks, HasNoRest, BeginsAt, BeginsFrame, AddsPart, EndsFrame, IsCutAt, room_of, refusal_in, refusal_of, info_at};
 
     /// Takes what the piece has of the frame at its start, if the scan is between frames, the frame's head is whole there,
     /// it is no Close, and no byte is evidence for a refusal. Otherwise nothing changes.
@@ -38,6 +38,8 @@ impl Scan {
         ensures room { IfSome result (λ count. room_of self.new + count ≡ room_of self.old) }
         ensures reported { IfSome result (λ _. refusal_in self.new ≡ None) }
         ensures between { IfSome result (λ _. self.old.stage ≡ Stage.Between) }
+
+        ensures whole { IfSome result (λ _. part.new.ends ≡ true → HasNoRest self.new) }
         ensures none { IfNone result ((self.new ≡ self.old) × (piece.new ≡ piece.old)) }
     {
         if !self.is_between() {
@@ -67,6 +69,7 @@ impl Scan {
         ensures head { IfSome result (λ _. take part.new.start piece.new ≡ take part.new.start piece.old) }
         ensures room { IfSome result (λ count. room_of self.new + count ≡ room_of self.old) }
         ensures reported { IfSome result (λ _. refusal_in self.new ≡ None) }
+        ensures whole { IfSome result (λ _. part.new.ends ≡ true → HasNoRest self.new) }
         ensures none { IfNone result ((self.new ≡ self.old) × (piece.new ≡ piece.old)) }
     {
         self.take_frame_after(message, piece, part)
@@ -98,6 +101,7 @@ impl Scan {
         ensures head { IfSome result (λ _. take part.new.start piece.new ≡ take part.new.start piece.old) }
         ensures room { IfSome result (λ count. room_of self.new + count ≡ room_of self.old) }
         ensures reported { IfSome result (λ _. refusal_in self.new ≡ None) }
+        ensures whole { IfSome result (λ _. part.new.ends ≡ true → HasNoRest self.new) }
         ensures none { IfNone result ((self.new ≡ self.old) × (piece.new ≡ piece.old)) }
     {
         let context = FrameContext {
@@ -122,7 +126,9 @@ impl Scan {
         ensures kept { drop result.0 piece.new ≡ drop result.0 piece.old }
         ensures head { result.1 ≡ Taken.Part → (part.new.start ≤ result.0)
             × (take part.new.start piece.new ≡ take part.new.start piece.old) }
+        ensures whole { result.1 ≡ Taken.Part → part.new.ends ≡ true → HasNoRest self.new }
         ensures untouched { result.1 ≢ Taken.Part → result.1 ≢ Taken.Refused → piece.new ≡ piece.old }
+        ensures refused { result.1 ≡ Taken.Refused → Unmasks self.old.stage self.old piece.old piece.new result.0 }
         ensures room { room_of self.new + result.0 ≡ room_of self.old }
         ensures reported { IsSome (refusal_in self.new) ↔ (result.1 ≡ Taken.Refused) }
         ensures again { IfSome (refusal_in self.old) (λ _. (self.new ≡ self.old) × (piece.new ≡ piece.old)
@@ -160,7 +166,8 @@ impl Scan {
         ensures kept { drop result.0 piece.new ≡ drop result.0 piece.old }
         ensures head { result.1 ≡ Taken.Part → (part.new.start ≤ result.0)
             × (take part.new.start piece.new ≡ take part.new.start piece.old) }
-        ensures untouched { result.1 ≢ Taken.Part → result.1 ≢ Taken.Refused → piece.new ≡ piece.old }
+        ensures whole { result.1 ≡ Taken.Part → part.new.ends ≡ true → HasNoRest self.new }
+        ensures untouched { result.1 ≢ Taken.Part → piece.new ≡ piece.old }
         ensures room { room_of self.new + result.0 ≡ room_of self.old }
         ensures reported { IsSome (refusal_in self.new) ↔ (result.1 ≡ Taken.Refused) }
     {
@@ -193,7 +200,8 @@ impl Scan {
         ensures kept { drop result.0 piece.new ≡ drop result.0 piece.old }
         ensures head { result.1 ≡ Taken.Part → (part.new.start ≤ result.0)
             × (take part.new.start piece.new ≡ take part.new.start piece.old) }
-        ensures untouched { result.1 ≢ Taken.Part → result.1 ≢ Taken.Refused → piece.new ≡ piece.old }
+        ensures whole { result.1 ≡ Taken.Part → part.new.ends ≡ true → HasNoRest self.new }
+        ensures untouched { result.1 ≢ Taken.Part → piece.new ≡ piece.old }
         ensures room { room_of self.new + result.0 ≡ room_of self.old }
         ensures reported { IsSome (refusal_in self.new) ↔ (result.1 ≡ Taken.Refused) }
     {
@@ -233,6 +241,7 @@ impl Scan {
         ensures head { IfSome result (λ _. take start piece.new ≡ take start piece.old) }
         ensures room { IfSome result (λ count. room_of self.new + count ≡ room_of self.old) }
         ensures reported { IfSome result (λ _. refusal_in self.new ≡ None) }
+        ensures whole { IfSome result (λ _. part.new.ends ≡ true → HasNoRest self.new) }
         ensures none { IfNone result ((self.new ≡ self.old) × (piece.new ≡ piece.old)) }
         ensures cut { IfNone result (head.now.len ≡ 0 → IsCutAt message.now head.now) }
     {
@@ -262,7 +271,10 @@ impl Scan {
         ensures within { result.0 ≤ length piece.old }
         ensures kept { drop result.0 piece.new ≡ drop result.0 piece.old }
         ensures head { result.1 ≡ Taken.Part → part.new.start ≡ 0 }
+        ensures whole { result.1 ≡ Taken.Part → part.new.ends ≡ true → HasNoRest self.new }
         ensures untouched { result.1 ≢ Taken.Part → result.1 ≢ Taken.Refused → piece.new ≡ piece.old }
+        ensures refused { result.1 ≡ Taken.Refused →
+            Unmasks (Stage.Payload inside) self.old piece.old piece.new result.0 }
         ensures room { room_of self.new + result.0 ≡ room_of self.old }
         ensures reported { IsSome (refusal_in self.new) ↔ (result.1 ≡ Taken.Refused) }
     {
@@ -311,6 +323,7 @@ impl Scan {
         ensures begins { part.new.begins ≡ false }
         ensures ends { part.new.ends ≡ true ↔ (done ≡ head.now.len) }
         ensures start { part.new.start ≡ start }
+        ensures whole { part.new.ends ≡ true → HasNoRest self.new }
         ensures room { room_of self.new + end ≡ room_of self.old }
         ensures reported { refusal_in self.new ≡ None }
     {
@@ -337,6 +350,7 @@ impl Scan {
     fn end(&mut self, message: &Option<OpenMessage>, head: &Head, check: &PayloadCheck)
         requires open { message.now ≡ self.old.context.message }
         ensures taken { EndsFrame self.old self.new head.now check.now }
+        ensures whole { HasNoRest self.new }
         ensures room { room_of self.new ≡ room_of self.old }
         ensures reported { refusal_in self.new ≡ None }
     {

@@ -90,3 +90,9 @@ returns-else-ends-clause-room c = search rules
 
 pub returns-else-ends-clause-reported : goal.returns-else-ends-clause-reported
 returns-else-ends-clause-reported c = search rules
+
+pub returns-then-ends-clause-whole : goal.returns-then-ends-clause-whole
+returns-then-ends-clause-whole c = search rules
+
+pub returns-else-ends-clause-whole : goal.returns-else-ends-clause-whole
+returns-else-ends-clause-whole c = search rules

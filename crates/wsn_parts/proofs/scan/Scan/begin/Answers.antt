@@ -160,3 +160,6 @@ returns-clause-room c = search rules
 
 pub returns-clause-reported : goal.returns-clause-reported
 returns-clause-reported c = search rules
+
+pub returns-clause-whole : goal.returns-clause-whole
+returns-clause-whole c = search rules

@@ -129,3 +129,12 @@ returns-clause-room c = search rules
 
 pub returns-clause-reported : goal.returns-clause-reported
 returns-clause-reported c = search rules
+
+pub returns-in-Some-clause-whole : goal.returns-in-Some-clause-whole
+returns-in-Some-clause-whole c = search rules
+
+pub returns-then-head-eq0-clause-whole : goal.returns-then-head-eq0-clause-whole
+returns-then-head-eq0-clause-whole c = search rules
+
+pub returns-clause-whole : goal.returns-clause-whole
+returns-clause-whole c = search rules

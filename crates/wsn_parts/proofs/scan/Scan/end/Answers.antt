@@ -23,3 +23,6 @@ returns-clause-reported c = search rules
 
 pub update-requires : goal.update-requires
 update-requires c = search rules
+
+pub returns-clause-whole : goal.returns-clause-whole
+returns-clause-whole c = search rules

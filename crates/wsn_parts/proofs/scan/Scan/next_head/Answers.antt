@@ -155,3 +155,12 @@ returns-clause-room c = search rules
 
 pub returns-clause-reported : goal.returns-clause-reported
 returns-clause-reported c = search rules
+
+pub returns-in-Refused-clause-whole : goal.returns-in-Refused-clause-whole
+returns-in-Refused-clause-whole c = search rules
+
+pub returns-in-Whole-clause-whole : goal.returns-in-Whole-clause-whole
+returns-in-Whole-clause-whole c = search rules
+
+pub returns-clause-whole : goal.returns-clause-whole
+returns-clause-whole c = search rules

@@ -1,4 +1,5 @@
-use Rattle.std.proofs.Common.{◌≡◌, ◌+◌, ◌≤◌, ◌^◌, ℕ, List, ◌++◌, length, take, drop, Ok, Err, inl, inr, refl, sym, ap, ◌∙◌, subst, arith, append_assoc, length-append, rules}
+use Rattle.std.proofs.Common.{◌≡◌, ◌+◌, ◌≤◌, ◌^◌, ℕ, List, ◌++◌, length, take, drop, Ok, Err, inl, inr, refl, sym, ap, ◌∙◌, subst, arith, append_assoc, length-append, rules, ◌-◌}
+use borrow.Rule.Slice.PartMut.{post_of}
 use Rattle.std.proofs.lemmas.Grind.{common_steps}
 use Rattle.std.proofs.lemmas.List.{length-take-le, take-take}
 use Rattle.wsn_wire.specs.Frame.{first_byte, stream}
@@ -18,6 +19,8 @@ use Rattle.wsn_frame.proofs.PayloadMore.{payload_on, holds_on, evident_last, che
 use Rattle.wsn_parts.proofs.Refusals.{refuses}
 use Rattle.wsn_parts.proofs.PayloadPrefixes.{handed_out, of_its_head}
 use Rattle.wsn_parts.proofs.BegunFrames.{not_all, goes_on_as}
+use Rattle.wsn_parts.proofs.UnmaskedParts.{front_stays}
+use Rattle.wsn_parts.specs.Parts.{unmasked_at}
 use Rattle.wsn_parts.proofs.scan.Scan.next_payload.Goals as goal
 
 pub returns-in-Ok-clause-taken : goal.returns-in-Ok-clause-taken
@@ -205,3 +208,30 @@ returns-in-Err-clause-room c = search rules
 
 pub returns-in-Err-clause-reported : goal.returns-in-Err-clause-reported
 returns-in-Err-clause-reported c = search rules
+
+pub returns-in-Err-clause-refused : goal.returns-in-Err-clause-refused
+returns-in-Err-clause-refused c is role limits bytes rest fs at has_scanned =
+    let head = c.args.inside.head in
+    let piece = c.args.piece.now in
+    let count = c.min-count.result in
+    let taken = c.min-taken.result in
+    let here = has_scanned.is_at.1.1 in
+    let payload = has_scanned.is_at.1.0 in
+    let size : c.args.inside.done ≡ length payload = here.done ∙ sym (ap (λ (bs : List ℕ). length bs) here.unmasked ∙ length-unmasked_by head.key 0 here.wire) in
+    let front = front_stays head.key c.args.inside.done count taken piece c.unmask.new.bytes (c.unmask-in-Err.new.bytes ++ post_of taken (count - taken) (c.unmask.new.bytes ++ drop count piece)) (omega (arith, c.min-taken.ensures)) (omega (arith, c.min-count.ensures)) c.unmask.ensures in
+    rw c.refuse.ensures.reported.0 (front ∙ ap (λ (n : ℕ). unmasked_by head.key n (take taken piece)) size ∙ sym (ap (λ (p : Position). unmasked_at p (take taken piece)) has_scanned.is_at.1.2))
+
+pub returns-then-count-eq0-clause-whole : goal.returns-then-count-eq0-clause-whole
+returns-then-count-eq0-clause-whole c = search rules
+
+pub returns-then-count-eq0-clause-refused : goal.returns-then-count-eq0-clause-refused
+returns-then-count-eq0-clause-refused c = search rules
+
+pub returns-in-Ok-clause-whole : goal.returns-in-Ok-clause-whole
+returns-in-Ok-clause-whole c = search rules
+
+pub returns-in-Ok-clause-refused : goal.returns-in-Ok-clause-refused
+returns-in-Ok-clause-refused c = search rules
+
+pub returns-in-Err-clause-whole : goal.returns-in-Err-clause-whole
+returns-in-Err-clause-whole c = search rules

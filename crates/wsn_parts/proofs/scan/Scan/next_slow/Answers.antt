@@ -1,4 +1,4 @@
-use Rattle.std.proofs.Common.{refl, sym, subst, rules, arith}
+use Rattle.std.proofs.Common.{refl, sym, subst, rules, arith, ◌≡◌, ℕ, List, take, ap, ◌∙◌}
 use Rattle.std.proofs.lemmas.Grind.{common_steps}
 use Rattle.wsn_frame.specs.declared.partial_head.PartialHead.{PartialHead}
 use Rattle.wsn_parts.specs.declared.stage.Stage.{Stage}
@@ -6,6 +6,8 @@ use Rattle.wsn_parts.specs.declared.stage.Stage.TheVariants as stages
 use Rattle.wsn_parts.specs.Scans.{HasScannedAt, IsAt}
 use Rattle.wsn_parts.proofs.HeadBytes.{before_head}
 use Rattle.wsn_parts.proofs.MoreBytes.{same_scan}
+use Rattle.wsn_parts.proofs.UnmaskedParts.{unmasked_none, same_between}
+use Rattle.wsn_parts.specs.declared.part.Taken.TheVariants as taken
 use Rattle.wsn_parts.proofs.scan.Scan.next_slow.Goals as goal
 
 pub returns-in-Between-clause-taken : goal.returns-in-Between-clause-taken
@@ -150,3 +152,42 @@ returns-in-Closed-clause-again c = search rules
 
 pub returns-in-Refused-clause-again : goal.returns-in-Refused-clause-again
 returns-in-Refused-clause-again c = search rules
+
+pub returns-in-Between-clause-refused : goal.returns-in-Between-clause-refused
+returns-in-Between-clause-refused c is role limits bytes rest fs at has_scanned =
+    let there = subst (λ (stage : Stage). HasScannedAt role limits c.args.self.now stage bytes fs rest at) c.in-Between.is has_scanned in
+    let n = c.next_head.result.0 in
+    ap (λ (bs : List ℕ). take n bs) (c.next_head.ensures.untouched (λ part. let both : taken.Refused ≡ taken.Part = sym is ∙ part in cc)) ∙ same_between at (take n c.args.piece.now) there.is_at.2
+
+pub returns-in-Head-clause-refused : goal.returns-in-Head-clause-refused
+returns-in-Head-clause-refused c is role limits bytes rest fs at has_scanned =
+    let there = subst (λ (stage : Stage). HasScannedAt role limits c.args.self.now stage bytes fs rest at) c.in-Head.is has_scanned in
+    let n = c.next_head-in-Head.result.0 in
+    ap (λ (bs : List ℕ). take n bs) (c.next_head-in-Head.ensures.untouched (λ part. let both : taken.Refused ≡ taken.Part = sym is ∙ part in cc)) ∙ same_between at (take n c.args.piece.now) there.is_at.2
+
+pub returns-in-Payload-clause-refused : goal.returns-in-Payload-clause-refused
+returns-in-Payload-clause-refused c is role limits bytes rest fs at has_scanned =
+    let there = subst (λ (stage : Stage). HasScannedAt role limits c.args.self.now stage bytes fs rest at) c.in-Payload.is has_scanned in
+    c.next_payload.ensures.refused is role limits bytes rest fs at
+    (record { has_consumed = same_scan role limits c.args.self.now _ bytes rest fs refl refl refl refl there.has_consumed; is_at = there.is_at })
+
+pub returns-in-Refused-clause-refused : goal.returns-in-Refused-clause-refused
+returns-in-Refused-clause-refused c is role limits bytes rest fs at has_scanned = unmasked_none at
+
+pub returns-in-Between-clause-whole : goal.returns-in-Between-clause-whole
+returns-in-Between-clause-whole c = search rules
+
+pub returns-in-Head-clause-whole : goal.returns-in-Head-clause-whole
+returns-in-Head-clause-whole c = search rules
+
+pub returns-in-Payload-clause-whole : goal.returns-in-Payload-clause-whole
+returns-in-Payload-clause-whole c = search rules
+
+pub returns-in-Closed-clause-whole : goal.returns-in-Closed-clause-whole
+returns-in-Closed-clause-whole c = search rules
+
+pub returns-in-Closed-clause-refused : goal.returns-in-Closed-clause-refused
+returns-in-Closed-clause-refused c = search rules
+
+pub returns-in-Refused-clause-whole : goal.returns-in-Refused-clause-whole
+returns-in-Refused-clause-whole c = search rules

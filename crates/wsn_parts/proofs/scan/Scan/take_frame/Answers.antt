@@ -77,3 +77,9 @@ returns-in-None-clause-between c = search rules
 
 pub returns-in_default-clause-between : goal.returns-in_default-clause-between
 returns-in_default-clause-between c = search rules
+
+pub returns-in-None-clause-whole : goal.returns-in-None-clause-whole
+returns-in-None-clause-whole c = search rules
+
+pub returns-in_default-clause-whole : goal.returns-in_default-clause-whole
+returns-in_default-clause-whole c = search rules

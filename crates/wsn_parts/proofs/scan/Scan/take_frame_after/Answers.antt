@@ -74,3 +74,9 @@ returns-clause-reported c = search rules
 
 pub returns-clause-none : goal.returns-clause-none
 returns-clause-none c = search rules
+
+pub returns-in_err-start-clause-whole : goal.returns-in_err-start-clause-whole
+returns-in_err-start-clause-whole c = search rules
+
+pub returns-clause-whole : goal.returns-clause-whole
+returns-clause-whole c = search rules
