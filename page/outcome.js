@@ -1,9 +1,8 @@
 // How the session went, in words: a title, and sentences. What a comment or the first refused byte lets one suspect
-// (compression, sides exchanged, who broke off) is said beside what the program says, not in its place.
+// (compression, sides exchanged) is said beside what the program says, not in its place.
 
 const TITLES = {
   clean: "Closed cleanly", complete: "Closed by both sides", half: "Closed by one side", open: "Still open",
-  abnormal: "Broke off without a Close",
 };
 const OPEN_WORDS = "Nothing is wrong so far: no side has closed, and no direction has ended.";
 
@@ -69,15 +68,6 @@ function faultTitle(session) {
   return compressed.length ? `${broke}; ${words[0].toLowerCase()}${words.slice(1)}` : broke;
 }
 
-/** Who broke the connection off, and whether by a reset; nothing if no side ended without a Close. */
-function breakOf(session) {
-  const { report, entries } = session, isOpen = side => ["ended", "cut"].includes(report[side].state);
-  if (report.outcome !== "abnormal") return null;
-  const reset = commentLike(session, /^ reset by the (client|server)$/);
-  const side = reset?.[1] ?? entries.find(entry => entry.type === "end" && isOpen(entry.side))?.side;
-  return side && { side, verb: reset ? "reset" : "ended" };
-}
-
 /** What a side has begun and not finished; the last of it. */
 function unfinishedOf({ entries }, side) {
   return entries.findLast(entry => entry.type === "unfinished" && entry.side === side);
@@ -102,15 +92,15 @@ function insideWords(session, entry) {
   return `inside a ${what}${missingWords(session, entry)}`;
 }
 
+/** Who ended the connection, as the program says, and inside what. */
 function breakTitle(session) {
-  const found = breakOf(session), { report } = session;
-  if (!found) return TITLES.abnormal;
-  const { side, verb } = found, peer = other(side), began = `The ${side} ${verb} the connection`;
+  const { report, endedBy: { side, reset } } = session, peer = other(side);
+  const began = `The ${side} ${reset ? "reset" : "ended"} the connection`;
   if (report[side].state === "cut") return `${began} ${insideWords(session, unfinishedOf(session, side))}`;
   const cut = report[peer].state === "cut" && insideWords(session, unfinishedOf(session, peer));
-  if (cut && verb === "reset") return `${began} while the ${peer} was ${cut}`;
-  if (cut) return `${began} without a Close, then the ${peer} ${cut}`;
-  return report[side].state === "closed" ? `${began} after its Close` : `${began} without a Close`;
+  if (cut && reset) return `${began} while the ${peer} was ${cut}`;
+  const close = report[side].state === "closed" ? "after its Close" : "without a Close";
+  return `${began} ${close}${cut ? `, then the ${peer} ${cut}` : ""}`;
 }
 
 /** The outcome in a few words. */

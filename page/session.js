@@ -91,7 +91,8 @@ class Session {
     Object.assign(this, { name, version, explained, capture });
     const objects = objectsOf(shown);
     this.report = objects.find(object => object.type === "report");
-    this.entries = objects.filter(object => object.type !== "report");
+    this.endedBy = objects.find(object => object.type === "ended-by") ?? null;
+    this.entries = objects.filter(object => object !== this.report && object !== this.endedBy);
     this.frames = { client: [], server: [] };
     this.wire = objectsOf(wire).filter(object => object.type === "frame").map(frameOf);
     for (const frame of this.wire) this.frames[frame.side].push(frame);

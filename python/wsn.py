@@ -21,7 +21,7 @@ import os
 from typing import Any, Callable, Collection, Dict, List, Optional, Tuple, TypeVar
 
 __all__ = [
-    "Close", "Comparison", "Entry", "Fault", "FaultyCapture", "Frame", "Frames", "NotAccepted", "Report",
+    "Close", "Comparison", "EndedBy", "Entry", "Fault", "FaultyCapture", "Frame", "Frames", "NotAccepted", "Report",
     "Session", "Side", "Stopped", "Verdict", "closing", "frames", "judge", "normal", "plan", "recut", "same", "sent", "show",
 ]
 
@@ -188,12 +188,24 @@ class Entry:
 
 
 @dataclasses.dataclass(frozen=True)
+class EndedBy:
+    """Who ended a connection first: "client" or "server". reset: whether a comment says that this side reset it."""
+
+    side: str
+    reset: bool
+
+
+@dataclasses.dataclass(frozen=True)
 class Session:
-    """What a capture or a stream says, in order. report: how the connection closed. verdict: of a stream."""
+    """What a capture or a stream says, in order. report: how the connection closed. verdict: of a stream.
+
+    ended_by: who ended the connection first, if a direction ended without a Close.
+    """
 
     entries: List[Entry]
     report: Optional[Report] = None
     verdict: Optional[Verdict] = None
+    ended_by: Optional[EndedBy] = None
 
 
 @dataclasses.dataclass(frozen=True)
@@ -429,8 +441,9 @@ def show(data: Any, role: Optional[str] = None, *, view: int = 48, wire: bool = 
     options = _options(role or "client", view=view, wire=wire, **limits)
     with _Lent(data) as given:
         *entries, last = _asked("wsn_show_stream" if role else "wsn_show", options, given)
+    ends = [_made(EndedBy, entries.pop())] if entries and entries[-1]["type"] == "ended-by" else [None]
     shown = [_made(Entry, entry) for entry in entries]
-    return Session(shown, verdict=_verdict(last)) if role else Session(shown, report=_report(last))
+    return Session(shown, verdict=_verdict(last)) if role else Session(shown, report=_report(last), ended_by=ends[0])
 
 
 def closing(capture: Any, **limits: Any) -> Report:

@@ -21,6 +21,7 @@ MEMBERS = {
     "end": ENTRY,
     "frame": (*ENTRY, *FRAME),
     "comment": ("type", "line", "text"),
+    "ended-by": ("type", "side", "reset"),
     "report": ("type", "client", "server", "first", "echo", "client_sees", "server_sees", "outcome"),
     "accepted": ("type", "verdict", "used", "tail", "unfinished", *COUNTS, "close"),
     "cut": ("type", "verdict", "used", "unfinished", *COUNTS),
@@ -160,6 +161,8 @@ def lines_of(read, view=48):
         return [verdict_line(read)]
     if kind == "comparison":
         return comparison_lines(read, view)
+    if kind == "ended-by":
+        return [f"ended-by {read['side']}" + (" reset" if read["reset"] else "")]
     if kind == "comment":
         return [f"#{show_model.escaped(read['text'])}"]
     if "side" not in read:

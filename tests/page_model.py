@@ -11,7 +11,6 @@ HIDDEN = re.compile("[\x00-\x1f\x7f-\x9f\u061c\u200e\u200f\u2028-\u202e\u2066-\u
 SHORT = {"\n": "\\n", "\r": "\\r", "\t": "\\t"}
 CHARACTERS = 200  # The characters of a payload in a row.
 DATA = ("text", "binary", "cont")
-RESETS = (" reset by the client", " reset by the server")
 NAMED = ("place", "reason", "event", "lacks")
 
 
@@ -138,11 +137,11 @@ def outcome(report):
     return words or ["Nothing is wrong so far"]
 
 
-def broke(shown, report):
-    """The begin of an abnormal session's headline: who broke off, by a comment or by the first end mark without a Close."""
-    resets = [entry["text"] for entry in shown if entry["type"] == "comment" and entry["text"] in RESETS]
-    ends = [entry["side"] for entry in shown if entry["type"] == "end" and report[entry["side"]]["state"] in ("ended", "cut")]
-    return f"The {resets[0][14:]} reset the connection" if resets else f"The {ends[0]} ended the connection"
+def broke(shown):
+    """The begin of an abnormal session's headline: whose end mark is the first, and whether a comment says that it reset."""
+    side = next(entry["side"] for entry in shown if entry["type"] == "end")
+    resets = [entry for entry in shown if entry["type"] == "comment" and entry["text"] == f" reset by the {side}"]
+    return f"The {side} {'reset' if resets else 'ended'} the connection"
 
 
 def bad_character(entry, wire, stream):

@@ -177,7 +177,8 @@ def shown(text, view, frames_of, wire=False):
     sides = {}
     for letter, role in (("C", "client"), ("S", "server")):
         data = b"".join(bytes.fromhex(line[2:].decode()) for line in lines if line.startswith(f"{letter} ".encode()))
-        sides[letter] = (data, *stream_items(data, frames_of(role, data), view, wire))
+        listed = frames_of(role, data)
+        sides[letter] = (data, *stream_items(data, listed, view, wire), listed)
     out, time, came, ended = [], "-", {"C": 0, "S": 0}, set()
     for line in lines:
         letter = line[:1].decode("latin-1")
@@ -186,7 +187,7 @@ def shown(text, view, frames_of, wire=False):
             time = found[1] if found else time
             out += [] if found else [comment(line)]
         elif line[1:2] == b".":
-            data, _, left = sides[letter]
+            data, _, left, _ = sides[letter]
             out += [f"{letter} {time} {entry}" for entry in left] + [f"{letter} {time} {len(data)} end"]
             ended.add(letter)
         elif line:
@@ -194,4 +195,17 @@ def shown(text, view, frames_of, wire=False):
             out += [f"{letter} {time} {entry}" for after, entry in sides[letter][1] if before < after <= came[letter]]
     for letter in ("C", "S"):
         out += [f"{letter} - {entry}" for entry in sides[letter][2] if letter not in ended]
-    return out
+    return out + ended_by(lines, [letter for letter in "CS" if letter in ended and is_unclosed(sides[letter][3])])
+
+
+def is_unclosed(listed):
+    """Whether a stream with these lines of `frames` has no Close and isn't refused."""
+    return listed[-1].startswith("cut") or (listed[-1].startswith("accepted") and " close " not in "".join(listed[-2:-1]))
+
+
+def ended_by(lines, early):
+    """Who ended the connection, if a side ended without a Close."""
+    if not early:
+        return []
+    side = next({b"C.": "client", b"S.": "server"}[line] for line in lines if line in (b"C.", b"S."))
+    return [f"ended-by {side}" + (" reset" if f"# reset by the {side}".encode() in lines else "")]

@@ -548,6 +548,10 @@ def live_ends_are_what_the_proxy_saw(folder):
         out, said = pcap2wsn(folder / "live.pcap", "0")
         same((ends(recorded), ends(out), said), (wanted, wanted, ""), f"{wanted}")
         same(sides(out), sides(recorded), f"the bytes of {wanted}")
+        ended_by = f"ended-by {'client' if side == 'C' else 'server'}{' reset' * is_reset}"
+        for capture in recorded, out:
+            lines = run(WSN, "show", input=capture, status=1)[0].decode().splitlines()
+            same([line for line in lines if line.startswith("ended")], [ended_by], f"what is shown of {wanted}")
 
 
 @test

@@ -12,7 +12,7 @@ import subprocess
 import threading
 import time
 
-from harness import (SECONDS, TOP, Failed, certificate, free_port, run, said_in, same, sides, started, test, times,
+from harness import (SECONDS, TOP, WSN, Failed, certificate, free_port, run, said_in, same, sides, started, test, times,
                      wait_for, want)  # fmt: skip
 
 ASK = b"GET /chat?x=1 HTTP/1.1\r\nHost: localhost:1\r\nUpgrade: websocket\r\nConnection: Upgrade\r\n\r\n"
@@ -166,6 +166,8 @@ def record_passes_resets_on(folder):
             name, marks = ("client", b"C.\nS.\n") if who == "C" else ("server", b"S.\nC.\n")
             same(plain(lines), f"{who} 8100\n".encode() + marks, "the capture")
             want(lines.endswith(f"# reset by the {name}\n".encode() + marks), f"who reset it: {lines}")
+            shown = run(WSN, "show", input=lines, status=1)[0].decode().splitlines()
+            same(shown[-8], f"ended-by {name} reset", "what is shown of it")
 
 
 @test

@@ -15,8 +15,8 @@ use Rattle.wsn_rules.specs.Entries.Entry.{Nothing, Bytes, Mark}
 use Rattle.wsn_rules.specs.Sides.{bytes_in, sent}
 use Rattle.wsn_rules.proofs.StaysRefused.{stays_refused}
 use Rattle.wsn_scan.specs.declared.scan.Scan.{Scan}
-use Rattle.wsn_scan.specs.Scans.{HasScanned, refusal_in, room_of}
-use Rattle.wsn_scan.specs.Reports.{Reported, refusal_judged}
+use Rattle.wsn_scan.specs.Positions.{Position}
+use Rattle.wsn_scan.specs.Scans.{HasScanned, refusal_in, refusal_judged, room_of}
 use Rattle.wsn_scan.specs.Feeding.{HasFed, IsRunning}
 use Rattle.wsn_capture.specs.declared.capture_lines.CaptureLines.{CaptureLines}
 use Rattle.wsn_capture.specs.declared.line_form.LineEntry.{LineEntry}
@@ -76,7 +76,7 @@ verdict_on_all role limits came following fs (Refused refusal) all is = stays_re
 
 -- the verdict on all bytes that came
 pub judged : (role : Role) (limits : Limits) (scan : Scan) (came : List ℕ) (verdict : Verdict) → HasStreamed role limits scan came
-    → ((role : Role) (limits : Limits) (bytes rest : List ℕ) (fs : List Frame) (reported : Reported) → HasScanned role limits scan bytes fs rest reported → IsVerdict role limits bytes fs verdict)
+    → ((role : Role) (limits : Limits) (bytes rest : List ℕ) (fs : List Frame) (at : Position) → HasScanned role limits scan bytes fs rest at → IsVerdict role limits bytes fs verdict)
     → refusal_judged verdict ≡ refusal_in scan → (fs : List Frame) × IsVerdict role limits came fs verdict
 judged role limits scan came verdict s is reported =
     let taken = s.taken in (

@@ -1,6 +1,11 @@
 -- What options ask for, by the texts of their values.
-use Rattle.std.specs.Prelude.{◌≡◌, ℕ, Option, None, Some, List}
+use Rattle.std.specs.Prelude.{◌≡◌, ℕ, Bool, false, Option, None, Some, option_map, List, codes}
+use Rattle.std.specs.List.{list_any}
+use Rattle.std.specs.Str.{bytes_eq}
 use Rattle.std.specs.Str.Parse.{digits_value, without_leading_plus}
+use Rattle.clap.specs.Words.{raw_values}
+use Rattle.clap.specs.declared.parser.matches.MatchedArg.{MatchedArg}
+use Rattle.wsn_rules.specs.declared.without.Without.{Without}
 
 -- the number that a text of decimal digits encodes
 abbrev pub number_in : List ℕ → ℕ
@@ -15,3 +20,20 @@ IsAsked (Some text) default n = n ≡ number_in text
 abbrev pub IsAskedMaximum : Option (List ℕ) → Option ℕ → Type 0
 IsAskedMaximum None most = most ≡ None
 IsAskedMaximum (Some text) most = most ≡ Some (number_in text)
+
+-- the words that an option lists, such as ping,pong
+abbrev pub words_of : Option MatchedArg → Option (List (List ℕ))
+words_of matched = option_map raw_values matched
+
+-- whether this word is one of the words
+abbrev pub has_word : List (List ℕ) → List ℕ → Bool
+has_word words word = list_any (λ it. bytes_eq it word) words
+
+-- A comparison leaves out exactly the kinds that the option lists; none without it.
+abbrev pub AreLeftOut : Option (List (List ℕ)) → Without → Type 0
+AreLeftOut None without = without ≡ record { ping = false; pong = false; close = false }
+AreLeftOut (Some kinds) without = without ≡ record {
+  ping = has_word kinds (codes "ping");
+  pong = has_word kinds (codes "pong");
+  close = has_word kinds (codes "close");
+}

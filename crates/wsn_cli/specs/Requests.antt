@@ -1,7 +1,8 @@
 -- The requests that a command line makes.
-use Rattle.std.specs.Prelude.{◌≡◌, ◌^◌, Option, Some, IfSome}
+use Rattle.std.specs.Prelude.{◌≡◌, ◌^◌, ℕ, Option, None, Some, IfSome, List, codes}
 use Rattle.wsn_wire.specs.declared.endpoint.Role.{Role}
 use Rattle.wsn_rules.specs.Limits.{Limits, InRange}
+use Rattle.wsn_print.specs.declared.format.Format.{Format}
 use Rattle.wsn_job.specs.Jobs.{MayRun, job_role}
 use Rattle.wsn_job.specs.declared.job.Job.{Job}
 use Rattle.wsn_job.specs.declared.job.Job.TheVariants.{Judge, Frames, Normal, Plan, Recut, ShowStream, Closing, Show}
@@ -24,6 +25,26 @@ job_limits (Recut role limits how) = limits
 job_limits (ShowStream role limits style) = limits
 job_limits (Closing limits format) = limits
 job_limits (Show limits style) = limits
+
+-- the format of a job's answer; a stream or a plan that is written has none
+abbrev pub job_format : {A : Type 0} → Job A → Option Format
+job_format (Judge role limits format) = Some format
+job_format (Frames role limits format) = Some format
+job_format (Closing limits format) = Some format
+job_format (ShowStream role limits style) = Some style.format
+job_format (Show limits style) = Some style.format
+job_format job = None
+
+-- the name of a job's command
+abbrev pub job_name : {A : Type 0} → Job A → List ℕ
+job_name (Judge role limits format) = codes "judge"
+job_name (Frames role limits format) = codes "frames"
+job_name (Normal role limits) = codes "normal"
+job_name (Plan role limits) = codes "plan"
+job_name (Recut role limits how) = codes "recut"
+job_name (ShowStream role limits style) = codes "show"
+job_name (Closing limits format) = codes "closing"
+job_name (Show limits style) = codes "show"
 
 -- The side of a capture that is read, if one is, is the stream that the job reads.
 abbrev pub IsOwnSide : {A : Type 0} → Job A → Option Role → Type 0

@@ -1,10 +1,13 @@
-ghost use Rattle.std.specs.Prelude.{◌≡◌, ◌↔◌, Some, IfOk, IfSome, codes};
+ghost use Rattle.std.specs.Prelude.{◌≡◌, ◌↔◌, None, Some, IsSome, IfOk, IfSome, codes};
 ghost use Rattle.clap.specs.Words.{found_of, first_value, one_text};
+ghost use Rattle.wsn_wire.specs.declared.endpoint.Role.{Role};
 ghost use Rattle.wsn_wire.specs.declared.endpoint.Role.TheVariants.{Server};
 ghost use Rattle.wsn_wire.specs.declared.length_forms.Lengths.TheVariants.{Any};
+ghost use Rattle.wsn_print.specs.declared.format.Format.TheVariants as formats;
 ghost use Rattle.wsn_job.specs.Jobs.{MayRun, job_role};
+ghost use Rattle.wsn_job.specs.declared.job.Job.TheVariants.{Show, ShowStream};
 ghost use Rattle.wsn_cli.specs.Options.{IsAsked, IsAskedMaximum};
-ghost use Rattle.wsn_cli.specs.Requests.{AreAskedLimits, CanBeDone, job_limits};
+ghost use Rattle.wsn_cli.specs.Requests.{AreAskedLimits, CanBeDone, job_format, job_limits, job_name};
 
 use crate::error_words::shown_in_errors;
 use crate::escaped::Escaped;
@@ -216,6 +219,7 @@ fn refusal(alloc: Global, words: &[String]) -> Result<Usage, AllocError> {
 
 /// The job that a command's name and arguments ask for.
 fn job_of(name: &str, matches: &ArgMatches<'_>) -> Option<Job>
+    ensures command { IfSome result (λ job. job_name job ≡ name.now) }
     ensures may_run { IfSome result MayRun }
     ensures limits { IfSome result (λ job. AreAskedLimits (job_limits job)) }
     ensures message { IfSome result (λ job.
@@ -226,6 +230,10 @@ fn job_of(name: &str, matches: &ArgMatches<'_>) -> Option<Job>
         ↔ (first_value (found_of matches.now) (codes "lengths") ≡ Some (codes "any"))) }
     ensures role { IfSome result (λ job. IfSome (job_role job) (λ role. role ≡ Server
         ↔ (first_value (found_of matches.now) (codes "role") ≡ Some (codes "server")))) }
+    ensures text { (one_text (found_of matches.now) (codes "json") ≡ None)
+        → IfSome result (λ job. IfSome (job_format job) (λ format. format ≡ formats.Text)) }
+    ensures json { (one_text (found_of matches.now) (codes "json") ≡ Some (codes "true"))
+        → IfSome result (λ job. IfSome (job_format job) (λ format. format ≡ formats.Json)) }
 {
     let role = role_of(matches);
     let limits = limits_of(matches)?;
@@ -243,7 +251,9 @@ fn job_of(name: &str, matches: &ArgMatches<'_>) -> Option<Job>
 /// The job of `show`: over a capture, or over the stream of the endpoint that `--role` names.
 fn show_of(matches: &ArgMatches<'_>, limits: Limits, style: Style) -> Job
     ensures may_run { MayRun result }
-    ensures limits { job_limits result ≡ limits }
+    ensures capture { (first_value (found_of matches.now) (codes "role") ≡ None) → result ≡ Show limits style }
+    ensures stream { IsSome (first_value (found_of matches.now) (codes "role"))
+        → (role : Role) × (result ≡ ShowStream role limits style) }
     ensures role { IfSome (job_role result) (λ role. role ≡ Server
         ↔ (first_value (found_of matches.now) (codes "role") ≡ Some (codes "server"))) }
 {

@@ -1,3 +1,5 @@
+ghost use Rattle.std.specs.Prelude.{◌≡◌, None, Some};
+
 use std::fmt::{self, Display, Formatter};
 use wsn_hint::Hint;
 
@@ -11,7 +13,9 @@ pub struct ComparedHint {
 
 impl ComparedHint {
     /// What an input looks like: the second if `is_second`, else the first.
-    pub fn looks(is_second: bool, hint: Hint) -> Self {
+    pub fn looks(is_second: bool, hint: Hint) -> Self
+        ensures { result ≡ record { is_second = is_second; hint = Some hint } }
+    {
         ComparedHint {
             is_second,
             hint: Some(hint),
@@ -19,7 +23,9 @@ impl ComparedHint {
     }
 
     /// Which input has the line that is reported.
-    pub fn has_line(is_second: bool) -> Self {
+    pub fn has_line(is_second: bool) -> Self
+        ensures { result ≡ record { is_second = is_second; hint = None } }
+    {
         ComparedHint {
             is_second,
             hint: None,

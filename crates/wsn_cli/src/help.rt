@@ -189,6 +189,10 @@ completes, as the lines come; then closing's report:
   SIDE TIME OFFSET end
             the direction ended after OFFSET bytes
   # TEXT    a comment
+  ended-by V
+            before the report, if a direction ended without a Close: V, client
+            or server, ended first; then reset, if a comment '# reset by the V'
+            says so
     SIDE    C for the client, S for the server
     TIME    of the last comment '# SECONDS' before, such as # 0.001356; -
             without one, and for what is left over at the end
@@ -204,8 +208,8 @@ entry is of one; \"truncated\":true if bytes are left out:
   {\"type\":\"event\",\"line\":1,\"side\":\"client\",\"time\":0.001356,\"offset\":0,
   \"event\":\"text\",\"bytes\":5,\"frames\":1,\"text\":\"Hello\"}
 \"hex\" is in place of \"text\" for other bytes; a Close has \"code\" and \"reason\".
-The other types are refused, unfinished, unread, tail, end, comment and report,
-with --wire also frame.
+The other types are refused, unfinished, unread, tail, end, comment, ended-by
+(with side and reset) and report, with --wire also frame.
 
 Example: a client says \"Hello\" in two frames, and sends half a ping
   $ printf 'C 01830000000048656c\\nC 8082000000006c6f89\\n' | wsn show | head -n 2

@@ -1,6 +1,14 @@
+ghost use Rattle.std.specs.Prelude.{◌≡◌, ◌↔◌, ◌⊎◌, IsTrue, None, Some, IfSome, IsSome, List, ℕ, take, if◌then◌else◌};
+ghost use Rattle.wsn_print.specs.declared.format.Format.TheVariants.{Json};
+ghost use Rattle.wsn_rules.specs.Limits.{Limits};
+ghost use Rattle.wsn_hint.specs.Hints.{Fits};
+ghost use Rattle.wsn_hint.specs.SideHints.{FitsSides};
+ghost use Rattle.wsn_job.specs.Jobs.{job_role};
+ghost use Rattle.wsn_cli.specs.Requests.{job_format, job_limits};
+
 use crate::compared_hint::ComparedHint;
 use std::alloc::Allocator;
-use wsn_hint::{Hint, capture_hint_of, hint_of, sides_hint_of};
+use wsn_hint::{Hint, after_close_hint_of, capture_hint_of, hint_of, sides_hint_of};
 use wsn_job::{Comparison, Job};
 use wsn_print::Format;
 use wsn_rules::Limits;
@@ -20,47 +28,92 @@ const MARK: usize = 16;
 /// it read, if it read one.
 ///
 /// A stream may have one if it has a verdict; a capture if a line of it isn't accepted, if a side that is read is
-/// refused, or if it is empty. A job that prints JSON has none.
+/// refused, if it is empty, or if `closing` reads it and bytes follow a Close. A job that prints JSON has none.
 pub fn hint_on_run<A: Allocator>(
     job: &Job<A>,
     side: Option<Role>,
     first: &[u8],
     status: u8,
     said: &[u8],
-) -> Option<Hint> {
+) -> Option<Hint>
+    ensures json { job_format job.now ≡ Some Json → result ≡ None }
+    ensures stream { side ≡ None → IsSome (job_role job.now)
+        → IfSome result (Fits (job_limits job.now) (take 16 first.now)) }
+    ensures fits { IfSome result (λ hint. Fits (job_limits job.now) (take 16 first.now) hint
+        ⊎ FitsSides side (job_limits job.now) first.now hint) }
+{
     if is_json(job) {
         return None;
     }
     if side.is_some() || job.role().is_none() {
-        return hint_on_capture(side, limits_of(job), first, status, said);
+        return hint_on_capture(job, side, first, status, said);
     }
+    hint_on_stream(job, job.role()?, first, status)
+}
+
+/// The hint on a job's run over the stream that `role` sent.
+fn hint_on_stream<A: Allocator>(job: &Job<A>, role: Role, first: &[u8], status: u8) -> Option<Hint>
+    ensures { IfSome result (Fits (job_limits job.now) (take 16 first.now)) }
+{
     if status == FAULT {
         return None;
     }
-    let hint = hint_of(mark_of(first), job.role()?, limits_of(job))?;
+    let hint = hint_of(mark_of(first), role, limits_of(job))?;
     Some(suited_to(job, hint))
 }
 
-/// The hint on a run over a capture. `side` is the side that was read, or `None` for both.
-fn hint_on_capture(
+/// The hint on a job's run over a capture. `side` is the side that was read, or `None` for both.
+fn hint_on_capture<A: Allocator>(
+    job: &Job<A>,
     side: Option<Role>,
-    limits: Limits,
     first: &[u8],
     status: u8,
     said: &[u8],
-) -> Option<Hint> {
+) -> Option<Hint>
+    ensures { IfSome result (λ hint. Fits (job_limits job.now) (take 16 first.now) hint
+        ⊎ FitsSides side (job_limits job.now) first.now hint) }
+{
     if is_faulty_line(said) {
-        return capture_hint_of(mark_of(first));
+        capture_hint_of(mark_of(first))
+    } else {
+        hint_on_lines(job, side, first, status)
     }
-    match status {
+}
+
+/// The hint on a job's run over a capture whose lines are accepted.
+fn hint_on_lines<A: Allocator>(
+    job: &Job<A>,
+    side: Option<Role>,
+    first: &[u8],
+    status: u8,
+) -> Option<Hint>
+    ensures { IfSome result (FitsSides side (job_limits job.now) first.now) }
+{
+    let hint = match status {
         ACCEPTED if !first.is_empty() => None,
-        FAULT => None,
-        _ => sides_hint_of(first, side, limits),
+        FAULT => return None,
+        _ => sides_hint_of(first, side, limits_of(job)),
+    };
+    match hint {
+        Some(hint) => Some(hint),
+        None => unlisted_hint(job, side, first),
+    }
+}
+
+/// The hint at bytes after a Close, for `closing`, which doesn't list them.
+fn unlisted_hint<A: Allocator>(job: &Job<A>, side: Option<Role>, first: &[u8]) -> Option<Hint>
+    ensures { IfSome result (FitsSides side (job_limits job.now) first.now) }
+{
+    match (job, side) {
+        (Job::Closing(limits, _), None) => after_close_hint_of(first, *limits),
+        _ => None,
     }
 }
 
 /// The bytes by which a file's format is known.
-fn mark_of(first: &[u8]) -> &[u8] {
+fn mark_of(first: &[u8]) -> &[u8]
+    ensures { result.now ≡ take 16 first.now }
+{
     &first[..first.len().min(MARK)]
 }
 
@@ -71,7 +124,11 @@ pub fn hint_on_streams(
     first: &[u8],
     second: &[u8],
     status: u8,
-) -> Option<ComparedHint> {
+) -> Option<ComparedHint>
+    ensures json { comparison.format ≡ Json → result ≡ None }
+    ensures fits { IfSome result (λ compared. IfSome compared.hint
+        (Fits comparison.limits (if compared.is_second then second.now else first.now))) }
+{
     if status == FAULT || comparison.format == Format::Json {
         return None;
     }
@@ -91,7 +148,11 @@ pub fn hint_on_sides(
     failed: &[u8],
     is_second: bool,
     said: &[u8],
-) -> Option<ComparedHint> {
+) -> Option<ComparedHint>
+    ensures json { comparison.format ≡ Json → result ≡ None }
+    ensures input { IfSome result (λ compared. compared.is_second ≡ is_second) }
+    ensures fits { IfSome result (λ compared. IfSome compared.hint (Fits comparison.limits failed.now)) }
+{
     if comparison.format == Format::Json || !is_faulty_line(said) {
         return None;
     }
@@ -107,7 +168,9 @@ fn is_faulty_line(said: &[u8]) -> bool {
 }
 
 /// The limits under which the job reads its input.
-fn limits_of<A: Allocator>(job: &Job<A>) -> Limits {
+fn limits_of<A: Allocator>(job: &Job<A>) -> Limits
+    ensures { result ≡ job_limits job.now }
+{
     match job {
         Job::Judge(_, limits, _)
         | Job::Frames(_, limits, _)
@@ -121,7 +184,9 @@ fn limits_of<A: Allocator>(job: &Job<A>) -> Limits {
 }
 
 /// The hint in the words of the job's command: `show` reads a capture without `--role`.
-fn suited_to<A: Allocator>(job: &Job<A>, hint: Hint) -> Hint {
+fn suited_to<A: Allocator>(job: &Job<A>, hint: Hint) -> Hint
+    ensures { (limits : Limits) (bytes : List ℕ) → Fits limits bytes hint → Fits limits bytes result }
+{
     match (job, hint) {
         (Job::ShowStream(_, _, _), Hint::Capture) => Hint::CaptureToShow,
         _ => hint,
@@ -129,7 +194,9 @@ fn suited_to<A: Allocator>(job: &Job<A>, hint: Hint) -> Hint {
 }
 
 /// Whether the job prints JSON.
-fn is_json<A: Allocator>(job: &Job<A>) -> bool {
+fn is_json<A: Allocator>(job: &Job<A>) -> bool
+    ensures { IsTrue result ↔ (job_format job.now ≡ Some Json) }
+{
     let format = match job {
         Job::Judge(_, _, format) | Job::Frames(_, _, format) | Job::Closing(_, format) => *format,
         Job::ShowStream(_, _, style) | Job::Show(_, style) => style.format,

@@ -1,11 +1,11 @@
-ghost use Rattle.std.specs.Prelude.{◌≡◌, ◌↔◌, None, Some, IfOk, IfSome, false, codes};
+ghost use Rattle.std.specs.Prelude.{◌≡◌, ◌↔◌, None, Some, IfOk, IfSome, codes};
 ghost use Rattle.clap.specs.Words.{found_of, first_value, matched_of, one_text};
 ghost use Rattle.wsn_wire.specs.declared.endpoint.Role.TheVariants.{Server};
 ghost use Rattle.wsn_wire.specs.declared.length_forms.Lengths.TheVariants.{Any};
 ghost use Rattle.wsn_rules.specs.declared.detail.Detail.TheVariants.{Events, Frames};
 ghost use Rattle.wsn_print.specs.declared.format.Format.TheVariants as formats;
 ghost use Rattle.wsn_cli.specs.Inputs.{IsInputNamed};
-ghost use Rattle.wsn_cli.specs.Options.{IsAsked, IsAskedMaximum};
+ghost use Rattle.wsn_cli.specs.Options.{AreLeftOut, IsAsked, IsAskedMaximum, words_of};
 ghost use Rattle.wsn_cli.specs.Requests.{AreAskedLimits};
 
 use crate::mistake::Mistake;
@@ -158,7 +158,9 @@ pub fn file_of(
 /// The side of a capture that is read, from `--capture`: that of the endpoint that sent the stream. `None` if the input
 /// is no capture.
 pub fn side_of(matches: &ArgMatches<'_>, role: Role) -> Option<Role>
-    ensures { IfSome result (λ side. side ≡ role) }
+    ensures own { IfSome result (λ side. side ≡ role) }
+    ensures stream { (one_text (found_of matches.now) (codes "capture") ≡ None) → result ≡ None }
+    ensures capture { (one_text (found_of matches.now) (codes "capture") ≡ Some (codes "true")) → result ≡ Some role }
 {
     matches.get_flag("capture").then_some(role)
 }
@@ -210,8 +212,7 @@ fn number_of(matches: &ArgMatches<'_>, name: &str) -> Option<Option<u32>>
 
 /// The controls that a comparison leaves out, from `--without`.
 pub fn without_of(matches: &ArgMatches<'_>) -> Without
-    ensures { (matched_of (found_of matches.now) (codes "without") ≡ None)
-        → (result ≡ record { ping = false; pong = false; close = false }) }
+    ensures { AreLeftOut (words_of (matched_of (found_of matches.now) (codes "without"))) result }
 {
     let Some(kinds) = matches.get_strs("without") else {
         return Without {
@@ -291,6 +292,8 @@ pub fn comparison_of(matches: &ArgMatches<'_>) -> Option<Comparison>
         → IfSome result (λ comparison. comparison.format ≡ formats.Json) }
     ensures view { IfSome result (λ comparison.
         IsAskedMaximum (one_text (found_of matches.now) (codes "view")) comparison.view) }
+    ensures without { IfSome result (λ comparison.
+        AreLeftOut (words_of (matched_of (found_of matches.now) (codes "without"))) comparison.without) }
 {
     let limits = limits_of(matches)?;
     let view = match view_of(matches)? {

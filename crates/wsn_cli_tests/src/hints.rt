@@ -4,8 +4,9 @@ use std::alloc::Global;
 use std::io::Read;
 use std::process::Abort;
 use wsn_cli::{
-    CaptureStart, ComparedHint, Comparison, Format, Hint, Job, Without, capture_hint_of, hint_of,
-    hint_on_run, hint_on_sides, hint_on_streams, plan_hint_of, sides_hint_of,
+    CaptureStart, ComparedHint, Comparison, Format, Hint, Job, Without, after_close_hint_of,
+    capture_hint_of, hint_of, hint_on_run, hint_on_sides, hint_on_streams, plan_hint_of,
+    sides_hint_of,
 };
 use wsn_print::ViewLimit;
 use wsn_rules::{Detail, INPUT_MAX, Limits, MESSAGE_MAX};
@@ -130,13 +131,17 @@ fn other_texts_are_no_bytes_of_an_endpoint(rt: HostRuntime) {
                 "{text}"
             );
         }
-        let expected = text.starts_with("{").then_some(Hint::Json);
-        assert_eq!(rt; capture_hint_of(text.as_bytes()), expected);
+        let expected = match text.bytes().next() {
+            Some(b'#' | b'\r') => None,
+            Some(b'{') => Some(Hint::Json),
+            _ => Some(Hint::OtherText),
+        };
+        assert_eq!(rt; capture_hint_of(text.as_bytes()), expected, "{text}");
     }
 }
 
 /// First lines that are nearly lines of a capture, and lines that are, or are wrong in another way.
-static LINES: [(&str, Option<Hint>); 14] = [
+static LINES: [(&str, Option<Hint>); 15] = [
     ("{\"log\": {\"version", Some(Hint::Json)),
     ("{\n  \"log\": {\n", Some(Hint::Json)),
     ("c 818537fa213d7f", Some(Hint::SmallLetters)),
@@ -150,7 +155,8 @@ static LINES: [(&str, Option<Hint>); 14] = [
     ("S 8900\nC 81 85", None),
     ("C 0x8185\n", None),
     ("C 818\n", None),
-    ("client 8185\n", None),
+    ("c 8", Some(Hint::SmallLetters)),
+    ("client 8185\n", Some(Hint::OtherText)),
 ];
 
 #[test]
@@ -169,8 +175,26 @@ fn what_may_be_no_text_has_no_hint(rt: HostRuntime) {
         for role in [Role::Client, Role::Server] {
             assert_eq!(rt; of_stream(&rt, text.as_bytes(), role), None, "{text}");
         }
-        assert_eq!(rt; capture_hint_of(text.as_bytes()), None);
+        let expected = text.ends_with("\0").then_some(Hint::Binary);
+        assert_eq!(rt; capture_hint_of(text.as_bytes()), expected, "{text}");
     }
+}
+
+/// Files that are no text: a program (ELF), an archive (zip), a text in UTF-16.
+static BINARIES: [&[u8]; 3] = [
+    &[0x7f, 0x45, 0x4c, 0x46, 2, 1, 1, 0, 0, 0, 0, 0, 0, 0, 0, 0],
+    &[0x50, 0x4b, 3, 4, 0x14, 0, 0, 0, 8, 0],
+    &[0xff, 0xfe, 0x43, 0, 0x20, 0, 0x38, 0],
+];
+
+#[test]
+fn a_file_that_is_no_text_has_a_hint_where_a_capture_is_read(rt: HostRuntime) {
+    for first in BINARIES.iter() {
+        assert_eq!(rt; capture_hint_of(first), Some(Hint::Binary));
+        assert_eq!(rt; of_stream(&rt, first, Role::Server), None);
+    }
+    assert_eq!(rt; capture_hint_of(&[0x43, 0x20, 0, 0]), None);
+    assert_eq!(rt; capture_hint_of(&[0x23, 0, 0, 0]), None);
 }
 
 /// Heads of frames: what the client's stream has for a hint, and what the server's.
@@ -340,6 +364,49 @@ fn a_line_that_is_cut_hides_no_refusal_before_it(rt: HostRuntime) {
         Some(Hint::MaybeCompressed)
     );
     assert_eq!(rt; of_sides(&rt, "S 8900\nS c107f", None), None);
+}
+
+/// Bytes after a Close: of the server, of the client, of both, of none; and bytes after a Close that isn't whole.
+static AFTER: [(&str, Option<Hint>); 6] = [
+    ("S 88008900\n", Some(Hint::AfterClose(Role::Server))),
+    (
+        "C 888000000000\nS 8800\nC 00\n",
+        Some(Hint::AfterClose(Role::Client)),
+    ),
+    (
+        "S 880000\nC 88800000000000\n",
+        Some(Hint::AfterClose(Role::Client)),
+    ),
+    ("C 888000000000\nS 8800\nS.\nC.\n", None),
+    ("S 88028900\n", None),
+    ("# no bytes\n", None),
+];
+
+/// Only `closing` has a hint that says so: `show` lists the bytes, and `judge` counts them.
+#[test]
+fn bytes_after_a_close_have_a_hint_in_a_report(rt: HostRuntime) {
+    let greatest = limits(&rt, MESSAGE_MAX);
+    let closing: Job = Job::Closing(greatest, Format::Text);
+    let json: Job = Job::Closing(greatest, Format::Json);
+    let judge: Job = Job::Judge(Role::Server, greatest, Format::Text);
+    for row in AFTER.iter() {
+        let first = row.0.as_bytes();
+        assert_eq!(rt; after_close_hint_of(first, greatest), row.1, "{}", row.0);
+        for status in [0, 1] {
+            assert_eq!(rt; hint_on_run(&closing, None, first, status, &[]), row.1);
+            assert_eq!(rt; hint_on_run(&json, None, first, status, &[]), None);
+        }
+        assert_eq!(rt;
+            hint_on_run(&judge, Some(Role::Server), first, 0, &[]),
+            None
+        );
+        assert_eq!(rt; hint_on_run(&closing, None, first, 2, &[]), None);
+    }
+    let refused = "C 88800000000000\nS c107f248cdc9c90700\n".as_bytes();
+    assert_eq!(rt;
+        hint_on_run(&closing, None, refused, 1, &[]),
+        Some(Hint::MaybeCompressed)
+    );
 }
 
 /// What is read through it is unchanged, and the first 65,536 bytes of it are kept.

@@ -69,10 +69,10 @@ module _ {A : Type 0} (role : Role) (limits : Limits) where
   pending_done : (reading : EventReader A) (answer : Result Verdict Stop) → answered reading ≡ Some answer → pending reading ≡ 0
   pending_done reading answer done = ap (λ (a : Option (Result Verdict Stop)). rounds_left a (readings_left reading)) done
 
-  -- at most two rounds for each byte of the input limit
+  -- at most a round for each byte of the input limit, and one for the verdict
   pub few_rounds : (reading : EventReader A) → HasGiven role limits reading [] [] → pending reading ≤ 2 ^ 41 + 2
   few_rounds reading has =
-      omega (arith, pending_going reading has.going, left_few role limits reading.reader [] has.done has.at has.has_reported, has.has_reported.has_scanned.has_consumed.in_range.input)
+      omega (arith, pending_going reading has.going, left_few role limits reading.reader [] has.frames has.position has.has_taken, has.has_taken.has_scanned.has_consumed.in_range.input)
 
   falls : (before reading : EventReader A) (given events : List MeantEvent) (turn : MeantTurn)
       → Gives before reading given events turn → pending reading + falls_by turn ≤ pending before

@@ -10,14 +10,16 @@ use Rattle.wsn_rules.specs.Limits.{Limits}
 use Rattle.wsn_rules.specs.LeftOut.{is_left_out, events_without}
 use Rattle.wsn_rules.specs.Meaning.{MeantEvent}
 use Rattle.wsn_events.specs.declared.event_reader.EventReader.{EventReader}
-use Rattle.wsn_events.specs.declared.source.Next.{Next}
 use Rattle.wsn_events.specs.declared.source.Next.TheVariants as nexts
+use Rattle.wsn_events.specs.declared.turn.Turn.{Turn}
+use Rattle.wsn_events.specs.declared.turn.Turn.TheVariants.{Lent, Own}
 use Rattle.wsn_events.specs.EventsMeant.{meant}
 use Rattle.wsn_events.specs.Sources.{IsLast}
-use Rattle.wsn_events.specs.EventReaders.{HasGiven, HasBegunOrEnded, IsNextEvent, IsEvent, answered, offset_of, frames_of, readings_left}
-use Rattle.wsn_events.specs.LeavingOut.{is_next_left_out, GoesOnWithout, ReadsNext}
+use Rattle.wsn_events.specs.EventReaders.{HasGiven, HasBegunOrEnded, answered, offset_of, frames_of, readings_left}
+use Rattle.wsn_events.specs.LeavingOut.{is_turn_left_out, TakesTurnWithout, ReadsTurn}
+use Rattle.wsn_events.specs.LentMessages.{lent_message}
 use Rattle.wsn_events.specs.Comparing.{HasStopped}
-use Rattle.wsn_events.specs.Turns.{MeantTurn, OfEvent, OfVerdict, IsLawfulTurn, meant_next}
+use Rattle.wsn_events.specs.Turns.{MeantTurn, OfEvent, OfVerdict, IsLawfulTurn, IsNextTurn, GivesEvent, meant_turn}
 use Rattle.wsn_events.proofs.GivenSoFar.{begun_sound}
 use Rattle.wsn_events.proofs.LeftOut.{passed_over, one_more}
 use Rattle.wsn_events.proofs.StandingEvents.{StandsAt, given_stands}
@@ -81,36 +83,64 @@ module _ (without : Without) (role : Role) (limits : Limits) where
   ]
 
   -- One call of a source.
-  module _ {A : Type 0} (old mid new : Incoming) (before reading : EventReader A) (came : List ℕ) (given : List MeantEvent) (result : Result (Next A) Stop)
-      (followed : HasFollowed role limits old mid before came given) (reads : ReadsNext without mid new before reading result) where
-    next : HasGiven role limits before came given → GoesOnWithout without role limits mid new reading came given result
+  module _ {A : Type 0} (old mid new : Incoming) (before reading : EventReader A) (came : List ℕ) (given : List MeantEvent) (result : Result (Turn A) Stop)
+      (followed : HasFollowed role limits old mid before came given) (reads : ReadsTurn without mid new before reading result) where
+    next : HasGiven role limits before came given → TakesTurnWithout without role limits mid new reading came given result
     next = reads.next role limits came given
 
-    received : (went : GoesOnWithout without role limits mid new reading came given result) → IsReceived (limits.input + 1) old new (came ++ went.goes_on.more)
-    received went = received_on (limits.input + 1) old mid new came went.goes_on.more followed.received went.goes_on.consumed went.goes_on.few
+    received : (went : TakesTurnWithout without role limits mid new reading came given result) → IsReceived (limits.input + 1) old new (came ++ went.takes.more)
+    received went = received_on (limits.input + 1) old mid new came went.takes.more followed.received went.takes.consumed went.takes.few
 
-    goes_on : HasGiven role limits before came given → (n : Next A) → result ≡ Ok n → HasGivenNext without role limits old new before reading came given (meant_next n)
-    goes_on has (nexts.Event event) is =
+    goes_on : HasGiven role limits before came given → (turn : Turn A) → result ≡ Ok turn → HasGivenNext without role limits old new before reading came given (meant_turn reading turn)
+    goes_on has (Lent kind) is =
         let went = next has in
-        let now = subst (λ (r : Result (Next A) Stop). IsNextEvent role limits new reading (came ++ went.goes_on.more) (given ++ went.passed) r) is went.goes_on.next in
-        let kept : is_left_out without (meant event) ≡ false = subst (λ (r : Result (Next A) Stop). IfOk r (λ (n : Next A). is_next_left_out without n ≡ false)) is reads.not_left_out in
+        let now = subst (λ (r : Result (Turn A) Stop). IsNextTurn role limits new reading (came ++ went.takes.more) (given ++ went.passed) r) is went.takes.next in
+        let lends = now.0 in
+        let event = lent_message reading kind in
         record {
-          came = came ++ went.goes_on.more;
-          more = went.goes_on.more;
+          came = came ++ went.takes.more;
+          more = went.takes.more;
+          longer = refl;
+          events = (given ++ went.passed) ++ event ∷ [];
+          followed = record { received = received went; state = inl (lends.has, now.1) };
+          gives = (one_more without given went.passed event went.left_out refl, has.going, lends.has.going, reads.falls (subst (λ (r : Result (Turn A) Stop). GivesEvent r) (sym is) tt));
+          last = tt;
+          lawful = lends.lawful;
+          stands = record {
+            before = lends.before;
+            frame = lends.frame;
+            lawful = lends.are_lawful;
+            rest = lends.rest;
+            whole = lends.whole;
+            final = lends.final;
+            index = sym (ap (λ (es : List MeantEvent). length es) (passed_over without given went.passed went.left_out)) ∙ ap (λ (es : List MeantEvent). length (events_without without es)) lends.first;
+            kept = refl;
+            is = lends.ended;
+            offset_is = lends.offset;
+            count_is = lends.count;
+          };
+        }
+    goes_on has (Own (nexts.Event event)) is =
+        let went = next has in
+        let now = subst (λ (r : Result (Turn A) Stop). IsNextTurn role limits new reading (came ++ went.takes.more) (given ++ went.passed) r) is went.takes.next in
+        let kept : is_left_out without (meant event) ≡ false = subst (λ (r : Result (Turn A) Stop). IfOk r (λ (turn : Turn A). is_turn_left_out without turn ≡ false)) is reads.not_left_out in
+        record {
+          came = came ++ went.takes.more;
+          more = went.takes.more;
           longer = refl;
           events = (given ++ went.passed) ++ meant event ∷ [];
           followed = record { received = received went; state = inl (now.0, now.2) };
-          gives = (one_more without given went.passed (meant event) went.left_out kept, has.going, now.0.going, reads.falls (subst (λ (r : Result (Next A) Stop). IsEvent r) (sym is) tt));
+          gives = (one_more without given went.passed (meant event) went.left_out kept, has.going, now.0.going, reads.falls (subst (λ (r : Result (Turn A) Stop). GivesEvent r) (sym is) tt));
           last = tt;
           lawful = now.1.lawful;
-          stands = given_stands without role limits reading (came ++ went.goes_on.more) given went.passed event now.1 went.left_out kept;
+          stands = given_stands without role limits reading (came ++ went.takes.more) given went.passed event now.1 went.left_out kept;
         }
-    goes_on has (nexts.Done verdict) is =
+    goes_on has (Own (nexts.Done verdict)) is =
         let went = next has in
-        let now = subst (λ (r : Result (Next A) Stop). IsNextEvent role limits new reading (came ++ went.goes_on.more) (given ++ went.passed) r) is went.goes_on.next in
+        let now = subst (λ (r : Result (Turn A) Stop). IsNextTurn role limits new reading (came ++ went.takes.more) (given ++ went.passed) r) is went.takes.next in
         record {
-          came = came ++ went.goes_on.more;
-          more = went.goes_on.more;
+          came = came ++ went.takes.more;
+          more = went.takes.more;
           longer = refl;
           events = given ++ went.passed;
           followed = record { received = received went; state = inr (verdict, (now.1, now.0)) };
@@ -125,13 +155,16 @@ module _ (without : Without) (role : Role) (limits : Limits) where
     same_state at now is_at is_now =
         subst (λ (i : Incoming). HasFollowed role limits old i at came given) (sym is_now) (subst (λ (r : EventReader A). HasFollowed role limits old mid r came given) (sym is_at) followed)
 
-    stays : (verdict : Verdict) → IsDone role limits mid before came given verdict → (n : Next A) → result ≡ Ok n → HasGivenNext without role limits old new before reading came given (meant_next n)
-    stays verdict done (nexts.Event event) is =
+    stays : (verdict : Verdict) → IsDone role limits mid before came given verdict → (turn : Turn A) → result ≡ Ok turn → HasGivenNext without role limits old new before reading came given (meant_turn reading turn)
+    stays verdict done (Lent kind) is =
         let reported = reads.again (Ok verdict) done.0 in
-        let both : Ok (nexts.Event event) ≡ Ok (nexts.Done verdict) = sym is ∙ reported.0 in absurd cc
-    stays verdict done (nexts.Done v) is =
+        let both : Ok (Lent kind) ≡ Ok (Own (nexts.Done verdict)) = sym is ∙ reported.0 in absurd cc
+    stays verdict done (Own (nexts.Event event)) is =
         let reported = reads.again (Ok verdict) done.0 in
-        let both : Ok (nexts.Done v) ≡ Ok (nexts.Done verdict) = sym is ∙ reported.0 in
+        let both : Ok (Own (nexts.Event event)) ≡ Ok (Own (nexts.Done verdict)) = sym is ∙ reported.0 in absurd cc
+    stays verdict done (Own (nexts.Done v)) is =
+        let reported = reads.again (Ok verdict) done.0 in
+        let both : Ok (Own (nexts.Done v)) ≡ Ok (Own (nexts.Done verdict)) = sym is ∙ reported.0 in
         let one : verdict ≡ v = cc in
         let answer : answered reading ≡ Some (Ok v) = ap (λ (r : EventReader A). answered r) reported.1 ∙ done.0 ∙ ap (λ (w : Verdict). Some (Ok w)) one in
         let last : IsLast role limits mid came given (Ok v) = subst (λ (w : Verdict). IsLast role limits mid came given (Ok w)) one done.1 in
@@ -147,8 +180,8 @@ module _ (without : Without) (role : Role) (limits : Limits) where
           stands = tt;
         }
 
-    pub gives_next : (n : Next A) → result ≡ Ok n → HasGivenNext without role limits old new before reading came given (meant_next n)
-    gives_next n is = elim followed.state [ inl going ↦ goes_on going.0 n is | inr done ↦ stays done.0 done.1 n is ]
+    pub gives_turn : (turn : Turn A) → result ≡ Ok turn → HasGivenNext without role limits old new before reading came given (meant_turn reading turn)
+    gives_turn turn is = elim followed.state [ inl going ↦ goes_on going.0 turn is | inr done ↦ stays done.0 done.1 turn is ]
 
     pub stops : (stop : Stop) → result ≡ Err stop → (all : List ℕ) × IsReceived (limits.input + 1) old new all × HasStopped role limits new all stop
     stops stop is = elim followed.state [ inl going ↦ halts going.0 | inr done ↦ never done.0 done.1 ]
@@ -156,10 +189,10 @@ module _ (without : Without) (role : Role) (limits : Limits) where
         halts : HasGiven role limits before came given → (all : List ℕ) × IsReceived (limits.input + 1) old new all × HasStopped role limits new all stop
         halts has =
             let went = next has in
-            let now = subst (λ (r : Result (Next A) Stop). IsNextEvent role limits new reading (came ++ went.goes_on.more) (given ++ went.passed) r) is went.goes_on.next in
-            (came ++ went.goes_on.more, received went, (given ++ went.passed, now.0))
+            let now = subst (λ (r : Result (Turn A) Stop). IsNextTurn role limits new reading (came ++ went.takes.more) (given ++ went.passed) r) is went.takes.next in
+            (came ++ went.takes.more, received went, (given ++ went.passed, now.0))
 
         never : (verdict : Verdict) → IsDone role limits mid before came given verdict → (all : List ℕ) × IsReceived (limits.input + 1) old new all × HasStopped role limits new all stop
         never verdict done =
             let reported = reads.again (Ok verdict) done.0 in
-            let both : Err stop ≡ Ok (nexts.Done verdict) = sym is ∙ reported.0 in absurd cc
+            let both : Err stop ≡ Ok (Own (nexts.Done verdict)) = sym is ∙ reported.0 in absurd cc

@@ -9,42 +9,42 @@ use Rattle.wsn_rules.specs.Meaning.{MeantEvent, events_after, meaning}
 use Rattle.wsn_rules.proofs.EveryInput.{has_verdict}
 use Rattle.wsn_rules.proofs.Groups.{meaning-append}
 use Rattle.wsn_rules.proofs.OneVerdict.{all_of_verdict, all_go_on}
-use Rattle.wsn_scan.specs.ReportedFrames.{Position, InFrame, IsBegunBy, IsReportedOf}
+use Rattle.wsn_scan.specs.Positions.{Position, InFrame, IsBegunBy, IsTakenOf}
 use Rattle.wsn_scan.proofs.ReaderReports.{payload_within}
 use Rattle.wsn_events.specs.declared.event_reader.EventReader.{EventReader}
 use Rattle.wsn_events.specs.EventReaders.{HasGiven, IsAtWork}
 use Rattle.wsn_events.specs.Sources.{AreFirstOf, HasDataPayload}
 
-positive : (xs : List ℕ) → xs ≢ [] → 0 < length xs
+pub positive : (xs : List ℕ) → xs ≢ [] → 0 < length xs
 positive [] some = absurd (some refl)
 positive (x ∷ xs) some = omega arith
 
-module _ (role : Role) (limits : Limits) (came : List ℕ) (done : List Frame) (at : Position) (has_reported : IsReportedOf role limits came done at) where
-  pub all_came : came ≡ stream done ++ (has_reported.rest ++ drop limits.input came)
-  all_came = sym (take-append-drop limits.input came) ∙ ap (λ (bs : List ℕ). bs ++ drop limits.input came) has_reported.whole ∙ append_assoc (stream done) has_reported.rest (drop limits.input came)
+module _ (role : Role) (limits : Limits) (came : List ℕ) (fs : List Frame) (at : Position) (is_taken : IsTakenOf role limits came fs at) where
+  pub all_came : came ≡ stream fs ++ (is_taken.rest ++ drop limits.input came)
+  all_came = sym (take-append-drop limits.input came) ∙ ap (λ (bs : List ℕ). bs ++ drop limits.input came) is_taken.whole ∙ append_assoc (stream fs) is_taken.rest (drop limits.input came)
 
   -- whatever follows, the events of these frames are a prefix of the meaning
-  pub given_first : (given : List MeantEvent) → given ≡ meaning done → AreFirstOf role limits (take limits.input came) given
+  pub given_first : (given : List MeantEvent) → given ≡ meaning fs → AreFirstOf role limits (take limits.input came) given
   given_first given events =
       let bytes = take limits.input came in
-      let in_bytes : IsBytes bytes = IsBytes-left bytes (drop limits.input came) (subst IsBytes (sym (take-append-drop limits.input came)) has_reported.in_bytes) in
-      let found = has_verdict role limits has_reported.in_range bytes in_bytes in
-      let on = all_go_on role limits bytes done found.frames has_reported.rest has_reported.lawful has_reported.whole (all_of_verdict role limits bytes found.frames found.verdict found.is) in
-      let means : meaning found.frames ≡ given ++ events_after done on.0 =
-      ap (λ (fs : List Frame). meaning fs) on.1 ∙ meaning-append done on.0 ∙ ap (λ (es : List MeantEvent). es ++ events_after done on.0) (sym events) in
-      (found.verdict, events_after done on.0, (found.frames, found.is, sym means))
+      let in_bytes : IsBytes bytes = IsBytes-left bytes (drop limits.input came) (subst IsBytes (sym (take-append-drop limits.input came)) is_taken.in_bytes) in
+      let found = has_verdict role limits is_taken.in_range bytes in_bytes in
+      let on = all_go_on role limits bytes fs found.frames is_taken.rest is_taken.lawful is_taken.whole (all_of_verdict role limits bytes found.frames found.verdict found.is) in
+      let means : meaning found.frames ≡ given ++ events_after fs on.0 =
+      ap (λ (gs : List Frame). meaning gs) on.1 ∙ meaning-append fs on.0 ∙ ap (λ (es : List MeantEvent). es ++ events_after fs on.0) (sym events) in
+      (found.verdict, events_after fs on.0, (found.frames, found.is, sym means))
 
   -- a payload byte of a data frame came within the limit
   pub data_came : (info : HeadInfo) (payload : List ℕ) → at ≡ InFrame info payload → payload ≢ [] → is_control info.op ≡ false → HasDataPayload role limits (take limits.input came)
   data_came info payload is some other =
-      let begun : IsBegunBy role limits done has_reported.rest (InFrame info payload) = subst (IsBegunBy role limits done has_reported.rest) is has_reported.begun in
+      let begun : IsBegunBy role limits fs is_taken.rest (InFrame info payload) = subst (IsBegunBy role limits fs is_taken.rest) is is_taken.begun in
       let begins = begun.2.0 in
       record {
-        frames = done;
-        lawful = has_reported.lawful;
+        frames = fs;
+        lawful = is_taken.lawful;
         no_close = begun.0;
-        rest = has_reported.rest;
-        whole = has_reported.whole;
+        rest = is_taken.rest;
+        whole = is_taken.whole;
         info = info;
         begins = begins;
         of_data = other;

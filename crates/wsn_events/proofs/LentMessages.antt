@@ -1,123 +1,232 @@
 -- A message that a source lends: the frame that its reader has taken, after frames that leave no message open.
-use Rattle.std.proofs.Common.{◌≡◌, ℕ, ◌+◌, ◌<◌, ◌^◌, Bool, false, cond, not, Option, None, Some, IfSome, IfNone, List, [], ◌∷◌, ◌++◌, length, drop, inl, inr, sym, ap, ◌∙◌, subst, append-nil, arith}
+use Rattle.std.specs.Prelude.{◌↔◌}
+use Rattle.std.proofs.Common.{◌≡◌, ◌≢◌, ℕ, Bool, true, false, cond, not, None, Some, Ok, Err, List, [], ◌∷◌, ◌++◌, length, drop, refl, sym, ap, ◌∙◌, subst, append-nil, arith}
 use Rattle.std.proofs.lemmas.Bool.{cond-false}
 use Rattle.wsn_wire.specs.declared.endpoint.Role.{Role}
 use Rattle.wsn_wire.specs.declared.opcode.Kind.{Kind}
+use Rattle.wsn_wire.specs.declared.opcode.Kind.TheVariants.{Text, Binary}
 use Rattle.wsn_wire.specs.declared.opcode.Op.{Op}
 use Rattle.wsn_wire.specs.declared.opcode.Op.TheVariants.{Continue}
 use Rattle.wsn_wire.specs.Frame.{Frame, is_control, stream}
+use Rattle.wsn_io.specs.Transfer.{Incoming}
+use Rattle.wsn_io.specs.declared.stop.Stop.TheVariants as stops
+use Rattle.wsn_rules.specs.declared.head_info.HeadInfo.{HeadInfo}
 use Rattle.wsn_rules.specs.Group.{unfinished, kind_at, kind_of, payload_of}
 use Rattle.wsn_rules.specs.Lawful.{LawAt}
 use Rattle.wsn_rules.specs.LawfulEvents.{IsLawfulEvent}
 use Rattle.wsn_rules.specs.Limits.{Limits}
-use Rattle.wsn_rules.specs.Meaning.{MeantEvent, Message, event_at, meaning}
+use Rattle.wsn_rules.specs.Meaning.{MeantEvent, Message, Control, event_at, meaning}
+use Rattle.wsn_rules.specs.NormalForm.{op_of}
 use Rattle.wsn_rules.specs.ShownStream.{open_offset, event_offset, event_frames}
-use Rattle.wsn_rules.proofs.Groups.{meaning_push, data_kind}
+use Rattle.wsn_rules.proofs.Groups.{meaning_push, data_kind, group_of_lawful, unfinished_final}
 use Rattle.wsn_rules.proofs.LawfulLists.{law_at_split}
-use Rattle.wsn_rules.proofs.LawfulMeaning.{lawful_event, event_of_data}
+use Rattle.wsn_rules.proofs.LawfulMeaning.{lawful_event, event_of_data, event_of_control}
 use Rattle.wsn_rules.proofs.OpenOffsets.{offset_of_none}
-use Rattle.wsn_scan.specs.declared.notice_reader.NoticeReader.{NoticeReader}
-use Rattle.wsn_scan.specs.ReportedEvents.{ReportsMessage}
-use Rattle.wsn_scan.specs.ReportedFrames.{BetweenFrames, IsReportedOf}
+use Rattle.wsn_scan.specs.declared.frame_reader.FrameReader.{FrameReader}
+use Rattle.wsn_scan.specs.declared.part.Part.{Part}
+use Rattle.wsn_scan.specs.FrameReaders.{HasTaken, held_payload}
+use Rattle.wsn_scan.specs.Parts.{IsPartAt}
+use Rattle.wsn_scan.specs.Positions.{Position, BetweenFrames, InFrame, IsTakenOf}
+use Rattle.wsn_scan.specs.ReadParts.{TakesPart}
 use Rattle.wsn_scan.proofs.ReaderReports.{reported_of}
+use Rattle.wsn_events.specs.declared.event.Event.{Event}
 use Rattle.wsn_events.specs.declared.event_reader.EventReader.{EventReader}
 use Rattle.wsn_events.specs.declared.reassembly.Reassembly.{Reassembly}
-use Rattle.wsn_events.specs.EventReaders.{HasGiven, IsAtWork, offset_of, frames_of}
-use Rattle.wsn_events.specs.LentMessages.{LendsMessage, lent_message}
-use Rattle.wsn_events.specs.Reassembly.{HasBegun, IsReassembled, IsBetweenFrames, IsInFrame}
-use Rattle.wsn_events.proofs.GivenSoFar.{all_came, begun_sound}
-use Rattle.wsn_events.proofs.ReassembledFrames.{message_ended}
+use Rattle.wsn_events.specs.declared.source.Next.TheVariants as nexts
+use Rattle.wsn_events.specs.EventsMeant.{meant}
+use Rattle.wsn_events.specs.EventReaders.{HasGiven, IsGiven, IsNextEvent, answered, held_of, offset_of, frames_of}
+use Rattle.wsn_events.specs.LentMessages.{IsWholeMessage, LendsMessage, lent_message}
+use Rattle.wsn_events.specs.Reassembly.{HasBegun, IsReassembled, IsBetweenFrames, IsInFrame, IsPlacedAt, offset_given, frames_given}
+use Rattle.wsn_events.specs.TakenEvents.{held_bytes}
+use Rattle.wsn_events.proofs.GivenSoFar.{all_came, given_first}
+use Rattle.wsn_events.proofs.ReassembledFrames.{message_ended, reassembled_alike}
+use Rattle.wsn_events.proofs.TakenParts.{ended_by, data_of_frame, before_frame}
 
-module _ {A : Type 0} (role : Role) (limits : Limits) (reading : EventReader A) (reader : NoticeReader) (g : Reassembly A) (op : Op) (place : ℕ) (came : List ℕ) (given : List MeantEvent) (has : HasGiven role limits reading came given)
-    (took : ReportsMessage role limits reader came has.done has.at op place)
-    (begin : (done : List Frame) → length (unfinished done) + 1 < 2 ^ 64 → place ≡ length (stream done) → IsBetweenFrames reading.reassembly done → IsInFrame g done op []) where
-  abbrev done : List Frame
-  done = has.done
+-- The source gives the event of this frame.
+pub given_event : {A : Type 0} (role : Role) (limits : Limits) (reading : EventReader A) (came : List ℕ) (given : List MeantEvent) (event : Event A) (fs : List Frame) (frame : Frame) → IsTakenOf role limits came (fs ++ frame ∷ []) BetweenFrames
+    → frame.fin ≡ true → meant event ≡ event_at fs frame → given ++ meant event ∷ [] ≡ meaning (fs ++ frame ∷ []) → IsBetweenFrames reading.reassembly (fs ++ frame ∷ []) → IsPlacedAt reading.reassembly fs frame → IsGiven role limits reading came given event
+given_event role limits reading came given event fs frame taken final ended means between placed =
+    let held : held_of reading ≡ length (payload_of (unfinished (fs ++ frame ∷ []))) = ap (λ (bs : List ℕ). length bs) between.message in
+    record {
+      lawful = subst IsLawfulEvent (sym ended) (lawful_event role limits fs frame taken.in_range taken.lawful final);
+      frames = fs ++ frame ∷ [];
+      are_lawful = taken.lawful;
+      rest = taken.rest ++ drop limits.input came;
+      whole = all_came role limits came (fs ++ frame ∷ []) BetweenFrames taken;
+      ends = record { before = fs; frame = frame; last = refl; final = final; ended = ended };
+      offset = placed.offset;
+      count = placed.count;
+      last = means;
+      first = given_first role limits came (fs ++ frame ∷ []) BetweenFrames taken (given ++ meant event ∷ []) means;
+      held = held;
+      within = let within = (group_of_lawful role limits (fs ++ frame ∷ []) taken.lawful).size in omega (arith, held, within);
+    }
 
-  abbrev frame : Frame
-  frame = took.frame
+of_op : (kind : Kind) (op : Op) → op ≡ op_of kind → (is_control op ≡ false) × (op ≡ Continue → ⊥)
+of_op Text op is = (ap is_control is, λ other. cc)
+of_op Binary op is = (ap is_control is, λ other. cc)
 
+-- a frame that continues no message comes after no open message
+none_open : (fs : List Frame) (op : Op) → ((op ≡ Continue) ↔ (unfinished fs ≢ [])) → (op ≡ Continue → ⊥) → unfinished fs ≡ []
+none_open fs op continues other = by (unfinished fs) refl
+  where
+    by : (group : List Frame) → unfinished fs ≡ group → unfinished fs ≡ []
+    by [] none = none
+    by (h ∷ hs) some = absurd (other (continues.1 (λ none. let both : h ∷ hs ≡ [] = sym some ∙ none in cc)))
+
+module _ {A : Type 0} (role : Role) (limits : Limits) (reading : EventReader A) (reader : FrameReader) (g : Reassembly A) (kind : Kind) (came : List ℕ) (given : List MeantEvent) (fs : List Frame) (frame : Frame)
+    (events : given ≡ meaning fs) (going : reading.answer ≡ None) (has_taken : HasTaken role limits reader came (fs ++ frame ∷ []) BetweenFrames) (taken : IsTakenOf role limits came (fs ++ frame ∷ []) BetweenFrames)
+    (final : frame.fin ≡ true) (op_is : frame.op ≡ op_of kind) (within : IsInFrame g fs frame.op []) (payload_is : held_payload reader ≡ frame.payload) where
   abbrev new : EventReader A
   new = record { reader = reader; reassembly = g; answer = reading.answer }
 
-  reported : IsReportedOf role limits came (done ++ frame ∷ []) BetweenFrames
-  reported = reported_of role limits reader came (done ++ frame ∷ []) BetweenFrames took.has_reported
-
   of_data : is_control frame.op ≡ false
-  of_data = ap is_control took.op_is ∙ took.of_data
+  of_data = (of_op kind frame.op op_is).0
 
-  begins : frame.op ≡ Continue → ⊥
-  begins is =
-      let law : LawAt role limits done frame = law_at_split role limits done frame [] reported.lawful in
-      (law.group (ap not of_data)).continues.0 is took.none_before
+  none_before : unfinished fs ≡ []
+  none_before =
+      let law : LawAt role limits fs frame = law_at_split role limits fs frame [] taken.lawful in
+      none_open fs frame.op (law.group (ap not of_data)).continues (of_op kind frame.op op_is).1
 
-  within : IsInFrame g done op []
-  within =
-      let was : IsBetweenFrames reading.reassembly done = subst (IsReassembled reading.reassembly done) took.between has.reassembly in
-      begin done (omega (arith, ap (λ (fs : List Frame). length fs) took.none_before)) took.place_is was
+  kind_is : kind ≡ kind_at frame.op
+  kind_is = by kind op_is
+    where
+      by : (k : Kind) → frame.op ≡ op_of k → k ≡ kind_at frame.op
+      by Text is = sym (ap kind_at is)
+      by Binary is = sym (ap kind_at is)
 
-  kind_is : g.kind ≡ kind_at frame.op
-  kind_is = elim (data_kind frame.op (ap not of_data) begins) [
-    | inl text ↦ within.text (sym took.op_is ∙ text) ∙ sym (ap kind_at text)
-    | inr binary ↦ within.binary (sym took.op_is ∙ binary) ∙ sym (ap kind_at binary)
-  ]
+  begun : HasBegun g (length (stream fs)) 1
+  begun = within.first (data_kind frame.op (ap not of_data) (of_op kind frame.op op_is).1)
 
-  begun : HasBegun g (length (stream done)) 1
-  begun = elim (data_kind frame.op (ap not of_data) begins) [
-    | inl text ↦ within.first (inl (sym took.op_is ∙ text))
-    | inr binary ↦ within.first (inr (sym took.op_is ∙ binary))
-  ]
-
-  event_is : lent_message new g.kind ≡ event_at done frame
+  event_is : lent_message new kind ≡ event_at fs frame
   event_is =
-      (λ i. Message (kind_is i) (took.payload_is i))
+      (λ i. Message (kind_is i) (payload_is i))
       ∙ ap (λ (bs : List ℕ). Message (kind_at frame.op) bs) (sym (append-nil frame.payload))
-      ∙ ap (λ (fs : List Frame). Message (kind_of (fs ++ frame ∷ [])) (payload_of (fs ++ frame ∷ []))) (sym took.none_before)
-      ∙ sym (event_of_data done frame of_data)
+      ∙ ap (λ (gs : List Frame). Message (kind_of (gs ++ frame ∷ [])) (payload_of (gs ++ frame ∷ []))) (sym none_before)
+      ∙ sym (event_of_data fs frame of_data)
 
-  means : given ++ lent_message new g.kind ∷ [] ≡ meaning (done ++ frame ∷ [])
+  means : given ++ lent_message new kind ∷ [] ≡ meaning (fs ++ frame ∷ [])
   means =
-      ap (λ (es : List MeantEvent). es ++ lent_message new g.kind ∷ []) has.events ∙ ap (λ (m : MeantEvent). meaning done ++ m ∷ []) event_is
-      ∙ ap (λ (b : Bool). meaning done ++ cond b (event_at done frame ∷ []) []) (sym took.final) ∙ sym (meaning_push done frame)
+      ap (λ (es : List MeantEvent). es ++ lent_message new kind ∷ []) events ∙ ap (λ (m : MeantEvent). meaning fs ++ m ∷ []) event_is
+      ∙ ap (λ (b : Bool). meaning fs ++ cond b (event_at fs frame ∷ []) []) (sym final) ∙ sym (meaning_push fs frame)
 
-  between : IsBetweenFrames g (done ++ frame ∷ [])
-  between = message_ended g done frame of_data took.final (within.message took.of_data ∙ append-nil (payload_of (unfinished done)) ∙ ap payload_of took.none_before)
+  between : IsBetweenFrames g (fs ++ frame ∷ [])
+  between = message_ended g fs frame of_data final (within.message of_data ∙ append-nil (payload_of (unfinished fs)) ∙ ap payload_of none_before)
 
   own : is_control g.op ≡ false
-  own = ap is_control within.op ∙ took.of_data
+  own = ap is_control within.op ∙ of_data
 
-  offset_is : offset_of new ≡ event_offset done frame
+  offset_is : offset_of new ≡ event_offset fs frame
   offset_is =
-      cond-false (is_control g.op) g.place g.start own ∙ begun.offset_is ∙ sym (offset_of_none done took.none_before)
-      ∙ sym (cond-false (is_control frame.op) (length (stream done)) (open_offset done) of_data)
+      cond-false (is_control g.op) g.place g.start own ∙ begun.offset_is ∙ sym (offset_of_none fs none_before)
+      ∙ sym (cond-false (is_control frame.op) (length (stream fs)) (open_offset fs) of_data)
 
-  count_is : frames_of new ≡ event_frames done frame
+  count_is : frames_of new ≡ event_frames fs frame
   count_is =
-      cond-false (is_control g.op) 1 g.frames own ∙ begun.count_is ∙ ap (λ (fs : List Frame). length (fs ++ frame ∷ [])) (sym took.none_before)
-      ∙ sym (cond-false (is_control frame.op) 1 (length (unfinished done ++ frame ∷ [])) of_data)
+      cond-false (is_control g.op) 1 g.frames own ∙ begun.count_is ∙ ap (λ (gs : List Frame). length (gs ++ frame ∷ [])) (sym none_before)
+      ∙ sym (cond-false (is_control frame.op) 1 (length (unfinished fs ++ frame ∷ [])) of_data)
 
-  lends_kind : LendsMessage role limits new came given g.kind
-  lends_kind = record {
-    has = record { done = done ++ frame ∷ []; at = BetweenFrames; has_reported = took.has_reported; reassembly = between; events = means; going = has.going };
-    lawful = subst IsLawfulEvent (sym event_is) (lawful_event role limits done frame reported.in_range reported.lawful took.final);
-    before = done;
+  lends_frame : LendsMessage role limits new came given kind
+  lends_frame = record {
+    has = record { frames = fs ++ frame ∷ []; position = BetweenFrames; has_taken = has_taken; reassembly = between; events = means; going = going };
+    lawful = subst IsLawfulEvent (sym event_is) (lawful_event role limits fs frame taken.in_range taken.lawful final);
+    before = fs;
     frame = frame;
-    are_lawful = reported.lawful;
-    rest = reported.rest ++ drop limits.input came;
-    whole = all_came role limits came (done ++ frame ∷ []) BetweenFrames reported;
-    final = took.final;
-    first = has.events;
+    are_lawful = taken.lawful;
+    rest = taken.rest ++ drop limits.input came;
+    whole = all_came role limits came (fs ++ frame ∷ []) BetweenFrames taken;
+    final = final;
+    first = events;
     ended = event_is;
+    last = refl;
+    between = refl;
+    payload_is = payload_is;
     offset = offset_is;
     count = count_is;
   }
 
-  pub lends_after : (kind : Kind) → kind ≡ g.kind → LendsMessage role limits new came given kind
-  lends_after kind is = subst (λ (k : Kind). LendsMessage role limits new came given k) (sym is) lends_kind
+-- a part that begins a frame comes between frames
+nothing_before : (at : Position) (part : Part) (before : List ℕ) → part.begins ≡ true → IsPartAt at part before → before ≡ []
+nothing_before BetweenFrames part before begins is = is.1
+nothing_before (InFrame head payload) part before begins is = let both : true ≡ false = sym begins ∙ is.0 in absurd cc
 
--- a source that has taken a message, or none, is at work
-pub at_work_after : {A : Type 0} (old new : EventReader A) (lent : Option Kind) → IsAtWork old
-    → IfSome lent (λ kind. (role : Role) (limits : Limits) (came : List ℕ) (given : List MeantEvent) → HasGiven role limits old came given → LendsMessage role limits new came given kind) → IfNone lent (new ≡ old)
-    → IsAtWork new
-at_work_after old now (Some kind) b taken none = begun_sound b.role b.limits now b.came (b.given ++ lent_message now kind ∷ []) (taken b.role b.limits b.came b.given b.has).has
-at_work_after {A} old now None b taken none = subst (λ (r : EventReader A). IsAtWork r) (sym none) b
+-- the part that came last is a whole message
+pub lends_part : {A : Type 0} (role : Role) (limits : Limits) (reading : EventReader A) (reader : FrameReader) (part : Part) (now came : List ℕ) (given : List MeantEvent) (has : HasGiven role limits reading came given)
+    (takes : TakesPart role limits reader part now has.frames has.position) → IsTakenOf role limits now takes.frames takes.position → (g : Reassembly A) (kind : Kind) → IsWholeMessage part kind → IsInFrame g has.frames part.head.op takes.is_part.before
+    → LendsMessage role limits (record { reader = reader; reassembly = g; answer = reading.answer }) now given kind
+lends_part role limits reading reader part now came given has takes taken g kind whole within =
+    let fs = has.frames in
+    let payload = held_payload reader in
+    let e = ended_by role limits now fs has.position part payload takes.frames takes.position takes.is_part taken whole.ends in
+    let op : part.head.op ≡ e.frame.op = ap (λ (h : HeadInfo). h.op) e.head_is in
+    let none : takes.is_part.before ≡ [] = nothing_before has.position part takes.is_part.before whole.begins takes.is_part.is_at in
+    let has_taken = subst (λ (at : Position). HasTaken role limits reader now (fs ++ e.frame ∷ []) at) e.position_is (subst (λ (gs : List Frame). HasTaken role limits reader now gs takes.position) e.frames_are takes.has_taken) in
+    lends_frame role limits reading reader g kind now given fs e.frame has.events has.going has_taken e.taken
+    (sym (ap (λ (h : HeadInfo). h.fin) e.head_is) ∙ whole.final) (sym op ∙ whole.op)
+    (subst (λ (bs : List ℕ). IsInFrame g fs e.frame.op bs) none (subst (λ (o : Op). IsInFrame g fs o takes.is_part.before) op within))
+    (sym (e.payload_is ∙ ap (λ (bs : List ℕ). bs ++ payload) none))
+
+-- ---- a message that is lent becomes an event of its own
+
+no_control : (kind : Kind) (text : List ℕ) (fs : List Frame) (frame : Frame) → Message kind text ≡ event_at fs frame → is_control frame.op ≡ false
+no_control kind text fs frame is = by (is_control frame.op) refl
+  where
+    by : (control : Bool) → is_control frame.op ≡ control → is_control frame.op ≡ false
+    by false other = other
+    by true control = let both : Message kind text ≡ Control frame.op frame.payload = is ∙ event_of_control fs frame control in absurd cc
+
+module _ {A : Type 0} (role : Role) (limits : Limits) (new : Incoming) (reading : EventReader A) (came : List ℕ) (given : List MeantEvent) (kind : Kind) (lends : LendsMessage role limits reading came given kind) (unfailed : new.failed ≡ false) where
+  abbrev all_frames : List Frame
+  all_frames = lends.before ++ lends.frame ∷ []
+
+  all_taken : IsTakenOf role limits came all_frames BetweenFrames
+  all_taken =
+      subst (IsTakenOf role limits came all_frames) lends.between
+      (subst (λ (fs : List Frame). IsTakenOf role limits came fs lends.has.position) lends.last (reported_of role limits reading.reader came lends.has.frames lends.has.position lends.has.has_taken))
+
+  was_between : IsBetweenFrames reading.reassembly all_frames
+  was_between =
+      subst (IsReassembled reading.reassembly all_frames) lends.between
+      (subst (λ (fs : List Frame). IsReassembled reading.reassembly fs lends.has.position) lends.last lends.has.reassembly)
+
+  is_data : is_control lends.frame.op ≡ false
+  is_data = no_control kind (held_bytes reading) lends.before lends.frame lends.ended
+
+  nothing_held : reading.reassembly.message.items ≡ []
+  nothing_held = was_between.message ∙ ap payload_of (unfinished_final lends.before lends.frame (ap not is_data) lends.final)
+
+  module _ (g : Reassembly A) (same : g ≡ record reading.reassembly { message = g.message }) where
+    abbrev after : EventReader A
+    after = record { reader = reading.reader; reassembly = g; answer = reading.answer }
+
+    pub copied : g.message.items ≡ [] → (event : Event A) → meant event ≡ Message kind (reading.reassembly.message.items ++ held_bytes reading) → IsNextEvent role limits new after came given (Ok (nexts.Event event))
+    copied empty event is =
+        let held : g.message.items ≡ reading.reassembly.message.items = empty ∙ sym nothing_held in
+        let means : meant event ≡ lent_message reading kind = is ∙ ap (λ (bs : List ℕ). Message kind (bs ++ held_bytes reading)) nothing_held in
+        let given_now : given ++ lent_message reading kind ∷ [] ≡ given ++ meant event ∷ [] = ap (λ (m : MeantEvent). given ++ m ∷ []) (sym means) in
+        let has : HasGiven role limits after came (given ++ meant event ∷ []) = record {
+          frames = lends.has.frames;
+          position = lends.has.position;
+          has_taken = lends.has.has_taken;
+          reassembly = reassembled_alike reading.reassembly g same held lends.has.frames lends.has.position lends.has.reassembly;
+          events = sym given_now ∙ lends.has.events;
+          going = lends.has.going;
+        } in (
+          has,
+          given_event role limits after came given event lends.before lends.frame all_taken lends.final (means ∙ lends.ended) (sym given_now ∙ lends.has.events ∙ ap meaning lends.last)
+              (reassembled_alike reading.reassembly g same held all_frames BetweenFrames was_between)
+              (record { offset = ap offset_given same ∙ lends.offset; count = ap frames_given same ∙ lends.count }),
+          unfailed,
+        )
+
+  -- an allocation failed for it
+  pub not_copied : held_bytes reading ≢ [] → (last : EventReader A) → answered last ≡ Some (Err stops.Memory) → held_of last ≡ 0 → IsNextEvent role limits new last came given (Err stops.Memory)
+  not_copied some last answer held = (
+    (
+      data_of_frame role limits came lends.before lends.frame all_taken is_data (λ none. some (lends.payload_is ∙ none)),
+      given_first role limits came lends.before BetweenFrames (before_frame role limits came lends.before lends.frame all_taken) given lends.first,
+      unfailed,
+    ),
+    answer,
+    held,
+  )

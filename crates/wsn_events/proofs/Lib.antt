@@ -4,10 +4,8 @@ pub mod NormalBytes
 pub mod LeftOut
 pub mod ComparedEvents
 pub mod ExcerptViews
-pub mod FragmentEnds
 pub mod StandingEvents
 pub mod ComparedSources
-pub mod ComparedTurns
 pub mod ComparedRounds
 pub mod Comparisons
 pub mod KeptExcerpts
@@ -16,6 +14,7 @@ pub mod WholeComparisons
 pub mod NothingLeftOut
 pub mod ReassembledFrames
 pub mod GivenSoFar
+pub mod TakenParts
 pub mod SourceCalls
 pub mod PassedOver
 pub mod Normalising

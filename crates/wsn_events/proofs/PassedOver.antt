@@ -10,14 +10,16 @@ use Rattle.wsn_rules.specs.Limits.{Limits}
 use Rattle.wsn_rules.specs.LeftOut.{events_without}
 use Rattle.wsn_rules.specs.Meaning.{MeantEvent}
 use Rattle.wsn_events.specs.declared.event_reader.EventReader.{EventReader}
-use Rattle.wsn_events.specs.declared.source.Next.{Next}
+use Rattle.wsn_events.specs.declared.turn.Turn.{Turn}
+use Rattle.wsn_events.specs.declared.turn.Turn.TheVariants.{Lent, Own}
 use Rattle.wsn_events.specs.declared.source.Next.TheVariants as nexts
 use Rattle.wsn_events.specs.EventsMeant.{meant}
-use Rattle.wsn_events.specs.EventReaders.{HasGiven, IsAtWork, HasBegunOrEnded, IsNextEvent, GoesOn, IsEvent, answered, next_of}
-use Rattle.wsn_events.specs.LeavingOut.{is_next_left_out, GoesOnWithout}
+use Rattle.wsn_events.specs.EventReaders.{HasGiven, IsAtWork, HasBegunOrEnded, answered, next_of}
+use Rattle.wsn_events.specs.LeavingOut.{is_turn_left_out, TakesTurnWithout}
+use Rattle.wsn_events.specs.LentMessages.{lent_message}
+use Rattle.wsn_events.specs.Turns.{IsNextTurn, TakesTurn, GivesEvent, own_turn}
 use Rattle.wsn_events.proofs.GivenSoFar.{begun_sound}
 use Rattle.wsn_events.proofs.LeftOut.{passed_on}
-use Rattle.wsn_events.proofs.SourceCalls.{last_is_none}
 
 -- A call has read these bytes more, and passed over these events, which are all left out.
 pub record HasPassed {A : Type 0} (without : Without) (role : Role) (limits : Limits) (old new : Incoming) (reading : EventReader A) (came : List ℕ) (given : List MeantEvent) : Type 0 where
@@ -28,21 +30,28 @@ pub record HasPassed {A : Type 0} (without : Without) (role : Role) (limits : Li
   pub has : HasGiven role limits reading (came ++ more) (given ++ passed)
 
 -- what is left out is an event
-pub is_event : {A : Type 0} (without : Without) (next : Next A) → is_next_left_out without next ≡ true → IsEvent (Ok next)
-is_event without (nexts.Event event) out = tt
-is_event without (nexts.Done verdict) out = absurd cc
+pub is_event : {A : Type 0} (without : Without) (turn : Turn A) → is_turn_left_out without turn ≡ true → GivesEvent (Ok turn)
+is_event without (Lent kind) out = tt
+is_event without (Own (nexts.Event event)) out = tt
+is_event without (Own (nexts.Done verdict)) out = absurd cc
+
+-- the turn of a source that has ended is no event
+pub last_is_none : {A : Type 0} (answer : Result Verdict Stop) (result : Result (Turn A) Stop) → result ≡ own_turn (next_of answer) → GivesEvent result → ⊥
+last_is_none {A} (Ok verdict) result is event = subst (λ (r : Result (Turn A) Stop). GivesEvent r) is event
+last_is_none {A} (Err halted) result is event = subst (λ (r : Result (Turn A) Stop). GivesEvent r) is event
 
 -- One call of a source.
-module _ {A : Type 0} (mid new : Incoming) (before reading : EventReader A) (result : Result (Next A) Stop)
-    (next : (role : Role) (limits : Limits) (came : List ℕ) (given : List MeantEvent) → HasGiven role limits before came given → GoesOn role limits mid new reading came given result)
-    (again : (answer : Result Verdict Stop) → answered before ≡ Some answer → (result ≡ next_of answer) × (reading ≡ before) × (new ≡ mid)) where
+module _ {A : Type 0} (mid new : Incoming) (before reading : EventReader A) (result : Result (Turn A) Stop)
+    (next : (role : Role) (limits : Limits) (came : List ℕ) (given : List MeantEvent) → HasGiven role limits before came given → TakesTurn role limits mid new reading came given result)
+    (again : (answer : Result Verdict Stop) → answered before ≡ Some answer → (result ≡ own_turn (next_of answer)) × (reading ≡ before) × (new ≡ mid)) where
   -- after an event the source is at work, and its input hasn't failed
-  pub event_after : HasBegunOrEnded before → IsEvent result → IsAtWork reading × (new.failed ≡ false)
+  pub event_after : HasBegunOrEnded before → GivesEvent result → IsAtWork reading × (new.failed ≡ false)
   event_after begun is = by (answered before) refl
     where
-      given_next : (role : Role) (limits : Limits) (came : List ℕ) (given : List MeantEvent) (r : Result (Next A) Stop) → GoesOn role limits mid new reading came given r → IsEvent r → IsAtWork reading × (new.failed ≡ false)
-      given_next role limits came given (Ok (nexts.Event event)) on some = (begun_sound role limits reading (came ++ on.more) (given ++ meant event ∷ []) on.next.0, on.next.2)
-      given_next role limits came given (Ok (nexts.Done verdict)) on some = absurd some
+      given_next : (role : Role) (limits : Limits) (came : List ℕ) (given : List MeantEvent) (r : Result (Turn A) Stop) → TakesTurn role limits mid new reading came given r → GivesEvent r → IsAtWork reading × (new.failed ≡ false)
+      given_next role limits came given (Ok (Lent kind)) on some = (begun_sound role limits reading (came ++ on.more) (given ++ lent_message reading kind ∷ []) on.next.0.has, on.next.1)
+      given_next role limits came given (Ok (Own (nexts.Event event))) on some = (begun_sound role limits reading (came ++ on.more) (given ++ meant event ∷ []) on.next.0, on.next.2)
+      given_next role limits came given (Ok (Own (nexts.Done verdict))) on some = absurd some
       given_next role limits came given (Err halted) on some = absurd some
 
       by : (a : Option (Result Verdict Stop)) → answered before ≡ a → IsAtWork reading × (new.failed ≡ false)
@@ -50,14 +59,14 @@ module _ {A : Type 0} (mid new : Incoming) (before reading : EventReader A) (res
       by (Some answer) some = absurd (last_is_none answer result (again answer some).0 is)
 
   -- a source that has ended stays as it was
-  pub stays_ended : (first : EventReader A) (old : Incoming) (final : Result (Next A) Stop) → result ≡ final → (answer : Result Verdict Stop) → answered first ≡ Some answer → (before ≡ first) × (mid ≡ old)
-      → (final ≡ next_of answer) × (reading ≡ first) × (new ≡ old)
+  pub stays_ended : (first : EventReader A) (old : Incoming) (final : Result (Turn A) Stop) → result ≡ final → (answer : Result Verdict Stop) → answered first ≡ Some answer → (before ≡ first) × (mid ≡ old)
+      → (final ≡ own_turn (next_of answer)) × (reading ≡ first) × (new ≡ old)
   stays_ended first old final is answer ended same =
       let still = again answer (ap (λ (r : EventReader A). answered r) same.0 ∙ ended) in
       (sym is ∙ still.0, still.1 ∙ same.0, still.2 ∙ same.1)
 
   -- a source that has ended gives no event
-  pub never_ended : (first : EventReader A) (old : Incoming) → IsEvent result → (answer : Result Verdict Stop) → answered first ≡ Some answer → (before ≡ first) × (mid ≡ old) → (reading ≡ first) × (new ≡ old)
+  pub never_ended : (first : EventReader A) (old : Incoming) → GivesEvent result → (answer : Result Verdict Stop) → answered first ≡ Some answer → (before ≡ first) × (mid ≡ old) → (reading ≡ first) × (new ≡ old)
   never_ended first old is answer ended same =
       absurd (last_is_none answer result (again answer (ap (λ (r : EventReader A). answered r) same.0 ∙ ended)).0 is)
 
@@ -72,34 +81,35 @@ module _ {A : Type 0} (without : Without) (role : Role) (limits : Limits) (old :
   }
 
   -- The source was called once more.
-  module _ (mid new : Incoming) (before reading : EventReader A) (read : HasPassed without role limits old mid before came given) (result : Result (Next A) Stop)
-      (on : GoesOn role limits mid new reading (came ++ read.more) (given ++ read.passed) result) where
+  module _ (mid new : Incoming) (before reading : EventReader A) (read : HasPassed without role limits old mid before came given) (result : Result (Turn A) Stop)
+      (on : TakesTurn role limits mid new reading (came ++ read.more) (given ++ read.passed) result) where
     all : (came ++ read.more) ++ on.more ≡ came ++ (read.more ++ on.more)
     all = append_assoc came read.more on.more
 
     consumed : IsConsumed old new (read.more ++ on.more)
     consumed = consumed_on old mid new read.more on.more read.consumed on.consumed
 
-    -- its result isn't left out
-    goes_on : GoesOnWithout without role limits old new reading came given result
+    -- its turn isn't left out
+    goes_on : TakesTurnWithout without role limits old new reading came given result
     goes_on = record {
       passed = read.passed;
       left_out = read.left_out;
-      goes_on = record {
+      takes = record {
         more = read.more ++ on.more;
         consumed = consumed;
         few = subst (λ (bs : List ℕ). length bs ≤ limits.input + 1) all on.few;
-        next = subst (λ (bs : List ℕ). IsNextEvent role limits new reading bs (given ++ read.passed) result) all on.next;
+        next = subst (λ (bs : List ℕ). IsNextTurn role limits new reading bs (given ++ read.passed) result) all on.next;
       };
     }
 
-    pub returns : (final : Result (Next A) Stop) → result ≡ final → GoesOnWithout without role limits old new reading came given final
-    returns final is = subst (λ (r : Result (Next A) Stop). GoesOnWithout without role limits old new reading came given r) is goes_on
+    pub returns : (final : Result (Turn A) Stop) → result ≡ final → TakesTurnWithout without role limits old new reading came given final
+    returns final is = subst (λ (r : Result (Turn A) Stop). TakesTurnWithout without role limits old new reading came given r) is goes_on
 
-    -- its result is an event that is left out
-    pub passes : (next : Next A) → result ≡ Ok next → is_next_left_out without next ≡ true → HasPassed without role limits old new reading came given
-    passes (nexts.Event event) is out =
-        let now = subst (λ (r : Result (Next A) Stop). IsNextEvent role limits new reading ((came ++ read.more) ++ on.more) (given ++ read.passed) r) is on.next in
+    -- its turn is an event that is left out
+    pub passes : (turn : Turn A) → result ≡ Ok turn → is_turn_left_out without turn ≡ true → HasPassed without role limits old new reading came given
+    passes (Lent kind) is out = absurd cc
+    passes (Own (nexts.Event event)) is out =
+        let now = subst (λ (r : Result (Turn A) Stop). IsNextTurn role limits new reading ((came ++ read.more) ++ on.more) (given ++ read.passed) r) is on.next in
         record {
           more = read.more ++ on.more;
           consumed = consumed;
@@ -108,4 +118,4 @@ module _ {A : Type 0} (without : Without) (role : Role) (limits : Limits) (old :
           has = subst (λ (bs : List ℕ). HasGiven role limits reading bs (given ++ (read.passed ++ meant event ∷ []))) all
               (subst (λ (es : List MeantEvent). HasGiven role limits reading ((came ++ read.more) ++ on.more) es) (append_assoc given read.passed (meant event ∷ [])) now.0);
         }
-    passes (nexts.Done verdict) is out = absurd cc
+    passes (Own (nexts.Done verdict)) is out = absurd cc

@@ -17,13 +17,29 @@ use Rattle.wsn_rules.proofs.LawfulLists.{law_at_split}
 use Rattle.wsn_rules.proofs.MessageText.{text_of_push}
 use Rattle.wsn_events.specs.declared.reassembly.Reassembly.{Reassembly}
 use Rattle.wsn_rules.specs.LawfulEvents.{IsLawfulControl}
-use Rattle.wsn_scan.specs.ReportedFrames.{Position, BetweenFrames, InFrame}
+use Rattle.wsn_scan.specs.declared.part.Part.{Part}
+use Rattle.wsn_scan.specs.Parts.{IsPartAt}
+use Rattle.wsn_scan.specs.Positions.{Position, BetweenFrames, InFrame}
+use Rattle.wsn_rules.specs.declared.head_info.HeadInfo.{HeadInfo}
 use Rattle.wsn_events.specs.Reassembly.{HasBegun, IsBetweenFrames, IsInFrame, IsPlacedAt, IsReassembled}
 use Rattle.wsn_rules.proofs.LawfulMeaning.{event_of_control, event_of_data}
 
-module _ {A : Type 0} (role : Role) (limits : Limits) (g : Reassembly A) (done : List Frame) (f : Frame) (lawful : IsLawful role limits (done ++ f ∷ [])) (within : IsInFrame g done f.op f.payload) where
-  law : LawAt role limits done f
-  law = law_at_split role limits done f [] lawful
+-- ---- a part of a frame, which begins there or has begun before
+
+pub begins_by : {A : Type 0} (g begun : Reassembly A) (part : Part) (fs : List Frame) (before : List ℕ) (at : Position) → part.begins ≡ true → IsPartAt at part before → IsReassembled g fs at → (IsBetweenFrames g fs → IsInFrame begun fs part.head.op []) → IsInFrame begun fs part.head.op before
+begins_by g begun part fs before BetweenFrames begins is was begin = subst (λ (bs : List ℕ). IsInFrame begun fs part.head.op bs) (sym is.1) (begin was)
+begins_by g begun part fs before (InFrame head payload) begins is was begin = let both : true ≡ false = sym begins ∙ is.0 in absurd cc
+
+pub begun_before : {A : Type 0} (g : Reassembly A) (part : Part) (fs : List Frame) (before : List ℕ) (at : Position) → part.begins ≡ false → IsPartAt at part before → IsReassembled g fs at → IsInFrame g fs part.head.op before
+begun_before g part fs before BetweenFrames begun is was = let both : true ≡ false = sym is.0 ∙ begun in absurd cc
+begun_before g part fs before (InFrame head payload) begun is was =
+    subst (λ (bs : List ℕ). IsInFrame g fs part.head.op bs) (sym is.2) (subst (λ (h : HeadInfo). IsInFrame g fs h.op payload) (sym is.1) was)
+
+-- ---- the end of a frame
+
+module _ {A : Type 0} (role : Role) (limits : Limits) (g : Reassembly A) (fs : List Frame) (f : Frame) (lawful : IsLawful role limits (fs ++ f ∷ [])) (within : IsInFrame g fs f.op f.payload) where
+  law : LawAt role limits fs f
+  law = law_at_split role limits fs f [] lawful
 
   -- a frame that isn't final is a data frame
   pub of_data : f.fin ≡ false → is_control f.op ≡ false
@@ -42,93 +58,93 @@ module _ {A : Type 0} (role : Role) (limits : Limits) (g : Reassembly A) (done :
   first_kind Ping is plain begins = let both : true ≡ false = sym (ap is_control is) ∙ plain in absurd cc
   first_kind Pong is plain begins = let both : true ≡ false = sym (ap is_control is) ∙ plain in absurd cc
 
-  pub kind_is : is_control f.op ≡ false → g.kind ≡ kind_of (unfinished done ++ f ∷ [])
-  kind_is other = by (unfinished done) refl
+  pub kind_is : is_control f.op ≡ false → g.kind ≡ kind_of (unfinished fs ++ f ∷ [])
+  kind_is other = by (unfinished fs) refl
     where
-      by : (earlier : List Frame) → unfinished done ≡ earlier → g.kind ≡ kind_of (unfinished done ++ f ∷ [])
+      by : (earlier : List Frame) → unfinished fs ≡ earlier → g.kind ≡ kind_of (unfinished fs ++ f ∷ [])
       by [] none = first_kind f.op refl other (λ is. (law.group (ap not other)).continues.0 is none) ∙ ap (λ (gs : List Frame). kind_of (gs ++ f ∷ [])) (sym none)
       by (h ∷ hs) some =
-          let unended : unfinished done ≢ [] = λ none. let both : h ∷ hs ≡ [] = sym some ∙ none in cc in
+          let unended : unfinished fs ≢ [] = λ none. let both : h ∷ hs ≡ [] = sym some ∙ none in cc in
           within.continued ((law.group (ap not other)).continues.1 unended) unended ∙ ap kind_of some ∙ ap (λ (gs : List Frame). kind_of (gs ++ f ∷ [])) (sym some)
 
   -- the message of a data frame has begun
-  begun : is_control f.op ≡ false → HasBegun g (open_offset done) (length (unfinished done) + 1)
-  begun other = by (unfinished done) refl
+  begun : is_control f.op ≡ false → HasBegun g (open_offset fs) (length (unfinished fs) + 1)
+  begun other = by (unfinished fs) refl
     where
-      by : (earlier : List Frame) → unfinished done ≡ earlier → HasBegun g (open_offset done) (length (unfinished done) + 1)
+      by : (earlier : List Frame) → unfinished fs ≡ earlier → HasBegun g (open_offset fs) (length (unfinished fs) + 1)
       by [] none =
           let has = within.first (data_kind f.op (ap not other) (λ is. (law.group (ap not other)).continues.0 is none)) in
           record {
-            offset_is = has.offset_is ∙ sym (offset_of_none done none);
+            offset_is = has.offset_is ∙ sym (offset_of_none fs none);
             count_is = has.count_is ∙ ap (λ (gs : List Frame). length gs + 1) (sym none);
           }
       by (h ∷ hs) some =
-          let unended : unfinished done ≢ [] = λ none. let both : h ∷ hs ≡ [] = sym some ∙ none in cc in
+          let unended : unfinished fs ≢ [] = λ none. let both : h ∷ hs ≡ [] = sym some ∙ none in cc in
           within.further ((law.group (ap not other)).continues.1 unended) unended
 
   -- where the frame's event is, if it ends one
-  pub placed : IsPlacedAt g done f
+  pub placed : IsPlacedAt g fs f
   placed = elim (cases_Bool (is_control f.op)) [
     | inl control ↦
         let own = ap is_control within.op ∙ control in
         record {
-          offset = cond-true (is_control g.op) g.place g.start own ∙ within.place ∙ sym (cond-true (is_control f.op) (length (stream done)) (open_offset done) control);
-          count = cond-true (is_control g.op) 1 g.frames own ∙ sym (cond-true (is_control f.op) 1 (length (unfinished done ++ f ∷ [])) control);
+          offset = cond-true (is_control g.op) g.place g.start own ∙ within.place ∙ sym (cond-true (is_control f.op) (length (stream fs)) (open_offset fs) control);
+          count = cond-true (is_control g.op) 1 g.frames own ∙ sym (cond-true (is_control f.op) 1 (length (unfinished fs ++ f ∷ [])) control);
         }
     | inr other ↦
         let own = ap is_control within.op ∙ other in
         let has = begun other in
         record {
-          offset = cond-false (is_control g.op) g.place g.start own ∙ has.offset_is ∙ sym (cond-false (is_control f.op) (length (stream done)) (open_offset done) other);
+          offset = cond-false (is_control g.op) g.place g.start own ∙ has.offset_is ∙ sym (cond-false (is_control f.op) (length (stream fs)) (open_offset fs) other);
           count =
-              cond-false (is_control g.op) 1 g.frames own ∙ has.count_is ∙ sym (length-append (unfinished done) (f ∷ []))
-              ∙ sym (cond-false (is_control f.op) 1 (length (unfinished done ++ f ∷ [])) other);
+              cond-false (is_control g.op) 1 g.frames own ∙ has.count_is ∙ sym (length-append (unfinished fs) (f ∷ []))
+              ∙ sym (cond-false (is_control f.op) 1 (length (unfinished fs ++ f ∷ [])) other);
         }
   ]
 
   -- a fragment is added to the open message
-  pub fragment : f.fin ≡ false → IsBetweenFrames g (done ++ f ∷ [])
+  pub fragment : f.fin ≡ false → IsBetweenFrames g (fs ++ f ∷ [])
   fragment more =
       let other = of_data more in
-      let on = unfinished_more done f (ap not other) more in
+      let on = unfinished_more fs f (ap not other) more in
       record {
-        message = within.message other ∙ sym (text_of_push (unfinished done) f) ∙ ap payload_of (sym on);
+        message = within.message other ∙ sym (text_of_push (unfinished fs) f) ∙ ap payload_of (sym on);
         kind = λ some. kind_is other ∙ ap kind_of (sym on);
         begun = λ some.
             let has = begun other in
             record {
-              offset_is = has.offset_is ∙ sym (offset_after_fragment done f (ap not other) more);
-              count_is = has.count_is ∙ sym (length-append (unfinished done) (f ∷ [])) ∙ ap (λ (gs : List Frame). length gs) (sym on);
+              offset_is = has.offset_is ∙ sym (offset_after_fragment fs f (ap not other) more);
+              count_is = has.count_is ∙ sym (length-append (unfinished fs) (f ∷ [])) ∙ ap (λ (gs : List Frame). length gs) (sym on);
             };
       }
 
   -- a control leaves the open message unchanged
-  pub control : is_control f.op ≡ true → IsBetweenFrames g (done ++ f ∷ [])
+  pub control : is_control f.op ≡ true → IsBetweenFrames g (fs ++ f ∷ [])
   control is =
-      let same = unfinished_control done f (ap not is) in
+      let same = unfinished_control fs f (ap not is) in
       let between = within.of_control is in
       record {
         message = between.message ∙ ap payload_of (sym same);
         kind = λ some. between.kind (λ none. some (same ∙ none)) ∙ ap kind_of (sym same);
         begun = λ some.
-            let before : unfinished done ≢ [] = λ none. some (same ∙ none) in
+            let before : unfinished fs ≢ [] = λ none. some (same ∙ none) in
             let has = between.begun before in
             record {
-              offset_is = has.offset_is ∙ sym (offset_after_control done f (ap not is) before);
+              offset_is = has.offset_is ∙ sym (offset_after_control fs f (ap not is) before);
               count_is = has.count_is ∙ ap (λ (gs : List Frame). length gs) (sym same);
             };
       }
 
-  pub control_event : is_control f.op ≡ true → Control g.op g.body.items ≡ event_at done f
+  pub control_event : is_control f.op ≡ true → Control g.op g.body.items ≡ event_at fs f
   control_event is =
       let short = (law.frame.encoded.control is).short in
-      ap (λ (op : Op). Control op g.body.items) within.op ∙ ap (λ (bs : List ℕ). Control f.op bs) (within.body is short) ∙ sym (event_of_control done f is)
+      ap (λ (op : Op). Control op g.body.items) within.op ∙ ap (λ (bs : List ℕ). Control f.op bs) (within.body is short) ∙ sym (event_of_control fs f is)
 
-  pub message_event : is_control f.op ≡ false → Message g.kind g.message.items ≡ event_at done f
+  pub message_event : is_control f.op ≡ false → Message g.kind g.message.items ≡ event_at fs f
   message_event other =
       ap (λ (k : Kind). Message k g.message.items) (kind_is other)
-      ∙ ap (λ (bs : List ℕ). Message (kind_of (unfinished done ++ f ∷ [])) bs) (within.message other ∙ sym (text_of_push (unfinished done) f))
-      ∙ sym (event_of_data done f other)
+      ∙ ap (λ (bs : List ℕ). Message (kind_of (unfinished fs ++ f ∷ [])) bs) (within.message other ∙ sym (text_of_push (unfinished fs) f))
+      ∙ sym (event_of_data fs f other)
 
   -- a whole control's body is lawful
   pub lawful_body : is_control g.op ≡ true → IsLawfulControl g.op g.body.items
@@ -140,9 +156,9 @@ module _ {A : Type 0} (role : Role) (limits : Limits) (g : Reassembly A) (done :
       (record { control = control; in_bytes = law.frame.encoded.encodable.payload; size = short.short; close = law.frame.close }))
 
 -- after a final data frame no message is open
-pub message_ended : {A : Type 0} (g : Reassembly A) (done : List Frame) (f : Frame) → is_control f.op ≡ false → f.fin ≡ true → g.message.items ≡ [] → IsBetweenFrames g (done ++ f ∷ [])
-message_ended g done f other final none =
-    let nothing = unfinished_final done f (ap not other) final in
+pub message_ended : {A : Type 0} (g : Reassembly A) (fs : List Frame) (f : Frame) → is_control f.op ≡ false → f.fin ≡ true → g.message.items ≡ [] → IsBetweenFrames g (fs ++ f ∷ [])
+message_ended g fs f other final none =
+    let nothing = unfinished_final fs f (ap not other) final in
     record {
       message = none ∙ ap payload_of (sym nothing);
       kind = λ some. absurd (some nothing);
@@ -151,20 +167,20 @@ message_ended g done f other final none =
 
 -- ---- other room for the open message
 
-module _ {A : Type 0} (g h : Reassembly A) (same : h ≡ record g { message = h.message }) (held : h.message.items ≡ g.message.items) (done : List Frame) where
+module _ {A : Type 0} (g h : Reassembly A) (same : h ≡ record g { message = h.message }) (held : h.message.items ≡ g.message.items) (fs : List Frame) where
   begun_alike : (offset count : ℕ) → HasBegun g offset count → HasBegun (record g { message = h.message }) offset count
   begun_alike offset count begun = record { offset_is = begun.offset_is; count_is = begun.count_is }
 
-  between_alike : IsBetweenFrames g done → IsBetweenFrames (record g { message = h.message }) done
+  between_alike : IsBetweenFrames g fs → IsBetweenFrames (record g { message = h.message }) fs
   between_alike was = record {
     message = held ∙ was.message;
     kind = was.kind;
-    begun = λ some. begun_alike (open_offset done) (length (unfinished done)) (was.begun some);
+    begun = λ some. begun_alike (open_offset fs) (length (unfinished fs)) (was.begun some);
   }
 
-  pub reassembled_alike : (at : Position) → IsReassembled g done at → IsReassembled h done at
-  reassembled_alike BetweenFrames was = subst (λ (r : Reassembly A). IsBetweenFrames r done) (sym same) (between_alike was)
-  reassembled_alike (InFrame info payload) was = subst (λ (r : Reassembly A). IsInFrame r done info.op payload) (sym same) (record {
+  pub reassembled_alike : (at : Position) → IsReassembled g fs at → IsReassembled h fs at
+  reassembled_alike BetweenFrames was = subst (λ (r : Reassembly A). IsBetweenFrames r fs) (sym same) (between_alike was)
+  reassembled_alike (InFrame info payload) was = subst (λ (r : Reassembly A). IsInFrame r fs info.op payload) (sym same) (record {
     op = was.op;
     of_control = λ control. between_alike (was.of_control control);
     body = was.body;
@@ -173,6 +189,6 @@ module _ {A : Type 0} (g h : Reassembly A) (same : h ≡ record g { message = h.
     binary = was.binary;
     continued = was.continued;
     place = was.place;
-    first = λ begins. begun_alike (length (stream done)) 1 (was.first begins);
-    further = λ continues some. begun_alike (open_offset done) (length (unfinished done) + 1) (was.further continues some);
+    first = λ begins. begun_alike (length (stream fs)) 1 (was.first begins);
+    further = λ continues some. begun_alike (open_offset fs) (length (unfinished fs) + 1) (was.further continues some);
   })

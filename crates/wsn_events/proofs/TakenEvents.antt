@@ -12,9 +12,9 @@ use Rattle.wsn_rules.specs.Limits.{Limits}
 use Rattle.wsn_rules.specs.Group.{payload_of}
 use Rattle.wsn_rules.specs.Meaning.{MeantEvent}
 use Rattle.wsn_rules.specs.NormalForm.{normal_form}
-use Rattle.wsn_scan.specs.declared.notice_reader.NoticeReader.{NoticeReader}
-use Rattle.wsn_scan.specs.ReportedFrames.{BetweenFrames}
-use Rattle.wsn_scan.specs.ReportedEvents.{ReportsEvents}
+use Rattle.wsn_scan.specs.declared.frame_reader.FrameReader.{FrameReader}
+use Rattle.wsn_scan.specs.Positions.{BetweenFrames}
+use Rattle.wsn_scan.specs.FrameReaders.{TakesRun}
 use Rattle.wsn_scan.proofs.EventRuns.{normal_form-append}
 use Rattle.wsn_scan.proofs.ReaderReports.{reported_of}
 use Rattle.wsn_events.specs.declared.event_reader.EventReader.{EventReader}
@@ -27,19 +27,19 @@ use Rattle.wsn_events.proofs.GivenSoFar.{begun_sound, given_first}
 use Rattle.wsn_events.proofs.Normalising.{HasWritten}
 
 -- the source with its reader after the call
-abbrev pub read_on : {A : Type 0} → EventReader A → NoticeReader → EventReader A
+abbrev pub read_on : {A : Type 0} → EventReader A → FrameReader → EventReader A
 read_on reading reader = record { reader = reader; reassembly = reading.reassembly; answer = reading.answer }
 
-pub takes_after : {A : Type 0} (role : Role) (limits : Limits) (reading : EventReader A) (reader : NoticeReader) (came : List ℕ) (given : List MeantEvent) (has : HasGiven role limits reading came given)
-    → ReportsEvents role limits reader came has.done has.at → TakesEventsAfter role limits (read_on reading reader) came given
+pub takes_after : {A : Type 0} (role : Role) (limits : Limits) (reading : EventReader A) (reader : FrameReader) (came : List ℕ) (given : List MeantEvent) (has : HasGiven role limits reading came given)
+    → TakesRun role limits reader came has.frames has.position → TakesEventsAfter role limits (read_on reading reader) came given
 takes_after role limits reading reader came given has took =
-    let was : IsBetweenFrames reading.reassembly has.done = subst (IsReassembled reading.reassembly has.done) took.between has.reassembly in
+    let was : IsBetweenFrames reading.reassembly has.frames = subst (IsReassembled reading.reassembly has.frames) took.between has.reassembly in
     record {
       events = took.events;
       has = record {
-        done = took.frames;
-        at = BetweenFrames;
-        has_reported = took.has_reported;
+        frames = took.frames;
+        position = BetweenFrames;
+        has_taken = took.has_taken;
         reassembly = record {
           message = was.message ∙ ap payload_of (took.none_before ∙ sym took.none_open);
           kind = λ some. absurd (some took.none_open);
@@ -94,7 +94,7 @@ module _ {A : Type 0} (role : Role) (limits : Limits) (old mid : Incoming) (befo
       events = written.given ++ puts.events
 
       first : AreFirstOf role limits (take limits.input written.came) events
-      first = given_first role limits written.came puts.has.done puts.has.at (reported_of role limits next.reader written.came puts.has.done puts.has.at puts.has.has_reported) events puts.has.events
+      first = given_first role limits written.came puts.has.frames puts.has.position (reported_of role limits next.reader written.came puts.has.frames puts.has.position puts.has.has_taken) events puts.has.events
 
       form : List ℕ
       form = normal_form role written.given

@@ -11,9 +11,8 @@ use Rattle.wsn_rules.specs.Limits.{Limits}
 use Rattle.wsn_rules.specs.Meaning.{MeantEvent, event_at, meaning}
 use Rattle.wsn_rules.specs.ShownStream.{event_offset, event_frames}
 use Rattle.wsn_io.specs.declared.stop.Stop.{Stop}
-use Rattle.wsn_scan.specs.ReportedFrames.{Position}
-use Rattle.wsn_scan.specs.NoticeReaders.{HasReported}
-use Rattle.wsn_scan.specs.NoticeReaders as readers
+use Rattle.wsn_scan.specs.Positions.{Position}
+use Rattle.wsn_scan.specs.FrameReaders.{HasTaken, parts_left}
 use Rattle.wsn_events.specs.declared.event.Event.{Event}
 use Rattle.wsn_events.specs.declared.event_reader.EventReader.{EventReader}
 use Rattle.wsn_events.specs.declared.source.Next.{Next}
@@ -22,14 +21,14 @@ use Rattle.wsn_events.specs.EventsMeant.{meant}
 use Rattle.wsn_events.specs.Reassembly.{IsReassembled, offset_given, frames_given}
 use Rattle.wsn_events.specs.Sources.{AreFirstOf, IsLast}
 
--- It has read the bytes that came, given the events of the frames that were reported to their ends, and not ended.
+-- It has read the bytes that came, given the events of the frames that were taken to their ends, and not ended.
 pub record HasGiven {A : Type 0} (role : Role) (limits : Limits) (reading : EventReader A) (came : List ℕ)
     (given : List MeantEvent) : Type 0 where
-  pub done : List Frame
-  pub at : Position
-  pub has_reported : HasReported role limits reading.reader came done at
-  pub reassembly : IsReassembled reading.reassembly done at
-  pub events : given ≡ meaning done
+  pub frames : List Frame
+  pub position : Position
+  pub has_taken : HasTaken role limits reading.reader came frames position
+  pub reassembly : IsReassembled reading.reassembly frames position
+  pub events : given ≡ meaning frames
   pub going : reading.answer ≡ None
 
 -- It has read some bytes, or none, and has not ended.
@@ -58,7 +57,7 @@ frames_of reading = frames_given reading.reassembly
 
 -- a bound on how many events can still come
 abbrev pub readings_left : {A : Type 0} → EventReader A → ℕ
-readings_left reading = readers.notices_left reading.reader
+readings_left reading = parts_left reading.reader
 
 -- A source that has not ended is at work.
 abbrev pub HasBegunOrEnded : {A : Type 0} → EventReader A → Type 0

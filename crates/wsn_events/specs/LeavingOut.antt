@@ -9,31 +9,34 @@ use Rattle.wsn_rules.specs.Limits.{Limits}
 use Rattle.wsn_rules.specs.LeftOut.{is_left_out, events_without}
 use Rattle.wsn_rules.specs.Meaning.{MeantEvent}
 use Rattle.wsn_events.specs.declared.event_reader.EventReader.{EventReader}
-use Rattle.wsn_events.specs.declared.source.Next.{Next}
 use Rattle.wsn_events.specs.declared.source.Next.TheVariants as nexts
+use Rattle.wsn_events.specs.declared.turn.Turn.{Turn}
+use Rattle.wsn_events.specs.declared.turn.Turn.TheVariants as turns
 use Rattle.wsn_events.specs.EventsMeant.{meant}
-use Rattle.wsn_events.specs.EventReaders.{HasGiven, GoesOn, IsEvent, answered, readings_left, next_of}
+use Rattle.wsn_events.specs.EventReaders.{HasGiven, answered, readings_left, next_of}
+use Rattle.wsn_events.specs.Turns.{TakesTurn, GivesEvent, own_turn}
 
 -- Whether it is an event that is left out.
-abbrev pub is_next_left_out : {A : Type 0} → Without → Next A → Bool
-is_next_left_out without (nexts.Event event) = is_left_out without (meant event)
-is_next_left_out without (nexts.Done verdict) = false
+abbrev pub is_turn_left_out : {A : Type 0} → Without → Turn A → Bool
+is_turn_left_out without (turns.Lent kind) = false
+is_turn_left_out without (turns.Own (nexts.Event event)) = is_left_out without (meant event)
+is_turn_left_out without (turns.Own (nexts.Done verdict)) = false
 
--- A call has passed over these events, which are all left out, and its result is right after them.
-pub record GoesOnWithout {A : Type 0} (without : Without) (role : Role) (limits : Limits) (old new : Incoming)
-    (reading : EventReader A) (came : List ℕ) (given : List MeantEvent) (result : Result (Next A) Stop) : Type 0 where
+-- A call has passed over these events, which are all left out, and its turn is right after them.
+pub record TakesTurnWithout {A : Type 0} (without : Without) (role : Role) (limits : Limits) (old new : Incoming)
+    (reading : EventReader A) (came : List ℕ) (given : List MeantEvent) (result : Result (Turn A) Stop) : Type 0 where
   pub passed : List MeantEvent
   pub left_out : events_without without passed ≡ []
-  pub goes_on : GoesOn role limits old new reading came (given ++ passed) result
+  pub takes : TakesTurn role limits old new reading came (given ++ passed) result
 
--- What a call of `next_without` does: whatever the source has given, it goes on to the next event that isn't left out. A
+-- What a call of `turn_without` does: whatever the source has given, it goes on to the next event that isn't left out. A
 -- source that has ended stays as it is.
-pub record ReadsNext {A : Type 0} (without : Without) (old new : Incoming) (before reading : EventReader A)
-    (result : Result (Next A) Stop) : Type 0 where
+pub record ReadsTurn {A : Type 0} (without : Without) (old new : Incoming) (before reading : EventReader A)
+    (result : Result (Turn A) Stop) : Type 0 where
   pub next : (role : Role) (limits : Limits) (came : List ℕ) (given : List MeantEvent) →
       HasGiven role limits before came given
-      → GoesOnWithout without role limits old new reading came given result
-  pub not_left_out : IfOk result (λ next. is_next_left_out without next ≡ false)
-  pub falls : IsEvent result → readings_left reading < readings_left before
+      → TakesTurnWithout without role limits old new reading came given result
+  pub not_left_out : IfOk result (λ turn. is_turn_left_out without turn ≡ false)
+  pub falls : GivesEvent result → readings_left reading < readings_left before
   pub again : (answer : Result Verdict Stop) → answered before ≡ Some answer →
-      (result ≡ next_of answer) × (reading ≡ before) × (new ≡ old)
+      (result ≡ own_turn (next_of answer)) × (reading ≡ before) × (new ≡ old)

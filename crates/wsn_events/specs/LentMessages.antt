@@ -7,17 +7,28 @@ use Rattle.wsn_rules.specs.Lawful.{IsLawful}
 use Rattle.wsn_rules.specs.LawfulEvents.{IsLawfulEvent}
 use Rattle.wsn_rules.specs.Limits.{Limits}
 use Rattle.wsn_rules.specs.Meaning.{MeantEvent, Message, event_at, meaning}
+use Rattle.wsn_rules.specs.NormalForm.{op_of}
 use Rattle.wsn_rules.specs.ShownStream.{event_offset, event_frames}
+use Rattle.wsn_scan.specs.declared.part.Part.{Part}
+use Rattle.wsn_scan.specs.Positions.{BetweenFrames}
 use Rattle.wsn_events.specs.declared.event_reader.EventReader.{EventReader}
 use Rattle.wsn_events.specs.EventReaders.{HasGiven, offset_of, frames_of}
 use Rattle.wsn_events.specs.TakenEvents.{held_bytes}
+
+-- The part is a whole message of this kind: of one frame, which is final.
+pub record IsWholeMessage (part : Part) (kind : Kind) : Type 0 where
+  pub begins : part.begins ≡ true
+  pub ends : part.ends ≡ true
+  pub final : part.head.fin ≡ true
+  pub op : part.head.op ≡ op_of kind
 
 -- the message of this kind whose payload is the bytes that a source holds
 abbrev pub lent_message : {A : Type 0} → EventReader A → Kind → MeantEvent
 lent_message reading kind = Message kind (held_bytes reading)
 
 -- After the events given the source has given one more, which it lends: a message of this kind. It is lawful, and is the
--- next event of the bytes that came, at the frame that ends it. The source has its offset and the number of its frames.
+-- next event of the bytes that came, at the frame that ends it, which is the last that the source has taken. The source
+-- has its offset and the number of its frames.
 pub record LendsMessage {A : Type 0} (role : Role) (limits : Limits) (reading : EventReader A) (came : List ℕ)
     (given : List MeantEvent) (kind : Kind) : Type 0 where
   pub has : HasGiven role limits reading came (given ++ lent_message reading kind ∷ [])
@@ -30,5 +41,8 @@ pub record LendsMessage {A : Type 0} (role : Role) (limits : Limits) (reading : 
   pub final : frame.fin ≡ true
   pub first : given ≡ meaning before
   pub ended : lent_message reading kind ≡ event_at before frame
+  pub last : has.frames ≡ before ++ frame ∷ []
+  pub between : has.position ≡ BetweenFrames
+  pub payload_is : held_bytes reading ≡ frame.payload
   pub offset : offset_of reading ≡ event_offset before frame
   pub count : frames_of reading ≡ event_frames before frame

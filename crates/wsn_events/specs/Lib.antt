@@ -5,8 +5,8 @@ pub mod Sources
 pub mod EventReaders
 pub mod TakenEvents
 pub mod LentMessages
-pub mod LeavingOut
 pub mod Turns
+pub mod LeavingOut
 pub mod Comparing
 pub mod Excerpts
 pub mod Normalised

@@ -5,7 +5,7 @@ use Rattle.wsn_wire.specs.declared.opcode.Op.TheVariants as ops
 use Rattle.wsn_wire.specs.declared.opcode.Kind.{Kind}
 use Rattle.wsn_wire.specs.declared.opcode.Kind.TheVariants as kinds
 use Rattle.wsn_wire.specs.Frame.{Frame, is_control, stream}
-use Rattle.wsn_scan.specs.ReportedFrames.{Position, BetweenFrames, InFrame}
+use Rattle.wsn_scan.specs.Positions.{Position, BetweenFrames, InFrame}
 use Rattle.wsn_rules.specs.Group.{unfinished, kind_of, payload_of}
 use Rattle.wsn_rules.specs.Meaning.{event_at}
 use Rattle.wsn_rules.specs.ShownStream.{open_offset, event_offset, event_frames}
@@ -23,35 +23,35 @@ pub record HasBegun {A : Type 0} (g : Reassembly A) (offset count : ℕ) : Type 
   pub count_is : g.frames ≡ count
 
 -- Between frames, the open message is the joined payload of its frames so far.
-pub record IsBetweenFrames {A : Type 0} (g : Reassembly A) (done : List Frame) : Type 0 where
-  pub message : g.message.items ≡ payload_of (unfinished done)
-  pub kind : IsKindOf g.kind (unfinished done)
-  pub begun : unfinished done ≢ [] → HasBegun g (open_offset done) (length (unfinished done))
+pub record IsBetweenFrames {A : Type 0} (g : Reassembly A) (fs : List Frame) : Type 0 where
+  pub message : g.message.items ≡ payload_of (unfinished fs)
+  pub kind : IsKindOf g.kind (unfinished fs)
+  pub begun : unfinished fs ≢ [] → HasBegun g (open_offset fs) (length (unfinished fs))
 
 -- In a frame with this opcode and this payload so far: a control's payload of at most 125 bytes is kept apart, and a
 -- data frame's is appended to the open message.
-pub record IsInFrame {A : Type 0} (g : Reassembly A) (done : List Frame) (o : Op) (payload : List ℕ) : Type 0 where
+pub record IsInFrame {A : Type 0} (g : Reassembly A) (fs : List Frame) (o : Op) (payload : List ℕ) : Type 0 where
   pub op : g.op ≡ o
-  pub of_control : is_control o ≡ true → IsBetweenFrames g done
+  pub of_control : is_control o ≡ true → IsBetweenFrames g fs
   pub body : is_control o ≡ true → length payload ≤ 125 → g.body.items ≡ payload
-  pub message : is_control o ≡ false → g.message.items ≡ payload_of (unfinished done) ++ payload
+  pub message : is_control o ≡ false → g.message.items ≡ payload_of (unfinished fs) ++ payload
   pub text : o ≡ ops.Text → g.kind ≡ kinds.Text
   pub binary : o ≡ ops.Binary → g.kind ≡ kinds.Binary
-  pub continued : o ≡ ops.Continue → IsKindOf g.kind (unfinished done)
-  pub place : g.place ≡ length (stream done)
-  pub first : (o ≡ ops.Text) ⊎ (o ≡ ops.Binary) → HasBegun g (length (stream done)) 1
+  pub continued : o ≡ ops.Continue → IsKindOf g.kind (unfinished fs)
+  pub place : g.place ≡ length (stream fs)
+  pub first : (o ≡ ops.Text) ⊎ (o ≡ ops.Binary) → HasBegun g (length (stream fs)) 1
   pub further :
-      o ≡ ops.Continue → unfinished done ≢ [] → HasBegun g (open_offset done) (length (unfinished done) + 1)
+      o ≡ ops.Continue → unfinished fs ≢ [] → HasBegun g (open_offset fs) (length (unfinished fs) + 1)
 
--- After the frames that are done, at this position.
+-- After the frames fs, at this position.
 abbrev pub IsReassembled : {A : Type 0} → Reassembly A → List Frame → Position → Type 0
-IsReassembled g done BetweenFrames = IsBetweenFrames g done
-IsReassembled g done (InFrame info payload) = IsInFrame g done info.op payload
+IsReassembled g fs BetweenFrames = IsBetweenFrames g fs
+IsReassembled g fs (InFrame info payload) = IsInFrame g fs info.op payload
 
--- The event that the frame ends after those that are done; none if the frame isn't final.
+-- The event that the frame ends after the frames fs; none if the frame isn't final.
 abbrev pub IsEventOf : {A : Type 0} → List Frame → Frame → Option (Event A) → Type 0
-IsEventOf done f None = f.fin ≡ false
-IsEventOf done f (Some event) = (f.fin ≡ true) × (meant event ≡ event_at done f)
+IsEventOf fs f None = f.fin ≡ false
+IsEventOf fs f (Some event) = (f.fin ≡ true) × (meant event ≡ event_at fs f)
 
 -- The offset of the first frame of the event that ended last.
 abbrev pub offset_given : {A : Type 0} → Reassembly A → ℕ
@@ -61,7 +61,7 @@ offset_given g = if is_control g.op then g.place else g.start
 abbrev pub frames_given : {A : Type 0} → Reassembly A → ℕ
 frames_given g = if is_control g.op then 1 else g.frames
 
--- If the frame ends an event after those that are done, its first frame is at this offset, and it has this many frames.
-pub record IsPlacedAt {A : Type 0} (g : Reassembly A) (done : List Frame) (f : Frame) : Type 0 where
-  pub offset : offset_given g ≡ event_offset done f
-  pub count : frames_given g ≡ event_frames done f
+-- If the frame ends an event after the frames fs, its first frame is at this offset, and it has this many frames.
+pub record IsPlacedAt {A : Type 0} (g : Reassembly A) (fs : List Frame) (f : Frame) : Type 0 where
+  pub offset : offset_given g ≡ event_offset fs f
+  pub count : frames_given g ≡ event_frames fs f

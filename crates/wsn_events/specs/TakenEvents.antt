@@ -7,11 +7,11 @@ use Rattle.wsn_io.specs.Stops.{IsWrittenOrStops}
 use Rattle.wsn_rules.specs.Limits.{Limits}
 use Rattle.wsn_rules.specs.Meaning.{MeantEvent}
 use Rattle.wsn_rules.specs.NormalForm.{normal_form}
-use Rattle.wsn_scan.specs.NoticeReaders.{held_payload}
+use Rattle.wsn_scan.specs.FrameReaders.{held_payload}
 use Rattle.wsn_events.specs.declared.event_reader.EventReader.{EventReader}
 use Rattle.wsn_events.specs.EventReaders.{HasGiven}
 
--- the bytes that a source holds of the notices that came last
+-- the bytes that a source holds of what came last
 abbrev pub held_bytes : {A : Type 0} → EventReader A → List ℕ
 held_bytes reading = held_payload reading.reader
 

@@ -1,9 +1,10 @@
--- What one source gives in a round of a comparison, and what that means.
-use Rattle.std.specs.Prelude.{◌≡◌, Result, Ok, Err, ⊤}
+-- What a source gives next, lent or of its own, and what that means.
+use Rattle.std.specs.Prelude.{◌≡◌, ℕ, ◌+◌, ◌≤◌, false, Result, Ok, Err, List, ◌++◌, length, ⊤}
+use Rattle.wsn_wire.specs.declared.endpoint.Role.{Role}
 use Rattle.wsn_io.specs.declared.stop.Stop.{Stop}
-use Rattle.wsn_io.specs.Transfer.{Incoming}
+use Rattle.wsn_io.specs.Transfer.{Incoming, IsConsumed}
 use Rattle.wsn_rules.specs.declared.verdict.Verdict.{Verdict}
-use Rattle.wsn_rules.specs.declared.without.Without.{Without}
+use Rattle.wsn_rules.specs.Limits.{Limits}
 use Rattle.wsn_rules.specs.LawfulEvents.{IsLawfulEvent}
 use Rattle.wsn_rules.specs.Meaning.{MeantEvent}
 use Rattle.wsn_events.specs.declared.event_reader.EventReader.{EventReader}
@@ -12,8 +13,8 @@ use Rattle.wsn_events.specs.declared.source.Next.TheVariants as nexts
 use Rattle.wsn_events.specs.declared.turn.Turn.{Turn}
 use Rattle.wsn_events.specs.declared.turn.Turn.TheVariants as turns
 use Rattle.wsn_events.specs.EventsMeant.{meant}
-use Rattle.wsn_events.specs.LentMessages.{lent_message}
-use Rattle.wsn_events.specs.LeavingOut.{ReadsNext}
+use Rattle.wsn_events.specs.EventReaders.{IsNextEvent, IsEvent}
+use Rattle.wsn_events.specs.LentMessages.{LendsMessage, lent_message}
 
 -- An event, or the verdict.
 pub data MeantTurn : Type 0 where
@@ -25,7 +26,7 @@ abbrev pub meant_next : {A : Type 0} → Next A → MeantTurn
 meant_next (nexts.Event event) = OfEvent (meant event)
 meant_next (nexts.Done verdict) = OfVerdict verdict
 
--- What a source's turn means; the source holds the payload of a message that it lends.
+-- what a source's turn means; the source holds the payload of a message that it lends
 abbrev pub meant_turn : {A : Type 0} → EventReader A → Turn A → MeantTurn
 meant_turn reading (turns.Lent kind) = OfEvent (lent_message reading kind)
 meant_turn reading (turns.Own next) = meant_next next
@@ -40,9 +41,26 @@ abbrev pub own_turn : {A : Type 0} → Result (Next A) Stop → Result (Turn A) 
 own_turn (Ok next) = Ok (turns.Own next)
 own_turn (Err halted) = Err halted
 
--- The source was read on, and the turn is what it gave.
-pub record IsOwnTurn {A : Type 0} (without : Without) (old new : Incoming) (before reading : EventReader A)
-    (result : Result (Turn A) Stop) : Type 0 where
-  pub next : Result (Next A) Stop
-  pub is : result ≡ own_turn next
-  pub reads : ReadsNext without old new before reading next
+-- The turn is an event: neither a verdict nor a stop.
+abbrev pub GivesEvent : {A : Type 0} → Result (Turn A) Stop → Type 0
+GivesEvent (Ok (turns.Lent kind)) = ⊤
+GivesEvent (Ok (turns.Own next)) = IsEvent (Ok next)
+GivesEvent (Err halted) = ⊥
+
+-- The turn is right for the bytes that came: a message that the source lends, or what `next` would return.
+abbrev pub IsNextTurn : {A : Type 0} → Role → Limits → Incoming → EventReader A → List ℕ → List MeantEvent →
+    Result (Turn A) Stop → Type 0
+IsNextTurn role limits new reading came given (Ok (turns.Lent kind)) =
+    LendsMessage role limits reading came given kind × (new.failed ≡ false)
+IsNextTurn role limits new reading came given (Ok (turns.Own next)) =
+    IsNextEvent role limits new reading came given (Ok next)
+IsNextTurn role limits new reading came given (Err halted) =
+    IsNextEvent role limits new reading came given (Err halted)
+
+-- A call has read these bytes more, and its turn is right for all that came: at most one byte past the limit.
+pub record TakesTurn {A : Type 0} (role : Role) (limits : Limits) (old new : Incoming) (reading : EventReader A)
+    (came : List ℕ) (given : List MeantEvent) (result : Result (Turn A) Stop) : Type 0 where
+  pub more : List ℕ
+  pub consumed : IsConsumed old new more
+  pub few : length (came ++ more) ≤ limits.input + 1
+  pub next : IsNextTurn role limits new reading (came ++ more) given result

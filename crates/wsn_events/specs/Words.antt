@@ -14,12 +14,14 @@ pub use Rattle.wsn_rules.specs.declared.verdict.Verdict.{Verdict}
 pub use Rattle.wsn_rules.specs.declared.verdict.Verdict.TheVariants.{Accepted}
 pub use Rattle.wsn_io.specs.Stops.{HasNoFailure, IsWrittenOrStops}
 pub use Rattle.wsn_io.specs.declared.stop.Stop.{Stop}
-pub use Rattle.wsn_events.specs.Sources.{IsLast}
+pub use Rattle.wsn_scan.specs.Positions.{Position}
+pub use Rattle.wsn_scan.specs.Parts.{IsPartAt}
 pub use Rattle.wsn_events.specs.Comparing.{DifferAt, IsComparisonOf, IsComparisonOfBy}
 pub use Rattle.wsn_events.specs.EventsMeant.{meant, close_body}
 pub use Rattle.wsn_events.specs.Normalised.{IsNormalisedWhole}
-pub use Rattle.wsn_events.specs.EventReaders.{IsAsBefore, HasGiven, IsAtWork, GoesOn, IsEvent, answered, held_of, offset_of, frames_of, readings_left, next_of}
-pub use Rattle.wsn_events.specs.Reassembly.{IsBetweenFrames, IsInFrame, IsEventOf, offset_given, frames_given, IsPlacedAt}
+pub use Rattle.wsn_events.specs.EventReaders.{IsAsBefore, HasGiven, IsAtWork, GoesOn, IsNextEvent, IsEvent, answered, held_of, offset_of, frames_of, readings_left, next_of}
+pub use Rattle.wsn_events.specs.Reassembly.{IsReassembled, IsBetweenFrames, IsInFrame, IsEventOf, offset_given, frames_given, IsPlacedAt}
 pub use Rattle.wsn_rules.specs.declared.compared.Compared.{Compared}
 pub use Rattle.wsn_events.specs.TakenEvents.{TakesEventsAfter, PutsTaken, held_bytes}
 pub use Rattle.wsn_events.specs.LentMessages.{LendsMessage}
+pub use Rattle.wsn_events.specs.Turns.{TakesTurn, GivesEvent, own_turn}

@@ -6,14 +6,15 @@ ghost use Rattle.wsn_rules.specs.Meaning.{MeantEvent, Message};
 ghost use Rattle.wsn_events.specs.Sources.{IsLast};
 ghost use Rattle.wsn_rules.specs.LeftOut.{events_without};
 ghost use Rattle.wsn_events.specs.Excerpts.{IsContrasted, KeepsFirst, KeepsOf, index_in};
-ghost use Rattle.wsn_events.specs.Comparing.{IsComparisonOutcome, IsAnAccepted, IsRoundOf, AreLentAlike, IsComparedBy, IsCompared, IsComparisonOfBy, IsComparisonOf};
+ghost use Rattle.wsn_events.specs.Comparing.{IsComparisonOutcome, IsAnAccepted, IsRoundOf, IsComparedBy, IsCompared, IsComparisonOfBy, IsComparisonOf};
 ghost use Rattle.wsn_events.specs.Turns.{OfEvent, IsLawfulTurn, meant_next, meant_turn};
 
 use crate::equal_bytes::are_equal;
 use crate::event::{is_message, is_same};
 use crate::first_difference::{FirstDifference, excerpt_of};
+use crate::leaving_out::turn_without;
 use crate::source::{Next, Source};
-use crate::turn::{Turn, give_back, turn_of};
+use crate::turn::{Turn, give_back};
 use std::alloc::Allocator;
 use std::io::Read;
 use wsn_rules::{Compared, Without};
@@ -97,14 +98,8 @@ pub fn contrast<A: Allocator + Copy, R: Read, S: Read>(
     let mut index = 0;
     let mut difference = None;
     loop {
-        let lent = events.take_message();
-        let other_lent = others.take_message();
-        if are_lent_alike(&events, lent, &others, other_lent) {
-            index += 1;
-            continue;
-        }
-        let turn = turn_of(lent, &mut events, first, without)?;
-        let other = turn_of(other_lent, &mut others, second, without)?;
+        let turn = turn_without(&mut events, first, without)?;
+        let other = turn_without(&mut others, second, without)?;
         let round = end_round(&mut difference, index, &events, &turn, &others, &other);
         if let Round::Over(verdict, other) = round {
             let compared = outcome(verdict, other, index_of(&difference));
@@ -116,23 +111,8 @@ pub fn contrast<A: Allocator + Copy, R: Read, S: Read>(
     }
 }
 
-/// Whether both sources lend a message, and these are the same.
-#[inline(always)]
-fn are_lent_alike<A: Allocator + Copy>(
-    events: &Source<A>,
-    lent: Option<Kind>,
-    others: &Source<A>,
-    other: Option<Kind>,
-) -> bool
-    ensures { result ≡ true → AreLentAlike events.now lent others.now other }
-{
-    match (lent, other) {
-        (Some(kind), Some(other)) => kind == other && are_equal(events.taken(), others.taken()),
-        _ => false,
-    }
-}
-
 /// The round that these two turns make. It keeps of the first events that differ what shows them.
+#[inline(always)]
 fn end_round<A: Allocator + Copy>(
     difference: &mut Option<FirstDifference>,
     index: u64,
@@ -155,6 +135,7 @@ fn end_round<A: Allocator + Copy>(
 }
 
 /// Keeps what shows the events that the sources gave last, unless a difference is kept already.
+#[inline(never)]
 #[tactic(none)]
 fn keep_first<A: Allocator + Copy>(
     difference: &mut Option<FirstDifference>,
@@ -202,6 +183,7 @@ enum Round {
 }
 
 /// The round that these two turns make.
+#[inline(always)]
 fn round_of<A: Allocator + Copy>(
     events: &Source<A>,
     turn: &Turn<A>,
@@ -215,7 +197,7 @@ fn round_of<A: Allocator + Copy>(
         (Turn::Own(next), Turn::Lent(kind)) => round_with(next, *kind, others.taken()),
         (Turn::Lent(kind), Turn::Own(next)) => round_with(next, *kind, events.taken()),
         (Turn::Lent(kind), Turn::Lent(other)) => {
-            if kind == other && events.taken() == others.taken() {
+            if kind == other && are_equal(events.taken(), others.taken()) {
                 Round::Alike
             } else {
                 Round::Unlike

@@ -1,22 +1,26 @@
+ghost use Rattle.std.specs.Prelude.{IfSome};
+ghost use Rattle.wsn_events.specs.LentMessages.{IsWholeMessage};
+
 use crate::event::Event;
 use crate::reassembly::Reassembly;
 use crate::source::Next;
+use crate::turn::Turn;
 use std::alloc::Allocator;
 use std::io::Read;
-use wsn_scan::{Limits, NextNotice, NoticeReader, Stop, Verdict};
-use wsn_wire::{Input, Kind, Role};
+use wsn_scan::{FrameReader, Limits, Part, Stop, Verdict};
+use wsn_wire::{Input, Kind, Op, Role};
 
 /// The state of an event source: its reader, the open message so far, and the answer that it has ended with.
 #[derive(Drop)]
 pub struct EventReader<A: Allocator> {
-    reader: NoticeReader,
+    reader: FrameReader,
     reassembly: Reassembly<A>,
     answer: Option<Result<Verdict, Stop>>,
 }
 
 impl<A: Allocator + Copy> EventReader<A> {
-    ghost use Rattle.std.specs.Prelude.{◌≡◌, ℕ, ◌<◌, ◌≤◌, List, [], None, Some, Err, IfSome, IfNone, true, false};
-    ghost use Rattle.wsn_events.specs.Words.{Role, MeantEvent, HasGiven, IsAsBefore, IsAtWork, GoesOn, IsEvent, answered, held_of, offset_of, frames_of, readings_left, next_of, TakesEventsAfter, held_bytes, LendsMessage, IsLast, Stop};
+    ghost use Rattle.std.specs.Prelude.{◌≡◌, ℕ, ◌<◌, ◌≤◌, List, [], None, Some, true, false};
+    ghost use Rattle.wsn_events.specs.Words.{Role, MeantEvent, HasGiven, IsAsBefore, IsAtWork, GoesOn, IsNextEvent, IsEvent, TakesTurn, GivesEvent, answered, held_of, offset_of, frames_of, readings_left, TakesEventsAfter, held_bytes, LendsMessage};
 
     /// A source that has read nothing.
     #[tactic(none)]
@@ -24,7 +28,7 @@ impl<A: Allocator + Copy> EventReader<A> {
         ensures { HasGiven role limits result [] [] }
     {
         EventReader {
-            reader: NoticeReader::new(role, limits),
+            reader: FrameReader::new(role, limits),
             reassembly: Reassembly::new(alloc),
             answer: None,
         }
@@ -70,83 +74,72 @@ impl<A: Allocator + Copy> EventReader<A> {
         ensures falls { IsEvent result → readings_left self.new < readings_left self.old }
         ensures sound { answered self.new ≡ None → IsEvent result }
     {
+        match self.next_turn(input)? {
+            Turn::Own(next) => Ok(next),
+            Turn::Lent(kind) => self.copy(kind),
+        }
+    }
+
+    /// Reads on to the next event, or to the end. It lends a message that is whole in the part that came last.
+    #[inline(always)]
+    #[tactic(none)]
+    pub fn next_turn<R: Read>(&mut self, input: &mut Input<R>) -> Result<Turn<A>, Stop>
+        requires begun { IsAtWork self.old }
+        requires readable { input.old.failed ≡ false }
+        ensures next { (role : Role) (limits : _) (came : List ℕ) (given : List MeantEvent) →
+            HasGiven role limits self.old came given →
+            TakesTurn role limits input.old input.new self.new came given result }
+        ensures falls { GivesEvent result → readings_left self.new < readings_left self.old }
+        ensures sound { answered self.new ≡ None → GivesEvent result }
+    {
+        let mut part = Part::new();
         loop {
-            if !self.take_start() {
-                return self.finish(Err(Stop::Memory));
-            }
-            match self.reader.next(input) {
-                Ok(NextNotice::Head(head)) => self.reassembly.begin(head.op, head.place),
-                Ok(NextNotice::Payload) => {
+            match self.reader.next(input, &mut part) {
+                Ok(None) => {
+                    self.reassembly.begin(&part);
+                    if let Some(kind) = whole_message(&part) {
+                        return Ok(Turn::Lent(kind));
+                    }
                     if !self.reassembly.take(self.reader.payload()) {
-                        return self.finish(Err(Stop::Memory));
+                        self.finish(Err(Stop::Memory));
+                        return Err(Stop::Memory);
+                    }
+                    if part.ends {
+                        if let Some(event) = self.reassembly.end(part.head.fin) {
+                            return Ok(Turn::Own(Next::Event(event)));
+                        }
                     }
                 }
-                Ok(NextNotice::FrameEnd { event }) => {
-                    if let Some(event) = self.reassembly.end(event) {
-                        return Ok(Next::Event(event));
-                    }
+                Ok(Some(verdict)) => {
+                    self.finish(Ok(verdict));
+                    return Ok(Turn::Own(Next::Done(verdict)));
                 }
-                Ok(NextNotice::Done(verdict)) => return self.finish(Ok(verdict)),
-                Err(stop) => return self.finish(Err(stop)),
+                Err(stop) => {
+                    self.finish(Err(stop));
+                    return Err(stop);
+                }
             }
         }
     }
 
-    /// Takes what the chunk has of the next frame, as [`EventReader::take_begun`] does, and after a fragment that is whole
-    /// there also of the frame that follows. Returns false if an allocation fails, which can happen only after a payload
-    /// byte of a data frame.
-    #[inline(always)]
-    fn take_start(&mut self) -> bool
-        requires { IsAtWork self.old }
-        ensures taken { result ≡ true → (role : Role) (limits : _) (came : List ℕ) (given : List MeantEvent) →
-            HasGiven role limits self.old came given → HasGiven role limits self.new came given }
-        ensures refused { result ≡ false → (role : Role) (limits : _) (came : List ℕ) (given : List MeantEvent)
-            (input : _) → input.failed ≡ false → HasGiven role limits self.old came given →
-            IsLast role limits input came given (Err Stop.Memory) }
-        ensures left { readings_left self.new ≤ readings_left self.old }
+    /// The message that it lends, as an event of its own.
+    #[tactic(none)]
+    fn copy(&mut self, kind: Kind) -> Result<Next<A>, Stop>
+        requires { answered self.old ≡ None }
+        ensures next { (role : Role) (limits : _) (input : _) (came : List ℕ) (given : List MeantEvent) →
+            LendsMessage role limits self.old came given kind → input.failed ≡ false →
+            IsNextEvent role limits input self.new came given result }
+        ensures sound { answered self.new ≡ None → IsEvent result }
+        ensures left { readings_left self.new ≡ readings_left self.old }
     {
-        loop {
-            if !self.take_begun() {
-                return false;
-            }
-            if !self.take_fragment_end() {
-                return true;
-            }
-        }
-    }
-
-    /// Takes the end of a fragment, as [`NoticeReader::take_fragment_end`] does.
-    #[inline(always)]
-    fn take_fragment_end(&mut self) -> bool
-        requires { IsAtWork self.old }
-        ensures taken { result ≡ true → (role : Role) (limits : _) (came : List ℕ) (given : List MeantEvent) →
-            HasGiven role limits self.old came given → HasGiven role limits self.new came given }
-        ensures none { result ≡ false → self.new ≡ self.old }
-        ensures falls { result ≡ true → readings_left self.new < readings_left self.old }
-    {
-        self.reader.take_fragment_end()
-    }
-
-    /// Takes the start of the next frame, or all of it but its end, if [`NoticeReader::take_begun`] does. Returns false if
-    /// an allocation fails, which can happen only after a payload byte of a data frame.
-    #[inline(always)]
-    fn take_begun(&mut self) -> bool
-        requires { IsAtWork self.old }
-        ensures taken { result ≡ true → (role : Role) (limits : _) (came : List ℕ) (given : List MeantEvent) →
-            HasGiven role limits self.old came given → HasGiven role limits self.new came given }
-        ensures refused { result ≡ false → (role : Role) (limits : _) (came : List ℕ) (given : List MeantEvent)
-            (input : _) → input.failed ≡ false → HasGiven role limits self.old came given →
-            IsLast role limits input came given (Err Stop.Memory) }
-        ensures left { readings_left self.new ≤ readings_left self.old }
-    {
-        let Some(head) = self.reader.take_begun() else {
-            return true;
+        let Some(text) = self.reassembly.copy(self.reader.payload()) else {
+            self.finish(Err(Stop::Memory));
+            return Err(Stop::Memory);
         };
-        self.reassembly.begin(head.op, head.place);
-        self.reassembly.take(self.reader.payload())
+        Ok(Next::Event(Event::Message(kind, text)))
     }
 
-    /// Takes the events of the frames that come next, as [`NoticeReader::take_events`] does, and returns whether
+    /// Takes the events of the frames that come next, as [`FrameReader::take_events`] does, and returns whether
     /// there are any. [`EventReader::taken`] then returns their normal form.
     pub fn take_events(&mut self) -> bool
         requires { IsAtWork self.old }
@@ -156,21 +149,6 @@ impl<A: Allocator + Copy> EventReader<A> {
         ensures left { readings_left self.new ≤ readings_left self.old }
     {
         self.reader.take_events()
-    }
-
-    /// Takes the next event if it is a message that [`NoticeReader::take_message`] takes, and returns its kind.
-    /// [`EventReader::taken`] then returns its bytes.
-    #[inline(always)]
-    pub fn take_message(&mut self) -> Option<Kind>
-        requires { IsAtWork self.old }
-        ensures taken { IfSome result (λ kind. (role : Role) (limits : _) (came : List ℕ) (given : List MeantEvent) →
-            HasGiven role limits self.old came given → LendsMessage role limits self.new came given kind) }
-        ensures none { IfNone result (self.new ≡ self.old) }
-        ensures falls { IfSome result (λ _. readings_left self.new < readings_left self.old) }
-    {
-        let (op, place) = self.reader.take_message()?;
-        self.reassembly.begin(op, place);
-        Some(self.reassembly.kind())
     }
 
     /// Uses the room of an event that was given for the next message.
@@ -190,13 +168,27 @@ impl<A: Allocator + Copy> EventReader<A> {
     }
 
     /// Ends the source with this answer, and frees the open message.
-    fn finish(&mut self, answer: Result<Verdict, Stop>) -> Result<Next<A>, Stop>
+    fn finish(&mut self, answer: Result<Verdict, Stop>)
         ensures answer { answered self.new ≡ Some answer }
         ensures held { held_of self.new ≡ 0 }
-        ensures result { result ≡ next_of answer }
+        ensures left { readings_left self.new ≡ readings_left self.old }
     {
         self.reassembly.release();
         self.answer = Some(answer);
-        Ok(Next::Done(answer?))
+    }
+}
+
+/// The kind of the message that the part is, if it is a whole message of one frame.
+#[inline(always)]
+fn whole_message(part: &Part) -> Option<Kind>
+    ensures { IfSome result (λ kind. IsWholeMessage part.now kind) }
+{
+    if !(part.begins && part.ends && part.head.fin) {
+        return None;
+    }
+    match part.head.op {
+        Op::Text => Some(Kind::Text),
+        Op::Binary => Some(Kind::Binary),
+        _ => None,
     }
 }

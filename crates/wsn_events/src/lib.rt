@@ -1,15 +1,17 @@
 //! What a stream means, and its normal form (RFC 6455 sections 5.4 to 5.6).
 //!
 //! An [`Event`] is a message, a ping, a pong or the close. A [`Source`] reads a stream's events, each at the frame that
-//! ends it, and then its verdict. [`put_event`] writes an event's normal form, which is one frame. [`normalise`] writes
-//! the normal form of a stream. [`same`] compares what two streams mean, and [`same_without`] leaves out controls of some
-//! kinds; [`contrast`] also returns the first events that differ. [`is_lawful`] checks whether a stream can mean an event, and [`control_of`] returns a control's opcode and
-//! body.
+//! ends it, and then its verdict; [`Source::next_turn`] lends a message that is whole in the chunk that was read last, and
+//! doesn't copy it. [`put_event`] writes an event's normal form, which is one frame. [`normalise`] writes the normal form
+//! of a stream. [`same`] compares what two streams mean, and [`same_without`] leaves out controls of some kinds;
+//! [`contrast`] also returns the first events that differ. [`is_lawful`] checks whether a stream can mean an event, and
+//! [`control_of`] returns a control's opcode and body.
 //!
 //! `specs/EventsMeant.antt` defines what an [`Event`] means, `specs/Sources.antt` which events a source gives,
-//! `specs/Normalised.antt` what normalising writes, `specs/LentMessages.antt` which message a source lends, `specs/Comparing.antt` what a comparison answers, and
-//! `specs/Excerpts.antt` what is kept of the events that differ. Lawful events and the normal form are defined in `wsn_rules` (`specs/LawfulEvents.antt`, `specs/NormalForm.antt`). [`laws`] has
-//! the laws about them.
+//! `specs/LentMessages.antt` which message it lends, `specs/Turns.antt` what comes next of it, lent or not,
+//! `specs/Normalised.antt` what normalising writes, `specs/Comparing.antt` what a comparison answers, and
+//! `specs/Excerpts.antt` what is kept of the events that differ. Lawful events and the normal form are defined in
+//! `wsn_rules` (`specs/LawfulEvents.antt`, `specs/NormalForm.antt`). [`laws`] has the laws about them.
 #![tactic(auto)]
 
 mod comparing;
@@ -35,4 +37,5 @@ pub use framing::put_frame;
 pub use normal::normalise;
 pub use putting::{control_of, put_event};
 pub use source::{Next, Source};
+pub use turn::Turn;
 pub use wsn_rules::{Compared, Without};

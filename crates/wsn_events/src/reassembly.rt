@@ -1,7 +1,7 @@
 use crate::event::{Event, Small};
 use std::alloc::Allocator;
 use std::mem;
-use wsn_scan::CHUNK;
+use wsn_scan::{CHUNK, Part};
 use wsn_wire::{Kind, Op};
 
 /// The open message so far, and the frame whose head came last.
@@ -20,10 +20,10 @@ pub struct Reassembly<A: Allocator> {
 }
 
 impl<A: Allocator + Copy> Reassembly<A> {
-    ghost use Rattle.std.specs.Prelude.{◌≡◌, ℕ, ◌+◌, ◌<◌, ◌^◌, List, [], ◌∷◌, ◌++◌, true, false, length};
+    ghost use Rattle.std.specs.Prelude.{◌≡◌, ◌≢◌, ℕ, ◌+◌, ◌<◌, ◌^◌, List, [], ◌∷◌, ◌++◌, true, false, length, IfSome, IfNone};
     ghost use Rattle.wsn_rules.specs.Group.{unfinished};
     ghost use Rattle.wsn_wire.specs.Frame.{stream};
-    ghost use Rattle.wsn_events.specs.Words.{Role, Frame, is_control, IsLawful, IsLawfulControl, IsBetweenFrames, IsInFrame, IsEventOf, offset_given, frames_given, IsPlacedAt};
+    ghost use Rattle.wsn_events.specs.Words.{Role, Frame, is_control, IsLawful, IsLawfulControl, Position, IsPartAt, IsReassembled, IsBetweenFrames, IsInFrame, IsEventOf, offset_given, frames_given, IsPlacedAt};
 
     /// Nothing has come yet.
     pub fn new(alloc: A) -> Self
@@ -45,13 +45,6 @@ impl<A: Allocator + Copy> Reassembly<A> {
         ensures { result ≡ length self.now.message.items }
     {
         self.message.len()
-    }
-
-    /// The kind of the message that began last.
-    pub fn kind(&self) -> Kind
-        ensures { result ≡ self.now.kind }
-    {
-        self.kind
     }
 
     /// The offset of the first frame of the event that ended last.
@@ -92,11 +85,24 @@ impl<A: Allocator + Copy> Reassembly<A> {
         }
     }
 
+    /// Begins the part's frame, unless it has begun before.
+    #[inline(always)]
+    #[tactic(none)]
+    pub fn begin(&mut self, part: &Part)
+        ensures { (fs : List Frame) (at : Position) (before : List ℕ) → length (unfinished fs) + 1 < 2 ^ 64 →
+            part.now.head.place ≡ length (stream fs) → IsPartAt at part.now before →
+            IsReassembled self.old fs at → IsInFrame self.new fs part.now.head.op before }
+    {
+        if part.begins {
+            self.begin_frame(part.head.op, part.head.place);
+        }
+    }
+
     /// Begins a frame with this opcode at this offset.
     #[tactic(none)]
-    pub fn begin(&mut self, op: Op, place: u64)
-        ensures { (done : List Frame) → length (unfinished done) + 1 < 2 ^ 64 → place ≡ length (stream done) →
-            IsBetweenFrames self.old done → IsInFrame self.new done op [] }
+    fn begin_frame(&mut self, op: Op, place: u64)
+        ensures { (fs : List Frame) → length (unfinished fs) + 1 < 2 ^ 64 → place ≡ length (stream fs) →
+            IsBetweenFrames self.old fs → IsInFrame self.new fs op [] }
     {
         self.op = op;
         self.place = place;
@@ -120,13 +126,16 @@ impl<A: Allocator + Copy> Reassembly<A> {
         self.frames = 1;
     }
 
-    /// Adds payload of the frame. Returns false if an allocation fails; only a data frame allocates.
+    /// Adds payload of the frame. Returns false if an allocation fails; only payload of a data frame allocates.
     #[tactic(none)]
     pub fn take(&mut self, payload: &[u8]) -> bool
-        ensures taken { (done : List Frame) (op : _) (before : List ℕ) → result ≡ true →
-            IsInFrame self.old done op before → IsInFrame self.new done op (before ++ payload.now) }
-        ensures refused { result ≡ false → is_control self.old.op ≡ false }
+        ensures taken { (fs : List Frame) (op : _) (before : List ℕ) → result ≡ true →
+            IsInFrame self.old fs op before → IsInFrame self.new fs op (before ++ payload.now) }
+        ensures refused { result ≡ false → (is_control self.old.op ≡ false) × (payload.now ≢ []) }
     {
+        if payload.is_empty() {
+            return true;
+        }
         if self.op.is_control() {
             let _fits = self.body.try_extend_from_slice(payload);
             return true;
@@ -134,15 +143,30 @@ impl<A: Allocator + Copy> Reassembly<A> {
         self.message.extend_from_slice(payload).is_ok()
     }
 
+    /// A message in the room for the next one, where none is open. Returns `None` if an allocation fails; only a message
+    /// that isn't empty allocates.
+    pub fn copy(&mut self, text: &[u8]) -> Option<Vec<u8, A>>
+        ensures copied { IfSome result (λ copy. copy.items ≡ self.old.message.items ++ text.now) }
+        ensures same { self.new ≡ record self.old { message = self.new.message } }
+        ensures held { IfSome result (λ _. self.new.message.items ≡ []) }
+        ensures none { IfNone result (text.now ≢ []) }
+    {
+        if !text.is_empty() && self.message.extend_from_slice(text).is_err() {
+            return None;
+        }
+        let next = Vec::new(*self.message.allocator());
+        Some(mem::replace(&mut self.message, next))
+    }
+
     /// Ends the frame. Returns the event that it ends, if it is final.
     #[tactic(none)]
     pub fn end(&mut self, final_frame: bool) -> Option<Event<A>>
         requires lawful { final_frame ≡ true → is_control self.old.op ≡ true →
             IsLawfulControl self.old.op self.old.body.items }
-        ensures { (role : Role) (limits : _) (done : List Frame) (f : Frame) → f.fin ≡ final_frame →
-            IsLawful role limits (done ++ f ∷ []) →
-            IsInFrame self.old done f.op f.payload → IsEventOf done f result
-            × IsBetweenFrames self.new (done ++ f ∷ []) × IsPlacedAt self.new done f }
+        ensures { (role : Role) (limits : _) (fs : List Frame) (f : Frame) → f.fin ≡ final_frame →
+            IsLawful role limits (fs ++ f ∷ []) →
+            IsInFrame self.old fs f.op f.payload → IsEventOf fs f result
+            × IsBetweenFrames self.new (fs ++ f ∷ []) × IsPlacedAt self.new fs f }
     {
         if !final_frame {
             return None;

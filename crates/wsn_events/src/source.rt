@@ -1,14 +1,15 @@
-ghost use Rattle.std.specs.Prelude.{◌≡◌, ℕ, ◌<◌, ◌≤◌, List, [], None, Some, IfSome, IfNone, Result, true, false};
+ghost use Rattle.std.specs.Prelude.{◌≡◌, ℕ, ◌<◌, ◌≤◌, List, [], None, Some, Result, true, false};
 ghost use Rattle.wsn_events.specs.declared.event_reader.EventReader.{EventReader};
 ghost use Rattle.wsn_events.specs.EventReaders.{HasBegunOrEnded};
 
 use crate::event::Event;
 use crate::event_reader::EventReader;
+use crate::turn::Turn;
 use std::alloc::{Allocator, Global};
 use std::io::Read;
 use std::marker::Model;
 use wsn_scan::{Limits, Stop, Verdict};
-use wsn_wire::{Input, Kind, Role};
+use wsn_wire::{Input, Role};
 
 /// What [`Source::next`] returns.
 #[derive(Drop)]
@@ -36,7 +37,7 @@ impl<A: Allocator> Model for Source<A> {
 }
 
 impl<A: Allocator + Copy> Source<A> {
-    ghost use Rattle.wsn_events.specs.Words.{Role, MeantEvent, Verdict, Stop, HasGiven, IsAsBefore, GoesOn, IsEvent, answered, held_of, offset_of, frames_of, readings_left, next_of, TakesEventsAfter, held_bytes, LendsMessage};
+    ghost use Rattle.wsn_events.specs.Words.{Role, MeantEvent, Verdict, Stop, HasGiven, IsAsBefore, GoesOn, IsEvent, answered, held_of, offset_of, frames_of, readings_left, next_of, TakesEventsAfter, held_bytes, TakesTurn, GivesEvent, own_turn};
 
     /// A source that has read nothing. `role` is the endpoint that sent the stream. It allocates no memory.
     pub fn new(alloc: A, role: Role, limits: Limits) -> Self
@@ -91,10 +92,31 @@ impl<A: Allocator + Copy> Source<A> {
         }
     }
 
+    /// Reads on as [`Source::next`] does, but lends a message of one frame that is whole in the chunk that was read last: it
+    /// allocates nothing for it, and [`Source::taken`] returns its bytes until the next call that changes the source.
+    ///
+    /// Errors: as [`Source::next`].
+    #[inline(always)]
+    #[tactic(none)]
+    pub fn next_turn<R: Read>(&mut self, input: &mut Input<R>) -> Result<Turn<A>, Stop>
+        requires readable { answered self.old ≡ None → input.old.failed ≡ false }
+        ensures next { (role : Role) (limits : _) (came : List ℕ) (given : List MeantEvent) →
+            HasGiven role limits self.old came given →
+            TakesTurn role limits input.old input.new self.new came given result }
+        ensures falls { GivesEvent result → readings_left self.new < readings_left self.old }
+        ensures again { (answer : Result Verdict Stop) → answered self.old ≡ Some answer →
+            (result ≡ own_turn (next_of answer)) × (self.new ≡ self.old) × (input.new ≡ input.old) }
+        ensures sound { answered self.new ≡ None → GivesEvent result }
+    {
+        match self.reading.answer() {
+            Some(answer) => Ok(Turn::Own(Next::Done(answer?))),
+            None => self.reading.next_turn(input),
+        }
+    }
+
     /// Takes the events of the frames that come next and are whole in the chunk that was read last, up to the first
-    /// frame that [`NoticeReader::take_events`](wsn_scan::NoticeReader::take_events) leaves, and returns whether
-    /// there are any. [`Source::taken`] then returns their
-    /// normal form. It reads nothing. The source must not have ended.
+    /// frame that [`FrameReader::take_events`](wsn_scan::FrameReader::take_events) leaves, and returns whether there are
+    /// any. [`Source::taken`] then returns their normal form. It reads nothing. The source must not have ended.
     pub(crate) fn take_events(&mut self) -> bool
         requires { answered self.old ≡ None }
         ensures taken { result ≡ true → (role : Role) (limits : _) (came : List ℕ) (given : List MeantEvent) →
@@ -103,23 +125,6 @@ impl<A: Allocator + Copy> Source<A> {
         ensures left { readings_left self.new ≤ readings_left self.old }
     {
         self.reading.take_events()
-    }
-
-    /// Takes the next event if it is a message of one frame that is whole in the chunk that was read last, has payload,
-    /// and encodes its length shortest. Returns its kind; [`Source::taken`] then returns its bytes. Otherwise, and once
-    /// the source has ended, nothing changes. It reads nothing and allocates nothing.
-    #[inline(always)]
-    pub fn take_message(&mut self) -> Option<Kind>
-        ensures taken { IfSome result (λ kind. (role : Role) (limits : _) (came : List ℕ) (given : List MeantEvent) →
-            HasGiven role limits self.old came given → LendsMessage role limits self.new came given kind) }
-        ensures going { IfSome result (λ _. answered self.old ≡ None) }
-        ensures none { IfNone result (self.new ≡ self.old) }
-        ensures falls { IfSome result (λ _. readings_left self.new < readings_left self.old) }
-    {
-        if self.reading.answer().is_some() {
-            return None;
-        }
-        self.reading.take_message()
     }
 
     /// Uses the room of an event that it gave for the next message: of a message with room for at most 4,096 bytes.

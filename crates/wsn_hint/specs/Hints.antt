@@ -1,7 +1,7 @@
 -- What a hint says of the input that begins with the bytes.
-use Rattle.std.specs.Prelude.{◌≡◌, ℕ, ◌+◌, ◌<◌, ◌≤◌, ◌⊎◌, ⊤, true, List, [], ◌∷◌, ◌++◌, length, take}
+use Rattle.std.specs.Prelude.{◌≡◌, ℕ, ◌+◌, ◌<◌, ◌≤◌, ◌⊎◌, true, List, [], ◌∷◌, ◌++◌, length, take, drop, codes}
 use Rattle.std.specs.Char.{is_ascii_hexdigit}
-use Rattle.std.specs.List.{AllByRecursion}
+use Rattle.std.specs.List.{AllByRecursion, Contains, take_while}
 use Rattle.wsn_wire.specs.declared.endpoint.Role.{Role}
 use Rattle.wsn_wire.specs.declared.refusal.Reason.{Reason}
 use Rattle.wsn_wire.specs.Frame.{Frame}
@@ -10,7 +10,7 @@ use Rattle.wsn_rules.specs.Limits.{Limits}
 use Rattle.wsn_rules.specs.Verdict.{IsRefused, IsVerdict}
 use Rattle.wsn_scan.specs.Judging.{IsUnrefused}
 use Rattle.wsn_hint.specs.declared.hint.Hint.{Hint}
-use Rattle.wsn_hint.specs.declared.hint.Hint.TheVariants.{Empty, Capture, Hexadecimal, Compressed, Text, Pcap, PcapNg, Gzip, Tls, ByteOrderMark, OtherRole, Stream, Json, SmallLetters, Blanks}
+use Rattle.wsn_hint.specs.declared.hint.Hint.TheVariants.{Empty, HttpHead, Capture, CaptureToShow, Hexadecimal, HexDump, OffsetDump, Compressed, Text, Pcap, PcapNg, Gzip, Tls, ByteOrderMark, OtherRole, Stream, Json, SmallLetters, Blanks, OtherText, Binary}
 
 -- This is the verdict on the bytes.
 abbrev pub HasVerdict : Role → Limits → List ℕ → Verdict → Type 0
@@ -45,6 +45,14 @@ pub record BeginsTls (bytes : List ℕ) : Type 0 where
   pub most : kind ≤ 23
   pub version : minor ≤ 4
 
+-- The bytes begin with a version of HTTP, or with a method and a space (RFC 9112 sections 3 and 4).
+abbrev pub BeginsHttp : List ℕ → Type 0
+BeginsHttp bytes =
+    Begins (codes "HTTP/1.") bytes ⊎ Begins (codes "GET ") bytes ⊎ Begins (codes "HEAD ") bytes
+    ⊎ Begins (codes "POST ") bytes ⊎ Begins (codes "PUT ") bytes ⊎ Begins (codes "DELETE ") bytes
+    ⊎ Begins (codes "CONNECT ") bytes ⊎ Begins (codes "OPTIONS ") bytes ⊎ Begins (codes "TRACE ") bytes
+    ⊎ Begins (codes "PATCH ") bytes
+
 -- There are at least two bytes, and an endpoint may have sent the first two, under some limits.
 abbrev pub MayBeStream : List ℕ → Type 0
 MayBeStream bytes = (2 ≤ length bytes) × ((role : Role) × (limits : Limits) × IsUnrefused role limits (take 2 bytes))
@@ -67,17 +75,69 @@ pub record BeginsCompressed (role : Role) (limits : Limits) (bytes : List ℕ) :
 abbrev pub IsTextByte : ℕ → Type 0
 IsTextByte byte = (byte ≡ 9) ⊎ (byte ≡ 10) ⊎ (byte ≡ 13) ⊎ ((0x20 ≤ byte) × (byte ≤ 0x7e))
 
+-- The byte is a control character that no text has, not even one with the commands of a terminal or a printer.
+abbrev pub IsControl : ℕ → Type 0
+IsControl byte =
+    (byte ≤ 6) ⊎ ((14 ≤ byte) × (byte ≤ 26)) ⊎ ((28 ≤ byte) × (byte ≤ 31)) ⊎ (byte ≡ 127)
+
+-- One of the bytes is such a control character.
+abbrev pub HasControl : List ℕ → Type 0
+HasControl bytes = (byte : ℕ) × Contains bytes byte × IsControl byte
+
+-- The byte is a hexadecimal digit.
+abbrev pub IsHexDigit : ℕ → Type 0
+IsHexDigit byte = is_ascii_hexdigit byte ≡ true
+
+-- the number of hexadecimal digits that the bytes begin with
+abbrev pub digits_at_start : List ℕ → ℕ
+digits_at_start bytes = length (take_while is_ascii_hexdigit bytes)
+
+-- what follows these digits
+abbrev pub after_digits : List ℕ → List ℕ
+after_digits bytes = drop (digits_at_start bytes) bytes
+
+-- The bytes begin with a colon, a space and a digit.
+pub record BeginsGroup (bytes : List ℕ) : Type 0 where
+  pub digit : ℕ
+  pub rest : List ℕ
+  pub is : bytes ≡ 58 ∷ 32 ∷ digit ∷ rest
+  pub is_digit : IsHexDigit digit
+
+-- The bytes begin with an offset of eight digits, a colon, a space and a digit, as a dump by xxd does.
+abbrev pub BeginsHexDump : List ℕ → Type 0
+BeginsHexDump bytes = (digits_at_start bytes ≡ 8) × BeginsGroup (after_digits bytes)
+
+-- The bytes begin with a byte in two digits, and a space or an LF.
+pub record BeginsByte (bytes : List ℕ) : Type 0 where
+  pub high : ℕ
+  pub low : ℕ
+  pub next : ℕ
+  pub rest : List ℕ
+  pub is : bytes ≡ high ∷ low ∷ next ∷ rest
+  pub digits : IsHexDigit high × IsHexDigit low
+  pub apart : (next ≡ 32) ⊎ (next ≡ 10)
+
+-- The bytes begin with one or two spaces and such a byte.
+abbrev pub BeginsSpacedByte : List ℕ → Type 0
+BeginsSpacedByte bytes =
+    (rest : List ℕ) × ((bytes ≡ 32 ∷ rest) ⊎ (bytes ≡ 32 ∷ 32 ∷ rest)) × BeginsByte rest
+
+-- The bytes begin with an offset of six to eight digits and a byte, as a dump by hexdump or od does.
+abbrev pub BeginsOffsetDump : List ℕ → Type 0
+BeginsOffsetDump bytes =
+    (6 ≤ digits_at_start bytes) × (digits_at_start bytes ≤ 8) × BeginsSpacedByte (after_digits bytes)
+
 -- The byte is a hexadecimal digit, or stands between the digits of bytes: a space, a colon, a tab, or a line's end.
 abbrev pub IsHexByte : ℕ → Type 0
 IsHexByte byte =
-    (is_ascii_hexdigit byte ≡ true) ⊎ (byte ≡ 32) ⊎ (byte ≡ 58) ⊎ (byte ≡ 9) ⊎ (byte ≡ 13) ⊎ (byte ≡ 10)
+    IsHexDigit byte ⊎ (byte ≡ 32) ⊎ (byte ≡ 58) ⊎ (byte ≡ 9) ⊎ (byte ≡ 13) ⊎ (byte ≡ 10)
 
 -- The bytes are hexadecimal digits, and what stands between them; the first is a digit.
 pub record IsHexText (bytes : List ℕ) : Type 0 where
   pub first : ℕ
   pub rest : List ℕ
   pub is : bytes ≡ first ∷ rest
-  pub digit : is_ascii_hexdigit first ≡ true
+  pub digit : IsHexDigit first
   pub all : AllByRecursion IsHexByte bytes
 
 -- The bytes begin with c or s, and what follows an endpoint's letter in a capture: a space or a dot.
@@ -90,14 +150,40 @@ BeginsSmall bytes =
 abbrev pub BeginsLine : List ℕ → Type 0
 BeginsLine bytes = Begins (67 ∷ 32 ∷ []) bytes ⊎ Begins (83 ∷ 32 ∷ []) bytes
 
+-- The bytes begin with digits, none or more, and a space or a colon.
+abbrev pub HasBlank : List ℕ → Type 0
+HasBlank bytes = Begins (32 ∷ []) (after_digits bytes) ⊎ Begins (58 ∷ []) (after_digits bytes)
+
+-- The bytes begin with C or S and a space, as a capture's line with bytes does, and a blank or a colon follows the first
+-- of its digits.
+pub record BeginsBlanks (bytes : List ℕ) : Type 0 where
+  pub letter : ℕ
+  pub rest : List ℕ
+  pub is : bytes ≡ letter ∷ 32 ∷ rest
+  pub endpoint : (letter ≡ 67) ⊎ (letter ≡ 83)
+  pub separated : HasBlank rest
+
+-- A line of a capture may begin with these two bytes: a comment with #, an empty line, or C or S with a space or a dot.
+abbrev pub MayBeginLine : ℕ → ℕ → Type 0
+MayBeginLine byte next =
+    (byte ≡ 35) ⊎ (byte ≡ 13) ⊎ (byte ≡ 10) ⊎ (((byte ≡ 67) ⊎ (byte ≡ 83)) × ((next ≡ 32) ⊎ (next ≡ 46)))
+
+-- There are at least two bytes, and no line of a capture may begin with the first two.
+pub record BeginsNoLine (bytes : List ℕ) : Type 0 where
+  pub first : ℕ
+  pub second : ℕ
+  pub rest : List ℕ
+  pub is : bytes ≡ first ∷ second ∷ rest
+  pub none : ¬ (MayBeginLine first second)
+
 -- The bytes begin as a line of a capture does: with C or S and a space or a dot, or with a comment after a space.
 abbrev pub BeginsCapture : List ℕ → Type 0
 BeginsCapture bytes =
     BeginsLine bytes ⊎ Begins (67 ∷ 46 ∷ []) bytes ⊎ Begins (83 ∷ 46 ∷ []) bytes ⊎ Begins (35 ∷ 32 ∷ []) bytes
 
--- What the hint says is so of an input that begins with these bytes: a file format's mark is at the front; the first
--- two bytes are what an endpoint may send, under the same limits or some; or all of them are of a text. Of HTTP heads,
--- of dumps and of blanks between digits, tests alone say it.
+-- What the hint says is so of an input that begins with these bytes: a mark or the text of a first line is at the front;
+-- the first two bytes are what an endpoint may send, under the same limits or some; or all of them are of a text, or one
+-- is of none. No other hint is given.
 abbrev pub Fits : Limits → List ℕ → Hint → Type 0
 Fits limits bytes Empty = bytes ≡ []
 Fits limits bytes Pcap = BeginsPcap bytes
@@ -113,5 +199,11 @@ Fits limits bytes Text = AllByRecursion IsTextByte bytes
 Fits limits bytes Capture = BeginsCapture bytes
 Fits limits bytes Json = Begins (0x7b ∷ []) bytes
 Fits limits bytes SmallLetters = BeginsSmall bytes
-Fits limits bytes Blanks = BeginsLine bytes
-Fits limits bytes hint = ⊤
+Fits limits bytes Blanks = BeginsBlanks bytes
+Fits limits bytes CaptureToShow = BeginsCapture bytes
+Fits limits bytes HttpHead = BeginsHttp bytes
+Fits limits bytes HexDump = BeginsHexDump bytes
+Fits limits bytes OffsetDump = BeginsOffsetDump bytes
+Fits limits bytes OtherText = BeginsNoLine bytes × AllByRecursion IsTextByte bytes
+Fits limits bytes Binary = BeginsNoLine bytes × HasControl bytes
+Fits limits bytes hint = ⊥

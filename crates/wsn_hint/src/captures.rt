@@ -1,44 +1,89 @@
-ghost use Rattle.std.specs.Prelude.{◌≡◌, true, IfSome};
+ghost use Rattle.std.specs.Prelude.{◌≡◌, ◌↔◌, true, IsTrue, IfSome};
 ghost use Rattle.wsn_rules.specs.Limits.{Limits};
-ghost use Rattle.wsn_hint.specs.Hints.{Fits, MayBeStream};
+ghost use Rattle.wsn_hint.specs.Hints.{Fits, BeginsNoLine, HasBlank, HasControl, IsControl, MayBeStream, MayBeginLine};
 
-use crate::formats::format_of;
+use crate::formats::{after_digits, format_of};
 use crate::hint::Hint;
 use crate::starts::is_lawful_start;
+use crate::streams::is_text;
 use wsn_rules::{INPUT_MAX, Limits, MESSAGE_MAX};
 use wsn_wire::Role;
 
 /// The hint for an input whose first bytes are these, its first 16 or all of them if there are fewer, where a capture is
-/// read and a line isn't accepted: they are of another format, the stream of one endpoint, or a first line that is nearly
-/// one of a capture. `None` for any other bytes, such as those of a capture.
+/// read and a line isn't accepted: they are of another format, the stream of one endpoint, a first line that is nearly
+/// one of a capture, another text or a binary file. `None` for any other bytes, such as those of a capture.
 pub fn capture_hint_of(first: &[u8]) -> Option<Hint>
     ensures { (limits : Limits) → IfSome result (Fits limits first.now) }
 {
     match format_of(first) {
         Some(hint) => Some(hint),
         None if is_stream(first) => Some(Hint::Stream),
+        None if begins_no_line(first) => file_hint(first),
         None => line_hint(first),
     }
 }
 
-/// The hint for a first line that is nearly one of a capture, or is of JSON.
+/// The hint for a first line that is nearly one of a capture.
 fn line_hint(first: &[u8]) -> Option<Hint>
     ensures { (limits : Limits) → IfSome result (Fits limits first.now) }
 {
     match first {
-        [b'{', ..] => Some(Hint::Json),
-        [b'c' | b's', b' ' | b'.', ..] => Some(Hint::SmallLetters),
         [b'C' | b'S', b' ', rest @ ..] if has_blank(rest) => Some(Hint::Blanks),
         _ => None,
     }
 }
 
-/// Whether a blank or a colon comes after the digits that these bytes begin with.
-fn has_blank(digits: &[u8]) -> bool {
-    match digits.iter().find(|byte| !byte.is_ascii_hexdigit()) {
-        Some(byte) => matches!(*byte, b' ' | b':'),
-        None => false,
+/// The hint for bytes with which no line of a capture begins: JSON, small letters for the endpoints, another text, or a
+/// binary file.
+fn file_hint(first: &[u8]) -> Option<Hint>
+    requires { BeginsNoLine first.now }
+    ensures { (limits : Limits) → IfSome result (Fits limits first.now) }
+{
+    match first {
+        [b'{', ..] => Some(Hint::Json),
+        [b'c' | b's', b' ' | b'.', ..] => Some(Hint::SmallLetters),
+        _ if first.len() > 3 && is_text(first) => Some(Hint::OtherText),
+        _ if has_control(first) => Some(Hint::Binary),
+        _ => None,
     }
+}
+
+/// Whether a blank or a colon comes after the digits that these bytes begin with.
+fn has_blank(first: &[u8]) -> bool
+    ensures { result ≡ true → HasBlank first.now }
+{
+    matches!(after_digits(first), [b' ', ..] | [b':', ..])
+}
+
+/// Whether no line of a capture begins with these bytes.
+fn begins_no_line(first: &[u8]) -> bool
+    ensures { result ≡ true → BeginsNoLine first.now }
+{
+    match first {
+        [byte, next, ..] => !may_begin_line(*byte, *next),
+        _ => false,
+    }
+}
+
+/// Whether a line of a capture may begin with these two bytes: a comment, none, an endpoint's bytes or end mark.
+fn may_begin_line(byte: u8, next: u8) -> bool
+    ensures { IsTrue result ↔ MayBeginLine byte next }
+{
+    matches!(byte, b'#' | b'\r' | b'\n')
+        || (matches!(byte, b'C' | b'S') && matches!(next, b' ' | b'.'))
+}
+
+/// Whether one of these bytes is a control character that no text has.
+fn has_control(first: &[u8]) -> bool
+    ensures { result ≡ true → HasControl first.now }
+{
+    first.iter().any(|byte| is_control(*byte))
+}
+
+fn is_control(byte: u8) -> bool
+    ensures { IsTrue result ↔ IsControl byte }
+{
+    matches!(byte, 0..=6 | 0x0e..=0x1a | 0x1c..=0x1f | 0x7f)
 }
 
 /// Whether these bytes, at least two, may begin the stream of an endpoint. No line of a capture begins with such a byte.

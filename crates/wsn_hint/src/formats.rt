@@ -1,15 +1,9 @@
 ghost use Rattle.std.specs.Prelude.{◌≡◌, ◌↔◌, ◌≤◌, true, IsTrue, length, IfSome};
 ghost use Rattle.std.specs.List.{AllByRecursion};
 ghost use Rattle.wsn_rules.specs.Limits.{Limits};
-ghost use Rattle.wsn_hint.specs.Hints.{Fits, IsHexByte, IsHexText};
+ghost use Rattle.wsn_hint.specs.Hints.{Fits, BeginsByte, BeginsGroup, BeginsHexDump, BeginsHttp, BeginsOffsetDump, BeginsSpacedByte, IsHexByte, IsHexDigit, IsHexText, after_digits, digits_at_start};
 
 use crate::hint::Hint;
-
-/// What the first line of an HTTP request or response begins with (RFC 9112 sections 3 and 4).
-static HTTP_STARTS: [&str; 10] = [
-    "HTTP/1.", "GET ", "HEAD ", "POST ", "PUT ", "DELETE ", "CONNECT ", "OPTIONS ", "TRACE ",
-    "PATCH ",
-];
 
 /// The file format or text that begins with these bytes, other than a capture. `None` if they begin no known one.
 pub fn format_of(first: &[u8]) -> Option<Hint>
@@ -32,35 +26,74 @@ pub fn format_of(first: &[u8]) -> Option<Hint>
     }
 }
 
-fn is_http_head(first: &[u8]) -> bool {
-    for start in &HTTP_STARTS {
-        if first.starts_with(start.as_bytes()) {
-            return true;
-        }
-    }
-    false
+/// Whether these bytes begin as the first line of an HTTP request or response does.
+fn is_http_head(first: &[u8]) -> bool
+    ensures { result ≡ true → BeginsHttp first.now }
+{
+    matches!(
+        first,
+        [b'H', b'T', b'T', b'P', b'/', b'1', b'.', ..]
+            | [b'G', b'E', b'T', b' ', ..]
+            | [b'H', b'E', b'A', b'D', b' ', ..]
+            | [b'P', b'O', b'S', b'T', b' ', ..]
+            | [b'P', b'U', b'T', b' ', ..]
+            | [b'D', b'E', b'L', b'E', b'T', b'E', b' ', ..]
+            | [b'C', b'O', b'N', b'N', b'E', b'C', b'T', b' ', ..]
+            | [b'O', b'P', b'T', b'I', b'O', b'N', b'S', b' ', ..]
+            | [b'T', b'R', b'A', b'C', b'E', b' ', ..]
+            | [b'P', b'A', b'T', b'C', b'H', b' ', ..]
+    )
 }
 
 /// Whether these bytes begin with an offset of eight digits, a colon, a space and a digit.
-fn is_hex_dump(first: &[u8]) -> bool {
-    match first {
-        [_, _, _, _, _, _, _, _, b':', b' ', digit, ..] => {
-            digit.is_ascii_hexdigit() && first[..8].iter().all(|byte| byte.is_ascii_hexdigit())
-        }
+fn is_hex_dump(first: &[u8]) -> bool
+    ensures { result ≡ true → BeginsHexDump first.now }
+{
+    digits_at_start(first) == 8 && is_xxd_gap(after_digits(first))
+}
+
+fn is_xxd_gap(rest: &[u8]) -> bool
+    ensures { result ≡ true → BeginsGroup rest.now }
+{
+    match rest {
+        [b':', b' ', digit, ..] => digit.is_ascii_hexdigit(),
         _ => false,
     }
 }
 
 /// Whether these bytes begin with an offset of six to eight digits, one or two spaces and a byte in two digits.
-fn is_offset_dump(first: &[u8]) -> bool {
-    let (offset, rest) = first.split_at(digits_at_start(first));
-    matches!(offset.len(), 6..=8)
-        && match rest {
-            [b' ', high, low, b' ' | b'\n', ..] | [b' ', b' ', high, low, b' ', ..] => {
-                high.is_ascii_hexdigit() && low.is_ascii_hexdigit()
-            }
-            _ => false,
-        }
+fn is_offset_dump(first: &[u8]) -> bool
+    ensures { result ≡ true → BeginsOffsetDump first.now }
+{
+    matches!(digits_at_start(first), 6..=8) && is_dumped_gap(after_digits(first))
+}
+
+/// Whether these bytes begin with one or two spaces and a byte.
+fn is_dumped_gap(rest: &[u8]) -> bool
+    ensures { result ≡ true → BeginsSpacedByte rest.now }
+{
+    match rest {
+        [b' ', b' ', byte @ ..] => is_dumped_byte(byte),
+        [b' ', byte @ ..] => is_dumped_byte(byte),
+        _ => false,
+    }
+}
+
+/// Whether these bytes begin with a byte in two digits, and a space or an LF.
+fn is_dumped_byte(byte: &[u8]) -> bool
+    ensures { result ≡ true → BeginsByte byte.now }
+{
+    match byte {
+        [high, low, b' ', ..] => is_pair(*high, *low),
+        [high, low, b'\n', ..] => is_pair(*high, *low),
+        _ => false,
+    }
+}
+
+fn is_pair(high: u8, low: u8) -> bool
+    ensures { result ≡ true → IsHexDigit high × IsHexDigit low }
+{
+    high.is_ascii_hexdigit() && low.is_ascii_hexdigit()
 }
 
 /// Whether these bytes begin with digits, two for each byte, and are digits, spaces, colons and line ends.
@@ -88,12 +121,20 @@ fn is_hex_byte(byte: u8) -> bool
     byte.is_ascii_hexdigit() || matches!(byte, b' ' | b':' | b'\t' | b'\r' | b'\n')
 }
 
+/// What follows the hexadecimal digits that these bytes begin with.
+pub fn after_digits(first: &[u8]) -> &[u8]
+    ensures { result.now ≡ after_digits first.now }
+{
+    &first[digits_at_start(first)..]
+}
+
 /// The number of hexadecimal digits that these bytes begin with.
-fn digits_at_start(first: &[u8]) -> usize
-    ensures { result ≤ length first.now }
+pub fn digits_at_start(first: &[u8]) -> usize
+    ensures count { result ≡ digits_at_start first.now }
+    ensures within { result ≤ length first.now }
 {
     first
         .iter()
-        .position(|byte| !byte.is_ascii_hexdigit())
-        .unwrap_or(first.len())
+        .take_while(|byte| byte.is_ascii_hexdigit())
+        .count()
 }

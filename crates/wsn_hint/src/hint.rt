@@ -43,12 +43,18 @@ pub enum Hint {
     SmallLetters,
     /// A capture with blanks or colons between the digits.
     Blanks,
+    /// Text in ASCII that is nothing else, where a capture is read.
+    OtherText,
+    /// A file that is no text in ASCII or UTF-8, where a capture is read.
+    Binary,
     /// A capture with a side that is refused where a compressed frame would begin, and no comment that says so.
     MaybeCompressed,
     /// A capture in which each side has the frames of the other.
     Exchanged,
     /// A capture with a text that isn't UTF-8.
     NotUtf8,
+    /// A capture in which this endpoint sent bytes after its Close (RFC 6455 section 5.5.1).
+    AfterClose(Role),
 }
 
 impl Hint {
@@ -111,6 +117,12 @@ impl Hint {
             Hint::Blanks => {
                 "hint: blanks between digits: sed '/^[CS] /{s/[ :]//g;s/^./& /;}' FILE"
             }
+            Hint::OtherText => {
+                "hint: text, but no capture, whose lines are 'C HEX' or 'S HEX': 'wsn help show'"
+            }
+            Hint::Binary => {
+                "hint: binary, or text in UTF-16; a capture is plain text: is FILE the right one?"
+            }
             Hint::MaybeCompressed => {
                 "hint: compressed? recipes/inflate --extensions permessage-deflate CAPTURE"
             }
@@ -119,6 +131,12 @@ impl Hint {
             }
             Hint::NotUtf8 => {
                 "hint: a text isn't UTF-8: is it in Latin-1, or binary? 'wsn explain text-bad'"
+            }
+            Hint::AfterClose(Role::Client) => {
+                "hint: the client sent bytes after its Close: 'wsn show' lists them"
+            }
+            Hint::AfterClose(Role::Server) => {
+                "hint: the server sent bytes after its Close: 'wsn show' lists them"
             }
         }
     }
@@ -150,9 +168,17 @@ impl Hint {
             Hint::Json => " is JSON; a HAR file has messages, not frames: use recipes/record",
             Hint::SmallLetters => " needs capital letters C and S: sed 's/^c/C/; s/^s/S/'",
             Hint::Blanks => " has blanks between digits: sed '/^[CS] /{s/[ :]//g;s/^./& /;}'",
+            Hint::OtherText => " is text, but no capture, whose lines are 'C HEX' or 'S HEX'",
+            Hint::Binary => " is binary, or text in UTF-16; a capture is plain text",
             Hint::MaybeCompressed => " seems compressed: recipes/inflate --extensions undoes it",
             Hint::Exchanged => " has its sides exchanged: sed 's/^C/X/; s/^S/C/; s/^X/S/'",
             Hint::NotUtf8 => " has a text that isn't UTF-8: 'wsn explain text-bad'",
+            Hint::AfterClose(Role::Client) => {
+                " has bytes after the client's Close: 'wsn show' lists them"
+            }
+            Hint::AfterClose(Role::Server) => {
+                " has bytes after the server's Close: 'wsn show' lists them"
+            }
         }
     }
 }

@@ -1,9 +1,9 @@
-ghost use Rattle.std.specs.Prelude.{◌≡◌, ◌⊎◌, Option, [], true, Some, IfSome};
+ghost use Rattle.std.specs.Prelude.{◌≡◌, ◌⊎◌, Option, [], true, None, Some, IfSome};
 ghost use Rattle.wsn_wire.specs.declared.endpoint.Role.{Role};
 ghost use Rattle.wsn_capture.specs.SideTexts.{sent_in};
 ghost use Rattle.wsn_hint.specs.declared.hint.Hint.TheVariants.{Empty};
 ghost use Rattle.wsn_hint.specs.Hints.{HasVerdict};
-ghost use Rattle.wsn_hint.specs.SideHints.{AreExchanged, FitsSides, IsReadSide, IsSideRefusedAt};
+ghost use Rattle.wsn_hint.specs.SideHints.{AreExchanged, FitsSides, HasTail, IsReadSide, IsSideRefusedAt};
 
 use crate::hint::Hint;
 use crate::streams::is_compressed_start;
@@ -35,6 +35,27 @@ pub fn sides_hint_of(first: &[u8], side: Option<Role>, limits: Limits) -> Option
             let server = side_hint(first, Role::Server, limits);
             likelier(client, server)
         }
+    }
+}
+
+/// The hint for such a capture of which both sides are read and only the report is printed: that an endpoint sent bytes
+/// after its Close (RFC 6455 section 5.5.1), the client if both did. `None` unless it did within these bytes.
+pub fn after_close_hint_of(first: &[u8], limits: Limits) -> Option<Hint>
+    ensures { IfSome result (FitsSides None limits first.now) }
+{
+    if has_tail(first, Role::Client, limits) {
+        return Some(Hint::AfterClose(Role::Client));
+    }
+    has_tail(first, Role::Server, limits).then_some(Hint::AfterClose(Role::Server))
+}
+
+/// Whether this endpoint sent bytes after its Close, by the lines of these bytes.
+fn has_tail(first: &[u8], role: Role, limits: Limits) -> bool
+    ensures { result ≡ true → HasTail limits first.now role }
+{
+    match side_verdict(first, role, limits) {
+        Some(Verdict::Accepted(summary)) => summary.tail > 0,
+        _ => false,
     }
 }
 

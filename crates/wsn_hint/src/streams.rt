@@ -83,7 +83,7 @@ fn without_compression(head: u8) -> Option<u8>
 }
 
 /// Whether all these bytes are of a text in ASCII.
-fn is_text(first: &[u8]) -> bool
+pub fn is_text(first: &[u8]) -> bool
     ensures { result ≡ true → AllByRecursion IsTextByte first.now }
 {
     first.iter().all(|byte| is_text_byte(*byte))

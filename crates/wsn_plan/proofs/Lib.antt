@@ -7,6 +7,7 @@ pub mod MaskedPayloads
 pub mod NextEvents
 pub mod RecutSoFar
 pub mod Recuts
+pub mod PlannedChunks
 pub mod PlannedFrames
 pub mod OneRecut
 pub mod Restored

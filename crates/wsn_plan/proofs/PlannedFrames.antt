@@ -1,38 +1,39 @@
--- The plan of a stream's frames, at each notice of their reader.
-use Rattle.std.proofs.Common.{◌≡◌, ◌≢◌, ℕ, ◌+◌, false, Bool, Option, None, Some, Result, Ok, Err, List, [], ◌∷◌, ◌++◌, take, refl, sym, ap, ◌∙◌, subst}
-use Rattle.std.specs.Prelude.{⊤}
-use Rattle.std.proofs.lemmas.List.{map-append}
-use Rattle.wsn_io.proofs.Received.{received_none, received_on}
-use Rattle.std.specs.Io.KnownBytes.{Consumes}
+-- The plan of the frames of an input that comes in chunks.
+use Rattle.std.proofs.Common.{◌≡◌, ◌≢◌, ℕ, ◌+◌, ◌<◌, ◌≤◌, true, false, Option, None, Some, Result, Ok, Err, List, [], ◌∷◌, ◌++◌, length, take, refl, sym, ap, ◌∙◌, subst, append-nil, length-append, length-take-le, arith}
+use Rattle.std.proofs.lemmas.List.{take_all}
+use Rattle.std.specs.Io.KnownBytes.{Consumes, IsAtEnd}
 use Rattle.wsn_wire.specs.declared.endpoint.Role.{Role}
 use Rattle.wsn_wire.specs.Frame.{Frame}
-use Rattle.wsn_io.specs.Transfer.{Incoming, IsReceived}
+use Rattle.wsn_io.specs.Transfer.{Incoming, IsConsumed, IsKept}
+use Rattle.wsn_io.specs.declared.stop.Stop.{Stop}
+use Rattle.wsn_io.specs.declared.stop.Stop.TheVariants as stop
+use Rattle.wsn_io.proofs.Received.{received_of}
 use Rattle.wsn_rules.specs.declared.head_info.HeadInfo.{HeadInfo}
 use Rattle.wsn_rules.specs.declared.step.Step.{Step}
+use Rattle.wsn_rules.specs.declared.verdict.Refusal.{Refusal}
 use Rattle.wsn_rules.specs.declared.verdict.Summary.{Summary}
 use Rattle.wsn_rules.specs.declared.verdict.Verdict.{Verdict}
 use Rattle.wsn_rules.specs.declared.verdict.Verdict.TheVariants.{Accepted, Cut, Refused}
 use Rattle.wsn_rules.specs.Group.{unfinished}
 use Rattle.wsn_rules.specs.Limits.{Limits}
-use Rattle.wsn_rules.specs.Recut.{step_of, plan_of}
+use Rattle.wsn_rules.specs.Recut.{plan_of}
 use Rattle.wsn_rules.specs.Summary.{size_of_open}
-use Rattle.wsn_rules.specs.Verdict.{IsVerdict}
-use Rattle.wsn_scan.specs.declared.notice_reader.NextNotice.{NextNotice}
-use Rattle.wsn_scan.specs.declared.notice_reader.NextNotice.TheVariants as notices
-use Rattle.wsn_scan.specs.declared.notice_reader.NoticeReader.{NoticeReader}
-use Rattle.wsn_io.specs.declared.stop.Stop.{Stop}
-use Rattle.wsn_io.specs.declared.stop.Stop.TheVariants as stop
-use Rattle.wsn_scan.specs.ReportedFrames.{Position, BetweenFrames, InFrame, IsReportedOf}
-use Rattle.wsn_scan.specs.NoticeReaders.{HasReported, IsReading, held_payload}
-use Rattle.wsn_scan.specs.ReadNotices.{ReadsOn, IsHaltedAt, ReportsStart, ReportsFrame}
-use Rattle.wsn_scan.proofs.ReaderReports.{reported_of}
-use Rattle.wsn_events.specs.Normalised.{IsWithinLimit}
-use Rattle.wsn_events.proofs.WholeNormalForms.{of_all}
+use Rattle.wsn_rules.specs.Verdict.{IsRefused, IsVerdict}
+use Rattle.wsn_scan.specs.declared.refill.ReadChunk.{ReadChunk}
+use Rattle.wsn_scan.specs.declared.scan.Scan.{Scan}
+use Rattle.wsn_scan.specs.Feeding.{IsRunning}
+use Rattle.wsn_scan.specs.Judging.{IsWithinLimit}
+use Rattle.wsn_scan.specs.Positions.{Position, BetweenFrames}
+use Rattle.wsn_scan.specs.Refill.{IsChunk, chunk_size, count_of}
+use Rattle.wsn_scan.specs.Scans.{HasScanned, room_of, refusal_in, refusal_judged}
+use Rattle.wsn_scan.proofs.Chunks.{by_past, none_past, most_of}
+use Rattle.wsn_scan.proofs.JudgedInputs.{HasRead, begins as read_none, room_is, stopped, ended, goes_on, all_consumed, up_to_limit, passes_limit, refuses_input}
+use Rattle.wsn_scan.proofs.WholeInputs.{of_all}
 use Rattle.wsn_plan.specs.declared.planning.PlanAnswer.{PlanAnswer}
 use Rattle.wsn_plan.specs.declared.planning.PlanAnswer.TheVariants.{Plan, NotAccepted, Unfinished}
 use Rattle.wsn_plan.specs.Gathering.{HasWholeFrame}
+use Rattle.wsn_plan.specs.Planning.{IsPlanFor, IsPlanOf, IsPlanned, IsPlannedWhole, IsAnswerWith, HasScannedPlan, HasFrameEnd, IsPlannedChunk}
 use Rattle.wsn_plan.proofs.Recuts.{past_limit}
-use Rattle.wsn_plan.specs.Planning.{IsPlanFor, IsPlanOf, IsPlanned, IsPlannedWhole, IsAnswerWith, step_of_head}
 
 -- ---- the answer
 
@@ -48,201 +49,111 @@ answer_for : {A : Type 0} (role : Role) (limits : Limits) (came : List ℕ) (don
     → IsVerdict role limits came done verdict → plan ≡ plan_of done → IsAnswerWith verdict plan answer → IsPlanFor done verdict answer
 answer_for role limits came done (Accepted s) plan (Plan steps) is same (none, all) = (tt, none_open (unfinished done) (sym (ap (λ (u : Summary). u.unfinished) is.1) ∙ none), all ∙ same)
 answer_for role limits came done (Accepted s) plan Unfinished is same some = (tt, some_open (unfinished done) (λ none. some (ap (λ (u : Summary). u.unfinished) is.1 ∙ none)))
-answer_for role limits came done (Accepted s) plan (NotAccepted has_reported) is same never = absurd never
-answer_for {A} role limits came done (Cut s) plan answer is same has_reported = subst (λ (a : PlanAnswer A). IsPlanFor done (Cut s) a) (sym has_reported) (refl, λ no. no)
-answer_for {A} role limits came done (Refused r) plan answer is same has_reported = subst (λ (a : PlanAnswer A). IsPlanFor done (Refused r) a) (sym has_reported) (refl, λ no. no)
+answer_for role limits came done (Accepted s) plan (NotAccepted says) is same never = absurd never
+answer_for {A} role limits came done (Cut s) plan answer is same says = subst (λ (a : PlanAnswer A). IsPlanFor done (Cut s) a) (sym says) (refl, λ no. no)
+answer_for {A} role limits came done (Refused r) plan answer is same says = subst (λ (a : PlanAnswer A). IsPlanFor done (Refused r) a) (sym says) (refl, λ no. no)
 
 -- ---- while planning
 
--- The step of the frame that has begun is kept.
-abbrev pub IsStepAt : Position → Option Step → Type 0
-IsStepAt BetweenFrames begun = ⊤
-IsStepAt (InFrame info payload) begun = begun ≡ Some (step_of_head info)
-
--- The reader has read all that came, and the plan is that of the frames that were reported to their ends.
-pub record HasPlanned (role : Role) (limits : Limits) (old new : Incoming) (reader : NoticeReader) (plan : List Step) (begun : Option Step) : Type 0 where
+-- The scan has consumed all that came and not refused, and the plan is that of the frames that it has taken.
+pub record HasPlanned (role : Role) (limits : Limits) (old new : Incoming) (scan : Scan) (plan : List Step) : Type 0 where
   pub came : List ℕ
-  pub done : List Frame
-  pub at : Position
-  pub has_reported : HasReported role limits reader came done at
-  pub received : IsReceived (limits.input + 1) old new came
-  pub steps : plan ≡ plan_of done
-  pub step : IsStepAt at begun
-  pub readable : new.failed ≡ false
-
-no_frame : (before : List Frame) (f : Frame) → before ++ f ∷ [] ≡ [] → ⊥
-no_frame [] f is = cc
-no_frame (b ∷ before) f is = cc
-
--- A frame that was reported to its end is a whole one within the limit.
-whole_frame_came : (role : Role) (limits : Limits) (reader : NoticeReader) (came : List ℕ) (done : List Frame) (f : Frame) → HasReported role limits reader came (done ++ f ∷ []) BetweenFrames → HasWholeFrame role limits (take limits.input came)
-whole_frame_came role limits reader came done f has_reported =
-    let is : IsReportedOf role limits came (done ++ f ∷ []) BetweenFrames = reported_of role limits reader came (done ++ f ∷ []) BetweenFrames has_reported in
-    record {
-      frames = done ++ f ∷ [];
-      lawful = is.lawful;
-      some = no_frame done f;
-      rest = is.rest;
-      whole = is.whole;
-    }
+  pub heads : List HeadInfo
+  pub read : HasRead role limits old new scan came heads
+  pub planned : HasScannedPlan role limits scan came plan
 
 module _ (role : Role) (limits : Limits) (old : Incoming) where
-  pub begins : (reader : NoticeReader) → HasReported role limits reader [] [] BetweenFrames → old.failed ≡ false → HasPlanned role limits old old reader [] None
-  begins reader has_reported readable = record {
+  pub begins : (scan : Scan) → HasScanned role limits scan [] [] [] BetweenFrames → old.failed ≡ false → HasPlanned role limits old old scan []
+  begins scan has_scanned readable = record {
     came = [];
-    done = [];
-    at = BetweenFrames;
-    has_reported = has_reported;
-    received = received_none (limits.input + 1) old;
-    steps = refl;
-    step = tt;
-    readable = readable;
+    heads = [];
+    read = read_none role limits old scan has_scanned readable;
+    planned = record { frames = []; since = []; position = BetweenFrames; has_scanned = has_scanned; steps = refl };
   }
 
-  module _ (mid new : Incoming) (reader next : NoticeReader) (plan : List Step) (begun : Option Step) (planned : HasPlanned role limits old mid reader plan begun) where
-    pub is_reading : IsReading reader
-    is_reading = record { role = role; limits = limits; came = planned.came; done = planned.done; at = planned.at; has_reported = planned.has_reported }
+  module _ (mid new : Incoming) (scan : Scan) (plan : List Step) (so_far : HasPlanned role limits old mid scan plan) where
+    -- a scan that has consumed something
+    pub is_running : IsRunning scan
+    is_running = record { role = role; limits = limits; bytes = so_far.came; heads = so_far.heads; taken = so_far.read.taken }
 
-    -- the reader's next answer, after the bytes that had come
-    abbrev Answers : Result NextNotice Stop → Type 0
-    Answers result = ReadsOn role limits mid new next planned.came planned.done planned.at result
+    -- a read failed
+    pub is_stopped : {A : Type 0} → IsKept mid new → new.failed ≡ true → IsPlanned {A = A} role limits old new (Err stop.Read)
+    is_stopped keeps failed =
+        let judged = stopped role limits old mid new scan so_far.came so_far.heads so_far.read keeps failed in
+        record { came = so_far.came; received = judged.received; of_bytes = judged.answer }
 
-    -- a frame that was reported to its end at once: its step is kept or isn't
-    module _ (info : HeadInfo) (took : ReportsFrame role limits next planned.came planned.done planned.at info) where
-      abbrev taken : List Frame
-      taken = planned.done ++ took.0 ∷ []
+    -- the input ended
+    pub is_ended : {A : Type 0} (verdict : Verdict) (answer : PlanAnswer A) → IsConsumed mid new [] → IsAtEnd new.remaining → new.failed ≡ mid.failed
+        → ((bytes since : List ℕ) (fs : List Frame) (at : Position) → HasScanned role limits scan bytes fs since at → IsVerdict role limits bytes fs verdict) → refusal_judged verdict ≡ refusal_in scan
+        → IsAnswerWith verdict plan answer → IsPlanned role limits old new (Ok answer)
+    is_ended verdict answer nothing at_end failed verdict_is reported says =
+        let read = so_far.read.taken in
+        let planned = so_far.planned in
+        let judged = ended role limits old mid new scan so_far.came so_far.heads verdict so_far.read nothing at_end failed (verdict_is so_far.came read.since read.frames read.position read.has_scanned) reported in
+        let is = verdict_is so_far.came planned.since planned.frames planned.position planned.has_scanned in
+        record {
+          came = so_far.came;
+          received = judged.received;
+          of_bytes = (verdict, planned.frames, judged.answer, is, answer_for role limits so_far.came planned.frames verdict plan answer is planned.steps says);
+        }
 
-      pub takes_frame : (step : Step) (kept : List Step) → step ≡ step_of_head info → kept ≡ plan ++ step ∷ [] → HasPlanned role limits old mid next kept begun
-      takes_frame step kept is more = record {
-        came = planned.came;
-        done = taken;
-        at = BetweenFrames;
-        has_reported = took.3;
-        received = planned.received;
-        steps =
-            let same : step ≡ step_of took.0 = is ∙ ap (λ (i : HeadInfo). step_of_head i) took.2 in
-            more ∙ ap (λ (s : Step). plan ++ s ∷ []) same ∙ ap (λ (steps : List Step). steps ++ step_of took.0 ∷ []) planned.steps ∙ sym (map-append step_of planned.done (took.0 ∷ []));
-        step = tt;
-        readable = planned.readable;
+    -- One read gave a chunk, and the scan got the bytes within the limit.
+    module _ (next : Scan) (buffer : List ℕ) (chunk : ReadChunk) (after : List Step) (got : IsChunk mid new (room_of scan) buffer chunk) (size : length buffer ≡ chunk_size) where
+      abbrev got_within : List ℕ
+      got_within = take chunk.len buffer
+
+      abbrev now_came : List ℕ
+      now_came = so_far.came ++ take (count_of chunk) buffer
+
+      -- the scan has consumed all of it
+      pub has_more : chunk.past_limit ≡ false → IsPlannedChunk scan next got_within plan after (Ok None) → HasPlanned role limits old new next after
+      has_more none (fed, plans) = record {
+        came = now_came;
+        heads = so_far.heads ++ fed.heads;
+        read = goes_on role limits old mid new scan next buffer chunk so_far.came so_far.heads so_far.read got size none fed;
+        planned =
+            let front : take fed.count got_within ≡ take (count_of chunk) buffer = take_all fed.count got_within (omega (arith, fed.all refl)) ∙ ap (λ (m : ℕ). take m buffer) (sym (none_past chunk none)) in
+            subst (λ (bs : List ℕ). HasScannedPlan role limits next (so_far.came ++ bs) after) front (plans role limits so_far.came so_far.planned);
       }
 
-      pub no_memory_taken : {A : Type 0} → IsPlanned {A = A} role limits old mid (Err stop.Memory)
-      no_memory_taken = record {
-        came = planned.came;
-        received = planned.received;
-        of_bytes = (whole_frame_came role limits next planned.came planned.done took.0 took.3, planned.readable);
+      -- it has consumed a byte
+      pub falls : chunk.past_limit ≡ false → IsPlannedChunk scan next got_within plan after (Ok None) → room_of next < room_of scan
+      falls none (fed, plans) = omega (arith, got.some, none_past chunk none, fed.room, fed.all refl, length-take-le chunk.len buffer (omega (arith, got.in_buffer)))
+
+      -- a byte past the limit came
+      pub is_past : {A : Type 0} → chunk.past_limit ≡ true → IsPlannedChunk scan next got_within plan after (Ok None) → IsPlanned {A = A} role limits old new (Err stop.InputLimit)
+      is_past past (fed, plans) =
+          let judged = passes_limit role limits old mid new scan next buffer chunk so_far.came so_far.heads so_far.read got size past fed in
+          record { came = now_came; received = judged.received; of_bytes = judged.answer }
+
+      -- the scan refused
+      pub is_refused : {A : Type 0} (refusal : Refusal) → IsPlannedChunk scan next got_within plan after (Ok (Some refusal)) → IsPlanned {A = A} role limits old new (Ok (NotAccepted (Refused refusal)))
+      is_refused refusal (fed, plans) =
+          let judged = refuses_input role limits old mid new scan next buffer chunk so_far.came so_far.heads so_far.read got size refusal fed in
+          let reached = judged.answer in
+          let is = subst (λ (bs : List ℕ). IsRefused role limits bs reached.0 refusal.place refusal.reason) (append-nil now_came) (reached.1 []) in
+          record { came = now_came; received = judged.received; of_bytes = (Refused refusal, reached.0, reached, is, (refl, λ no. no)) }
+
+      -- what came within the limit is what the scan got
+      within_limit : take limits.input now_came ≡ so_far.came ++ got_within
+      within_limit =
+          by_past chunk.past_limit (λ past. up_to_limit role limits old mid new scan next buffer chunk so_far.came so_far.heads so_far.read got size past)
+          (λ none.
+          let fits : length (so_far.came ++ got_within) ≤ limits.input =
+          omega (arith, room_is role limits scan so_far.came so_far.heads so_far.read.taken, got.in_room, length-append so_far.came got_within, length-take-le chunk.len buffer (omega (arith, got.in_buffer))) in
+          ap (λ (m : ℕ). take limits.input (so_far.came ++ take m buffer)) (none_past chunk none) ∙ take_all limits.input (so_far.came ++ got_within) fits)
+
+      -- an allocation failed
+      pub is_out_of_memory : {A : Type 0} → HasFrameEnd scan got_within → IsPlanned {A = A} role limits old new (Err stop.Memory)
+      is_out_of_memory has_end = record {
+        came = now_came;
+        received = received_of (limits.input + 1) old new now_came (all_consumed role limits old mid new scan next buffer chunk so_far.came so_far.heads so_far.read got size)
+            (omega (arith, room_is role limits scan so_far.came so_far.heads so_far.read.taken, most_of mid new (room_of scan) buffer chunk got, length-append so_far.came (take (count_of chunk) buffer), length-take-le (count_of chunk) buffer got.in_buffer));
+        of_bytes = (
+          subst (λ (bs : List ℕ). HasWholeFrame role limits bs) (sym within_limit) (has_end role limits so_far.came so_far.heads so_far.read.taken),
+          got.unfailed ∙ so_far.read.unfailed,
+        );
       }
-
-    -- a frame's head and a part of its payload, at once
-    pub takes_start : (info : HeadInfo) → ReportsStart role limits next planned.came planned.done planned.at info → HasPlanned role limits old mid next plan (Some (step_of_head info))
-    takes_start info took = record {
-      came = planned.came;
-      done = planned.done;
-      at = InFrame info (held_payload next);
-      has_reported = took.1;
-      received = planned.received;
-      steps = planned.steps;
-      step = refl;
-      readable = planned.readable;
-    }
-
-    received : (result : Result NextNotice Stop) (on : Answers result) → IsReceived (limits.input + 1) old new (planned.came ++ on.more)
-    received result on = received_on (limits.input + 1) old mid new planned.came on.more planned.received on.consumed on.few
-
-    pub head : (answer : NextNotice) (info : HeadInfo) → answer ≡ notices.Head info → Answers (Ok answer) → HasPlanned role limits old new next plan (Some (step_of_head info))
-    head answer info is goes = record {
-      came = planned.came ++ on.more;
-      done = planned.done;
-      at = InFrame info [];
-      has_reported = on.next.0.1;
-      received = received (Ok (notices.Head info)) on;
-      steps = planned.steps;
-      step = refl;
-      readable = on.next.1;
-    }
-      where
-        on : Answers (Ok (notices.Head info))
-        on = subst (λ (n : NextNotice). Answers (Ok n)) is goes
-
-    pub payload : (answer : NextNotice) → answer ≡ notices.Payload → Answers (Ok answer) → HasPlanned role limits old new next plan begun
-    payload answer is goes = record {
-      came = planned.came ++ on.more;
-      done = planned.done;
-      at = InFrame on.next.0.0 (on.next.0.1 ++ held_payload next);
-      has_reported = on.next.0.3;
-      received = received (Ok notices.Payload) on;
-      steps = planned.steps;
-      step = subst (λ (at : Position). IsStepAt at begun) on.next.0.2 planned.step;
-      readable = on.next.1;
-    }
-      where
-        on : Answers (Ok notices.Payload)
-        on = subst (λ (n : NextNotice). Answers (Ok n)) is goes
-
-    -- a frame's end: its step is kept or isn't
-    module _ (answer : NextNotice) (event : Bool) (is : answer ≡ notices.FrameEnd event) (goes : Answers (Ok answer)) where
-      abbrev on : Answers (Ok (notices.FrameEnd event))
-      on = subst (λ (n : NextNotice). Answers (Ok n)) is goes
-
-      abbrev frame : Frame
-      frame = on.next.0.0
-
-      abbrev ended : List Frame
-      ended = planned.done ++ frame ∷ []
-
-      its_step : begun ≡ Some (step_of frame)
-      its_step = subst (λ (at : Position). IsStepAt at begun) on.next.0.2 planned.step
-
-      -- a head came before
-      pub has_begun : begun ≡ None → ⊥
-      has_begun none = let no : None ≡ Some (step_of frame) = sym none ∙ its_step in cc
-
-      pub goes_on : (step : Step) (kept : List Step) → begun ≡ Some step → kept ≡ plan ++ step ∷ [] → HasPlanned role limits old new next kept begun
-      goes_on step kept has more = record {
-        came = planned.came ++ on.more;
-        done = ended;
-        at = BetweenFrames;
-        has_reported = on.next.0.3;
-        received = received (Ok (notices.FrameEnd event)) on;
-        steps =
-            let same : step ≡ step_of frame = let both : Some step ≡ Some (step_of frame) = sym has ∙ its_step in cc in
-            more ∙ ap (λ (s : Step). plan ++ s ∷ []) same ∙ ap (λ (steps : List Step). steps ++ step_of frame ∷ []) planned.steps ∙ sym (map-append step_of planned.done (frame ∷ []));
-        step = tt;
-        readable = on.next.1;
-      }
-
-      has_frame : HasWholeFrame role limits (take limits.input (planned.came ++ on.more))
-      has_frame = whole_frame_came role limits next (planned.came ++ on.more) planned.done frame on.next.0.3
-
-      pub no_memory : {A : Type 0} → IsPlanned {A = A} role limits old new (Err stop.Memory)
-      no_memory = record {
-        came = planned.came ++ on.more;
-        received = received (Ok (notices.FrameEnd event)) on;
-        of_bytes = (has_frame, on.next.1);
-      }
-
-    pub is_done : {A : Type 0} (answer : NextNotice) (verdict : Verdict) (final : PlanAnswer A) → answer ≡ notices.Done verdict → Answers (Ok answer) → IsAnswerWith verdict plan final → IsPlanned role limits old new (Ok final)
-    is_done answer verdict final is goes says = record {
-      came = planned.came ++ on.more;
-      received = received (Ok (notices.Done verdict)) on;
-      of_bytes = (verdict, planned.done, on.next.0, on.next.1, answer_for role limits (planned.came ++ on.more) planned.done verdict plan final on.next.1 planned.steps says);
-    }
-      where
-        on : Answers (Ok (notices.Done verdict))
-        on = subst (λ (n : NextNotice). Answers (Ok n)) is goes
-
-    pub is_stopped : {A : Type 0} (stopped : Stop) → Answers (Err stopped) → IsPlanned {A = A} role limits old new (Err stopped)
-    is_stopped {A} stopped on = record {
-      came = planned.came ++ on.more;
-      received = received (Err stopped) on;
-      of_bytes = of stopped on.next;
-    }
-      where
-        of : (s : Stop) → IsHaltedAt role limits new (planned.came ++ on.more) planned.done planned.at s → IsPlanOf {A = A} role limits new (planned.came ++ on.more) (Err s)
-        of stop.Read halted = halted.0
-        of stop.InputLimit halted = halted.0
-        of stop.Memory halted = absurd halted.0
-        of stop.Write halted = absurd halted.0
 
 -- ---- of all the bytes
 
@@ -263,10 +174,10 @@ module _ {A : Type 0} (role : Role) (limits : Limits) where
             subst (λ (bs : List ℕ). IsWithinLimit limits bs verdict) (sym is) here.1,
             planned,
           )
-      by_result rest left is (Err stop.InputLimit) has_reported = past_limit role limits came rest all is has_reported.0 has_reported.1
-      by_result rest left is (Err stop.Read) has_reported = tt
-      by_result rest left is (Err stop.Memory) has_reported = tt
-      by_result rest left is (Err stop.Write) has_reported = tt
+      by_result rest left is (Err stop.InputLimit) says = past_limit role limits came rest all is says.0 says.1
+      by_result rest left is (Err stop.Read) says = tt
+      by_result rest left is (Err stop.Memory) says = tt
+      by_result rest left is (Err stop.Write) says = tt
 
       by_rest : (rest : Option (List ℕ)) → new.remaining ≡ rest → Consumes (Some all) rest came → IsPlannedWhole role limits all result
       by_rest None left consumed = absurd consumed

@@ -1,11 +1,12 @@
 -- What planning a stream answers, and what that says of the bytes that came. RFC 6455 sections 5.2 to 5.4.
-use Rattle.std.specs.Prelude.{◌≡◌, ◌≢◌, ℕ, ◌+◌, ◌<◌, ⊤, false, None, Result, Ok, Err, List, [], length, take, if◌then◌else◌}
+use Rattle.std.specs.Prelude.{◌≡◌, ◌≢◌, ℕ, ◌+◌, ◌<◌, ⊤, false, Option, None, Result, Ok, Err, List, [], ◌++◌, length, take, if◌then◌else◌}
 use Rattle.wsn_wire.specs.declared.endpoint.Role.{Role}
 use Rattle.wsn_wire.specs.Frame.{Frame, is_control}
 use Rattle.wsn_io.specs.Transfer.{Incoming, Outgoing, IsReceived, IsWritten}
 use Rattle.wsn_rules.specs.declared.head_info.HeadInfo.{HeadInfo}
 use Rattle.wsn_rules.specs.declared.step.Step.{Step}
 use Rattle.wsn_rules.specs.declared.step.Step.TheVariants.{Piece, Last, Control}
+use Rattle.wsn_rules.specs.declared.verdict.Refusal.{Refusal}
 use Rattle.wsn_rules.specs.declared.verdict.Verdict.{Verdict}
 use Rattle.wsn_rules.specs.declared.verdict.Verdict.TheVariants.{Accepted}
 use Rattle.wsn_rules.specs.Group.{unfinished, IsOpen}
@@ -14,9 +15,12 @@ use Rattle.wsn_rules.specs.Recut.{plan_of}
 use Rattle.wsn_rules.specs.Verdict.{IsVerdict}
 use Rattle.wsn_io.specs.declared.stop.Stop.{Stop}
 use Rattle.wsn_io.specs.declared.stop.Stop.TheVariants as stop
-use Rattle.wsn_scan.specs.Judging.{IsReached, IsStopped, IsUnrefused}
+use Rattle.wsn_scan.specs.declared.scan.Scan.{Scan}
+use Rattle.wsn_scan.specs.Feeding.{HasScannedBytes, HasFed}
+use Rattle.wsn_scan.specs.Judging.{IsReached, IsStopped, IsUnrefused, IsWithinLimit}
+use Rattle.wsn_scan.specs.Positions.{Position}
+use Rattle.wsn_scan.specs.Scans.{HasScanned}
 use Rattle.wsn_events.specs.Comparing.{IsAnAccepted}
-use Rattle.wsn_events.specs.Normalised.{IsWithinLimit}
 use Rattle.wsn_plan.specs.declared.planning.PlanAnswer.{PlanAnswer}
 use Rattle.wsn_plan.specs.declared.planning.PlanAnswer.TheVariants.{Plan, NotAccepted, Unfinished}
 use Rattle.wsn_plan.specs.Gathering.{HasWholeFrame}
@@ -73,6 +77,34 @@ abbrev pub step_of_head : HeadInfo → Step
 step_of_head info =
     if is_control info.op then Control info.key
     else (if info.fin then Last info.key info.form else Piece info.len info.key info.form)
+
+-- The scan has consumed these bytes, and the plan is that of the frames that it has taken.
+pub record HasScannedPlan (role : Role) (limits : Limits) (scan : Scan) (bytes : List ℕ) (plan : List Step) : Type 0 where
+  pub frames : List Frame
+  pub since : List ℕ
+  pub position : Position
+  pub has_scanned : HasScanned role limits scan bytes frames since position
+  pub steps : plan ≡ plan_of frames
+
+-- Whatever the scan had consumed, it has now consumed the first n bytes of the chunk too, and the plan has the steps of
+-- the frames that it took of them too.
+abbrev pub PlansPrefix : Scan → Scan → List ℕ → ℕ → List Step → List Step → Type 0
+PlansPrefix old new chunk n before after =
+    (role : Role) (limits : Limits) (bytes : List ℕ) → HasScannedPlan role limits old bytes before
+    → HasScannedPlan role limits new (bytes ++ take n chunk) after
+
+-- Whatever the scan had consumed, a frame ends in this chunk.
+abbrev pub HasFrameEnd : Scan → List ℕ → Type 0
+HasFrameEnd old chunk =
+    (role : Role) (limits : Limits) (bytes : List ℕ) (heads : List HeadInfo) →
+    HasScannedBytes role limits old bytes heads → HasWholeFrame role limits (bytes ++ chunk)
+
+-- The scan has consumed the chunk up to a refusal, if there is one, and the plan has the steps of the frames that it
+-- took. Or an allocation failed, after a frame's end in the chunk.
+abbrev pub IsPlannedChunk : Scan → Scan → List ℕ → List Step → List Step → Result (Option Refusal) Stop → Type 0
+IsPlannedChunk old new chunk before after (Ok refusal) =
+    (fed : HasFed old new chunk refusal) × PlansPrefix old new chunk fed.count before after
+IsPlannedChunk old new chunk before after (Err stopped) = (stopped ≡ stop.Memory) × HasFrameEnd old chunk
 
 -- The answer with this verdict, by the plan of the frames.
 abbrev pub IsAnswerWith : {A : Type 0} → Verdict → List Step → PlanAnswer A → Type 0

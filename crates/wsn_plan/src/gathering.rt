@@ -7,7 +7,7 @@ ghost use Rattle.wsn_plan.specs.KeptEvents.{kept_meant};
 use crate::kept::{Kept, to_keep};
 use std::alloc::Allocator;
 use std::io::Read;
-use wsn_events::{Event, Next, Source};
+use wsn_events::{Event, Next, Source, Turn};
 use wsn_scan::{Limits, Stop, Verdict};
 use wsn_wire::{Input, Kind, Role};
 
@@ -34,16 +34,13 @@ pub(crate) fn gather<A: Allocator + Copy, B: Allocator + Copy, R: Read>(
     let mut source = Source::new(alloc, role, limits);
     let mut events = Vec::new(alloc);
     loop {
-        if let Some(kind) = source.take_message() {
-            keep_message(room, &mut events, kind, source.taken())?;
-            continue;
-        }
-        match source.next(input)? {
-            Next::Event(event) => {
+        match source.next_turn(input)? {
+            Turn::Lent(kind) => keep_message(room, &mut events, kind, source.taken())?,
+            Turn::Own(Next::Event(event)) => {
                 keep(room, &mut events, &event)?;
                 source.reuse(event);
             }
-            Next::Done(verdict) => return Ok(Gathered { verdict, events }),
+            Turn::Own(Next::Done(verdict)) => return Ok(Gathered { verdict, events }),
         }
     }
 }

@@ -1,11 +1,13 @@
-ghost use Rattle.std.specs.Prelude.{◌≡◌, ℕ, false, List, Some};
-ghost use Rattle.wsn_plan.specs.Planning.{IsAnswerWith, IsPlanned, IsPlannedWhole, step_of_head};
+ghost use Rattle.std.specs.Prelude.{◌≡◌, ℕ, ◌≤◌, false, length, List, Some};
+ghost use Rattle.wsn_scan.specs.Feeding.{IsRunning};
+ghost use Rattle.wsn_scan.specs.Scans.{room_of};
+ghost use Rattle.wsn_plan.specs.Planning.{IsAnswerWith, IsPlanned, IsPlannedChunk, IsPlannedWhole, step_of_head};
 
 use crate::Plan;
 use std::alloc::{Allocator, Global};
 use std::io::Read;
-use wsn_rules::{HeadInfo, Step};
-use wsn_scan::{Limits, NextNotice, NoticeReader, Stop, Verdict};
+use wsn_rules::{HeadInfo, Refusal, Step};
+use wsn_scan::{CHUNK, Limits, Part, Scan, Stop, Taken, Verdict, read_chunk};
 use wsn_wire::{Input, Role};
 
 /// What [`plan_of`] returns.
@@ -38,30 +40,50 @@ pub fn plan_of<A: Allocator + Copy, R: Read>(
     ensures planned { IsPlanned role limits input.old input.new result }
     ensures whole { (all : List ℕ) → input.old.remaining ≡ Some all → IsPlannedWhole role limits all result }
 {
-    let mut reader = NoticeReader::new(role, limits);
+    let mut scan = Scan::new(role, limits);
+    let mut buffer = [0; CHUNK];
     let mut plan = Plan::new(alloc);
-    let mut begun = None;
     loop {
-        if let Some(head) = reader.take_frame() {
-            plan.push(step_of(&head))?;
-            continue;
+        let Some(chunk) = read_chunk(input, scan.room(), &mut buffer)? else {
+            return Ok(answer_of(scan.finish(), plan));
+        };
+        if let Some(refusal) = plan_chunk(&mut scan, &mut buffer[..chunk.len], &mut plan)? {
+            return Ok(PlanAnswer::NotAccepted(Verdict::Refused(refusal)));
         }
-        if let Some(head) = reader.take_start() {
-            begun = Some(step_of(&head));
-            continue;
-        }
-        match reader.next(input)? {
-            NextNotice::Head(head) => begun = Some(step_of(&head)),
-            NextNotice::Payload => {}
-            NextNotice::FrameEnd { .. } => {
-                let Some(step) = begun else {
-                    unreachable!();
-                };
-                plan.push(step)?;
-            }
-            NextNotice::Done(verdict) => return Ok(answer_of(verdict, plan)),
+        if chunk.past_limit {
+            return Err(Stop::InputLimit);
         }
     }
+}
+
+/// Feeds the chunk to the scan, all of it or the bytes up to a refusal, and adds the step of each frame that ends to the
+/// plan. Returns the refusal, if there is one. `Memory` if an allocation fails: the rest of the chunk isn't fed then.
+#[tactic(none)]
+fn plan_chunk<A: Allocator>(
+    scan: &mut Scan,
+    chunk: &mut [u8],
+    plan: &mut Plan<A>,
+) -> Result<Option<Refusal>, Stop>
+    requires begun { IsRunning scan.old }
+    requires fits { length chunk.old ≤ room_of scan.old }
+    ensures { IsPlannedChunk scan.old scan.new chunk.old plan.old plan.new result }
+{
+    let mut part = Part::new();
+    let mut at = 0;
+    while at < chunk.len() {
+        let (taken, found) = scan.next(&mut chunk[at..], &mut part);
+        at += taken;
+        match found {
+            Taken::Part => {
+                if part.ends {
+                    plan.push(step_of(&part.head))?;
+                }
+            }
+            Taken::Refused => break,
+            Taken::More | Taken::Closed => {}
+        }
+    }
+    Ok(scan.refusal())
 }
 
 /// The step of a frame with this head.

@@ -21,4 +21,5 @@ pub mod ShownReader
 pub mod ShownNames
 pub mod EndMarks
 pub mod Comments
+pub mod EndedBy
 pub mod AnyAnswers

@@ -139,7 +139,7 @@ unfinished_is n (Control op body) = hex_is n body
 
 -- ---- where it is
 
-one_role : (role other : Role) → side_word role ≡ side_word other → role ≡ other
+pub one_role : (role other : Role) → side_word role ≡ side_word other → role ≡ other
 one_role Client Client same = refl
 one_role Server Server same = refl
 one_role Client Server same = absurd (differ (codes "client") (codes "server") refl same)

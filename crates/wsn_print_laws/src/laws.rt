@@ -14,6 +14,8 @@ ghost use Rattle.wsn_rules.specs.Verdict.{IsVerdict};
 ghost use Rattle.wsn_print.specs.Objects.{verdict_object, frame_object, report_object, comparison_object};
 ghost use Rattle.wsn_print.specs.QuotedTexts.{ShowsTextReason};
 ghost use Rattle.wsn_print.specs.ShownObjects.{Position, item_object, end_object, comment_object};
+ghost use Rattle.wsn_show.specs.declared.ended_by.EndedBy.{EndedBy};
+ghost use Rattle.wsn_show.specs.EndedBy.{ended_by_object};
 ghost use Rattle.wsn_print_laws.specs.JsonText.{Value, Object, Members, Member, IsValue, HasDistinctNames, IsJsonLine, IsObjectLine};
 ghost use Rattle.wsn_print_laws.specs.ShownItems.{IsPositionInRange, IsItemInRange, LookAlike};
 ghost use Rattle.wsn_print_laws.specs.Answers.{IsInU64, IsVerdictInRange, IsPrintedWhole, IsHeadInRange, IsReportInRange, IsComparisonInRange, IsComparisonPrintedWhole, Answer, answer_object, IsAnswerInRange, IsAnswerPrintedWhole};
@@ -45,7 +47,7 @@ pub fn law_what_is_not_json()
     ensures line_feed { (value : Value) → ¬ (IsValue value (codes "{\"a\":\"\n\"}")) }
 {}
 
-/// The objects of answers, shown items, end marks and comments are JSON: one object and an LF. No name occurs twice in
+/// The objects of answers, shown items, end marks, comments and ends are JSON: one object and an LF. No name occurs twice in
 /// it, nor in an object inside it.
 pub fn law_objects_are_json()
     ensures verdict { (verdict : Verdict) → IsVerdictInRange verdict → IsObjectLine (verdict_object verdict) }
@@ -60,6 +62,7 @@ pub fn law_objects_are_json()
         IsPositionInRange position → IsInU64 sent → IsObjectLine (end_object role position sent) }
     ensures comment { (line : ℕ) (text : List ℕ) → IsInU64 line → IsBytes text →
         IsObjectLine (comment_object line text) }
+    ensures ended_by { (by : EndedBy) → IsObjectLine (ended_by_object by) }
 {}
 
 /// Two different answers never print the same object, also where one is a verdict and the other a report, say. So an
@@ -108,6 +111,11 @@ pub fn law_end_objects()
         IsPositionInRange position → IsPositionInRange other_position → IsInU64 sent → IsInU64 other_sent →
         end_object role position sent ≡ end_object other other_position other_sent →
         (role ≡ other) × (position ≡ other_position) × (sent ≡ other_sent) }
+{}
+
+/// The object that says who ended a connection says which endpoint, and whether by a reset.
+pub fn law_ended_by_objects()
+    ensures { (by other : EndedBy) → ended_by_object by ≡ ended_by_object other → by ≡ other }
 {}
 
 /// The object of a comment doesn't say which bytes the comment has: a byte that isn't UTF-8 is shown as an escape, which

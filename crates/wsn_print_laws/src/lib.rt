@@ -1,4 +1,4 @@
-//! Laws of the JSON objects that `wsn_print` writes: what a program that reads the lines of `wsn` with `--json` can rely
+//! Laws of the JSON objects that `wsn_print` and `wsn_show` write: what a program that reads the lines of `wsn` with `--json` can rely
 //! on.
 //!
 //! [`laws`] has them. Two different answers never print the same object, so an object says all that its answer does
@@ -6,15 +6,16 @@
 //! ([`laws::law_frame_objects`]), a report of `closing` ([`laws::law_report_objects`]) or a comparison
 //! ([`laws::law_comparison_objects`]). `specs/Answers.antt` says which answers the laws are about. The object of a shown
 //! item says all of the item that its view shows ([`laws::law_item_objects`], `specs/ShownItems.antt`), that of an end
-//! mark all of it ([`laws::law_end_objects`]). That of a comment doesn't say which bytes the comment has
+//! mark all of it ([`laws::law_end_objects`]), and that of who ended a connection, too
+//! ([`laws::law_ended_by_objects`]). That of a comment doesn't say which bytes the comment has
 //! ([`laws::law_comment_objects`]).
 //!
 //! Each of these objects is JSON with distinct names ([`laws::law_objects_are_json`]). `specs/JsonText.antt` says which
 //! bytes are JSON, and of which value, by the grammar of RFC 8259. No bytes are a text of two values
 //! ([`laws::law_one_value`]), and [`laws::law_what_is_not_json`] has texts that the grammar refuses.
 //!
-//! The definitions of the objects are those of `wsn_print` (`specs/Objects.antt`, `ShownObjects.antt`), whose functions
-//! write them. Nothing here runs.
+//! The definitions of the objects are those of `wsn_print` (`specs/Objects.antt`, `ShownObjects.antt`) and of `wsn_show`
+//! (`specs/EndedBy.antt`), whose functions write them. Nothing here runs.
 #![tactic(auto)]
 
 pub mod laws;

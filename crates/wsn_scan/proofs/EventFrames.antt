@@ -83,21 +83,6 @@ normal_of role limits fs f law none = by (is_control f.op) refl
         ∙ ap (λ (gs : List Frame). normal_frame role (Message (kind_of (gs ++ f ∷ [])) (payload_of (gs ++ f ∷ [])))) none
         ∙ (λ i. normal_as role (kind_back f.op is begins i) (append-nil f.payload i))
 
--- the last n elements
-last_of : (xs ys : List ℕ) (n : ℕ) → length ys ≡ n → drop (length (xs ++ ys) - n) (xs ++ ys) ≡ ys
-last_of xs ys n size =
-    let front : length (xs ++ ys) - n ≡ length xs + 0 = omega (arith, length-append xs ys, size) in
-    ap (λ (k : ℕ). drop k (xs ++ ys)) front ∙ drop-append-add xs ys 0
-
--- the last bytes of the normal frame are the payload of the frame that ends the event
-pub payload_last : (role : Role) (limits : Limits) (fs : List Frame) (f : Frame) (len : ℕ) (bytes : List ℕ) → LawAt role limits fs f → unfinished fs ≡ [] → length f.payload ≡ len
-    → bytes ≡ frame_bytes (normal_frame role (event_at fs f)) → drop (length bytes - len) bytes ≡ f.payload
-payload_last role limits fs f len bytes law none size is =
-    let front = head_bytes true f.op (normal_key role) Shortest (length f.payload) in
-    let whole : bytes ≡ front ++ f.payload =
-    is ∙ ap (λ (g : Frame). frame_bytes g) (normal_of role limits fs f law none) ∙ ap (λ (bs : List ℕ). front ++ bs) (sym (normal_wire role f.payload)) in
-    ap (λ (bs : List ℕ). drop (length bs - len) bs) whole ∙ last_of front f.payload len size
-
 -- ---- the frame
 
 module _ (role : Role) (limits : Limits) (fs : List Frame) (head : Head) (check : PayloadCheck) (front wire : List ℕ) (range : InRange limits) (lawful : IsLawful role limits fs) (none : unfinished fs ≡ [])

@@ -11,8 +11,6 @@ use Rattle.wsn_frame.specs.declared.counts.Counts.{Counts}
 use Rattle.wsn_frame.specs.declared.open_message.OpenMessage.{OpenMessage}
 use Rattle.wsn_frame.specs.Counts.{AreCounts}
 use Rattle.wsn_frame.specs.OpenMessages.{IsOpenMessage}
-use Rattle.wsn_rules.specs.declared.head_info.HeadInfo.{HeadInfo}
-use Rattle.wsn_rules.specs.Heads.{heads_of}
 use Rattle.wsn_rules.specs.Limits.{Limits}
 use Rattle.wsn_rules.specs.Group.{unfinished}
 use Rattle.wsn_rules.specs.Accepted.{HasNoClose}
@@ -22,15 +20,12 @@ use Rattle.wsn_rules.proofs.Groups.{meaning_push, unfinished_control, unfinished
 use Rattle.wsn_rules.proofs.LawfulLists.{lawful_push, no_close_push}
 use Rattle.wsn_rules.proofs.Walk.{stream-append, stream_push}
 use Rattle.wsn_scan.specs.declared.scan.Scan.{Scan}
-use Rattle.wsn_scan.specs.declared.scan.event_frames.EventFrame.{EventFrame}
+use Rattle.wsn_scan.specs.declared.scan.events.EventFrame.{EventFrame}
 use Rattle.wsn_scan.specs.declared.stage.Stage.{Stage}
 use Rattle.wsn_scan.specs.declared.stage.Stage.TheVariants as stages
-use Rattle.wsn_scan.specs.EventFrames.{EndsEventAt, IsEventFrame, IsIdle, TakesEvent, TakesEvents, TakesMessage, info_found, reported_of}
-use Rattle.wsn_scan.specs.Reports.{Reported, ends_of}
+use Rattle.wsn_scan.specs.EventFrames.{EndsEventAt, IsEventFrame, IsIdle, TakesEvents}
+use Rattle.wsn_scan.specs.Positions.{Position, BetweenFrames}
 use Rattle.wsn_scan.specs.Scans.{IsAt, HasScanned, HasScannedAt}
-use Rattle.wsn_scan.specs.Feeding.{ConsumesPrefix}
-use Rattle.wsn_scan.specs.WholeFrames.{TakesToEnd, ConsumesToEnd}
-use Rattle.wsn_scan.proofs.EventFrames.{payload_last}
 use Rattle.wsn_scan.proofs.FrameEnds.{frames_few}
 use Rattle.wsn_scan.proofs.HeadBytes.{bytes_taken}
 
@@ -76,9 +71,9 @@ pub record IsPastEvent (old new : Scan) (found : EventFrame) : Type 0 where
   pub counts : (fs : List Frame) (f : Frame) → AreCounts old.counts fs → length fs < 2 ^ 63 → f.fin ≡ true → f.op ≡ found.op → AreCounts new.counts (fs ++ f ∷ [])
 
 -- The scan has consumed one frame more.
-module _ (role : Role) (limits : Limits) (old new : Scan) (bytes piece after : List ℕ) (fs : List Frame) (found : EventFrame) (reported : Reported) where
-  one_more : HasScannedAt role limits old stages.Between bytes fs [] reported → unfinished fs ≡ [] → (ends : EndsEventAt role limits fs piece after found) → (found.op ≡ Close → ⊥) → found.size ≤ length piece → IsBytes piece → IsPastEvent old new found
-      → HasScanned role limits new (bytes ++ take found.size piece) (fs ++ ends.frame ∷ []) [] (reported_of (fs ++ ends.frame ∷ []))
+module _ (role : Role) (limits : Limits) (old new : Scan) (bytes piece after : List ℕ) (fs : List Frame) (found : EventFrame) (pos : Position) where
+  one_more : HasScannedAt role limits old stages.Between bytes fs [] pos → unfinished fs ≡ [] → (ends : EndsEventAt role limits fs piece after found) → (found.op ≡ Close → ⊥) → found.size ≤ length piece → IsBytes piece → IsPastEvent old new found
+      → HasScanned role limits new (bytes ++ take found.size piece) (fs ++ ends.frame ∷ []) [] BetweenFrames
   one_more has none ends no_more within in_piece past =
       let hc = has.has_consumed in
       let f = ends.frame in
@@ -106,63 +101,47 @@ module _ (role : Role) (limits : Limits) (old new : Scan) (bytes piece after : L
           counts = past.counts fs f hc.counts few ends.final ends.op_is;
           message = subst (λ (m : Option OpenMessage). IsOpenMessage m (unfinished all)) (sym past.idle.1) (none_open fs f none ends.final);
         };
-        at = subst (λ (stage : Stage). IsAt role limits stage (bytes ++ came) all [] (reported_of all)) (sym past.idle.0) (no_close_push fs f no_close (λ close. no_more (sym ends.op_is ∙ close)), refl, refl, refl);
+        is_at = subst (λ (stage : Stage). IsAt role limits stage (bytes ++ came) all [] BetweenFrames) (sym past.idle.0) (no_close_push fs f no_close (λ close. no_more (sym ends.op_is ∙ close)), refl, refl);
       }
     where
       no_close : HasNoClose fs
-      no_close = has.at.0
+      no_close = has.is_at.0
+
+-- After the frames fs, which leave no message open, the scan has consumed one frame more, up to the end of these bytes.
+-- It is the found frame.
+pub record ConsumesEvent (role : Role) (limits : Limits) (new : Scan) (bytes : List ℕ) (fs : List Frame) (piece after : List ℕ) (found : EventFrame) : Type 0 where
+  pub none_before : unfinished fs ≡ []
+  pub ends : EndsEventAt role limits fs piece after found
+  pub has_scanned : HasScanned role limits new bytes (fs ++ ends.frame ∷ []) [] BetweenFrames
+
+-- Whatever the scan has consumed, it consumes the frame at the start of the piece, which ends an event.
+abbrev pub TakesEvent : Scan → Scan → List ℕ → List ℕ → EventFrame → Type 0
+TakesEvent old new piece after found =
+    (role : Role) (limits : Limits) (bytes since : List ℕ) (fs : List Frame) (pos : Position) →
+    HasScanned role limits old bytes fs since pos → ConsumesEvent role limits new (bytes ++ take found.size piece) fs piece after found
 
 pub takes_event : (old new : Scan) (piece after : List ℕ) (found : EventFrame) → IsIdle old → IsPastEvent old new found → found.size ≤ length piece → IsBytes piece → IsEventFrame old.context.role old.context.limits piece after found
     → TakesEvent old new piece after found
-takes_event old new piece after found idle past within in_piece is role limits bytes since fs reported has =
+takes_event old new piece after found idle past within in_piece is role limits bytes since fs pos has =
     let hc = has.has_consumed in
-    let at : IsAt role limits stages.Between bytes fs since reported = subst (λ (stage : Stage). IsAt role limits stage bytes fs since reported) idle.0 has.at in
+    let at : IsAt role limits stages.Between bytes fs since pos = subst (λ (stage : Stage). IsAt role limits stage bytes fs since pos) idle.0 has.is_at in
     let none : unfinished fs ≡ [] = subst (λ (m : Option OpenMessage). IsOpenMessage m (unfinished fs)) idle.1 hc.message in
-    let between : HasScannedAt role limits old stages.Between bytes fs [] reported =
-    subst (λ (rest : List ℕ). HasScannedAt role limits old stages.Between bytes fs rest reported) at.1 (record { has_consumed = hc; at = at }) in
+    let between : HasScannedAt role limits old stages.Between bytes fs [] pos =
+    subst (λ (rest : List ℕ). HasScannedAt role limits old stages.Between bytes fs rest pos) at.1 (record { has_consumed = hc; is_at = at }) in
     let of_role : IsEventFrame role old.context.limits piece after found = subst (λ (r : Role). IsEventFrame r old.context.limits piece after found) hc.sender is in
     let event : IsEventFrame role limits piece after found = subst (λ (b : Limits). IsEventFrame role b piece after found) hc.under of_role in
     let ends = event.1 fs hc.in_range hc.lawful at.0 none in
-    record { none_before = none; ends = ends; has_scanned = one_more role limits old new bytes piece after fs found reported between none ends event.0 within in_piece past }
+    record { none_before = none; ends = ends; has_scanned = one_more role limits old new bytes piece after fs found pos between none ends event.0 within in_piece past }
 
--- ---- what a call says of the frame
-
-pub message_of : (old new : Scan) (piece after : List ℕ) (found : EventFrame) → length after ≡ length piece → found.size ≤ length piece → is_control found.op ≡ false → TakesEvent old new piece after found
-    → TakesMessage old new piece after found.op found.size found.len
-message_of old new piece after found same_size within of_data takes role limits bytes since fs reported has =
-    let one = takes role limits bytes since fs reported has in
-    let ends = one.ends in
-    let size_after : length (take found.size after) ≡ found.size = length-take-le found.size after (omega (arith, within, same_size)) in
-    record {
-      none_before = one.none_before;
-      frame = ends.frame;
-      has_scanned = one.has_scanned;
-      final = ends.final;
-      op_is = ends.op_is;
-      of_data = of_data;
-      payload_is = ap (λ (k : ℕ). drop (k - found.len) (take found.size after)) (sym size_after) ∙ payload_last role limits fs ends.frame found.len (take found.size after) ends.law one.none_before ends.size ends.normal;
-    }
-
-pub end_of : (old new : Scan) (piece after : List ℕ) (found : EventFrame) → IsIdle old → TakesEvent old new piece after found → TakesToEnd old new piece found.size (info_found old.used found)
-end_of old new piece after found idle takes = record { between = idle.0; takes = to }
-  where
-    to : (role : Role) (limits : Limits) (bytes since : List ℕ) (fs : List Frame) (reported : Reported) → HasScanned role limits old bytes fs since reported → ConsumesToEnd role limits new (bytes ++ take found.size piece) fs (info_found old.used found)
-    to role limits bytes since fs reported has =
-        let one = takes role limits bytes since fs reported has in
-        let ends = one.ends in
-        record {
-          frame = ends.frame;
-          head_is = λ i. record { place = has.has_consumed.used i; fin = sym ends.final i; op = sym ends.op_is i; key = sym ends.key_is i; form = sym ends.form_is i; len = sym ends.size i };
-          has_scanned = one.has_scanned;
-        }
+-- ---- a run
 
 module _ (scan : Scan) (idle : IsIdle scan) (piece : List ℕ) where
   -- nothing consumed yet
-  begun : (role : Role) (limits : Limits) (bytes since : List ℕ) (fs : List Frame) (reported : Reported) → HasScanned role limits scan bytes fs since reported
-      → HasScanned role limits (after_frames scan 0 scan.counts) (bytes ++ take 0 piece) fs [] (reported_of fs)
-  begun role limits bytes since fs reported has =
+  begun : (role : Role) (limits : Limits) (bytes since : List ℕ) (fs : List Frame) (pos : Position) → HasScanned role limits scan bytes fs since pos
+      → HasScanned role limits (after_frames scan 0 scan.counts) (bytes ++ take 0 piece) fs [] BetweenFrames
+  begun role limits bytes since fs pos has =
       let hc = has.has_consumed in
-      let at : IsAt role limits stages.Between bytes fs since reported = subst (λ (stage : Stage). IsAt role limits stage bytes fs since reported) idle.0 has.at in
+      let at : IsAt role limits stages.Between bytes fs since pos = subst (λ (stage : Stage). IsAt role limits stage bytes fs since pos) idle.0 has.is_at in
       let same : bytes ++ take 0 piece ≡ bytes = append-nil bytes in
       let whole : bytes ++ take 0 piece ≡ stream fs ++ [] = same ∙ hc.whole ∙ ap (λ (bs : List ℕ). stream fs ++ bs) at.1 in
       let size : length bytes ≡ length (stream fs) = ap (λ (bs : List ℕ). length bs) (sym same ∙ whole ∙ append-nil (stream fs)) in
@@ -181,42 +160,27 @@ module _ (scan : Scan) (idle : IsIdle scan) (piece : List ℕ) where
           counts = hc.counts;
           message = hc.message;
         };
-        at = subst (λ (stage : Stage). IsAt role limits stage (bytes ++ take 0 piece) fs [] (reported_of fs)) (sym idle.0) (at.0, refl, refl, refl);
+        is_at = subst (λ (stage : Stage). IsAt role limits stage (bytes ++ take 0 piece) fs [] BetweenFrames) (sym idle.0) (at.0, refl, refl);
       }
 
   pub begins : TakesEvents scan (after_frames scan 0 scan.counts) piece piece 0
-  begins role limits bytes since fs reported has = record {
+  begins role limits bytes since fs pos has = record {
     frames = fs;
     events = [];
-    has_scanned = begun role limits bytes since fs reported has;
+    has_scanned = begun role limits bytes since fs pos has;
     none_open = subst (λ (m : Option OpenMessage). IsOpenMessage m (unfinished fs)) idle.1 has.has_consumed.message;
     means = sym (append-nil (meaning fs));
     normal_is = refl;
   }
 
-  pub begins_prefix : ConsumesPrefix scan (after_frames scan 0 scan.counts) piece 0 []
-  begins_prefix role limits bytes heads taken =
-      let fs = taken.frames in
-      let reported : Reported = record { heads = heads; payload = taken.payload; ends = taken.ends } in
-      let at : IsAt role limits stages.Between bytes fs taken.since reported = subst (λ (stage : Stage). IsAt role limits stage bytes fs taken.since reported) idle.0 taken.has_scanned.at in
-      let same : heads_of fs ≡ heads ++ [] = sym at.2 ∙ sym (append-nil heads) in
-      record {
-        frames = fs;
-        since = [];
-        payload = [];
-        ends = ends_of fs;
-        has_scanned = subst (λ (hs : List HeadInfo). HasScanned role limits (after_frames scan 0 scan.counts) (bytes ++ take 0 piece) fs [] (record { heads = hs; payload = []; ends = ends_of fs })) same
-            (begun role limits bytes taken.since fs reported taken.has_scanned);
-      }
-
   -- one frame more
   pub goes_on : (here share new after : List ℕ) (at : ℕ) (counts next : Counts) (found : EventFrame) → TakesEvents scan (after_frames scan at counts) piece here at
       → share ≡ drop at piece → TakesEvent (after_frames scan at counts) (after_frames scan (at + found.size) next) share new found
       → take (at + found.size) after ≡ take at here ++ take found.size new → TakesEvents scan (after_frames scan (at + found.size) next) piece after (at + found.size)
-  goes_on here share new after at counts next found so_far is takes after_is role limits bytes since fs reported has =
-      let sofar = so_far role limits bytes since fs reported has in
+  goes_on here share new after at counts next found so_far is takes after_is role limits bytes since fs pos has =
+      let sofar = so_far role limits bytes since fs pos has in
       let done = sofar.frames in
-      let one = takes role limits (bytes ++ take at piece) [] done (reported_of done) sofar.has_scanned in
+      let one = takes role limits (bytes ++ take at piece) [] done BetweenFrames sofar.has_scanned in
       let ends = one.ends in
       let f = ends.frame in
       let all = done ++ f ∷ [] in
@@ -227,7 +191,7 @@ module _ (scan : Scan) (idle : IsIdle scan) (piece : List ℕ) where
       record {
         frames = all;
         events = sofar.events ++ e ∷ [];
-        has_scanned = subst (λ (bs : List ℕ). HasScanned role limits (after_frames scan (at + n) next) bs all [] (reported_of all)) (sym joined) one.has_scanned;
+        has_scanned = subst (λ (bs : List ℕ). HasScanned role limits (after_frames scan (at + n) next) bs all [] BetweenFrames) (sym joined) one.has_scanned;
         none_open = none_open done f one.none_before ends.final;
         means = meaning_push done f ∙ ap (λ (b : Bool). meaning done ++ cond b (e ∷ []) []) ends.final ∙ ap (λ (es : List MeantEvent). es ++ e ∷ []) sofar.means ∙ append_assoc (meaning fs) sofar.events (e ∷ []);
         normal_is = after_is ∙ ap (λ (bs : List ℕ). bs ++ take n new) sofar.normal_is ∙ ap (λ (bs : List ℕ). normal_form role sofar.events ++ bs) ends.normal ∙ sym (normal_form_push role sofar.events e);

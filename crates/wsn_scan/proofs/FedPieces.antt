@@ -1,24 +1,14 @@
 -- A piece that a scan consumes part by part.
-use Rattle.std.proofs.Common.{◌≡◌, ℕ, suc, ◌+◌, ◌-◌, ◌*◌, ◌<◌, ◌≤◌, None, List, [], ◌∷◌, ◌++◌, length, take, drop, get_or, inl, inr, refl, sym, ap, ◌∙◌, subst, append_assoc, append-nil, arith, length-drop, take-append-drop}
-use Rattle.std.proofs.lemmas.Bool.{cases_eq}
+use Rattle.std.proofs.Common.{◌≡◌, ℕ, suc, ◌+◌, ◌-◌, ◌<◌, ◌≤◌, List, [], ◌∷◌, ◌++◌, length, take, drop, get_or, sym, ap, ◌∙◌, subst, append_assoc, append-nil, arith, length-drop, take-append-drop}
 use Rattle.std.proofs.Math.Seq.{take-add, drop-append-add}
 use Rattle.std.proofs.lemmas.List.{take_all, length-take-le, drop-append-le}
 use borrow.Rule.Slice.PartMut.{mid_of, post_of, put_mid, put_same, same_len_mid}
-use Rattle.wsn_wire.specs.declared.endpoint.Role.{Role}
 use Rattle.wsn_wire.specs.Frame.{IsBytes}
 use Rattle.wsn_wire.proofs.FrameLemmas.{IsBytes-right}
-use Rattle.wsn_scan.specs.declared.notice.Notice.{Notice}
-use Rattle.wsn_scan.specs.declared.notice.Notice.TheVariants as notices
-use Rattle.wsn_rules.specs.declared.verdict.Refusal.{Refusal}
-use Rattle.wsn_scan.specs.declared.stage.Stage.{Stage}
-use Rattle.wsn_scan.specs.declared.stage.Stage.TheVariants as stages
 use Rattle.wsn_scan.specs.declared.scan.Scan.{Scan}
-use Rattle.wsn_rules.specs.Limits.{Limits}
 use Rattle.wsn_rules.specs.declared.head_info.HeadInfo.{HeadInfo}
-use Rattle.wsn_scan.specs.Scans.{IsReachedBy, Advances, MakesProgress, ends_pending_at, ends_pending, room_of}
-use Rattle.wsn_scan.specs.Reports.{Reported, reported_after, IsRefusal, refusal_in_notice}
-use Rattle.wsn_scan.specs.Feeding.{HasScannedBytes, ConsumesPrefix, heads_in}
-use Rattle.wsn_scan.specs.WholeFrames.{after_end}
+use Rattle.wsn_scan.specs.Scans.{room_of}
+use Rattle.wsn_scan.specs.Feeding.{HasScannedBytes, ConsumesPrefix}
 
 -- a bound on each byte, index by index
 pub bytes_below : (xs : List ℕ) → ((i : ℕ) → get_or xs i 0 < 256) → IsBytes xs
@@ -74,30 +64,6 @@ takes_further old mid new piece share at n more next is first second role limits
 pub bytes_after : (at : ℕ) (piece : List ℕ) → IsBytes piece → IsBytes (drop at piece)
 bytes_after at piece in_bytes = IsBytes-right (take at piece) (drop at piece) (subst IsBytes (sym (take-append-drop at piece)) in_bytes)
 
-heads_after : (reported : Reported) (notice : Notice) (bytes : List ℕ) → (reported_after reported notice bytes).heads ≡ reported.heads ++ heads_in notice
-heads_after reported notices.More bytes = sym (append-nil reported.heads)
-heads_after reported (notices.Head info) bytes = refl
-heads_after reported notices.Payload bytes = sym (append-nil reported.heads)
-heads_after reported (notices.FrameEnd event) bytes = sym (append-nil reported.heads)
-heads_after reported notices.Closed bytes = sym (append-nil reported.heads)
-heads_after reported (notices.Refused refusal) bytes = sym (append-nil reported.heads)
-
-has_taken : (role : Role) (limits : Limits) (scan : Scan) (bytes : List ℕ) (notice : Notice) (reported : Reported) → IsReachedBy role limits scan notice bytes reported → HasScannedBytes role limits scan bytes reported.heads
-has_taken role limits scan bytes notice reported reached = record { frames = reached.frames; since = reached.since; payload = reported.payload; ends = reported.ends; has_scanned = reached.has_scanned }
-
--- what a call consumes
-pub takes_by : (old new : Scan) (notice : Notice) (piece after : List ℕ) (n : ℕ) → Advances old new piece after n notice → IsBytes piece → ConsumesPrefix old new piece n (heads_in notice)
-takes_by old new notice piece after n advances in_bytes role limits bytes heads taken =
-    let reported : Reported = record { heads = heads; payload = taken.payload; ends = taken.ends } in
-    let reached = advances role limits bytes taken.since taken.frames reported in_bytes taken.has_scanned in
-    subst (λ (hs : List HeadInfo). HasScannedBytes role limits new (bytes ++ take n piece) hs) (heads_after reported notice (take n after))
-    (has_taken role limits new (bytes ++ take n piece) notice (reported_after reported notice (take n after)) reached)
-
-pub takes_on : (old mid new : Scan) (notice : Notice) (piece share after : List ℕ) (at n : ℕ) (more : List HeadInfo) → IsBytes piece → share ≡ drop at piece → ConsumesPrefix old mid piece at more
-    → Advances mid new share after n notice → ConsumesPrefix old new piece (at + n) (more ++ heads_in notice)
-takes_on old mid new notice piece share after at n more in_bytes is consumes advances =
-    takes_further old mid new piece share at n more (heads_in notice) is consumes (takes_by mid new notice share after n advances (subst IsBytes (sym is) (bytes_after at piece in_bytes)))
-
 -- ---- a piece so far
 
 -- The scan has consumed the piece up to this byte, and the rest of the piece is unchanged.
@@ -128,64 +94,3 @@ fed_further old scan new piece here after at n fed fits same_size same room cons
       room = omega (arith, room, fed.room);
       consumes = (fed.consumes.0 ++ more.0, takes_further old scan new piece share at n fed.consumes.0 more.0 is fed.consumes.1 more.1);
     }
-
--- ---- a call makes progress
-
-pub untold_few : (stage : Stage) → ends_pending_at stage ≤ 1
-untold_few stages.Between = omega arith
-untold_few (stages.Head part) = omega arith
-untold_few (stages.Payload inside) = omega arith
-untold_few (stages.Ended event) = omega arith
-untold_few (stages.CloseEnded code) = omega arith
-untold_few (stages.Closed code) = omega arith
-untold_few (stages.Refused refusal) = omega arith
-
-pub no_refusal : (notice : Notice) → ((refusal : Refusal) → notice ≡ notices.Refused refusal → ⊥) → (IsRefusal notice → ⊥) × (refusal_in_notice notice ≡ None)
-no_refusal notices.More other = (λ is. is, refl)
-no_refusal (notices.Head info) other = (λ is. is, refl)
-no_refusal notices.Payload other = (λ is. is, refl)
-no_refusal (notices.FrameEnd event) other = (λ is. is, refl)
-no_refusal notices.Closed other = (λ is. is, refl)
-no_refusal (notices.Refused refusal) other = absurd (other refusal refl)
-
-pub none_reported : (notice : Notice) → refusal_in_notice notice ≡ None → IsRefusal notice → ⊥
-none_reported notices.More reported is = is
-none_reported (notices.Head info) reported is = is
-none_reported notices.Payload reported is = is
-none_reported (notices.FrameEnd event) reported is = is
-none_reported notices.Closed reported is = is
-none_reported (notices.Refused refusal) reported is = absurd cc
-
--- each consumed byte counts twice, and a frame end that isn't reported yet counts once
-pub falls : (old new : Scan) (notice : Notice) (at n size : ℕ) → at < size → at + n ≤ size → (IsRefusal notice → ⊥) → MakesProgress old new n notice
-    → 2 * (size - (at + n)) + ends_pending new < 2 * (size - at) + ends_pending old
-falls old new notice at n size less fits other makes_progress =
-    let few = untold_few new.stage in
-    elim makes_progress [
-      | inl some ↦ omega arith
-      | inr rest ↦ elim rest [
-        | inl fewer ↦ omega arith
-        | inr is ↦ absurd (other is)
-      ]
-    ]
-
--- the same if more bytes are consumed, or none and no frame end more is pending
-pub falls_further : (old new : Scan) (at n size most : ℕ) → at + n ≤ size → 2 * (size - at) + ends_pending old < most → (n ≡ 0 → ends_pending new ≤ ends_pending old) → 2 * (size - (at + n)) + ends_pending new < most
-falls_further old new at n size most fits less no_more =
-    elim (cases_eq n 0) [
-      | inl none ↦ omega (arith, no_more none, none, less)
-      | inr some ↦ let few = untold_few new.stage in omega (arith, few, some, less, fits)
-    ]
-
-pub no_end_more : (old new : Scan) → new ≡ old → ends_pending new ≤ ends_pending old
-no_end_more old new same = let ends : ends_pending new ≡ ends_pending old = ap (λ (scan : Scan). ends_pending scan) same in omega (arith, ends)
-
--- once the last frame's end is reported, none is pending
-pub none_pending : (stage : Stage) → ends_pending_at (after_end stage) ≡ 0
-none_pending stages.Between = refl
-none_pending (stages.Head part) = refl
-none_pending (stages.Payload inside) = refl
-none_pending (stages.Ended event) = refl
-none_pending (stages.CloseEnded code) = refl
-none_pending (stages.Closed code) = refl
-none_pending (stages.Refused refusal) = refl

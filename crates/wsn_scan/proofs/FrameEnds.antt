@@ -24,12 +24,10 @@ use Rattle.wsn_frame.specs.OpenMessages.{IsOpenMessage, group_after}
 use Rattle.wsn_frame.specs.PayloadChecks.{HasChecked}
 use Rattle.wsn_frame.specs.Counts.{AreCounts}
 use Rattle.wsn_frame.specs.Payloads.{unmasked_by, HoldsPayload}
-use Rattle.wsn_rules.specs.declared.head_info.HeadInfo.{HeadInfo}
 use Rattle.wsn_frame.specs.PartialHeads.{encoded_form, info_at}
-use Rattle.wsn_rules.specs.Heads.{info_of, heads_of}
-use Rattle.wsn_scan.specs.Scans.{HasConsumed, EndsFrame, IsAt, taken_of}
-use Rattle.wsn_scan.specs.Reports.{Reported, ends_of}
-use Rattle.wsn_scan.proofs.HeadsReported.{form_is_encoded, heads_push}
+use Rattle.wsn_rules.specs.Heads.{info_of}
+use Rattle.wsn_scan.specs.Scans.{HasConsumed, HasEnded, IsStageAfter, taken_of}
+use Rattle.wsn_scan.proofs.HeadsReported.{form_is_encoded}
 use Rattle.wsn_rules.proofs.LawfulLists.{law_at_split, lawful_push}
 use Rattle.wsn_rules.proofs.Groups.{group_of_lawful, unfinished_control, unfinished_final, unfinished_more}
 use Rattle.wsn_scan.proofs.ScanVerdicts.{other_op}
@@ -149,14 +147,6 @@ module _ (role : Role) (limits : Limits) (rest wire : List ℕ) (fs : List Frame
       (subst (λ (op : Op). HasChecked (unfinished fs) (first_byte f.fin op) check (unmasked_by head.key 0 wire)) (sym op_is)
       (subst (λ (fin : Bool). HasChecked (unfinished fs) (first_byte fin head.first.op) check (unmasked_by head.key 0 wire)) (sym fin_is) holds.checked))
 
--- the reported ends and one more
-ends_push : (fs : List Frame) (f : Frame) → ends_of (fs ++ f ∷ []) ≡ ends_of fs ++ f.fin ∷ []
-ends_push [] f = refl
-ends_push (g ∷ fs) f = ap (λ (ends : List Bool). g.fin ∷ ends) (ends_push fs f)
-
-ends_with : (fs : List Frame) (f : Frame) (ends : List Bool) (fin : Bool) → ends ≡ ends_of fs → f.fin ≡ fin → ends ++ fin ∷ [] ≡ ends_of (fs ++ f ∷ [])
-ends_with fs f ends fin so_far is = ap (λ (bs : List Bool). bs ++ fin ∷ []) so_far ∙ ap (λ (b : Bool). ends_of fs ++ b ∷ []) (sym is) ∙ sym (ends_push fs f)
-
 -- ---- upper bounds
 
 pub frames_few : (fs : List Frame) → length fs ≤ length (stream fs)
@@ -202,13 +192,12 @@ pub record IsBehind (old new : Scan) (head : Head) (check : PayloadCheck) : Type
   pub counts : (fs : List Frame) (f : Frame) → AreCounts old.counts fs → length fs < 2 ^ 63 → f.fin ≡ head.first.fin → f.op ≡ head.first.op → AreCounts new.counts (fs ++ f ∷ [])
   pub message : (group : List Frame) (f : Frame) → IsOpenMessage old.context.message group → f.fin ≡ head.first.fin → f.op ≡ head.first.op → head.len ≡ length f.payload
       → HasChecked group (first_byte f.fin f.op) check f.payload → length (payload_of (group ++ f ∷ [])) < 2 ^ 32 → length group < 2 ^ 63 → IsOpenMessage new.context.message (group_after group f)
-  pub stage : (role : Role) (limits : Limits) (bytes : List ℕ) (fs : List Frame) (f : Frame) (reported : Reported) → IsLawful role limits (fs ++ f ∷ []) → HasNoClose fs → f.fin ≡ head.first.fin
-      → HasChecked (unfinished fs) (first_byte f.fin f.op) check f.payload → reported.heads ≡ heads_of (fs ++ f ∷ []) → reported.ends ++ head.first.fin ∷ [] ≡ ends_of (fs ++ f ∷ []) → f.payload ≡ reported.payload → IsAt role limits new.stage bytes (fs ++ f ∷ []) [] reported
+  pub stage : IsStageAfter check new.stage
 
-pub frame_ends : (role : Role) (limits : Limits) (old new : Scan) (bytes rest wire : List ℕ) (fs : List Frame) (reported : Reported) (head : Head) (check : PayloadCheck) → IsBehind old new head check
+pub frame_ends : (role : Role) (limits : Limits) (old new : Scan) (bytes rest wire : List ℕ) (fs : List Frame) (head : Head) (check : PayloadCheck) → IsBehind old new head check
     → HasConsumed role limits old bytes fs rest → HasNoClose fs → HoldsPayload role limits (unfinished fs) head check wire rest → length wire ≡ head.len
-    → reported.heads ≡ heads_of fs ++ info_at (length (stream fs)) head ∷ [] → reported.ends ≡ ends_of fs → reported.payload ≡ unmasked_by head.key 0 wire → EndsFrame role limits new bytes fs reported
-frame_ends role limits old new bytes rest wire fs reported head check following has_consumed none holds all heads ends payload =
+    → HasEnded role limits new bytes fs head (unmasked_by head.key 0 wire)
+frame_ends role limits old new bytes rest wire fs head check following has_consumed none holds all =
     let in_rest = IsBytes-right (stream fs) rest (subst IsBytes has_consumed.whole has_consumed.in_bytes) in
     let w = whole_frame role limits rest wire fs head check has_consumed.in_range has_consumed.lawful in_rest holds all in
     let f = w.frame in
@@ -225,6 +214,8 @@ frame_ends role limits old new bytes rest wire fs reported head check following 
     let taken : taken_of old ≡ length bytes = omega arith in
     record {
       frame = f;
+      head_is = sym (info_whole (length (stream fs)) role limits fs head wire rest w);
+      payload_is = w.payload_is;
       has_scanned = record {
         has_consumed = record {
           sender = following.sender ∙ has_consumed.sender;
@@ -239,7 +230,6 @@ frame_ends role limits old new bytes rest wire fs reported head check following 
           message = subst (IsOpenMessage new.context.message) (sym (unfinished_after fs f))
               (following.message (unfinished fs) f has_consumed.message w.fin_is w.op_is w.length_is checked (text_small role limits fs f has_consumed.in_range has_consumed.lawful w.law) few_open);
         };
-        at = following.stage role limits bytes fs f reported lawful none w.fin_is checked
-            (heads ∙ ap (λ (info : HeadInfo). heads_of fs ++ info ∷ []) (sym (info_whole (length (stream fs)) role limits fs head wire rest w)) ∙ sym (heads_push fs f)) (ends_with fs f reported.ends head.first.fin ends w.fin_is) (w.payload_is ∙ sym payload);
+        is_at = following.stage role limits bytes fs f lawful none checked;
       };
     }

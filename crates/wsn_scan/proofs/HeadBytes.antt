@@ -15,7 +15,7 @@ use Rattle.wsn_scan.specs.declared.stage.Stage.TheVariants as stages
 use Rattle.wsn_frame.specs.declared.partial_head.PartialHead.TheVariants.{Empty}
 use Rattle.wsn_rules.specs.NoEvidence.{HasNoEvidence}
 use Rattle.wsn_scan.specs.Scans.{HasConsumed, HasScannedAt}
-use Rattle.wsn_scan.specs.Reports.{Reported}
+use Rattle.wsn_scan.specs.Positions.{Position}
 use Rattle.wsn_scan.proofs.ScanVerdicts.{nothing_without_evidence}
 use Rattle.wsn_wire.specs.declared.refusal.Reason.{Reason}
 use Rattle.wsn_rules.specs.declared.head_info.HeadInfo.{HeadInfo}
@@ -57,18 +57,17 @@ pub bytes_taken : (n : ℕ) (piece : List ℕ) → IsBytes piece → IsBytes (ta
 bytes_taken n piece all = IsBytes-left (take n piece) (drop n piece) (subst IsBytes (sym (take-append-drop n piece)) all)
 
 -- between frames, a scan is before a head's first byte
-pub before_head : (role : Role) (limits : Limits) (scan : Scan) (bytes rest : List ℕ) (fs : List Frame) (reported : Reported) → HasScannedAt role limits scan stages.Between bytes fs rest reported
-    → HasScannedAt role limits scan (stages.Head Empty) bytes fs rest reported
-before_head role limits scan bytes rest fs reported has_scanned = record {
+pub before_head : (role : Role) (limits : Limits) (scan : Scan) (bytes rest : List ℕ) (fs : List Frame) (at : Position) → HasScannedAt role limits scan stages.Between bytes fs rest at
+    → HasScannedAt role limits scan (stages.Head Empty) bytes fs rest at
+before_head role limits scan bytes rest fs at has_scanned = record {
   has_consumed = has_scanned.has_consumed;
-  at = (
-    has_scanned.at.0,
+  is_at = (
+    has_scanned.is_at.0,
     record {
-      has_bytes = has_scanned.at.1;
-      in_bytes = subst IsBytes (sym has_scanned.at.1) tt;
-      has_no_evidence = subst (HasNoEvidence role limits (unfinished fs)) (sym has_scanned.at.1) (nothing_without_evidence role limits (unfinished fs));
+      has_bytes = has_scanned.is_at.1;
+      in_bytes = subst IsBytes (sym has_scanned.is_at.1) tt;
+      has_no_evidence = subst (HasNoEvidence role limits (unfinished fs)) (sym has_scanned.is_at.1) (nothing_without_evidence role limits (unfinished fs));
     },
-    has_scanned.at.2,
-    has_scanned.at.3,
+    has_scanned.is_at.2,
   );
 }

@@ -15,8 +15,8 @@ use Rattle.wsn_scan.specs.declared.scan.Scan.{Scan}
 use Rattle.wsn_io.specs.declared.stop.Stop.TheVariants as stop
 use Rattle.wsn_rules.specs.Limits.{Limits}
 use Rattle.wsn_rules.specs.Verdict.{IsRefused, IsVerdict}
-use Rattle.wsn_scan.specs.Scans.{HasScanned, room_of, refusal_in}
-use Rattle.wsn_scan.specs.Reports.{nothing_reported, refusal_judged}
+use Rattle.wsn_scan.specs.Scans.{HasScanned, room_of, refusal_in, refusal_judged}
+use Rattle.wsn_scan.specs.Positions.{BetweenFrames}
 use Rattle.wsn_scan.specs.Feeding.{HasScannedBytes, HasFed}
 use Rattle.wsn_scan.specs.declared.refill.ReadChunk.{ReadChunk}
 use Rattle.wsn_scan.specs.Refill.{IsChunk, chunk_size, count_of}
@@ -25,7 +25,7 @@ use Rattle.wsn_rules.proofs.StaysRefused.{place_within}
 use Rattle.wsn_scan.proofs.Chunks.{one_past, none_past, in_count, most_of}
 use Rattle.wsn_scan.proofs.Unrefused.{unrefused, refused, unrefused_first, place_after}
 
--- The scan has consumed all that came, reported these heads and not refused.
+-- The scan has consumed all that came, taken the frames with these heads and not refused.
 pub record HasRead (role : Role) (limits : Limits) (old new : Incoming) (scan : Scan) (came : List ℕ) (heads : List HeadInfo) : Type 0 where
   pub consumed : IsConsumed old new came
   pub taken : HasScannedBytes role limits scan came heads
@@ -37,9 +37,9 @@ module _ (role : Role) (limits : Limits) where
   room_is scan bytes heads taken = taken.has_scanned.has_consumed.room
 
   -- nothing has come yet
-  pub begins : (input : Incoming) (scan : Scan) → HasScanned role limits scan [] [] [] nothing_reported → input.failed ≡ false → HasRead role limits input input scan [] []
+  pub begins : (input : Incoming) (scan : Scan) → HasScanned role limits scan [] [] [] BetweenFrames → input.failed ≡ false → HasRead role limits input input scan [] []
   begins input scan has_scanned unfailed =
-      let taken : HasScannedBytes role limits scan [] [] = record { frames = []; since = []; payload = []; ends = []; has_scanned = has_scanned } in
+      let taken : HasScannedBytes role limits scan [] [] = record { frames = []; since = []; position = BetweenFrames; has_scanned = has_scanned; heads_are = refl } in
       record { consumed = consumed_none input; taken = taken; none = unrefused_first role limits scan [] taken; unfailed = unfailed }
 
   -- a read failed

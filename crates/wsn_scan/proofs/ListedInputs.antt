@@ -1,4 +1,4 @@
--- What was printed of the bytes that came, by what the scan has consumed and reported of them.
+-- What was printed of the bytes that came, by what the scan has consumed and taken of them.
 use Rattle.std.proofs.Common.{◌≡◌, ℕ, ◌+◌, ◌≤◌, Option, false, true, None, Some, Result, Ok, Err, List, [], ◌++◌, length, take, drop, inl, inr, refl, sym, ap, ◌∙◌, subst, append_assoc, take-append-drop, length-append, append-nil, arith}
 use Rattle.std.proofs.lemmas.Bool.{cases_lt}
 use Rattle.std.proofs.lemmas.List.{length-take-le, take-take, take_all}
@@ -18,15 +18,14 @@ use Rattle.wsn_io.specs.declared.stop.Stop.TheVariants as stop
 use Rattle.wsn_rules.specs.Limits.{Limits}
 use Rattle.wsn_rules.specs.Verdict.{IsRefused, IsVerdict}
 use Rattle.wsn_rules.specs.Heads.{AreHeads}
-use Rattle.wsn_scan.specs.Scans.{room_of, refusal_in}
-use Rattle.wsn_scan.specs.Reports.{refusal_judged}
+use Rattle.wsn_scan.specs.Scans.{room_of, refusal_in, refusal_judged}
 use Rattle.wsn_scan.specs.Feeding.{HasScannedBytes, HasFed}
 use Rattle.wsn_scan.specs.declared.refill.ReadChunk.{ReadChunk}
 use Rattle.wsn_scan.specs.Refill.{IsChunk, chunk_size, count_of}
 use Rattle.wsn_scan.specs.Judging.{IsJudgedOf, IsReached}
 use Rattle.wsn_print.specs.declared.format.Format.{Format}
 use Rattle.wsn_print.specs.Formats.{heads_text, verdict_text}
-use Rattle.wsn_scan.specs.Listing.{HasVerdictAndHeads, listing, IsReadUpToRefusal, IsEnded, IsListedChunk, IsListedAs}
+use Rattle.wsn_scan.specs.Listing.{HasVerdictAndHeads, listing, IsReadUpToRefusal, IsEnded, IsListedChunk, IsListedButChunk, IsListedAs}
 use Rattle.wsn_rules.proofs.OneVerdict.{one_verdict}
 use Rattle.wsn_scan.proofs.Chunks.{in_count, all_fit, full, most_of}
 use Rattle.wsn_scan.proofs.Unrefused.{unrefused, place_after, reported_so_far, reported_refused}
@@ -35,7 +34,7 @@ use Rattle.wsn_io.proofs.PutTexts.{front_of_more, prints_on}
 use Rattle.wsn_scan.proofs.JudgedInputs.{HasRead, room_is, stopped, ended, goes_on, passes_limit, refuses_input}
 
 module _ (format : Format) (role : Role) (limits : Limits) where
-  -- what is reported of the bytes within the limit
+  -- the heads of the bytes within the limit
   within : (came : List ℕ) (heads : List HeadInfo) (verdict : Verdict) → length came ≤ limits.input → HasVerdictAndHeads role limits came heads verdict → HasVerdictAndHeads role limits (take limits.input came) heads verdict
   within came heads verdict fits reported = subst (λ (bs : List ℕ). HasVerdictAndHeads role limits bs heads verdict) (sym (take_all limits.input came fits)) reported
 
@@ -90,6 +89,7 @@ module _ (format : Format) (role : Role) (limits : Limits) where
         received = judged.received;
         answer = judged.answer;
         printed = (heads, reported.0, within came heads reported.0 (read_fits old mid scan came heads read) reported.1, (unfailed, lines));
+        at_once = λ is. let both : Err stop.Read ≡ Err stop.Write = is in cc;
       }
 
   -- a verdict is printed
@@ -98,7 +98,13 @@ module _ (format : Format) (role : Role) (limits : Limits) where
       → IsListedAs format role limits old new before after result
   prints_verdict old new before mid after came heads verdict (Ok answer) judged reported cut lines is_end =
       subst (λ (v : Verdict). IsListedAs format role limits old new before after (Ok v)) (sym is_end.0)
-      (record { came = came; received = judged.received; answer = judged.answer; printed = (heads, reported, (is_end.1.0, whole_listing before mid after heads verdict lines is_end.1.1)) })
+      (record {
+        came = came;
+        received = judged.received;
+        answer = judged.answer;
+        printed = (heads, reported, (is_end.1.0, whole_listing before mid after heads verdict lines is_end.1.1));
+        at_once = λ is. let both : Ok verdict ≡ Err stop.Write = is in cc;
+      })
   prints_verdict old new before mid after came heads verdict (Err stopped_by) judged reported cut lines is_end =
       subst (λ (s : Stop). IsListedAs format role limits old new before after (Err s)) (sym is_end.0)
       (record {
@@ -106,6 +112,16 @@ module _ (format : Format) (role : Role) (limits : Limits) where
         received = judged.received;
         answer = reached_soon new came verdict judged.answer;
         printed = (heads, verdict, cut, (is_end.1.0, front_listing before mid after heads verdict lines is_end.1.1.0 is_end.1.1.1));
+        at_once = λ _. record {
+          done = came;
+          last = [];
+          whole = sym (append-nil came);
+          short = omega arith;
+          heads = heads;
+          are_heads = (verdict, reported);
+          more = take is_end.1.1.0 (verdict_text format verdict);
+          written = Appends-trans before.written mid.written after.written (heads_text format heads) (take is_end.1.1.0 (verdict_text format verdict)) lines is_end.1.1.1;
+        };
       })
 
   -- the input ended
@@ -172,7 +188,7 @@ module _ (format : Format) (role : Role) (limits : Limits) where
         received_of (limits.input + 1) old new (came ++ take (count_of chunk) buffer) (consumed_on old mid new came (take (count_of chunk) buffer) read.consumed got.consumed)
         (omega (arith, length-append came (take (count_of chunk) buffer), length-take-le (count_of chunk) buffer got.in_buffer, room_is role limits scan came heads read.taken, most_of mid new (room_of scan) buffer chunk got))
 
-    -- what is reported of the bytes within the limit
+    -- the heads of the bytes within the limit
     reported_limit : (more : List HeadInfo) (verdict : Verdict) → HasVerdictAndHeads role limits (came ++ take chunk.len buffer) more verdict → HasVerdictAndHeads role limits (take limits.input (came ++ take (count_of chunk) buffer)) more verdict
     reported_limit more verdict reported = subst (λ (bs : List ℕ). HasVerdictAndHeads role limits bs more verdict) (sym up_to_limit) reported
 
@@ -192,8 +208,27 @@ module _ (format : Format) (role : Role) (limits : Limits) where
     pub list_failed : (refusal : Option Refusal) → IsListedChunk format scan next mid_out after (take chunk.len buffer) refusal → after.failed ≡ true → IsListedAs format role limits old new before after (Err stop.Write)
     list_failed refusal piece broke =
         let reported = reported_within refusal piece.fed in
-        record { came = came ++ take (count_of chunk) buffer; received = received; answer = (got.unfailed ∙ read.unfailed, read_up); printed = (heads ++ piece.fed.heads, reported.0, reported_limit (heads ++ piece.fed.heads) reported.0 reported.1, (broke, of (all_lines refusal piece))) }
+        record {
+          came = came ++ take (count_of chunk) buffer;
+          received = received;
+          answer = (got.unfailed ∙ read.unfailed, read_up);
+          printed = (heads ++ piece.fed.heads, reported.0, reported_limit (heads ++ piece.fed.heads) reported.0 reported.1, (broke, of (all_lines refusal piece)));
+          at_once = λ _. but_chunk piece.printed;
+        }
       where
+        but_chunk : IsWrittenUpToFailure mid_out after (heads_text format piece.fed.heads) → IsListedButChunk format role limits (came ++ take (count_of chunk) buffer) before after
+        but_chunk (inl all) = let both : true ≡ false = sym broke ∙ all.0 in absurd cc
+        but_chunk (inr front) = record {
+          done = came;
+          last = take (count_of chunk) buffer;
+          whole = refl;
+          short = omega (arith, length-take-le (count_of chunk) buffer got.in_buffer, got.in_buffer, size);
+          heads = heads;
+          are_heads = reported_so_far role limits scan came heads read.taken read.none;
+          more = take front.1.0 (heads_text format piece.fed.heads);
+          written = Appends-trans before.written mid_out.written after.written (heads_text format heads) (take front.1.0 (heads_text format piece.fed.heads)) lines front.1.1;
+        }
+
         of : IsWrittenUpToFailure before after (heads_text format (heads ++ piece.fed.heads)) → (k : ℕ) × Appends before.written after.written (take k (listing format (heads ++ piece.fed.heads) (reported_within refusal piece.fed).0))
         of (inl all) = let both : true ≡ false = sym broke ∙ all.0 in absurd cc
         of (inr front) = front_of_listing before after (heads ++ piece.fed.heads) (reported_within refusal piece.fed).0 front.1.0 front.1.1
@@ -224,6 +259,7 @@ module _ (format : Format) (role : Role) (limits : Limits) where
           received = judged.received;
           answer = judged.answer;
           printed = (heads ++ fed.heads, reported.0, reported_limit (heads ++ fed.heads) reported.0 reported.1, (went, sent None piece went));
+          at_once = λ is. let both : Err stop.InputLimit ≡ Err stop.Write = is in cc;
         }
 
     -- all was consumed

@@ -6,6 +6,7 @@ use Rattle.wsn_wire.proofs.FrameLemmas.{IsBytes-append}
 use Rattle.wsn_scan.specs.declared.scan.Scan.{Scan}
 use Rattle.wsn_frame.specs.declared.open_message.OpenMessage.{OpenMessage}
 use Rattle.wsn_frame.specs.declared.counts.Counts.{Counts}
+use Rattle.wsn_frame.specs.declared.frame_context.FrameContext.{FrameContext}
 use Rattle.wsn_rules.specs.Limits.{Limits}
 use Rattle.wsn_rules.specs.Group.{unfinished}
 use Rattle.wsn_frame.specs.OpenMessages.{IsOpenMessage}
@@ -34,4 +35,20 @@ knows_more role limits old new bytes rest last fs consumes in_bytes has_consumed
   used = consumes.used ∙ has_consumed.used;
   counts = subst (λ (t : Counts). AreCounts t fs) (sym consumes.counts) has_consumed.counts;
   message = subst (λ (m : Option OpenMessage). IsOpenMessage m (unfinished fs)) (sym consumes.message) has_consumed.message;
+}
+
+-- What a scan has consumed doesn't depend on its stage.
+pub same_scan : (role : Role) (limits : Limits) (old new : Scan) (bytes rest : List ℕ) (fs : List Frame) → new.context ≡ old.context → new.room ≡ old.room → new.used ≡ old.used → new.counts ≡ old.counts
+    → HasConsumed role limits old bytes fs rest → HasConsumed role limits new bytes fs rest
+same_scan role limits old new bytes rest fs context room used counts h = record {
+  sender = ap (λ (x : FrameContext). x.role) context ∙ h.sender;
+  under = ap (λ (x : FrameContext). x.limits) context ∙ h.under;
+  in_range = h.in_range;
+  lawful = h.lawful;
+  whole = h.whole;
+  in_bytes = h.in_bytes;
+  room = ap (λ (n : ℕ). n + length bytes) room ∙ h.room;
+  used = used ∙ h.used;
+  counts = subst (λ (t : Counts). AreCounts t fs) (sym counts) h.counts;
+  message = subst (λ (x : FrameContext). IsOpenMessage x.message (unfinished fs)) (sym context) h.message;
 }

@@ -1,92 +1,89 @@
--- What `next` returns at each stage, by what the scan has reported.
-use Rattle.std.proofs.Common.{◌≡◌, ℕ, ◌-◌, Bool, true, List, [], ◌∷◌, ◌++◌, length, sym, ap, ◌∙◌, subst, length-append, arith}
+-- What a call finds, by what was taken before it.
+use Rattle.std.proofs.Common.{◌≡◌, ◌≢◌, ℕ, Bool, true, false, Option, None, Some, List, [], ◌∷◌, ◌++◌, length, take, drop, refl, sym, ap, ◌∙◌, subst, append_assoc}
+use Rattle.std.specs.Prelude.{◌↔◌, IfSome, IsSome}
 use Rattle.wsn_wire.specs.declared.endpoint.Role.{Role}
-use Rattle.wsn_wire.specs.Frame.{Frame, stream}
+use Rattle.wsn_wire.specs.Frame.{Frame, IsBytes}
 use Rattle.wsn_rules.specs.declared.head_info.HeadInfo.{HeadInfo}
 use Rattle.wsn_rules.specs.declared.verdict.Refusal.{Refusal}
 use Rattle.wsn_rules.specs.Limits.{Limits}
+use Rattle.wsn_rules.specs.Lawful.{IsLawful}
 use Rattle.wsn_rules.specs.Accepted.{HasNoClose, EndsWithClose}
-use Rattle.wsn_rules.specs.Heads.{heads_of}
-use Rattle.wsn_rules.proofs.Prefixes.{append_cancel, head_same}
-use Rattle.wsn_scan.specs.declared.notice.Notice.{Notice}
-use Rattle.wsn_scan.specs.declared.notice.Notice.TheVariants as notices
+use Rattle.wsn_scan.specs.declared.part.Part.{Part}
+use Rattle.wsn_scan.specs.declared.part.Taken.{Taken}
+use Rattle.wsn_scan.specs.declared.part.Taken.TheVariants as taken
 use Rattle.wsn_scan.specs.declared.scan.Scan.{Scan}
 use Rattle.wsn_scan.specs.declared.stage.Stage.{Stage}
 use Rattle.wsn_scan.specs.declared.stage.Stage.TheVariants as stages
-use Rattle.wsn_frame.specs.PartialHeads.{info_at}
-use Rattle.wsn_scan.specs.Reports.{AnswersByCase, ConsumesPayload, Reported, ends_of}
-use Rattle.wsn_scan.specs.Scans.{IsAt, HasScanned, ConsumesFromPiece, ConsumesAtStage, refusal_at, refusal_in}
-use Rattle.wsn_frame.proofs.PayloadMore.{length-unmasked_by}
+use Rattle.wsn_scan.specs.Positions.{Position, BetweenFrames, InFrame}
+use Rattle.wsn_scan.specs.Parts.{GoesOn, Finds, FindsByCase, Consumes}
+use Rattle.wsn_scan.specs.Scans.{IsAt, HasScanned, IsReachedBy, ScanCall, IsAnswered, refusal_at, refusal_in}
 
--- a list with one element more is another list
-longer : {A : Type 0} (xs ys : List A) (x : A) → xs ≡ ys → xs ++ x ∷ [] ≡ ys → ⊥
-longer xs ys x is also = let size = ap (λ (zs : List _). length zs) (also ∙ sym is) in absurd (omega (arith, size, length-append xs (x ∷ [])))
+no_close_and_close : (fs : List Frame) → HasNoClose fs → EndsWithClose fs → ⊥
+no_close_and_close fs none ends = none ends.0 [] ends.1 ends.3 ends.2
 
-not_more : {A : Type 0} (xs ys : List A) (x : A) → xs ≡ ys → xs ≡ ys ++ x ∷ [] → ⊥
-not_more xs ys x is also = let size = ap (λ (zs : List _). length zs) (sym also ∙ is) in absurd (omega (arith, size, length-append ys (x ∷ [])))
+-- no frame comes after a Close
+none_after_close : (role : Role) (limits : Limits) (fs : List Frame) (f : Frame) → IsLawful role limits (fs ++ f ∷ []) → EndsWithClose fs → ⊥
+none_after_close role limits fs f lawful ends =
+    let whole : fs ++ f ∷ [] ≡ ends.0 ++ ends.1 ∷ f ∷ [] = ap (λ (gs : List Frame). gs ++ f ∷ []) ends.3 ∙ append_assoc ends.0 (ends.1 ∷ []) (f ∷ []) in
+    let none : f ∷ [] ≡ [] = lawful.close_last ends.0 (f ∷ []) ends.1 whole ends.2 in
+    cc
 
-last_same : {A : Type 0} (xs : List A) (x y : A) → xs ++ x ∷ [] ≡ xs ++ y ∷ [] → x ≡ y
-last_same xs x y is = head_same x y [] [] (append_cancel xs (x ∷ []) (y ∷ []) is)
+-- at each stage but a refusal: in a frame there was no Close
+no_close_in_frame : (role : Role) (limits : Limits) (stage : Stage) (bytes : List ℕ) (fs : List Frame) (rest : List ℕ) (at : Position) (head : HeadInfo) (payload : List ℕ) → IsAt role limits stage bytes fs rest at
+    → (IsSome (refusal_at stage) → ⊥) → at ≡ InFrame head payload → HasNoClose fs
+no_close_in_frame role limits stages.Between bytes fs rest at head payload is unrefused in_frame = is.0
+no_close_in_frame role limits (stages.Head part) bytes fs rest at head payload is unrefused in_frame = is.0
+no_close_in_frame role limits (stages.Payload inside) bytes fs rest at head payload is unrefused in_frame = is.0
+no_close_in_frame role limits (stages.Closed code) bytes fs rest at head payload is unrefused in_frame = let both : BetweenFrames ≡ InFrame head payload = sym is.2 ∙ in_frame in absurd cc
+no_close_in_frame role limits (stages.Refused refusal) bytes fs rest at head payload is unrefused in_frame = absurd (unrefused refl)
 
-not_close : (fs : List Frame) → HasNoClose fs → EndsWithClose fs → ⊥
-not_close fs none (before, close, is, whole) = none before [] close whole is
+-- a refusal comes after no Close
+no_close_refused : (role : Role) (limits : Limits) (stage : Stage) (bytes : List ℕ) (fs : List Frame) (rest : List ℕ) (at : Position) → IsAt role limits stage bytes fs rest at → IsSome (refusal_at stage) → HasNoClose fs
+no_close_refused role limits stages.Between bytes fs rest at is refused = is.0
+no_close_refused role limits (stages.Head part) bytes fs rest at is refused = is.0
+no_close_refused role limits (stages.Payload inside) bytes fs rest at is refused = is.0
+no_close_refused role limits (stages.Closed code) bytes fs rest at is refused = let both : false ≡ true = refused in absurd cc
+no_close_refused role limits (stages.Refused refusal) bytes fs rest at is refused = (is.refused []).no_close
 
-module _ (role : Role) (limits : Limits) (bytes : List ℕ) (fs : List Frame) (rest : List ℕ) (reported : Reported) (size n : ℕ) (notice : Notice) where
-  by_stage : (stage : Stage) → IsAt role limits stage bytes fs rest reported → ConsumesAtStage stage size n notice → AnswersByCase fs reported (refusal_at stage) size n notice
-  by_stage stages.Between at consumes = record {
-    again = λ refusal is. (cc);
-    tail = λ _ close _. absurd (not_close fs at.0 close);
-    end = λ fin _ pending. absurd (longer reported.ends (ends_of fs) fin at.3 pending);
-    payload = λ info _ begun. absurd (not_more reported.heads (heads_of fs) info at.2 begun);
-    head = λ _ _ _ _. consumes;
-  }
-  by_stage (stages.Head part) at consumes = record {
-    again = λ refusal is. (cc);
-    tail = λ _ close _. absurd (not_close fs at.0 close);
-    end = λ fin _ pending. absurd (longer reported.ends (ends_of fs) fin at.3 pending);
-    payload = λ info _ begun. absurd (not_more reported.heads (heads_of fs) info at.2 begun);
-    head = λ _ _ _ _. consumes;
-  }
-  by_stage (stages.Payload inside) at consumes = record {
-    again = λ refusal is. (cc);
-    tail = λ _ close _. absurd (not_close fs at.0 close);
-    end = λ fin _ pending. absurd (longer reported.ends (ends_of fs) fin at.3 pending);
-    payload = λ info _ begun.
-        let own = info_at (length (stream fs)) inside.head in
-        let same : own ≡ info = last_same (heads_of fs) own info (sym at.2 ∙ begun) in
-        let done : inside.done ≡ length reported.payload = at.1.done ∙ sym (length-unmasked_by inside.head.key 0 at.1.wire) ∙ ap length (sym at.1.unmasked) in
-        let left : inside.head.len - inside.done ≡ info.len - length reported.payload = ap (λ (d : ℕ). inside.head.len - d) done ∙ ap (λ (i : HeadInfo). i.len - length reported.payload) same in
-        subst (λ (l : ℕ). ConsumesPayload size l n notice) left consumes;
-    head = λ _ _ _ whole. absurd (not_more reported.heads (heads_of fs) (info_at (length (stream fs)) inside.head) whole at.2);
-  }
-  by_stage (stages.Ended event) at consumes = record {
-    again = λ refusal is. (cc);
-    tail = λ _ close _. absurd (not_close fs at.0 close);
-    end = λ fin _ pending. (consumes.0, consumes.1 ∙ ap (λ (e : Bool). notices.FrameEnd e) (last_same reported.ends event fin (at.4 ∙ sym pending)));
-    payload = λ info _ begun. absurd (not_more reported.heads (heads_of fs) info at.3 begun);
-    head = λ _ _ all _. absurd (longer reported.ends (ends_of fs) event all at.4);
-  }
-  by_stage (stages.CloseEnded code) at consumes = record {
-    again = λ refusal is. (cc);
-    tail = λ _ _ all. absurd (longer reported.ends (ends_of fs) true all at.5);
-    end = λ fin _ pending. (consumes.0, consumes.1 ∙ ap (λ (e : Bool). notices.FrameEnd e) (last_same reported.ends true fin (at.5 ∙ sym pending)));
-    payload = λ info _ begun. absurd (not_more reported.heads (heads_of fs) info at.4 begun);
-    head = λ _ none _ _. absurd (not_close fs none at.0);
-  }
-  by_stage (stages.Closed code) at consumes = record {
-    again = λ refusal is. (cc);
-    tail = λ _ _ _. consumes;
-    end = λ fin _ pending. absurd (longer reported.ends (ends_of fs) fin at.3 pending);
-    payload = λ info _ begun. absurd (not_more reported.heads (heads_of fs) info at.2 begun);
-    head = λ _ none _ _. absurd (not_close fs none at.0);
-  }
-  by_stage (stages.Refused refusal) at consumes = record {
-    again = λ other is. let same : refusal ≡ other = cc in (consumes.0, consumes.1 ∙ ap (λ (r : Refusal). notices.Refused r) same);
-    tail = λ is _ _. (cc);
-    end = λ fin is _. (cc);
-    payload = λ info is _. (cc);
-    head = λ is _ _ _. (cc);
-  }
+again_of : (held : Option Refusal) (found : Taken) (n : ℕ) → IfSome held (λ _. (found ≡ taken.Refused) × (n ≡ 0)) → (refusal : Refusal) → held ≡ Some refusal → (found ≡ taken.Refused) × (n ≡ 0)
+again_of None found n again refusal is = absurd cc
+again_of (Some held) found n again refusal is = again
 
-  pub next_cases : (scan : Scan) → HasScanned role limits scan bytes fs rest reported → ConsumesFromPiece scan size n notice → AnswersByCase fs reported (refusal_in scan) size n notice
-  next_cases scan has_scanned consumes = by_stage scan.stage has_scanned.at consumes
+module _ (role : Role) (limits : Limits) (new : Scan) (bytes : List ℕ) (fs : List Frame) (at : Position) (part : Part) (payload : List ℕ) (size n : ℕ) where
+  -- a part of a frame comes after no Close
+  no_part_after : (frames : List Frame) (since : List ℕ) (position : Position) (before : List ℕ) → HasScanned role limits new bytes frames since position → GoesOn fs before part payload frames position
+      → (IsSome (refusal_in new) → ⊥) → EndsWithClose fs → (ends : Bool) → part.ends ≡ ends → ⊥
+  no_part_after frames since position before has_scanned goes_on unrefused close true is =
+      let ended = goes_on.ends is in
+      none_after_close role limits fs ended.0 (subst (IsLawful role limits) ended.3 has_scanned.has_consumed.lawful) close
+  no_part_after frames since position before has_scanned goes_on unrefused close false is =
+      let within = goes_on.within is in
+      let none = no_close_in_frame role limits new.stage bytes frames since position part.head (before ++ payload) has_scanned.is_at unrefused within.1 in
+      no_close_and_close fs (subst HasNoClose within.0 none) close
+
+  tail_of : (found : Taken) → IsReachedBy role limits new bytes (Finds found part payload fs at) → Consumes found part size n → IsSome (refusal_in new) ↔ (found ≡ taken.Refused) → EndsWithClose fs → (found ≡ taken.Closed) × (n ≡ size)
+  tail_of taken.More reached consumes reported close = absurd (no_close_and_close fs reached.found.2 close)
+  tail_of taken.Part reached consumes reported close =
+      absurd (no_part_after reached.frames reached.since reached.position reached.found.before reached.has_scanned reached.found.goes_on (λ some. let both : taken.Part ≡ taken.Refused = reported.0 some in cc) close part.ends refl)
+  tail_of taken.Closed reached consumes reported close = (refl, consumes)
+  tail_of taken.Refused reached consumes reported close =
+      let none = no_close_refused role limits new.stage bytes reached.frames reached.since reached.position reached.has_scanned.is_at (reported.1 refl) in
+      absurd (no_close_and_close fs (subst HasNoClose reached.found.0 none) close)
+
+  open_of : (found : Taken) → IsReachedBy role limits new bytes (Finds found part payload fs at) → HasNoClose fs → found ≢ taken.Closed
+  open_of taken.More reached none is = cc
+  open_of taken.Part reached none is = cc
+  open_of taken.Closed reached none is = no_close_and_close fs none reached.found.2
+  open_of taken.Refused reached none is = cc
+
+pub next_cases : (role : Role) (limits : Limits) (bytes : List ℕ) (fs : List Frame) (rest : List ℕ) (at : Position) (call : ScanCall) → HasScanned role limits call.before bytes fs rest at → IsBytes call.piece → IsAnswered call
+    → FindsByCase fs (refusal_in call.before) (length call.piece) call.count call.found call.part
+next_cases role limits bytes fs rest at call has_scanned in_bytes answered =
+    let reached = answered.advances role limits bytes rest fs at in_bytes has_scanned in
+    let all = bytes ++ take call.count call.piece in
+    let shown = drop call.part.start (take call.count call.piece_after) in
+    record {
+      again = again_of (refusal_in call.before) call.found call.count answered.again;
+      tail = λ unrefused close. tail_of role limits call.after all fs at call.part shown (length call.piece) call.count call.found reached.0 reached.1 answered.reported close;
+      frame = λ unrefused none. (open_of role limits call.after all fs at call.part shown (length call.piece) call.count call.found reached.0 none, reached.1);
+    }

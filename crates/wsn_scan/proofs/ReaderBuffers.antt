@@ -1,15 +1,13 @@
--- The buffer of a reader of notices, and the bytes that came.
+-- The buffer of a reader of frames, and the bytes that came.
 use Rattle.std.specs.List.{slice_range}
-use Rattle.std.proofs.Common.{◌≡◌, ℕ, ◌+◌, ◌-◌, ◌≤◌, Bool, true, false, List, [], ◌∷◌, ◌++◌, length, take, drop, refl, sym, ap, ◌∙◌, subst, arith, length-append, length-drop, take-append-drop}
+use Rattle.std.proofs.Common.{◌≡◌, ℕ, ◌+◌, ◌-◌, ◌≤◌, Bool, true, false, List, [], ◌∷◌, ◌++◌, length, take, drop, refl, sym, ap, ◌∙◌, arith, length-append, length-drop}
 use Rattle.std.proofs.Math.Seq.{drop-append-add}
 use Rattle.std.proofs.lemmas.Bool.{ltb-true, ltb-false}
-use Rattle.std.proofs.lemmas.List.{length-take, length-take-le, drop-append-le, take_all, take-append-le, take-take}
+use Rattle.std.proofs.lemmas.List.{length-take, length-take-le, drop-append-le, take_all, take-append-le}
 use borrow.Rule.Slice.PartMut.{mid_of, mid_len, post_of, put_mid, put_same}
-use Rattle.wsn_wire.specs.Frame.{IsBytes}
-use Rattle.wsn_wire.proofs.FrameLemmas.{IsBytes-left, IsBytes-right}
 use Rattle.wsn_rules.specs.Limits.{Limits}
-use Rattle.wsn_scan.specs.declared.notice_reader.NoticeReader.{NoticeReader}
-use Rattle.wsn_scan.specs.NoticeReaders.{IsBuffered, unread}
+use Rattle.wsn_scan.specs.declared.frame_reader.FrameReader.{FrameReader}
+use Rattle.wsn_scan.specs.FrameReaders.{IsBuffered, unread}
 use Rattle.wsn_scan.specs.Refill.{count_past}
 
 pub nothing : (xs : List ℕ) → length xs ≡ 0 → xs ≡ []
@@ -29,16 +27,6 @@ part_after at end n xs ys within in_xs size fits =
     let left : end - (at + n) ≡ length (drop n ys) = omega (arith, length-drop n ys, size) in
     ap (take (end - (at + n))) following ∙ take-append-le (end - (at + n)) (drop n ys) (post_of at (end - at) xs) (omega (arith, left)) ∙ take_all (end - (at + n)) (drop n ys) (omega (arith, left))
 
--- a range of the part, once the call has returned
-pub part_within : (at end s n : ℕ) (xs ys : List ℕ) → at ≤ end → end ≤ length xs → length ys ≡ end - at → s ≤ n → at + n ≤ end
-    → slice_range (put_mid at (end - at) xs ys) (at + s) (at + n) ≡ slice_range ys s n
-part_within at end s n xs ys within in_xs size ordered fits =
-    let there = put_mid at (end - at) xs ys in
-    let count : at + n - (at + s) ≡ n - s = omega arith in
-    ap (λ (m : ℕ). take m (drop (at + s) there)) count
-    ∙ sym (take-take (n - s) (end - (at + s)) (drop (at + s) there) (omega (arith, ordered, fits)))
-    ∙ ap (take (n - s)) (part_after at end s xs ys within in_xs size (omega (arith, ordered, fits)))
-
 pub range_after : (at end n : ℕ) (xs : List ℕ) → at ≤ end → end ≤ length xs → at + n ≤ end → slice_range xs (at + n) end ≡ drop n (slice_range xs at end)
 range_after at end n xs within in_xs fits =
     ap (λ (ys : List ℕ). slice_range ys (at + n) end) (sym (put_same at (end - at) xs)) ∙ part_after at end n xs (mid_of at (end - at) xs) within in_xs (mid_len at end xs in_xs) fits
@@ -48,16 +36,11 @@ length-range at end xs within in_xs = length-take-le (end - at) (drop at xs) (om
 
 -- ---- what came
 
-module _ (limits : Limits) (reader : NoticeReader) (came scanned : List ℕ) (b : IsBuffered limits reader came scanned) where
+module _ (limits : Limits) (reader : FrameReader) (came scanned : List ℕ) (b : IsBuffered limits reader came scanned) where
   pub length_unread : length (unread reader) ≡ reader.end - reader.at
   length_unread = length-range reader.at reader.end reader.buffer reader.left (omega (arith, reader.held, reader.size))
 
-  -- what the scan has not consumed came too
-  pub unread_in_bytes : IsBytes (unread reader)
-  unread_in_bytes =
-      let first : IsBytes (take limits.input came) = IsBytes-left (take limits.input came) (drop limits.input came) (subst IsBytes (sym (take-append-drop limits.input came)) b.in_bytes) in
-      IsBytes-right scanned (unread reader) (subst IsBytes b.within first)
-
+  -- the scan has room for the others
   pub within_limit : length scanned + (reader.end - reader.at) ≤ limits.input
   within_limit =
       let size : length (take limits.input came) ≡ length scanned + length (unread reader) = ap (λ (bs : List ℕ). length bs) b.within ∙ length-append scanned (unread reader) in

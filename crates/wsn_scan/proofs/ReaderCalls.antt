@@ -1,103 +1,93 @@
--- What a call of a reader of notices reads and returns, step by step.
-use Rattle.std.specs.Prelude.{nat_lt, ◌⊎◌, if◌then◌else◌}
+-- What a call of a reader of frames reads and returns, step by step.
+use Rattle.std.specs.Prelude.{◌⊎◌, if◌then◌else◌}
 use Rattle.std.proofs.lemmas.Bool.{le-ltb, cases_eq}
-use Rattle.std.proofs.Common.{◌≡◌, ℕ, ◌+◌, ◌-◌, ◌*◌, ◌<◌, ◌≤◌, Bool, true, false, arith, Option, None, Some, Result, Ok, Err, List, [], ◌++◌, length, sym, ap, ◌∙◌, subst, inl, inr, append_assoc, append-nil}
+use Rattle.std.proofs.Common.{◌≡◌, ℕ, ◌+◌, ◌-◌, ◌*◌, ◌<◌, ◌≤◌, Bool, false, arith, Option, None, Some, Result, Ok, Err, List, [], ◌++◌, length, sym, ap, ◌∙◌, subst, inl, inr, append_assoc, append-nil}
 use Rattle.wsn_wire.specs.declared.endpoint.Role.{Role}
 use Rattle.wsn_wire.specs.Frame.{Frame}
 use Rattle.wsn_io.specs.Transfer.{Incoming, IsConsumed}
 use Rattle.wsn_io.proofs.Received.{consumed_none, consumed_on}
 use Rattle.wsn_rules.specs.declared.verdict.Refusal.{Refusal}
 use Rattle.wsn_rules.specs.declared.verdict.Verdict.{Verdict}
-use Rattle.wsn_rules.specs.declared.verdict.Verdict.TheVariants.{Refused}
+use Rattle.wsn_rules.specs.declared.verdict.Verdict.TheVariants.{Accepted, Cut, Refused}
 use Rattle.wsn_rules.specs.Limits.{Limits}
 use Rattle.wsn_rules.specs.Verdict.{IsRefused}
-use Rattle.wsn_scan.specs.declared.notice.Notice.{Notice}
-use Rattle.wsn_scan.specs.declared.notice.Notice.TheVariants as notices
-use Rattle.wsn_scan.specs.declared.notice_reader.NextNotice.{NextNotice}
-use Rattle.wsn_scan.specs.declared.notice_reader.NextNotice.TheVariants as nexts
-use Rattle.wsn_scan.specs.declared.notice_reader.NoticeReader.{NoticeReader}
+use Rattle.wsn_scan.specs.declared.part.Part.{Part}
+use Rattle.wsn_scan.specs.declared.part.Taken.{Taken}
+use Rattle.wsn_scan.specs.declared.part.Taken.TheVariants as taken
+use Rattle.wsn_scan.specs.declared.frame_reader.FrameReader.{FrameReader}
 use Rattle.wsn_io.specs.declared.stop.Stop.{Stop}
-use Rattle.wsn_scan.specs.ReportedFrames.{Position}
-use Rattle.wsn_scan.specs.NoticeReaders.{HasReported, IsReading, notices_left}
-use Rattle.wsn_scan.specs.ReadNotices.{ReadsOn, IsNextNotice, IsDone}
-use Rattle.wsn_scan.specs.Scans.{ends_pending}
-use Rattle.wsn_scan.proofs.FramesReported.{settled}
-use Rattle.wsn_scan.specs.ReaderSteps.{ReportsStep, Progresses, IsUsed, IsFilled, IsRefusedBy, idle}
+use Rattle.wsn_scan.specs.Positions.{Position}
+use Rattle.wsn_scan.specs.FrameReaders.{HasTaken, IsReading, parts_left}
+use Rattle.wsn_scan.specs.ReadParts.{ReadsOn, IsNextPart, IsDone}
+use Rattle.wsn_scan.specs.Scans.{refusal_judged}
+use Rattle.wsn_scan.specs.ReaderSteps.{StepsOn, Progresses, IsUsed, IsFilled, HasRefused, idle}
 
--- A call has read these bytes more and reported nothing yet.
-pub record HasRead (role : Role) (limits : Limits) (old new : Incoming) (reader : NoticeReader) (came : List ℕ) (done : List Frame) (at : Position) : Type 0 where
+-- A call has read these bytes more and taken nothing yet.
+pub record HasRead (role : Role) (limits : Limits) (old new : Incoming) (reader : FrameReader) (came : List ℕ) (fs : List Frame) (at : Position) : Type 0 where
   pub more : List ℕ
   pub consumed : IsConsumed old new more
-  pub has_reported : HasReported role limits reader (came ++ more) done at
+  pub has_taken : HasTaken role limits reader (came ++ more) fs at
 
-module _ (role : Role) (limits : Limits) (old : Incoming) (came : List ℕ) (done : List Frame) (at : Position) where
-  pub begins : (reader : NoticeReader) → HasReported role limits reader came done at → HasRead role limits old old reader came done at
-  begins reader has_reported = record { more = []; consumed = consumed_none old; has_reported = subst (λ (bs : List ℕ). HasReported role limits reader bs done at) (sym (append-nil came)) has_reported }
+-- the verdict of a scan that has refused
+pub refused_as : (verdict : Verdict) (refusal : Refusal) → refusal_judged verdict ≡ Some refusal → verdict ≡ Refused refusal
+refused_as (Accepted summary) refusal is = absurd cc
+refused_as (Cut summary) refusal is = absurd cc
+refused_as (Refused held) refusal is = cc
 
-  -- the call returns without a read
-  pub answers_at_once : (reader next : NoticeReader) (result : Result NextNotice Stop) → HasReported role limits reader came done at → IsNextNotice role limits old next came done at result → ReadsOn role limits old old next came done at result
-  answers_at_once reader next result has_reported is =
-      let same = sym (append-nil came) in
-      record {
-        more = [];
-        consumed = consumed_none old;
-        few = subst (λ (bs : List ℕ). length bs ≤ limits.input + 1) same has_reported.buffered.few;
-        next = subst (λ (bs : List ℕ). IsNextNotice role limits old next bs done at result) same is;
-      }
+module _ (role : Role) (limits : Limits) (old : Incoming) (came : List ℕ) (fs : List Frame) (at : Position) where
+  pub begins : (reader : FrameReader) → HasTaken role limits reader came fs at → HasRead role limits old old reader came fs at
+  begins reader has_taken = record { more = []; consumed = consumed_none old; has_taken = subst (λ (bs : List ℕ). HasTaken role limits reader bs fs at) (sym (append-nil came)) has_taken }
 
-  module _ (mid : Incoming) (reader : NoticeReader) (read : HasRead role limits old mid reader came done at) where
+  module _ (mid : Incoming) (reader : FrameReader) (read : HasRead role limits old mid reader came fs at) where
     -- it returns without reading more
-    pub answers : (next : NoticeReader) (result : Result NextNotice Stop) → IsNextNotice role limits mid next (came ++ read.more) done at result → ReadsOn role limits old mid next came done at result
-    answers next result is = record { more = read.more; consumed = read.consumed; few = read.has_reported.buffered.few; next = is }
+    pub answers : (next : FrameReader) (part : Part) (result : Result (Option Verdict) Stop) → IsNextPart role limits mid next part (came ++ read.more) fs at result → ReadsOn role limits old mid next part came fs at result
+    answers next part result is = record { more = read.more; consumed = read.consumed; few = read.has_taken.buffered.few; next = is }
 
-    pub refused_done : (refusal : Refusal) → IsRefusedBy role limits (came ++ read.more) done at refusal → mid.failed ≡ false → IsDone role limits mid (came ++ read.more) done at (Refused refusal)
-    refused_done refusal by unfailed = (
-      (done, by.refused, by.soon, by.within, unfailed),
-      subst (λ (bs : List ℕ). IsRefused role limits bs done refusal.place refusal.reason) (append-nil (came ++ read.more)) (by.refused []),
-      by.has_reported,
-    )
+    pub refused_done : (next : FrameReader) (verdict : Verdict) (refused : HasRefused role limits next (came ++ read.more) fs at) → refusal_judged verdict ≡ Some refused.refusal → mid.failed ≡ false
+        → IsDone role limits mid (came ++ read.more) fs at verdict
+    refused_done next verdict refused judged unfailed =
+        let refusal = refused.refusal in
+        let by = refused.refused_by in
+        let is_done : IsDone role limits mid (came ++ read.more) fs at (Refused refusal) = (
+          (fs, by.refused, by.soon, by.within, unfailed),
+          subst (λ (bs : List ℕ). IsRefused role limits bs fs refusal.place refusal.reason) (append-nil (came ++ read.more)) (by.refused []),
+          by.all_taken,
+        ) in
+        subst (λ (v : Verdict). IsDone role limits mid (came ++ read.more) fs at v) (sym (refused_as verdict refusal judged)) is_done
 
     -- one read more
-    module _ (new : Incoming) (next : NoticeReader) where
+    module _ (new : Incoming) (next : FrameReader) where
       both : (more : List ℕ) → IsConsumed mid new more → IsConsumed old new (read.more ++ more)
       both more consumed = consumed_on old mid new read.more more read.consumed consumed
 
-      pub fills : IsFilled role limits mid new next (came ++ read.more) done at (Ok None) → HasRead role limits old new next came done at
+      pub fills : IsFilled role limits mid new next (came ++ read.more) fs at (Ok None) → HasRead role limits old new next came fs at
       fills filled = record {
         more = read.more ++ filled.more;
         consumed = both filled.more filled.consumed;
-        has_reported = subst (λ (bs : List ℕ). HasReported role limits next bs done at) (append_assoc came read.more filled.more) filled.next.0;
+        has_taken = subst (λ (bs : List ℕ). HasTaken role limits next bs fs at) (append_assoc came read.more filled.more) filled.next.0;
       }
 
-      joined : (result : Result (Option Verdict) Stop) (answer : Result NextNotice Stop) (filled : IsFilled role limits mid new next (came ++ read.more) done at result) → IsNextNotice role limits new next ((came ++ read.more) ++ filled.more) done at answer
-          → ReadsOn role limits old new next came done at answer
-      joined result answer filled is =
+      joined : (part : Part) (result : Result (Option Verdict) Stop) (filled : IsFilled role limits mid new next (came ++ read.more) fs at result) → IsNextPart role limits new next part ((came ++ read.more) ++ filled.more) fs at result
+          → ReadsOn role limits old new next part came fs at result
+      joined part result filled is =
           let all = append_assoc came read.more filled.more in
           record {
             more = read.more ++ filled.more;
             consumed = both filled.more filled.consumed;
             few = subst (λ (bs : List ℕ). length bs ≤ limits.input + 1) all filled.few;
-            next = subst (λ (bs : List ℕ). IsNextNotice role limits new next bs done at answer) all is;
+            next = subst (λ (bs : List ℕ). IsNextPart role limits new next part bs fs at result) all is;
           }
 
-      pub ends : (verdict : Verdict) → IsFilled role limits mid new next (came ++ read.more) done at (Ok (Some verdict)) → ReadsOn role limits old new next came done at (Ok (nexts.Done verdict))
-      ends verdict filled = joined (Ok (Some verdict)) (Ok (nexts.Done verdict)) filled filled.next
+      pub ends : (part : Part) (verdict : Verdict) → IsFilled role limits mid new next (came ++ read.more) fs at (Ok (Some verdict)) → ReadsOn role limits old new next part came fs at (Ok (Some verdict))
+      ends part verdict filled = joined part (Ok (Some verdict)) filled filled.next
 
-      pub halts : (halted : Stop) → IsFilled role limits mid new next (came ++ read.more) done at (Err halted) → ReadsOn role limits old new next came done at (Err halted)
-      halts halted filled = joined (Err halted) (Err halted) filled filled.next
+      pub halts : (part : Part) (halted : Stop) → IsFilled role limits mid new next (came ++ read.more) fs at (Err halted) → ReadsOn role limits old new next part came fs at (Err halted)
+      halts part halted filled = joined part (Err halted) filled filled.next
 
-pub reading_of : (role : Role) (limits : Limits) (reader : NoticeReader) (came : List ℕ) (done : List Frame) (at : Position) → HasReported role limits reader came done at → IsReading reader
-reading_of role limits reader came done at has_reported = record { role = role; limits = limits; came = came; done = done; at = at; has_reported = has_reported }
+pub reading_of : (role : Role) (limits : Limits) (reader : FrameReader) (came : List ℕ) (fs : List Frame) (at : Position) → HasTaken role limits reader came fs at → IsReading reader
+reading_of role limits reader came fs at has_taken = record { role = role; limits = limits; came = came; frames = fs; position = at; has_taken = has_taken }
 
 -- ---- the reads end
-
-pub idle_few : (at end : ℕ) (past : Bool) → idle at end past ≤ 1
-idle_few at end true = omega arith
-idle_few at end false = few (nat_lt at end)
-  where
-    few : (less : Bool) → (if less then 0 else 1) ≤ 1
-    few true = omega arith
-    few false = omega arith
 
 -- when a scanned buffer is filled again, the bound falls: by the bytes that were scanned, or as the buffer is no longer
 -- idle
@@ -110,19 +100,13 @@ read_falls at end left now next past within none falls zero = by (cases_eq at en
         omega (arith, one, falls, zero)
     by (inr more) = omega (arith, more, within, falls, zero)
 
--- ---- a call of the scan that reported nothing
+-- ---- a call of the scan that took nothing
 
-pub used_by : (role : Role) (limits : Limits) (reader : NoticeReader) (came : List ℕ) (done : List Frame) (at : Position) (notice : Notice) → (notice ≡ notices.More) ⊎ (notice ≡ notices.Closed)
-    → ReportsStep role limits reader came done at notice → IsUsed role limits reader came done at
-used_by role limits reader came done at notice (inl more) reports = subst (λ (m : Notice). ReportsStep role limits reader came done at m) more reports
-used_by role limits reader came done at notice (inr closed) reports = subst (λ (m : Notice). ReportsStep role limits reader came done at m) closed reports
+pub used_by : (role : Role) (limits : Limits) (reader : FrameReader) (part : Part) (came : List ℕ) (fs : List Frame) (at : Position) (found : Taken) → (found ≡ taken.More) ⊎ (found ≡ taken.Closed)
+    → StepsOn role limits reader part came fs at found → IsUsed role limits reader came fs at
+used_by role limits reader part came fs at found (inl more) steps = subst (λ (m : Taken). StepsOn role limits reader part came fs at m) more steps
+used_by role limits reader part came fs at found (inr closed) steps = subst (λ (m : Taken). StepsOn role limits reader part came fs at m) closed steps
 
-pub used_falls : (old new : NoticeReader) (notice : Notice) → (notice ≡ notices.More) ⊎ (notice ≡ notices.Closed) → Progresses old new notice → (notices_left new + (old.end - old.at) ≤ notices_left old) × (new.past ≡ old.past)
-used_falls old new notice (inl more) falls = subst (λ (m : Notice). Progresses old new m) more falls
-used_falls old new notice (inr closed) falls = subst (λ (m : Notice). Progresses old new m) closed falls
-
--- after it no frame end has yet to be reported
-pub none_pending : (role : Role) (limits : Limits) (reader : NoticeReader) (came : List ℕ) (done : List Frame) (at : Position) → IsUsed role limits reader came done at → ends_pending reader.scan ≡ 0
-none_pending role limits reader came done at used =
-    let h = used.has_reported in
-    (settled role limits reader.scan h.scanned h.since h.frames h.reported h.has_scanned done at h.ended (inr used.frames) h.unrefused).1
+pub used_falls : (old new : FrameReader) (found : Taken) → (found ≡ taken.More) ⊎ (found ≡ taken.Closed) → Progresses old new found → (parts_left new + (old.end - old.at) ≤ parts_left old) × (new.past ≡ old.past)
+used_falls old new found (inl more) falls = subst (λ (m : Taken). Progresses old new m) more falls
+used_falls old new found (inr closed) falls = subst (λ (m : Taken). Progresses old new m) closed falls

@@ -1,4 +1,4 @@
--- What one read means for a reader of notices that has scanned all that came.
+-- What one read means for a reader of frames that has scanned all that came.
 use Rattle.std.specs.List.{slice_range}
 use Rattle.std.specs.Prelude.{nat_lt, if◌then◌else◌}
 use Rattle.std.proofs.Common.{◌≡◌, ℕ, ◌+◌, ◌-◌, ◌<◌, ◌≤◌, Bool, true, false, Option, None, Result, Ok, List, [], ◌++◌, length, take, drop, refl, sym, ap, ◌∙◌, subst, inl, inr, arith, append-nil, length-append}
@@ -14,92 +14,88 @@ use Rattle.wsn_rules.specs.declared.verdict.Verdict.{Verdict}
 use Rattle.wsn_rules.specs.declared.verdict.Verdict.TheVariants.{Accepted, Cut, Refused}
 use Rattle.wsn_rules.specs.Limits.{Limits}
 use Rattle.wsn_rules.specs.Verdict.{IsVerdict}
-use Rattle.wsn_rules.specs.Heads.{heads_of, AreHeads}
-use Rattle.wsn_scan.specs.declared.notice_reader.NoticeReader.{NoticeReader}
+use Rattle.wsn_rules.specs.Heads.{heads_of}
+use Rattle.wsn_scan.specs.declared.frame_reader.FrameReader.{FrameReader}
 use Rattle.wsn_scan.specs.declared.scan.Scan.{Scan}
 use Rattle.wsn_io.specs.declared.stop.Stop.{Stop}
 use Rattle.wsn_io.specs.declared.stop.Stop.TheVariants as stop
 use Rattle.wsn_scan.specs.Feeding.{HasScannedBytes}
-use Rattle.wsn_scan.specs.ReportedFrames.{Position}
+use Rattle.wsn_scan.specs.Positions.{Position, begun_at}
 use Rattle.wsn_scan.specs.Judging.{IsUnrefused, IsReached}
-use Rattle.wsn_scan.specs.NoticeReaders.{HasReported, begun_at, unread}
+use Rattle.wsn_scan.specs.FrameReaders.{HasTaken, unread}
 use Rattle.wsn_scan.specs.declared.refill.ReadChunk.{ReadChunk}
 use Rattle.wsn_scan.specs.Refill.{IsChunk, chunk_size, count_of, count_past}
-use Rattle.wsn_scan.specs.ReadNotices.{AllReported, IsDone, IsHaltedAt}
+use Rattle.wsn_scan.specs.ReadParts.{AllTaken, IsDone, IsHaltedAt}
 use Rattle.wsn_scan.specs.ReaderSteps.{IsUsed, IsFilled, IsFilledBy, idle, idle_of}
-use Rattle.wsn_scan.specs.Scans.{HasScanned, room_of, refusal_in}
-use Rattle.wsn_scan.specs.Reports.{refusal_judged}
+use Rattle.wsn_scan.specs.Scans.{HasScanned, room_of, refusal_in, refusal_judged}
 use Rattle.wsn_scan.proofs.Chunks.{all_fit, full, most_of, past_test as chunk_past}
-use Rattle.wsn_scan.proofs.FramesReported.{frames_of_bytes}
 use Rattle.wsn_scan.proofs.HeadsSoFar.{heads_reported}
 use Rattle.wsn_scan.proofs.ReaderBuffers.{nothing, length_unread, past_limit, all_within}
-use Rattle.wsn_scan.proofs.Unrefused.{unrefused}
+use Rattle.wsn_scan.proofs.Unrefused.{unrefused, not_refused}
 
-module _ (role : Role) (limits : Limits) (reader : NoticeReader) (came : List ℕ) (done : List Frame) (at : Position) (used : IsUsed role limits reader came done at) where
+module _ (role : Role) (limits : Limits) (reader : FrameReader) (came : List ℕ) (fs : List Frame) (at : Position) (used : IsUsed role limits reader came fs at) where
   none_unread : unread reader ≡ []
-  none_unread = nothing (unread reader) (length_unread limits reader came used.has_reported.scanned used.has_reported.buffered ∙ omega (arith, used.all))
+  none_unread = nothing (unread reader) (length_unread limits reader came used.has_taken.scanned used.has_taken.buffered ∙ omega (arith, used.all))
 
   -- all that came within the limit is scanned
-  scanned_all : take limits.input came ≡ used.has_reported.scanned
-  scanned_all = used.has_reported.buffered.within ∙ ap (λ (bs : List ℕ). used.has_reported.scanned ++ bs) none_unread ∙ append-nil used.has_reported.scanned
+  scanned_all : take limits.input came ≡ used.has_taken.scanned
+  scanned_all = used.has_taken.buffered.within ∙ ap (λ (bs : List ℕ). used.has_taken.scanned ++ bs) none_unread ∙ append-nil used.has_taken.scanned
 
-  came_is : reader.past ≡ false → came ≡ used.has_reported.scanned
-  came_is none = all_within limits reader came used.has_reported.scanned used.has_reported.buffered none ∙ ap (λ (bs : List ℕ). used.has_reported.scanned ++ bs) none_unread ∙ append-nil used.has_reported.scanned
+  came_is : reader.past ≡ false → came ≡ used.has_taken.scanned
+  came_is none = all_within limits reader came used.has_taken.scanned used.has_taken.buffered none ∙ ap (λ (bs : List ℕ). used.has_taken.scanned ++ bs) none_unread ∙ append-nil used.has_taken.scanned
 
   size_is : reader.past ≡ false → length came + room_of reader.scan ≡ limits.input
-  size_is none = let size = ap (λ (bs : List ℕ). length bs) (came_is none) in omega (arith, size, used.has_reported.has_scanned.has_consumed.room)
+  size_is none = let size = ap (λ (bs : List ℕ). length bs) (came_is none) in omega (arith, size, used.has_taken.has_scanned.has_consumed.room)
 
-  unrefused_so_far : IsUnrefused role limits used.has_reported.scanned
+  unrefused_so_far : IsUnrefused role limits used.has_taken.scanned
   unrefused_so_far =
-      let taken : HasScannedBytes role limits reader.scan used.has_reported.scanned used.has_reported.reported.heads =
-      record { frames = used.has_reported.frames; since = used.has_reported.since; payload = used.has_reported.reported.payload; ends = used.has_reported.reported.ends; has_scanned = used.has_reported.has_scanned } in
-      unrefused role limits reader.scan used.has_reported.scanned used.has_reported.reported.heads taken used.has_reported.unrefused
+      let taken : HasScannedBytes role limits reader.scan used.has_taken.scanned (heads_of fs ++ begun_at at) =
+      record { frames = fs; since = used.has_taken.since; position = at; has_scanned = used.has_taken.has_scanned; heads_are = refl } in
+      unrefused role limits reader.scan used.has_taken.scanned (heads_of fs ++ begun_at at) taken used.has_taken.unrefused
 
-  verdict_so_far : (verdict : Verdict) × IsVerdict role limits (take limits.input came) done verdict
+  verdict_so_far : (verdict : Verdict) × IsVerdict role limits (take limits.input came) fs verdict
   verdict_so_far =
-      let found = frames_of_bytes role limits reader.scan used.has_reported.scanned used.has_reported.since used.has_reported.frames used.has_reported.reported used.has_reported.has_scanned in
-      (found.0, subst (λ (bs : List ℕ). IsVerdict role limits bs done found.0) (sym scanned_all) (subst (λ (fs : List Frame). IsVerdict role limits used.has_reported.scanned fs found.0) (sym used.frames) found.1))
+      let found = not_refused role limits reader.scan used.has_taken.scanned used.has_taken.since fs at used.has_taken.has_scanned used.has_taken.unrefused in
+      (found.0, subst (λ (bs : List ℕ). IsVerdict role limits bs fs found.0) (sym scanned_all) found.1)
 
-  -- all that was scanned is reported
-  scanned_reported : AllReported role limits used.has_reported.scanned done at
-  scanned_reported =
-      subst (λ (fs : List Frame). AreHeads role limits used.has_reported.scanned fs (heads_of done ++ begun_at at)) (sym used.frames)
-      (subst (AreHeads role limits used.has_reported.scanned used.has_reported.frames) used.has_reported.ended.heads (heads_reported role limits reader.scan used.has_reported.scanned used.has_reported.since used.has_reported.frames used.has_reported.reported used.has_reported.has_scanned))
+  -- all that was scanned is taken
+  scanned_taken : AllTaken role limits used.has_taken.scanned fs at
+  scanned_taken = heads_reported role limits reader.scan used.has_taken.scanned used.has_taken.since fs at used.has_taken.has_scanned
 
-  reported_so_far : AllReported role limits (take limits.input came) done at
-  reported_so_far = subst (λ (bs : List ℕ). AllReported role limits bs done at) (sym scanned_all) scanned_reported
+  taken_so_far : AllTaken role limits (take limits.input came) fs at
+  taken_so_far = subst (λ (bs : List ℕ). AllTaken role limits bs fs at) (sym scanned_all) scanned_taken
 
-  pub limit_passed : (new : Incoming) → reader.past ≡ true → new.failed ≡ false → IsHaltedAt role limits new came done at stop.InputLimit
+  pub limit_passed : (new : Incoming) → reader.past ≡ true → new.failed ≡ false → IsHaltedAt role limits new came fs at stop.InputLimit
   limit_passed new past unfailed =
-      ((past_limit limits reader came used.has_reported.scanned used.has_reported.buffered past, subst (IsUnrefused role limits) (sym scanned_all) unrefused_so_far, unfailed), verdict_so_far, reported_so_far)
+      ((past_limit limits reader came used.has_taken.scanned used.has_taken.buffered past, subst (IsUnrefused role limits) (sym scanned_all) unrefused_so_far, unfailed), verdict_so_far, taken_so_far)
 
-  pub read_failed : (new : Incoming) → reader.past ≡ false → new.failed ≡ true → IsHaltedAt role limits new came done at stop.Read
-  read_failed new none failed = ((failed, omega (arith, size_is none), subst (IsUnrefused role limits) (sym (came_is none)) unrefused_so_far), verdict_so_far, reported_so_far)
+  pub read_failed : (new : Incoming) → reader.past ≡ false → new.failed ≡ true → IsHaltedAt role limits new came fs at stop.Read
+  read_failed new none failed = ((failed, omega (arith, size_is none), subst (IsUnrefused role limits) (sym (came_is none)) unrefused_so_far), verdict_so_far, taken_so_far)
 
-  pub input_ended : (new : Incoming) (verdict : Verdict) → reader.past ≡ false → IsAtEnd new.remaining → new.failed ≡ false → IsVerdict role limits used.has_reported.scanned used.has_reported.frames verdict
-      → refusal_judged verdict ≡ None → IsDone role limits new came done at verdict
-  input_ended new verdict none at_end unfailed is other = (by verdict is_done other, is_done, subst (λ (bs : List ℕ). AllReported role limits bs done at) (sym (came_is none)) scanned_reported)
+  pub input_ended : (new : Incoming) (verdict : Verdict) → reader.past ≡ false → IsAtEnd new.remaining → new.failed ≡ false → IsVerdict role limits used.has_taken.scanned fs verdict
+      → refusal_judged verdict ≡ None → IsDone role limits new came fs at verdict
+  input_ended new verdict none at_end unfailed is other = (by verdict is_done other, is_done, subst (λ (bs : List ℕ). AllTaken role limits bs fs at) (sym (came_is none)) scanned_taken)
     where
-      is_done : IsVerdict role limits came done verdict
-      is_done = subst (λ (bs : List ℕ). IsVerdict role limits bs done verdict) (sym (came_is none)) (subst (λ (fs : List Frame). IsVerdict role limits used.has_reported.scanned fs verdict) (sym used.frames) is)
+      is_done : IsVerdict role limits came fs verdict
+      is_done = subst (λ (bs : List ℕ). IsVerdict role limits bs fs verdict) (sym (came_is none)) is
 
-      by : (v : Verdict) → IsVerdict role limits came done v → refusal_judged v ≡ None → IsReached role limits new came v
-      by (Accepted summary) accepted reported = (done, accepted, at_end, omega (arith, size_is none), unfailed)
-      by (Cut summary) cut reported = (done, cut, at_end, omega (arith, size_is none), unfailed)
+      by : (v : Verdict) → IsVerdict role limits came fs v → refusal_judged v ≡ None → IsReached role limits new came v
+      by (Accepted summary) accepted reported = (fs, accepted, at_end, omega (arith, size_is none), unfailed)
+      by (Cut summary) cut reported = (fs, cut, at_end, omega (arith, size_is none), unfailed)
       by (Refused refusal) refused reported = absurd cc
 
   -- nothing came, and this is the result
-  pub nothing_more : (next : NoticeReader) (old new : Incoming) → IsConsumed old new [] → (result : Result (Option Verdict) Stop) → IsFilledBy role limits new next came done at result
-      → IsFilled role limits old new next came done at result
+  pub nothing_more : (next : FrameReader) (old new : Incoming) → IsConsumed old new [] → (result : Result (Option Verdict) Stop) → IsFilledBy role limits new next came fs at result
+      → IsFilled role limits old new next came fs at result
   nothing_more next old new consumed result is = record {
     more = [];
     consumed = consumed;
-    few = subst (λ (bs : List ℕ). length bs ≤ limits.input + 1) (sym (append-nil came)) used.has_reported.buffered.few;
-    next = subst (λ (bs : List ℕ). IsFilledBy role limits new next bs done at result) (sym (append-nil came)) is;
+    few = subst (λ (bs : List ℕ). length bs ≤ limits.input + 1) (sym (append-nil came)) used.has_taken.buffered.few;
+    next = subst (λ (bs : List ℕ). IsFilledBy role limits new next bs fs at result) (sym (append-nil came)) is;
   }
 
   -- One read gave a chunk, and the reader keeps the bytes within the limit.
-  module _ (next : NoticeReader) (old new : Incoming) (chunk : ReadChunk) (none : reader.past ≡ false) (got : IsChunk old new (room_of reader.scan) next.buffer chunk)
+  module _ (next : FrameReader) (old new : Incoming) (chunk : ReadChunk) (none : reader.past ≡ false) (got : IsChunk old new (room_of reader.scan) next.buffer chunk)
       (same_scan : next.scan ≡ reader.scan) (at_front : next.at ≡ 0) (end_is : next.end ≡ chunk.len) (past_is : next.past ≡ chunk.past_limit) where
     in_buffer : count_of chunk ≤ chunk_size
     in_buffer = let size = next.size in omega (arith, got.in_buffer)
@@ -139,22 +135,19 @@ module _ (role : Role) (limits : Limits) (reader : NoticeReader) (came : List �
     still_small : next.end + count_past next.past ≤ chunk_size
     still_small = let same = ap count_past past_is in omega (arith, same, end_is, in_buffer)
 
-    refilled : HasReported role limits next (came ++ take (count_of chunk) next.buffer) done at
+    refilled : HasTaken role limits next (came ++ take (count_of chunk) next.buffer) fs at
     refilled = record {
-      scanned = used.has_reported.scanned;
-      frames = used.has_reported.frames;
-      since = used.has_reported.since;
-      reported = used.has_reported.reported;
-      has_scanned = subst (λ (s : Scan). HasScanned role limits s used.has_reported.scanned used.has_reported.frames used.has_reported.since used.has_reported.reported) (sym same_scan) used.has_reported.has_scanned;
-      unrefused = ap (λ (s : Scan). refusal_in s) same_scan ∙ used.has_reported.unrefused;
-      ended = used.has_reported.ended;
+      scanned = used.has_taken.scanned;
+      since = used.has_taken.since;
+      has_scanned = subst (λ (s : Scan). HasScanned role limits s used.has_taken.scanned fs used.has_taken.since at) (sym same_scan) used.has_taken.has_scanned;
+      unrefused = ap (λ (s : Scan). refusal_in s) same_scan ∙ used.has_taken.unrefused;
       buffered = record {
         within = ap (λ (m : ℕ). take m (came ++ take (count_of chunk) next.buffer)) (sym (size_is none)) ∙ take-append-add came (take (count_of chunk) next.buffer) (room_of reader.scan)
             ∙ ap (λ (bs : List ℕ). came ++ bs) front ∙ ap (λ (bs : List ℕ). bs ++ unread next) (came_is none);
         past = past_same;
         few = omega (arith, now_came, size_is none, most_of old new (room_of reader.scan) next.buffer chunk got);
         small = still_small;
-        in_bytes = IsBytes-append came (take (count_of chunk) next.buffer) used.has_reported.buffered.in_bytes got.in_bytes;
+        in_bytes = IsBytes-append came (take (count_of chunk) next.buffer) used.has_taken.buffered.in_bytes got.in_bytes;
       };
     }
 
@@ -169,5 +162,5 @@ module _ (role : Role) (limits : Limits) (reader : NoticeReader) (came : List �
             let positive : 0 < count_of chunk = got.some in
             ap (λ (less : Bool). if less then 0 else 1) (lt-ltb next.at next.end (omega (arith, at_front, end_all_is, positive)))
 
-    pub goes_on : old.failed ≡ false → IsFilled role limits old new next came done at (Ok None)
+    pub goes_on : old.failed ≡ false → IsFilled role limits old new next came fs at (Ok None)
     goes_on unfailed = record { more = take (count_of chunk) next.buffer; consumed = got.consumed; few = refilled.buffered.few; next = (refilled, not_idle, got.unfailed ∙ unfailed) }

@@ -22,7 +22,7 @@ use Rattle.wsn_rules.specs.Verdict.{IsEvidentAt, EndsWithinFrame, IsVerdict}
 use Rattle.wsn_rules.specs.NoEvidence.{HasNoEvidence}
 use Rattle.wsn_frame.specs.OpenMessages.{IsOpenMessage}
 use Rattle.wsn_scan.specs.Scans.{IsInPayload, HasScannedAt, taken_of, size_of_message, summary_of, verdict_between}
-use Rattle.wsn_scan.specs.Reports.{Reported}
+use Rattle.wsn_scan.specs.Positions.{Position}
 use Rattle.wsn_rules.proofs.LeastEvident.{evidence_is_some}
 use Rattle.wsn_rules.proofs.LayoutPrefixes.{layout_or_within}
 
@@ -70,7 +70,7 @@ nothing_within =
       | inr within ↦ within
     ]
 
-module _ (role : Role) (limits : Limits) (scan : Scan) (bytes rest : List ℕ) (fs : List Frame) (reported : Reported) (stage : Stage) (has_scanned : HasScannedAt role limits scan stage bytes fs rest reported) where
+module _ (role : Role) (limits : Limits) (scan : Scan) (bytes rest : List ℕ) (fs : List Frame) (at : Position) (stage : Stage) (has_scanned : HasScannedAt role limits scan stage bytes fs rest at) where
   taken_is : taken_of scan ≡ length bytes
   taken_is = let input : scan.context.limits.input ≡ limits.input = ap (λ (b : Limits). b.input) has_scanned.has_consumed.under in let room = has_scanned.has_consumed.room in omega arith
 

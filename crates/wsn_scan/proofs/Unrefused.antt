@@ -19,8 +19,9 @@ use Rattle.wsn_rules.specs.Limits.{Limits}
 use Rattle.wsn_rules.specs.Group.{unfinished}
 use Rattle.wsn_frame.specs.PartialHeads.{HasHeadBytes}
 use Rattle.wsn_rules.specs.Verdict.{IsRefused, IsVerdict}
-use Rattle.wsn_scan.specs.Scans.{HasScannedAt, summary_of, taken_of, verdict_between, refusal_at, refusal_in, IsRefusedThere}
-use Rattle.wsn_scan.specs.Reports.{refusal_judged, Reported}
+use Rattle.wsn_scan.specs.Scans.{HasScannedAt, summary_of, taken_of, verdict_between, refusal_at, refusal_in, refusal_judged, IsRefusedThere}
+use Rattle.wsn_scan.specs.Positions.{Position}
+use Rattle.wsn_rules.specs.Heads.{AreHeads}
 use Rattle.wsn_scan.specs.Judging.{IsUnrefused}
 use Rattle.wsn_rules.specs.declared.head_info.HeadInfo.{HeadInfo}
 use Rattle.wsn_scan.specs.Feeding.{HasScannedBytes}
@@ -50,39 +51,35 @@ empty_or_some (Key f encoded len came) = inr (λ is. cc)
 
 module _ (role : Role) (limits : Limits) where
   -- at each stage but a refusal
-  not_refused_at : (scan : Scan) (bytes rest : List ℕ) (fs : List Frame) (reported : Reported) (stage : Stage) → HasScannedAt role limits scan stage bytes fs rest reported → refusal_at stage ≡ None → NotRefused role limits bytes fs
-  not_refused_at scan bytes rest fs reported (stages.Head part) has_scanned none =
+  not_refused_at : (scan : Scan) (bytes rest : List ℕ) (fs : List Frame) (at : Position) (stage : Stage) → HasScannedAt role limits scan stage bytes fs rest at → refusal_at stage ≡ None → NotRefused role limits bytes fs
+  not_refused_at scan bytes rest fs at (stages.Head part) has_scanned none =
       elim (empty_or_some part) [
         | inl empty ↦
-            let nothing : rest ≡ [] = subst (λ (p : PartialHead). HasHeadBytes role p rest) empty has_scanned.at.1.has_bytes in
-            record { verdict = verdict_between scan scan.context.message; is = between_verdict role limits scan bytes rest fs reported (stages.Head part) has_scanned has_scanned.at.0 nothing; other = between_other scan scan.context.message }
+            let nothing : rest ≡ [] = subst (λ (p : PartialHead). HasHeadBytes role p rest) empty has_scanned.is_at.1.has_bytes in
+            record { verdict = verdict_between scan scan.context.message; is = between_verdict role limits scan bytes rest fs at (stages.Head part) has_scanned has_scanned.is_at.0 nothing; other = between_other scan scan.context.message }
         | inr other ↦ record {
           verdict = Cut (summary_of scan (taken_of scan) 0 None);
-          is = cut_verdict role limits scan bytes rest fs reported (stages.Head part) has_scanned has_scanned.at.0 has_scanned.at.1.has_no_evidence (head_within role limits (unfinished fs) part rest has_scanned.at.1)
-              (inl (some_head role part rest has_scanned.at.1.has_bytes other));
+          is = cut_verdict role limits scan bytes rest fs at (stages.Head part) has_scanned has_scanned.is_at.0 has_scanned.is_at.1.has_no_evidence (head_within role limits (unfinished fs) part rest has_scanned.is_at.1)
+              (inl (some_head role part rest has_scanned.is_at.1.has_bytes other));
           other = refl;
         }
       ]
-  not_refused_at scan bytes rest fs reported (stages.Payload inside) has_scanned none =
+  not_refused_at scan bytes rest fs at (stages.Payload inside) has_scanned none =
       let in_bytes = IsBytes-right (stream fs) rest (subst IsBytes has_scanned.has_consumed.whole has_scanned.has_consumed.in_bytes) in
       record {
         verdict = Cut (summary_of scan (taken_of scan) 0 None);
-        is = cut_verdict role limits scan bytes rest fs reported (stages.Payload inside) has_scanned has_scanned.at.0 has_scanned.at.1.holds.has_no_evidence (payload_within role limits (unfinished fs) inside rest reported.payload in_bytes has_scanned.at.1)
-            (inl (some_payload role limits (unfinished fs) inside rest reported.payload has_scanned.at.1));
+        is = cut_verdict role limits scan bytes rest fs at (stages.Payload inside) has_scanned has_scanned.is_at.0 has_scanned.is_at.1.1.holds.has_no_evidence (payload_within role limits (unfinished fs) inside rest has_scanned.is_at.1.0 in_bytes has_scanned.is_at.1.1)
+            (inl (some_payload role limits (unfinished fs) inside rest has_scanned.is_at.1.0 has_scanned.is_at.1.1));
         other = refl;
       }
-  not_refused_at scan bytes rest fs reported stages.Between has_scanned none =
-      record { verdict = verdict_between scan scan.context.message; is = between_verdict role limits scan bytes rest fs reported stages.Between has_scanned has_scanned.at.0 has_scanned.at.1; other = between_other scan scan.context.message }
-  not_refused_at scan bytes rest fs reported (stages.Ended event) has_scanned none =
-      record { verdict = verdict_between scan scan.context.message; is = between_verdict role limits scan bytes rest fs reported (stages.Ended event) has_scanned has_scanned.at.0 has_scanned.at.2; other = between_other scan scan.context.message }
-  not_refused_at scan bytes rest fs reported (stages.CloseEnded code) has_scanned none =
-      record { verdict = Accepted (summary_of scan scan.used (taken_of scan - scan.used) (Some code)); is = closed_verdict role limits scan bytes rest fs reported (stages.CloseEnded code) has_scanned code has_scanned.at.0 has_scanned.at.1; other = refl }
-  not_refused_at scan bytes rest fs reported (stages.Closed code) has_scanned none =
-      record { verdict = Accepted (summary_of scan scan.used (taken_of scan - scan.used) (Some code)); is = closed_verdict role limits scan bytes rest fs reported (stages.Closed code) has_scanned code has_scanned.at.0 has_scanned.at.1; other = refl }
-  not_refused_at scan bytes rest fs reported (stages.Refused refusal) has_scanned none = absurd cc
+  not_refused_at scan bytes rest fs at stages.Between has_scanned none =
+      record { verdict = verdict_between scan scan.context.message; is = between_verdict role limits scan bytes rest fs at stages.Between has_scanned has_scanned.is_at.0 has_scanned.is_at.1; other = between_other scan scan.context.message }
+  not_refused_at scan bytes rest fs at (stages.Closed code) has_scanned none =
+      record { verdict = Accepted (summary_of scan scan.used (taken_of scan - scan.used) (Some code)); is = closed_verdict role limits scan bytes rest fs at (stages.Closed code) has_scanned code has_scanned.is_at.0 has_scanned.is_at.1; other = refl }
+  not_refused_at scan bytes rest fs at (stages.Refused refusal) has_scanned none = absurd cc
 
-  pub not_refused : (scan : Scan) (bytes rest : List ℕ) (fs : List Frame) (reported : Reported) → HasScannedAt role limits scan scan.stage bytes fs rest reported → refusal_in scan ≡ None → (verdict : Verdict) × IsVerdict role limits bytes fs verdict
-  not_refused scan bytes rest fs reported has_scanned none = let not = not_refused_at scan bytes rest fs reported scan.stage has_scanned none in (not.verdict, not.is)
+  pub not_refused : (scan : Scan) (bytes rest : List ℕ) (fs : List Frame) (at : Position) → HasScannedAt role limits scan scan.stage bytes fs rest at → refusal_in scan ≡ None → (verdict : Verdict) × IsVerdict role limits bytes fs verdict
+  not_refused scan bytes rest fs at has_scanned none = let not = not_refused_at scan bytes rest fs at scan.stage has_scanned none in (not.verdict, not.is)
 
   -- bytes with another verdict are not refused
   no_refusal_of : (bytes : List ℕ) (fs : List Frame) → NotRefused role limits bytes fs → IsUnrefused role limits bytes
@@ -94,24 +91,22 @@ module _ (role : Role) (limits : Limits) where
 
   -- a scan that has not refused
   pub unrefused : (scan : Scan) (bytes : List ℕ) (heads : List HeadInfo) → HasScannedBytes role limits scan bytes heads → refusal_in scan ≡ None → IsUnrefused role limits bytes
-  unrefused scan bytes heads taken none = no_refusal_of bytes taken.frames (not_refused_at scan bytes taken.since taken.frames (record { heads = heads; payload = taken.payload; ends = taken.ends }) scan.stage taken.has_scanned none)
+  unrefused scan bytes heads taken none = no_refusal_of bytes taken.frames (not_refused_at scan bytes taken.since taken.frames taken.position scan.stage taken.has_scanned none)
 
-  refused_at_stage : (scan : Scan) (bytes rest : List ℕ) (fs : List Frame) (reported : Reported) (stage : Stage) (refusal : Refusal) → HasScannedAt role limits scan stage bytes fs rest reported → refusal_at stage ≡ Some refusal
-      → IsRefusedThere role limits refusal bytes fs reported
-  refused_at_stage scan bytes rest fs reported stages.Between refusal has_scanned is = absurd cc
-  refused_at_stage scan bytes rest fs reported (stages.Head part) refusal has_scanned is = absurd cc
-  refused_at_stage scan bytes rest fs reported (stages.Payload inside) refusal has_scanned is = absurd cc
-  refused_at_stage scan bytes rest fs reported (stages.Ended event) refusal has_scanned is = absurd cc
-  refused_at_stage scan bytes rest fs reported (stages.CloseEnded code) refusal has_scanned is = absurd cc
-  refused_at_stage scan bytes rest fs reported (stages.Closed code) refusal has_scanned is = absurd cc
-  refused_at_stage scan bytes rest fs reported (stages.Refused held) refusal has_scanned is =
+  refused_at_stage : (scan : Scan) (bytes rest : List ℕ) (fs : List Frame) (at : Position) (stage : Stage) (refusal : Refusal) → HasScannedAt role limits scan stage bytes fs rest at → refusal_at stage ≡ Some refusal
+      → IsRefusedThere role limits refusal bytes fs at
+  refused_at_stage scan bytes rest fs at stages.Between refusal has_scanned is = absurd cc
+  refused_at_stage scan bytes rest fs at (stages.Head part) refusal has_scanned is = absurd cc
+  refused_at_stage scan bytes rest fs at (stages.Payload inside) refusal has_scanned is = absurd cc
+  refused_at_stage scan bytes rest fs at (stages.Closed code) refusal has_scanned is = absurd cc
+  refused_at_stage scan bytes rest fs at (stages.Refused held) refusal has_scanned is =
       let same : held ≡ refusal = cc in
-      subst (λ (r : Refusal). IsRefusedThere role limits r bytes fs reported) same has_scanned.at
+      subst (λ (r : Refusal). IsRefusedThere role limits r bytes fs at) same has_scanned.is_at
 
   -- a scan that has refused
   pub refused : (scan : Scan) (bytes : List ℕ) (heads : List HeadInfo) (refusal : Refusal) → (taken : HasScannedBytes role limits scan bytes heads) → refusal_in scan ≡ Some refusal
-      → IsRefusedThere role limits refusal bytes taken.frames (record { heads = heads; payload = taken.payload; ends = taken.ends })
-  refused scan bytes heads refusal taken is = refused_at_stage scan bytes taken.since taken.frames (record { heads = heads; payload = taken.payload; ends = taken.ends }) scan.stage refusal taken.has_scanned is
+      → IsRefusedThere role limits refusal bytes taken.frames taken.position
+  refused scan bytes heads refusal taken is = refused_at_stage scan bytes taken.since taken.frames taken.position scan.stage refusal taken.has_scanned is
 
   -- an empty list of bytes is not refused
   pub unrefused_first : (scan : Scan) (heads : List HeadInfo) → HasScannedBytes role limits scan [] heads → refusal_in scan ≡ None
@@ -123,21 +118,21 @@ module _ (role : Role) (limits : Limits) where
           let is_evident = ((refused scan [] heads refusal taken is).refused []).is_evident in
           absurd (omega (arith, place_within role limits taken.frames [] refusal.place refusal.reason is_evident))
 
-  -- ---- what was reported
+  -- ---- the heads
 
-  -- a scan that has not refused has a verdict and has reported all heads
+  -- a scan that has not refused has a verdict and has taken all heads
   pub reported_so_far : (scan : Scan) (bytes : List ℕ) (heads : List HeadInfo) → HasScannedBytes role limits scan bytes heads → refusal_in scan ≡ None → (verdict : Verdict) × HasVerdictAndHeads role limits bytes heads verdict
   reported_so_far scan bytes heads taken none =
-      let reported : Reported = record { heads = heads; payload = taken.payload; ends = taken.ends } in
-      let not = not_refused_at scan bytes taken.since taken.frames reported scan.stage taken.has_scanned none in
-      (not.verdict, record { frames = taken.frames; is_verdict = not.is; are_heads = heads_reported role limits scan bytes taken.since taken.frames reported taken.has_scanned })
+      let not = not_refused_at scan bytes taken.since taken.frames taken.position scan.stage taken.has_scanned none in
+      let are_heads = heads_reported role limits scan bytes taken.since taken.frames taken.position taken.has_scanned in
+      (not.verdict, record { frames = taken.frames; is_verdict = not.is; are_heads = subst (λ (hs : List HeadInfo). AreHeads role limits bytes taken.frames hs) (sym taken.heads_are) are_heads })
 
-  -- a scan that has refused, whatever follows
+  -- a scan that has refused has taken all heads, whatever follows
   pub reported_refused : (scan : Scan) (bytes later : List ℕ) (heads : List HeadInfo) (refusal : Refusal) → HasScannedBytes role limits scan bytes heads → refusal_in scan ≡ Some refusal
       → HasVerdictAndHeads role limits (bytes ++ later) heads (Refused refusal)
   reported_refused scan bytes later heads refusal taken is =
       let there = refused scan bytes heads refusal taken is in
-      record { frames = taken.frames; is_verdict = there.refused later; are_heads = there.heads later }
+      record { frames = taken.frames; is_verdict = there.refused later; are_heads = subst (λ (hs : List HeadInfo). AreHeads role limits (bytes ++ later) taken.frames hs) (sym taken.heads_are) (there.heads later) }
 
   -- bytes that are not refused end before the offset of a later refusal
   pub place_after : (before more : List ℕ) (fs : List Frame) (place : ℕ) (reason : Reason) → IsUnrefused role limits before → IsRefused role limits (before ++ more) fs place reason → length before ≤ place

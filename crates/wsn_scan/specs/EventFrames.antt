@@ -1,29 +1,23 @@
 -- Frames that are whole in a piece and each end an event, with the event's normal frame written in their place.
-use Rattle.std.specs.Prelude.{◌≡◌, ◌≢◌, ℕ, ◌-◌, true, Option, None, Some, List, [], ◌∷◌, ◌++◌, length, take, drop, false}
+use Rattle.std.specs.Prelude.{◌≡◌, ◌≢◌, ℕ, ◌-◌, true, Option, None, Some, List, [], ◌∷◌, ◌++◌, length, take}
 use Rattle.wsn_wire.specs.declared.endpoint.Role.{Role}
-use Rattle.wsn_wire.specs.declared.opcode.Op.{Op}
 use Rattle.wsn_wire.specs.declared.opcode.Op.TheVariants.{Close}
 use Rattle.wsn_wire.specs.declared.length_forms.Form.TheVariants.{Shortest}
-use Rattle.wsn_wire.specs.Frame.{Frame, is_control, frame_bytes}
+use Rattle.wsn_wire.specs.Frame.{Frame, frame_bytes}
 use Rattle.wsn_rules.specs.declared.head_info.HeadInfo.{HeadInfo}
 use Rattle.wsn_rules.specs.Limits.{Limits, InRange}
 use Rattle.wsn_rules.specs.Group.{unfinished}
 use Rattle.wsn_rules.specs.Lawful.{LawAt, IsLawful}
 use Rattle.wsn_rules.specs.Accepted.{HasNoClose}
-use Rattle.wsn_rules.specs.Heads.{heads_of}
 use Rattle.wsn_rules.specs.Meaning.{MeantEvent, event_at, meaning}
 use Rattle.wsn_rules.specs.NormalForm.{normal_frame, normal_form}
 use Rattle.wsn_scan.specs.declared.scan.Scan.{Scan}
-use Rattle.wsn_scan.specs.declared.scan.event_frames.EventFrame.{EventFrame}
+use Rattle.wsn_scan.specs.declared.scan.events.EventFrame.{EventFrame}
 use Rattle.wsn_scan.specs.declared.stage.Stage.TheVariants as stages
-use Rattle.wsn_scan.specs.Reports.{Reported, ends_of}
+use Rattle.wsn_scan.specs.Positions.{Position, BetweenFrames}
 use Rattle.wsn_scan.specs.Scans.{HasScanned}
 
 -- ---- one frame
-
--- Between frames, all heads and ends of these frames were reported.
-abbrev pub reported_of : List Frame → Reported
-reported_of fs = record { heads = heads_of fs; payload = []; ends = ends_of fs }
 
 -- A head's bytes, with zeros in place of the key, if it has one.
 abbrev pub with_key_cleared : Option (List ℕ) → List ℕ → List ℕ
@@ -51,22 +45,6 @@ IsEventFrame role limits piece after found =
     (found.op ≢ Close) × ((fs : List Frame) → InRange limits → IsLawful role limits fs → HasNoClose fs →
     unfinished fs ≡ [] → EndsEventAt role limits fs piece after found)
 
--- After the frames fs, which leave no message open, the scan has consumed one frame more, up to the end of these bytes,
--- and reported it. It is the found frame.
-pub record ConsumesEvent (role : Role) (limits : Limits) (new : Scan) (bytes : List ℕ) (fs : List Frame)
-    (piece after : List ℕ) (found : EventFrame) : Type 0 where
-  pub none_before : unfinished fs ≡ []
-  pub ends : EndsEventAt role limits fs piece after found
-  pub has_scanned : HasScanned role limits new bytes (fs ++ ends.frame ∷ []) []
-      (reported_of (fs ++ ends.frame ∷ []))
-
--- Whatever the scan has consumed and reported, it consumes the frame at the start of the piece, which ends an event.
-abbrev pub TakesEvent : Scan → Scan → List ℕ → List ℕ → EventFrame → Type 0
-TakesEvent old new piece after found =
-    (role : Role) (limits : Limits) (bytes since : List ℕ) (fs : List Frame) (reported : Reported) →
-    HasScanned role limits old bytes fs since reported
-    → ConsumesEvent role limits new (bytes ++ take found.size piece) fs piece after found
-
 -- the head of a found frame whose first byte is at this offset
 abbrev pub info_found : ℕ → EventFrame → HeadInfo
 info_found place found =
@@ -74,47 +52,25 @@ info_found place found =
 
 -- ---- a run of frames
 
--- After the frames fs the scan has consumed more whole frames, up to the end of these bytes, and reported them. They
+-- After the frames fs the scan has consumed more whole frames, up to the end of these bytes. They
 -- end the events whose normal form this is, and leave no message open.
 pub record ConsumesEvents (role : Role) (limits : Limits) (new : Scan) (bytes : List ℕ) (fs : List Frame)
     (normal : List ℕ) : Type 0 where
   pub frames : List Frame
   pub events : List MeantEvent
-  pub has_scanned : HasScanned role limits new bytes frames [] (reported_of frames)
+  pub has_scanned : HasScanned role limits new bytes frames [] BetweenFrames
   pub none_open : unfinished frames ≡ []
   pub means : meaning frames ≡ meaning fs ++ events
   pub normal_is : normal ≡ normal_form role events
 
--- Whatever the scan has consumed and reported, it consumes the first n bytes of the piece, which are such frames, and
+-- Whatever the scan has consumed, it consumes the first n bytes of the piece, which are such frames, and
 -- their events' normal form is in their place.
 abbrev pub TakesEvents : Scan → Scan → List ℕ → List ℕ → ℕ → Type 0
 TakesEvents old new piece after n =
-    (role : Role) (limits : Limits) (bytes since : List ℕ) (fs : List Frame) (reported : Reported) →
-    HasScanned role limits old bytes fs since reported
+    (role : Role) (limits : Limits) (bytes since : List ℕ) (fs : List Frame) (at : Position) →
+    HasScanned role limits old bytes fs since at
     → ConsumesEvents role limits new (bytes ++ take n piece) fs (take n after)
 
--- ---- one message
-
--- After the frames fs, which leave no message open, the scan has consumed one frame more, up to the end of these bytes,
--- and reported it. The frame is a message by itself, with this opcode and this payload.
-pub record ConsumesMessage (role : Role) (limits : Limits) (new : Scan) (bytes : List ℕ) (fs : List Frame) (op : Op)
-    (payload : List ℕ) : Type 0 where
-  pub none_before : unfinished fs ≡ []
-  pub frame : Frame
-  pub has_scanned : HasScanned role limits new bytes (fs ++ frame ∷ []) [] (reported_of (fs ++ frame ∷ []))
-  pub final : frame.fin ≡ true
-  pub op_is : frame.op ≡ op
-  pub of_data : is_control op ≡ false
-  pub payload_is : payload ≡ frame.payload
-
--- Whatever the scan has consumed and reported, it consumes the first n bytes of the piece, which are such a frame. The
--- last `len` of them are its payload, unmasked.
-abbrev pub TakesMessage : Scan → Scan → List ℕ → List ℕ → Op → ℕ → ℕ → Type 0
-TakesMessage old new piece after op n len =
-    (role : Role) (limits : Limits) (bytes since : List ℕ) (fs : List Frame) (reported : Reported) →
-    HasScanned role limits old bytes fs since reported
-    → ConsumesMessage role limits new (bytes ++ take n piece) fs op (drop (n - len) (take n after))
-
--- The scan is between frames, all of which were reported to their ends, and no message is open.
+-- The scan is between frames, and no message is open.
 abbrev pub IsIdle : Scan → Type 0
 IsIdle scan = (scan.stage ≡ stages.Between) × (scan.context.message ≡ None)

@@ -1,29 +1,31 @@
 -- What a scan has consumed, and what it consumes of one piece.
-use Rattle.std.specs.Prelude.{◌≡◌, ℕ, ◌+◌, ◌≤◌, Bool, Option, None, List, [], ◌∷◌, ◌++◌, length, take}
+use Rattle.std.specs.Prelude.{◌≡◌, ℕ, ◌+◌, ◌≤◌, if◌then◌else◌, Option, None, List, [], ◌∷◌, ◌++◌, length, take}
 use Rattle.wsn_wire.specs.declared.endpoint.Role.{Role}
 use Rattle.wsn_wire.specs.Frame.{Frame}
 use Rattle.wsn_rules.specs.declared.head_info.HeadInfo.{HeadInfo}
-use Rattle.wsn_scan.specs.declared.notice.Notice.{Notice}
-use Rattle.wsn_scan.specs.declared.notice.Notice.TheVariants as notices
+use Rattle.wsn_scan.specs.declared.part.Part.{Part}
+use Rattle.wsn_scan.specs.declared.part.Taken.{Taken}
+use Rattle.wsn_scan.specs.declared.part.Taken.TheVariants as taken
 use Rattle.wsn_rules.specs.declared.verdict.Refusal.{Refusal}
 use Rattle.wsn_scan.specs.declared.scan.Scan.{Scan}
 use Rattle.wsn_rules.specs.Limits.{Limits}
+use Rattle.wsn_rules.specs.Heads.{heads_of}
+use Rattle.wsn_scan.specs.Positions.{Position, begun_at}
 use Rattle.wsn_scan.specs.Scans.{HasScanned, room_of, refusal_in}
 
--- The scan has consumed these bytes and reported these heads.
+-- The scan has consumed these bytes, and taken the frames with these heads.
 pub record HasScannedBytes (role : Role) (limits : Limits) (scan : Scan) (bytes : List ℕ) (heads : List HeadInfo)
     : Type 0 where
   pub frames : List Frame
   pub since : List ℕ
-  pub payload : List ℕ
-  pub ends : List Bool
-  pub has_scanned : HasScanned role limits scan bytes frames since
-      (record { heads = heads; payload = payload; ends = ends })
+  pub position : Position
+  pub has_scanned : HasScanned role limits scan bytes frames since position
+  pub heads_are : heads ≡ heads_of frames ++ begun_at position
 
--- the head that a notice reports, if it reports one
-abbrev pub heads_in : Notice → List HeadInfo
-heads_in (notices.Head info) = info ∷ []
-heads_in notice = []
+-- the head that a call finds, if it finds one
+abbrev pub heads_in : Taken → Part → List HeadInfo
+heads_in taken.Part part = if part.begins then part.head ∷ [] else []
+heads_in found part = []
 
 -- The scan has consumed some bytes, or none.
 pub record IsRunning (scan : Scan) : Type 0 where
@@ -33,7 +35,7 @@ pub record IsRunning (scan : Scan) : Type 0 where
   pub heads : List HeadInfo
   pub taken : HasScannedBytes role limits scan bytes heads
 
--- Whatever the scan had consumed and reported, it has now consumed the first n bytes of the piece too, and reported
+-- Whatever the scan had consumed, it has now consumed the first n bytes of the piece too, and taken the frames with
 -- these heads too.
 abbrev pub ConsumesPrefix : Scan → Scan → List ℕ → ℕ → List HeadInfo → Type 0
 ConsumesPrefix old new piece n more =

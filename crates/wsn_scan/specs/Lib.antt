@@ -1,19 +1,15 @@
--- for callers: a scan, its engines, and a reader of notices
-pub mod Reports
+-- for callers: a scan, its engines, and a reader of frames
+pub mod Positions
+pub mod Parts
 pub mod Feeding
 pub mod Judging
 pub mod Listing
-pub mod ReportedFrames
-pub mod NoticeReaders
-pub mod ReadNotices
-pub mod ReportedEvents
-pub mod FramesToEnd
+pub mod FrameReaders
+pub mod ReadParts
 -- for private functions
 pub mod Scans
 pub mod Refill
 pub mod ReaderSteps
 pub mod EventFrames
-pub mod WholeFrames
-pub mod FrameStarts
 -- for the clauses in src/
 pub mod Words

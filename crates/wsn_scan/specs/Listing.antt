@@ -1,5 +1,6 @@
 -- What is printed of a stream: a line for each of its heads, and one for its verdict, in a format.
 use Rattle.std.specs.Prelude.{◌≡◌, ℕ, ◌+◌, ◌<◌, ◌≤◌, false, Option, Result, Ok, Err, List, ◌++◌, length, take, ⊤}
+use Rattle.std.specs.Io.KnownBytes.{Appends}
 use Rattle.wsn_wire.specs.declared.endpoint.Role.{Role}
 use Rattle.wsn_wire.specs.declared.refusal.Reason.{Reason}
 use Rattle.wsn_wire.specs.Frame.{Frame}
@@ -16,7 +17,7 @@ use Rattle.wsn_rules.specs.Heads.{AreHeads}
 use Rattle.wsn_print.specs.declared.format.Format.{Format}
 use Rattle.wsn_print.specs.declared.format.Format.TheVariants.{Text}
 use Rattle.wsn_print.specs.Formats.{heads_text, verdict_text}
-use Rattle.wsn_scan.specs.Feeding.{HasFed, ConsumesPrefix}
+use Rattle.wsn_scan.specs.Feeding.{HasFed}
 use Rattle.wsn_scan.specs.Refill.{chunk_size}
 use Rattle.wsn_scan.specs.Judging.{IsJudgeAnswer, IsUnrefused, IsWithinLimit}
 
@@ -50,13 +51,12 @@ abbrev pub PrintsHeld : Outgoing → Outgoing → List ℕ → List ℕ → Type
 PrintsHeld before after held rest =
     (front : List ℕ) × (front ++ rest ≡ held) × PrintsMore before after front
 
--- The scan has consumed the first n bytes of the piece, and the lines of the heads that it reported were written after
--- what was printed before, up to a failed write.
-pub record IsListedRun (format : Format) (old new : Scan) (before after : Outgoing) (piece : List ℕ) (n : ℕ)
-    : Type 0 where
-  pub heads : List HeadInfo
-  pub consumes : ConsumesPrefix old new piece n heads
-  pub printed : PrintsMore before after (heads_text format heads)
+-- After the lines of any heads, of which this was held and the rest was printed, the lines of these heads were printed
+-- up to a failed write, or are held.
+abbrev pub ListsMore : Format → Outgoing → Outgoing → List ℕ → List ℕ → List HeadInfo → Type 0
+ListsMore format before after held rest more =
+    (first : Outgoing) (heads : List HeadInfo) → PrintsHeld first before (heads_text format heads) held
+    → PrintsHeld first after (heads_text format (heads ++ more)) rest
 
 -- The verdict is returned and its line was written; or the write failed, and a prefix of the line was written.
 abbrev pub IsEnded : Format → Outgoing → Outgoing → Verdict → Result Verdict Stop → Type 0
@@ -91,14 +91,27 @@ abbrev pub IsListAnswer : Role → Limits → Incoming → List ℕ → Result V
 IsListAnswer role limits new came (Err stop.Write) = (new.failed ≡ false) × IsReadUpToRefusal role limits came
 IsListAnswer role limits new came result = IsJudgeAnswer role limits new came result
 
+-- All but at most the last chunk of these bytes was listed: the lines of all heads in the bytes before it were written.
+pub record IsListedButChunk (format : Format) (role : Role) (limits : Limits) (came : List ℕ) (before after : Outgoing)
+    : Type 0 where
+  pub done : List ℕ
+  pub last : List ℕ
+  pub whole : came ≡ done ++ last
+  pub short : length last ≤ chunk_size
+  pub heads : List HeadInfo
+  pub are_heads : (verdict : Verdict) × HasVerdictAndHeads role limits done heads verdict
+  pub more : List ℕ
+  pub written : Appends before.written after.written (heads_text format heads ++ more)
+
 -- These bytes came from the input, at most one past its limit. The answer is right for them, and this was printed of
--- them.
+-- them. After a failed write nothing more was read.
 pub record IsListedAs (format : Format) (role : Role) (limits : Limits) (old new : Incoming)
     (before after : Outgoing) (result : Result Verdict Stop) : Type 0 where
   pub came : List ℕ
   pub received : IsReceived (limits.input + 1) old new came
   pub answer : IsListAnswer role limits new came result
   pub printed : IsPrinted format role limits came before after result
+  pub at_once : result ≡ Err stop.Write → IsListedButChunk format role limits came before after
 
 -- The same of a listing in words.
 abbrev pub IsListed :

@@ -12,25 +12,22 @@ pub use Rattle.wsn_print.specs.Formats.{heads_text}
 pub use Rattle.wsn_rules.specs.Verdict.{IsVerdict}
 pub use Rattle.wsn_rules.specs.declared.head_info.HeadInfo.{HeadInfo}
 pub use Rattle.wsn_rules.specs.declared.verdict.Verdict.{Verdict}
-pub use Rattle.wsn_scan.specs.FrameStarts.{StartsFrame}
-pub use Rattle.wsn_scan.specs.FramesToEnd.{TakesWhole}
-pub use Rattle.wsn_scan.specs.Feeding.{IsRunning, heads_in, HasFed, ConsumesPrefix}
-pub use Rattle.wsn_scan.specs.ReportedFrames.{Position, IsReportedOf, BetweenFrames}
 pub use Rattle.wsn_scan.specs.Judging.{IsJudged, IsUnrefused}
-pub use Rattle.wsn_scan.specs.Listing.{IsEnded, IsListedChunk, IsListedRun, PrintsMore, PrintsHeld, IsListed, IsListedAs, IsListedWhole, IsListedWholeAs}
-pub use Rattle.wsn_scan.specs.NoticeReaders.{HasReported, IsReading, notices_left, held_payload}
-pub use Rattle.wsn_scan.specs.ReadNotices.{ReadsOn, IsNotice, ReportsStart, ReportsEnd, ReportsFrame}
-pub use Rattle.wsn_scan.specs.ReportedEvents.{ReportsEvents, ReportsMessage}
-pub use Rattle.wsn_scan.specs.WholeFrames.{TakesFrame, TakesToEnd, after_end}
-pub use Rattle.wsn_scan.specs.ReaderSteps.{ReportsStep, Progresses, IsUsed, IsFilled}
 pub use Rattle.wsn_scan.specs.Refill.{IsRefilled}
-pub use Rattle.wsn_scan.specs.Reports.{Reported, IsReportedSoFar, IsPayloadSoFar, AnswersByCase, nothing_reported, refusal_in_notice}
-pub use Rattle.wsn_scan.specs.Reports.{IsHeadNotice, IsRefusal, refusal_judged}
-pub use Rattle.wsn_scan.specs.Scans.{HasScanned, ConsumesFromPiece, refusal_in, room_of, ends_pending, MakesProgress, taken_of, IsAdvance, Advances, ConsumesAtStage}
-pub use Rattle.wsn_scan.specs.Scans.{AdvancesFrom, BeginsFrame, EndsWithPayload, refusal_of, summary_of}
-pub use Rattle.wsn_scan.specs.Scans.{verdict_between, IsAt, IsStageAfter, refusal_at}
 pub use Rattle.wsn_io.specs.Stops.{IsWrittenOrStops, HasNoFailure}
-pub use Rattle.wsn_scan.specs.declared.notice.Notice.{Notice}
-pub use Rattle.wsn_scan.specs.declared.notice_reader.NoticeReader.{NoticeReader}
 pub use Rattle.wsn_scan.specs.declared.scan.Scan.{Scan}
 pub use Rattle.wsn_io.specs.declared.stop.Stop.{Stop}
+pub use Rattle.wsn_frame.specs.PartialHeads.{info_at}
+pub use Rattle.wsn_scan.specs.Feeding.{HasScannedBytes, IsRunning, heads_in, HasFed, ConsumesPrefix}
+pub use Rattle.wsn_scan.specs.Positions.{Position, BetweenFrames, InFrame, begun_at, IsPayloadPrefix, IsPayloadSoFar, IsPositionIn, IsTakenOf}
+pub use Rattle.wsn_scan.specs.Parts.{IsPart, Finds, Consumes, FindsByCase}
+pub use Rattle.wsn_scan.specs.FrameReaders.{HasTaken, IsReading, parts_left, held_payload, TakesRun}
+pub use Rattle.wsn_scan.specs.ReadParts.{ReadsOn}
+pub use Rattle.wsn_scan.specs.ReaderSteps.{StepsOn, Progresses, IsUsed, IsFilled}
+pub use Rattle.wsn_scan.specs.Scans.{HasScanned, refusal_in, room_of, taken_of, ScanCall, IsAdvance, IsAnswered, AdvancesFrom, BeginsFrame, BeginsAt, Unmasks, HasNoRest}
+pub use Rattle.wsn_scan.specs.Scans.{AddsPart, EndsFrame, IsCutAt, IsStageAfter, refusal_of, refusal_at, refusal_judged, summary_of}
+pub use Rattle.wsn_scan.specs.Scans.{verdict_between}
+pub use Rattle.wsn_scan.specs.declared.part.Part.{Part}
+pub use Rattle.wsn_scan.specs.declared.part.Taken.{Taken}
+pub use Rattle.wsn_scan.specs.declared.frame_reader.FrameReader.{FrameReader}
+pub use Rattle.wsn_scan.specs.Listing.{IsEnded, IsListedChunk, PrintsMore, PrintsHeld, IsListed, IsListedAs, IsListedWhole, IsListedWholeAs}

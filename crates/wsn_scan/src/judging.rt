@@ -2,7 +2,7 @@ ghost use Rattle.std.specs.Prelude.{◌≡◌, ℕ, ◌<◌, List, Some, length,
 ghost use Rattle.wsn_scan.specs.Words.{Frame, IsJudged, IsUnrefused, IsVerdict};
 
 use crate::refill::{CHUNK, refill};
-use crate::scan::{Empty, Scan};
+use crate::scan::Scan;
 use std::io::Read;
 use wsn_io::Stop;
 use wsn_rules::{Limits, Verdict};
@@ -29,7 +29,7 @@ pub fn judge<R: Read>(input: &mut Input<R>, role: Role, limits: Limits) -> Resul
         let Some(chunk) = refill(input, scan.room(), &mut buffer)? else {
             return Ok(scan.finish());
         };
-        if let Some(refusal) = scan.feed_frames(Empty::Taken, &mut buffer[..chunk.len]) {
+        if let Some(refusal) = scan.feed(&mut buffer[..chunk.len]) {
             return Ok(Verdict::Refused(refusal));
         }
         if chunk.past_limit {

@@ -1,7 +1,7 @@
 //! Laws about this crate's answers and definitions. Each function does nothing: its contract is the law.
 
-ghost use Rattle.std.specs.Prelude.{◌≡◌, ℕ, ◌+◌, false, None, Some, Result, List, [], ◌∷◌, ◌++◌, length};
-ghost use Rattle.wsn_scan.specs.Words.{Frame, Role, Incoming, Limits, Verdict, Stop, NoticeReader, Position, IsReportedOf, IsJudged, Scan, HasScanned, ConsumesFromPiece, refusal_in, Reported, IsReportedSoFar, IsPayloadSoFar, HeadInfo, heads_of, room_of, AnswersByCase, Notice, HasReported, Outgoing, IsWritten, IsListedWholeAs, Format, HasNoFailure};
+ghost use Rattle.std.specs.Prelude.{◌≡◌, ℕ, ◌+◌, false, None, Some, Result, List, length};
+ghost use Rattle.wsn_scan.specs.Words.{Frame, IsBytes, Role, Incoming, Limits, Verdict, Stop, FrameReader, Position, InFrame, HasTaken, IsTakenOf, IsJudged, Outgoing, IsWritten, IsListedWholeAs, Format, HasNoFailure, Scan, HasScanned, IsPositionIn, IsPayloadSoFar, HeadInfo, refusal_in, room_of, ScanCall, IsAnswered, FindsByCase};
 
 /// [`judge`](crate::judge) has one right answer for an input whose bytes are known, in whatever chunks they come,
 /// unless a read fails.
@@ -23,37 +23,36 @@ pub fn law_one_listing()
         × IsWritten other_before other_after bytes) }
 {}
 
-/// What a scan has reported of the bytes that it has consumed, in whatever pieces they came: the heads of their frames;
-/// each frame's end once and in order, before any byte after it was consumed; and a prefix of the payload of the frame
-/// that has begun, unmasked. Unless it has refused, that is all of the payload that came, so a head was reported by the
-/// call that consumed its last byte. The room and the bytes consumed are the input limit together.
-pub fn law_reports()
-    ensures reported { (role : Role) (limits : Limits) (scan : Scan) (bytes : List ℕ) (fs : List Frame) (rest : List ℕ)
-        (reported : Reported) →
-        HasScanned role limits scan bytes fs rest reported → IsReportedSoFar role limits bytes fs rest reported }
-    ensures all { (role : Role) (limits : Limits) (scan : Scan) (bytes : List ℕ) (fs : List Frame) (rest : List ℕ)
-        (reported : Reported) (info : HeadInfo) →
-        HasScanned role limits scan bytes fs rest reported → refusal_in scan ≡ None →
-        reported.heads ≡ heads_of fs ++ info ∷ [] → IsPayloadSoFar fs bytes info reported.payload }
-    ensures room { (role : Role) (limits : Limits) (scan : Scan) (bytes : List ℕ) (fs : List Frame) (rest : List ℕ)
-        (reported : Reported) →
-        HasScanned role limits scan bytes fs rest reported → room_of scan + length bytes ≡ limits.input }
-{}
-
-/// What [`Scan::next`](crate::Scan::next) returns, and how many bytes of a piece it consumes, by what the scan has
-/// reported so far: the same refusal again, the tail after a Close, a frame's end, payload, or a head.
-pub fn law_next_by_case()
-    ensures { (role : Role) (limits : Limits) (scan : Scan) (bytes : List ℕ) (fs : List Frame) (rest : List ℕ)
-        (reported : Reported) (size n : ℕ) (notice : Notice) →
-        HasScanned role limits scan bytes fs rest reported → ConsumesFromPiece scan size n notice →
-        AnswersByCase fs reported (refusal_in scan) size n notice }
-{}
-
-/// What a [`NoticeReader`](crate::NoticeReader) has reported is in the bytes that came. They begin with its frames,
-/// which are lawful. If another frame has begun, its head comes next, valid so far, and then the payload that was
-/// reported.
-pub fn law_reported_frames()
-    ensures { (role : Role) (limits : Limits) (reader : NoticeReader) (came : List ℕ) (done : List Frame)
+/// Where a scan is in the bytes that it has consumed, in whatever pieces they came. They begin with the frames that it
+/// has taken, which are lawful, and it has taken all their heads. If another frame has begun, it has taken a prefix of
+/// its payload, unmasked: unless it has refused, all of the payload that came. The room and the bytes consumed are the
+/// input limit together.
+pub fn law_positions()
+    ensures taken { (role : Role) (limits : Limits) (scan : Scan) (bytes : List ℕ) (fs : List Frame) (rest : List ℕ)
         (at : Position) →
-        HasReported role limits reader came done at → IsReportedOf role limits came done at }
+        HasScanned role limits scan bytes fs rest at → IsPositionIn role limits bytes fs rest at }
+    ensures all { (role : Role) (limits : Limits) (scan : Scan) (bytes : List ℕ) (fs : List Frame) (rest : List ℕ)
+        (at : Position) (head : HeadInfo) (payload : List ℕ) →
+        HasScanned role limits scan bytes fs rest at → refusal_in scan ≡ None → at ≡ InFrame head payload →
+        IsPayloadSoFar fs bytes head payload }
+    ensures room { (role : Role) (limits : Limits) (scan : Scan) (bytes : List ℕ) (fs : List Frame) (rest : List ℕ)
+        (at : Position) →
+        HasScanned role limits scan bytes fs rest at → room_of scan + length bytes ≡ limits.input }
+{}
+
+/// What a call of [`Scan::next`](crate::Scan::next) finds: after a refusal the refusal again, and no bytes; after a Close
+/// all of the piece; otherwise part of a head, a part of a frame, or a refusal, and how many bytes that consumes.
+pub fn law_next_by_case()
+    ensures { (role : Role) (limits : Limits) (bytes : List ℕ) (fs : List Frame) (rest : List ℕ) (at : Position)
+        (call : ScanCall) →
+        HasScanned role limits call.before bytes fs rest at → IsBytes call.piece → IsAnswered call →
+        FindsByCase fs (refusal_in call.before) (length call.piece) call.count call.found call.part }
+{}
+
+/// What a [`FrameReader`](crate::FrameReader) has taken is in the bytes that came. They begin with its frames, which are
+/// lawful. If another frame has begun, its head comes next, valid so far, and then the payload that was taken.
+pub fn law_taken_frames()
+    ensures { (role : Role) (limits : Limits) (reader : FrameReader) (came : List ℕ) (fs : List Frame)
+        (at : Position) →
+        HasTaken role limits reader came fs at → IsTakenOf role limits came fs at }
 {}

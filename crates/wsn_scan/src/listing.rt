@@ -1,9 +1,13 @@
-ghost use Rattle.std.specs.Prelude.{◌≡◌, ℕ, ◌+◌, ◌≤◌, List, [], ◌∷◌, ◌++◌, length, drop, false, Ok, Some};
-ghost use Rattle.wsn_scan.specs.Words.{Outgoing, IsWrittenUpToFailure, room_of, ends_pending, IsRunning, heads_in, heads_text, IsEnded, IsListedChunk, IsListedRun, PrintsMore, PrintsHeld, IsListed, IsListedAs, IsListedWhole, IsListedWholeAs, IsBytes};
+ghost use Rattle.std.specs.Prelude.{◌≡◌, ℕ, ◌+◌, ◌≤◌, List, [], length, drop, false, Some};
+ghost use Rattle.wsn_wire.specs.Frame.{IsBytes};
+ghost use Rattle.wsn_rules.specs.declared.head_info.HeadInfo.{HeadInfo};
+ghost use Rattle.wsn_scan.specs.Feeding.{ConsumesPrefix, heads_in};
+ghost use Rattle.wsn_scan.specs.Listing.{ListsMore};
+ghost use Rattle.wsn_scan.specs.Words.{room_of, IsRunning, IsEnded, IsListedChunk, PrintsMore, PrintsHeld, IsListed, IsListedAs, IsListedWhole, IsListedWholeAs};
 
-use crate::notice::Notice;
+use crate::part::{Part, Taken};
 use crate::refill::{CHUNK, refill};
-use crate::scan::{Empty, Scan};
+use crate::scan::Scan;
 use std::io::{Read, Write};
 use wsn_io::{Stop, put_line};
 use wsn_print::{Format, HeadLines, put_verdict_as};
@@ -84,9 +88,9 @@ fn end<W: Write>(output: &mut Output<W>, format: Format, verdict: Verdict) -> Re
     Ok(verdict)
 }
 
-/// Feeds the piece to the scan, all of it or the bytes up to a refusal, and prints each head that the scan reports.
-/// Returns the refusal, if there is one. `lines` is empty before and afterwards. After a failed write it scans on and
-/// prints nothing.
+/// Feeds the piece to the scan, all of it or the bytes up to a refusal, and prints the head of each frame that begins:
+/// many lines by one write, and all of them before it returns. Returns the refusal, if there is one. `lines` is empty
+/// before and afterwards. After a failed write it scans on and prints nothing.
 #[tactic(none)]
 fn list_chunk<W: Write>(
     scan: &mut Scan,
@@ -102,49 +106,90 @@ fn list_chunk<W: Write>(
     ensures listed { IsListedChunk format scan.old scan.new output.old output.new piece.old result }
     ensures none_held { lines.new ≡ [] }
 {
+    let mut part = Part::new();
     let mut at = 0;
     while at < piece.len() {
-        let (taken, notice) = scan.next(&mut piece[at..]);
+        let (taken, found) = scan.next(&mut piece[at..], &mut part);
         at += taken;
-        print(&notice, lines, output, format);
-        if let Notice::Refused(refusal) = notice {
-            return Some(refusal);
+        if let Taken::Refused = found {
+            break;
         }
-        at += list_frames(scan, &mut piece[at..], lines, output, format);
+        list_head(found, &part, lines, output, format);
+        at += list_events(scan, &mut piece[at..], lines, output, format);
     }
+    print_lines(lines, output);
     scan.refusal()
 }
 
-/// Takes the end of the last frame as reported, consumes frames at the start of the piece, up to the first that
-/// [`Scan::take_to_end`] leaves, and prints their heads: many lines by one write, and all of them before it returns the
-/// number of bytes. `lines` is empty before and afterwards.
-#[inline(never)]
+/// Consumes frames at the start of the piece, up to the first that [`Scan::next_event`] leaves, and adds their heads to
+/// the lines. Returns the number of bytes.
+#[inline(always)]
 #[tactic(none)]
-fn list_frames<W: Write>(
+fn list_events<W: Write>(
     scan: &mut Scan,
     piece: &mut [u8],
     lines: &mut HeadLines,
     output: &mut Output<W>,
     format: Format,
 ) -> usize
-    requires fits { length piece.old ≤ room_of scan.old }
-    requires none_held { lines.old ≡ [] }
-    ensures taken { IsBytes piece.old → IsListedRun format scan.old scan.new output.old output.new piece.old result }
+    requires { length piece.old ≤ room_of scan.old }
+    ensures listed { IsBytes piece.old → (heads : List HeadInfo)
+        × ConsumesPrefix scan.old scan.new piece.old result heads
+        × ListsMore format output.old output.new lines.old lines.new heads }
     ensures within { result ≤ length piece.old }
     ensures kept { drop result piece.new ≡ drop result piece.old }
     ensures room { room_of scan.new + result ≡ room_of scan.old }
-    ensures none { result ≡ 0 → ends_pending scan.new ≤ ends_pending scan.old }
-    ensures none_held { lines.new ≡ [] }
 {
-    scan.report_end();
+    if !scan.is_idle() {
+        return 0;
+    }
+    list_run(scan, piece, lines, output, format)
+}
+
+/// Does what [`list_events`] does.
+#[inline(never)]
+#[tactic(none)]
+fn list_run<W: Write>(
+    scan: &mut Scan,
+    piece: &mut [u8],
+    lines: &mut HeadLines,
+    output: &mut Output<W>,
+    format: Format,
+) -> usize
+    requires { length piece.old ≤ room_of scan.old }
+    ensures listed { IsBytes piece.old → (heads : List HeadInfo)
+        × ConsumesPrefix scan.old scan.new piece.old result heads
+        × ListsMore format output.old output.new lines.old lines.new heads }
+    ensures within { result ≤ length piece.old }
+    ensures kept { drop result piece.new ≡ drop result piece.old }
+    ensures room { room_of scan.new + result ≡ room_of scan.old }
+{
     let mut at = 0;
-    while let Some((taken, head)) = scan.take_to_end(Empty::Taken, &mut piece[at..]) {
+    while let Some((taken, head)) = scan.next_event(&mut piece[at..]) {
         at += taken;
         make_room(lines, output);
         lines.add(format, &head);
     }
-    print_lines(lines, output);
     at
+}
+
+/// Adds the head that a call found, if it found one, to the lines.
+#[tactic(none)]
+fn list_head<W: Write>(
+    found: Taken,
+    part: &Part,
+    lines: &mut HeadLines,
+    output: &mut Output<W>,
+    format: Format,
+)
+    ensures { ListsMore format output.old output.new lines.old lines.new (heads_in found part.now) }
+{
+    if let Taken::Part = found {
+        if part.begins {
+            make_room(lines, output);
+            lines.add(format, &part.head);
+        }
+    }
 }
 
 /// Prints the lines that are held if there is no room for another.
@@ -175,19 +220,5 @@ fn print_text<W: Write>(output: &mut Output<W>, text: &[u8])
 {
     if !output.failed() {
         let _stop = put_line(output, text);
-    }
-}
-
-/// Prints the head that a notice reports, if it reports one and no write has failed. `lines` is empty before and
-/// afterwards.
-#[tactic(none)]
-fn print<W: Write>(notice: &Notice, lines: &mut HeadLines, output: &mut Output<W>, format: Format)
-    requires { lines.old ≡ [] }
-    ensures printed { PrintsMore output.old output.new (heads_text format (heads_in notice.now)) }
-    ensures none_held { lines.new ≡ [] }
-{
-    if let Notice::Head(head) = notice {
-        lines.add(format, head);
-        print_lines(lines, output);
     }
 }

@@ -1,24 +1,17 @@
-mod event_frames;
+mod events;
 mod feeding;
-mod frame_starts;
-mod frames_to_end;
-mod stages;
+mod parts;
 mod verdicts;
-mod whole_frames;
 
-use crate::notice::Notice;
+use crate::part::{Part, Taken};
 use crate::stage::Stage;
-pub(crate) use event_frames::{Empty, EventFrame};
 use std::fmt::{self, Debug, Formatter};
-use std::mem;
-pub use whole_frames::TakenFrame;
-pub(crate) use whole_frames::begins_empty;
-use wsn_frame::{Counts, FrameContext, PartialHead};
+use wsn_frame::{Counts, FrameContext};
 use wsn_rules::{Limits, Refusal};
 use wsn_wire::Role;
 
-/// Scans a stream that comes in pieces: reports its frames, and gives the verdict on the bytes so far (RFC 6455 section
-/// 5). It keeps none of the bytes.
+/// Scans a stream that comes in pieces: takes it apart into its frames, and gives the verdict on the bytes so far (RFC
+/// 6455 section 5). It keeps none of the bytes.
 #[derive(Drop)]
 pub struct Scan {
     context: FrameContext,
@@ -29,13 +22,13 @@ pub struct Scan {
 }
 
 impl Scan {
-    ghost use Rattle.std.specs.Prelude.{◌≡◌, ℕ, ◌+◌, ◌-◌, ◌<◌, ◌≤◌, List, [], length, drop, ◌≢◌, None};
-    ghost use Rattle.wsn_scan.specs.Words.{Frame, ConsumesFromPiece, HasScanned, room_of, MakesProgress, refusal_in, taken_of, IsAdvance, Reported, nothing_reported, refusal_in_notice, Role};
+    ghost use Rattle.std.specs.Prelude.{◌≡◌, ◌≢◌, ◌+◌, ◌≤◌, ◌⊎◌, ◌↔◌, [], length, take, drop, true, IfSome, IsSome};
+    ghost use Rattle.wsn_scan.specs.Words.{HasScanned, BetweenFrames, room_of, taken_of, refusal_in, IsAdvance, Unmasks, HasNoRest};
 
     /// A scan that has consumed nothing. `role` is the endpoint that sent the stream.
     #[tactic(none)]
     pub fn new(role: Role, limits: Limits) -> Scan
-        ensures { HasScanned role limits result [] [] [] nothing_reported }
+        ensures { HasScanned role limits result [] [] [] BetweenFrames }
     {
         Scan {
             room: limits.input(),
@@ -69,13 +62,6 @@ impl Scan {
         }
     }
 
-    /// The number of bytes of the whole frames that it has consumed.
-    pub(crate) fn used(&self) -> u64
-        ensures { result ≡ self.now.used }
-    {
-        self.used
-    }
-
     /// How many bytes it has consumed.
     #[tactic(none)]
     fn taken(&self) -> u64
@@ -85,58 +71,44 @@ impl Scan {
     }
 
     /// Consumes bytes at the start of the piece, and returns how many and what they are. `piece` is at most
-    /// [`room`](Scan::room) bytes long. Payload is unmasked in place (RFC 6455 section 5.3); the bytes after those
-    /// consumed don't change. With a non-empty piece it always makes progress: it consumes a byte, reports a frame's
-    /// end, or refuses.
+    /// [`room`](Scan::room) bytes long. A part of a frame is put into `part`: all that the piece has of the frame. Its
+    /// payload is unmasked in place (RFC 6455 section 5.3); no other bytes change. If the piece isn't empty, the scan
+    /// consumes at least a byte of it, unless the stream was refused before.
     ///
-    /// A refusal is reported by the call that consumes the offending byte, and again by each later call.
+    /// A refusal is reported by the call that consumes the offending byte, and again by each later call, which consumes
+    /// nothing. The payload in a piece with an offending byte isn't reported; a frame's head always is.
     #[inline(always)]
     #[tactic(none)]
-    pub fn next(&mut self, piece: &mut [u8]) -> (usize, Notice)
+    pub fn next(&mut self, piece: &mut [u8], part: &mut Part) -> (usize, Taken)
         requires { length piece.old ≤ room_of self.old }
         ensures taken { IsAdvance (record {
           before = self.old;
           after = self.new;
           piece = piece.old;
           piece_after = piece.new;
-          taken = result.0;
-          notice = result.1;
+          count = result.0;
+          found = result.1;
+          part = part.new;
         }) }
-        ensures consumes { ConsumesFromPiece self.old (length piece.old) result.0 result.1 }
         ensures within { result.0 ≤ length piece.old }
         ensures kept { drop result.0 piece.new ≡ drop result.0 piece.old }
-        ensures untouched { result.1 ≢ Notice.Payload → refusal_in_notice result.1 ≡ None → piece.new ≡ piece.old }
+        ensures head { result.1 ≡ Taken.Part → (part.new.start ≤ result.0)
+            × (take part.new.start piece.new ≡ take part.new.start piece.old) }
+        ensures untouched { result.1 ≢ Taken.Part → result.1 ≢ Taken.Refused → piece.new ≡ piece.old }
+        ensures whole { result.1 ≡ Taken.Part → part.new.ends ≡ true → HasNoRest self.new }
+        ensures refused { result.1 ≡ Taken.Refused → Unmasks self.old.stage self.old piece.old piece.new result.0 }
         ensures room { room_of self.new + result.0 ≡ room_of self.old }
-        ensures makes_progress { (role : Role) (limits : _) (bytes rest : List ℕ) (fs : List Frame) (reported : Reported) →
-            HasScanned role limits self.old bytes fs rest reported →
-            0 < length piece.old → MakesProgress self.old self.new result.0 result.1 }
-        ensures reported { refusal_in self.new ≡ refusal_in_notice result.1 }
+        ensures reported { IsSome (refusal_in self.new) ↔ (result.1 ≡ Taken.Refused) }
+        ensures again { IfSome (refusal_in self.old) (λ _. (self.new ≡ self.old) × (piece.new ≡ piece.old)
+            × (result.0 ≡ 0) × (result.1 ≡ Taken.Refused)) }
     {
-        match &mut self.stage {
-            Stage::Between => self.next_frame(piece),
-            Stage::Head(part) => {
-                let part = mem::replace(part, PartialHead::Empty);
-                self.next_head(part, piece)
-            }
-            Stage::Payload(inside) => {
-                let inside = *inside;
-                self.next_payload(inside, piece)
-            }
-            Stage::Ended(event) => {
-                let event = *event;
-                self.stage = Stage::Between;
-                (0, Notice::FrameEnd { event })
-            }
-            Stage::CloseEnded(code) => {
-                self.stage = Stage::Closed(*code);
-                (0, Notice::FrameEnd { event: true })
-            }
-            Stage::Closed(_) => {
-                self.room -= piece.len() as u64;
-                (piece.len(), Notice::Closed)
-            }
-            Stage::Refused(refusal) => (0, Notice::Refused(*refusal)),
+        if let Some(taken) = self.take_frame(piece, part) {
+            return (taken, Taken::Part);
         }
+        let mut other = Part::new();
+        let (taken, found) = self.next_slow(piece, &mut other);
+        *part = other;
+        (taken, found)
     }
 }
 

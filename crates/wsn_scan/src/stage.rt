@@ -1,6 +1,5 @@
-ghost use Rattle.std.specs.Prelude.{◌≡◌, ℕ, None, List, [], IsTrue};
-ghost use Rattle.wsn_wire.specs.Frame.{Frame};
-ghost use Rattle.wsn_rules.specs.Accepted.{HasNoClose};
+ghost use Rattle.std.specs.Prelude.{◌≡◌, None};
+ghost use Rattle.wsn_scan.specs.Words.{IsStageAfter, refusal_at};
 
 use wsn_frame::{Head, PartialHead, PayloadCheck};
 use wsn_rules::Refusal;
@@ -23,40 +22,33 @@ pub enum Stage {
     Head(PartialHead),
     /// In a payload.
     Payload(Inside),
-    /// After a whole frame that is no Close and whose end isn't reported yet: whether it is final.
-    Ended(bool),
-    /// After a Close whose end isn't reported yet: its code, if it has one.
-    CloseEnded(Option<u16>),
-    /// After a Close whose end is reported: its code, if it has one.
+    /// After a Close: its code, if it has one.
     Closed(Option<u16>),
     /// After the offending byte of a refusal.
     Refused(Refusal),
 }
 
 impl Stage {
-    ghost use Rattle.wsn_scan.specs.Words.{heads_of, IsAt, IsStageAfter, refusal_at, Reported};
-
-    /// The stage after a whole frame.
-    pub fn following(fin: bool, check: &PayloadCheck) -> Stage
-        ensures has_scanned { IsStageAfter fin check.now result }
-        ensures reported { refusal_at result ≡ None }
+    /// Goes on after a whole frame, whose payload was checked with this result.
+    #[inline(always)]
+    #[tactic(none)]
+    pub fn end_frame(&mut self, check: &PayloadCheck)
+        ensures stage { IsStageAfter check.now self.new }
+        ensures reported { refusal_at self.new ≡ None }
     {
         match check {
-            PayloadCheck::Close(body) => Stage::CloseEnded(body.code()),
-            PayloadCheck::Free | PayloadCheck::Text(_) => Stage::Ended(fin),
+            PayloadCheck::Close(body) => *self = Stage::Closed(body.code()),
+            PayloadCheck::Free | PayloadCheck::Text(_) => self.go_between(),
         }
     }
 
-    /// Whether the scan is between frames and no Close has come.
+    /// Goes on between frames. The stage is written only if it is another.
     #[inline(always)]
-    #[tactic(none)]
-    pub fn is_between(&self) -> bool
-        ensures between { IsTrue result →
-            (role : _) (limits : _) (bytes rest : List ℕ) (fs : List Frame) (reported : Reported) →
-            IsAt role limits self.now bytes fs rest reported
-            → HasNoClose fs × (rest ≡ []) × (reported.heads ≡ heads_of fs) }
-        ensures reported { IsTrue result → refusal_at self.now ≡ None }
+    fn go_between(&mut self)
+        ensures { self.new ≡ Stage.Between }
     {
-        matches!(self, Stage::Between | Stage::Ended(_))
+        if !matches!(self, Stage::Between) {
+            *self = Stage::Between;
+        }
     }
 }

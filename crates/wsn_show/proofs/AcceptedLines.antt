@@ -16,6 +16,8 @@ use Rattle.wsn_capture.proofs.AcceptedLines.{accepted_count, own_bytes}
 use Rattle.wsn_capture.proofs.ClosingLines.{sent-push}
 use Rattle.wsn_show.specs.declared.style.Style.{Style}
 use Rattle.wsn_show.specs.declared.capture_view.CaptureView.{CaptureView}
+use Rattle.wsn_show.specs.declared.end_notes.EndNotes.{EndNotes}
+use Rattle.wsn_show.specs.EndNotes.{HasNotedEnd}
 use Rattle.wsn_show.specs.CaptureViews.{HasShownLines, IsAcceptedText, CanShow, IsTimeNext, ShowsText, ShowsLine}
 
 -- ---- the last of the accepted lines
@@ -49,11 +51,11 @@ time_pushed lines line time next holds (inr (none, is)) =
 -- ---- a line
 
 module _ (limits : Limits) (style : Style) (view : CaptureView) (lines : List (List ℕ)) (entries : List Entry)
-    (has : HasShownLines limits style view lines entries) (new : CaptureLines) (line : List ℕ) (entry : Entry) (taken : HasAccepted limits new (lines ++ line ∷ []) (entries ++ entry ∷ [])) where
+    (has : HasShownLines limits style view lines entries) (new : CaptureLines) (ends : EndNotes) (line : List ℕ) (entry : Entry) (taken : HasAccepted limits new (lines ++ line ∷ []) (entries ++ entry ∷ [])) where
   pub line_accepted : IsAcceptedText limits entries (without_cr line) entry
   line_accepted = let is = last_line limits [] lines entries line entry has.accepted.taken taken.taken in record { gives = is.gives; none = is.none }
 
-  pub can_show : CanShow (record view { lines = new }) (without_cr line)
+  pub can_show : CanShow (record view { lines = new; ends = ends }) (without_cr line)
   can_show = record {
     limits = limits;
     style = style;
@@ -69,10 +71,10 @@ module _ (limits : Limits) (style : Style) (view : CaptureView) (lines : List (L
       omega (arith, long)
 
   pub line_shown : (after : CaptureView) (written put : Outgoing) → HasAccepted limits after.lines (lines ++ line ∷ []) (entries ++ entry ∷ []) → HasNotedCloses limits after.lines (entries ++ entry ∷ [])
-      → ShowsText limits style (record view { lines = new }) after entries (without_cr line) entry written put → ShowsLine limits style after lines entries line written put
-  line_shown after written put accepted noted shows = record {
+      → HasNotedEnd after.ends (lines ++ line ∷ []) (entries ++ entry ∷ []) → ShowsText limits style (record view { lines = new; ends = ends }) after entries (without_cr line) entry written put → ShowsLine limits style after lines entries line written put
+  line_shown after written put accepted noted ended shows = record {
     entry = entry;
-    has_shown = record { accepted = accepted; noted = noted; viewed = shows.viewed; time = time_pushed lines line view.time after.time has.time shows.time };
+    has_shown = record { accepted = accepted; noted = noted; viewed = shows.viewed; time = time_pushed lines line view.time after.time has.time shows.time; ends = ended };
     shown = record { number = count_of new; time = view.time; items = shows.items };
     numbered = accepted_count limits new (lines ++ line ∷ []) (entries ++ entry ∷ []) taken ∙ length-append lines (line ∷ []);
     at = has.time;

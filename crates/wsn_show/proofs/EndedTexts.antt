@@ -1,5 +1,5 @@
 -- The end of a text that is shown.
-use Rattle.std.proofs.Common.{◌≡◌, ℕ, true, false, Ok, Err, List, [], ◌∷◌, ◌++◌, flat_map, inl, inr, refl, sym, ap, ◌∙◌, subst, append-nil}
+use Rattle.std.proofs.Common.{◌≡◌, ℕ, true, false, Ok, Err, List, [], ◌∷◌, ◌++◌, flat_map, inl, inr, refl, sym, ap, ◌∙◌, subst, append-nil, append_assoc}
 use Rattle.wsn_io.specs.Transfer.{Outgoing, IsWritten, IsPartlyWritten}
 use Rattle.wsn_io.proofs.PutTexts.{put_both, put_front, put_no_more}
 use Rattle.wsn_rules.specs.Limits.{Limits}
@@ -9,7 +9,7 @@ use Rattle.wsn_rules.specs.declared.report.Report.{Report}
 use Rattle.wsn_wire.specs.declared.endpoint.Role.TheVariants.{Client, Server}
 use Rattle.wsn_rules.specs.ShownCapture.{LineItem, of_stream}
 use Rattle.wsn_show.specs.declared.style.Style.{Style}
-use Rattle.wsn_show.specs.Styles.{styled_line_item, styled_line, styled_report}
+use Rattle.wsn_show.specs.Styles.{styled_line_item, styled_line, styled_ended_by, styled_capture, styled_report}
 use Rattle.wsn_print.specs.ShownObjects.Position.{AtEnd}
 use Rattle.wsn_capture.specs.declared.capture_stop.CaptureStop.TheVariants as capture
 use Rattle.wsn_capture.proofs.SplitLines.{unfaulted, faulty_last}
@@ -33,8 +33,16 @@ module _ (limits : Limits) (style : Style) (first : Outgoing) (came : List ℕ) 
   abbrev lines_text : List ℕ
   lines_text = flat_map (styled_line style) has.shown
 
+  -- what is left over, and who ended the connection
   abbrev last_text : List ℕ
-  last_text = flat_map (styled_line_item style AtEnd) last
+  last_text = flat_map (styled_line_item style AtEnd) last ++ styled_ended_by style finishes.ended_by
+
+  -- the order in which it is written
+  is_styled : lines_text ++ last_text ++ styled_report style report
+      ≡ styled_capture style has.shown last finishes.ended_by report
+  is_styled =
+      ap (λ (bs : List ℕ). bs ++ styled_report style report)
+      (sym (append_assoc lines_text (flat_map (styled_line_item style AtEnd) last) (styled_ended_by style finishes.ended_by)))
 
   pub whole_text : IsWholeText limits style came report (lines_text ++ last_text ++ styled_report style report)
   whole_text =
@@ -56,7 +64,9 @@ module _ (limits : Limits) (style : Style) (first : Outgoing) (came : List ℕ) 
           left_over = refl;
           is_report = finishes.is_report;
         };
-        is = refl;
+        ended_by = finishes.ended_by;
+        is_ended_by = finishes.is_ended_by;
+        is = is_styled;
       }
 
   -- a write failed before the report

@@ -1,41 +1,52 @@
 -- What one call of a scan says of the frames that it follows.
-use Rattle.std.proofs.Common.{◌≡◌, ℕ, ◌+◌, ◌<◌, ◌≤◌, ◌^◌, ◌⊎◌, Bool, false, Option, None, Some, List, [], ◌∷◌, ◌++◌, length, take, inl, inr, true, refl, sym, ap, ◌∙◌, subst, arith, append_assoc, append-nil, length-append}
-use Rattle.std.proofs.lemmas.List.{length-take-le}
+use Rattle.std.proofs.Common.{◌≡◌, ℕ, ◌+◌, ◌<◌, ◌≤◌, ◌^◌, ◌⊎◌, false, Option, None, Some, List, [], ◌∷◌, ◌++◌, length, take, drop, inl, inr, refl, sym, ap, ◌∙◌, subst, arith, append_assoc, length-append, length-drop}
+use Rattle.std.specs.Prelude.{IsSome}
+use Rattle.std.proofs.lemmas.List.{length-take, length-take-le}
 use Rattle.wsn_wire.specs.declared.endpoint.Role.{Role}
-use Rattle.wsn_wire.specs.Frame.{Frame, head_bytes, is_control, wire_payload, stream}
+use Rattle.wsn_wire.specs.Frame.{Frame, first_byte, head_bytes, is_control, wire_payload, stream}
 use Rattle.wsn_rules.specs.declared.head_info.HeadInfo.{HeadInfo}
 use Rattle.wsn_rules.specs.declared.verdict.Refusal.{Refusal}
 use Rattle.wsn_rules.specs.Limits.{Limits}
 use Rattle.wsn_rules.specs.Accepted.{HasNoClose, EndsWithClose}
-use Rattle.wsn_rules.specs.Group.{unfinished}
-use Rattle.wsn_rules.specs.Heads.{info_of, heads_of, BeginsWithHead, IsBegun, AreHeads}
+use Rattle.wsn_rules.specs.Group.{unfinished, payload_of}
+use Rattle.wsn_rules.specs.Heads.{heads_of, BeginsWithHead, IsBegun, AreHeads}
 use Rattle.wsn_rules.specs.Lawful.{IsLawful}
+use Rattle.wsn_rules.specs.NoEvidence.{HasNoEvidence}
 use Rattle.wsn_rules.specs.ShownStream.{frame_so_far}
-use Rattle.wsn_rules.specs.Verdict.{IsRefused}
-use Rattle.wsn_rules.proofs.Prefixes.{append_cancel, head_same}
+use Rattle.wsn_rules.proofs.Groups.{group_of_lawful}
+use Rattle.wsn_rules.proofs.Prefixes.{append_cancel}
+use Rattle.wsn_frame.specs.PartialHeads.{info_at}
+use Rattle.wsn_frame.specs.PayloadChecks.{HasChecked}
 use Rattle.wsn_frame.specs.Payloads.{unmasked_by}
 use Rattle.wsn_frame.proofs.PayloadMore.{length-unmasked_by}
-use Rattle.wsn_scan.specs.declared.notice.Notice.{Notice}
-use Rattle.wsn_scan.specs.declared.notice.Notice.TheVariants as notices
+use Rattle.wsn_scan.specs.declared.part.Part.{Part}
+use Rattle.wsn_scan.specs.declared.part.Taken.{Taken}
+use Rattle.wsn_scan.specs.declared.part.Taken.TheVariants as taken
 use Rattle.wsn_scan.specs.declared.stage.Stage.{Stage}
 use Rattle.wsn_scan.specs.declared.stage.Stage.TheVariants as stages
 use Rattle.wsn_scan.specs.declared.scan.Scan.{Scan}
-use Rattle.wsn_scan.specs.ReportedFrames.{Position, BetweenFrames, InFrame}
-use Rattle.wsn_scan.specs.NoticeReaders.{EndsReported, begun_at, HasPayload}
-use Rattle.wsn_scan.specs.Feeding.{HasScannedBytes}
-use Rattle.wsn_scan.specs.Scans.{HasScanned, HasScannedAt, ConsumesAtStage, IsReachedBy, IsRefusedThere, refusal_in, refusal_at}
-use Rattle.wsn_scan.specs.Reports.{Reported, reported_after, refusal_in_notice, IsPayloadSoFar}
-use Rattle.wsn_scan.proofs.FramesReported.{IsSaidAt, said, settled, same_by_ends, same_frames, reported_at, same_reported, head_reported, payload_reported, end_reported}
+use Rattle.wsn_scan.specs.Parts.{IsPart, IsPartAt, Finds, Consumes}
+use Rattle.wsn_scan.specs.Positions.{Position, BetweenFrames, InFrame, begun_at}
+use Rattle.wsn_scan.specs.Scans.{IsAt, IsReachedBy, refusal_in, refusal_at}
+use Rattle.wsn_scan.proofs.FrameEnds.{unfinished_few}
+use Rattle.wsn_scan.proofs.HeadsReported.{front_without_evidence, head_begins_at}
 use Rattle.wsn_scan.proofs.HeadsSoFar.{heads_reported}
-use Rattle.wsn_scan.proofs.PayloadPrefixes.{all_so_far}
-use Rattle.wsn_scan.proofs.Unrefused.{unrefused, place_after}
+use Rattle.wsn_show.specs.FollowedScans.{HasFollowed, IsCall}
 use Rattle.wsn_show.specs.StreamParts.{BeginsIfText}
-use Rattle.wsn_show.proofs.TextsSoFar.{text_so_far}
-use Rattle.wsn_show.specs.FollowedScans.{HasFollowed, IsSettled, IsCall}
+use Rattle.wsn_show.specs.TakenParts.{IsTaken}
+use Rattle.wsn_show.proofs.TextsSoFar.{checked_text}
 
 pub wire_payload_is : (key : Option (List ℕ)) (payload : List ℕ) → wire_payload key payload ≡ unmasked_by key 0 payload
 wire_payload_is None payload = refl
 wire_payload_is (Some key) payload = refl
+
+none_unless : (refusal : Option Refusal) → (IsSome refusal → ⊥) → refusal ≡ None
+none_unless None other = refl
+none_unless (Some refusal) other = absurd (other refl)
+
+nothing : (bytes : List ℕ) → length bytes ≡ 0 → bytes ≡ []
+nothing [] is = refl
+nothing (x ∷ xs) is = absurd (omega (arith, is))
 
 module _ (role : Role) (limits : Limits) where
   -- ---- where a scan is
@@ -46,13 +57,29 @@ module _ (role : Role) (limits : Limits) where
     few = let room = h.has_scanned.has_consumed.room in let input = h.has_scanned.has_consumed.in_range.input in omega (arith, room, input)
 
     pub lawful_done : IsLawful role limits done
-    lawful_done = h.ended.lawful
+    lawful_done = h.has_scanned.has_consumed.lawful
+
+    pub whole_is : came ≡ stream done ++ rest
+    whole_is = h.has_scanned.has_consumed.whole
 
     pub rest_few : length (stream done) + length rest ≡ length came
-    rest_few = sym (ap (λ (bs : List ℕ). length bs) h.whole ∙ length-append (stream done) rest)
+    rest_few = sym (ap (λ (bs : List ℕ). length bs) whole_is ∙ length-append (stream done) rest)
 
-    heads : AreHeads role limits came h.frames h.reported.heads
-    heads = heads_reported role limits scan came h.since h.frames h.reported h.has_scanned
+    -- Bytes of a payload aren't many.
+    pub few_open : length (payload_of (unfinished done)) ≤ 16777216
+    few_open =
+        let size = (group_of_lawful role limits done lawful_done).size in
+        let most = h.has_scanned.has_consumed.in_range.message in
+        omega (arith, size, most)
+
+    heads : AreHeads role limits came done (heads_of done ++ begun_at at)
+    heads = heads_reported role limits scan came rest done at h.has_scanned
+
+    pub is_begun : IsBegun role limits done rest (begun_at at)
+    is_begun =
+        let rest_is : heads.rest ≡ rest = append_cancel (stream done) heads.rest rest (sym heads.whole ∙ whole_is) in
+        let begun_is : heads.begun ≡ begun_at at = append_cancel (heads_of done) heads.begun (begun_at at) (sym heads.all) in
+        subst (λ (bs : List ℕ). IsBegun role limits done bs (begun_at at)) rest_is (subst (IsBegun role limits done heads.rest) begun_is heads.is_begun)
 
     -- The frame has begun, and this is all of its payload that came.
     pub record HasBegun (info : HeadInfo) (payload : List ℕ) : Type 0 where
@@ -63,255 +90,149 @@ module _ (role : Role) (limits : Limits) where
       pub size : length begins.following ≡ length payload
       pub text : is_control info.op ≡ false → BeginsIfText (unfinished done ++ frame_so_far info payload ∷ [])
 
-    module _ (same : done ≡ h.frames) where
-      rest_is : (other : List ℕ) → came ≡ stream h.frames ++ other → other ≡ rest
-      rest_is other whole = append_cancel (stream h.frames) other rest (sym whole ∙ h.whole ∙ ap (λ (fs : List Frame). stream fs ++ rest) same)
+    module _ (info : HeadInfo) (payload : List ℕ) (is : at ≡ InFrame info payload) where
+      other : at ≡ BetweenFrames → HasBegun info payload
+      other between = let both : BetweenFrames ≡ InFrame info payload = sym between ∙ is in absurd cc
 
-      begun_is : heads.begun ≡ begun_at at
-      begun_is = append_cancel (heads_of h.frames) heads.begun (begun_at at) (sym heads.all ∙ h.ended.heads ∙ ap (λ (fs : List Frame). heads_of fs ++ begun_at at) same)
+      at_stage : (stage : Stage) → IsAt role limits stage came done rest at → refusal_at stage ≡ None → HasBegun info payload
+      at_stage stages.Between there none = other there.2
+      at_stage (stages.Head part) there none = other there.2
+      at_stage (stages.Closed code) there none = other there.2
+      at_stage (stages.Refused refusal) there none = absurd cc
+      at_stage (stages.Payload inside) there none =
+          let own : InFrame (info_at (length (stream done)) inside.head) there.1.0 ≡ InFrame info payload = sym there.1.2 ∙ is in
+          let info_is : info_at (length (stream done)) inside.head ≡ info = cc in
+          let part_is : there.1.0 ≡ payload = cc in
+          let p = there.1.1 in
+          let holds = p.holds in
+          let key = inside.head.key in
+          let none = front_without_evidence role limits (unfinished done) holds.head_bytes p.wire (subst (HasNoEvidence role limits (unfinished done)) holds.whole holds.has_no_evidence) in
+          let found = head_begins_at role limits done inside.head holds.head_bytes p.wire rest holds.is_head none holds.whole in
+          let size : length there.1.0 ≡ length p.wire = ap (λ (bs : List ℕ). length bs) p.unmasked ∙ length-unmasked_by key 0 p.wire in
+          let short = p.short in
+          let base : HasBegun (info_at (length (stream done)) inside.head) there.1.0 = record {
+            begins = found.0;
+            no_close = there.0;
+            payload_is = p.unmasked ∙ ap (λ (bs : List ℕ). unmasked_by key 0 bs) (sym found.1) ∙ sym (wire_payload_is key found.0.following);
+            within = omega (arith, size, short);
+            size = ap (λ (bs : List ℕ). length bs) found.1 ∙ sym size;
+            text = λ data_frame. checked_text (unfinished done) (info_at (length (stream done)) inside.head) inside.check there.1.0
+                (subst (λ (bs : List ℕ). HasChecked (unfinished done) (first_byte inside.head.first.fin inside.head.first.op) inside.check bs) (sym p.unmasked) holds.checked) data_frame;
+          } in
+          subst (λ (i : HeadInfo). HasBegun i payload) info_is (subst (λ (bs : List ℕ). HasBegun (info_at (length (stream done)) inside.head) bs) part_is base)
 
-      pub is_begun : IsBegun role limits done rest (begun_at at)
-      is_begun =
-          subst (λ (fs : List Frame). IsBegun role limits fs rest (begun_at at)) (sym same)
-          (subst (λ (bs : List ℕ). IsBegun role limits h.frames bs (begun_at at)) (rest_is heads.rest heads.whole)
-          (subst (IsBegun role limits h.frames heads.rest) begun_is heads.is_begun))
+      pub in_frame : HasBegun info payload
+      in_frame = at_stage scan.stage h.has_scanned.is_at h.unrefused
 
-      pub in_frame : (info : HeadInfo) (payload : List ℕ) → at ≡ InFrame info payload → HasBegun info payload
-      in_frame info payload is = by is_begun
-        where
-          begun : begun_at at ≡ info ∷ []
-          begun = ap begun_at is
+      -- all its bytes: a head of this size, and the payload
+      pub size_in_frame : length rest ≡ length (head_bytes info.fin info.op info.key info.form info.len) + length payload
+      size_in_frame =
+          let b = in_frame.begins in
+          let size = in_frame.size in
+          let whole : length rest ≡ length b.head + length b.following = ap (λ (bs : List ℕ). length bs) b.whole ∙ length-append b.head b.following in
+          omega (arith, whole, size, ap (λ (bs : List ℕ). length bs) b.encoded)
 
-          has : h.reported.payload ≡ payload
-          has = subst (λ (p : Position). HasPayload p h.reported.payload) is h.ended.payload
+    pub between : at ≡ BetweenFrames → EndsWithClose done ⊎ (HasNoClose done × ((info : HeadInfo) → BeginsWithHead role limits done rest info → ⊥))
+    between is = by is_begun
+      where
+        by : IsBegun role limits done rest (begun_at at) → EndsWithClose done ⊎ (HasNoClose done × ((info : HeadInfo) → BeginsWithHead role limits done rest info → ⊥))
+        by (inl closed) = inl closed.1
+        by (inr (inl none)) = inr (none.1, none.2)
+        by (inr (inr some)) = let both : some.1.0 ∷ [] ≡ [] = sym some.1.1 ∙ ap begun_at is in absurd cc
 
-          heads_are : h.reported.heads ≡ heads_of h.frames ++ info ∷ []
-          heads_are = h.ended.heads ∙ ap (λ (fs : List Frame). heads_of fs ++ begun_at at) same ∙ ap (λ (hs : List HeadInfo). heads_of h.frames ++ hs) begun
+    -- the payload before a part
+    pub before_few : (part : Part) (before : List ℕ) → IsPartAt at part before → length before ≤ length rest
+    before_few part before is = by at refl is
+      where
+        by : (p : Position) → at ≡ p → IsPartAt p part before → length before ≤ length rest
+        by BetweenFrames here is = omega (arith, ap (λ (bs : List ℕ). length bs) is.1)
+        by (InFrame info payload) here is = omega (arith, size_in_frame info payload here, ap (λ (bs : List ℕ). length bs) is.2)
 
-          so_far : IsPayloadSoFar h.frames came info h.reported.payload
-          so_far = all_so_far role limits scan came h.frames h.since h.reported info h.has_scanned h.unrefused heads_are
+  -- ---- a call
 
-          text : is_control info.op ≡ false → BeginsIfText (unfinished done ++ frame_so_far info payload ∷ [])
-          text other =
-              subst (λ (fs : List Frame). BeginsIfText (unfinished fs ++ frame_so_far info payload ∷ [])) (sym same)
-              (subst (λ (bs : List ℕ). BeginsIfText (unfinished h.frames ++ frame_so_far info bs ∷ [])) has
-              (text_so_far role limits scan came h.frames h.since h.reported info h.has_scanned h.unrefused heads_are other))
-
-          wire_is : (b : BeginsWithHead role limits done rest info) → so_far.wire ≡ b.following
-          wire_is b =
-              let split : head_bytes info.fin info.op info.key info.form info.len ++ so_far.wire ≡ rest = rest_is (head_bytes info.fin info.op info.key info.form info.len ++ so_far.wire) so_far.whole in
-              append_cancel (head_bytes info.fin info.op info.key info.form info.len) so_far.wire b.following (split ∙ b.whole ∙ ap (λ (bs : List ℕ). bs ++ b.following) b.encoded)
-
-          of_head : HasNoClose done → BeginsWithHead role limits done rest info → HasBegun info payload
-          of_head none b =
-              let wire = wire_is b in
-              let is : payload ≡ unmasked_by info.key 0 b.following = sym has ∙ so_far.unmasked ∙ ap (unmasked_by info.key 0) wire in
-              let size : length payload ≡ length b.following = ap (λ (bs : List ℕ). length bs) is ∙ length-unmasked_by info.key 0 b.following in
-              let fits = so_far.within in
-              record {
-                begins = b;
-                no_close = none;
-                payload_is = is ∙ sym (wire_payload_is info.key b.following);
-                within = omega (arith, size, fits, ap (λ (bs : List ℕ). length bs) wire);
-                size = sym size;
-                text = text;
-              }
-
-          by : IsBegun role limits done rest (begun_at at) → HasBegun info payload
-          by (inl closed) = let both : info ∷ [] ≡ [] = sym begun ∙ closed.0 in absurd cc
-          by (inr (inl none)) = let both : info ∷ [] ≡ [] = sym begun ∙ none.0 in absurd cc
-          by (inr (inr some)) =
-              let own : some.1.0 ≡ info = head_same some.1.0 info [] [] (sym some.1.1 ∙ begun) in
-              of_head some.0 (subst (BeginsWithHead role limits done rest) own some.1.2)
-
-      pub between : at ≡ BetweenFrames → EndsWithClose done ⊎ (HasNoClose done × ((info : HeadInfo) → BeginsWithHead role limits done rest info → ⊥))
-      between is = by is_begun
-        where
-          by : IsBegun role limits done rest (begun_at at) → EndsWithClose done ⊎ (HasNoClose done × ((info : HeadInfo) → BeginsWithHead role limits done rest info → ⊥))
-          by (inl closed) = inl closed.1
-          by (inr (inl none)) = inr (none.1, none.2)
-          by (inr (inr some)) = let both : some.1.0 ∷ [] ≡ [] = sym some.1.1 ∙ ap begun_at is in absurd cc
-
-  -- ---- what a call consumes
-
-  module _ (old new : Scan) (piece after : List ℕ) (n : ℕ) (came : List ℕ) (done : List Frame) (at : Position) (rest : List ℕ) (h : HasFollowed role limits old came done at rest) where
+  module _ (old new : Scan) (piece after : List ℕ) (n : ℕ) (found : Taken) (part : Part) (came : List ℕ) (done : List Frame) (at : Position) (rest : List ℕ) (h : HasFollowed role limits old came done at rest) (call : IsCall old new piece after n found part) where
     abbrev share : List ℕ
     share = take n piece
 
-    module _ (notice : Notice) (call : IsCall old new piece after n notice) where
-      size_of_share : length share ≡ n
-      size_of_share = length-take-le n piece call.within
+    pub size_of_share : length share ≡ n
+    size_of_share = length-take-le n piece call.within
 
-      longer : came ++ share ≡ stream done ++ (rest ++ share)
-      longer = ap (λ (bs : List ℕ). bs ++ share) h.whole ∙ append_assoc (stream done) rest share
+    pub reached : IsReachedBy role limits new (came ++ share) (Finds found part (drop part.start (take n after)) done at) × Consumes found part (length piece) n
+    reached = call.advances role limits came rest done at call.in_bytes h.has_scanned
 
-      reached : IsReachedBy role limits new notice (came ++ share) (reported_after h.reported notice (take n after))
-      reached = call.advances role limits came h.since h.frames h.reported call.in_bytes h.has_scanned
+    pub same_whole : stream done ++ (rest ++ share) ≡ stream reached.0.frames ++ reached.0.since
+    same_whole = sym (append_assoc (stream done) rest share) ∙ ap (λ (bs : List ℕ). bs ++ share) (sym h.has_scanned.has_consumed.whole) ∙ reached.0.has_scanned.has_consumed.whole
 
-      says : IsSaidAt role limits old came h.since h.frames h.reported h.has_scanned done at h.ended (length piece) n old.stage notice
-      says = said role limits old came h.since h.frames h.reported h.has_scanned done at h.ended (length piece) n notice call.consumes
+    pub unrefused_by : (found ≡ taken.Refused → ⊥) → refusal_in new ≡ None
+    unrefused_by other = none_unless (refusal_in new) (λ some. other (call.reported.0 some))
 
-      unfoldable followed_on : refusal_in_notice notice ≡ None → (ended : List Frame) (to : Position) (left : List ℕ) → came ++ share ≡ stream ended ++ left
-          → EndsReported role limits (came ++ share) (reported_after h.reported notice (take n after)) ended to → HasFollowed role limits new (came ++ share) ended to left
-      followed_on none ended to left whole has_reported = record {
-        frames = reached.frames;
-        since = reached.since;
-        reported = reported_after h.reported notice (take n after);
-        has_scanned = reached.has_scanned;
-        unrefused = call.reported ∙ none;
-        ended = has_reported;
-        whole = whole;
-      }
+    pub follows : (found ≡ taken.Refused → ⊥) → HasFollowed role limits new (came ++ share) reached.0.frames reached.0.position reached.0.since
+    follows other = record { has_scanned = reached.0.has_scanned; unrefused = unrefused_by other }
 
-      same_after : reported_after h.reported notice (take n after) ≡ h.reported → EndsReported role limits (came ++ share) (reported_after h.reported notice (take n after)) done at
-      same_after same = subst (λ (r : Reported). EndsReported role limits (came ++ share) r done at) (sym same) (same_reported role limits old came h.since h.frames h.reported h.has_scanned done at h.ended share)
+    pub few_more : length rest + n < 2 ^ 64
+    few_more =
+        let size = rest_few old came done at rest h in
+        let most = few old came done at rest h in
+        let room = call.room in
+        let all = h.has_scanned.has_consumed.room in
+        let input = h.has_scanned.has_consumed.in_range.input in
+        omega (arith, size, most, room, all, input)
 
-      -- Nothing was reported.
-      module _ (same : reported_after h.reported notice (take n after) ≡ h.reported) (none : refusal_in_notice notice ≡ None) where
-        pub quiet : HasFollowed role limits new (came ++ share) done at (rest ++ share)
-        quiet = followed_on none done at (rest ++ share) longer (same_after same)
+    -- The same frames, and the same position.
+    module _ (frames : reached.0.frames ≡ done) (position : reached.0.position ≡ at) where
+      since_is : reached.0.since ≡ rest ++ share
+      since_is = sym (append_cancel (stream done) (rest ++ share) reached.0.since (same_whole ∙ ap (λ (fs : List Frame). stream fs ++ reached.0.since) frames))
 
-        pub quiet_settled : (done ≡ h.frames) × (n ≡ length piece) × ((at ≡ BetweenFrames) ⊎ (n ≡ 0)) → length piece ≡ 0 → IsSettled quiet
-        unfolding followed_on quiet reached
-        quiet_settled is nothing =
-            (settled role limits new (came ++ share) reached.since reached.frames (reported_after h.reported notice (take n after)) reached.has_scanned done at (same_after same)
-            (elim is.2 [ inl in_between ↦ inl in_between | inr zero_bytes ↦ inr (is.0 ∙ same_so_far zero_bytes) ]) (call.reported ∙ none)).0
-          where
-            same_so_far : n ≡ 0 → h.frames ≡ reached.frames
-            same_so_far zero_bytes =
-                let bytes : came ++ share ≡ came = ap (λ (k : ℕ). came ++ take k piece) zero_bytes ∙ append-nil came in
-                same_frames role limits old new came h.since reached.since h.frames reached.frames h.reported (reported_after h.reported notice (take n after)) h.has_scanned
-                (subst (λ (bs : List ℕ). HasScanned role limits new bs reached.frames reached.since (reported_after h.reported notice (take n after))) bytes reached.has_scanned)
+      pub same_follows : (found ≡ taken.Refused → ⊥) → HasFollowed role limits new (came ++ share) done at (rest ++ share)
+      same_follows other =
+          subst (λ (bs : List ℕ). HasFollowed role limits new (came ++ share) done at bs) since_is
+          (subst (λ (p : Position). HasFollowed role limits new (came ++ share) done p reached.0.since) position
+          (subst (λ (fs : List Frame). HasFollowed role limits new (came ++ share) fs reached.0.position reached.0.since) frames (follows other)))
 
-    pub head_follows : (info : HeadInfo) → IsCall old new piece after n (notices.Head info) → (at ≡ BetweenFrames) × HasFollowed role limits new (came ++ share) done (InFrame info []) (rest ++ share) × (0 < n)
-    head_follows info call =
-        let says = says (notices.Head info) call in (
-          says.0,
-          followed_on (notices.Head info) call refl done (InFrame info []) (rest ++ share) (longer (notices.Head info) call)
-              (head_reported role limits old came h.since h.frames h.reported h.has_scanned done at h.ended info share (take n after) says.0),
-          says.1,
-        )
+      -- Within a frame each byte is of its payload.
+      pub is_between : (found ≡ taken.Refused → ⊥) → 0 < n → at ≡ BetweenFrames
+      is_between other some = by at refl
+        where
+          by : (p : Position) → at ≡ p → at ≡ BetweenFrames
+          by BetweenFrames here = here
+          by (InFrame info payload) here =
+              let before = size_in_frame old came done at rest h info payload here in
+              let now = size_in_frame new (came ++ share) done at (rest ++ share) (same_follows other) info payload here in
+              absurd (omega (arith, before, now, length-append rest share, size_of_share, some))
 
-    pub payload_follows : IsCall old new piece after n notices.Payload
-        → (info : HeadInfo) × (payload : List ℕ) × (at ≡ InFrame info payload) × HasFollowed role limits new (came ++ share) done (InFrame info (payload ++ take n after)) (rest ++ share) × (0 < n)
-    payload_follows call =
-        let says = says notices.Payload call in
-        let info = says.0.0 in (
-          info,
-          h.reported.payload,
-          says.0.1,
-          followed_on notices.Payload call refl done (InFrame info (h.reported.payload ++ take n after)) (rest ++ share) (longer notices.Payload call)
-              (payload_reported role limits old came h.since h.frames h.reported h.has_scanned done at h.ended info share (take n after) says.0.1),
-          says.1,
-        )
+  -- A part was taken.
+  module _ (old new : Scan) (piece after : List ℕ) (n : ℕ) (part : Part) (came : List ℕ) (done : List Frame) (at : Position) (rest : List ℕ) (h : HasFollowed role limits old came done at rest) (call : IsCall old new piece after n taken.Part part) where
+    pub reach : IsReachedBy role limits new (came ++ take n piece) (IsPart done at part (drop part.start (take n after)))
+    reach = (reached old new piece after n taken.Part part came done at rest h call).0
 
-    -- The frame f has ended.
-    pub record HasEnded (event : Bool) : Type 0 where
-      pub frame : Frame
-      pub final : frame.fin ≡ event
-      pub was : at ≡ InFrame (info_of (length (stream done)) frame) frame.payload
-      pub followed : HasFollowed role limits new (came ++ share) (done ++ frame ∷ []) BetweenFrames []
-      pub is_settled : IsSettled followed
-      pub none : n ≡ 0
-
-    pub end_follows : (event : Bool) → IsCall old new piece after n (notices.FrameEnd event) → HasEnded event
-    unfolding followed_on
-    end_follows event call =
-        let notice = notices.FrameEnd event in
-        let says = says notice call in
-        let f = says.0.0 in
-        let there = reached notice call in
-        let has_reported = end_reported role limits old came h.since h.frames h.reported h.has_scanned done at h.ended event f share (take n after) says.0.1 in
-        let all = settled role limits new (came ++ share) there.since there.frames (reported_after h.reported notice (take n after)) there.has_scanned (done ++ f ∷ []) BetweenFrames has_reported (inl refl) call.reported in
-        let whole : came ++ share ≡ stream (done ++ f ∷ []) ++ [] =
-        there.has_scanned.has_consumed.whole ∙ ap (λ (fs : List Frame). stream fs ++ there.since) (sym all.0) ∙ ap (λ (bs : List ℕ). stream (done ++ f ∷ []) ++ bs) there.reports.1 in
+    pub part_taken : IsTaken role limits done rest reach.found.before part (drop part.start (take n after)) (take n piece) reach.frames reach.position reach.since
+    unfolding reach reached
+    part_taken =
+        let consumed = reach.has_scanned.has_consumed in
+        let size = rest_few old came done at rest h in
+        let most = few old came done at rest h in
+        let own = size_of_share old new piece after n taken.Part part came done at rest h call in
+        let more = few_more old new piece after n taken.Part part came done at rest h call in
+        let open_few = few_open old came done at rest h in
+        let before = before_few old came done at rest h part reach.found.before reach.found.is_at in
+        let room = call.room in
+        let all = h.has_scanned.has_consumed.room in
+        let input = h.has_scanned.has_consumed.in_range.input in
         record {
-          frame = f;
-          final = says.0.1.final;
-          was = says.0.1.is;
-          followed = followed_on notice call refl (done ++ f ∷ []) BetweenFrames [] whole has_reported;
-          is_settled = all.0;
-          none = says.1;
+          goes_on = reach.found.goes_on;
+          lawful = consumed.lawful;
+          whole = same_whole old new piece after n taken.Part part came done at rest h call;
+          no_rest = λ ends.
+              let used = call.whole refl ends in
+              let is_used = consumed.used in
+              let now = consumed.room in
+              let limit : new.context.limits.input ≡ limits.input = ap (λ (l : Limits). l.input) consumed.under in
+              nothing reach.since (omega (arith, used, is_used, now, limit, ap (λ (bs : List ℕ). length bs) consumed.whole, length-append (stream reach.frames) reach.since));
+          small = omega (arith, size, most, own, room, all, input);
+          few_frames = omega (arith, unfinished_few done, size, most);
+          few_bytes = omega (arith, open_few, before, size, most, length-drop part.start (take n after), length-take n after, room, all, input);
         }
 
-    pub more_follows : IsCall old new piece after n notices.More → (g : HasFollowed role limits new (came ++ share) done at (rest ++ share)) × (length piece ≡ 0 → IsSettled g)
-    more_follows call = (quiet notices.More call refl refl, quiet_settled notices.More call refl refl (says notices.More call))
-
-    pub closed_follows : IsCall old new piece after n notices.Closed → (g : HasFollowed role limits new (came ++ share) done at (rest ++ share)) × (length piece ≡ 0 → IsSettled g)
-    closed_follows call = (quiet notices.Closed call refl refl, quiet_settled notices.Closed call refl refl (says notices.Closed call))
-
-    -- Only a frame's end is reported while one is still to be reported.
-    pub was_settled : (notice : Notice) → IsCall old new piece after n notice → ((event : Bool) → notice ≡ notices.FrameEnd event → ⊥) → done ≡ h.frames
-    was_settled notice call other = of old.stage h.unrefused h.has_scanned call.consumes
-      where
-        of : (stage : Stage) → refusal_at stage ≡ None → HasScannedAt role limits old stage came h.frames h.since h.reported → ConsumesAtStage stage (length piece) n notice → done ≡ h.frames
-        of stages.Between none s consumes = (reported_at role limits old came h.since h.frames h.reported h.has_scanned done at h.ended stages.Between s).0
-        of (stages.Head part) none s consumes = (reported_at role limits old came h.since h.frames h.reported h.has_scanned done at h.ended (stages.Head part) s).0
-        of (stages.Payload inside) none s consumes = (reported_at role limits old came h.since h.frames h.reported h.has_scanned done at h.ended (stages.Payload inside) s).0
-        of (stages.Ended event) none s consumes = absurd (other event consumes.1)
-        of (stages.CloseEnded code) none s consumes = absurd (other true consumes.1)
-        of (stages.Closed code) none s consumes = (reported_at role limits old came h.since h.frames h.reported h.has_scanned done at h.ended (stages.Closed code) s).0
-        of (stages.Refused held) none s consumes = absurd cc
-
-    -- ---- a refusal
-
-    -- Whatever follows, the bytes are refused at the last one, and the scan has reported the refusal.
-    pub record HasRefusedThere (refusal : Refusal) : Type 0 where
-      pub heads : List HeadInfo
-      pub scanned : HasScannedBytes role limits new (came ++ share) heads
-      pub is : refusal_in new ≡ Some refusal
-      pub refused : (later : List ℕ) → IsRefused role limits ((came ++ share) ++ later) done refusal.place refusal.reason
-      pub place : refusal.place + 1 ≡ length (came ++ share)
-      pub some : 0 < n
-      pub settled : done ≡ h.frames
-      pub begun : IsBegun role limits done (rest ++ share) (begun_at at)
-
-    module _ (refusal : Refusal) (call : IsCall old new piece after n (notices.Refused refusal)) where
-      abbrev notice : Notice
-      notice = notices.Refused refusal
-
-      there : IsReachedBy role limits new notice (came ++ share) h.reported
-      there = reached notice call
-
-      is_there : IsRefusedThere role limits refusal (came ++ share) there.frames h.reported
-      is_there = there.reports
-
-      all_reported : EndsReported role limits (came ++ share) h.reported done at
-      all_reported = same_after notice call refl
-
-      same : there.frames ≡ done
-      same = sym (same_by_ends role limits (came ++ share) there.since h.reported done there.frames at all_reported there.has_scanned.has_consumed.lawful there.has_scanned.has_consumed.whole is_there.ends)
-
-      not_end : (event : Bool) → notices.Refused refusal ≡ notices.FrameEnd event → ⊥
-      not_end event is = cc
-
-      refused_here : (later : List ℕ) → IsRefused role limits ((came ++ share) ++ later) done refusal.place refusal.reason
-      refused_here later = subst (λ (fs : List Frame). IsRefused role limits ((came ++ share) ++ later) fs refusal.place refusal.reason) same (is_there.refused later)
-
-      after_heads : AreHeads role limits (came ++ share) there.frames h.reported.heads
-      after_heads = subst (λ (bs : List ℕ). AreHeads role limits bs there.frames h.reported.heads) (append-nil (came ++ share)) (is_there.heads [])
-
-      pub refused_follows : HasRefusedThere refusal
-      refused_follows =
-          let before : HasScannedBytes role limits old came h.reported.heads = record { frames = h.frames; since = h.since; payload = h.reported.payload; ends = h.reported.ends; has_scanned = h.has_scanned } in
-          let has_no_evidence = unrefused role limits old came h.reported.heads before h.unrefused in
-          let past = place_after role limits came share done refusal.place refusal.reason has_no_evidence (subst (λ (bs : List ℕ). IsRefused role limits bs done refusal.place refusal.reason) (append-nil (came ++ share)) (refused_here [])) in
-          let at_end = is_there.place in
-          let size : length (came ++ share) ≡ length came + n = length-append came share ∙ ap (λ (k : ℕ). length came + k) (size_of_share notice call) in
-          let rest_is : after_heads.rest ≡ rest ++ share =
-          append_cancel (stream there.frames) after_heads.rest (rest ++ share) (sym after_heads.whole ∙ longer notice call ∙ ap (λ (fs : List Frame). stream fs ++ (rest ++ share)) (sym same)) in
-          let begun_is : after_heads.begun ≡ begun_at at =
-          append_cancel (heads_of there.frames) after_heads.begun (begun_at at) (sym after_heads.all ∙ h.ended.heads ∙ ap (λ (fs : List Frame). heads_of fs ++ begun_at at) (sym same)) in
-          record {
-            heads = h.reported.heads;
-            scanned = record { frames = there.frames; since = there.since; payload = h.reported.payload; ends = h.reported.ends; has_scanned = there.has_scanned };
-            is = call.reported;
-            refused = refused_here;
-            place = at_end;
-            some = omega (arith, past, at_end, size);
-            settled = was_settled notice call not_end;
-            begun =
-                subst (λ (fs : List Frame). IsBegun role limits fs (rest ++ share) (begun_at at)) same
-                (subst (λ (bs : List ℕ). IsBegun role limits there.frames bs (begun_at at)) rest_is
-                (subst (IsBegun role limits there.frames after_heads.rest) begun_is after_heads.is_begun));
-          }
+    pub part_follows : HasFollowed role limits new (came ++ take n piece) reach.frames reach.position reach.since
+    unfolding reach reached
+    part_follows = follows old new piece after n taken.Part part came done at rest h call (λ same. cc)

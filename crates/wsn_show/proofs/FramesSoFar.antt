@@ -12,11 +12,14 @@ use Rattle.wsn_rules.specs.Heads.{info_of, heads_of, IsBegun}
 use Rattle.wsn_rules.specs.Lawful.{IsLawful}
 use Rattle.wsn_rules.specs.ShownStream.{Item, Shown, shown_after, items_of_final, shown_at, shown_of, shown_head, AreShownFrames}
 use Rattle.wsn_rules.proofs.ShownStreams.{shown_of-append}
-use Rattle.wsn_scan.specs.NoticeReaders.{begun_at}
-use Rattle.wsn_scan.specs.ReportedFrames.{Position, BetweenFrames, InFrame}
+use Rattle.wsn_scan.specs.Positions.{Position, BetweenFrames, InFrame, begun_at}
 use Rattle.wsn_scan.proofs.HeadsReported.{heads_push}
 use Rattle.wsn_show.specs.ShownItems.{items_of_begun, items_of_ended}
 use Rattle.wsn_show.specs.ShownSoFar.{items_in, shown_so_far}
+
+pub items_in-append : (xs ys : List Shown) → items_in (xs ++ ys) ≡ items_in xs ++ items_in ys
+items_in-append [] ys = refl
+items_in-append (x ∷ xs) ys = ap (λ (is : List Item). x.item ∷ is) (items_in-append xs ys)
 
 pub items_after : (n : ℕ) (items : List Item) → items_in (shown_after n items) ≡ items
 items_after n [] = refl

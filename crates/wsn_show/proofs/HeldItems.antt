@@ -20,9 +20,9 @@ use Rattle.wsn_print.specs.declared.shown.HeldBytes.{HeldBytes}
 use Rattle.wsn_print.proofs.HeldViews.{first_held}
 use Rattle.wsn_print.specs.ShownParts.{HoldsFirst, IsFrontOf, IsEndOf, event_of, Represents, HasTextReason}
 use Rattle.wsn_show.specs.declared.first_bytes.FirstBytes.{FirstBytes}
-use Rattle.wsn_show.specs.declared.evidence.Evidence.{Evidence}
+use Rattle.wsn_show.specs.declared.last_bytes.LastBytes.{LastBytes}
 use Rattle.wsn_show.specs.declared.message_so_far.MessageSoFar.{MessageSoFar}
-use Rattle.wsn_show.specs.HeldParts.{HasFirst, IsEvidence}
+use Rattle.wsn_show.specs.HeldParts.{HasFirst, HasLast}
 use Rattle.wsn_show.specs.StreamParts.{BeginsIfText, KeepsMessage, HasJoined}
 
 -- ---- bytes
@@ -45,12 +45,12 @@ front_held n count all more held few is counts =
           | inr more_held ↦ inr (omega (arith, is_min, more_held))
         ]
 
-pub evidence_held : (n : ℕ) (all : List ℕ) (evidence : Evidence) (bytes : HeldBytes) → n ≤ 4096 → IsEvidence evidence all → bytes.bytes ≡ evidence.bytes → bytes.held.now ≡ evidence.held.items → IsEndOf (n / 2) all bytes
-evidence_held n all evidence bytes few is count held =
+pub evidence_held : (n : ℕ) (all : List ℕ) (last : LastBytes) (bytes : HeldBytes) → n ≤ 4096 → HasLast last all → bytes.bytes ≡ last.count → bytes.held.now ≡ last.held.items → IsEndOf (n / 2) all bytes
+evidence_held n all last bytes few is count held =
     let items : bytes.held.now ≡ drop (length all - 2048) all = held ∙ is.held in
     let size : length bytes.held.now ≡ length all - (length all - 2048) = ap (λ (bs : List ℕ). length bs) items ∙ length-drop (length all - 2048) all in
     let at : length all - 2048 ≡ length all - length bytes.held.now = omega (arith, size) in
-    (count ∙ is.bytes, (items ∙ ap (λ (m : ℕ). drop m all) at, enough (length bytes.held.now) size))
+    (count ∙ is.count, (items ∙ ap (λ (m : ℕ). drop m all) at, enough (length bytes.held.now) size))
   where
     enough : (a : ℕ) → a ≡ length all - (length all - 2048) → (n / 2 ≤ a) ⊎ (a ≡ length all)
     enough a size =

@@ -6,7 +6,7 @@ use Rattle.wsn_rules.specs.declared.head_info.HeadInfo.{HeadInfo}
 use Rattle.wsn_rules.specs.Group.{unfinished, first_op}
 use Rattle.wsn_rules.specs.Heads.{info_of}
 use Rattle.wsn_rules.specs.ShownStream.{frame_so_far}
-use Rattle.wsn_scan.specs.ReportedFrames.{BetweenFrames, InFrame}
+use Rattle.wsn_scan.specs.Positions.{BetweenFrames, InFrame}
 use Rattle.wsn_show.specs.declared.message_so_far.MessageSoFar.{MessageSoFar}
 use Rattle.wsn_show.specs.declared.frame_so_far.FrameSoFar.{FrameSoFar}
 use Rattle.wsn_show.specs.declared.stream_parts.StreamParts.{StreamParts}
@@ -61,10 +61,10 @@ module _ (parts : StreamParts) (fs : List Frame) (head : HeadInfo) where
 
   -- ---- more payload
 
-  pub adds_data : (message : MessageSoFar) (frame : FrameSoFar) (part more rest : List ℕ) → is_control head.op ≡ false → Keeps parts fs (InFrame head part) rest
-      → (KeepsMessage parts.message fs part → KeepsMessage message fs (part ++ more)) → message.op ≡ parts.message.op → message.offset ≡ parts.message.offset → KeepsFrame frame fs (InFrame head (part ++ more)) rest
-      → Keeps (record { message = message; frame = frame }) fs (InFrame head (part ++ more)) rest
-  adds_data message frame part more rest other kept adds op offset in_frame = record {
+  pub adds_data : (message : MessageSoFar) (frame : FrameSoFar) (part more rest now : List ℕ) → is_control head.op ≡ false → Keeps parts fs (InFrame head part) rest
+      → (KeepsMessage parts.message fs part → KeepsMessage message fs (part ++ more)) → message.op ≡ parts.message.op → message.offset ≡ parts.message.offset → KeepsFrame frame fs (InFrame head (part ++ more)) now
+      → Keeps (record { message = message; frame = frame }) fs (InFrame head (part ++ more)) now
+  adds_data message frame part more rest now other kept adds op offset in_frame = record {
     message = subst (KeepsMessage message fs) (sym (part_of_data head (part ++ more) other)) (adds (subst (KeepsMessage parts.message fs) (part_of_data head part other) kept.message));
     joined = λ again.
         let joined = kept.joined other in
@@ -75,9 +75,9 @@ module _ (parts : StreamParts) (fs : List Frame) (head : HeadInfo) where
     frame = in_frame;
   }
 
-  pub adds_to_control : (frame : FrameSoFar) (part more rest : List ℕ) → is_control head.op ≡ true → Keeps parts fs (InFrame head part) rest → KeepsFrame frame fs (InFrame head (part ++ more)) rest
-      → Keeps (record { message = parts.message; frame = frame }) fs (InFrame head (part ++ more)) rest
-  adds_to_control frame part more rest control kept in_frame = record {
+  pub adds_to_control : (frame : FrameSoFar) (part more rest now : List ℕ) → is_control head.op ≡ true → Keeps parts fs (InFrame head part) rest → KeepsFrame frame fs (InFrame head (part ++ more)) now
+      → Keeps (record { message = parts.message; frame = frame }) fs (InFrame head (part ++ more)) now
+  adds_to_control frame part more rest now control kept in_frame = record {
     message = subst (KeepsMessage parts.message fs) (part_of_control head part control ∙ sym (part_of_control head (part ++ more) control)) kept.message;
     joined = λ other. let both : true ≡ false = sym control ∙ other in absurd cc;
     frame = in_frame;

@@ -1,19 +1,8 @@
 -- The first and the last of some bytes after more came.
-use Rattle.std.proofs.Common.{◌≡◌, ℕ, Option, true≢false, ◌+◌, ◌-◌, ◌<◌, ◌≤◌, ◌^◌, Result, Ok, Err, List, ◌++◌, length, take, drop, min, inl, inr, sym, ap, ◌∙◌, append-nil, arith, length-append, length-drop}
-use Rattle.std.specs.Prelude.{◌↔◌, IsOk, OnOk}
-use Rattle.std.specs.List.{refill}
+use Rattle.std.proofs.Common.{◌≡◌, ℕ, ◌+◌, ◌-◌, ◌<◌, ◌≤◌, ◌^◌, List, ◌++◌, length, take, drop, min, inl, inr, sym, ap, ◌∙◌, append-nil, arith, length-append, length-drop}
 use Rattle.std.proofs.lemmas.Bool.{cases_lt}
-use Rattle.std.proofs.lemmas.List.{take_all, drop_all, drop_at, take-append-drop, take-append-le, drop-append-le, drop-drop, take_min, length-take, length-take-le}
+use Rattle.std.proofs.lemmas.List.{take_all, drop_all, take-append-le, drop-append-le, drop-drop, take_min, length-take}
 use Rattle.std.proofs.Math.Seq.{take-append-add, drop-append-add}
-use Rattle.wsn_frame.specs.Payloads.{unmasked_by}
-use Rattle.wsn_frame.proofs.PayloadMore.{length-unmasked_by, unmasked_by-joined}
-use Rattle.wsn_show.specs.declared.evidence.Evidence.{Evidence}
-use Rattle.wsn_show.specs.HeldParts.{IsEvidence}
-
--- what fits was appended
-pub extended : {T E P Q : Type 0} (result : Result T E) → (IsOk result ↔ P) → P → OnOk result Q → Q
-extended (Ok done) fits p q = q
-extended (Err error) fits p q = absurd (true≢false (sym (fits.1 p)))
 
 -- a count that isn't saturated
 pub counted : (count number sum : ℕ) (came more : List ℕ) → count ≡ length came → number ≡ length more → length came + length more < 2 ^ 64 → sum ≡ min (count + number) (2 ^ 64 - 1) → sum ≡ length (came ++ more)
@@ -58,49 +47,3 @@ last_more held came more is =
 -- what is passed on of a slice from an offset on
 pub rest_is : (at : ℕ) (xs : List ℕ) → take (length xs - at) (drop at xs) ≡ drop at xs
 rest_is at xs = take_all (length xs - at) (drop at xs) (omega (arith, length-drop at xs))
-
--- ---- the end of a payload, unmasked
-
-pub drop-unmasked : (key : Option (List ℕ)) (n : ℕ) (wire : List ℕ) → n ≤ length wire → unmasked_by key n (drop n wire) ≡ drop n (unmasked_by key 0 wire)
-drop-unmasked key n wire within =
-    let front = take n wire in
-    let size : length front ≡ n = length-take-le n wire within in
-    let start : length (unmasked_by key 0 front) ≡ n = length-unmasked_by key 0 front ∙ size in
-    let split : unmasked_by key 0 wire ≡ unmasked_by key 0 front ++ unmasked_by key n (drop n wire) =
-    ap (λ (bs : List ℕ). unmasked_by key 0 bs) (sym (take-append-drop n wire)) ∙ unmasked_by-joined key front (drop n wire) ∙ ap (λ (m : ℕ). unmasked_by key 0 front ++ unmasked_by key m (drop n wire)) size in
-    sym (ap (λ (bs : List ℕ). drop n bs) split ∙ drop_at (unmasked_by key 0 front) (unmasked_by key n (drop n wire)) n start)
-
--- where the last bytes of the wire are among those that are held
-pub end_held : (held front wire : List ℕ) (count : ℕ) → held ≡ drop (length (front ++ wire) - 2048) (front ++ wire) → count ≡ min (length wire) (length held)
-    → (drop (length held - count) held ≡ drop (length wire - 2048) wire) × (length wire - count ≡ length wire - 2048) × (count ≤ length held)
-end_held held front wire count is few =
-    let all : length (front ++ wire) ≡ length front + length wire = length-append front wire in
-    let size : length held ≡ length (front ++ wire) - (length (front ++ wire) - 2048) = ap (λ (bs : List ℕ). length bs) is ∙ length-drop (length (front ++ wire) - 2048) (front ++ wire) in
-    let at : (length (front ++ wire) - 2048) + (length held - count) ≡ length front + (length wire - 2048) = omega (arith, all, size, few) in (
-      ap (λ (bs : List ℕ). drop (length held - count) bs) is ∙ drop-drop (length held - count) (length (front ++ wire) - 2048) (front ++ wire)
-          ∙ ap (λ (m : ℕ). drop m (front ++ wire)) at ∙ drop-append-add front wire (length wire - 2048),
-      omega (arith, all, size, few),
-      omega (arith, few),
-    )
-
-pub refill_same : (xs ws : List ℕ) → length ws ≡ length xs → refill (length xs) xs ws ≡ ws
-refill_same xs ws same =
-    ap (λ (bs : List ℕ). take (length xs) (ws ++ bs)) (drop_all (length ws) xs (omega (arith, same))) ∙ ap (λ (bs : List ℕ). take (length xs) bs) (append-nil ws) ∙ take_all (length xs) ws (omega (arith, same))
-
--- The end of a payload was copied, and unmasked in place.
-pub unmasked_end : (key : Option (List ℕ)) (held front wire copied unmasked : List ℕ) (count : ℕ) → held ≡ drop (length (front ++ wire) - 2048) (front ++ wire) → count ≡ min (length wire) (length held)
-    → copied ≡ drop (length held - count) held → unmasked ≡ unmasked_by key (length wire - count) copied → refill (length copied) copied unmasked ≡ drop (length wire - 2048) (unmasked_by key 0 wire)
-unmasked_end key held front wire copied unmasked count is few copies unmasks =
-    let found = end_held held front wire count is few in
-    let size : length unmasked ≡ length copied = ap (λ (bs : List ℕ). length bs) unmasks ∙ length-unmasked_by key (length wire - count) copied in
-    refill_same copied unmasked size ∙ unmasks ∙ ap (λ (m : ℕ). unmasked_by key m copied) found.1 ∙ ap (λ (bs : List ℕ). unmasked_by key (length wire - 2048) bs) (copies ∙ found.0)
-    ∙ drop-unmasked key (length wire - 2048) wire (omega arith)
-
--- The evidence of a payload, or of a head.
-pub is_evidence : (evidence : Evidence) (key : Option (List ℕ)) (wire : List ℕ) → evidence.bytes ≡ length wire → evidence.held.items ≡ drop (length wire - 2048) (unmasked_by key 0 wire) → IsEvidence evidence (unmasked_by key 0 wire)
-is_evidence evidence key wire bytes held =
-    let size : length (unmasked_by key 0 wire) ≡ length wire = length-unmasked_by key 0 wire in
-    record {
-      bytes = bytes ∙ sym size;
-      held = held ∙ ap (λ (m : ℕ). drop (m - 2048) (unmasked_by key 0 wire)) (sym size);
-    }

@@ -1,5 +1,5 @@
 -- The items that are printed of what is kept.
-use Rattle.std.proofs.Common.{◌≡◌, ℕ, ◌+◌, ◌-◌, ◌<◌, ◌≤◌, ◌^◌, true, false, Option, None, Some, List, [], ◌∷◌, ◌++◌, length, refl, sym, ap, ◌∙◌, subst, arith, length-append, nat_lt, if◌then◌else◌}
+use Rattle.std.proofs.Common.{◌≡◌, ℕ, ◌-◌, ◌<◌, ◌≤◌, true, false, Option, None, Some, List, [], ◌∷◌, ◌++◌, length, refl, sym, ap, ◌∙◌, arith, nat_lt, if◌then◌else◌}
 use Rattle.std.proofs.lemmas.Bool.{cond-true, cond-false}
 use Rattle.wsn_wire.specs.declared.opcode.Op.{Op}
 use Rattle.wsn_wire.specs.declared.opcode.Op.TheVariants.{Continue, Text, Binary, Close, Ping, Pong}
@@ -11,13 +11,8 @@ use Rattle.wsn_rules.specs.Summary.{is_close}
 use Rattle.wsn_rules.specs.ShownStream.{Item, open_offset, open_item, open_items, event_offset, event_frames, items_of_final, items_of_bytes, frame_so_far, items_of_part, items_of_head}
 use Rattle.wsn_rules.specs.ShownStream.Item.{Event, Unfinished, UnfinishedHead}
 use Rattle.wsn_rules.proofs.LawfulMeaning.{event_of_control, event_of_data}
-use Rattle.wsn_frame.specs.Payloads.{unmasked_by}
-use Rattle.wsn_scan.specs.ReportedFrames.{Position, BetweenFrames, InFrame}
-use Rattle.wsn_show.specs.declared.frame_so_far.FrameSoFar.{FrameSoFar}
-use Rattle.wsn_show.specs.declared.evidence.Evidence.{Evidence}
-use Rattle.wsn_show.specs.HeldParts.{HasLast, IsEvidence}
-use Rattle.wsn_show.specs.StreamParts.{KeepsFrame, head_at, IsEvidenceAt}
-use Rattle.wsn_show.proofs.FollowedScans.{wire_payload_is}
+use Rattle.wsn_scan.specs.Positions.{Position, BetweenFrames, InFrame}
+use Rattle.wsn_show.specs.StreamParts.{head_at}
 
 -- ---- complete events
 
@@ -99,15 +94,3 @@ in_frame_at (InFrame own part) head held is some =
 pub between_at : (at : Position) (held : Option HeadInfo) → held ≡ head_at at → held ≡ None → at ≡ BetweenFrames
 between_at BetweenFrames held is none = refl
 between_at (InFrame own part) held is none = let both : Some own ≡ None = sym is ∙ none in absurd cc
-
--- ---- evidence
-
-pub evidence_at : (frame : FrameSoFar) (fs : List Frame) (at : Position) (count : ℕ) (rest evidence : List ℕ) (result : Evidence)
-    → ((head : HeadInfo) (front wire : List ℕ) → frame.head ≡ Some head → frame.payload.count + count ≡ length wire → length wire < 2 ^ 64 → HasLast frame.last (front ++ wire) → IsEvidence result (unmasked_by head.key 0 wire))
-    → ((all : List ℕ) → frame.head ≡ None → HasLast frame.last all → IsEvidence result all) → length rest < 2 ^ 64 → IsEvidenceAt at count rest evidence → KeepsFrame frame fs at rest → IsEvidence result evidence
-evidence_at frame fs BetweenFrames count rest evidence result of_payload of_head small is kept = subst (IsEvidence result) (sym is) (of_head rest kept.head kept.last)
-evidence_at frame fs (InFrame head payload) count rest evidence result of_payload of_head small (front, wire, whole, size, is) kept =
-    let all : length rest ≡ length front + length wire = ap (λ (bs : List ℕ). length bs) whole ∙ length-append front wire in
-    let came = kept.payload.count in
-    subst (IsEvidence result) (sym (is ∙ wire_payload_is head.key wire))
-    (of_payload head front wire kept.head (omega (arith, came, size)) (omega (arith, all, small)) (subst (HasLast frame.last) whole kept.last))

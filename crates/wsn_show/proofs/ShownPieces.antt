@@ -1,5 +1,5 @@
 -- What is shown of a piece, call by call.
-use Rattle.std.proofs.Common.{◌≡◌, ◌≢◌, ℕ, ◌+◌, ◌-◌, ◌*◌, ◌^◌, ◌<◌, ◌≤◌, ◌⊎◌, None, Some, List, [], ◌∷◌, ◌++◌, length, take, drop, inl, inr, refl, sym, ap, ◌∙◌, subst, append-nil, append_assoc, arith, length-append, length-drop, take-append-drop}
+use Rattle.std.proofs.Common.{◌≡◌, ℕ, ◌+◌, ◌^◌, ◌<◌, ◌≤◌, None, Some, List, [], ◌++◌, length, take, drop, inl, inr, refl, sym, ap, ◌∙◌, subst, append-nil, append_assoc, arith, length-append, length-drop, take-append-drop}
 use Rattle.std.proofs.Math.Seq.{take-add, drop-append-add}
 use Rattle.std.proofs.lemmas.List.{drop_all, length-take-le, drop-append-le}
 use borrow.Rule.Slice.PartMut.{mid_of, post_of, put_mid, put_same}
@@ -8,154 +8,67 @@ use Rattle.wsn_wire.specs.declared.endpoint.Role.{Role}
 use Rattle.wsn_rules.specs.declared.detail.Detail.{Detail}
 use Rattle.wsn_rules.specs.declared.verdict.Refusal.{Refusal}
 use Rattle.wsn_rules.specs.Limits.{Limits}
-use Rattle.wsn_rules.specs.ShownStream.{Item, Shown}
-use Rattle.wsn_rules.proofs.LawfulLists.{lawful_nil}
-use Rattle.wsn_scan.specs.declared.notice.Notice.{Notice}
-use Rattle.wsn_scan.specs.declared.notice.Notice.TheVariants as notices
+use Rattle.wsn_rules.specs.ShownStream.{Shown}
 use Rattle.wsn_scan.specs.declared.scan.Scan.{Scan}
-use Rattle.wsn_scan.specs.ReportedFrames.{BetweenFrames}
-use Rattle.wsn_scan.specs.Scans.{HasScanned, MakesProgress, refusal_in, ends_pending}
-use Rattle.wsn_scan.specs.Reports.{IsRefusal, refusal_in_notice, nothing_reported}
-use Rattle.wsn_scan.proofs.FedPieces.{untold_few}
-use Rattle.wsn_scan.proofs.FramesReported.{all_ended}
+use Rattle.wsn_scan.specs.Positions.{Position, BetweenFrames, InFrame}
+use Rattle.wsn_scan.specs.Scans.{HasScanned, refusal_in}
 use Rattle.wsn_scan.proofs.Unrefused.{unrefused_first}
 use Rattle.wsn_show.specs.declared.entry_context.EntryContext.{EntryContext}
 use Rattle.wsn_show.specs.declared.stream_parts.StreamParts.{StreamParts}
 use Rattle.wsn_show.specs.declared.first_bytes.FirstBytes.{FirstBytes}
 use Rattle.wsn_show.specs.HeldParts.{HasFirst}
-use Rattle.wsn_show.specs.StreamParts.{Keeps}
-use Rattle.wsn_show.specs.FollowedScans.{IsSettled}
+use Rattle.wsn_show.specs.StreamParts.{Keeps, held_at}
 use Rattle.wsn_show.specs.ShownItems.{Prints}
-use Rattle.wsn_show.specs.ShownSoFar.{items_in, HasShownFrames, HasShownRefusal, HasShownAll, ShowsMore, ShowsAll, ShowsFrames}
+use Rattle.wsn_show.specs.ShownSoFar.{items_in, HasShownFrames, HasShownRefusal, HasShown, ShowsMore, ShowsFrames}
 use Rattle.wsn_show.proofs.PrintedItems.{prints_nothing, prints_both}
-use Rattle.wsn_show.proofs.FollowedScans.{rest_few}
-use Rattle.wsn_show.proofs.FramesSoFar.{nothing_so_far}
-
-pub items_in-append : (xs ys : List Shown) → items_in (xs ++ ys) ≡ items_in xs ++ items_in ys
-items_in-append [] ys = refl
-items_in-append (x ∷ xs) ys = ap (λ (is : List Item). x.item ∷ is) (items_in-append xs ys)
+use Rattle.wsn_show.proofs.FollowedScans.{few, rest_few, size_in_frame}
+use Rattle.wsn_show.proofs.FramesSoFar.{items_in-append, nothing_so_far}
 
 -- ---- no bytes
 
-pub nothing_shown : (detail : Detail) (role : Role) (limits : Limits) (scan : Scan) (parts : StreamParts) → HasScanned role limits scan [] [] [] nothing_reported → Keeps parts [] BetweenFrames [] → HasShownAll detail role limits scan parts [] []
+pub nothing_shown : (detail : Detail) (role : Role) (limits : Limits) (scan : Scan) (parts : StreamParts) → HasScanned role limits scan [] [] [] BetweenFrames → Keeps parts [] BetweenFrames [] → HasShown detail role limits scan parts [] []
 nothing_shown detail role limits scan parts scanned keeps =
-    let none = unrefused_first role limits scan [] (record { frames = []; since = []; payload = []; ends = []; has_scanned = scanned }) in
-    let frames : HasShownFrames detail role limits scan parts [] [] = record {
+    let none = unrefused_first role limits scan [] (record { frames = []; since = []; position = BetweenFrames; has_scanned = scanned; heads_are = refl }) in
+    inl (record {
       done = [];
       at = BetweenFrames;
       rest = [];
-      followed = record {
-        frames = [];
-        since = [];
-        reported = nothing_reported;
-        has_scanned = scanned;
-        unrefused = none;
-        ended = record { lawful = lawful_nil role limits; rest = []; whole = refl; ends = refl; heads = refl; payload = tt };
-        whole = refl;
-      };
+      followed = record { has_scanned = scanned; unrefused = none };
       keeps = keeps;
       is = nothing_so_far detail;
-    } in
-    inl (frames, refl)
+    })
 
 -- ---- calls one after another
 
 module _ (role : Role) (limits : Limits) (scan : Scan) (parts : StreamParts) (context : EntryContext) (old new : Outgoing) (came : List ℕ) (shown : List Shown) where
-  pub unrefused_more : (size : ℕ) → ShowsMore role limits scan parts context old new size came shown → refusal_in scan ≡ None → ShowsFrames role limits scan parts context old new came shown
-  unrefused_more size more none =
+  pub unrefused_more : ShowsMore role limits scan parts context old new came shown → refusal_in scan ≡ None → ShowsFrames role limits scan parts context old new came shown
+  unrefused_more more none =
       elim more.has [
         | inl frames ↦ record { extra = more.extra; frames = frames; printed = more.printed }
         | inr refusal ↦ let both : Some refusal.refusal ≡ None = sym refusal.reported ∙ none in absurd cc
       ]
 
-  pub refused_more : (size : ℕ) (refusal : Refusal) → ShowsMore role limits scan parts context old new size came shown → refusal_in scan ≡ Some refusal → ShowsAll role limits scan parts context old new came shown
-  refused_more size refusal more is =
-      elim more.has [
-        | inl frames ↦ let both : Some refusal ≡ None = sym is ∙ frames.followed.unrefused in absurd cc
-        | inr there ↦ record { extra = more.extra; has = inr there; printed = more.printed }
-      ]
-
-  pub ended_more : (size : ℕ) → size ≡ 0 → ShowsMore role limits scan parts context old new size came shown → ShowsAll role limits scan parts context old new came shown
-  ended_more size nothing more = record { extra = more.extra; has = more.all nothing; printed = more.printed }
+  pub frames_more : ShowsFrames role limits scan parts context old new came shown → ShowsMore role limits scan parts context old new came shown
+  frames_more more = record { extra = more.extra; has = inl more.frames; printed = more.printed }
 
   pub same_frames_shown : HasShownFrames context.style.detail role limits scan parts came shown → ShowsFrames role limits scan parts context old old came shown
   same_frames_shown frames = record { extra = []; frames = subst (HasShownFrames context.style.detail role limits scan parts came) (sym (append-nil shown)) frames; printed = prints_nothing context old }
 
--- More was shown, and then all.
-pub more_after : (role : Role) (limits : Limits) (mid new : Scan) (mid_parts new_parts : StreamParts) (context : EntryContext) (before between after : Outgoing) (came : List ℕ) (shown : List Shown)
-    → ShowsFrames role limits mid mid_parts context before between came shown
-    → ((so_far : List Shown) → HasShownFrames context.style.detail role limits mid mid_parts came so_far → ShowsAll role limits new new_parts context between after came so_far)
-    → ShowsAll role limits new new_parts context before after came shown
-more_after role limits mid new mid_parts new_parts context before between after came shown first step =
-    let more = step (shown ++ first.extra) first.frames in
-    record {
-      extra = first.extra ++ more.extra;
-      has = subst (HasShownAll context.style.detail role limits new new_parts came) (append_assoc shown first.extra more.extra) more.has;
-      printed = subst (Prints context before after) (sym (items_in-append first.extra more.extra)) (prints_both context before between after (items_in first.extra) (items_in more.extra) first.printed more.printed);
-    }
-
--- No frame's end has yet to be reported.
-pub all_shown : (role : Role) (limits : Limits) (scan : Scan) (parts : StreamParts) (context : EntryContext) (out : Outgoing) (came : List ℕ) (shown : List Shown) → ends_pending scan ≡ 0
-    → HasShownFrames context.style.detail role limits scan parts came shown → ShowsAll role limits scan parts context out out came shown
-all_shown role limits scan parts context out came shown nothing frames =
-    let h = frames.followed in
-    let settled : IsSettled h = all_ended role limits scan came h.since h.frames h.reported h.has_scanned frames.done frames.at h.ended nothing h.unrefused in
-    record {
-      extra = [];
-      has = subst (HasShownAll context.style.detail role limits scan parts came) (sym (append-nil shown)) (inl (frames, settled));
-      printed = prints_nothing context out;
-    }
-
-pub goes_on : (role : Role) (limits : Limits) (mid new : Scan) (mid_parts new_parts : StreamParts) (context : EntryContext) (before between after : Outgoing) (came piece share : List ℕ) (at n size : ℕ) (shown : List Shown) → share ≡ drop at piece
+pub goes_on : (role : Role) (limits : Limits) (mid new : Scan) (mid_parts new_parts : StreamParts) (context : EntryContext) (before between after : Outgoing) (came piece share : List ℕ) (at n : ℕ) (shown : List Shown) → share ≡ drop at piece
     → ShowsFrames role limits mid mid_parts context before between (came ++ take at piece) shown
-    → ((so_far : List Shown) → HasShownFrames context.style.detail role limits mid mid_parts (came ++ take at piece) so_far → ShowsMore role limits new new_parts context between after size ((came ++ take at piece) ++ take n share) so_far)
-    → ShowsMore role limits new new_parts context before after size (came ++ take (at + n) piece) shown
-goes_on role limits mid new mid_parts new_parts context before between after came piece share at n size shown is first step =
+    → ((so_far : List Shown) → HasShownFrames context.style.detail role limits mid mid_parts (came ++ take at piece) so_far → ShowsMore role limits new new_parts context between after ((came ++ take at piece) ++ take n share) so_far)
+    → ShowsMore role limits new new_parts context before after (came ++ take (at + n) piece) shown
+goes_on role limits mid new mid_parts new_parts context before between after came piece share at n shown is first step =
     let more = step (shown ++ first.extra) first.frames in
     let joined : (came ++ take at piece) ++ take n share ≡ came ++ take (at + n) piece =
     append_assoc came (take at piece) (take n share) ∙ ap (λ (bs : List ℕ). came ++ (take at piece ++ take n bs)) is ∙ ap (λ (bs : List ℕ). came ++ bs) (sym (take-add at n piece)) in
     let all : (shown ++ first.extra) ++ more.extra ≡ shown ++ (first.extra ++ more.extra) = append_assoc shown first.extra more.extra in
-    subst (λ (bs : List ℕ). ShowsMore role limits new new_parts context before after size bs shown) joined
-    (let both : ShowsMore role limits new new_parts context before after size ((came ++ take at piece) ++ take n share) shown = record {
+    subst (λ (bs : List ℕ). ShowsMore role limits new new_parts context before after bs shown) joined
+    (let both : ShowsMore role limits new new_parts context before after ((came ++ take at piece) ++ take n share) shown = record {
       extra = first.extra ++ more.extra;
-      has = subst (λ (ss : List Shown). HasShownFrames context.style.detail role limits new new_parts ((came ++ take at piece) ++ take n share) ss ⊎ HasShownRefusal context.style.detail role limits new new_parts ((came ++ take at piece) ++ take n share) ss) all more.has;
-      all = λ nothing. subst (HasShownAll context.style.detail role limits new new_parts ((came ++ take at piece) ++ take n share)) all (more.all nothing);
+      has = subst (HasShown context.style.detail role limits new new_parts ((came ++ take at piece) ++ take n share)) all more.has;
       printed = subst (Prints context before after) (sym (items_in-append first.extra more.extra)) (prints_both context before between after (items_in first.extra) (items_in more.extra) first.printed more.printed);
     } in both)
-
--- ---- one call
-
--- The call got a part of the piece, which is empty if the piece is.
-pub of_part : (role : Role) (limits : Limits) (scan : Scan) (parts : StreamParts) (context : EntryContext) (old new : Outgoing) (size whole : ℕ) (came bytes other : List ℕ) (shown : List Shown) → bytes ≡ other → (whole ≡ 0 → size ≡ 0)
-    → ShowsMore role limits scan parts context old new size (came ++ bytes) shown → ShowsMore role limits scan parts context old new whole (came ++ other) shown
-of_part role limits scan parts context old new size whole came bytes other shown is nothing more =
-    subst (λ (bs : List ℕ). ShowsMore role limits scan parts context old new whole (came ++ bs) shown) is
-    (let same : ShowsMore role limits scan parts context old new whole (came ++ bytes) shown = record { extra = more.extra; has = more.has; all = λ none. more.all (nothing none); printed = more.printed } in same)
-
-pub progresses : (old new : Scan) (n : ℕ) (notice : Notice) → refusal_in new ≡ refusal_in_notice notice → MakesProgress old new n notice → (0 < n) ⊎ (ends_pending new < ends_pending old) ⊎ (refusal_in new ≢ None)
-progresses old new n notice reported (inl some) = inl some
-progresses old new n notice reported (inr (inl fewer)) = inr (inl fewer)
-progresses old new n notice reported (inr (inr refusal)) = inr (inr (λ none. not_none notice refusal (sym reported ∙ none)))
-  where
-    not_none : (notice : Notice) → IsRefusal notice → refusal_in_notice notice ≡ None → ⊥
-    not_none (notices.Refused refusal) is none = cc
-    not_none notices.More is none = is
-    not_none (notices.Head info) is none = is
-    not_none notices.Payload is none = is
-    not_none (notices.FrameEnd event) is none = is
-    not_none notices.Closed is none = is
-
-pub falls : (old new : Scan) (at n size : ℕ) → at < size → at + n ≤ size → refusal_in new ≡ None → (0 < n) ⊎ (ends_pending new < ends_pending old) ⊎ (refusal_in new ≢ None)
-    → 2 * (size - (at + n)) + ends_pending new < 2 * (size - at) + ends_pending old
-falls old new at n size less fits none progress =
-    let few = untold_few new.stage in
-    elim progress [
-      | inl some ↦ omega arith
-      | inr rest ↦ elim rest [
-        | inl fewer ↦ omega arith
-        | inr refusal ↦ absurd (refusal none)
-      ]
-    ]
 
 -- ---- the piece
 
@@ -174,6 +87,21 @@ kept_in_piece at k n xs ys within fits size same =
     ∙ ap (drop (at + n)) (put_same at k xs)
 
 -- ---- bytes that aren't read
+
+-- What is held isn't much.
+few_held : (detail : Detail) (role : Role) (limits : Limits) (scan : Scan) (parts : StreamParts) (came : List ℕ) (shown : List Shown) (frames : HasShownFrames detail role limits scan parts came shown) → length (held_at frames.at frames.rest) ≤ 2 ^ 40
+few_held detail role limits scan parts came shown frames = by frames.at refl
+  where
+    by : (p : Position) → frames.at ≡ p → length (held_at p frames.rest) ≤ 2 ^ 40
+    by BetweenFrames here =
+        let size = rest_few role limits scan came frames.done frames.at frames.rest frames.followed in
+        let most = few role limits scan came frames.done frames.at frames.rest frames.followed in
+        omega (arith, size, most)
+    by (InFrame info payload) here =
+        let own = size_in_frame role limits scan came frames.done frames.at frames.rest frames.followed info payload here in
+        let size = rest_few role limits scan came frames.done frames.at frames.rest frames.followed in
+        let most = few role limits scan came frames.done frames.at frames.rest frames.followed in
+        omega (arith, own, size, most)
 
 -- What is kept, with other first bytes.
 abbrev pub with_first : StreamParts → FirstBytes → StreamParts
@@ -206,10 +134,10 @@ module _ (detail : Detail) (role : Role) (limits : Limits) (scan : Scan) (parts 
         is = r.is;
       }
 
-  same_shown : more ≡ [] → (frames : HasShownFrames detail role limits scan parts came shown) → IsSettled frames.followed → HasShownAll detail role limits scan (with_first parts first) (came ++ more) shown
-  same_shown none frames settled =
-      let size = rest_few role limits scan came frames.done frames.at frames.rest frames.followed in
+  same_shown : more ≡ [] → HasShownFrames detail role limits scan parts came shown → HasShown detail role limits scan (with_first parts first) (came ++ more) shown
+  same_shown none frames =
       let own = frames.keeps.frame in
+      let held = held_at frames.at frames.rest in
       let there : HasShownFrames detail role limits scan (with_first parts first) came shown = record {
         done = frames.done;
         at = frames.at;
@@ -220,34 +148,34 @@ module _ (detail : Detail) (role : Role) (limits : Limits) (scan : Scan) (parts 
           joined = frames.keeps.joined;
           frame = record {
             offset = own.offset;
+            size = own.size;
             head = own.head;
-            payload = own.payload;
-            first = subst (HasFirst first) (ap (λ (bs : List ℕ). frames.rest ++ bs) none ∙ append-nil frames.rest) (adds frames.rest (omega (arith, size, small)) own.first);
+            first = subst (HasFirst first) (ap (λ (bs : List ℕ). held ++ bs) none ∙ append-nil held) (adds held (omega (arith, few_held detail role limits scan parts came shown frames, ap (λ (bs : List ℕ). length bs) none)) own.first);
             last = own.last;
           };
         };
         is = frames.is;
       } in
-      subst (λ (bs : List ℕ). HasShownAll detail role limits scan (with_first parts first) bs shown) (sym (ap (λ (bs : List ℕ). came ++ bs) none ∙ append-nil came)) (inl (there, settled))
+      subst (λ (bs : List ℕ). HasShown detail role limits scan (with_first parts first) bs shown) (sym (ap (λ (bs : List ℕ). came ++ bs) none ∙ append-nil came)) (inl there)
 
-  pub all_longer : (refusal_in scan ≡ None → more ≡ []) → HasShownAll detail role limits scan parts came shown → HasShownAll detail role limits scan (with_first parts first) (came ++ more) shown
-  all_longer none (inl (frames, settled)) = same_shown (none frames.followed.unrefused) frames settled
+  pub all_longer : (refusal_in scan ≡ None → more ≡ []) → HasShown detail role limits scan parts came shown → HasShown detail role limits scan (with_first parts first) (came ++ more) shown
+  all_longer none (inl frames) = same_shown (none frames.followed.unrefused) frames
   all_longer none (inr refusal) = inr (refused_longer refusal)
 
 -- After a refusal nothing is shown of more bytes.
 pub shows_none : (role : Role) (limits : Limits) (scan : Scan) (parts : StreamParts) (first : FirstBytes) (context : EntryContext) (old : Outgoing) (came more : List ℕ) (shown : List Shown) (refusal : Refusal) → AddsTo parts.frame.first first more
-    → length came + length more < 2 ^ 64 → refusal_in scan ≡ Some refusal → HasShownAll context.style.detail role limits scan parts came shown → ShowsAll role limits scan (with_first parts first) context old old (came ++ more) shown
+    → length came + length more < 2 ^ 64 → refusal_in scan ≡ Some refusal → HasShown context.style.detail role limits scan parts came shown → ShowsMore role limits scan (with_first parts first) context old old (came ++ more) shown
 shows_none role limits scan parts first context old came more shown refusal adds small is has = record {
   extra = [];
-  has = subst (HasShownAll context.style.detail role limits scan (with_first parts first) (came ++ more)) (sym (append-nil shown))
+  has = subst (HasShown context.style.detail role limits scan (with_first parts first) (came ++ more)) (sym (append-nil shown))
       (all_longer context.style.detail role limits scan parts first came more shown adds small (λ none. let both : Some refusal ≡ None = sym is ∙ none in cc) has);
   printed = prints_nothing context old;
 }
 
 -- The bytes that were read, and then those that weren't.
 pub shows_rest : (role : Role) (limits : Limits) (scan : Scan) (parts : StreamParts) (first : FirstBytes) (context : EntryContext) (old new : Outgoing) (came piece left : List ℕ) (read : ℕ) (shown : List Shown) → AddsTo parts.frame.first first left → left ≡ drop read piece
-    → (refusal_in scan ≡ None → read ≡ length piece) → read ≤ length piece → length came + length piece < 2 ^ 64 → ShowsAll role limits scan parts context old new (came ++ take read piece) shown
-    → ShowsAll role limits scan (with_first parts first) context old new (came ++ piece) shown
+    → (refusal_in scan ≡ None → read ≡ length piece) → read ≤ length piece → length came + length piece < 2 ^ 64 → ShowsMore role limits scan parts context old new (came ++ take read piece) shown
+    → ShowsMore role limits scan (with_first parts first) context old new (came ++ piece) shown
 shows_rest role limits scan parts first context old new came piece left read shown adds is all within small s =
     let size : length (came ++ take read piece) ≡ length came + length (take read piece) = length-append came (take read piece) in
     let whole : (came ++ take read piece) ++ left ≡ came ++ piece = append_assoc came (take read piece) left ∙ ap (λ (bs : List ℕ). came ++ (take read piece ++ bs)) is ∙ ap (λ (bs : List ℕ). came ++ bs) (take-append-drop read piece) in
@@ -255,11 +183,11 @@ shows_rest role limits scan parts first context old new came piece left read sho
     let few : length (came ++ take read piece) + length left < 2 ^ 64 = omega (arith, size, length-take-le read piece within, ap (λ (bs : List ℕ). length bs) is, length-drop read piece, small, within) in
     record {
       extra = s.extra;
-      has = subst (λ (bs : List ℕ). HasShownAll context.style.detail role limits scan (with_first parts first) bs (shown ++ s.extra)) whole
+      has = subst (λ (bs : List ℕ). HasShown context.style.detail role limits scan (with_first parts first) bs (shown ++ s.extra)) whole
           (all_longer context.style.detail role limits scan parts first (came ++ take read piece) left (shown ++ s.extra) adds few none s.has);
       printed = s.printed;
     }
 
-pub frames_of : (detail : Detail) (role : Role) (limits : Limits) (scan : Scan) (parts : StreamParts) (came : List ℕ) (shown : List Shown) → refusal_in scan ≡ None → HasShownAll detail role limits scan parts came shown → HasShownFrames detail role limits scan parts came shown
-frames_of detail role limits scan parts came shown none (inl (frames, settled)) = frames
+pub frames_of : (detail : Detail) (role : Role) (limits : Limits) (scan : Scan) (parts : StreamParts) (came : List ℕ) (shown : List Shown) → refusal_in scan ≡ None → HasShown detail role limits scan parts came shown → HasShownFrames detail role limits scan parts came shown
+frames_of detail role limits scan parts came shown none (inl frames) = frames
 frames_of detail role limits scan parts came shown none (inr refusal) = let both : Some refusal.refusal ≡ None = sym refusal.reported ∙ none in absurd cc

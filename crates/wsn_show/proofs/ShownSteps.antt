@@ -1,46 +1,56 @@
 -- What one call of the scan adds to what was shown.
-use Rattle.std.proofs.Common.{◌≡◌, ℕ, ◌+◌, ◌<◌, ◌≤◌, ◌^◌, Bool, true, false, List, [], ◌∷◌, ◌++◌, length, take, drop, inl, inr, refl, sym, ap, ◌∙◌, subst, append-nil, append_assoc, arith, length-append}
-use Rattle.std.proofs.lemmas.List.{take_all, drop_at, length-take, length-take-le}
+use Rattle.std.proofs.Common.{◌≡◌, ℕ, ◌+◌, ◌<◌, ◌^◌, true, false, None, Some, List, [], ◌∷◌, ◌++◌, length, take, drop, inl, inr, refl, sym, ap, ◌∙◌, subst, append-nil, arith, length-append}
+use Rattle.std.specs.Prelude.{IsSome}
+use Rattle.std.proofs.lemmas.List.{take_all, drop_at}
 use Rattle.wsn_io.specs.Transfer.{Outgoing}
 use Rattle.wsn_wire.specs.declared.endpoint.Role.{Role}
 use Rattle.wsn_wire.specs.Frame.{Frame, stream, wire_payload}
 use Rattle.wsn_rules.specs.declared.detail.Detail.{Detail}
-use Rattle.wsn_rules.specs.declared.head_info.HeadInfo.{HeadInfo}
 use Rattle.wsn_rules.specs.declared.verdict.Refusal.{Refusal}
 use Rattle.wsn_rules.specs.Limits.{Limits}
-use Rattle.wsn_rules.specs.Group.{unfinished, payload_of}
-use Rattle.wsn_rules.specs.Accepted.{HasNoClose}
-use Rattle.wsn_rules.specs.Heads.{info_of, BeginsWithHead, IsBegun}
-use Rattle.wsn_rules.specs.Lawful.{IsLawful}
+use Rattle.wsn_rules.specs.Heads.{heads_of, IsBegun, AreHeads}
 use Rattle.wsn_rules.specs.ShownStream.{Shown, shown_after, interrupted, IsShownEvidence}
 use Rattle.wsn_rules.specs.ShownStream.Item.{RefusedFrame}
-use Rattle.wsn_rules.proofs.Groups.{group_of_lawful}
-use Rattle.wsn_scan.specs.declared.notice.Notice.{Notice}
-use Rattle.wsn_scan.specs.declared.notice.Notice.TheVariants as notices
-use Rattle.wsn_scan.specs.declared.scan.Scan.{Scan}
-use Rattle.wsn_scan.specs.NoticeReaders.{begun_at}
-use Rattle.wsn_scan.specs.ReportedFrames.{Position, BetweenFrames, InFrame}
-use Rattle.wsn_scan.proofs.FrameEnds.{unfinished_few}
+use Rattle.wsn_rules.specs.Verdict.{IsRefused}
 use Rattle.wsn_rules.proofs.HeadsGoOn.{begins_longer}
+use Rattle.wsn_rules.proofs.Prefixes.{append_cancel}
+use Rattle.wsn_frame.specs.Payloads.{unmasked_by}
+use Rattle.wsn_frame.proofs.PayloadMore.{unmasked_by-joined}
+use Rattle.wsn_scan.specs.declared.part.Part.{Part}
+use Rattle.wsn_scan.specs.declared.part.Taken.{Taken}
+use Rattle.wsn_scan.specs.declared.part.Taken.TheVariants as taken
+use Rattle.wsn_scan.specs.declared.scan.Scan.{Scan}
+use Rattle.wsn_scan.specs.declared.stage.Stage.{Stage}
+use Rattle.wsn_scan.specs.declared.stage.Stage.TheVariants as stages
+use Rattle.wsn_scan.specs.Parts.{IsPartAt, Finds, Consumes, unmasked_at}
+use Rattle.wsn_scan.specs.Positions.{Position, BetweenFrames, InFrame, begun_at}
+use Rattle.wsn_scan.specs.Scans.{HasScanned, IsAt, IsReachedBy, IsRefusedThere, refusal_in, refusal_at}
+use Rattle.wsn_scan.proofs.Unrefused.{unrefused, place_after}
 use Rattle.wsn_show.specs.declared.entry_context.EntryContext.{EntryContext}
 use Rattle.wsn_show.specs.declared.stream_parts.StreamParts.{StreamParts}
+use Rattle.wsn_show.specs.FollowedScans.{HasFollowed, IsCall}
 use Rattle.wsn_show.specs.HeldParts.{HasFirst}
-use Rattle.wsn_show.specs.StreamParts.{Keeps, IsEvidenceAt}
-use Rattle.wsn_show.specs.FollowedScans.{HasFollowed, IsSettled, IsCall}
-use Rattle.wsn_show.specs.ShownItems.{Prints, items_of_begun, items_of_ended}
-use Rattle.wsn_show.specs.ShownSoFar.{items_in, shown_so_far, HasShownFrames, HasShownRefusal, ShowsMore}
+use Rattle.wsn_show.specs.ShownItems.{Prints}
+use Rattle.wsn_show.specs.ShownSoFar.{HasShownFrames, HasShownRefusal, ShowsMore}
+use Rattle.wsn_show.specs.StreamParts.{Keeps, held_at}
+use Rattle.wsn_show.specs.TakenParts.{IsTaken, ShowsPart}
 use Rattle.wsn_show.proofs.PrintedItems.{prints_nothing}
-use Rattle.wsn_show.proofs.FramesSoFar.{items_after, shown_begun, shown_ended, begun_items, ended_items, unended_items, same_so_far, begun_so_far, ended_so_far, are_so_far}
-use Rattle.wsn_show.proofs.FollowedScans.{few, rest_few, in_frame, head_follows, payload_follows, end_follows, more_follows, closed_follows, was_settled, refused_follows}
+use Rattle.wsn_show.proofs.FollowedScans.{wire_payload_is, lawful_done, in_frame, size_in_frame, size_of_share, reached, same_whole, few_more, same_follows, is_between, reach, part_taken, part_follows}
+use Rattle.wsn_show.proofs.FramesSoFar.{items_after, are_so_far}
 
--- Bytes of a payload aren't many.
-pub few_open : (role : Role) (limits : Limits) (scan : Scan) (came : List ℕ) (done : List Frame) (at : Position) (rest : List ℕ) → HasFollowed role limits scan came done at rest → length (payload_of (unfinished done)) ≤ 16777216
-few_open role limits scan came done at rest h =
-    let size = (group_of_lawful role limits done h.ended.lawful).size in
-    let most = h.has_scanned.has_consumed.in_range.message in
-    omega (arith, size, most)
+-- A scan that reported a refusal refused the bytes there.
+refused_there : (role : Role) (limits : Limits) (stage : Stage) (bytes rest : List ℕ) (fs : List Frame) (at : Position) (refusal : Refusal) → IsAt role limits stage bytes fs rest at → refusal_at stage ≡ Some refusal
+    → IsRefusedThere role limits refusal bytes fs at
+refused_there role limits stages.Between bytes rest fs at refusal there is = absurd cc
+refused_there role limits (stages.Head part) bytes rest fs at refusal there is = absurd cc
+refused_there role limits (stages.Payload inside) bytes rest fs at refusal there is = absurd cc
+refused_there role limits (stages.Closed code) bytes rest fs at refusal there is = absurd cc
+refused_there role limits (stages.Refused own) bytes rest fs at refusal there is =
+    let same : own ≡ refusal = cc in
+    subst (λ (r : Refusal). IsRefusedThere role limits r bytes fs at) same there
 
-module _ (role : Role) (limits : Limits) (old new : Scan) (piece after : List ℕ) (n : ℕ) (came : List ℕ) (shown : List Shown) (parts kept : StreamParts) (context : EntryContext) (frames : HasShownFrames context.style.detail role limits old parts came shown) where
+module _ (role : Role) (limits : Limits) (old new : Scan) (piece after : List ℕ) (n : ℕ) (part : Part) (came : List ℕ) (shown : List Shown) (parts parts_after : StreamParts) (context : EntryContext) (out out_after : Outgoing)
+    (frames : HasShownFrames context.style.detail role limits old parts came shown) where
   abbrev share : List ℕ
   share = take n piece
 
@@ -53,198 +63,171 @@ module _ (role : Role) (limits : Limits) (old new : Scan) (piece after : List �
   abbrev longer : List ℕ
   longer = frames.rest ++ take n piece
 
-  -- After a call without a refusal.
-  shows : (out out_after : Outgoing) (parts_after : StreamParts) (ended : List Frame) (to : Position) (left : List ℕ) (extra : List Shown) (g : HasFollowed role limits new (came ++ share) ended to left) → Keeps parts_after ended to left
-      → shown ++ extra ≡ shown_so_far detail ended to → (length piece ≡ 0 → IsSettled g) → Prints context out out_after (items_in extra) → ShowsMore role limits new parts_after context out out_after (length piece) (came ++ share) shown
-  shows out out_after parts_after ended to left extra g keeps is settled printed =
-      let there : HasShownFrames detail role limits new parts_after (came ++ share) (shown ++ extra) = record { done = ended; at = to; rest = left; followed = g; keeps = keeps; is = is } in
-      record { extra = extra; has = inl there; all = λ nothing. inl (there, settled nothing); printed = printed }
+  -- Neither a part nor a refusal.
+  module _ (found : Taken) (call : IsCall old new piece after n found part) where
+    abbrev all : IsReachedBy role limits new (came ++ take n piece) (Finds found part (drop part.start (take n after)) done frames.at) × Consumes found part (length piece) n
+    all = reached role limits old new piece after n found part came done frames.at frames.rest frames.followed call
 
-  same_is : (to : Position) → begun_at frames.at ≡ begun_at to → shown ++ [] ≡ shown_so_far detail done to
-  same_is to same = append-nil shown ∙ frames.is ∙ same_so_far detail done frames.at to same
-
-  -- the bytes that a call consumes aren't many
-  pub few_more : (notice : Notice) → IsCall old new piece after n notice → length frames.rest + n < 2 ^ 64
-  few_more notice call =
-      let size = rest_few role limits old came done frames.at frames.rest frames.followed in
-      let most = few role limits old came done frames.at frames.rest frames.followed in
-      let room = call.room in
-      let all = frames.followed.has_scanned.has_consumed.room in
-      let input = frames.followed.has_scanned.has_consumed.in_range.input in
-      omega (arith, size, most, room, all, input)
-
-  module _ (out : Outgoing) (in_all : Keeps kept done frames.at longer) where
-    pub head_step : (info : HeadInfo) (out_after : Outgoing) (parts_after : StreamParts) → IsCall old new piece after n (notices.Head info) → (Keeps kept done BetweenFrames longer → Keeps parts_after done (InFrame info []) longer)
-        → Prints context out out_after (items_of_begun detail info) → ShowsMore role limits new parts_after context out out_after (length piece) (came ++ share) shown
-    head_step info out_after parts_after call begins printed =
-        let on = head_follows role limits old new piece after n came done frames.at frames.rest frames.followed info call in
-        let within = call.within in
-        shows out out_after parts_after done (InFrame info []) longer (shown_begun detail info) on.1 (begins (subst (λ (p : Position). Keeps kept done p longer) on.0 in_all))
-        (ap (λ (ss : List Shown). ss ++ shown_begun detail info) (frames.is ∙ ap (shown_so_far detail done) on.0) ∙ begun_so_far detail done info)
-        (λ nothing. absurd (omega (arith, nothing, within, on.2))) (subst (Prints context out out_after) (sym (begun_items detail info)) printed)
-
-    pub payload_step : (payload : List ℕ) (parts_after : StreamParts) → IsCall old new piece after n notices.Payload → payload ≡ take n after
-        → ((info : HeadInfo) (part : List ℕ) → length (payload_of (unfinished done)) + length part + length payload < 2 ^ 64 → Keeps kept done (InFrame info part) longer → Keeps parts_after done (InFrame info (part ++ payload)) longer)
-        → ShowsMore role limits new parts_after context out out (length piece) (came ++ share) shown
-    payload_step payload parts_after call is adds =
-        let on = payload_follows role limits old new piece after n came done frames.at frames.rest frames.followed call in
-        let info = on.0 in
-        let part = on.1 in
-        let within = call.within in
-        let settled = was_settled role limits old new piece after n came done frames.at frames.rest frames.followed notices.Payload call (λ event other. cc) in
-        let begun = in_frame role limits old came done frames.at frames.rest frames.followed settled info part on.2 in
-        let whole : length frames.rest ≡ length begun.begins.head + length begun.begins.following = ap (λ (bs : List ℕ). length bs) begun.begins.whole ∙ length-append begun.begins.head begun.begins.following in
-        let own = begun.size in
-        let most = few_more notices.Payload call in
-        let open_few = few_open role limits old came done frames.at frames.rest frames.followed in
-        let size = rest_few role limits old came done frames.at frames.rest frames.followed in
-        let all = few role limits old came done frames.at frames.rest frames.followed in
-        let room = call.room in
-        let consumed = frames.followed.has_scanned.has_consumed.room in
-        let input = frames.followed.has_scanned.has_consumed.in_range.input in
-        let small : length (payload_of (unfinished done)) + length part + length payload < 2 ^ 64 =
-        omega (arith, whole, own, open_few, size, all, room, consumed, input, ap (λ (bs : List ℕ). length bs) is, length-take n after) in
-        shows out out parts_after done (InFrame info (part ++ take n after)) longer [] on.3
-        (subst (λ (bs : List ℕ). Keeps parts_after done (InFrame info (part ++ bs)) longer) is (adds info part small (subst (λ (p : Position). Keeps kept done p longer) on.2 in_all)))
-        (same_is (InFrame info (part ++ take n after)) (ap begun_at on.2)) (λ nothing. absurd (omega (arith, nothing, within, on.4))) (prints_nothing context out)
-
-    pub more_step : IsCall old new piece after n notices.More → ShowsMore role limits new kept context out out (length piece) (came ++ share) shown
-    more_step call =
-        let on = more_follows role limits old new piece after n came done frames.at frames.rest frames.followed call in
-        shows out out kept done frames.at longer [] on.0 in_all (same_is frames.at refl) on.1 (prints_nothing context out)
-
-    pub closed_step : IsCall old new piece after n notices.Closed → ShowsMore role limits new kept context out out (length piece) (came ++ share) shown
-    closed_step call =
-        let on = closed_follows role limits old new piece after n came done frames.at frames.rest frames.followed call in
-        shows out out kept done frames.at longer [] on.0 in_all (same_is frames.at refl) on.1 (prints_nothing context out)
-
-    -- ---- a frame's end
-
-    -- What the end of a frame says of what is kept.
-    pub record Ends (event : Bool) : Type 0 where
-      pub frame : Frame
-      pub final : frame.fin ≡ event
-      pub lawful : IsLawful role limits (done ++ frame ∷ [])
-      pub size : length (stream (done ++ frame ∷ [])) ≡ length (stream done) + length longer
-      pub small : length (stream (done ++ frame ∷ [])) < 2 ^ 64
-      pub few_frames : length (unfinished done) + 1 < 2 ^ 64
-      pub keeps : Keeps kept done (InFrame (info_of (length (stream done)) frame) frame.payload) longer
-      pub shows_end : (out_after : Outgoing) (parts_after : StreamParts) → Keeps parts_after (done ++ frame ∷ []) BetweenFrames [] → Prints context out out_after (items_in (shown_ended detail done frame))
-          → ShowsMore role limits new parts_after context out out_after (length piece) (came ++ share) shown
-
-    pub end_step : (event : Bool) → IsCall old new piece after n (notices.FrameEnd event) → Ends event
-    end_step event call =
-        let on = end_follows role limits old new piece after n came done frames.at frames.rest frames.followed event call in
-        let f = on.frame in
-        let now : length (stream (done ++ f ∷ [])) + 0 ≡ length (came ++ share) = rest_few role limits new (came ++ share) (done ++ f ∷ []) BetweenFrames [] on.followed in
-        let before = rest_few role limits old came done frames.at frames.rest frames.followed in
-        let all : length (came ++ share) ≡ length came + length share = length-append came share in
-        let own : length longer ≡ length frames.rest + length share = length-append frames.rest share in
-        let most = few role limits new (came ++ share) (done ++ f ∷ []) BetweenFrames [] on.followed in
-        let some = few role limits old came done frames.at frames.rest frames.followed in
+    quiet : (found ≡ taken.Refused → ⊥) → all.0.frames ≡ done → all.0.position ≡ frames.at → 0 < n
+        → ((rest : List ℕ) → length rest + n < 2 ^ 64 → Keeps parts done BetweenFrames rest → Keeps parts_after done BetweenFrames (rest ++ share)) → ShowsMore role limits new parts_after context out out (came ++ share) shown
+    quiet other same there some adds =
+        let g = same_follows role limits old new piece after n found part came done frames.at frames.rest frames.followed call same there other in
+        let between = is_between role limits old new piece after n found part came done frames.at frames.rest frames.followed call same there other some in
+        let small = few_more role limits old new piece after n found part came done frames.at frames.rest frames.followed call in
+        let keeps = adds frames.rest small (subst (λ (p : Position). Keeps parts done p frames.rest) between frames.keeps) in
+        let now : HasShownFrames detail role limits new parts_after (came ++ share) shown = record {
+          done = done;
+          at = frames.at;
+          rest = longer;
+          followed = g;
+          keeps = subst (λ (p : Position). Keeps parts_after done p longer) (sym between) keeps;
+          is = frames.is;
+        } in
         record {
-          frame = f;
-          final = on.final;
-          lawful = on.followed.ended.lawful;
-          size = omega (arith, now, before, all, own);
-          small = omega (arith, now, most);
-          few_frames = omega (arith, unfinished_few done, before, some);
-          keeps = subst (λ (p : Position). Keeps kept done p longer) on.was in_all;
-          shows_end = λ out_after parts_after keeps printed.
-              shows out out_after parts_after (done ++ f ∷ []) BetweenFrames [] (shown_ended detail done f) on.followed keeps
-              (ap (λ (ss : List Shown). ss ++ shown_ended detail done f) (frames.is ∙ ap (shown_so_far detail done) on.was) ∙ ended_so_far detail done f) (λ nothing. on.is_settled) printed;
+          extra = [];
+          has = inl (subst (HasShownFrames detail role limits new parts_after (came ++ share)) (sym (append-nil shown)) now);
+          printed = prints_nothing context out;
         }
 
-    pub final_items : (f : Frame) → f.fin ≡ true → items_in (shown_ended detail done f) ≡ items_of_ended detail done f
-    final_items f final = ended_items detail done f final
+  pub more_step : IsCall old new piece after n taken.More part → 0 < length piece
+      → ((rest : List ℕ) → length rest + n < 2 ^ 64 → Keeps parts done BetweenFrames rest → Keeps parts_after done BetweenFrames (rest ++ share)) → ShowsMore role limits new parts_after context out out (came ++ share) shown
+  more_step call some adds =
+      let r = reached role limits old new piece after n taken.More part came done frames.at frames.rest frames.followed call in
+      let size = r.1 in
+      quiet taken.More call (λ same. cc) r.0.found.0 r.0.found.1 (omega (arith, size, some)) adds
 
-    pub no_items : (f : Frame) → f.fin ≡ false → items_in (shown_ended detail done f) ≡ []
-    no_items f more = unended_items detail done f more
+  pub closed_step : IsCall old new piece after n taken.Closed part → 0 < length piece
+      → ((rest : List ℕ) → length rest + n < 2 ^ 64 → Keeps parts done BetweenFrames rest → Keeps parts_after done BetweenFrames (rest ++ share)) → ShowsMore role limits new parts_after context out out (came ++ share) shown
+  closed_step call some adds =
+      let r = reached role limits old new piece after n taken.Closed part came done frames.at frames.rest frames.followed call in
+      let size = r.1 in
+      quiet taken.Closed call (λ same. cc) r.0.found.0 r.0.found.1 (omega (arith, size, some)) adds
 
-    -- ---- a refusal
+  -- ---- a part
 
-    -- The evidence in the bytes since the last frame.
-    record Evident : Type 0 where
-      evidence : List ℕ
-      is : IsEvidenceAt frames.at n longer evidence
-      is_shown : IsShownEvidence role limits done longer evidence
+  pub part_step : IsCall old new piece after n taken.Part part
+      → ((ended : List Frame) (to : Position) (before since : List ℕ) → IsPartAt frames.at part before → IsTaken role limits done frames.rest before part (drop part.start (take n after)) share ended to since
+      → Keeps parts done frames.at frames.rest → ShowsPart done frames.at ended to since parts_after context out out_after)
+      → ShowsMore role limits new parts_after context out out_after (came ++ share) shown
+  part_step call takes =
+      let r = reach role limits old new piece after n part came done frames.at frames.rest frames.followed call in
+      let s = takes r.frames r.position r.found.before r.since r.found.is_at (part_taken role limits old new piece after n part came done frames.at frames.rest frames.followed call) frames.keeps in
+      let now : HasShownFrames detail role limits new parts_after (came ++ share) (shown ++ s.extra) = record {
+        done = r.frames;
+        at = r.position;
+        rest = r.since;
+        followed = part_follows role limits old new piece after n part came done frames.at frames.rest frames.followed call;
+        keeps = s.keeps;
+        is = ap (λ (ss : List Shown). ss ++ s.extra) frames.is ∙ s.is;
+      } in
+      record { extra = s.extra; has = inl now; printed = s.printed }
 
-    evident_between : frames.at ≡ BetweenFrames → ((info : HeadInfo) → BeginsWithHead role limits done longer info → ⊥) → Evident
-    evident_between is none = record {
-      evidence = longer;
-      is = subst (λ (p : Position). IsEvidenceAt p n longer longer) (sym is) refl;
-      is_shown = inr (λ info begun. absurd (none info begun), refl);
-    }
+  -- ---- a refusal
 
-    evident_in : (info : HeadInfo) (payload : List ℕ) → frames.at ≡ InFrame info payload → done ≡ frames.followed.frames → 0 < n → length share ≡ n → Evident
+  module _ (refusal : Refusal) (is : refusal_in new ≡ Some refusal) (call : IsCall old new piece after n taken.Refused part) where
+    reaches : (scanned : HasScanned role limits new (came ++ share) done longer frames.at) × IsRefusedThere role limits refusal (came ++ share) done frames.at
+    reaches =
+        let r = reached role limits old new piece after n taken.Refused part came done frames.at frames.rest frames.followed call in
+        let whole = same_whole role limits old new piece after n taken.Refused part came done frames.at frames.rest frames.followed call in
+        let since_is : r.0.since ≡ longer = sym (append_cancel (stream done) longer r.0.since (whole ∙ ap (λ (fs : List Frame). stream fs ++ r.0.since) r.0.found.0)) in
+        let there : HasScanned role limits new (came ++ share) done longer frames.at =
+        subst (λ (bs : List ℕ). HasScanned role limits new (came ++ share) done bs frames.at) since_is
+        (subst (λ (p : Position). HasScanned role limits new (came ++ share) done r.0.since p) r.0.found.1
+        (subst (λ (fs : List Frame). HasScanned role limits new (came ++ share) fs r.0.since r.0.position) r.0.found.0 r.0.has_scanned)) in
+        (there, refused_there role limits new.stage (came ++ share) longer done frames.at refusal there.is_at is)
+
+    begun : IsBegun role limits done longer (begun_at frames.at)
+    begun =
+        let heads : AreHeads role limits (came ++ share) done (heads_of done ++ begun_at frames.at) = subst (λ (bs : List ℕ). AreHeads role limits bs done (heads_of done ++ begun_at frames.at)) (append-nil (came ++ share)) (reaches.1.heads []) in
+        let rest_is : heads.rest ≡ longer = append_cancel (stream done) heads.rest longer (sym heads.whole ∙ reaches.0.has_consumed.whole) in
+        let begun_is : heads.begun ≡ begun_at frames.at = append_cancel (heads_of done) heads.begun (begun_at frames.at) (sym heads.all) in
+        subst (λ (bs : List ℕ). IsBegun role limits done bs (begun_at frames.at)) rest_is (subst (IsBegun role limits done heads.rest) begun_is heads.is_begun)
+
+    -- The offending byte is one of this call's.
+    some : 0 < n
+    some =
+        let f = frames.followed in
+        let before = unrefused role limits old came (heads_of done ++ begun_at frames.at) (record { frames = done; since = frames.rest; position = frames.at; has_scanned = f.has_scanned; heads_are = refl }) f.unrefused in
+        let refused = subst (λ (bs : List ℕ). IsRefused role limits bs done refusal.place refusal.reason) (append-nil (came ++ share)) (reaches.1.refused []) in
+        let place = reaches.1.place in
+        let own = size_of_share role limits old new piece after n taken.Refused part came done frames.at frames.rest frames.followed call in
+        omega (arith, place_after role limits came share done refusal.place refusal.reason before refused, place, own, length-append came share)
+
+    abbrev evidence : List ℕ
+    evidence = held_at frames.at frames.rest ++ take n after
+
+    unmasked : take n after ≡ unmasked_at frames.at share
+    unmasked = call.refused refl role limits came frames.rest done frames.at frames.followed.has_scanned
+
+    evident : (p : Position) → frames.at ≡ p → IsBegun role limits done longer (begun_at p) → IsShownEvidence role limits done longer (held_at p frames.rest ++ take n after)
     unfolding begins_longer
-    evident_in info payload is settled some size =
-        let begun = in_frame role limits old came done frames.at frames.rest frames.followed settled info payload is in
-        let b = begins_longer role limits done frames.rest share info begun.begins in
-        let wire = begun.begins.following ++ share in
-        let own = begun.size in
-        let count : length wire ≡ length payload + n = length-append begun.begins.following share ∙ omega (arith, own, size) in
-        record {
-          evidence = wire_payload info.key wire;
-          is = subst (λ (p : Position). IsEvidenceAt p n longer (wire_payload info.key wire)) (sym is) (begun.begins.head, wire, b.whole, count, refl);
-          is_shown = inl (info, b, (λ none. let zero_bytes : length wire ≡ 0 = ap (λ (bs : List ℕ). length bs) none in omega (arith, zero_bytes, count, some)), refl);
-        }
+    evident BetweenFrames here (inl closed) = absurd ((reaches.1.refused []).no_close closed.1.0 [] closed.1.1 closed.1.3 closed.1.2)
+    evident BetweenFrames here (inr (inr begun)) = let both : begun.1.0 ∷ [] ≡ [] = sym begun.1.1 in absurd cc
+    evident BetweenFrames here (inr (inl nothing)) =
+        let same : take n after ≡ share = unmasked ∙ ap (λ (p : Position). unmasked_at p share) here in
+        inr (λ info begun. absurd (nothing.2 info begun), ap (λ (bs : List ℕ). frames.rest ++ bs) same)
+    evident (InFrame info payload) here is_begun =
+        let own = in_frame role limits old came done frames.at frames.rest frames.followed info payload here in
+        let b = begins_longer role limits done frames.rest share info own.begins in
+        let following = own.begins.following in
+        let size = own.size in
+        let bytes = size_of_share role limits old new piece after n taken.Refused part came done frames.at frames.rest frames.followed call in
+        let same : take n after ≡ unmasked_by info.key (length following) share = unmasked ∙ ap (λ (p : Position). unmasked_at p share) here ∙ ap (λ (m : ℕ). unmasked_by info.key m share) (sym size) in
+        let is : payload ++ take n after ≡ wire_payload info.key (following ++ share) =
+        (λ i. (own.payload_is ∙ wire_payload_is info.key following) i ++ same i) ∙ sym (unmasked_by-joined info.key following share) ∙ sym (wire_payload_is info.key (following ++ share)) in
+        inl (info, b, (λ none. let zero_bytes : length (following ++ share) ≡ 0 = ap (λ (bs : List ℕ). length bs) none in omega (arith, zero_bytes, length-append following share, bytes, some)), is)
 
-    -- What a refusal says of what is kept.
-    pub record Refuses (refusal : Refusal) : Type 0 where
-      pub evidence : List ℕ
-      pub is : IsEvidenceAt frames.at n longer evidence
-      pub lawful : IsLawful role limits done
-      pub small : length longer < 2 ^ 64
-      pub shows_refusal : (out_after : Outgoing) (parts_after : StreamParts) → HasFirst parts_after.frame.first [] → Prints context out out_after (interrupted detail done ++ RefusedFrame (length (stream done)) refusal evidence ∷ [])
-          → ShowsMore role limits new parts_after context out out_after (length piece) (came ++ share) shown
+    pub small_evidence : length (held_at frames.at frames.rest) + n < 2 ^ 64
+    small_evidence = by frames.at refl
+      where
+        by : (p : Position) → frames.at ≡ p → length (held_at p frames.rest) + n < 2 ^ 64
+        by BetweenFrames here = few_more role limits old new piece after n taken.Refused part came done frames.at frames.rest frames.followed call
+        by (InFrame info payload) here =
+            let size = size_in_frame role limits old came done frames.at frames.rest frames.followed info payload here in
+            let more = few_more role limits old new piece after n taken.Refused part came done frames.at frames.rest frames.followed call in
+            omega (arith, size, more)
 
-    pub refused_step : (refusal : Refusal) → IsCall old new piece after n (notices.Refused refusal) → Refuses refusal
-    refused_step refusal call =
-        let r = refused_follows role limits old new piece after n came done frames.at frames.rest frames.followed refusal call in
-        let size : length share ≡ n = length-take-le n piece call.within in
-        let e = found frames.at refl r.begun r.settled r.some size ((r.refused []).no_close) in
-        let most = few_more (notices.Refused refusal) call in
-        let items = interrupted detail done ++ RefusedFrame (length (stream done)) refusal e.evidence ∷ [] in
+    pub refused_step : HasFirst parts_after.frame.first [] → Prints context out out_after (interrupted detail done ++ RefusedFrame (length (stream done)) refusal evidence ∷ [])
+        → ShowsMore role limits new parts_after context out out_after (came ++ share) shown
+    refused_step first printed =
+        let there = reaches.1 in
+        let items = interrupted detail done ++ RefusedFrame (length (stream done)) refusal evidence ∷ [] in
         let extra = shown_after (refusal.place + 1) items in
-        let whole : came ++ share ≡ stream done ++ longer = ap (λ (bs : List ℕ). bs ++ share) frames.followed.whole ∙ append_assoc (stream done) frames.rest share in
-        let at_end = r.place in
+        let whole = reaches.0.has_consumed.whole in
+        let at_end = there.place in
         let seen : drop (length (stream done)) (take (refusal.place + 1) (came ++ share)) ≡ longer =
         ap (λ (bs : List ℕ). drop (length (stream done)) bs) (take_all (refusal.place + 1) (came ++ share) (omega (arith, at_end)) ∙ whole) ∙ drop_at (stream done) longer (length (stream done)) refl in
+        let now : HasShownRefusal detail role limits new parts_after (came ++ share) (shown ++ extra) = record {
+          done = done;
+          refusal = refusal;
+          read = came ++ share;
+          unread = [];
+          heads = heads_of done ++ begun_at frames.at;
+          whole = sym (append-nil (came ++ share));
+          scanned = record { frames = done; since = longer; position = frames.at; has_scanned = reaches.0; heads_are = refl };
+          reported = is;
+          refused = there.refused;
+          place = there.place;
+          first = first;
+          of_frames = shown;
+          are_of_frames = are_so_far detail role limits (came ++ share) longer done frames.at shown (lawful_done role limits old came done frames.at frames.rest frames.followed) whole begun frames.is;
+          of_refusal = extra;
+          is_of_refusal = record { evidence = evidence; is_evidence = subst (λ (bs : List ℕ). IsShownEvidence role limits done bs evidence) (sym seen) (evident frames.at refl begun); is = refl };
+          is = refl;
+        } in
         record {
-          evidence = e.evidence;
-          is = e.is;
-          lawful = frames.followed.ended.lawful;
-          small = omega (arith, most, length-append frames.rest share, size);
-          shows_refusal = λ out_after parts_after first printed.
-              let there : HasShownRefusal detail role limits new parts_after (came ++ share) (shown ++ extra) = record {
-                done = done;
-                refusal = refusal;
-                read = came ++ share;
-                unread = [];
-                heads = r.heads;
-                whole = sym (append-nil (came ++ share));
-                scanned = r.scanned;
-                reported = r.is;
-                refused = r.refused;
-                place = r.place;
-                first = first;
-                of_frames = shown;
-                are_of_frames = are_so_far detail role limits (came ++ share) longer done frames.at shown frames.followed.ended.lawful whole r.begun frames.is;
-                of_refusal = extra;
-                is_of_refusal = record { evidence = e.evidence; is_evidence = subst (λ (bs : List ℕ). IsShownEvidence role limits done bs e.evidence) (sym seen) e.is_shown; is = refl };
-                is = refl;
-              } in
-              record {
-                extra = extra;
-                has = inr there;
-                all = λ nothing. inr there;
-                printed = subst (Prints context out out_after) (sym (items_after (refusal.place + 1) items)) printed;
-              };
+          extra = extra;
+          has = inr now;
+          printed = subst (Prints context out out_after) (sym (items_after (refusal.place + 1) items)) printed;
         }
-      where
-        found : (p : Position) → frames.at ≡ p → IsBegun role limits done longer (begun_at frames.at) → done ≡ frames.followed.frames → 0 < n → length share ≡ n → HasNoClose done → Evident
-        found BetweenFrames is (inl closed) settled some size none = absurd (none closed.1.0 [] closed.1.1 closed.1.3 closed.1.2)
-        found BetweenFrames is (inr (inl nothing)) settled some size none = evident_between is nothing.2
-        found BetweenFrames is (inr (inr begun)) settled some size none = let both : begun.1.0 ∷ [] ≡ [] = sym begun.1.1 ∙ ap begun_at is in absurd cc
-        found (InFrame info payload) is begun settled some size none = evident_in info payload is settled some size
+
+-- A call with bytes consumes some, unless it refuses.
+pub consumes_some : (role : Role) (limits : Limits) (old new : Scan) (piece after : List ℕ) (n : ℕ) (found : Taken) (part : Part) (came : List ℕ) (done : List Frame) (at : Position) (rest : List ℕ)
+    → HasFollowed role limits old came done at rest → IsCall old new piece after n found part → 0 < length piece → refusal_in new ≡ None → 0 < n
+consumes_some role limits old new piece after n found part came done at rest h call some none = by found call.reported.1 (reached role limits old new piece after n found part came done at rest h call).1
+  where
+    by : (f : Taken) → (f ≡ taken.Refused → IsSome (refusal_in new)) → Consumes f part (length piece) n → 0 < n
+    by taken.More refused is = omega (arith, is, some)
+    by taken.Part refused is = is.0 some
+    by taken.Closed refused is = omega (arith, is, some)
+    by taken.Refused refused is = let both : false ≡ true = subst IsSome none (refused refl) in cc

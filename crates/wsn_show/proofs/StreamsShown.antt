@@ -23,7 +23,7 @@ use Rattle.wsn_rules.specs.Limits.{Limits}
 use Rattle.wsn_rules.specs.Accepted.{HasNoClose, EndsWithClose, Ends}
 use Rattle.wsn_rules.specs.Evidence.Evidence.{ByFirst, BySecond}
 use Rattle.wsn_rules.specs.Group.{unfinished, first_op}
-use Rattle.wsn_rules.specs.Heads.{BeginsWithHead}
+use Rattle.wsn_rules.specs.Heads.{heads_of, BeginsWithHead}
 use Rattle.wsn_rules.specs.Lawful.{IsLawful}
 use Rattle.wsn_rules.specs.ShownStream.{Shown, AreShownFrames, frame_so_far, items_of_bytes, items_of_head, items_of_part, IsLeftOfRest, IsShownEvidence, IsShownVerdict, IsShownStream, IsLeftOf, IsLeftOver}
 use Rattle.wsn_rules.specs.ShownStream.Item.{Unread, Tail}
@@ -35,18 +35,16 @@ use Rattle.wsn_rules.proofs.Prefixes.{append_cancel}
 use Rattle.wsn_rules.proofs.ShownStreams.{frames_stay}
 use Rattle.wsn_rules.proofs.StaysRefused.{stays_refused}
 use Rattle.wsn_scan.specs.declared.scan.Scan.{Scan}
-use Rattle.wsn_scan.specs.ReportedFrames.{Position, BetweenFrames, InFrame}
-use Rattle.wsn_scan.specs.Reports.{Reported, refusal_judged}
-use Rattle.wsn_scan.specs.Scans.{HasScanned, refusal_in}
+use Rattle.wsn_scan.specs.Positions.{Position, BetweenFrames, InFrame, begun_at}
+use Rattle.wsn_scan.specs.Scans.{HasScanned, refusal_in, refusal_judged}
 use Rattle.wsn_scan.proofs.FrameEnds.{close_of-push, unfinished_few}
-use Rattle.wsn_scan.proofs.FramesReported.{frames_of_bytes}
 use Rattle.wsn_rules.proofs.HeadsGoOn.{begins_two}
-use Rattle.wsn_scan.proofs.Unrefused.{unrefused}
+use Rattle.wsn_scan.proofs.Unrefused.{unrefused, not_refused}
 use Rattle.wsn_show.specs.declared.stream_parts.StreamParts.{StreamParts}
 use Rattle.wsn_show.specs.HeldParts.{HasFirst}
-use Rattle.wsn_show.specs.StreamParts.{HasKind, IsSoundPart, items_left}
-use Rattle.wsn_show.specs.FollowedScans.{HasFollowed, IsSettled}
-use Rattle.wsn_show.specs.ShownSoFar.{HasShownFrames, HasShownRefusal, HasShownAll}
+use Rattle.wsn_show.specs.StreamParts.{HasKind, IsSoundPart, held_at, items_left}
+use Rattle.wsn_show.specs.FollowedScans.{HasFollowed}
+use Rattle.wsn_show.specs.ShownSoFar.{HasShownFrames, HasShownRefusal, HasShown}
 use Rattle.wsn_show.proofs.FollowedScans.{few, rest_few, is_begun, in_frame, between}
 use Rattle.wsn_show.proofs.FramesSoFar.{are_so_far}
 use Rattle.wsn_show.proofs.HeldItems.{none_is}
@@ -121,25 +119,22 @@ begun_kind role limits fs rest info payload lawful b other = by (unfinished fs) 
 module _ (detail : Detail) (role : Role) (limits : Limits) (scan : Scan) (parts : StreamParts) (came : List ℕ) (shown : List Shown) where
   -- ---- all that is shown
 
-  module _ (frames : HasShownFrames detail role limits scan parts came shown) (settled : IsSettled frames.followed) where
+  module _ (frames : HasShownFrames detail role limits scan parts came shown) where
     abbrev done : List Frame
     done = frames.done
 
-    not_refused : (fs : List Frame) (refusal : Refusal) → IsVerdict role limits came fs (Refused refusal) → ⊥
-    not_refused fs refusal is =
+    no_refusal : (fs : List Frame) (refusal : Refusal) → IsVerdict role limits came fs (Refused refusal) → ⊥
+    no_refusal fs refusal is =
         let h = frames.followed in
-        unrefused role limits scan came h.reported.heads (record { frames = h.frames; since = h.since; payload = h.reported.payload; ends = h.reported.ends; has_scanned = h.has_scanned }) h.unrefused fs refusal.place refusal.reason is
+        unrefused role limits scan came (heads_of done ++ begun_at frames.at) (record { frames = done; since = frames.rest; position = frames.at; has_scanned = h.has_scanned; heads_are = refl }) h.unrefused fs refusal.place refusal.reason is
 
     verdict_of : (verdict : Verdict) × IsVerdict role limits came done verdict
-    verdict_of =
-        let h = frames.followed in
-        let found = frames_of_bytes role limits scan came h.since h.frames h.reported h.has_scanned in
-        (found.0, subst (λ (fs : List Frame). IsVerdict role limits came fs found.0) (sym settled) found.1)
+    verdict_of = let h = frames.followed in not_refused role limits scan came frames.rest done frames.at h.has_scanned h.unrefused
 
     nothing_of : (verdict : Verdict) → IsVerdict role limits came done verdict → IsShownVerdict detail role limits came done verdict []
     nothing_of (Accepted summary) is = refl
     nothing_of (Cut summary) is = refl
-    nothing_of (Refused refusal) is = absurd (not_refused done refusal is)
+    nothing_of (Refused refusal) is = absurd (no_refusal done refusal is)
 
     frames_shown : IsShownStream detail role limits came shown
     frames_shown = record {
@@ -147,7 +142,7 @@ module _ (detail : Detail) (role : Role) (limits : Limits) (scan : Scan) (parts 
       verdict = verdict_of.0;
       is_verdict = verdict_of.1;
       of_frames = shown;
-      are_of_frames = let h = frames.followed in are_so_far detail role limits came frames.rest done frames.at shown h.ended.lawful h.whole (is_begun role limits scan came done frames.at frames.rest h settled) frames.is;
+      are_of_frames = let h = frames.followed in are_so_far detail role limits came frames.rest done frames.at shown h.has_scanned.has_consumed.lawful h.has_scanned.has_consumed.whole (is_begun role limits scan came done frames.at frames.rest h) frames.is;
       of_verdict = [];
       is_of_verdict = nothing_of verdict_of.0 verdict_of.1;
       all = sym (append-nil shown);
@@ -177,23 +172,23 @@ module _ (detail : Detail) (role : Role) (limits : Limits) (scan : Scan) (parts 
         all = r.is;
       }
 
-  pub all_shown : HasShownAll detail role limits scan parts came shown → IsShownStream detail role limits came shown
-  all_shown (inl (frames, settled)) = frames_shown frames settled
+  pub all_shown : HasShown detail role limits scan parts came shown → IsShownStream detail role limits came shown
+  all_shown (inl frames) = frames_shown frames
   all_shown (inr refusal) = refusal_shown refusal
 
   -- ---- the verdict
 
   Judges : Verdict → Type 0
-  Judges verdict = (bytes rest : List ℕ) (fs : List Frame) (reported : Reported) → HasScanned role limits scan bytes fs rest reported → IsVerdict role limits bytes fs verdict
+  Judges verdict = (bytes rest : List ℕ) (fs : List Frame) (at : Position) → HasScanned role limits scan bytes fs rest at → IsVerdict role limits bytes fs verdict
 
   verdict_on : (read unread : List ℕ) (fs : List Frame) (verdict : Verdict) (refusal : Refusal) → refusal_judged verdict ≡ Some refusal → IsVerdict role limits read fs verdict → IsVerdict role limits (read ++ unread) fs verdict
   verdict_on read unread fs (Accepted summary) refusal is judged = absurd cc
   verdict_on read unread fs (Cut summary) refusal is judged = absurd cc
   verdict_on read unread fs (Refused own) refusal is judged = stays_refused role limits fs read unread own.place own.reason judged
 
-  pub judged : (verdict : Verdict) → ((bytes rest : List ℕ) (fs : List Frame) (reported : Reported) → HasScanned role limits scan bytes fs rest reported → IsVerdict role limits bytes fs verdict) → refusal_judged verdict ≡ refusal_in scan
-      → HasShownAll detail role limits scan parts came shown → (fs : List Frame) × IsVerdict role limits came fs verdict
-  judged verdict judges reported (inl (frames, settled)) = let h = frames.followed in (h.frames, judges came h.since h.frames h.reported h.has_scanned)
+  pub judged : (verdict : Verdict) → ((bytes rest : List ℕ) (fs : List Frame) (at : Position) → HasScanned role limits scan bytes fs rest at → IsVerdict role limits bytes fs verdict) → refusal_judged verdict ≡ refusal_in scan
+      → HasShown detail role limits scan parts came shown → (fs : List Frame) × IsVerdict role limits came fs verdict
+  judged verdict judges reported (inl frames) = let h = frames.followed in (frames.done, judges came frames.rest frames.done frames.at h.has_scanned)
   judged verdict judges reported (inr r) =
       let s = r.scanned in (
         s.frames,
@@ -209,8 +204,8 @@ module _ (detail : Detail) (role : Role) (limits : Limits) (scan : Scan) (parts 
     pub small : place + 1 < 2 ^ 64
     pub left_over : IsLeftOver role limits came (items_of_bytes Unread (place + 1) unread)
 
-  pub leaves_unread : (refusal : Refusal) → refusal_in scan ≡ Some refusal → HasShownAll detail role limits scan parts came shown → LeavesUnread refusal.place
-  leaves_unread refusal is (inl (frames, settled)) = let both : Some refusal ≡ None = sym is ∙ frames.followed.unrefused in absurd cc
+  pub leaves_unread : (refusal : Refusal) → refusal_in scan ≡ Some refusal → HasShown detail role limits scan parts came shown → LeavesUnread refusal.place
+  leaves_unread refusal is (inl frames) = let both : Some refusal ≡ None = sym is ∙ frames.followed.unrefused in absurd cc
   leaves_unread refusal is (inr r) =
       let same : r.refusal ≡ refusal = let both : Some r.refusal ≡ Some refusal = sym r.reported ∙ is in cc in
       let at_end = r.place in
@@ -230,7 +225,7 @@ module _ (detail : Detail) (role : Role) (limits : Limits) (scan : Scan) (parts 
 
   -- ---- the tail, or what isn't complete
 
-  module _ (frames : HasShownFrames detail role limits scan parts came shown) (settled : IsSettled frames.followed) where
+  module _ (frames : HasShownFrames detail role limits scan parts came shown) where
     abbrev fs : List Frame
     fs = frames.done
 
@@ -250,34 +245,31 @@ module _ (detail : Detail) (role : Role) (limits : Limits) (scan : Scan) (parts 
     is_sound : (p : Position) → frames.at ≡ p → IsSoundPart fs p
     is_sound BetweenFrames is = tt
     is_sound (InFrame info payload) is =
-        let begun = in_frame role limits scan came fs frames.at frames.rest h settled info payload is in
+        let begun = in_frame role limits scan came fs frames.at frames.rest h info payload is in
         let within = begun.within in (
           begun.begins.place,
           λ control. let short = begun_control role limits fs frames.rest info begun.begins control in omega (arith, short, within),
-          λ other. begun_kind role limits fs frames.rest info payload h.ended.lawful begun.begins other,
+          λ other. begun_kind role limits fs frames.rest info payload h.has_scanned.has_consumed.lawful begun.begins other,
           begun.text,
         )
 
-    with_verdict : (verdict : Verdict) → IsVerdict role limits came h.frames verdict → IsVerdict role limits came fs verdict
-    with_verdict verdict is = subst (λ (gs : List Frame). IsVerdict role limits came gs verdict) (sym settled) is
-
     rest_of : drop (length (stream fs)) came ≡ frames.rest
-    rest_of = ap (λ (bs : List ℕ). drop (length (stream fs)) bs) h.whole ∙ drop_at (stream fs) frames.rest (length (stream fs)) refl
+    rest_of = ap (λ (bs : List ℕ). drop (length (stream fs)) bs) h.has_scanned.has_consumed.whole ∙ drop_at (stream fs) frames.rest (length (stream fs)) refl
 
     -- a Close that isn't the last frame's
     closed : EndsWithClose fs → (code : Option ℕ) × (close_of fs ≡ Some code)
     closed (before, close, is, whole) =
-        let on = came_on role limits before close (subst (IsLawful role limits) whole h.ended.lawful) in
+        let on = came_on role limits before close (subst (IsLawful role limits) whole h.has_scanned.has_consumed.lawful) in
         (close_code close.payload, ap close_of whole ∙ close_of-push before close on.1 is)
 
     part_left : (p : Position) → frames.at ≡ p → HasNoClose fs → (summary : Summary) → IsLeftOf role limits came fs (Cut summary) (items_left fs frames.at frames.rest)
     part_left (InFrame info payload) is none summary =
-        let begun = in_frame role limits scan came fs frames.at frames.rest h settled info payload is in
+        let begun = in_frame role limits scan came fs frames.at frames.rest h info payload is in
         subst (λ (bs : List ℕ). IsLeftOfRest role limits fs bs (items_left fs frames.at frames.rest)) (sym rest_of)
         (inl (info, begun.begins, ap (λ (p : Position). items_left fs p frames.rest) is ∙ ap (λ (bs : List ℕ). items_of_part fs info bs) begun.payload_is))
     part_left BetweenFrames is none summary =
         subst (λ (bs : List ℕ). IsLeftOfRest role limits fs bs (items_left fs frames.at frames.rest)) (sym rest_of)
-        (inr (no_head (between role limits scan came fs frames.at frames.rest h settled is), ap (λ (p : Position). items_left fs p frames.rest) is))
+        (inr (no_head (between role limits scan came fs frames.at frames.rest h is), ap (λ (p : Position). items_left fs p frames.rest) is))
       where
         no_head : EndsWithClose fs ⊎ (HasNoClose fs × ((info : HeadInfo) → BeginsWithHead role limits fs frames.rest info → ⊥)) → (info : HeadInfo) → BeginsWithHead role limits fs frames.rest info → ⊥
         no_head (inl close) info b = none close.0 [] close.1 close.3 close.2
@@ -287,47 +279,57 @@ module _ (detail : Detail) (role : Role) (limits : Limits) (scan : Scan) (parts 
     nothing_left BetweenFrames is open_none none =
         ap (λ (p : Position). items_left fs p frames.rest) is ∙ ap (λ (bs : List ℕ). items_of_head fs bs) none ∙ none_is fs (Some 0) (ap (λ (gs : List Frame). length gs) open_none)
     nothing_left (InFrame info payload) is open_none none =
-        let begun = in_frame role limits scan came fs frames.at frames.rest h settled info payload is in
+        let begun = in_frame role limits scan came fs frames.at frames.rest h info payload is in
         let two = begins_two role limits fs frames.rest info begun.begins in
         absurd (omega (arith, two, ap (λ (bs : List ℕ). length bs) none))
 
-    pub leaves_cut : (summary : Summary) → IsVerdict role limits came h.frames (Cut summary) → LeavesFrames
+    pub leaves_cut : (summary : Summary) → IsVerdict role limits came fs (Cut summary) → LeavesFrames
     leaves_cut summary judged =
-        let is = with_verdict (Cut summary) judged in
         record {
-          lawful = h.ended.lawful;
+          lawful = h.has_scanned.has_consumed.lawful;
           few_frames = few_open;
           sound = is_sound frames.at refl;
-          left_over = record { frames = fs; verdict = Cut summary; is_verdict = is; is = part_left frames.at refl is.0.no_close summary };
+          left_over = record { frames = fs; verdict = Cut summary; is_verdict = judged; is = part_left frames.at refl judged.0.no_close summary };
         }
 
-    pub leaves_accepted : (summary : Summary) → summary.close ≡ None → IsVerdict role limits came h.frames (Accepted summary) → LeavesFrames
+    pub leaves_accepted : (summary : Summary) → summary.close ≡ None → IsVerdict role limits came fs (Accepted summary) → LeavesFrames
     leaves_accepted summary open_close judged =
-        let is = with_verdict (Accepted summary) judged in
         record {
-          lawful = h.ended.lawful;
+          lawful = h.has_scanned.has_consumed.lawful;
           few_frames = few_open;
           sound = is_sound frames.at refl;
-          left_over = record { frames = fs; verdict = Accepted summary; is_verdict = is; is = by is.0.ends (ap (λ (s : Summary). s.close) is.1) };
+          left_over = record { frames = fs; verdict = Accepted summary; is_verdict = judged; is = by judged.0.ends (ap (λ (s : Summary). s.close) judged.1) };
         }
       where
         by : Ends fs came → summary.close ≡ close_of fs → IsLeftOf role limits came fs (Accepted summary) (items_left fs frames.at frames.rest)
         by (inl ended) close_is =
-            let none : frames.rest ≡ [] = append_cancel (stream fs) frames.rest [] (sym h.whole ∙ ended.2 ∙ sym (append-nil (stream fs))) in
+            let none : frames.rest ≡ [] = append_cancel (stream fs) frames.rest [] (sym h.has_scanned.has_consumed.whole ∙ ended.2 ∙ sym (append-nil (stream fs))) in
             nothing_left frames.at refl ended.1 none ∙ sym (ap (λ (bs : List ℕ). items_of_bytes Tail (length (stream fs)) bs) (rest_of ∙ none))
         by (inr ended) close_is = let code = closed ended.0 in let both : Some code.0 ≡ None = sym code.1 ∙ sym close_is ∙ open_close in cc
 
-    pub leaves_tail : (summary : Summary) (code : Option ℕ) → summary.close ≡ Some code → IsVerdict role limits came h.frames (Accepted summary)
+    not_within : (info : HeadInfo) (payload : List ℕ) → frames.at ≡ InFrame info payload → Ends fs came → ⊥
+    not_within info payload is (inl ended) =
+        let begun = in_frame role limits scan came fs frames.at frames.rest h info payload is in
+        let two = begins_two role limits fs frames.rest info begun.begins in
+        let none : frames.rest ≡ [] = append_cancel (stream fs) frames.rest [] (sym h.has_scanned.has_consumed.whole ∙ ended.2 ∙ sym (append-nil (stream fs))) in
+        omega (arith, two, ap (λ (bs : List ℕ). length bs) none)
+    not_within info payload is (inr ended) =
+        let begun = in_frame role limits scan came fs frames.at frames.rest h info payload is in
+        begun.no_close ended.0.0 [] ended.0.1 ended.0.3 ended.0.2
+
+    -- The tail is held.
+    pub tail_held : (summary : Summary) → IsVerdict role limits came fs (Accepted summary) → HasFirst parts.frame.first frames.rest
+    tail_held summary judged = subst (HasFirst parts.frame.first) (by frames.at refl) frames.keeps.frame.first
+      where
+        by : (p : Position) → frames.at ≡ p → held_at p frames.rest ≡ frames.rest
+        by BetweenFrames is = refl
+        by (InFrame info payload) is = absurd (not_within info payload is judged.0.ends)
+
+    pub leaves_tail : (summary : Summary) (code : Option ℕ) → summary.close ≡ Some code → IsVerdict role limits came fs (Accepted summary)
         → IsLeftOver role limits came (items_of_bytes Tail (length (stream fs)) frames.rest)
     leaves_tail summary code close_is judged = record {
       frames = fs;
       verdict = Accepted summary;
-      is_verdict = with_verdict (Accepted summary) judged;
+      is_verdict = judged;
       is = ap (λ (bs : List ℕ). items_of_bytes Tail (length (stream fs)) bs) (sym rest_of);
     }
-
--- The bytes aren't refused, so the frames are all that is shown.
-pub unrefused_all : (detail : Detail) (role : Role) (limits : Limits) (scan : Scan) (parts : StreamParts) (came : List ℕ) (shown : List Shown) → refusal_in scan ≡ None → HasShownAll detail role limits scan parts came shown
-    → (frames : HasShownFrames detail role limits scan parts came shown) × IsSettled frames.followed
-unrefused_all detail role limits scan parts came shown none (inl frames) = frames
-unrefused_all detail role limits scan parts came shown none (inr refusal) = let both : Some refusal.refusal ≡ None = sym refusal.reported ∙ none in absurd cc

@@ -15,15 +15,15 @@ use Rattle.wsn_show.specs.Styles.{styled_items}
 use Rattle.wsn_show.specs.declared.entry_context.EntryContext.{EntryContext}
 use Rattle.wsn_show.specs.declared.stream_parts.StreamParts.{StreamParts}
 use Rattle.wsn_show.specs.ShownItems.{position_in, Prints}
-use Rattle.wsn_show.specs.ShownSoFar.{items_in, HasShownAll, IsShowing, ShowsAll}
+use Rattle.wsn_show.specs.ShownSoFar.{items_in, HasShown, IsShowing, ShowsMore}
 use Rattle.wsn_show.specs.StreamViews.{Viewed, HasViewed}
 use Rattle.wsn_show.proofs.ShownPieces.{frames_of}
 use Rattle.wsn_show.proofs.StreamsShown.{all_shown}
 
 module _ (role : Role) (limits : Limits) (style : Style) (viewed : Viewed) (came : List ℕ) (has : HasViewed role limits style viewed came) where
   -- The same in the view's own style.
-  pub own_shown : HasShownAll viewed.style.detail role limits viewed.scan viewed.parts came has.shown
-  own_shown = subst (λ (s : Style). HasShownAll s.detail role limits viewed.scan viewed.parts came has.shown) (sym has.in_style) has.has
+  pub own_shown : HasShown viewed.style.detail role limits viewed.scan viewed.parts came has.shown
+  own_shown = subst (λ (s : Style). HasShown s.detail role limits viewed.scan viewed.parts came has.shown) (sym has.in_style) has.has
 
   pub own_showing : refusal_in viewed.scan ≡ None → IsShowing viewed.style.detail viewed.scan viewed.parts
   own_showing none = record {
@@ -54,9 +54,9 @@ module _ (role : Role) (limits : Limits) (style : Style) (viewed : Viewed) (came
     pub small : length came + length bytes < 2 ^ 64
     small = let room = has.room in let input = has.in_range.input in omega (arith, room, input, fits)
 
-    module _ (scan : Scan) (parts : StreamParts) (context : EntryContext) (own_style : context.style ≡ viewed.style) (old new : Outgoing) (s : ShowsAll role limits scan parts context old new (came ++ bytes) has.shown) where
-      in_style : HasShownAll style.detail role limits scan parts (came ++ bytes) (has.shown ++ s.extra)
-      in_style = subst (λ (t : Style). HasShownAll t.detail role limits scan parts (came ++ bytes) (has.shown ++ s.extra)) (own_style ∙ has.in_style) s.has
+    module _ (scan : Scan) (parts : StreamParts) (context : EntryContext) (own_style : context.style ≡ viewed.style) (old new : Outgoing) (s : ShowsMore role limits scan parts context old new (came ++ bytes) has.shown) where
+      in_style : HasShown style.detail role limits scan parts (came ++ bytes) (has.shown ++ s.extra)
+      in_style = subst (λ (t : Style). HasShown t.detail role limits scan parts (came ++ bytes) (has.shown ++ s.extra)) (own_style ∙ has.in_style) s.has
 
       pub viewed_more : HasViewed role limits style (record viewed { room = viewed.room - length bytes; scan = scan; parts = parts }) (came ++ bytes)
       viewed_more = record {

@@ -12,7 +12,10 @@ use Rattle.wsn_rules.specs.declared.report.Report.{Report}
 use Rattle.wsn_rules.specs.Reports.{IsReportOf}
 use Rattle.wsn_rules.specs.ShownCapture.{LineItem, ShownLine, GivesTime, GivesNoTime, of_stream, IsTimeAfter, IsShownOfEntry, IsLeftAtEnd}
 use Rattle.wsn_show.specs.declared.style.Style.{Style}
-use Rattle.wsn_show.specs.Styles.{styled_items, styled_line_item, styled_line}
+use Rattle.wsn_show.specs.declared.ended_by.EndedBy.{EndedBy}
+use Rattle.wsn_show.specs.EndedBy.{IsEndedBy}
+use Rattle.wsn_show.specs.EndNotes.{HasNotedEnd}
+use Rattle.wsn_show.specs.Styles.{styled_items, styled_line_item, styled_line, styled_ended_by}
 use Rattle.wsn_capture.specs.declared.line_fault.LineFault.{LineFault}
 use Rattle.wsn_capture.specs.LineFaults.{HasFault}
 use Rattle.wsn_capture.specs.CaptureLines.{HasAccepted, HasNotedCloses, count_of}
@@ -35,6 +38,7 @@ pub record HasShownLines (limits : Limits) (style : Style) (view : CaptureView) 
   pub noted : HasNotedCloses limits view.lines entries
   pub viewed : AreViewed limits style view entries
   pub time : IsTimeAfter lines view.time
+  pub ends : HasNotedEnd view.ends lines entries
 
 -- The view has shown some lines, or none.
 pub record IsShowingLines (view : CaptureView) : Type 0 where
@@ -117,7 +121,15 @@ pub record LeavesAtEnd (role : Role) (limits : Limits) (style : Style) (entries 
   pub printed : (before : Outgoing) (text : List ℕ) → IsWrittenUpToFailure before old text →
       IsWrittenUpToFailure before new (text ++ styled_items style role AtEnd left)
 
--- What is left over of both streams was printed, and this is the report.
+-- Who ended the connection was printed after what was printed before.
+pub record SaysWhoEnded (style : Style) (lines : List (List ℕ)) (entries : List Entry) (report : Report)
+    (old new : Outgoing) : Type 0 where
+  pub ended_by : Option EndedBy
+  pub is_ended_by : IsEndedBy lines entries report ended_by
+  pub printed : (before : Outgoing) (text : List ℕ) → IsWrittenUpToFailure before old text →
+      IsWrittenUpToFailure before new (text ++ styled_ended_by style ended_by)
+
+-- What is left over of both streams and who ended the connection was printed, and this is the report.
 pub record Finishes (limits : Limits) (style : Style) (lines : List (List ℕ)) (entries : List Entry)
     (before after : Outgoing) (report : Report) : Type 0 where
   pub client_left : List Item
@@ -125,6 +137,8 @@ pub record Finishes (limits : Limits) (style : Style) (lines : List (List ℕ)) 
   pub of_client : IsLeftAtEnd Client limits entries client_left
   pub of_server : IsLeftAtEnd Server limits entries server_left
   pub is_report : IsReportOf limits entries report
+  pub ended_by : Option EndedBy
+  pub is_ended_by : IsEndedBy lines entries report ended_by
   pub printed :
       IsWrittenUpToFailure before after (flat_map (styled_line_item style AtEnd)
-      (of_stream Client client_left ++ of_stream Server server_left))
+      (of_stream Client client_left ++ of_stream Server server_left) ++ styled_ended_by style ended_by)

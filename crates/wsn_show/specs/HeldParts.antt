@@ -2,7 +2,6 @@
 use Rattle.std.specs.Prelude.{◌≡◌, ℕ, ◌-◌, List, length, take, drop}
 use Rattle.wsn_show.specs.declared.first_bytes.FirstBytes.{FirstBytes}
 use Rattle.wsn_show.specs.declared.last_bytes.LastBytes.{LastBytes}
-use Rattle.wsn_show.specs.declared.evidence.Evidence.{Evidence}
 
 -- These bytes came. Their number is counted, and the first 4,096 are held.
 pub record HasFirst (first : FirstBytes) (came : List ℕ) : Type 0 where
@@ -13,8 +12,3 @@ pub record HasFirst (first : FirstBytes) (came : List ℕ) : Type 0 where
 pub record HasLast (last : LastBytes) (came : List ℕ) : Type 0 where
   pub count : last.count ≡ length came
   pub held : last.held.items ≡ drop (length came - 2048) came
-
--- This is the number of bytes of the evidence, and at most the last 2,048 of them.
-pub record IsEvidence (evidence : Evidence) (all : List ℕ) : Type 0 where
-  pub bytes : evidence.bytes ≡ length all
-  pub held : evidence.held.items ≡ drop (length all - 2048) all

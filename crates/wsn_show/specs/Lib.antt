@@ -5,10 +5,12 @@ pub mod HeldParts
 pub mod StreamParts
 pub mod FollowedScans
 pub mod ShownItems
-pub mod WholeFrames
 pub mod ShownSoFar
+pub mod TakenParts
 pub mod StreamViews
 pub mod Times
+pub mod EndedBy
+pub mod EndNotes
 pub mod CaptureViews
 pub mod Showing
 pub mod PassedLines

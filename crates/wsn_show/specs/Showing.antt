@@ -1,5 +1,5 @@
 -- What is printed of a capture's text.
-use Rattle.std.specs.Prelude.{◌≡◌, ℕ, ◌+◌, ◌*◌, ◌⊎◌, true, false, Result, Ok, Err, List, [], ◌++◌, flat_map, length}
+use Rattle.std.specs.Prelude.{◌≡◌, ℕ, ◌+◌, ◌*◌, ◌⊎◌, true, false, Option, Result, Ok, Err, List, [], ◌++◌, flat_map, length}
 use Rattle.std.specs.List.{AllByRecursion}
 use Rattle.std.specs.Io.KnownBytes.{IsAtEnd}
 use Rattle.wsn_io.specs.Transfer.{Incoming, Outgoing, IsReceived, IsWritten, IsPartlyWritten}
@@ -9,6 +9,8 @@ use Rattle.wsn_rules.specs.Entries.{Entry}
 use Rattle.wsn_rules.specs.TextLines.{IsLine, ended, AreLines}
 use Rattle.wsn_rules.specs.ShownCapture.{LineItem, ShownLine, AreShownAfter, IsShownCapture}
 use Rattle.wsn_show.specs.declared.style.Style.{Style}
+use Rattle.wsn_show.specs.declared.ended_by.EndedBy.{EndedBy}
+use Rattle.wsn_show.specs.EndedBy.{IsEndedBy}
 use Rattle.wsn_show.specs.Styles.{styled_line, styled_capture}
 use Rattle.wsn_capture.specs.declared.capture_stop.CaptureStop.TheVariants as capture
 use Rattle.wsn_capture.specs.LineFaults.{AreAcceptedLines}
@@ -31,7 +33,8 @@ abbrev pub BeginWithLines : List ℕ → List (List ℕ) → Type 0
 BeginWithLines came lines =
     ((rest : List ℕ) × AllByRecursion IsLine lines × (came ≡ ended lines ++ rest)) ⊎ AreLines came lines
 
--- All lines of the text are accepted, and this is what is printed of the capture, with its report.
+-- All lines of the text are accepted, and this is what is printed of the capture, with who ended the connection and the
+-- report.
 pub record IsWholeText (limits : Limits) (style : Style) (came : List ℕ) (report : Report) (text : List ℕ)
     : Type 0 where
   pub lines : List (List ℕ)
@@ -41,7 +44,9 @@ pub record IsWholeText (limits : Limits) (style : Style) (came : List ℕ) (repo
   pub shown : List ShownLine
   pub last : List LineItem
   pub is_shown : IsShownCapture style.detail limits lines shown last report
-  pub is : text ≡ styled_capture style shown last report
+  pub ended_by : Option EndedBy
+  pub is_ended_by : IsEndedBy lines entries report ended_by
+  pub is : text ≡ styled_capture style shown last ended_by report
 
 -- ---- the answer
 

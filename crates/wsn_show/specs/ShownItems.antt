@@ -1,5 +1,5 @@
 -- Items as they are held to be printed, and what it means that items were printed.
-use Rattle.std.specs.Prelude.{◌≡◌, ℕ, ◌/◌, List, [], ◌∷◌, ◌++◌}
+use Rattle.std.specs.Prelude.{◌≡◌, ℕ, ◌/◌, List, [], ◌∷◌, ◌++◌, if◌then◌else◌}
 use Rattle.wsn_io.specs.Transfer.{Outgoing, IsWrittenUpToFailure}
 use Rattle.wsn_wire.specs.Frame.{Frame}
 use Rattle.wsn_rules.specs.declared.detail.Detail.{Detail}
@@ -47,3 +47,7 @@ items_of_begun Frames info = Head info ∷ []
 abbrev pub items_of_ended : Detail → List Frame → Frame → List Item
 items_of_ended Events fs f = items_of_final fs f
 items_of_ended Frames fs f = []
+
+-- What is printed where a frame ends, after the frames before it.
+abbrev pub items_of_end : Detail → List Frame → Frame → List Item
+items_of_end detail fs f = if f.fin then items_of_ended detail fs f else []

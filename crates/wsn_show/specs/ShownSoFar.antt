@@ -13,14 +13,13 @@ use Rattle.wsn_rules.specs.Verdict.{IsRefused}
 use Rattle.wsn_rules.specs.ShownStream.{Item, Shown, shown_of, shown_head, AreShownFrames, IsShownRefusal, IsLeftOver}
 use Rattle.wsn_scan.specs.declared.scan.Scan.{Scan}
 use Rattle.wsn_scan.specs.Feeding.{HasScannedBytes}
-use Rattle.wsn_scan.specs.NoticeReaders.{begun_at}
-use Rattle.wsn_scan.specs.ReportedFrames.{Position}
+use Rattle.wsn_scan.specs.Positions.{Position, begun_at}
 use Rattle.wsn_scan.specs.Scans.{refusal_in}
 use Rattle.wsn_show.specs.declared.entry_context.EntryContext.{EntryContext}
 use Rattle.wsn_show.specs.declared.stream_parts.StreamParts.{StreamParts}
 use Rattle.wsn_show.specs.HeldParts.{HasFirst}
 use Rattle.wsn_show.specs.StreamParts.{Keeps}
-use Rattle.wsn_show.specs.FollowedScans.{HasFollowed, IsSettled}
+use Rattle.wsn_show.specs.FollowedScans.{HasFollowed}
 use Rattle.wsn_show.specs.ShownItems.{Prints}
 
 -- The items, without the number of bytes with which they are shown.
@@ -33,7 +32,7 @@ abbrev pub shown_so_far : Detail → List Frame → Position → List Shown
 shown_so_far Events done at = shown_of [] done
 shown_so_far Frames done at = map shown_head (heads_of done ++ begun_at at)
 
--- The bytes that came aren't refused, and this was shown of what was reported of their frames.
+-- The bytes that came aren't refused, and this was shown of what was taken of their frames.
 pub record HasShownFrames (detail : Detail) (role : Role) (limits : Limits) (scan : Scan) (parts : StreamParts)
     (came : List ℕ) (shown : List Shown) : Type 0 where
   pub done : List Frame
@@ -69,26 +68,11 @@ abbrev pub HasShown : Detail → Role → Limits → Scan → StreamParts → Li
 HasShown detail role limits scan parts came shown =
     HasShownFrames detail role limits scan parts came shown ⊎ HasShownRefusal detail role limits scan parts came shown
 
--- The same, and each whole frame was reported to its end.
-abbrev pub HasShownAll : Detail → Role → Limits → Scan → StreamParts → List ℕ → List Shown → Type 0
-HasShownAll detail role limits scan parts came shown =
-    ((frames : HasShownFrames detail role limits scan parts came shown) × IsSettled frames.followed)
-    ⊎ HasShownRefusal detail role limits scan parts came shown
-
--- More bytes came, and more items were shown and printed. They are all if the call of the scan got no bytes: it reports
--- a frame's end by a call of its own.
+-- More bytes came, and more items were shown and printed.
 pub record ShowsMore (role : Role) (limits : Limits) (scan : Scan) (parts : StreamParts) (context : EntryContext)
-    (old new : Outgoing) (size : ℕ) (came : List ℕ) (shown : List Shown) : Type 0 where
-  pub extra : List Shown
-  pub has : HasShown context.style.detail role limits scan parts came (shown ++ extra)
-  pub all : size ≡ 0 → HasShownAll context.style.detail role limits scan parts came (shown ++ extra)
-  pub printed : Prints context old new (items_in extra)
-
--- All that is shown of the bytes with more of them was shown, and printed.
-pub record ShowsAll (role : Role) (limits : Limits) (scan : Scan) (parts : StreamParts) (context : EntryContext)
     (old new : Outgoing) (came : List ℕ) (shown : List Shown) : Type 0 where
   pub extra : List Shown
-  pub has : HasShownAll context.style.detail role limits scan parts came (shown ++ extra)
+  pub has : HasShown context.style.detail role limits scan parts came (shown ++ extra)
   pub printed : Prints context old new (items_in extra)
 
 -- The scan has consumed some bytes, or none, and hasn't refused them.

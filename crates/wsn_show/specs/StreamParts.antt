@@ -1,13 +1,13 @@
 -- What is kept of a stream: the open message, and the frame that has begun.
-use Rattle.std.specs.Prelude.{◌≡◌, ◌≢◌, ℕ, ◌+◌, ◌≤◌, ◌⊎◌, ⊤, true, false, Option, None, Some, List, [], ◌∷◌, ◌++◌, length, if◌then◌else◌}
+use Rattle.std.specs.Prelude.{◌≡◌, ◌≢◌, ℕ, ◌≤◌, ◌⊎◌, ⊤, true, false, Option, None, Some, List, [], ◌∷◌, ◌++◌, length, if◌then◌else◌}
 use Rattle.wsn_wire.specs.declared.opcode.Op.{Op}
 use Rattle.wsn_wire.specs.declared.opcode.Op.TheVariants.{Text, Binary}
-use Rattle.wsn_wire.specs.Frame.{Frame, is_control, wire_payload, stream}
+use Rattle.wsn_wire.specs.Frame.{Frame, is_control, stream}
 use Rattle.wsn_text.specs.Utf8.{BeginsText}
 use Rattle.wsn_rules.specs.declared.head_info.HeadInfo.{HeadInfo}
 use Rattle.wsn_rules.specs.Group.{unfinished, first_op, payload_of}
 use Rattle.wsn_rules.specs.ShownStream.{Item, open_offset, frame_so_far, items_of_head, items_of_part}
-use Rattle.wsn_scan.specs.ReportedFrames.{Position, BetweenFrames, InFrame}
+use Rattle.wsn_scan.specs.Positions.{Position, BetweenFrames, InFrame}
 use Rattle.wsn_show.specs.declared.message_so_far.MessageSoFar.{MessageSoFar}
 use Rattle.wsn_show.specs.declared.frame_so_far.FrameSoFar.{FrameSoFar}
 use Rattle.wsn_show.specs.declared.stream_parts.StreamParts.{StreamParts}
@@ -36,18 +36,18 @@ abbrev pub head_at : Position → Option HeadInfo
 head_at BetweenFrames = None
 head_at (InFrame head payload) = Some head
 
--- Its payload so far.
-abbrev pub payload_at : Position → List ℕ
-payload_at BetweenFrames = []
-payload_at (InFrame head payload) = payload
+-- What is held of it: its payload so far, unmasked, if its head is complete; otherwise its bytes so far as they came.
+abbrev pub held_at : Position → List ℕ → List ℕ
+held_at BetweenFrames rest = rest
+held_at (InFrame head payload) rest = payload
 
 -- After the frames fs, this is kept of the next frame, whose bytes so far are `rest`.
 pub record KeepsFrame (frame : FrameSoFar) (fs : List Frame) (at : Position) (rest : List ℕ) : Type 0 where
   pub offset : frame.offset ≡ length (stream fs)
+  pub size : frame.size ≡ length rest
   pub head : frame.head ≡ head_at at
-  pub payload : HasFirst frame.payload (payload_at at)
-  pub first : HasFirst frame.first rest
-  pub last : HasLast frame.last rest
+  pub first : HasFirst frame.first (held_at at rest)
+  pub last : HasLast frame.last (held_at at rest)
 
 -- ---- both
 
@@ -73,13 +73,6 @@ pub record Keeps (parts : StreamParts) (fs : List Frame) (at : Position) (rest :
 -- The opcode begins a message.
 abbrev pub HasKind : Op → Type 0
 HasKind op = (op ≡ Text) ⊎ (op ≡ Binary)
-
--- The evidence in the frame whose bytes so far are `rest`, which end with the offending byte: its payload, unmasked, of
--- which the last `count` bytes were not reported; or the head as it came.
-abbrev pub IsEvidenceAt : Position → ℕ → List ℕ → List ℕ → Type 0
-IsEvidenceAt BetweenFrames count rest evidence = evidence ≡ rest
-IsEvidenceAt (InFrame head payload) count rest evidence = (front : List ℕ) × (wire : List ℕ) × (rest ≡ front ++ wire)
-    × (length wire ≡ length payload + count) × (evidence ≡ wire_payload head.key wire)
 
 -- What is left over where the stream ends at this position.
 abbrev pub items_left : List Frame → Position → List ℕ → List Item

@@ -6,7 +6,7 @@ use Rattle.wsn_rules.specs.ShownStream.{Shown}
 use Rattle.wsn_scan.specs.declared.scan.Scan.{Scan}
 use Rattle.wsn_show.specs.declared.style.Style.{Style}
 use Rattle.wsn_show.specs.declared.stream_parts.StreamParts.{StreamParts}
-use Rattle.wsn_show.specs.ShownSoFar.{HasShownAll}
+use Rattle.wsn_show.specs.ShownSoFar.{HasShown}
 
 -- What a contract sees of a view: the endpoint, the style, the input limit, how many bytes may still come, and what was
 -- read and is kept.
@@ -26,7 +26,7 @@ pub record HasViewed (role : Role) (limits : Limits) (style : Style) (viewed : V
   pub input : viewed.input ≡ limits.input
   pub room : viewed.room + length came ≡ limits.input
   pub shown : List Shown
-  pub has : HasShownAll style.detail role limits viewed.scan viewed.parts came shown
+  pub has : HasShown style.detail role limits viewed.scan viewed.parts came shown
 
 -- Some bytes came, or none.
 pub record IsViewing (viewed : Viewed) : Type 0 where

@@ -1,13 +1,16 @@
 -- What is printed of items in a style.
-use Rattle.std.specs.Prelude.{ℕ, List, flat_map}
+use Rattle.std.specs.Prelude.{ℕ, Option, List, ◌++◌, flat_map}
 use Rattle.wsn_wire.specs.declared.endpoint.Role.{Role}
 use Rattle.wsn_rules.specs.declared.report.Report.{Report}
 use Rattle.wsn_rules.specs.declared.verdict.Verdict.{Verdict}
 use Rattle.wsn_rules.specs.ShownStream.{Item}
 use Rattle.wsn_rules.specs.ShownCapture.{LineItem, ShownLine}
 use Rattle.wsn_print.specs.ShownObjects.{Position}
-use Rattle.wsn_print.specs.Formats.{item_entry, line_item_entry, line_entries, capture_text, report_text, verdict_text}
+use Rattle.wsn_print.specs.ShownObjects.Position.{AtEnd}
+use Rattle.wsn_print.specs.Formats.{item_entry, line_item_entry, line_entries, report_text, verdict_text}
 use Rattle.wsn_show.specs.declared.style.Style.{Style}
+use Rattle.wsn_show.specs.declared.ended_by.EndedBy.{EndedBy}
+use Rattle.wsn_show.specs.EndedBy.{ended_by_text}
 
 -- An item of an endpoint's stream.
 abbrev pub styled_item : Style → Role → Position → Item → List ℕ
@@ -33,6 +36,12 @@ styled_report style = report_text style.format
 abbrev pub styled_verdict : Style → Verdict → List ℕ
 styled_verdict style = verdict_text style.format
 
--- What is printed of a capture.
-abbrev pub styled_capture : Style → List ShownLine → List LineItem → Report → List ℕ
-styled_capture style = capture_text style.format style.view
+-- Who ended the connection.
+abbrev pub styled_ended_by : Style → Option EndedBy → List ℕ
+styled_ended_by style = ended_by_text style.format
+
+-- What is printed of a capture: of each line, of what is left over at its end, who ended the connection, and the report.
+abbrev pub styled_capture : Style → List ShownLine → List LineItem → Option EndedBy → Report → List ℕ
+styled_capture style lines last ended_by report =
+    flat_map (styled_line style) lines ++ flat_map (styled_line_item style AtEnd) last ++ styled_ended_by style ended_by
+    ++ styled_report style report

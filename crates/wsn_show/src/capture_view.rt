@@ -9,12 +9,14 @@ ghost use Rattle.wsn_print.specs.ShownParts.{position_of};
 ghost use Rattle.wsn_capture.specs.CaptureLines.{count_of};
 ghost use Rattle.wsn_show.specs.CaptureViews.{ShowsMark};
 
+use crate::end_notes::EndNotes;
+use crate::ended_by::text_of;
 use crate::stream_view::StreamView;
 use crate::style::Style;
 use crate::times::{CurrentTime, LINE_MAX};
 use std::io::Write;
 use wsn_capture::{BYTES_MAX, CaptureLines, LineEntry, LineFault, Report, strip_cr};
-use wsn_io::Output;
+use wsn_io::{Output, put_line};
 use wsn_print::{EntryFront, Origin, put_comment_as, put_end_as};
 use wsn_rules::Limits;
 use wsn_wire::Role;
@@ -26,6 +28,7 @@ pub struct CaptureView {
     client: StreamView,
     server: StreamView,
     time: CurrentTime,
+    ends: EndNotes,
 }
 
 impl CaptureView {
@@ -33,10 +36,11 @@ impl CaptureView {
     ghost use Rattle.wsn_rules.specs.Limits.{Limits};
     ghost use Rattle.wsn_rules.specs.Entries.{Entry, GivesEntry, IsHex, bytes_prefix, end_mark};
     ghost use Rattle.wsn_rules.specs.Entries.Entry.{Nothing, Bytes};
+    ghost use Rattle.wsn_rules.specs.Reports.{IsReportOf};
     ghost use Rattle.wsn_capture.specs.CaptureLines.{HasAccepted, HasNotedCloses, count_of};
     ghost use Rattle.wsn_capture.specs.LineFaults.{IsFaultAfter};
     ghost use Rattle.wsn_show.specs.declared.style.Style.{Style};
-    ghost use Rattle.wsn_show.specs.CaptureViews.{HasShownLines, IsShowingLines, AreViewed, CanShow, Shows, ShowsLine, LeavesAtEnd, Finishes};
+    ghost use Rattle.wsn_show.specs.CaptureViews.{HasShownLines, IsShowingLines, AreViewed, CanShow, Shows, ShowsLine, LeavesAtEnd, SaysWhoEnded, Finishes};
 
     /// A view that has shown no line. The limits apply to each endpoint's stream separately.
     pub fn new(limits: Limits, style: Style) -> CaptureView
@@ -48,6 +52,7 @@ impl CaptureView {
             client: StreamView::new(Role::Client, limits, of_client),
             server: StreamView::new(Role::Server, limits, style),
             time: CurrentTime::new(),
+            ends: EndNotes::new(),
         }
     }
 
@@ -75,7 +80,9 @@ impl CaptureView {
             × (count_of self.new.lines ≤ 1000000)) }
     {
         let text = strip_cr(line);
-        match self.lines.accept(line, bytes)? {
+        let entry = self.lines.accept(line, bytes)?;
+        self.ends.note(text, entry);
+        match entry {
             LineEntry::Nothing => self.show_nothing(text, output),
             LineEntry::Bytes(role, count) => self.show_bytes(role, &mut bytes[..count], output),
             LineEntry::Mark(role) => self.show_mark(role, output),
@@ -98,7 +105,8 @@ impl CaptureView {
         self.lines.count()
     }
 
-    /// Prints what is left over of both streams at the end of the capture, the client's first, and returns the report.
+    /// Prints what is left over of both streams at the end of the capture, the client's first, and who ended the
+    /// connection if a stream ended without a Close. Returns the report.
     pub fn finish<W: Write>(&self, output: &mut Output<W>) -> Report
         requires { output.old.failed ≡ false }
         ensures { (limits : Limits) (style : Style) (lines : List (List ℕ)) (entries : List Entry) →
@@ -107,8 +115,23 @@ impl CaptureView {
     {
         self.put_left_at_end(Role::Client, output);
         self.put_left_at_end(Role::Server, output);
-        self.lines
-            .report(&self.client.verdict(), &self.server.verdict())
+        let report = self
+            .lines
+            .report(&self.client.verdict(), &self.server.verdict());
+        self.put_who_ended(&report, output);
+        report
+    }
+
+    /// Prints who ended the connection, if a stream ended without a Close.
+    fn put_who_ended<W: Write>(&self, report: &Report, output: &mut Output<W>)
+        ensures { (limits : Limits) (style : Style) (lines : List (List ℕ)) (entries : List Entry) →
+            HasShownLines limits style self.now lines entries → IsReportOf limits entries report.now →
+            SaysWhoEnded style lines entries report.now output.old output.new }
+    {
+        let text = text_of(self.style().format, self.ends.ended_by(report));
+        if !output.failed() {
+            let _stop = put_line(output, text);
+        }
     }
 
     /// Prints what is left over of an endpoint's stream at the end of the capture: nothing after its end mark.
@@ -133,6 +156,7 @@ impl CaptureView {
         requires short { length text.now ≤ LINE_MAX }
         ensures shows { Shows self.old self.new text.now output.old output.new }
         ensures lines { self.new.lines ≡ self.old.lines }
+        ensures ends { self.new.ends ≡ self.old.ends }
     {
         if text.is_empty() {
             return;
@@ -159,6 +183,7 @@ impl CaptureView {
             HasNotedCloses limits self.old.lines given → AreViewed limits style self.old given →
             HasNotedCloses limits self.new.lines (given ++ Bytes role bytes.old ∷ []) }
         ensures count { count_of self.new.lines ≡ count_of self.old.lines }
+        ensures ends { self.new.ends ≡ self.old.ends }
     {
         let origin = origin_of(&self.lines, &self.time);
         match role {
@@ -178,6 +203,7 @@ impl CaptureView {
         requires writable { output.old.failed ≡ false }
         ensures shows { Shows self.old self.new (end_mark role) output.old output.new }
         ensures lines { self.new.lines ≡ self.old.lines }
+        ensures ends { self.new.ends ≡ self.old.ends }
     {
         let origin = origin_of(&self.lines, &self.time);
         match role {

@@ -1,8 +1,7 @@
 ghost use Rattle.std.specs.Prelude.{◌≡◌};
 
 use crate::kept_bytes::KeptBytes;
-use arrayvec::ArrayVec;
-use wsn_frame::unmask;
+use wsn_print::HeldBytes;
 
 /// The most bytes that a [`LastBytes`] holds.
 pub(crate) const LAST_MAX: usize = 2_048;
@@ -16,7 +15,6 @@ pub struct LastBytes {
 
 impl LastBytes {
     ghost use Rattle.std.specs.Prelude.{ℕ, ◌+◌, ◌-◌, ◌<◌, ◌≤◌, ◌^◌, List, [], ◌++◌, length, drop};
-    ghost use Rattle.wsn_frame.specs.Payloads.{unmasked_by};
     ghost use Rattle.wsn_show.specs.HeldParts.{HasLast};
 
     /// No bytes.
@@ -59,24 +57,14 @@ impl LastBytes {
         self.held.drop_front(over);
     }
 
-    /// Of the last `size` bytes that came, which begin a payload with this key, the last ones, unmasked (RFC 6455
-    /// section 5.3).
-    pub fn unmasked(&self, size: u64, key: Option<[u8; 4]>) -> ArrayVec<u8, LAST_MAX>
-        ensures { (front wire : List ℕ) → length wire ≡ size → HasLast self.now (front ++ wire) →
-            result.items ≡ drop (length wire - 2048) (unmasked_by key 0 wire) }
+    /// As they are printed.
+    pub fn end(&self) -> HeldBytes<'_>
+        ensures bytes { result.bytes ≡ self.now.count }
+        ensures held { result.held.now ≡ self.now.held.items }
     {
-        let held = self.held.as_slice();
-        let count = size.min(held.len() as u64);
-        let mut bytes = ArrayVec::new();
-        let _fits = bytes.try_extend_from_slice(&held[held.len() - count as usize..]);
-        unmask(key, size - count, &mut bytes);
-        bytes
-    }
-
-    /// The number of bytes that came.
-    pub fn count(&self) -> u64
-        ensures { result ≡ self.now.count }
-    {
-        self.count
+        HeldBytes {
+            bytes: self.count,
+            held: self.held.as_slice(),
+        }
     }
 }

@@ -11,20 +11,22 @@
 //! is shown of a capture, and `wsn_print/specs/ShownText.antt` how it is printed. Here, `specs/Showing.antt` defines
 //! what was printed at each answer, `specs/CaptureViews.antt` and `specs/StreamViews.antt` how a view's state is related
 //! to the lines or bytes that came, and `specs/StreamParts.antt` what is kept of the open message and of the frame that
-//! has begun.
+//! has begun. `specs/EndedBy.antt` defines who ended a connection, and its line; [`laws`] says that a capture has one
+//! text.
 #![tactic(auto)]
 
 mod capture_view;
+mod end_notes;
+mod ended_by;
 mod entry_context;
-mod evidence;
 mod first_bytes;
 mod following;
 mod frame_so_far;
 mod kept_bytes;
 mod last_bytes;
+pub mod laws;
 mod message_so_far;
 mod printing;
-mod scan_calls;
 mod showing;
 mod shown_item;
 mod shown_scan;
@@ -33,7 +35,6 @@ mod stream_showing;
 mod stream_view;
 mod style;
 mod times;
-mod whole_frames;
 
 pub use capture_view::CaptureView;
 pub use showing::{ShowStop, show};

@@ -21,11 +21,10 @@ impl StreamParts {
     ghost use Rattle.wsn_rules.specs.ShownStream.{open_items, items_of_final, interrupted, items_of_bytes};
     ghost use Rattle.wsn_rules.specs.ShownStream.Item.{RefusedFrame};
     ghost use Rattle.wsn_print.specs.ShownParts.{item_of_remainder};
-    ghost use Rattle.wsn_scan.specs.ReportedFrames.{Position, BetweenFrames, InFrame};
-    ghost use Rattle.wsn_show.specs.HeldParts.{HasFirst};
-    ghost use Rattle.wsn_show.specs.StreamParts.{KeepsMessage, HasJoined, Keeps, IsEvidenceAt, IsSoundPart, items_left};
-    ghost use Rattle.wsn_show.specs.ShownItems.{Prints, items_of_ended};
-    ghost use Rattle.wsn_show.specs.WholeFrames.{items_of_end};
+    ghost use Rattle.wsn_scan.specs.Positions.{Position, BetweenFrames, InFrame};
+    ghost use Rattle.wsn_show.specs.HeldParts.{HasFirst, HasLast};
+    ghost use Rattle.wsn_show.specs.StreamParts.{KeepsMessage, HasJoined, Keeps, IsSoundPart, items_left};
+    ghost use Rattle.wsn_show.specs.ShownItems.{Prints, items_of_ended, items_of_end};
 
     /// Prints the open message, if there is one, as unfinished. Its last frame lacks this number of bytes, `None` if
     /// only a part of the next head has come.
@@ -88,31 +87,28 @@ impl StreamParts {
         put_item(output, context, self.message.offset, &item);
     }
 
-    /// Prints the message if the frame that was added to it last ends it and events are shown.
+    /// Prints what the frame ends, if it is final and events are shown.
     #[tactic(none)]
-    pub fn put_joined<W: Write>(
+    pub fn put_end<W: Write>(
         &self,
         final_frame: bool,
         output: &mut Output<W>,
         context: &EntryContext<'_>,
     )
-        ensures { (role : Role) (limits : Limits) (fs : List Frame) (f : Frame) → IsLawful role limits (fs ++ f ∷ []) →
-            is_control f.op ≡ false → f.fin ≡ final_frame → length (unfinished fs) + 1 < 2 ^ 64 →
-            KeepsMessage self.now.message fs f.payload → HasJoined self.now.message fs f →
+        ensures { (role : Role) (limits : Limits) (fs : List Frame) (f : Frame) (rest : List ℕ) →
+            IsLawful role limits (fs ++ f ∷ []) → f.fin ≡ final_frame → length (unfinished fs) + 1 < 2 ^ 64 →
+            Keeps self.now fs (InFrame (info_of (length (stream fs)) f) f.payload) rest →
             Prints context.now output.old output.new (items_of_end context.now.style.detail fs f) }
     {
         if final_frame {
-            match context.style.detail {
-                Detail::Events => self.put_message(output, context),
-                Detail::Frames => {}
-            }
+            self.put_final(output, context);
         }
     }
 
     /// Prints the event that the frame ends, which is final, if events are shown. A message that a Close interrupts
     /// comes first.
     #[tactic(none)]
-    pub fn put_final<W: Write>(&self, output: &mut Output<W>, context: &EntryContext<'_>)
+    fn put_final<W: Write>(&self, output: &mut Output<W>, context: &EntryContext<'_>)
         ensures { (role : Role) (limits : Limits) (fs : List Frame) (f : Frame) (rest : List ℕ) →
             IsLawful role limits (fs ++ f ∷ []) → length (unfinished fs) + 1 < 2 ^ 64 →
             Keeps self.now fs (InFrame (info_of (length (stream fs)) f) f.payload) rest →
@@ -155,7 +151,6 @@ impl StreamParts {
     }
 
     /// Prints the refusal of the frame at the last byte that came, and before it the message that it interrupts.
-    /// `count` payload bytes came that were not added to the payload.
     #[cold]
     #[inline(never)]
     #[tactic(none)]
@@ -164,17 +159,15 @@ impl StreamParts {
         output: &mut Output<W>,
         context: &EntryContext<'_>,
         refusal: &Refusal,
-        count: usize,
     )
-        ensures { (role : Role) (limits : Limits) (fs : List Frame) (at : Position) (rest evidence : List ℕ) →
-            IsLawful role limits fs → length rest < 2 ^ 64 → IsEvidenceAt at count rest evidence →
-            Keeps self.now fs at rest →
+        ensures { (role : Role) (limits : Limits) (fs : List Frame) (part evidence : List ℕ) →
+            IsLawful role limits fs → KeepsMessage self.now.message fs part →
+            self.now.frame.offset ≡ length (stream fs) → HasLast self.now.frame.last evidence →
             Prints context.now output.old output.new
             (interrupted context.now.style.detail fs ++ RefusedFrame (length (stream fs)) refusal.now evidence ∷ []) }
     {
         self.put_interrupted(output, context);
-        let evidence = self.frame.evidence(count);
-        let item = ShownItem::Refused(*refusal, evidence.held());
+        let item = ShownItem::Refused(*refusal, self.frame.last.end());
         put_item(output, context, self.frame.offset, &item);
     }
 
@@ -204,7 +197,7 @@ impl StreamParts {
             Keeps self.now fs (InFrame head.now part) rest →
             Prints context.now output.old output.new (items_left fs (InFrame head.now part) rest) }
     {
-        let lacks = Some(head.len.saturating_sub(self.frame.payload.count()));
+        let lacks = Some(head.len.saturating_sub(self.frame.first.count()));
         if head.op.is_control() {
             self.put_open(output, context, Some(0));
             let item = ShownItem::Unfinished(self.frame.control(head.op), lacks);
@@ -222,7 +215,7 @@ impl StreamParts {
             Keeps self.now fs BetweenFrames rest →
             Prints context.now output.old output.new (items_left fs BetweenFrames rest) }
     {
-        if self.frame.last.count() == 0 {
+        if self.frame.size == 0 {
             self.put_open(output, context, Some(0));
         } else if self.message.frames > 0 {
             self.put_open(output, context, None);

@@ -28,8 +28,8 @@ pub enum ShowStop {
 }
 
 /// Shows the capture on the input: prints what each line completes as soon as the line is whole, then what is left over
-/// of both streams, and the report, which it returns. It reads chunks of at most [`CHUNK`] bytes. The limits apply to
-/// each endpoint's stream separately.
+/// of both streams, who ended the connection if a stream ended without a Close, and the report, which it returns. It
+/// reads chunks of at most [`CHUNK`] bytes. The limits apply to each endpoint's stream separately.
 ///
 /// The error `Line` is the first line that isn't accepted; what the lines before it show is printed. It is returned once
 /// the line has ended or is too long whatever follows, with at most 4,095 bytes read after that byte. `Read` is a read
@@ -156,7 +156,7 @@ fn end<W: Write>(
     put_end_of_capture(view, output)
 }
 
-/// Prints what is left over at the end of the capture, and the report.
+/// Prints what is left over at the end of the capture, who ended the connection, and the report.
 fn put_end_of_capture<W: Write>(
     view: &CaptureView,
     output: &mut Output<W>,

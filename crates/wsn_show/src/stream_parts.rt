@@ -16,7 +16,7 @@ impl StreamParts {
     ghost use Rattle.wsn_wire.specs.Frame.{Frame, stream};
     ghost use Rattle.wsn_rules.specs.Group.{unfinished, payload_of};
     ghost use Rattle.wsn_rules.specs.Heads.{info_of};
-    ghost use Rattle.wsn_scan.specs.ReportedFrames.{Position, BetweenFrames, InFrame};
+    ghost use Rattle.wsn_scan.specs.Positions.{Position, BetweenFrames, InFrame};
     ghost use Rattle.wsn_show.specs.StreamParts.{Keeps};
 
     /// No byte has come.
@@ -29,12 +29,12 @@ impl StreamParts {
         }
     }
 
-    /// More bytes of the frame come.
+    /// More bytes come between frames.
     pub fn add_bytes(&mut self, bytes: &[u8])
-        ensures { (fs : List Frame) (at : Position) (rest : List ℕ) → length rest + length bytes.now < 2 ^ 64 →
-            Keeps self.old fs at rest → Keeps self.new fs at (rest ++ bytes.now) }
+        ensures { (fs : List Frame) (rest : List ℕ) → length rest + length bytes.now < 2 ^ 64 →
+            Keeps self.old fs BetweenFrames rest → Keeps self.new fs BetweenFrames (rest ++ bytes.now) }
     {
-        self.frame.add_bytes(bytes);
+        self.frame.add(bytes, bytes.len());
     }
 
     /// The frame's head is complete.
@@ -48,13 +48,15 @@ impl StreamParts {
         }
     }
 
-    /// More of the frame's payload comes, unmasked.
-    pub fn add_payload(&mut self, payload: &[u8])
-        ensures { (fs : List Frame) (head : _) (part rest : List ℕ) →
+    /// More of the frame's payload comes, unmasked, with `size` more bytes.
+    pub fn add_payload(&mut self, payload: &[u8], size: usize)
+        ensures { (fs : List Frame) (head : _) (part rest share : List ℕ) → length share ≡ size →
+            length rest + size < 2 ^ 64 →
             length (payload_of (unfinished fs)) + length part + length payload.now < 2 ^ 64 →
-            Keeps self.old fs (InFrame head part) rest → Keeps self.new fs (InFrame head (part ++ payload.now)) rest }
+            Keeps self.old fs (InFrame head part) rest →
+            Keeps self.new fs (InFrame head (part ++ payload.now)) (rest ++ share) }
     {
-        self.frame.add_payload(payload);
+        self.frame.add(payload, size);
         if self.frame.is_data() {
             self.message.add(payload);
         }
@@ -69,7 +71,7 @@ impl StreamParts {
             Keeps self.new (fs ++ f ∷ []) BetweenFrames [] }
     {
         let is_data = self.frame.is_data();
-        self.frame.end();
+        self.frame.end(0);
         if is_data {
             self.message.end(final_frame);
         }

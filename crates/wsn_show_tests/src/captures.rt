@@ -1,7 +1,7 @@
 //! `show` of captures.
 
 use crate::expecting::{Expected, events_of, expect_job, expect_run, style_of};
-use crate::rows::{COMMENTS, EVENTS, FRAMES, HIDDEN, LEFT_OVER, REFUSALS, Row, VIEWS};
+use crate::rows::{COMMENTS, ENDS, EVENTS, FRAMES, HIDDEN, LEFT_OVER, REFUSALS, Row, VIEWS};
 use std::alloc::Global;
 use std::process::Abort;
 use wsn_doubles::command_runs::run_on;
@@ -56,6 +56,11 @@ fn hidden_characters_are_escaped(rt: HostRuntime) {
 #[test]
 fn comments_are_shown_and_times_hold(rt: HostRuntime) {
     expect_rows(&rt, rt.alloc(), &COMMENTS, Detail::Events);
+}
+
+#[test]
+fn who_ended_the_connection_is_shown(rt: HostRuntime) {
+    expect_rows(&rt, rt.alloc(), &ENDS, Detail::Events);
 }
 
 #[test]

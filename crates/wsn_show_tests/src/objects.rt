@@ -28,7 +28,8 @@ fn a_capture_is_shown(rt: HostRuntime) {
 {\"type\":\"unread\",\"line\":8,\"side\":\"server\",\"time\":0.5,\"offset\":5,\"bytes\":1,\"hex\":\"ff\"}\n\
 {\"type\":\"end\",\"line\":8,\"side\":\"server\",\"time\":0.5,\"offset\":6}\n\
 {\"type\":\"unfinished\",\"line\":10,\"side\":\"client\",\"time\":0.5,\"offset\":8,\"event\":\"head\",\"bytes\":0,\"frames\":0,\"lacks\":null,\"hex\":\"\"}\n\
-{\"type\":\"end\",\"line\":10,\"side\":\"client\",\"time\":0.5,\"offset\":10}\n",
+{\"type\":\"end\",\"line\":10,\"side\":\"client\",\"time\":0.5,\"offset\":10}\n\
+{\"type\":\"ended-by\",\"side\":\"server\",\"reset\":false}\n",
         last: REPORT,
         line: "",
     };

@@ -80,7 +80,8 @@ server-sees -
 outcome failed
 ";
 
-const CUT_AND_ENDED: &str = "\
+const SERVER_RESET: &str = "\
+ended-by server reset
 client ended
 server cut
 first -
@@ -89,6 +90,78 @@ client-sees 1006
 server-sees 1006
 outcome abnormal
 ";
+
+const CLIENT_FIRST: &str = "\
+ended-by client
+client ended
+server cut
+first -
+echo -
+client-sees 1006
+server-sees 1006
+outcome abnormal
+";
+
+const SERVER_ALONE: &str = "\
+ended-by server
+client running
+server ended
+first -
+echo -
+client-sees 1006
+server-sees -
+outcome abnormal
+";
+
+const CLIENT_RESET: &str = "\
+ended-by client reset
+client closed -
+server ended
+first client
+echo -
+client-sees 1006
+server-sees 1005
+outcome abnormal
+";
+
+const CUT_AND_ENDED: &str = "\
+ended-by server
+client ended
+server cut
+first -
+echo -
+client-sees 1006
+server-sees 1006
+outcome abnormal
+";
+
+/// Directions that ended without a Close: who ended the connection first, and whether a comment says that it reset it.
+pub static ENDS: [Row; 4] = [
+    Row {
+        text: b"S 81\n# reset by the server\r\nS.\nC.\n",
+        view: 48,
+        shown: "# reset by the server\nS - 0 unfinished head 0 0 lacks - -\nS - 1 end\nC - 0 end\n",
+        report: SERVER_RESET,
+    },
+    Row {
+        text: b"S 81\nC.\n# reset by the server\nS.\n",
+        view: 48,
+        shown: "C - 0 end\n# reset by the server\nS - 0 unfinished head 0 0 lacks - -\nS - 1 end\n",
+        report: CLIENT_FIRST,
+    },
+    Row {
+        text: b"# reset by the server.\n#reset by the server\nS.\n",
+        view: 48,
+        shown: "# reset by the server.\n#reset by the server\nS - 0 end\n",
+        report: SERVER_ALONE,
+    },
+    Row {
+        text: b"C 8880377f0b2d\n# reset by the client\nC.\nS.\n",
+        view: 48,
+        shown: "C - 0 close 0 1 -\n# reset by the client\nC - 6 end\nS - 0 end\n",
+        report: CLIENT_RESET,
+    },
+];
 
 /// Events, each printed in the line with its last byte.
 pub static EVENTS: [Row; 9] = [

@@ -24,7 +24,7 @@ pub fn expect_stream(rt: &impl Abort, alloc: Global, stream: &Stream) {
     }
 }
 
-/// Fails unless a scanner reports a stream's frames, payload and verdict, in chunks of `size` bytes.
+/// Fails unless a scanner finds a stream's frames, payload and verdict, in chunks of `size` bytes.
 fn expect_chunks(rt: &impl Abort, alloc: Global, stream: &Stream, size: usize) {
     let scanned = scanned(rt, alloc, stream, size);
     let reading = Reading::whole(stream, "scanned in chunks", size);
@@ -32,6 +32,10 @@ fn expect_chunks(rt: &impl Abort, alloc: Global, stream: &Stream, size: usize) {
     reading.expect_bytes(rt, scanned.frames.as_slice(), stream.frames.as_bytes());
     if let Some(payload) = &stream.payload {
         reading.expect_bytes(rt, scanned.payload.as_slice(), payload.as_slice());
+    }
+    if stream.is_accepted() {
+        let is_whole = scanned.ended == scanned.begun;
+        reading.expect(rt, is_whole, "not one end for each frame");
     }
 }
 

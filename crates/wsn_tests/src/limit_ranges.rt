@@ -5,7 +5,7 @@ use std::process::Abort;
 use wsn_doubles::answer_lines::verdict_line;
 use wsn_doubles::vectors::limits_from;
 use wsn_doubles::vectors::stream_limits::INPUT_OF_4;
-use wsn_scan::{Limits, Scan};
+use wsn_scan::{Limits, Part, Scan};
 use wsn_wire::Role;
 
 #[test]
@@ -39,7 +39,7 @@ fn limits_return_their_values(rt: HostRuntime) {
 /// Fails unless a scanner has room for `room` bytes, and consumes two of these.
 fn expect_room(rt: &impl Abort, scan: &mut Scan, bytes: &mut [u8], room: u64) {
     expect(rt, scan.room() == room && bytes.len() as u64 <= room);
-    let (taken, _) = scan.next(bytes);
+    let (taken, _) = scan.next(bytes, &mut Part::new());
     expect_count(rt, taken, 2);
 }
 
@@ -51,7 +51,7 @@ fn input_limit_is_the_room_of_a_scanner(rt: HostRuntime) {
         limits_from(&INPUT_OF_4).expect(&rt, "limits in range"),
     );
     let mut close = [0x88, 0x02, 0x03, 0xe8];
-    expect_room(&rt, &mut scan, &mut close, 4);
+    expect_room(&rt, &mut scan, &mut close[..2], 4);
     expect_room(&rt, &mut scan, &mut close[2..], 2);
     expect(&rt, scan.room() == 0);
     let line = verdict_line(rt.alloc(), &scan.finish()).expect(&rt, "memory");

@@ -1,7 +1,7 @@
 //! The words of what both sides said.
 use super::Entry;
 
-static SHOWN: [Entry; 3] = [
+static SHOWN: [Entry; 4] = [
     Entry {
         words: &["lacks", "head"],
         text: "\
@@ -37,6 +37,19 @@ RFC 6455, 7.1.1: after both Closes the server ends the connection first, and the
 client should wait for that.
 Next: if this side sent no Close before it, 'wsn explain abnormal'. Without such
 a line the capture doesn't say that the direction ended.
+",
+    },
+    Entry {
+        words: &["ended-by", "reset"],
+        text: "\
+ended-by SIDE, ended-by SIDE reset, from 'wsn show': a direction of the TCP
+connection ended without a Close, and SIDE's end mark (C. or S.) is the first.
+reset: a comment '# reset by the SIDE' says that it reset the connection.
+RFC 6455, 7.1.1: the server ends the connection, after both Closes.
+Usual causes: those of 'abnormal'. A reset often means that a program ended or
+closed its socket with bytes unread, or comes from a firewall or load balancer.
+Next: a line 'unfinished' of SIDE says what it was sending, and how many bytes
+are missing. Read its log, then the proxies'. 'wsn explain abnormal'.
 ",
     },
 ];

@@ -1,6 +1,7 @@
-//! Feeding pieces to a scan without reading its notices.
+//! Feeding pieces to a scan for the verdict alone.
 
-use super::{Empty, Scan};
+use super::Scan;
+use crate::part::{Part, Taken};
 use wsn_rules::Refusal;
 
 impl Scan {
@@ -9,32 +10,22 @@ impl Scan {
 
     /// Consumes the piece, all of it or the bytes up to a refusal, and returns the refusal, if there is one. `piece` is
     /// at most [`room`](Scan::room) bytes long. Once a scan has refused, each call returns the same refusal. Payload is
-    /// unmasked in place (RFC 6455 section 5.3).
+    /// unmasked in place (RFC 6455 section 5.3), and keys may be zeros afterwards.
+    #[tactic(none)]
     pub fn feed(&mut self, piece: &mut [u8]) -> Option<Refusal>
         requires begun { IsRunning self.old }
         requires fits { length piece.old ≤ room_of self.old }
         ensures { HasFed self.old self.new piece.old result }
     {
-        self.feed_frames(Empty::Left, piece)
-    }
-
-    /// Does what [`feed`](Scan::feed) does. With [`Empty::Taken`] it takes empty frames in runs too, and their keys may be
-    /// zeros in the piece afterwards.
-    #[tactic(none)]
-    pub(crate) fn feed_frames(&mut self, empty: Empty, piece: &mut [u8]) -> Option<Refusal>
-        requires begun { IsRunning self.old }
-        requires fits { length piece.old ≤ room_of self.old }
-        ensures { HasFed self.old self.new piece.old result }
-    {
+        let mut part = Part::new();
         let mut at = 0;
         while at < piece.len() {
-            let (taken, _) = self.next(&mut piece[at..]);
+            let (taken, found) = self.next(&mut piece[at..], &mut part);
             at += taken;
-            if let Some(refusal) = self.refusal() {
-                return Some(refusal);
+            if let Taken::Refused = found {
+                return self.refusal();
             }
-            at += self.take_frames(empty, &mut piece[at..]);
-            at += self.take_start(&mut piece[at..]);
+            at += self.take_events(&mut piece[at..]);
         }
         self.refusal()
     }

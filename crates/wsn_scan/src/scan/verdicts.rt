@@ -5,23 +5,22 @@ use crate::stage::Stage;
 use wsn_rules::{Summary, Verdict};
 
 impl Scan {
-    ghost use Rattle.std.specs.Prelude.{◌≡◌, ℕ, ◌-◌, ◌<◌, List, Some};
-    ghost use Rattle.wsn_scan.specs.Words.{Frame, AreHeads, HasScanned, refusal_in, taken_of, summary_of, verdict_between, Reported, refusal_judged, unfinished, IsVerdict};
+    ghost use Rattle.std.specs.Prelude.{◌≡◌, ℕ, ◌-◌, ◌++◌, List, Some};
+    ghost use Rattle.wsn_scan.specs.Words.{Frame, AreHeads, HasScanned, Position, refusal_in, taken_of, summary_of, verdict_between, refusal_judged, heads_of, begun_at, IsVerdict};
 
     /// The verdict on the bytes consumed so far, as if the input ended here (RFC 6455 sections 5 and 7).
     #[tactic(auto, using(crate::proofs::HeadsSoFar::heads_reported))]
     pub fn finish(&self) -> Verdict
-        ensures verdict { (role : _) (limits : _) (bytes rest : List ℕ) (fs : List Frame) (reported : Reported) →
-            HasScanned role limits self.now bytes fs rest reported → IsVerdict role limits bytes fs result }
-        ensures heads { (role : _) (limits : _) (bytes rest : List ℕ) (fs : List Frame) (reported : Reported) →
-            HasScanned role limits self.now bytes fs rest reported → AreHeads role limits bytes fs reported.heads }
+        ensures verdict { (role : _) (limits : _) (bytes rest : List ℕ) (fs : List Frame) (at : Position) →
+            HasScanned role limits self.now bytes fs rest at → IsVerdict role limits bytes fs result }
+        ensures heads { (role : _) (limits : _) (bytes rest : List ℕ) (fs : List Frame) (at : Position) →
+            HasScanned role limits self.now bytes fs rest at →
+            AreHeads role limits bytes fs (heads_of fs ++ begun_at at) }
         ensures reported { refusal_judged result ≡ refusal_in self.now }
     {
         match &self.stage {
             Stage::Refused(refusal) => Verdict::Refused(*refusal),
             Stage::Closed(code) => self.closed(*code),
-            Stage::CloseEnded(code) => self.closed(*code),
-            Stage::Ended(_) => self.between(),
             Stage::Between => self.between(),
             Stage::Head(part) => {
                 if part.is_empty() {

@@ -1,152 +1,102 @@
-use Rattle.std.proofs.Common.{◌≡◌, Ok, Err, rules, ap, sym, subst, ◌∙◌}
+use Rattle.std.proofs.Common.{◌≡◌, ◌∙◌, Option, Ok, Err, length, take, drop, refl, ap, subst, arith, length-append, length-drop, length-take-le, rules}
 use Rattle.std.proofs.lemmas.Result.{err_from_is_err_and}
 use Rattle.wsn_io.specs.declared.stop.Stop.TheVariants as stop
-use Rattle.wsn_scan.specs.declared.notice_reader.NoticeReader.{NoticeReader}
-use Rattle.wsn_plan.proofs.PlannedFrames.{HasPlanned, takes_frame, takes_start, no_memory_taken, is_reading, begins, head, payload, has_begun, goes_on, no_memory, is_done, is_stopped, whole_plan}
+use Rattle.wsn_rules.specs.declared.verdict.Refusal.{Refusal}
+use Rattle.wsn_scan.specs.declared.refill.ReadChunk.{ReadChunk}
+use Rattle.wsn_scan.specs.Refill.{IsRefilled}
+use Rattle.wsn_scan.specs.Scans.{room_of}
+use Rattle.wsn_scan.proofs.Chunks.{got_chunk}
+use Rattle.wsn_plan.specs.Planning.{IsPlannedChunk}
+use Rattle.wsn_plan.proofs.PlannedFrames.{begins, is_running, is_stopped, is_ended, has_more, falls, is_past, is_refused, is_out_of_memory, whole_plan}
 use Rattle.wsn_plan.proofs.planning.plan_of.Goals as goal
 
-pub loop-head-init : goal.loop-head-init
-loop-head-init g c = rw c.new-plan.ensures (begins c.args.role c.args.limits c.args.input.now c.new-reader.result c.new-reader.ensures c.requires.readable)
+pub loop-plan-init : goal.loop-plan-init
+loop-plan-init g c = record { planned = rw c.new-plan.ensures (begins c.args.role c.args.limits c.args.input.now c.new-scan.result c.new-scan.ensures c.requires.readable); size = refl }
 
-pub returns-in_err-head-clause-planned : goal.returns-in_err-head-clause-planned
-returns-in_err-head-clause-planned g c =
-    let planned = subst (λ (r : NoticeReader). HasPlanned c.args.role c.args.limits c.args.input.now c.loop-head.input r c.loop-head.plan c.loop-head.begun) (sym (c.in_default-take_start.ensures.none ∙ c.in_default.ensures.none)) c.loop-head.invariant in
-    let out = err_from_is_err_and c.from_residual-in_err-head.result c.from_residual-in_err-head.ensures.1 in
-    let is : c.from_residual-in_err-head.result ≡ Err c.in_err-head.field-0.0 = out.1 ∙ ap Err out.2 in
-    rw is (is_stopped c.args.role c.args.limits c.args.input.now c.loop-head.input c.next.new.input c.take_start.new.self c.next.new.self c.loop-head.plan c.loop-head.begun planned
-    c.in_err-head.field-0.0 (c.in_err-head.ensures.next c.args.role c.args.limits planned.came planned.done planned.at planned.has_reported))
+pub returns-in_err-chunk-clause-planned : goal.returns-in_err-chunk-clause-planned
+returns-in_err-chunk-clause-planned g c =
+    let out = err_from_is_err_and c.from_residual.result c.from_residual.ensures.1 in
+    let is : c.from_residual.result ≡ Err stop.Read = out.1 ∙ ap Err (out.2 ∙ c.in_err-chunk.ensures.0) in
+    rw is (is_stopped c.args.role c.args.limits c.args.input.now c.loop-plan.input c.refill.new.input c.loop-plan.scan c.loop-plan.plan c.loop-plan.invariant.planned c.in_err-chunk.ensures.2 c.in_err-chunk.ensures.1)
 
-pub returns-in_err-head-clause-whole : goal.returns-in_err-head-clause-whole
-returns-in_err-head-clause-whole g c =
-    let planned = subst (λ (r : NoticeReader). HasPlanned c.args.role c.args.limits c.args.input.now c.loop-head.input r c.loop-head.plan c.loop-head.begun) (sym (c.in_default-take_start.ensures.none ∙ c.in_default.ensures.none)) c.loop-head.invariant in
-    let out = err_from_is_err_and c.from_residual-in_err-head.result c.from_residual-in_err-head.ensures.1 in
-    let is : c.from_residual-in_err-head.result ≡ Err c.in_err-head.field-0.0 = out.1 ∙ ap Err out.2 in
-    rw is (λ all known. whole_plan {A = g.row.A.Denot} c.args.role c.args.limits c.args.input.now c.next.new.input (Err c.in_err-head.field-0.0) all
-    (is_stopped c.args.role c.args.limits c.args.input.now c.loop-head.input c.next.new.input c.take_start.new.self c.next.new.self c.loop-head.plan c.loop-head.begun planned
-    c.in_err-head.field-0.0 (c.in_err-head.ensures.next c.args.role c.args.limits planned.came planned.done planned.at planned.has_reported)) known)
+pub returns-in_err-chunk-clause-whole : goal.returns-in_err-chunk-clause-whole
+returns-in_err-chunk-clause-whole g c all known = whole_plan c.args.role c.args.limits _ _ _ all (returns-in_err-chunk-clause-planned g c) known
 
-pub loop-head-preserved-in-Head : goal.loop-head-preserved-in-Head
-loop-head-preserved-in-Head g c =
-    let planned = subst (λ (r : NoticeReader). HasPlanned c.args.role c.args.limits c.args.input.now c.loop-head.input r c.loop-head.plan c.loop-head.begun) (sym (c.in_default-take_start.ensures.none ∙ c.in_default.ensures.none)) c.loop-head.invariant in
-    rw c.step_of-in-Head.ensures (head c.args.role c.args.limits c.args.input.now c.loop-head.input c.next.new.input c.take_start.new.self c.next.new.self c.loop-head.plan c.loop-head.begun planned
-    c.in_ok-head.field-0 c.in-Head.head c.in-Head.is (c.in_ok-head.ensures.next c.args.role c.args.limits planned.came planned.done planned.at planned.has_reported))
+pub returns-in_default-clause-planned : goal.returns-in_default-clause-planned
+returns-in_default-clause-planned g c =
+    let at_end = subst (λ (r : Option ReadChunk). IsRefilled c.loop-plan.input c.refill.new.input c.room.result c.refill.new.buffer (Ok r)) c.in_default.is c.in_ok-chunk.ensures in
+    is_ended c.args.role c.args.limits c.args.input.now c.loop-plan.input c.refill.new.input c.loop-plan.scan c.loop-plan.plan c.loop-plan.invariant.planned c.finish.result c.answer_of.result at_end.0 at_end.1 at_end.2 (λ bytes since fs at. c.finish.ensures.verdict c.args.role c.args.limits bytes since fs at) c.finish.ensures.reported c.answer_of.ensures
 
-pub loop-head-preserved-in-Payload : goal.loop-head-preserved-in-Payload
-loop-head-preserved-in-Payload g c =
-    let planned = subst (λ (r : NoticeReader). HasPlanned c.args.role c.args.limits c.args.input.now c.loop-head.input r c.loop-head.plan c.loop-head.begun) (sym (c.in_default-take_start.ensures.none ∙ c.in_default.ensures.none)) c.loop-head.invariant in
-    payload c.args.role c.args.limits c.args.input.now c.loop-head.input c.next.new.input c.take_start.new.self c.next.new.self c.loop-head.plan c.loop-head.begun planned
-    c.in_ok-head.field-0 c.in-Payload.is (c.in_ok-head.ensures.next c.args.role c.args.limits planned.came planned.done planned.at planned.has_reported)
+pub returns-in_default-clause-whole : goal.returns-in_default-clause-whole
+returns-in_default-clause-whole g c all known = whole_plan c.args.role c.args.limits _ _ _ all (returns-in_default-clause-planned g c) known
 
-pub unreachable-requires : goal.unreachable-requires
-unreachable-requires g c =
-    let planned = subst (λ (r : NoticeReader). HasPlanned c.args.role c.args.limits c.args.input.now c.loop-head.input r c.loop-head.plan c.loop-head.begun) (sym (c.in_default-take_start.ensures.none ∙ c.in_default.ensures.none)) c.loop-head.invariant in
-    absurd (has_begun c.args.role c.args.limits c.args.input.now c.loop-head.input c.next.new.input c.take_start.new.self c.next.new.self c.loop-head.plan c.loop-head.begun planned
-    c.in_ok-head.field-0 c.in-FrameEnd.event c.in-FrameEnd.is (c.in_ok-head.ensures.next c.args.role c.args.limits planned.came planned.done planned.at planned.has_reported)
-    c.in_default-begun.is)
+pub returns-in_err-refusal-clause-planned : goal.returns-in_err-refusal-clause-planned
+returns-in_err-refusal-clause-planned g c =
+    let got = got_chunk c.loop-plan.input c.refill.new.input c.room.result (room_of c.loop-plan.scan) c.refill.new.buffer c.in_ok-chunk.field-0 c.in-Some.chunk c.room.ensures c.in-Some.is c.in_ok-chunk.ensures in
+    let out = err_from_is_err_and c.from_residual-in_err-refusal.result c.from_residual-in_err-refusal.ensures.1 in
+    let is : c.from_residual-in_err-refusal.result ≡ Err stop.Memory = out.1 ∙ ap Err (out.2 ∙ c.in_err-refusal.ensures.0) in
+    rw is (is_out_of_memory c.args.role c.args.limits c.args.input.now c.loop-plan.input c.refill.new.input c.loop-plan.scan c.loop-plan.plan c.loop-plan.invariant.planned c.plan_chunk.new.scan c.refill.new.buffer c.in-Some.chunk c.plan_chunk.new.plan got (omega arith) c.in_err-refusal.ensures.1)
 
-pub loop-head-preserved : goal.loop-head-preserved
-loop-head-preserved g c =
-    let planned = subst (λ (r : NoticeReader). HasPlanned c.args.role c.args.limits c.args.input.now c.loop-head.input r c.loop-head.plan c.loop-head.begun) (sym (c.in_default-take_start.ensures.none ∙ c.in_default.ensures.none)) c.loop-head.invariant in
-    rw (← c.in-Some-begun.is) (goes_on c.args.role c.args.limits c.args.input.now c.loop-head.input c.next.new.input c.take_start.new.self c.next.new.self c.loop-head.plan c.loop-head.begun planned
-    c.in_ok-head.field-0 c.in-FrameEnd.event c.in-FrameEnd.is (c.in_ok-head.ensures.next c.args.role c.args.limits planned.came planned.done planned.at planned.has_reported)
-    c.in-Some-begun.step c.push-in-FrameEnd.new.self c.in-Some-begun.is c.in_ok-push-in-FrameEnd.ensures.pushed)
+pub returns-in_err-refusal-clause-whole : goal.returns-in_err-refusal-clause-whole
+returns-in_err-refusal-clause-whole g c all known = whole_plan c.args.role c.args.limits _ _ _ all (returns-in_err-refusal-clause-planned g c) known
 
-pub returns-in_err-push-in-FrameEnd-clause-planned : goal.returns-in_err-push-in-FrameEnd-clause-planned
-returns-in_err-push-in-FrameEnd-clause-planned g c =
-    let planned = subst (λ (r : NoticeReader). HasPlanned c.args.role c.args.limits c.args.input.now c.loop-head.input r c.loop-head.plan c.loop-head.begun) (sym (c.in_default-take_start.ensures.none ∙ c.in_default.ensures.none)) c.loop-head.invariant in
-    let out = err_from_is_err_and c.from_residual-in_err-push-in-FrameEnd.result c.from_residual-in_err-push-in-FrameEnd.ensures.1 in
-    let is : c.from_residual-in_err-push-in-FrameEnd.result ≡ Err stop.Memory = out.1 ∙ ap Err (out.2 ∙ c.in_err-push-in-FrameEnd.ensures.refused.0) in
-    rw is (no_memory c.args.role c.args.limits c.args.input.now c.loop-head.input c.next.new.input c.take_start.new.self c.next.new.self c.loop-head.plan c.loop-head.begun planned
-    c.in_ok-head.field-0 c.in-FrameEnd.event c.in-FrameEnd.is (c.in_ok-head.ensures.next c.args.role c.args.limits planned.came planned.done planned.at planned.has_reported))
+pub returns-in-Some-2-clause-planned : goal.returns-in-Some-2-clause-planned
+returns-in-Some-2-clause-planned g c =
+    let got = got_chunk c.loop-plan.input c.refill.new.input c.room.result (room_of c.loop-plan.scan) c.refill.new.buffer c.in_ok-chunk.field-0 c.in-Some.chunk c.room.ensures c.in-Some.is c.in_ok-chunk.ensures in
+    let planned = subst (λ (r : Option Refusal). IsPlannedChunk c.loop-plan.scan c.plan_chunk.new.scan (take c.in-Some.chunk.len c.refill.new.buffer) c.loop-plan.plan c.plan_chunk.new.plan (Ok r)) c.in-Some-2.is c.in_ok-refusal.ensures in
+    is_refused c.args.role c.args.limits c.args.input.now c.loop-plan.input c.refill.new.input c.loop-plan.scan c.loop-plan.plan c.loop-plan.invariant.planned c.plan_chunk.new.scan c.refill.new.buffer c.in-Some.chunk c.plan_chunk.new.plan got (omega arith) c.in-Some-2.refusal planned
 
-pub returns-in-Done-clause-planned : goal.returns-in-Done-clause-planned
-returns-in-Done-clause-planned g c =
-    let planned = subst (λ (r : NoticeReader). HasPlanned c.args.role c.args.limits c.args.input.now c.loop-head.input r c.loop-head.plan c.loop-head.begun) (sym (c.in_default-take_start.ensures.none ∙ c.in_default.ensures.none)) c.loop-head.invariant in
-    is_done c.args.role c.args.limits c.args.input.now c.loop-head.input c.next.new.input c.take_start.new.self c.next.new.self c.loop-head.plan c.loop-head.begun planned
-    c.in_ok-head.field-0 c.in-Done.verdict c.answer_of.result c.in-Done.is (c.in_ok-head.ensures.next c.args.role c.args.limits planned.came planned.done planned.at planned.has_reported) c.answer_of.ensures
+pub returns-in-Some-2-clause-whole : goal.returns-in-Some-2-clause-whole
+returns-in-Some-2-clause-whole g c all known = whole_plan c.args.role c.args.limits _ _ _ all (returns-in-Some-2-clause-planned g c) known
 
-pub returns-in-Done-clause-whole : goal.returns-in-Done-clause-whole
-returns-in-Done-clause-whole g c =
-    let planned = subst (λ (r : NoticeReader). HasPlanned c.args.role c.args.limits c.args.input.now c.loop-head.input r c.loop-head.plan c.loop-head.begun) (sym (c.in_default-take_start.ensures.none ∙ c.in_default.ensures.none)) c.loop-head.invariant in
-    λ all known. whole_plan c.args.role c.args.limits c.args.input.now c.next.new.input (Ok c.answer_of.result) all
-    (is_done c.args.role c.args.limits c.args.input.now c.loop-head.input c.next.new.input c.take_start.new.self c.next.new.self c.loop-head.plan c.loop-head.begun planned
-    c.in_ok-head.field-0 c.in-Done.verdict c.answer_of.result c.in-Done.is (c.in_ok-head.ensures.next c.args.role c.args.limits planned.came planned.done planned.at planned.has_reported) c.answer_of.ensures) known
+pub returns-then-chunk-clause-planned : goal.returns-then-chunk-clause-planned
+returns-then-chunk-clause-planned g c =
+    let got = got_chunk c.loop-plan.input c.refill.new.input c.room.result (room_of c.loop-plan.scan) c.refill.new.buffer c.in_ok-chunk.field-0 c.in-Some.chunk c.room.ensures c.in-Some.is c.in_ok-chunk.ensures in
+    let planned = subst (λ (r : Option Refusal). IsPlannedChunk c.loop-plan.scan c.plan_chunk.new.scan (take c.in-Some.chunk.len c.refill.new.buffer) c.loop-plan.plan c.plan_chunk.new.plan (Ok r)) c.in_default-2.is c.in_ok-refusal.ensures in
+    is_past c.args.role c.args.limits c.args.input.now c.loop-plan.input c.refill.new.input c.loop-plan.scan c.loop-plan.plan c.loop-plan.invariant.planned c.plan_chunk.new.scan c.refill.new.buffer c.in-Some.chunk c.plan_chunk.new.plan got (omega arith) c.if-chunk.true planned
 
-pub next-requires-clause-begun : goal.next-requires-clause-begun
-next-requires-clause-begun g c =
-    let planned = subst (λ (r : NoticeReader). HasPlanned c.args.role c.args.limits c.args.input.now c.loop-head.input r c.loop-head.plan c.loop-head.begun) (sym (c.in_default-take_start.ensures.none ∙ c.in_default.ensures.none)) c.loop-head.invariant in
-    is_reading c.args.role c.args.limits c.args.input.now c.loop-head.input c.loop-head.input c.take_start.new.self c.take_start.new.self c.loop-head.plan c.loop-head.begun planned
+pub returns-then-chunk-clause-whole : goal.returns-then-chunk-clause-whole
+returns-then-chunk-clause-whole g c all known = whole_plan c.args.role c.args.limits _ _ _ all (returns-then-chunk-clause-planned g c) known
 
-pub next-requires-clause-readable : goal.next-requires-clause-readable
-next-requires-clause-readable g c = search rules
+pub loop-plan-smaller : goal.loop-plan-smaller
+loop-plan-smaller g c =
+    let got = got_chunk c.loop-plan.input c.refill.new.input c.room.result (room_of c.loop-plan.scan) c.refill.new.buffer c.in_ok-chunk.field-0 c.in-Some.chunk c.room.ensures c.in-Some.is c.in_ok-chunk.ensures in
+    let planned = subst (λ (r : Option Refusal). IsPlannedChunk c.loop-plan.scan c.plan_chunk.new.scan (take c.in-Some.chunk.len c.refill.new.buffer) c.loop-plan.plan c.plan_chunk.new.plan (Ok r)) c.in_default-2.is c.in_ok-refusal.ensures in
+    falls c.args.role c.args.limits c.args.input.now c.loop-plan.input c.refill.new.input c.loop-plan.scan c.loop-plan.plan c.loop-plan.invariant.planned c.plan_chunk.new.scan c.refill.new.buffer c.in-Some.chunk c.plan_chunk.new.plan got (omega arith) c.if-chunk.false planned
+
+pub loop-plan-preserved : goal.loop-plan-preserved
+loop-plan-preserved g c =
+    let got = got_chunk c.loop-plan.input c.refill.new.input c.room.result (room_of c.loop-plan.scan) c.refill.new.buffer c.in_ok-chunk.field-0 c.in-Some.chunk c.room.ensures c.in-Some.is c.in_ok-chunk.ensures in
+    let planned = subst (λ (r : Option Refusal). IsPlannedChunk c.loop-plan.scan c.plan_chunk.new.scan (take c.in-Some.chunk.len c.refill.new.buffer) c.loop-plan.plan c.plan_chunk.new.plan (Ok r)) c.in_default-2.is c.in_ok-refusal.ensures in
+    let within : length (take c.in-Some.chunk.len c.refill.new.buffer) ≡ c.in-Some.chunk.len = length-take-le c.in-Some.chunk.len c.refill.new.buffer (omega (arith, got.in_buffer)) in
+    record {
+      planned = has_more c.args.role c.args.limits c.args.input.now c.loop-plan.input c.refill.new.input c.loop-plan.scan c.loop-plan.plan c.loop-plan.invariant.planned c.plan_chunk.new.scan c.refill.new.buffer c.in-Some.chunk c.plan_chunk.new.plan got (omega arith) c.if-chunk.false planned;
+      size = omega (arith, c.plan_chunk.auto.chunk, length-append c.plan_chunk.new.chunk (drop c.in-Some.chunk.len c.refill.new.buffer), length-drop c.in-Some.chunk.len c.refill.new.buffer, got.in_buffer, c.refill.auto.buffer);
+    }
+
+pub plan_chunk-requires-clause-begun : goal.plan_chunk-requires-clause-begun
+plan_chunk-requires-clause-begun g c = is_running c.args.role c.args.limits c.args.input.now c.loop-plan.input c.loop-plan.input c.loop-plan.scan c.loop-plan.plan c.loop-plan.invariant.planned
+
+pub slice_bounds-refill-end : goal.slice_bounds-refill-end
+slice_bounds-refill-end g c = search rules
+
+pub refill-requires : goal.refill-requires
+refill-requires g c = search rules
 
 pub same-plan : goal.same-plan
 same-plan g c = search rules
 
-pub loop-head-smaller-in-Head : goal.loop-head-smaller-in-Head
-loop-head-smaller-in-Head g c = search rules
+pub slice_bounds-buffer-end : goal.slice_bounds-buffer-end
+slice_bounds-buffer-end g c = search rules
 
-pub same-plan-in-Payload : goal.same-plan-in-Payload
-same-plan-in-Payload g c = search rules
+pub slice_bounds-plan_chunk-end : goal.slice_bounds-plan_chunk-end
+slice_bounds-plan_chunk-end g c = search rules
 
-pub loop-head-smaller-in-Payload : goal.loop-head-smaller-in-Payload
-loop-head-smaller-in-Payload g c = search rules
+pub same-plan-in-loop-plan : goal.same-plan-in-loop-plan
+same-plan-in-loop-plan g c = search rules
 
-pub unreachable-unreachable : goal.unreachable-unreachable
-unreachable-unreachable g c = search rules
+pub plan_chunk-requires-clause-fits : goal.plan_chunk-requires-clause-fits
+plan_chunk-requires-clause-fits g c = search rules
 
-pub same-plan-in-FrameEnd : goal.same-plan-in-FrameEnd
-same-plan-in-FrameEnd g c = search rules
-
-pub same-plan-in-Continue-branch-4 : goal.same-plan-in-Continue-branch-4
-same-plan-in-Continue-branch-4 g c = search rules
-
-pub loop-head-smaller : goal.loop-head-smaller
-loop-head-smaller g c = search rules
-
-pub returns-in_err-push-in-FrameEnd-clause-whole : goal.returns-in_err-push-in-FrameEnd-clause-whole
-returns-in_err-push-in-FrameEnd-clause-whole g c = search rules
-
-pub same-plan-in-Done : goal.same-plan-in-Done
-same-plan-in-Done g c = search rules
-
-pub same-plan-in-Head : goal.same-plan-in-Head
-same-plan-in-Head g c = search rules
-
-pub take_frame-requires : goal.take_frame-requires
-take_frame-requires g c = search rules
-
-pub returns-in_err-push-clause-whole : goal.returns-in_err-push-clause-whole
-returns-in_err-push-clause-whole g c = search rules
-
-pub loop-head-smaller-in-Some : goal.loop-head-smaller-in-Some
-loop-head-smaller-in-Some g c = search rules
-
-pub loop-head-preserved-in-Some : goal.loop-head-preserved-in-Some
-loop-head-preserved-in-Some g c =
-    let planned = c.loop-head.invariant in
-    takes_frame c.args.role c.args.limits c.args.input.now c.loop-head.input c.loop-head.input c.loop-head.reader c.take_frame.new.self c.loop-head.plan c.loop-head.begun planned
-    c.in-Some.head (c.in-Some.ensures.taken c.args.role c.args.limits planned.came planned.done planned.at planned.has_reported)
-    c.step_of.result c.push.new.self c.step_of.ensures c.in_ok-push.ensures.pushed
-
-pub returns-in_err-push-clause-planned : goal.returns-in_err-push-clause-planned
-returns-in_err-push-clause-planned g c =
-    let planned = c.loop-head.invariant in
-    let out = err_from_is_err_and c.from_residual.result c.from_residual.ensures.1 in
-    let is : c.from_residual.result ≡ Err stop.Memory = out.1 ∙ ap Err (out.2 ∙ c.in_err-push.ensures.refused.0) in
-    rw is (no_memory_taken c.args.role c.args.limits c.args.input.now c.loop-head.input c.loop-head.input c.loop-head.reader c.take_frame.new.self c.loop-head.plan c.loop-head.begun planned
-    c.in-Some.head (c.in-Some.ensures.taken c.args.role c.args.limits planned.came planned.done planned.at planned.has_reported))
-
-pub take_start-requires : goal.take_start-requires
-take_start-requires g c =
-    let planned = c.loop-head.invariant in
-    rw c.in_default.ensures.none (is_reading c.args.role c.args.limits c.args.input.now c.loop-head.input c.loop-head.input c.loop-head.reader c.loop-head.reader c.loop-head.plan c.loop-head.begun planned)
-
-pub loop-head-preserved-in-Some-take_start : goal.loop-head-preserved-in-Some-take_start
-loop-head-preserved-in-Some-take_start g c =
-    let planned = subst (λ (r : NoticeReader). HasPlanned c.args.role c.args.limits c.args.input.now c.loop-head.input r c.loop-head.plan c.loop-head.begun) (sym c.in_default.ensures.none) c.loop-head.invariant in
-    rw c.step_of-in-Some-take_start.ensures (takes_start c.args.role c.args.limits c.args.input.now c.loop-head.input c.loop-head.input c.take_frame.new.self c.take_start.new.self c.loop-head.plan c.loop-head.begun planned
-    c.in-Some-take_start.head (c.in-Some-take_start.ensures.taken c.args.role c.args.limits planned.came planned.done planned.at planned.has_reported))
-
-pub loop-head-smaller-in-Some-take_start : goal.loop-head-smaller-in-Some-take_start
-loop-head-smaller-in-Some-take_start g c = search rules
+pub same-plan-else-chunk : goal.same-plan-else-chunk
+same-plan-else-chunk g c = search rules

@@ -1,10 +1,11 @@
-use Rattle.wsn_scan.specs.NoticeReaders.{notices_left}
+use Rattle.std.proofs.Common.{◌≡◌, length}
+use Rattle.wsn_scan.specs.Refill.{chunk_size}
 use Rattle.wsn_plan.proofs.PlannedFrames.{HasPlanned}
 use Rattle.wsn_plan.proofs.planning.plan_of.Given as goal
 
--- The reader has read what came, and the plan is that of the frames that were reported to their ends.
-abbrev pub invariant-loop-head : goal.invariant-loop-head
-invariant-loop-head g l = HasPlanned l.fn.role l.fn.limits l.fn.input l.input l.reader l.plan l.begun
+-- the scan has consumed all that came and not refused, and the plan is that of the frames that it has taken
+abbrev pub invariant-loop-plan : goal.invariant-loop-plan
+invariant-loop-plan g l = record { planned : HasPlanned l.fn.role l.fn.limits l.fn.input l.input l.scan l.plan; size : length l.buffer ≡ chunk_size }
 
-abbrev pub decreases-loop-head : goal.decreases-loop-head
-decreases-loop-head g l = notices_left l.reader
+abbrev pub decreases-loop-plan : goal.decreases-loop-plan
+decreases-loop-plan g l = l.scan.room

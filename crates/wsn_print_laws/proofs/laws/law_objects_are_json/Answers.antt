@@ -1,4 +1,5 @@
 use Rattle.wsn_print_laws.proofs.Comments.{comment_line}
+use Rattle.wsn_print_laws.proofs.EndedBy.{ended_by_line}
 use Rattle.wsn_print_laws.proofs.EndMarks.{end_line}
 use Rattle.wsn_print_laws.proofs.ShownNames.{item_line}
 use Rattle.wsn_print_laws.proofs.ObjectLines.{verdict_line, frame_line, report_line, comparison_line}
@@ -24,3 +25,6 @@ returns-clause-end_mark c = end_line
 
 pub returns-clause-comment : goal.returns-clause-comment
 returns-clause-comment c = comment_line
+
+pub returns-clause-ended_by : goal.returns-clause-ended_by
+returns-clause-ended_by c = ended_by_line

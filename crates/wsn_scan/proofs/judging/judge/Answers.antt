@@ -37,26 +37,26 @@ pub returns-in_default-clause-whole : goal.returns-in_default-clause-whole
 returns-in_default-clause-whole g c all known =
     whole_verdict c.args.role c.args.limits c.args.input.now c.refill.new.input c.finish.result all (returns-in_default-clause-judged g c) known
 
-pub returns-in-Some-feed_frames-clause-judged : goal.returns-in-Some-feed_frames-clause-judged
-returns-in-Some-feed_frames-clause-judged g c =
+pub returns-in-Some-feed-clause-judged : goal.returns-in-Some-feed-clause-judged
+returns-in-Some-feed-clause-judged g c =
     let read = c.loop-chunk.invariant.read in
     let got = got_chunk c.loop-chunk.input c.refill.new.input c.room.result (room_of c.loop-chunk.scan) c.refill.new.buffer c.in_ok-chunk.field-0 c.in-Some.chunk c.room.ensures c.in-Some.is c.in_ok-chunk.ensures in (
       read.0 ++ take (count_of c.in-Some.chunk) c.refill.new.buffer,
-      refuses_input c.args.role c.args.limits c.args.input.now c.loop-chunk.input c.refill.new.input c.loop-chunk.scan c.feed_frames.new.self c.refill.new.buffer c.in-Some.chunk read.0 read.1 read.2 got (omega arith)
-          c.in-Some-feed_frames.refusal c.in-Some-feed_frames.ensures,
+      refuses_input c.args.role c.args.limits c.args.input.now c.loop-chunk.input c.refill.new.input c.loop-chunk.scan c.feed.new.self c.refill.new.buffer c.in-Some.chunk read.0 read.1 read.2 got (omega arith)
+          c.in-Some-feed.refusal c.in-Some-feed.ensures,
     )
 
-pub returns-in-Some-feed_frames-clause-whole : goal.returns-in-Some-feed_frames-clause-whole
-returns-in-Some-feed_frames-clause-whole g c all known =
-    whole_verdict c.args.role c.args.limits c.args.input.now c.refill.new.input (Refused c.in-Some-feed_frames.refusal) all (returns-in-Some-feed_frames-clause-judged g c) known
+pub returns-in-Some-feed-clause-whole : goal.returns-in-Some-feed-clause-whole
+returns-in-Some-feed-clause-whole g c all known =
+    whole_verdict c.args.role c.args.limits c.args.input.now c.refill.new.input (Refused c.in-Some-feed.refusal) all (returns-in-Some-feed-clause-judged g c) known
 
 pub returns-then-chunk-clause-judged : goal.returns-then-chunk-clause-judged
 returns-then-chunk-clause-judged g c =
     let read = c.loop-chunk.invariant.read in
     let got = got_chunk c.loop-chunk.input c.refill.new.input c.room.result (room_of c.loop-chunk.scan) c.refill.new.buffer c.in_ok-chunk.field-0 c.in-Some.chunk c.room.ensures c.in-Some.is c.in_ok-chunk.ensures in (
       read.0 ++ take (count_of c.in-Some.chunk) c.refill.new.buffer,
-      passes_limit c.args.role c.args.limits c.args.input.now c.loop-chunk.input c.refill.new.input c.loop-chunk.scan c.feed_frames.new.self c.refill.new.buffer c.in-Some.chunk read.0 read.1 read.2 got (omega arith)
-          c.if-chunk.true c.in_default-feed_frames.ensures,
+      passes_limit c.args.role c.args.limits c.args.input.now c.loop-chunk.input c.refill.new.input c.loop-chunk.scan c.feed.new.self c.refill.new.buffer c.in-Some.chunk read.0 read.1 read.2 got (omega arith)
+          c.if-chunk.true c.in_default-feed.ensures,
     )
 
 pub returns-then-chunk-clause-limit : goal.returns-then-chunk-clause-limit
@@ -71,11 +71,11 @@ loop-chunk-preserved g c =
     record {
       read = (
         read.0 ++ take (count_of c.in-Some.chunk) c.refill.new.buffer,
-        read.1 ++ c.in_default-feed_frames.ensures.heads,
-        goes_on c.args.role c.args.limits c.args.input.now c.loop-chunk.input c.refill.new.input c.loop-chunk.scan c.feed_frames.new.self c.refill.new.buffer c.in-Some.chunk read.0 read.1 read.2 got (omega arith)
-            c.if-chunk.false c.in_default-feed_frames.ensures,
+        read.1 ++ c.in_default-feed.ensures.heads,
+        goes_on c.args.role c.args.limits c.args.input.now c.loop-chunk.input c.refill.new.input c.loop-chunk.scan c.feed.new.self c.refill.new.buffer c.in-Some.chunk read.0 read.1 read.2 got (omega arith)
+            c.if-chunk.false c.in_default-feed.ensures,
       );
-      size = omega (arith, c.feed_frames.auto.piece, length-append c.feed_frames.new.piece (drop c.in-Some.chunk.len c.refill.new.buffer), length-drop c.in-Some.chunk.len c.refill.new.buffer, got.in_buffer, c.refill.auto.buffer);
+      size = omega (arith, c.feed.auto.piece, length-append c.feed.new.piece (drop c.in-Some.chunk.len c.refill.new.buffer), length-drop c.in-Some.chunk.len c.refill.new.buffer, got.in_buffer, c.refill.auto.buffer);
     }
 
 pub slice_bounds-refill-end : goal.slice_bounds-refill-end
@@ -102,20 +102,20 @@ returns-in_default-clause-failed g c = search rules
 pub slice_bounds-buffer-end : goal.slice_bounds-buffer-end
 slice_bounds-buffer-end g c = search rules
 
-pub slice_bounds-feed_frames-end : goal.slice_bounds-feed_frames-end
-slice_bounds-feed_frames-end g c = search rules
+pub slice_bounds-feed-end : goal.slice_bounds-feed-end
+slice_bounds-feed-end g c = search rules
 
-pub feed_frames-requires-clause-begun : goal.feed_frames-requires-clause-begun
-feed_frames-requires-clause-begun g c = search rules
+pub feed-requires-clause-begun : goal.feed-requires-clause-begun
+feed-requires-clause-begun g c = search rules
 
-pub feed_frames-requires-clause-fits : goal.feed_frames-requires-clause-fits
-feed_frames-requires-clause-fits g c = search rules
+pub feed-requires-clause-fits : goal.feed-requires-clause-fits
+feed-requires-clause-fits g c = search rules
 
-pub returns-in-Some-feed_frames-clause-limit : goal.returns-in-Some-feed_frames-clause-limit
-returns-in-Some-feed_frames-clause-limit g c = search rules
+pub returns-in-Some-feed-clause-limit : goal.returns-in-Some-feed-clause-limit
+returns-in-Some-feed-clause-limit g c = search rules
 
-pub returns-in-Some-feed_frames-clause-failed : goal.returns-in-Some-feed_frames-clause-failed
-returns-in-Some-feed_frames-clause-failed g c = search rules
+pub returns-in-Some-feed-clause-failed : goal.returns-in-Some-feed-clause-failed
+returns-in-Some-feed-clause-failed g c = search rules
 
 pub returns-then-chunk-clause-failed : goal.returns-then-chunk-clause-failed
 returns-then-chunk-clause-failed g c = search rules

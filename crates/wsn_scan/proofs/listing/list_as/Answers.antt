@@ -1,9 +1,11 @@
-use Rattle.std.proofs.Common.{◌≡◌, ◌∙◌, Option, Result, Ok, Err, [], length, take, drop, refl, sym, ap, subst, arith, length-append, length-drop, length-take-le, rules}
+use Rattle.std.proofs.Common.{◌≡◌, ◌∙◌, Option, Result, Ok, Err, List, [], length, take, drop, refl, sym, ap, subst, arith, length-append, length-drop, length-take-le, rules}
 use Rattle.std.proofs.KnownBytes.{Appends-nil}
 use Rattle.wsn_rules.specs.declared.verdict.Refusal.{Refusal}
 use Rattle.wsn_rules.specs.declared.verdict.Verdict.{Verdict}
 use Rattle.wsn_io.specs.declared.stop.Stop.{Stop}
 use Rattle.wsn_io.specs.declared.stop.Stop.TheVariants as stop
+use Rattle.wsn_rules.specs.declared.head_info.HeadInfo.{HeadInfo}
+use Rattle.wsn_rules.specs.Heads.{AreHeads}
 use Rattle.wsn_scan.specs.declared.refill.ReadChunk.{ReadChunk}
 use Rattle.wsn_scan.specs.Scans.{room_of}
 use Rattle.wsn_scan.specs.Refill.{IsRefilled}
@@ -41,7 +43,8 @@ returns-in_default-clause-listed g c =
     list_ended c.args.format c.args.role c.args.limits c.args.input.now c.loop-chunk.input c.refill.new.input c.args.output.now c.loop-chunk.output c.end.new.output c.loop-chunk.scan read.0 read.1 c.finish.result c.end.result
     read.2 read.3 at_end.0 at_end.1 at_end.2
     (c.finish.ensures.verdict c.args.role c.args.limits read.0 read.2.taken.since read.2.taken.frames _ read.2.taken.has_scanned)
-    (c.finish.ensures.heads c.args.role c.args.limits read.0 read.2.taken.since read.2.taken.frames _ read.2.taken.has_scanned) c.finish.ensures.reported c.end.ensures
+    (subst (λ (heads : List HeadInfo). AreHeads c.args.role c.args.limits read.0 read.2.taken.frames heads) (sym read.2.taken.heads_are)
+    (c.finish.ensures.heads c.args.role c.args.limits read.0 read.2.taken.since read.2.taken.frames _ read.2.taken.has_scanned)) c.finish.ensures.reported c.end.ensures
 
 pub returns-in_default-clause-whole : goal.returns-in_default-clause-whole
 returns-in_default-clause-whole g c all known = whole_listing c.args.role c.args.limits c.args.format _ _ _ _ _ all (returns-in_default-clause-listed g c) known

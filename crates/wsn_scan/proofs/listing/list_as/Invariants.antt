@@ -6,7 +6,7 @@ use Rattle.wsn_scan.specs.Refill.{chunk_size}
 use Rattle.wsn_scan.proofs.JudgedInputs.{HasRead}
 use Rattle.wsn_scan.proofs.listing.list_as.Given as goal
 
--- the scan has consumed all that came, has not refused, and the heads that it reported were written, so none is held
+-- the scan has consumed all that came, has not refused, and the heads that it took were written, so none is held
 abbrev pub invariant-loop-chunk : goal.invariant-loop-chunk
 invariant-loop-chunk g l = record {
   read : (came : List ℕ) × (heads : List HeadInfo) × HasRead l.fn.role l.fn.limits l.fn.input l.input l.scan came heads

@@ -1,14 +1,15 @@
-use Rattle.std.proofs.Common.{◌≡◌, ◌∙◌, ◌+◌, ◌-◌, ◌<◌, ℕ, List, [], ◌++◌, length, drop, refl, sym, arith, ap, subst, length-drop, rules}
-use borrow.Rule.Slice.PartMut.{mid_of, put_mid}
-use Rattle.wsn_wire.specs.Frame.{IsBytes}
-use Rattle.wsn_scan.specs.Reports.{refusal_in_notice}
-use Rattle.wsn_scan.specs.Feeding.{heads_in}
-use Rattle.wsn_scan.specs.declared.notice.Notice.{Notice}
-use Rattle.wsn_scan.proofs.FedPieces.{IsFedTo, bytes_below, bytes_after, share_is, takes_none, takes_by, takes_on, takes_further, fed_further, no_refusal, falls, falls_further}
-use Rattle.wsn_print.specs.Formats.{heads_text}
-use Rattle.wsn_scan.proofs.Printing.{lines_on}
-use Rattle.wsn_io.proofs.PutTexts.{prints_nothing}
+use Rattle.std.proofs.Common.{◌≡◌, ◌∙◌, ◌+◌, ◌-◌, List, [], length, refl, sym, arith, ap, subst, rules}
+use borrow.Rule.Slice.PartMut.{put_mid}
+use Rattle.wsn_scan.specs.declared.scan.Scan.{Scan}
+use Rattle.wsn_scan.specs.Scans.{refusal_in}
+use Rattle.wsn_rules.specs.declared.head_info.HeadInfo.{HeadInfo}
+use Rattle.wsn_scan.specs.Listing.{IsListedChunk, ListsMore}
+use Rattle.wsn_scan.proofs.FedPieces.{bytes_below, takes_none}
+use Rattle.wsn_scan.proofs.FoundHeads.{none_refused}
+use Rattle.wsn_scan.proofs.ListedParts.{IsListedTo, none_begun, lists_none, falls, listed_on, listed_run, listed_chunk}
+use Rattle.wsn_scan.proofs.Printing.{prints_none}
 use Rattle.wsn_scan.proofs.listing.list_chunk.Goals as goal
+use Rattle.wsn_scan.proofs.listing.list_chunk.Goals.{else-loop-at-test, then-loop-at-test+in-Refused}
 
 pub loop-at-init : goal.loop-at-init
 loop-at-init g c = record {
@@ -16,107 +17,70 @@ loop-at-init g c = record {
   within = omega arith;
   size = refl;
   kept = refl;
-  none_held = c.requires.none_held;
   room = omega arith;
-  consumes = ([], takes_none c.args.scan.now c.args.piece.now, prints_nothing c.args.output.now c.requires.writable);
+  run = ([], takes_none c.args.scan.now c.args.piece.now, ([], c.requires.none_held, prints_none c.args.output.now));
 }
-
-pub returns-in-Refused-clause-listed : goal.returns-in-Refused-clause-listed
-returns-in-Refused-clause-listed g c =
-    let at = c.loop-at.at in
-    let taken = c.next-taken.result.0 in
-    let share = mid_of at (length c.loop-at.piece - at) c.loop-at.piece in
-    let is : share ≡ drop at c.args.piece.now = share_is at c.loop-at.piece ∙ c.loop-at.invariant.kept in
-    let more = c.loop-at.invariant.consumes.0 in
-    let printed = lines_on c.args.format c.args.output.now c.print.new.output more (heads_in c.next-taken.result.1) (c.print.ensures.printed c.args.output.now (heads_text c.args.format more) c.loop-at.invariant.consumes.2) in
-    record {
-      fed = record {
-        count = at + taken;
-        within = omega (arith, length-drop at c.args.piece.now, ap (λ (bs : List ℕ). length bs) is, c.next-taken.ensures.within);
-        room = omega (arith, c.next-taken.ensures.room);
-        heads = c.loop-at.invariant.consumes.0 ++ heads_in c.next-taken.result.1;
-        consumes = takes_on c.args.scan.now c.loop-at.scan c.next-taken.new.self c.next-taken.result.1 c.args.piece.now share c.next-taken.new.piece at taken c.loop-at.invariant.consumes.0 c.loop-at.invariant.in_bytes is c.loop-at.invariant.consumes.1 c.next-taken.ensures.taken;
-        all = λ none. cc;
-        answered = sym (c.next-taken.ensures.reported ∙ ap (λ (notice : Notice). refusal_in_notice notice) c.in-Refused.is);
-      };
-      printed = printed;
-    }
 
 pub loop-at-smaller : goal.loop-at-smaller
 loop-at-smaller g c =
     let at = c.loop-at.at in
-    let piece = c.args.piece.now in
-    let here = c.loop-at.piece in
     let known = c.loop-at.invariant in
-    let taken = c.next-taken.result.0 in
-    let mid = c.next-taken.new.self in
-    let share = mid_of at (length here - at) here in
-    let is : share ≡ drop at piece = share_is at here ∙ known.kept in
-    let size : length share ≡ length (drop at piece) = ap (λ (bs : List ℕ). length bs) is in
-    let some : 0 < length share = omega (arith, length-drop at piece) in
-    let before = known.consumes.1 c.requires.begun.role c.requires.begun.limits c.requires.begun.bytes c.requires.begun.heads c.requires.begun.taken in
-    let first = falls c.loop-at.scan mid c.next-taken.result.1 at taken (length piece) (omega arith) (omega (arith, length-drop at piece, c.next-taken.ensures.within))
-    (no_refusal c.next-taken.result.1 c.in_default.not-Refused).0
-    (c.next-taken.ensures.makes_progress c.requires.begun.role c.requires.begun.limits _ before.since before.frames _ before.has_scanned some) in
-    let fed : IsFedTo c.args.scan.now c.loop-at.scan piece here at = record { in_bytes = known.in_bytes; within = known.within; size = known.size; kept = known.kept; room = known.room; consumes = (known.consumes.0, known.consumes.1) } in
-    let there = put_mid at (length here - at) here c.next-taken.new.piece in
-    let next = fed_further c.args.scan.now c.loop-at.scan mid piece here c.next-taken.new.piece at taken fed c.next-taken.ensures.within c.next-taken.auto.piece c.next-taken.ensures.kept c.next-taken.ensures.room
-    (λ in_bytes. (heads_in c.next-taken.result.1, takes_by c.loop-at.scan mid c.next-taken.result.1 share c.next-taken.new.piece taken c.next-taken.ensures.taken in_bytes)) in
-    let more = c.list_frames-at.result in
-    let all = share_is (at + taken) there ∙ next.kept in
-    falls_further mid c.list_frames-at.new.scan (at + taken) more (length piece) _ (omega (arith, next.within, length-drop (at + taken) piece, ap (λ (bs : List ℕ). length bs) all, c.list_frames-at.ensures.within)) first c.list_frames-at.ensures.none
+    let call = c.next-taken in
+    let e = call.ensures in
+    let so_far : IsListedTo c.args.format c.args.scan.now c.loop-at.scan c.args.output.now c.loop-at.output c.args.piece.now c.loop-at.piece c.loop-at.lines at =
+    record { fed = record { in_bytes = known.in_bytes; within = known.within; size = known.size; kept = known.kept; room = known.room; consumes = (known.run.0, known.run.1) }; held = known.run.2 } in
+    let one = falls c.args.format c.args.scan.now c.loop-at.scan call.new.self c.args.output.now c.loop-at.output c.args.piece.now c.loop-at.piece call.new.piece c.loop-at.lines at call.result.0 call.result.1 call.new.part so_far e.taken e.within call.auto.piece e.kept e.room c.requires.begun c.in_default.not-Refused c.loop-at-test.true in
+    omega (arith, one)
 
 pub loop-at-preserved : goal.loop-at-preserved
 loop-at-preserved g c =
     let at = c.loop-at.at in
-    let piece = c.args.piece.now in
-    let here = c.loop-at.piece in
     let known = c.loop-at.invariant in
-    let taken = c.next-taken.result.0 in
-    let mid = c.next-taken.new.self in
-    let heads = heads_in c.next-taken.result.1 in
-    let share = mid_of at (length here - at) here in
-    let is : share ≡ drop at piece = share_is at here ∙ known.kept in
-    let fed : IsFedTo c.args.scan.now c.loop-at.scan piece here at = record { in_bytes = known.in_bytes; within = known.within; size = known.size; kept = known.kept; room = known.room; consumes = (known.consumes.0, known.consumes.1) } in
-    let there = put_mid at (length here - at) here c.next-taken.new.piece in
-    let next = fed_further c.args.scan.now c.loop-at.scan mid piece here c.next-taken.new.piece at taken fed c.next-taken.ensures.within c.next-taken.auto.piece c.next-taken.ensures.kept c.next-taken.ensures.room
-    (λ in_bytes. (heads, takes_by c.loop-at.scan mid c.next-taken.result.1 share c.next-taken.new.piece taken c.next-taken.ensures.taken in_bytes)) in
-    let first = takes_on c.args.scan.now c.loop-at.scan mid c.next-taken.result.1 piece share c.next-taken.new.piece at taken known.consumes.0 known.in_bytes is known.consumes.1 c.next-taken.ensures.taken in
-    let printed = lines_on c.args.format c.args.output.now c.print.new.output known.consumes.0 heads (c.print.ensures.printed c.args.output.now (heads_text c.args.format known.consumes.0) known.consumes.2) in
-    let frames = c.list_frames-at in
-    let left = mid_of (at + taken) (length there - (at + taken)) there in
-    let left_is : left ≡ drop (at + taken) piece = share_is (at + taken) there ∙ next.kept in
-    let in_left : IsBytes left = subst IsBytes (sym left_is) (bytes_after (at + taken) piece known.in_bytes) in
-    let run = frames.ensures.taken in_left in
-    let last = fed_further c.args.scan.now mid frames.new.scan piece there frames.new.piece (at + taken) frames.result next frames.ensures.within frames.auto.piece frames.ensures.kept frames.ensures.room
-    (λ in_bytes. (run.heads, run.consumes)) in
+    let call = c.next-taken in
+    let e = call.ensures in
+    let so_far : IsListedTo c.args.format c.args.scan.now c.loop-at.scan c.args.output.now c.loop-at.output c.args.piece.now c.loop-at.piece c.loop-at.lines at =
+    record { fed = record { in_bytes = known.in_bytes; within = known.within; size = known.size; kept = known.kept; room = known.room; consumes = (known.run.0, known.run.1) }; held = known.run.2 } in
+    let on = listed_on c.args.format c.args.scan.now c.loop-at.scan call.new.self c.args.output.now c.loop-at.output c.args.piece.now c.loop-at.piece call.new.piece c.loop-at.lines at call.result.0 call.result.1 call.new.part so_far e.taken e.within call.auto.piece e.kept e.room c.list_head.new.output c.list_head.new.lines c.list_head.ensures in
+    let there = put_mid at (length c.loop-at.piece - at) c.loop-at.piece call.new.piece in
+    let run = c.list_events-at in
+    let all = listed_run c.args.format c.args.scan.now call.new.self run.new.scan c.args.output.now c.list_head.new.output run.new.output c.args.piece.now there run.new.piece c.list_head.new.lines run.new.lines (at + call.result.0) run.result on run.ensures.within run.auto.piece run.ensures.kept run.ensures.room run.ensures.listed in
     record {
-      in_bytes = known.in_bytes;
-      within = last.within;
-      size = last.size;
-      kept = last.kept;
-      none_held = frames.ensures.none_held;
-      room = last.room;
-      consumes = (
-        (known.consumes.0 ++ heads) ++ run.heads,
-        takes_further c.args.scan.now mid frames.new.scan piece left (at + taken) frames.result (known.consumes.0 ++ heads) run.heads left_is first run.consumes,
-        lines_on c.args.format c.args.output.now frames.new.output (known.consumes.0 ++ heads) run.heads (run.printed c.args.output.now (heads_text c.args.format (known.consumes.0 ++ heads)) printed),
-      );
+      in_bytes = all.fed.in_bytes;
+      within = all.fed.within;
+      size = all.fed.size;
+      kept = all.fed.kept;
+      room = all.fed.room;
+      run = (all.fed.consumes.0, all.fed.consumes.1, all.held);
     }
 
 pub returns-clause-listed : goal.returns-clause-listed
-returns-clause-listed g c = record {
-  fed = record {
-    count = c.loop-at.at;
-    within = c.loop-at.invariant.within;
-    room = c.loop-at.invariant.room;
-    heads = c.loop-at.invariant.consumes.0;
-    consumes = c.loop-at.invariant.consumes.1;
-    all = λ none. omega (arith, c.loop-at.invariant.within, c.loop-at.invariant.size);
-    answered = c.refusal.ensures;
-  };
-  printed = c.loop-at.invariant.consumes.2;
-}
+returns-clause-listed g c =
+    let at = c.loop-at.at in
+    let known = c.loop-at.invariant in
+    let so_far : IsListedTo c.args.format c.args.scan.now c.loop-at.scan c.args.output.now c.loop-at.output c.args.piece.now c.loop-at.piece c.loop-at.lines at =
+    record { fed = record { in_bytes = known.in_bytes; within = known.within; size = known.size; kept = known.kept; room = known.room; consumes = (known.run.0, known.run.1) }; held = known.run.2 } in
+    let refusal = c.refusal.result in
+    let before = c.args.output.now in
+    let out = c.print_lines.new.output in
+    let printed = c.print_lines.ensures.printed in
+    elim c.loop-at-test.branch [
+      | else-loop-at-test w ↦
+          subst (λ (s : Scan). IsListedChunk c.args.format c.args.scan.now s before out c.args.piece.now refusal) (sym w.scan-is)
+          (listed_chunk c.args.format c.args.scan.now c.loop-at.scan before c.loop-at.output out c.args.piece.now c.loop-at.piece c.loop-at.lines at refusal so_far printed c.requires.writable
+          (λ none. omega (arith, known.within, known.size, w.loop-at-test.false)) (c.refusal.ensures ∙ ap (λ (s : Scan). refusal_in s) w.scan-is))
+      | then-loop-at-test+in-Refused w ↦
+          let call = w.next-taken in
+          let e = call.ensures in
+          let here = put_mid at (length c.loop-at.piece - at) c.loop-at.piece call.new.piece in
+          let none = none_begun call.result.1 call.new.part (λ is. let both = sym w.in-Refused.is ∙ is in cc) in
+          let on =
+          listed_on c.args.format c.args.scan.now c.loop-at.scan call.new.self before c.loop-at.output c.args.piece.now c.loop-at.piece call.new.piece c.loop-at.lines at call.result.0 call.result.1 call.new.part so_far e.taken
+          e.within call.auto.piece e.kept e.room c.loop-at.output c.loop-at.lines (subst (λ (heads : List HeadInfo). ListsMore c.args.format c.loop-at.output c.loop-at.output c.loop-at.lines c.loop-at.lines heads) (sym none) (lists_none c.args.format c.loop-at.output c.loop-at.lines)) in
+          let answered : refusal ≡ refusal_in call.new.self = c.refusal.ensures ∙ ap (λ (s : Scan). refusal_in s) w.scan-is in
+          subst (λ (s : Scan). IsListedChunk c.args.format c.args.scan.now s before out c.args.piece.now refusal) (sym w.scan-is)
+          (listed_chunk c.args.format c.args.scan.now call.new.self before c.loop-at.output out c.args.piece.now here c.loop-at.lines (at + call.result.0) refusal on printed c.requires.writable
+          (λ none. absurd (none_refused call.new.self (e.reported.1 w.in-Refused.is) (sym answered ∙ none))) answered)
+    ]
 
 pub slice_bounds-next-count : goal.slice_bounds-next-count
 slice_bounds-next-count g c = search rules
@@ -133,29 +97,20 @@ next-taken-requires g c = search rules
 pub overflow_add-at : goal.overflow_add-at
 overflow_add-at g c = search rules
 
-pub slice_bounds-list_frames-count : goal.slice_bounds-list_frames-count
-slice_bounds-list_frames-count g c = search rules
-
-pub slice_bounds-list_frames-start : goal.slice_bounds-list_frames-start
-slice_bounds-list_frames-start g c = search rules
-
-pub slice_bounds-list_frames-end : goal.slice_bounds-list_frames-end
-slice_bounds-list_frames-end g c = search rules
-
-pub list_frames-at-requires-clause-fits : goal.list_frames-at-requires-clause-fits
-list_frames-at-requires-clause-fits g c = search rules
-
-pub list_frames-at-requires-clause-none_held : goal.list_frames-at-requires-clause-none_held
-list_frames-at-requires-clause-none_held g c = search rules
-
-pub returns-in-Refused-clause-none_held : goal.returns-in-Refused-clause-none_held
-returns-in-Refused-clause-none_held g c = search rules
-
 pub returns-clause-none_held : goal.returns-clause-none_held
 returns-clause-none_held g c = search rules
 
+pub slice_bounds-list_events-count : goal.slice_bounds-list_events-count
+slice_bounds-list_events-count g c = search rules
+
+pub slice_bounds-list_events-start : goal.slice_bounds-list_events-start
+slice_bounds-list_events-start g c = search rules
+
+pub slice_bounds-list_events-end : goal.slice_bounds-list_events-end
+slice_bounds-list_events-end g c = search rules
+
+pub list_events-at-requires : goal.list_events-at-requires
+list_events-at-requires g c = search rules
+
 pub overflow_add-at-in-loop-at : goal.overflow_add-at-in-loop-at
 overflow_add-at-in-loop-at g c = search rules
-
-pub print-requires : goal.print-requires
-print-requires g c = c.loop-at.invariant.none_held

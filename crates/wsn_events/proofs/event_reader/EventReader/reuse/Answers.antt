@@ -5,10 +5,10 @@ use Rattle.wsn_events.proofs.event_reader.EventReader.reuse.Goals as goal
 pub returns-in-Message : goal.returns-in-Message
 returns-in-Message g c = record {
   given = λ role limits came given has. record {
-    done = has.done;
-    at = has.at;
-    has_reported = has.has_reported;
-    reassembly = reassembled_alike c.args.self.now.reassembly c.reuse.new.self c.reuse.ensures.same c.reuse.ensures.held has.done has.at has.reassembly;
+    frames = has.frames;
+    position = has.position;
+    has_taken = has.has_taken;
+    reassembly = reassembled_alike c.args.self.now.reassembly c.reuse.new.self c.reuse.ensures.same c.reuse.ensures.held has.frames has.position has.reassembly;
     events = has.events;
     going = has.going;
   };

@@ -7,4 +7,4 @@ take_events-requires g c = reading_of c.args.self.now c.requires
 
 pub returns-clause-taken : goal.returns-clause-taken
 returns-clause-taken g c is role limits came given has =
-    takes_after role limits c.args.self.now c.take_events.new.self came given has (c.take_events.ensures.taken is role limits came has.done has.at has.has_reported)
+    takes_after role limits c.args.self.now c.take_events.new.self came given has (c.take_events.ensures.taken is role limits came has.frames has.position has.has_taken)

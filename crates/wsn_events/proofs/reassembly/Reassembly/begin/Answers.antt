@@ -1,17 +1,8 @@
-use Rattle.std.proofs.Common.{rules}
+use Rattle.wsn_events.proofs.ReassembledFrames.{begins_by, begun_before}
 use Rattle.wsn_events.proofs.reassembly.Reassembly.begin.Goals as goal
 
-pub returns-in-Text : goal.returns-in-Text
-returns-in-Text g c = search rules
+pub returns-then-part : goal.returns-then-part
+returns-then-part g c fs at before few place is was = begins_by c.args.self.now c.begin_frame.new.self c.args.part.now fs before at c.if-part.true is was (c.begin_frame.ensures fs few place)
 
-pub clear-requires : goal.clear-requires
-clear-requires g c = search rules
-
-pub returns-in-Binary : goal.returns-in-Binary
-returns-in-Binary g c = search rules
-
-pub returns-in-Continue : goal.returns-in-Continue
-returns-in-Continue g c = search rules
-
-pub returns-in_default : goal.returns-in_default
-returns-in_default g c = search rules
+pub returns-else-part : goal.returns-else-part
+returns-else-part g c fs at before few place is was = begun_before c.args.self.now c.args.part.now fs before at c.if-part.false is was

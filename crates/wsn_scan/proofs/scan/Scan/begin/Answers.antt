@@ -1,104 +1,165 @@
-use Rattle.std.proofs.Common.{◌≡◌, ◌++◌, [], ◌∷◌, true, false, inl, inr, refl, sym, ◌∙◌, arith, append-nil, rules}
-use Rattle.wsn_wire.specs.declared.refusal.Reason.TheVariants.{TextCut}
-use Rattle.wsn_wire.specs.Frame.{first_byte}
-use Rattle.wsn_wire.proofs.FrameLemmas.{first_byte_fields}
-use Rattle.wsn_scan.specs.declared.notice.Notice.TheVariants as notices
+use Rattle.std.proofs.Common.{◌≡◌, ◌+◌, ◌-◌, ◌≤◌, ℕ, nat_eq, true, inl, Ok, Option, List, [], ◌++◌, length, take, drop, refl, sym, ap, ◌∙◌, subst, arith, append_assoc, rules}
+use Rattle.std.proofs.lemmas.Grind.{common_steps}
+use Rattle.std.proofs.lemmas.List.{length-take-le}
+use borrow.Rule.Slice.PartMut.{mid_of, mid_len, put_mid}
+use Rattle.wsn_wire.specs.declared.refusal.Reason.{Reason}
+use Rattle.wsn_wire.specs.Frame.{IsBytes, first_byte}
+use Rattle.wsn_wire.proofs.FrameLemmas.{first_byte_fields, IsBytes-right}
+use Rattle.wsn_frame.specs.declared.open_message.OpenMessage.{OpenMessage}
+use Rattle.wsn_frame.specs.OpenMessages.{IsOpenMessage}
+use Rattle.wsn_rules.specs.Evidence.{EvidentByPayload}
 use Rattle.wsn_rules.specs.Group.{unfinished}
-use Rattle.wsn_rules.specs.Heads.{heads_of}
-use Rattle.wsn_scan.specs.Reports.{reported_after}
-use Rattle.wsn_scan.proofs.HeadsReported.{heads_with, cut_begins_none}
-use Rattle.wsn_frame.proofs.PayloadMore.{unmasked_nothing}
+use Rattle.wsn_frame.specs.PayloadChecks.{IsChecked}
+use Rattle.wsn_frame.specs.Payloads.{unmasked_by}
 use Rattle.wsn_frame.proofs.FrameStarts.{goes_on, begins}
-use Rattle.wsn_frame.proofs.PayloadBytes.{starts, starts_empty, cut_at_start}
-use Rattle.wsn_scan.proofs.MoreBytes.{knows_more}
-use Rattle.wsn_scan.proofs.Refusals.{refuses}
+use Rattle.wsn_frame.proofs.FramesAtOnce.{kept_after_frame, payload_after, masked_back, head_and_payload}
+use Rattle.wsn_frame.proofs.PayloadBytes.{cut_at_start}
+use Rattle.wsn_frame.proofs.PayloadMore.{length-unmasked_by}
+use Rattle.wsn_scan.proofs.HeadBytes.{bytes_taken}
+use Rattle.wsn_scan.proofs.BegunFrames.{holds_begun, drop_mid, total_is, begun_part, not_all}
 use Rattle.wsn_scan.proofs.scan.Scan.begin.Goals as goal
-use Rattle.wsn_scan.proofs.PayloadPrefixes.{no_head}
 
-pub returns-then-head-gt0-clause-taken : goal.returns-then-head-gt0-clause-taken
-returns-then-head-gt0-clause-taken c role limits bytes rest last taken fs reported has_consumed none heads ends size some in_bytes h =
-    let head = c.args.head in
-    let group = unfinished fs in
-    let bytes_of = rest ++ last in
-    let checked = c.new-check.ensures group has_consumed.message (goes_on role limits group head (rest ++ last) h) (begins role limits group head (rest ++ last) h) in
-    record {
-      frames = fs;
-      since = rest ++ last;
-      has_scanned = record {
-        has_consumed = knows_more role limits c.args.self.now _ bytes rest last fs (record { sender = refl; under = refl; room = omega (arith, c.requires); used = refl; counts = refl; message = refl }) in_bytes has_consumed;
-        at = (
-          none,
-          record {
-            wire = [];
-            holds = starts role limits group head (rest ++ last) h c.new-check.result checked c.if-head-gt0.true;
-            done = refl;
-            short = c.if-head-gt0.true;
-            unmasked = unmasked_nothing head.key;
-          },
-          heads_with head fs reported.heads c.args.self.now.used c.info-info.result heads has_consumed.used c.info-info.ensures,
-          ends,
-        );
-      };
-      reports = tt;
-    }
+pub returns-then-not-takes-clause-none : goal.returns-then-not-takes-clause-none
+returns-then-not-takes-clause-none c =
+    let start = c.args.start in
+    let end = start + c.min-count.result in
+    let within : end ≤ length c.args.piece.now = omega (arith, c.requires.within, c.min-count.ensures) in
+    (refl, masked_back c.args.head.now.key start end c.args.piece.now c.unmask.new.bytes (omega arith) within c.unmask.ensures c.unmask-then-not-takes.new.bytes c.unmask-then-not-takes.ensures)
 
-pub returns-then-is_cut-clause-taken : goal.returns-then-is_cut-clause-taken
-returns-then-is_cut-clause-taken c role limits bytes rest last taken fs reported has_consumed none heads ends size some in_bytes h =
-    let head = c.args.head in
-    let group = unfinished fs in
-    let checked = c.new-check.ensures group has_consumed.message (goes_on role limits group head (rest ++ last) h) (begins role limits group head (rest ++ last) h) in
-    let cut = c.is_cut.ensures group (first_byte head.first.fin head.first.op) checked (first_byte_fields head.first.fin head.first.op).fin_is in
-    let empty : head.len ≡ 0 = omega (arith, c.if-head-gt0.false) in
-    let is_evident = cut_at_start role limits group head (rest ++ last) h c.new-check.result checked empty (cut.0.0 c.if-is_cut.true) cut.1 in
-    rw (c.refuse.ensures.reported, c.refuse.ensures.after) (refuses role limits c.args.self.now bytes rest last fs reported [] c.args.count TextCut has_consumed none size c.requires in_bytes some is_evident
-    (inr (inl (refl, none, cut_begins_none role limits fs head (rest ++ last) TextCut h is_evident.is_evident))) (heads ∙ sym (append-nil (heads_of fs))) ends
-    (no_head fs (bytes ++ last) reported.payload reported.heads heads))
+pub returns-then-not-takes-clause-cut : goal.returns-then-not-takes-clause-cut
+returns-then-not-takes-clause-cut c empty role limits group bytes is_open is_head =
+    let head = c.args.head.now in
+    let start = c.args.start in
+    let end = start + c.min-count.result in
+    let piece = c.args.piece.now in
+    let within : end ≤ length piece = omega (arith, c.requires.within, c.min-count.ensures) in
+    let checked = c.new-check.ensures group is_open (goes_on role limits group head bytes is_head) (begins role limits group head bytes is_head) in
+    let fed_is = payload_after head.key start end piece c.unmask.new.bytes (omega arith) within c.unmask.ensures in
+    let size = ap (λ (bs : List ℕ). length bs) fed_is ∙ length-unmasked_by head.key 0 (mid_of start (end - start) piece) ∙ mid_len start end piece within in
+    let no_more : end - start ≡ 0 = omega (arith, c.min-count.ensures, empty) in
+    let row = c.takes.ensures.cut (search rules) (size ∙ no_more) group (first_byte head.first.fin head.first.op) checked (first_byte_fields head.first.fin head.first.op).fin_is in
+    cut_at_start role limits group head bytes is_head c.new-check.result checked empty row.0 row.1
 
 pub returns-clause-taken : goal.returns-clause-taken
-returns-clause-taken c role limits bytes rest last taken fs reported has_consumed none heads ends size some in_bytes h =
-    let head = c.args.head in
+returns-clause-taken c role limits bytes rest fs in_piece has_consumed none some is_head =
+    let head = c.args.head.now in
+    let start = c.args.start in
+    let count = c.min-count.result in
+    let end = start + count in
+    let piece = c.args.piece.now in
     let group = unfinished fs in
-    let checked = c.new-check.ensures group has_consumed.message (goes_on role limits group head (rest ++ last) h) (begins role limits group head (rest ++ last) h) in
-    let cut = c.is_cut.ensures group (first_byte head.first.fin head.first.op) checked (first_byte_fields head.first.fin head.first.op).fin_is in
-    let empty : head.len ≡ 0 = omega (arith, c.if-head-gt0.false) in
-    let holds = starts_empty role limits group head (rest ++ last) h c.new-check.result checked empty (λ row. let both : false ≡ true = sym c.if-is_cut.false ∙ cut.0.1 row in cc) cut.1 in
-    let ends = c.end.ensures.taken role limits (bytes ++ last) (rest ++ last) [] fs (reported_after reported (notices.Head c.info-info.result) taken)
-    (knows_more role limits c.args.self.now _ bytes rest last fs (record { sender = refl; under = refl; room = omega (arith, c.requires); used = refl; counts = refl; message = refl }) in_bytes has_consumed)
-    none holds (sym empty) (heads_with head fs reported.heads c.args.self.now.used c.info-info.result heads has_consumed.used c.info-info.ensures) ends (unmasked_nothing head.key) in
-    record { frames = fs ++ ends.frame ∷ []; since = []; has_scanned = ends.has_scanned; reports = tt }
+    let first = first_byte head.first.fin head.first.op in
+    let wire = mid_of start (end - start) piece in
+    let came = take end piece in
+    let within : end ≤ length piece = omega (arith, c.requires.within, c.min-count.ensures) in
+    let size : length wire ≡ count = mid_len start end piece within ∙ omega arith in
+    let parts : came ≡ take start piece ++ wire = head_and_payload start end piece (omega arith) in
+    let in_came : IsBytes came = bytes_taken end piece in_piece in
+    let in_wire : IsBytes wire = IsBytes-right (take start piece) wire (subst IsBytes parts in_came) in
+    let is_open : IsOpenMessage c.args.message.now group = subst (λ (m : Option OpenMessage). IsOpenMessage m group) (sym c.requires.open) has_consumed.message in
+    let checked = c.new-check.ensures group is_open (goes_on role limits group head (rest ++ take start piece) is_head) (begins role limits group head (rest ++ take start piece) is_head) in
+    let fed_is = payload_after head.key start end piece c.unmask.new.bytes (omega arith) within c.unmask.ensures in
+    let fed_size = ap (λ (bs : List ℕ). length bs) fed_is ∙ length-unmasked_by head.key 0 wire ∙ size in
+    let yes : c.takes.result ≡ true = search rules in
+    let fed : IsChecked group first head.len [] (unmasked_by head.key 0 wire) (Ok c.takes.new.check) =
+    subst (λ (bs : List ℕ). IsChecked group first head.len [] bs (Ok c.takes.new.check)) fed_is
+    (c.takes.ensures.taken yes group first head.len [] checked (first_byte_fields head.first.fin head.first.op).fin_is (total_is count head.len _ fed_size) (omega (arith, fed_size, c.min-count.ensures))) in
+    let quiet : head.len ≡ 0 → (reason : Reason) → EvidentByPayload group reason first 0 [] → ⊥ = λ empty.
+    let no_more : count ≡ head.len = omega (arith, c.min-count.ensures, empty) in
+    let last : nat_eq count head.len ≡ true = search (rules, no_more) in
+    c.takes.ensures.whole yes last (omega (arith, fed_size, c.min-count.ensures, empty)) group first checked (first_byte_fields head.first.fin head.first.op).fin_is in
+    let whole : rest ++ came ≡ (rest ++ take start piece) ++ wire = ap (λ (bs : List ℕ). rest ++ bs) parts ∙ sym (append_assoc rest (take start piece) wire) in
+    let holds = holds_begun role limits group head c.new-check.result c.takes.new.check (rest ++ take start piece) wire (rest ++ came) whole in_wire is_head checked (omega (arith, size, c.min-count.ensures)) fed quiet in
+    let added = c.add_part.ensures.taken role limits bytes rest came wire [] (unmasked_by head.key 0 wire) fs has_consumed none in_came (length-take-le end piece within) holds (sym size) (omega (arith, size, c.min-count.ensures)) refl in
+    let shown = drop_mid start count piece c.unmask.new.bytes head.key within c.unmask.ensures in (
+      record {
+        frames = added.frames;
+        since = added.since;
+        position = added.position;
+        has_scanned = added.has_scanned;
+        found = record {
+          before = [];
+          is_at = (refl, refl);
+          goes_on = begun_part fs c.add_part.new.part (unmasked_by head.key 0 wire) _ added.frames added.position (ap (λ (n : ℕ). drop n (take end (put_mid start (end - start) piece c.unmask.new.bytes))) c.add_part.ensures.start ∙ shown) added.found;
+        };
+      },
+      (
+        λ more. omega (arith, some),
+        λ is. let other : (count ≡ head.len) → ⊥ = not_all c.add_part.new.part.ends count head.len c.add_part.ensures.ends is in inl (omega (arith, other, c.min-count.ensures, c.requires.within)),
+      ),
+    )
 
-pub overflow_sub-self : goal.overflow_sub-self
-overflow_sub-self c = search rules
+pub returns-clause-kept : goal.returns-clause-kept
+returns-clause-kept c =
+    let start = c.args.start in
+    let end = start + c.min-count.result in
+    kept_after_frame c.args.head.now.key start end c.args.piece.now c.unmask.new.bytes (omega arith) (omega (arith, c.requires.within, c.min-count.ensures)) c.unmask.ensures
 
-pub returns-then-head-gt0-clause-consumes : goal.returns-then-head-gt0-clause-consumes
-returns-then-head-gt0-clause-consumes c = search rules
+pub overflow_sub-piece : goal.overflow_sub-piece
+overflow_sub-piece c = search rules
 
-pub returns-then-head-gt0-clause-room : goal.returns-then-head-gt0-clause-room
-returns-then-head-gt0-clause-room c = search rules
+pub overflow_add-end : goal.overflow_add-end
+overflow_add-end c = search rules
 
-pub returns-then-head-gt0-clause-reported : goal.returns-then-head-gt0-clause-reported
-returns-then-head-gt0-clause-reported c = search rules
+pub slice_bounds-unmask-count : goal.slice_bounds-unmask-count
+slice_bounds-unmask-count c = search rules
 
-pub refuse-requires : goal.refuse-requires
-refuse-requires c = search rules
+pub slice_bounds-unmask-start : goal.slice_bounds-unmask-start
+slice_bounds-unmask-start c = search rules
 
-pub returns-then-is_cut-clause-consumes : goal.returns-then-is_cut-clause-consumes
-returns-then-is_cut-clause-consumes c = search rules
+pub slice_bounds-unmask-end : goal.slice_bounds-unmask-end
+slice_bounds-unmask-end c = search rules
 
-pub returns-then-is_cut-clause-room : goal.returns-then-is_cut-clause-room
-returns-then-is_cut-clause-room c = search rules
+pub unmask-requires : goal.unmask-requires
+unmask-requires c = search rules
 
-pub returns-then-is_cut-clause-reported : goal.returns-then-is_cut-clause-reported
-returns-then-is_cut-clause-reported c = search rules
+pub slice_bounds-takes-count : goal.slice_bounds-takes-count
+slice_bounds-takes-count c = search rules
 
-pub overflow_sub-self-2 : goal.overflow_sub-self-2
-overflow_sub-self-2 c = search rules
+pub slice_bounds-takes-start : goal.slice_bounds-takes-start
+slice_bounds-takes-start c = search rules
 
-pub returns-clause-consumes : goal.returns-clause-consumes
-returns-clause-consumes c = search rules
+pub slice_bounds-takes-end : goal.slice_bounds-takes-end
+slice_bounds-takes-end c = search rules
+
+pub slice_bounds-unmask-count-then-not-takes : goal.slice_bounds-unmask-count-then-not-takes
+slice_bounds-unmask-count-then-not-takes c = search rules
+
+pub slice_bounds-unmask-start-then-not-takes : goal.slice_bounds-unmask-start-then-not-takes
+slice_bounds-unmask-start-then-not-takes c = search rules
+
+pub slice_bounds-unmask-end-then-not-takes : goal.slice_bounds-unmask-end-then-not-takes
+slice_bounds-unmask-end-then-not-takes c = search rules
+
+pub unmask-requires-then-not-takes : goal.unmask-requires-then-not-takes
+unmask-requires-then-not-takes c = search rules
+
+pub shape_of-piece-then-not-takes : goal.shape_of-piece-then-not-takes
+shape_of-piece-then-not-takes c = search rules
+
+pub add_part-requires-clause-fits : goal.add_part-requires-clause-fits
+add_part-requires-clause-fits c = search rules
+
+pub add_part-requires-clause-open : goal.add_part-requires-clause-open
+add_part-requires-clause-open c = search rules
+
+pub shape_of-piece : goal.shape_of-piece
+shape_of-piece c = search rules
+
+pub returns-clause-within : goal.returns-clause-within
+returns-clause-within c = search rules
+
+pub returns-clause-start : goal.returns-clause-start
+returns-clause-start c = search rules
+
+pub returns-clause-head : goal.returns-clause-head
+returns-clause-head c = grind (arith, common_steps)
 
 pub returns-clause-room : goal.returns-clause-room
 returns-clause-room c = search rules
 
 pub returns-clause-reported : goal.returns-clause-reported
 returns-clause-reported c = search rules
+
+pub returns-clause-whole : goal.returns-clause-whole
+returns-clause-whole c = search rules

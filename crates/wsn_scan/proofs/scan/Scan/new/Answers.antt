@@ -16,5 +16,5 @@ returns c = record {
     counts = c.new.ensures;
     message = refl;
   };
-  at = (no_close_nil, refl, refl, refl);
+  is_at = (no_close_nil, refl, refl);
 }

@@ -1,11 +1,9 @@
-use Rattle.std.proofs.Common.{◌≡◌, ◌+◌, ◌-◌, ◌≤◌, List, [], ◌∷◌, ◌++◌, ℕ, length, drop, refl, sym, ap, ◌∙◌, subst, arith, length-drop, rules}
+use Rattle.std.proofs.Common.{◌≡◌, ◌+◌, ◌-◌, ◌≤◌, List, ℕ, length, drop, refl, sym, ap, ◌∙◌, subst, arith, length-drop, rules}
 use borrow.Rule.Slice.PartMut.{mid_of, put_mid, put_same, same_len_mid}
 use Rattle.wsn_wire.specs.Frame.{IsBytes}
-use Rattle.wsn_scan.specs.EventFrames.{TakesEvents, info_found}
-use Rattle.wsn_scan.specs.Feeding.{ConsumesPrefix}
-use Rattle.wsn_scan.proofs.EventRuns.{IsPastEvent, after_frames, begins, begins_prefix, takes_event, end_of, goes_on, taken_with}
-use Rattle.wsn_scan.proofs.FedPieces.{bytes_below, bytes_after, share_is, kept_after, same_further, takes_none, takes_further}
-use Rattle.wsn_scan.proofs.WholeFrames.{prefix_of_end}
+use Rattle.wsn_scan.specs.EventFrames.{TakesEvents}
+use Rattle.wsn_scan.proofs.EventRuns.{IsPastEvent, after_frames, begins, takes_event, goes_on, taken_with}
+use Rattle.wsn_scan.proofs.FedPieces.{bytes_below, bytes_after, share_is, kept_after, same_further}
 use Rattle.wsn_scan.proofs.scan.Scan.take_events.Goals as goal
 
 pub loop-frame-init : goal.loop-frame-init
@@ -18,7 +16,6 @@ loop-frame-init c =
       size = refl;
       kept = refl;
       takes = begins c.args.self.now idle c.args.piece.now;
-      heads = ([], begins_prefix c.args.self.now idle c.args.piece.now);
     }
 
 pub loop-frame-preserved : goal.loop-frame-preserved
@@ -47,7 +44,6 @@ loop-frame-preserved c =
       counts = c.with-counts.ensures;
     } in
     let takes = takes_event before after share c.take_event.new.piece frame known.idle past found.within.1 in_share (found.taken in_share) in
-    let info = info_found before.used frame in
     record {
       in_bytes = known.in_bytes;
       idle = known.idle;
@@ -57,10 +53,6 @@ loop-frame-preserved c =
           ∙ same_further at n here piece in_here known.within known.kept;
       takes = goes_on c.args.self.now known.idle piece here share c.take_event.new.piece _ at c.loop-frame.counts c.with-counts.result frame known.takes is takes
           (taken_with at n here c.take_event.new.piece in_here (omega (arith, same_size, found.within.1)));
-      heads = (
-        known.heads.0 ++ info ∷ [],
-        takes_further c.args.self.now before after piece share at n known.heads.0 (info ∷ []) is known.heads.1 (prefix_of_end before after share n info (end_of before after share c.take_event.new.piece frame known.idle takes)),
-      );
     }
 
 -- the part that the last call left is as it was
@@ -78,22 +70,6 @@ returns-clause-taken c some =
       subst (λ (used : ℕ). TakesEvents self (record self { room = self.room - at; used = used; counts = c.loop-frame.counts }) piece (put_mid at (length c.loop-frame.piece - at) c.loop-frame.piece c.take_event.new.piece) at) (sym c.taken-self.ensures)
           (subst (λ (after : List ℕ). TakesEvents self (after_frames self at c.loop-frame.counts) piece after at) (sym back) known.takes),
     )
-
-pub returns-clause-heads : goal.returns-clause-heads
-returns-clause-heads c =
-    let known = c.loop-frame.invariant in
-    let at = c.loop-frame.at in
-    let self = c.args.self.now in
-    let heads = known.heads in (
-      heads.0,
-      subst (λ (used : ℕ). ConsumesPrefix self (record self { room = self.room - at; used = used; counts = c.loop-frame.counts }) c.args.piece.now at heads.0) (sym c.taken-self.ensures) heads.1,
-    )
-
-pub returns-then-at-eq0-clause-heads : goal.returns-then-at-eq0-clause-heads
-returns-then-at-eq0-clause-heads c = ([], takes_none c.args.self.now c.args.piece.now)
-
-pub returns-then-not-is_idle-clause-heads : goal.returns-then-not-is_idle-clause-heads
-returns-then-not-is_idle-clause-heads c = ([], takes_none c.args.self.now c.args.piece.now)
 
 pub returns-then-at-eq0-clause-none : goal.returns-then-at-eq0-clause-none
 returns-then-at-eq0-clause-none c zero =

@@ -1,8 +1,6 @@
-use Rattle.std.proofs.Common.{◌≡◌, ◌-◌, ◌≤◌, List, length, drop}
+use Rattle.std.proofs.Common.{◌≡◌, ◌-◌, ◌≤◌, length, drop}
 use Rattle.wsn_wire.specs.Frame.{IsBytes}
-use Rattle.wsn_rules.specs.declared.head_info.HeadInfo.{HeadInfo}
 use Rattle.wsn_scan.specs.EventFrames.{TakesEvents, IsIdle}
-use Rattle.wsn_scan.specs.Feeding.{ConsumesPrefix}
 use Rattle.wsn_scan.proofs.EventRuns.{after_frames}
 use Rattle.wsn_scan.proofs.scan.Scan.take_events.Given as goal
 
@@ -15,7 +13,6 @@ invariant-loop-frame l = record {
   size : length l.piece ≡ length l.fn.piece;
   kept : drop l.at l.piece ≡ drop l.at l.fn.piece;
   takes : TakesEvents l.fn.self (after_frames l.fn.self l.at l.counts) l.fn.piece l.piece l.at;
-  heads : (more : List HeadInfo) × ConsumesPrefix l.fn.self (after_frames l.fn.self l.at l.counts) l.fn.piece l.at more;
 }
 
 abbrev pub decreases-loop-frame : goal.decreases-loop-frame

@@ -12,14 +12,19 @@ pub returns : goal.returns
 returns g c limits style lines entries has =
     let client = c.put_left_at_end.ensures limits style lines entries has in
     let server = c.put_left_at_end-2.ensures limits style lines entries has in
+    let is_report = c.report-report.ensures limits lines entries has.accepted has.noted
+    (c.verdict.ensures Client limits style (sent Client entries) has.viewed.client) (c.verdict-2.ensures Server limits style (sent Server entries) has.viewed.server) in
+    let says = c.put_who_ended.ensures limits style lines entries has is_report in
     record {
       client_left = client.left;
       server_left = server.left;
       of_client = client.is_left;
       of_server = server.is_left;
-      is_report = c.report.ensures limits lines entries has.accepted has.noted
-          (c.verdict.ensures Client limits style (sent Client entries) has.viewed.client) (c.verdict-2.ensures Server limits style (sent Server entries) has.viewed.server);
-      printed = subst (IsWrittenUpToFailure c.args.output.now c.put_left_at_end-2.new.output) (sym (both_streams_text style AtEnd client.left server.left))
+      is_report = is_report;
+      ended_by = says.ended_by;
+      is_ended_by = says.is_ended_by;
+      printed = says.printed c.args.output.now _
+          (subst (IsWrittenUpToFailure c.args.output.now c.put_left_at_end-2.new.output) (sym (both_streams_text style AtEnd client.left server.left))
           (server.printed c.args.output.now (styled_items style Client AtEnd client.left)
-          (client.printed c.args.output.now [] (prints_nothing c.args.output.now c.requires)));
+          (client.printed c.args.output.now [] (prints_nothing c.args.output.now c.requires))));
     }

@@ -1,8 +1,8 @@
-use Rattle.std.proofs.Common.{◌≡◌, ◌+◌, ◌-◌, ◌*◌, ◌≤◌, ℕ, List, ◌++◌, length, take, drop}
+use Rattle.std.proofs.Common.{◌≡◌, ◌+◌, ◌-◌, ◌≤◌, ℕ, List, ◌++◌, length, take, drop}
 use Rattle.wsn_wire.specs.declared.endpoint.Role.{Role}
 use Rattle.wsn_rules.specs.Limits.{Limits}
 use Rattle.wsn_rules.specs.ShownStream.{Shown}
-use Rattle.wsn_scan.specs.Scans.{room_of, ends_pending}
+use Rattle.wsn_scan.specs.Scans.{room_of}
 use Rattle.wsn_show.specs.ShownSoFar.{HasShownFrames, ShowsFrames}
 use Rattle.wsn_show.proofs.shown_scan.ShownScan.feed.Given as goal
 
@@ -18,4 +18,4 @@ invariant-loop-at g l = record {
 }
 
 abbrev pub decreases-loop-at : goal.decreases-loop-at
-decreases-loop-at g l = 2 * (length l.initial.piece - l.at) + ends_pending l.self.scan
+decreases-loop-at g l = length l.initial.piece - l.at

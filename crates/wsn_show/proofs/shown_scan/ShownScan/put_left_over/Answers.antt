@@ -4,11 +4,11 @@ use Rattle.wsn_rules.specs.ShownStream.{items_of_bytes}
 use Rattle.wsn_rules.specs.ShownStream.Item.{Unread, Tail}
 use Rattle.wsn_rules.specs.declared.verdict.Verdict.{Verdict}
 use Rattle.wsn_rules.specs.Verdict.{IsVerdict}
-use Rattle.wsn_scan.specs.Reports.{refusal_judged}
-use Rattle.wsn_scan.specs.Scans.{refusal_in}
+use Rattle.wsn_scan.specs.Scans.{refusal_in, refusal_judged}
 use Rattle.wsn_show.specs.StreamParts.{items_left}
 use Rattle.wsn_show.specs.ShownItems.{Prints}
-use Rattle.wsn_show.proofs.StreamsShown.{leaves_unread, leaves_cut, leaves_accepted, leaves_tail, unrefused_all}
+use Rattle.wsn_show.proofs.StreamsShown.{leaves_unread, leaves_cut, leaves_accepted, leaves_tail, tail_held}
+use Rattle.wsn_show.proofs.ShownPieces.{frames_of}
 use Rattle.wsn_show.proofs.shown_scan.ShownScan.put_left_over.Goals as goal
 
 pub returns-in-Refused : goal.returns-in-Refused
@@ -26,28 +26,28 @@ returns-in-Refused g c detail role limits came shown has =
 pub returns-in-Some : goal.returns-in-Some
 returns-in-Some g c detail role limits came shown has =
     let none : refusal_in c.args.self.now.scan ≡ None = sym c.finish.ensures.reported ∙ ap refusal_judged c.in-Accepted.is in
-    let all = unrefused_all detail role limits c.args.self.now.scan c.args.self.now.parts came shown none has in
-    let h = all.0.followed in
-    let judged = subst (λ (v : Verdict). IsVerdict role limits came h.frames v) c.in-Accepted.is (c.finish.ensures.verdict role limits came h.since h.frames h.reported h.has_scanned) in (
-      items_of_bytes Tail (length (stream all.0.done)) all.0.rest,
-      leaves_tail detail role limits c.args.self.now.scan c.args.self.now.parts came shown all.0 all.1 c.in-Accepted.summary c.in-Some.field-0 c.in-Some.is judged,
-      subst (λ (m : ℕ). Prints c.args.context.now c.args.output.now c.put_remainder-in-Some.new.output (items_of_bytes Tail m all.0.rest)) all.0.keeps.frame.offset (c.put_remainder-in-Some.ensures all.0.rest all.0.keeps.frame.first),
+    let all = frames_of detail role limits c.args.self.now.scan c.args.self.now.parts came shown none has in
+    let h = all.followed in
+    let judged = subst (λ (v : Verdict). IsVerdict role limits came all.done v) c.in-Accepted.is (c.finish.ensures.verdict role limits came all.rest all.done all.at h.has_scanned) in (
+      items_of_bytes Tail (length (stream all.done)) all.rest,
+      leaves_tail detail role limits c.args.self.now.scan c.args.self.now.parts came shown all c.in-Accepted.summary c.in-Some.field-0 c.in-Some.is judged,
+      subst (λ (m : ℕ). Prints c.args.context.now c.args.output.now c.put_remainder-in-Some.new.output (items_of_bytes Tail m all.rest)) all.keeps.frame.offset (c.put_remainder-in-Some.ensures all.rest (tail_held detail role limits c.args.self.now.scan c.args.self.now.parts came shown all c.in-Accepted.summary judged)),
     )
 
 pub returns-in-None : goal.returns-in-None
 returns-in-None g c detail role limits came shown has =
     let none : refusal_in c.args.self.now.scan ≡ None = sym c.finish.ensures.reported ∙ ap refusal_judged c.in-Accepted.is in
-    let all = unrefused_all detail role limits c.args.self.now.scan c.args.self.now.parts came shown none has in
-    let h = all.0.followed in
-    let judged = subst (λ (v : Verdict). IsVerdict role limits came h.frames v) c.in-Accepted.is (c.finish.ensures.verdict role limits came h.since h.frames h.reported h.has_scanned) in
-    let l = leaves_accepted detail role limits c.args.self.now.scan c.args.self.now.parts came shown all.0 all.1 c.in-Accepted.summary c.in-None.is judged in
-    (items_left all.0.done all.0.at all.0.rest, l.left_over, c.put_left.ensures role limits all.0.done all.0.at all.0.rest l.lawful l.few_frames l.sound all.0.keeps)
+    let all = frames_of detail role limits c.args.self.now.scan c.args.self.now.parts came shown none has in
+    let h = all.followed in
+    let judged = subst (λ (v : Verdict). IsVerdict role limits came all.done v) c.in-Accepted.is (c.finish.ensures.verdict role limits came all.rest all.done all.at h.has_scanned) in
+    let l = leaves_accepted detail role limits c.args.self.now.scan c.args.self.now.parts came shown all c.in-Accepted.summary c.in-None.is judged in
+    (items_left all.done all.at all.rest, l.left_over, c.put_left.ensures role limits all.done all.at all.rest l.lawful l.few_frames l.sound all.keeps)
 
 pub returns-in-Cut : goal.returns-in-Cut
 returns-in-Cut g c detail role limits came shown has =
     let none : refusal_in c.args.self.now.scan ≡ None = sym c.finish.ensures.reported ∙ ap refusal_judged c.in-Cut.is in
-    let all = unrefused_all detail role limits c.args.self.now.scan c.args.self.now.parts came shown none has in
-    let h = all.0.followed in
-    let judged = subst (λ (v : Verdict). IsVerdict role limits came h.frames v) c.in-Cut.is (c.finish.ensures.verdict role limits came h.since h.frames h.reported h.has_scanned) in
-    let l = leaves_cut detail role limits c.args.self.now.scan c.args.self.now.parts came shown all.0 all.1 c.in-Cut.field-0 judged in
-    (items_left all.0.done all.0.at all.0.rest, l.left_over, c.put_left-in-Cut.ensures role limits all.0.done all.0.at all.0.rest l.lawful l.few_frames l.sound all.0.keeps)
+    let all = frames_of detail role limits c.args.self.now.scan c.args.self.now.parts came shown none has in
+    let h = all.followed in
+    let judged = subst (λ (v : Verdict). IsVerdict role limits came all.done v) c.in-Cut.is (c.finish.ensures.verdict role limits came all.rest all.done all.at h.has_scanned) in
+    let l = leaves_cut detail role limits c.args.self.now.scan c.args.self.now.parts came shown all c.in-Cut.field-0 judged in
+    (items_left all.done all.at all.rest, l.left_over, c.put_left-in-Cut.ensures role limits all.done all.at all.rest l.lawful l.few_frames l.sound all.keeps)

@@ -1,26 +1,93 @@
-use Rattle.std.proofs.Common.{◌≡◌, ◌≤◌, length, take, sym, ◌∙◌, arith}
-use Rattle.std.proofs.lemmas.List.{take-take, length-take}
-use Rattle.wsn_show.proofs.ShownPieces.{of_part, progresses}
+use Rattle.std.proofs.Common.{◌≡◌, ◌+◌, ◌<◌, ◌^◌, ℕ, Some, List, ◌++◌, length, take, sym, ap, ◌∙◌, subst, arith}
+use Rattle.std.proofs.lemmas.List.{length-take, length-take-le}
+use Rattle.wsn_scan.specs.declared.part.Taken.{Taken}
+use Rattle.wsn_scan.specs.Positions.{BetweenFrames}
+use Rattle.wsn_scan.specs.Scans.{refusal_in}
+use Rattle.wsn_show.specs.FollowedScans.{IsCall}
+use Rattle.wsn_show.specs.StreamParts.{Keeps, held_at}
+use Rattle.wsn_show.specs.TakenParts.{IsTaken}
+use Rattle.wsn_show.proofs.FollowedScans.{lawful_done}
+use Rattle.wsn_show.proofs.MoreBytesHeld.{rest_is}
+use Rattle.wsn_show.proofs.ShownSteps.{more_step, closed_step, part_step, refused_step, small_evidence, consumes_some}
 use Rattle.wsn_show.proofs.shown_scan.ShownScan.step.Goals as goal
 
-pub returns-clause-shows : goal.returns-clause-shows
-returns-clause-shows g c role limits came shown frames =
-    let consumed = c.next_bytes-consumed in
+pub returns-in-More-clause-shows : goal.returns-in-More-clause-shows
+returns-in-More-clause-shows g c role limits came shown frames =
+    let old = c.args.self.now.scan in
+    let new = c.call-count.new.scan in
     let piece = c.args.piece.now in
-    let items = consumed.result.bytes.now in
-    let n = length items in
-    let most = c.wanted-most.result in
-    let call = consumed.ensures.call consumed.ensures.in_bytes in
-    let within = call.within in
-    let few : n ≤ most = omega (arith, within, length-take most piece) in
-    let bytes : items ≡ take n (take most piece) = consumed.ensures.bytes ∙ sym (take-take n most piece few) in
-    let payload : take n consumed.new.piece ≡ take n (take most consumed.new.piece) = sym (take-take n most consumed.new.piece few) in
-    of_part role limits consumed.new.scan c.follow.new.self c.args.context.now c.args.output.now c.follow.new.output (length (take most piece)) (length piece) came items (take n piece) shown
-    consumed.ensures.bytes (λ none. omega (arith, none, length-take most piece))
-    (c.follow.ensures role limits c.args.self.now.scan consumed.new.scan (take most piece) (take most consumed.new.piece) came shown call bytes payload frames)
+    let after = c.call-count.new.piece in
+    let n = c.call-count.result.0 in
+    let part = c.call-count.new.part in
+    let context = c.args.context.now in
+    let call = subst (λ (f : Taken). IsCall old new piece after n f part) c.in-More.is (c.call-count.ensures.call c.call-count.ensures.in_bytes) in
+    let same : take n after ≡ take n piece = ap (λ (bs : List ℕ). take n bs) (call.untouched (λ other. cc) (λ other. cc)) in
+    let size = ap (λ (bs : List ℕ). length bs) same in
+    more_step role limits old new piece after n part came shown c.args.self.now.parts c.add_bytes.new.self context c.args.output.now c.args.output.now frames call c.requires.some
+    (λ rest small kept.
+    subst (λ (bs : List ℕ). Keeps c.add_bytes.new.self frames.done BetweenFrames (rest ++ bs)) same
+    (c.add_bytes.ensures frames.done rest (omega (arith, small, size, length-take-le n piece call.within)) kept))
 
-pub returns-clause-progress : goal.returns-clause-progress
-returns-clause-progress g c role limits bytes rest fs reported has some =
-    let consumed = c.next_bytes-consumed in
-    let call = consumed.ensures.call consumed.ensures.in_bytes in
-    progresses c.args.self.now.scan consumed.new.scan (length consumed.result.bytes.now) consumed.result.notice call.reported (consumed.ensures.progress role limits bytes rest fs reported has some)
+pub returns-in-More-clause-progress : goal.returns-in-More-clause-progress
+returns-in-More-clause-progress g c showing none =
+    consumes_some showing.role showing.limits c.args.self.now.scan c.call-count.new.scan c.args.piece.now c.call-count.new.piece c.call-count.result.0 c.call-count.result.1 c.call-count.new.part showing.came showing.frames.done showing.frames.at showing.frames.rest
+    showing.frames.followed (c.call-count.ensures.call c.call-count.ensures.in_bytes) c.requires.some none
+
+pub returns-in-Closed-clause-shows : goal.returns-in-Closed-clause-shows
+returns-in-Closed-clause-shows g c role limits came shown frames =
+    let old = c.args.self.now.scan in
+    let new = c.call-count.new.scan in
+    let piece = c.args.piece.now in
+    let after = c.call-count.new.piece in
+    let n = c.call-count.result.0 in
+    let part = c.call-count.new.part in
+    let context = c.args.context.now in
+    let call = subst (λ (f : Taken). IsCall old new piece after n f part) c.in-Closed.is (c.call-count.ensures.call c.call-count.ensures.in_bytes) in
+    let same : take n after ≡ take n piece = ap (λ (bs : List ℕ). take n bs) (call.untouched (λ other. cc) (λ other. cc)) in
+    let size = ap (λ (bs : List ℕ). length bs) same in
+    closed_step role limits old new piece after n part came shown c.args.self.now.parts c.add_bytes-in-Closed.new.self context c.args.output.now c.args.output.now frames call c.requires.some
+    (λ rest small kept.
+    subst (λ (bs : List ℕ). Keeps c.add_bytes-in-Closed.new.self frames.done BetweenFrames (rest ++ bs)) same
+    (c.add_bytes-in-Closed.ensures frames.done rest (omega (arith, small, size, length-take-le n piece call.within)) kept))
+
+pub returns-in-Closed-clause-progress : goal.returns-in-Closed-clause-progress
+returns-in-Closed-clause-progress g c showing none =
+    consumes_some showing.role showing.limits c.args.self.now.scan c.call-count.new.scan c.args.piece.now c.call-count.new.piece c.call-count.result.0 c.call-count.result.1 c.call-count.new.part showing.came showing.frames.done showing.frames.at showing.frames.rest
+    showing.frames.followed (c.call-count.ensures.call c.call-count.ensures.in_bytes) c.requires.some none
+
+pub returns-in-Part-clause-shows : goal.returns-in-Part-clause-shows
+returns-in-Part-clause-shows g c role limits came shown frames =
+    let old = c.args.self.now.scan in
+    let new = c.call-count.new.scan in
+    let piece = c.args.piece.now in
+    let after = c.call-count.new.piece in
+    let n = c.call-count.result.0 in
+    let part = c.call-count.new.part in
+    let context = c.args.context.now in
+    let call = subst (λ (f : Taken). IsCall old new piece after n f part) c.in-Part.is (c.call-count.ensures.call c.call-count.ensures.in_bytes) in
+    part_step role limits old new piece after n part came shown c.args.self.now.parts c.take.new.self context c.args.output.now c.take.new.output frames call
+    (λ ended to before since is_at t kept.
+    c.take.ensures role limits frames.done ended frames.at to frames.rest before (take n piece) since (length-take-le n piece call.within) is_at
+    (subst (λ (bs : List ℕ). IsTaken role limits frames.done frames.rest before part bs (take n piece) ended to since) (sym (rest_is part.start (take n after))) t) kept)
+
+pub returns-in-Part-clause-progress : goal.returns-in-Part-clause-progress
+returns-in-Part-clause-progress g c showing none =
+    consumes_some showing.role showing.limits c.args.self.now.scan c.call-count.new.scan c.args.piece.now c.call-count.new.piece c.call-count.result.0 c.call-count.result.1 c.call-count.new.part showing.came showing.frames.done showing.frames.at showing.frames.rest
+    showing.frames.followed (c.call-count.ensures.call c.call-count.ensures.in_bytes) c.requires.some none
+
+pub returns-in-Some-clause-shows : goal.returns-in-Some-clause-shows
+returns-in-Some-clause-shows g c role limits came shown frames =
+    let old = c.args.self.now.scan in
+    let new = c.call-count.new.scan in
+    let piece = c.args.piece.now in
+    let after = c.call-count.new.piece in
+    let n = c.call-count.result.0 in
+    let part = c.call-count.new.part in
+    let context = c.args.context.now in
+    let call = subst (λ (f : Taken). IsCall old new piece after n f part) c.in-Refused.is (c.call-count.ensures.call c.call-count.ensures.in_bytes) in
+    let refusal = c.in-Some.refusal in
+    let is : refusal_in new ≡ Some refusal = sym c.refusal.ensures ∙ c.in-Some.is in
+    let small = small_evidence role limits old new piece after n part came shown c.args.self.now.parts c.refuse.new.self context c.args.output.now c.refuse.new.output frames refusal is call in
+    let few : length (held_at frames.at frames.rest) + length (take n after) < 2 ^ 64 = omega (arith, small, length-take n after) in
+    refused_step role limits old new piece after n part came shown c.args.self.now.parts c.refuse.new.self context c.args.output.now c.refuse.new.output frames refusal is call c.refuse.ensures.first
+    (c.refuse.ensures.printed role limits frames.done frames.at frames.rest (lawful_done role limits old came frames.done frames.at frames.rest frames.followed) few frames.keeps)

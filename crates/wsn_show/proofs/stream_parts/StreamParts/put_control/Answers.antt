@@ -18,7 +18,7 @@ returns g c role limits fs f rest lawful control op_is kept =
     let frame = c.args.self.now.frame in
     let event = Control f.op f.payload in
     let first = c.put_before_close.ensures role limits fs _ (lawful_front role limits fs (f ∷ []) lawful) kept.message in
-    let represents = represents_control context.style.view c.control.result f.op f.payload frame.payload control (c.control.ensures.op ∙ sym op_is) c.control.ensures.bytes c.control.ensures.held kept.frame.payload (control_short role limits fs f lawful control) in
+    let represents = represents_control context.style.view c.control.result f.op f.payload frame.first control (c.control.ensures.op ∙ sym op_is) c.control.ensures.bytes c.control.ensures.held kept.frame.first (control_short role limits fs f lawful control) in
     let is : Event (length (stream fs)) event 1 ≡ Event frame.offset event c.control.result.frames =
     ap (λ (m : ℕ). Event m event 1) (sym kept.frame.offset) ∙ ap (λ (m : ℕ). Event frame.offset event m) (sym c.control.ensures.frames) in
     let second = c.put_item.ensures (Event (length (stream fs)) event 1) (event, represents, text_reason role limits fs f lawful, is) in

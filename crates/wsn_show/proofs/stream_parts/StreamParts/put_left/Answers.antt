@@ -1,5 +1,5 @@
 use Rattle.std.proofs.Common.{sym, subst}
-use Rattle.wsn_scan.specs.ReportedFrames.{Position}
+use Rattle.wsn_scan.specs.Positions.{Position}
 use Rattle.wsn_show.specs.StreamParts.{Keeps, IsSoundPart, items_left}
 use Rattle.wsn_show.specs.ShownItems.{Prints}
 use Rattle.wsn_show.proofs.PrintedParts.{in_frame_at, between_at}

@@ -19,8 +19,8 @@ returns-then-is_control g c role limits fs part rest lawful small sound kept =
     let head = c.args.head.now in
     let control = sym c.is_control.ensures ∙ c.if-is_control.true in
     let event = Control head.op part in
-    let represents = represents_control context.style.view c.control.result head.op part frame.payload control c.control.ensures.op c.control.ensures.bytes c.control.ensures.held kept.frame.payload (sound.1 control) in
-    let lacks : head.len - length part ≡ c.saturating_sub.result = ap (λ (m : ℕ). head.len - m) (sym (c.count.ensures ∙ kept.frame.payload.count)) ∙ sym c.saturating_sub.ensures in
+    let represents = represents_control context.style.view c.control.result head.op part frame.first control c.control.ensures.op c.control.ensures.bytes c.control.ensures.held kept.frame.first (sound.1 control) in
+    let lacks : head.len - length part ≡ c.saturating_sub.result = ap (λ (m : ℕ). head.len - m) (sym (c.count.ensures ∙ kept.frame.first.count)) ∙ sym c.saturating_sub.ensures in
     let is : Unfinished head.place event 1 (Some (head.len - length part)) ≡ Unfinished frame.offset event c.control.result.frames (Some c.saturating_sub.result) =
     ap (λ (m : ℕ). Unfinished m event 1 (Some (head.len - length part))) (sound.0 ∙ sym kept.frame.offset)
     ∙ ap (λ (m : ℕ). Unfinished frame.offset event m (Some (head.len - length part))) (sym c.control.ensures.frames)
@@ -45,7 +45,7 @@ returns-else-is_control g c role limits fs part rest lawful small sound kept =
     let represents = represents_joined context.style.view c.all_parts.result message fs f few (sound.2 other) keeps joined c.all_parts.ensures.op c.all_parts.ensures.bytes c.all_parts.ensures.held in
     let frames = keeps.frames in
     let count : length group ≡ c.all_parts.result.frames = let own = c.all_parts.ensures.frames (omega (arith, frames, small)) in omega (arith, own, frames, length-append (unfinished fs) (f ∷ [])) in
-    let lacks : head.len - length part ≡ c.saturating_sub.result = ap (λ (m : ℕ). head.len - m) (sym (c.count.ensures ∙ kept.frame.payload.count)) ∙ sym c.saturating_sub.ensures in
+    let lacks : head.len - length part ≡ c.saturating_sub.result = ap (λ (m : ℕ). head.len - m) (sym (c.count.ensures ∙ kept.frame.first.count)) ∙ sym c.saturating_sub.ensures in
     let is : open_item fs group (Some (head.len - length part)) ≡ Unfinished message.offset event c.all_parts.result.frames (Some c.saturating_sub.result) =
     ap (λ (m : ℕ). Unfinished m event (length group) (Some (head.len - length part))) (sym joined.offset)
     ∙ ap (λ (m : ℕ). Unfinished message.offset event m (Some (head.len - length part))) count

@@ -1,5 +1,0 @@
-use Rattle.std.proofs.Common.{rules}
-use Rattle.wsn_parts.proofs.scan.Scan.closed.Goals as goal
-
-pub returns : goal.returns
-returns c = search rules

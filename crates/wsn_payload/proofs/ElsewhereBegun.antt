@@ -1,0 +1,130 @@
+-- If an event begins at an offset, the offset isn't in a frame of another event.
+use Rattle.std.proofs.Common.{◌≡◌, ◌≢◌, ℕ, ◌+◌, ◌<◌, ◌≤◌, ◌⊎◌, true, false, not, List, [], ◌∷◌, ◌++◌, length, inl, inr, refl, sym, ap, ◌∙◌, subst, append-nil, append_assoc, arith, length-append}
+use Rattle.std.proofs.lemmas.Bool.{cases_Bool}
+use Rattle.wsn_wire.specs.declared.endpoint.Role.{Role}
+use Rattle.wsn_wire.specs.Frame.{Frame, is_control, head_bytes, frame_bytes, wire_payload, stream}
+use Rattle.wsn_frame.proofs.PayloadMore.{length-unmasked_by}
+use Rattle.wsn_rules.specs.declared.head_info.HeadInfo.{HeadInfo}
+use Rattle.wsn_rules.specs.Limits.{Limits}
+use Rattle.wsn_rules.specs.Group.{IsOpen}
+use Rattle.wsn_rules.specs.Heads.{info_of, heads_from, heads_of, BeginsWithHead, IsBegun, AreHeads}
+use Rattle.wsn_rules.specs.Lawful.{IsLawful}
+use Rattle.wsn_rules.specs.ShownStream.{open_offset, event_offset, frame_so_far}
+use Rattle.wsn_rules.proofs.Groups.{unfinished_control, unfinished_final}
+use Rattle.wsn_rules.proofs.HeadsGoOn.{begins_longer}
+use Rattle.wsn_rules.proofs.OneHead.{one_begun}
+use Rattle.wsn_rules.proofs.OpenOffsets.{offset_after_control, offset_after_fragment}
+use Rattle.wsn_rules.proofs.Prefixes.{push-append, append_cancel}
+use Rattle.wsn_rules.proofs.Walk.{stream-append}
+use Rattle.wsn_scan.proofs.HeadsReported.{heads_push}
+use Rattle.wsn_payload.specs.declared.answer.EventStart.{EventStart}
+use Rattle.wsn_payload.specs.EventsAt.{end_of, IsInsideAt}
+use Rattle.wsn_payload.proofs.FollowedScans.{wire_payload_is}
+use Rattle.wsn_payload.proofs.OpenMessages.{longer_by, open_before, offset_of_data}
+use Rattle.wsn_payload.proofs.OneEvent.{ArePast, past_differs, past_more, past_within, split, frame_begins}
+
+-- After a frame that has the offset and whose event begins elsewhere, no event begins at the offset.
+past_elsewhere : (fs : List Frame) (f : Frame) (at : ℕ) → length (stream fs) ≤ at → at < length (stream (fs ++ f ∷ [])) → event_offset fs f ≢ at → ArePast (fs ++ f ∷ []) at
+past_elsewhere fs f at from to differs = record { over = to; other = by (cases_Bool (is_control f.op)) (cases_Bool f.fin) }
+  where
+    by : (is_control f.op ≡ true) ⊎ (is_control f.op ≡ false) → (f.fin ≡ true) ⊎ (f.fin ≡ false) → IsOpen (fs ++ f ∷ []) → open_offset (fs ++ f ∷ []) ≢ at
+    by (inl control) any some is =
+        let was : IsOpen fs = λ none. some (unfinished_control fs f (ap not control) ∙ none) in
+        let before = open_before fs was in
+        omega (arith, before, is, from, offset_after_control fs f (ap not control) was)
+    by (inr other) (inl final) some is = some (unfinished_final fs f (ap not other) final)
+    by (inr other) (inr more) some is = differs (offset_of_data fs f other ∙ sym (offset_after_fragment fs f (ap not other) more) ∙ is)
+
+frame_end : (fs : List Frame) (f : Frame) → end_of (info_of (length (stream fs)) f) ≡ length (stream (fs ++ f ∷ []))
+frame_end fs f =
+    let wire : length (wire_payload f.key f.payload) ≡ length f.payload = ap (λ (bs : List ℕ). length bs) (wire_payload_is f.key f.payload) ∙ length-unmasked_by f.key 0 f.payload in
+    let frame = length-append (head_bytes f.fin f.op f.key f.form (length f.payload)) (wire_payload f.key f.payload) in
+    omega (arith, longer_by fs f, frame, wire)
+
+-- The offset of an event isn't in another frame of these.
+elsewhere : (before later front rest : List Frame) (f x : Frame) (info : HeadInfo) → before ++ f ∷ later ≡ front ++ x ∷ rest → f.fin ≡ true → info ≡ info_of (length (stream front)) x → info.place ≤ event_offset before f → event_offset before f < end_of info
+    → event_offset front (frame_so_far info []) ≢ event_offset before f → ⊥
+elsewhere before later front rest f x info same final info_is from to differs =
+    elim (split before front later rest f x same) [
+      | inl both ↦ own_differs (λ i. event_offset (sym both.0 i) (sym both.1 i))
+      | inr (inl after) ↦
+          let past = (subst (λ (hs : List Frame). ArePast hs at) (sym after.1) (past_within before after.0 f at final refl)).over in
+          omega (arith, past, from_front)
+      | inr (inr first) ↦
+          past_differs before f at (subst (λ (hs : List Frame). ArePast hs at) (push-append front x first.0 ∙ sym first.1) (past_more (front ++ x ∷ []) first.0 at (past_elsewhere front x at from_front to_front own_differs))) refl
+    ]
+  where
+    at : ℕ
+    at = event_offset before f
+
+    from_front : length (stream front) ≤ event_offset before f
+    from_front = subst (λ (i : HeadInfo). i.place ≤ event_offset before f) info_is from
+
+    to_front : event_offset before f < length (stream (front ++ x ∷ []))
+    to_front = let there = subst (λ (i : HeadInfo). event_offset before f < end_of i) info_is to in omega (arith, there, frame_end front x)
+
+    own_differs : event_offset front x ≢ event_offset before f
+    own_differs = subst (λ (i : HeadInfo). event_offset front (frame_so_far i []) ≢ event_offset before f) info_is differs
+
+heads_prefix : (place : ℕ) (fs gs : List Frame) → (more : List HeadInfo) × (heads_from place (fs ++ gs) ≡ heads_from place fs ++ more)
+heads_prefix place [] gs = (heads_from place gs, refl)
+heads_prefix place (f ∷ fs) gs = let r = heads_prefix (place + length (frame_bytes f)) fs gs in (r.0, ap (λ (hs : List HeadInfo). info_of place f ∷ hs) r.1)
+
+-- The head after those of the frames `front` is that of the next frame.
+next_head : (front : List Frame) (g : Frame) (gs : List Frame) (begun : List HeadInfo) (info : HeadInfo) → heads_of front ++ info ∷ [] ≡ heads_of (front ++ g ∷ gs) ++ begun → info ≡ info_of (length (stream front)) g
+next_head front g gs begun info same =
+    let r = heads_prefix 0 (front ++ g ∷ []) gs in
+    let own = info_of (length (stream front)) g in
+    let all : heads_of (front ++ g ∷ gs) ++ begun ≡ heads_of front ++ (own ∷ (r.0 ++ begun)) =
+    ap (λ (hs : List Frame). heads_of hs ++ begun) (sym (push-append front g gs)) ∙ ap (λ (hs : List HeadInfo). hs ++ begun) (r.1 ∙ ap (λ (hs : List HeadInfo). hs ++ r.0) (heads_push front g))
+    ∙ append_assoc (heads_of front ++ own ∷ []) r.0 begun ∙ append_assoc (heads_of front) (own ∷ []) (r.0 ++ begun) in
+    let tails : info ∷ [] ≡ own ∷ (r.0 ++ begun) = append_cancel (heads_of front) (info ∷ []) (own ∷ (r.0 ++ begun)) (same ∙ all) in
+    cc
+
+module _ (role : Role) (limits : Limits) (bytes : List ℕ) (fs before later : List Frame) (f : Frame) (parts : fs ≡ before ++ f ∷ later) (final : f.fin ≡ true) (lawful : IsLawful role limits fs) (after : List ℕ) (whole : bytes ≡ stream fs ++ after) where
+  abbrev place : ℕ
+  place = event_offset before f
+
+  begun_head : (rest : List ℕ) (front : List Frame) (begun : List HeadInfo) (info : HeadInfo) → IsBegun role limits front rest begun → begun ≡ info ∷ [] → BeginsWithHead role limits front rest info
+  begun_head rest front begun info (inl closed) is = let both : [] ≡ info ∷ [] = sym closed.0 ∙ is in absurd cc
+  begun_head rest front begun info (inr (inl none)) is = let both : [] ≡ info ∷ [] = sym none.0 ∙ is in absurd cc
+  begun_head rest front begun info (inr (inr some)) is =
+      let both : some.1.0 ∷ [] ≡ info ∷ [] = sym some.1.1 ∙ is in
+      let same : some.1.0 ≡ info = cc in
+      subst (BeginsWithHead role limits front rest) same some.1.2
+
+  pub never_inside : (start : EventStart) (w : IsInsideAt role limits bytes place start) (extra : List Frame) → fs ≡ (w.before ++ w.last) ++ extra → ⊥
+  never_inside start w extra goes = by w.last extra w.are_heads goes
+    where
+      front : List Frame
+      front = w.before
+
+      differs : event_offset front (frame_so_far w.info []) ≢ place
+      differs same = w.elsewhere (w.is_start.offset ∙ same)
+
+      by : (last more : List Frame) → AreHeads role limits w.front (front ++ last) (heads_of front ++ w.info ∷ []) → fs ≡ (front ++ last) ++ more → ⊥
+      by (g ∷ gs) more are go =
+          elsewhere before later front (gs ++ more) f g w.info (sym parts ∙ go ∙ append_assoc front (g ∷ gs) more) final (next_head front g gs are.begun w.info are.all) w.from w.to differs
+      by [] more are go = of_more more (go ∙ ap (λ (hs : List Frame). hs ++ more) (append-nil front))
+        where
+          heads : AreHeads role limits w.front front (heads_of front ++ w.info ∷ [])
+          heads = subst (λ (hs : List Frame). AreHeads role limits w.front hs (heads_of front ++ w.info ∷ [])) (append-nil front) are
+
+          head : BeginsWithHead role limits front heads.rest w.info
+          head = begun_head heads.rest front heads.begun w.info heads.is_begun (sym (append_cancel (heads_of front) (w.info ∷ []) heads.begun heads.all))
+
+          of_more : (more : List Frame) → fs ≡ front ++ more → ⊥
+          of_more [] go_on =
+              let past = (subst (λ (hs : List Frame). ArePast hs place) (sym parts ∙ go_on ∙ append-nil front) (past_within before later f place final refl)).over in
+              let from = w.from in
+              let there = head.place in
+              omega (arith, past, from, there)
+          of_more (x ∷ rest) go_on =
+              let bytes_on : stream front ++ (heads.rest ++ w.later) ≡ stream front ++ (frame_bytes x ++ (stream rest ++ after)) =
+              sym (append_assoc (stream front) heads.rest w.later) ∙ ap (λ (bs : List ℕ). bs ++ w.later) (sym heads.whole) ∙ sym w.whole ∙ whole ∙ ap (λ (hs : List Frame). stream hs ++ after) go_on
+              ∙ ap (λ (bs : List ℕ). bs ++ after) (stream-append front (x ∷ rest)) ∙ append_assoc (stream front) (stream (x ∷ rest)) after
+              ∙ ap (λ (bs : List ℕ). stream front ++ bs) (append_assoc (frame_bytes x) (stream rest) after) in
+              let rest_is : heads.rest ++ w.later ≡ frame_bytes x ++ (stream rest ++ after) = append_cancel (stream front) _ _ bytes_on in
+              let longer = subst (λ (bs : List ℕ). BeginsWithHead role limits front bs w.info) rest_is (begins_longer role limits front heads.rest w.later w.info head) in
+              let own = frame_begins role limits front x rest (stream rest ++ after) (subst (IsLawful role limits) go_on lawful) in
+              elsewhere before later front rest f x w.info (sym parts ∙ go_on) final (one_begun role limits front (frame_bytes x ++ (stream rest ++ after)) w.info (info_of (length (stream front)) x) longer own) w.from w.to differs

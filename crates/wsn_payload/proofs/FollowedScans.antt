@@ -1,0 +1,231 @@
+-- What one call of a scan says of the frames that it follows.
+use Rattle.std.proofs.Common.{◌≡◌, ℕ, ◌+◌, ◌<◌, ◌≤◌, ◌^◌, ◌⊎◌, Option, None, Some, List, [], ◌∷◌, ◌++◌, length, take, drop, inl, inr, refl, sym, ap, ◌∙◌, subst, arith, append_assoc, length-append, length-drop}
+use Rattle.std.specs.Prelude.{IsSome}
+use Rattle.std.proofs.lemmas.List.{length-take, length-take-le}
+use Rattle.wsn_wire.specs.declared.endpoint.Role.{Role}
+use Rattle.wsn_wire.specs.Frame.{Frame, head_bytes, wire_payload, stream}
+use Rattle.wsn_rules.specs.declared.head_info.HeadInfo.{HeadInfo}
+use Rattle.wsn_rules.specs.declared.verdict.Refusal.{Refusal}
+use Rattle.wsn_rules.specs.Limits.{Limits}
+use Rattle.wsn_rules.specs.Accepted.{HasNoClose, EndsWithClose}
+use Rattle.wsn_rules.specs.Group.{unfinished, payload_of}
+use Rattle.wsn_rules.specs.Heads.{heads_of, BeginsWithHead, IsBegun, AreHeads}
+use Rattle.wsn_rules.specs.Lawful.{IsLawful}
+use Rattle.wsn_rules.specs.NoEvidence.{HasNoEvidence}
+use Rattle.wsn_rules.proofs.Groups.{group_of_lawful}
+use Rattle.wsn_rules.proofs.Prefixes.{append_cancel}
+use Rattle.wsn_frame.specs.PartialHeads.{info_at}
+use Rattle.wsn_frame.specs.Payloads.{unmasked_by}
+use Rattle.wsn_frame.proofs.PayloadMore.{length-unmasked_by}
+use Rattle.wsn_scan.specs.declared.part.Part.{Part}
+use Rattle.wsn_scan.specs.declared.part.Taken.{Taken}
+use Rattle.wsn_scan.specs.declared.part.Taken.TheVariants as taken
+use Rattle.wsn_scan.specs.declared.stage.Stage.{Stage}
+use Rattle.wsn_scan.specs.declared.stage.Stage.TheVariants as stages
+use Rattle.wsn_scan.specs.declared.scan.Scan.{Scan}
+use Rattle.wsn_scan.specs.Parts.{IsPart, IsPartAt, Finds, Consumes}
+use Rattle.wsn_scan.specs.Positions.{Position, BetweenFrames, InFrame, begun_at}
+use Rattle.wsn_scan.specs.Scans.{IsAt, IsReachedBy, refusal_in, refusal_at}
+use Rattle.wsn_scan.proofs.FrameEnds.{unfinished_few}
+use Rattle.wsn_scan.proofs.HeadsReported.{front_without_evidence, head_begins_at}
+use Rattle.wsn_scan.proofs.HeadsSoFar.{heads_reported}
+use Rattle.wsn_payload.specs.FollowedScans.{HasFollowed, IsCall}
+use Rattle.wsn_payload.specs.FollowedScans.{IsTaken}
+
+pub wire_payload_is : (key : Option (List ℕ)) (payload : List ℕ) → wire_payload key payload ≡ unmasked_by key 0 payload
+wire_payload_is None payload = refl
+wire_payload_is (Some key) payload = refl
+
+none_unless : (refusal : Option Refusal) → (IsSome refusal → ⊥) → refusal ≡ None
+none_unless None other = refl
+none_unless (Some refusal) other = absurd (other refl)
+
+nothing : (bytes : List ℕ) → length bytes ≡ 0 → bytes ≡ []
+nothing [] is = refl
+nothing (x ∷ xs) is = absurd (omega (arith, is))
+
+module _ (role : Role) (limits : Limits) where
+  -- ---- where a scan is
+
+  module _ (scan : Scan) (came : List ℕ) (done : List Frame) (at : Position) (rest : List ℕ) (h : HasFollowed role limits scan came done at rest) where
+    -- the bytes are few
+    pub few : length came ≤ 2 ^ 40
+    few = let room = h.has_scanned.has_consumed.room in let input = h.has_scanned.has_consumed.in_range.input in omega (arith, room, input)
+
+    pub lawful_done : IsLawful role limits done
+    lawful_done = h.has_scanned.has_consumed.lawful
+
+    pub whole_is : came ≡ stream done ++ rest
+    whole_is = h.has_scanned.has_consumed.whole
+
+    pub rest_few : length (stream done) + length rest ≡ length came
+    rest_few = sym (ap (λ (bs : List ℕ). length bs) whole_is ∙ length-append (stream done) rest)
+
+    -- Bytes of a payload aren't many.
+    pub few_open : length (payload_of (unfinished done)) ≤ 16777216
+    few_open =
+        let size = (group_of_lawful role limits done lawful_done).size in
+        let most = h.has_scanned.has_consumed.in_range.message in
+        omega (arith, size, most)
+
+    heads : AreHeads role limits came done (heads_of done ++ begun_at at)
+    heads = heads_reported role limits scan came rest done at h.has_scanned
+
+    pub is_begun : IsBegun role limits done rest (begun_at at)
+    is_begun =
+        let rest_is : heads.rest ≡ rest = append_cancel (stream done) heads.rest rest (sym heads.whole ∙ whole_is) in
+        let begun_is : heads.begun ≡ begun_at at = append_cancel (heads_of done) heads.begun (begun_at at) (sym heads.all) in
+        subst (λ (bs : List ℕ). IsBegun role limits done bs (begun_at at)) rest_is (subst (IsBegun role limits done heads.rest) begun_is heads.is_begun)
+
+    -- The frame has begun, and this is all of its payload that came.
+    pub record HasBegun (info : HeadInfo) (payload : List ℕ) : Type 0 where
+      pub begins : BeginsWithHead role limits done rest info
+      pub no_close : HasNoClose done
+      pub payload_is : payload ≡ wire_payload info.key begins.following
+      pub within : length payload ≤ info.len
+      pub size : length begins.following ≡ length payload
+
+    module _ (info : HeadInfo) (payload : List ℕ) (is : at ≡ InFrame info payload) where
+      other : at ≡ BetweenFrames → HasBegun info payload
+      other between = let both : BetweenFrames ≡ InFrame info payload = sym between ∙ is in absurd cc
+
+      at_stage : (stage : Stage) → IsAt role limits stage came done rest at → refusal_at stage ≡ None → HasBegun info payload
+      at_stage stages.Between there none = other there.2
+      at_stage (stages.Head part) there none = other there.2
+      at_stage (stages.Closed code) there none = other there.2
+      at_stage (stages.Refused refusal) there none = absurd cc
+      at_stage (stages.Payload inside) there none =
+          let own : InFrame (info_at (length (stream done)) inside.head) there.1.0 ≡ InFrame info payload = sym there.1.2 ∙ is in
+          let info_is : info_at (length (stream done)) inside.head ≡ info = cc in
+          let part_is : there.1.0 ≡ payload = cc in
+          let p = there.1.1 in
+          let holds = p.holds in
+          let key = inside.head.key in
+          let none = front_without_evidence role limits (unfinished done) holds.head_bytes p.wire (subst (HasNoEvidence role limits (unfinished done)) holds.whole holds.has_no_evidence) in
+          let found = head_begins_at role limits done inside.head holds.head_bytes p.wire rest holds.is_head none holds.whole in
+          let size : length there.1.0 ≡ length p.wire = ap (λ (bs : List ℕ). length bs) p.unmasked ∙ length-unmasked_by key 0 p.wire in
+          let short = p.short in
+          let base : HasBegun (info_at (length (stream done)) inside.head) there.1.0 = record {
+            begins = found.0;
+            no_close = there.0;
+            payload_is = p.unmasked ∙ ap (λ (bs : List ℕ). unmasked_by key 0 bs) (sym found.1) ∙ sym (wire_payload_is key found.0.following);
+            within = omega (arith, size, short);
+            size = ap (λ (bs : List ℕ). length bs) found.1 ∙ sym size;
+          } in
+          subst (λ (i : HeadInfo). HasBegun i payload) info_is (subst (λ (bs : List ℕ). HasBegun (info_at (length (stream done)) inside.head) bs) part_is base)
+
+      pub in_frame : HasBegun info payload
+      in_frame = at_stage scan.stage h.has_scanned.is_at h.unrefused
+
+      -- all its bytes: a head of this size, and the payload
+      pub size_in_frame : length rest ≡ length (head_bytes info.fin info.op info.key info.form info.len) + length payload
+      size_in_frame =
+          let b = in_frame.begins in
+          let size = in_frame.size in
+          let whole : length rest ≡ length b.head + length b.following = ap (λ (bs : List ℕ). length bs) b.whole ∙ length-append b.head b.following in
+          omega (arith, whole, size, ap (λ (bs : List ℕ). length bs) b.encoded)
+
+    pub between : at ≡ BetweenFrames → EndsWithClose done ⊎ (HasNoClose done × ((info : HeadInfo) → BeginsWithHead role limits done rest info → ⊥))
+    between is = by is_begun
+      where
+        by : IsBegun role limits done rest (begun_at at) → EndsWithClose done ⊎ (HasNoClose done × ((info : HeadInfo) → BeginsWithHead role limits done rest info → ⊥))
+        by (inl closed) = inl closed.1
+        by (inr (inl none)) = inr (none.1, none.2)
+        by (inr (inr some)) = let both : some.1.0 ∷ [] ≡ [] = sym some.1.1 ∙ ap begun_at is in absurd cc
+
+    -- the payload before a part
+    pub before_few : (part : Part) (before : List ℕ) → IsPartAt at part before → length before ≤ length rest
+    before_few part before is = by at refl is
+      where
+        by : (p : Position) → at ≡ p → IsPartAt p part before → length before ≤ length rest
+        by BetweenFrames here is = omega (arith, ap (λ (bs : List ℕ). length bs) is.1)
+        by (InFrame info payload) here is = omega (arith, size_in_frame info payload here, ap (λ (bs : List ℕ). length bs) is.2)
+
+  -- ---- a call
+
+  module _ (old new : Scan) (piece after : List ℕ) (n : ℕ) (found : Taken) (part : Part) (came : List ℕ) (done : List Frame) (at : Position) (rest : List ℕ) (h : HasFollowed role limits old came done at rest) (call : IsCall old new piece after n found part) where
+    abbrev share : List ℕ
+    share = take n piece
+
+    pub size_of_share : length share ≡ n
+    size_of_share = length-take-le n piece call.within
+
+    pub reached : IsReachedBy role limits new (came ++ share) (Finds found part (drop part.start (take n after)) done at) × Consumes found part (length piece) n
+    reached = call.advances role limits came rest done at call.in_bytes h.has_scanned
+
+    pub same_whole : stream done ++ (rest ++ share) ≡ stream reached.0.frames ++ reached.0.since
+    same_whole = sym (append_assoc (stream done) rest share) ∙ ap (λ (bs : List ℕ). bs ++ share) (sym h.has_scanned.has_consumed.whole) ∙ reached.0.has_scanned.has_consumed.whole
+
+    pub unrefused_by : (found ≡ taken.Refused → ⊥) → refusal_in new ≡ None
+    unrefused_by other = none_unless (refusal_in new) (λ some. other (call.reported.0 some))
+
+    pub follows : (found ≡ taken.Refused → ⊥) → HasFollowed role limits new (came ++ share) reached.0.frames reached.0.position reached.0.since
+    follows other = record { has_scanned = reached.0.has_scanned; unrefused = unrefused_by other }
+
+    pub few_more : length rest + n < 2 ^ 64
+    few_more =
+        let size = rest_few old came done at rest h in
+        let most = few old came done at rest h in
+        let room = call.room in
+        let all = h.has_scanned.has_consumed.room in
+        let input = h.has_scanned.has_consumed.in_range.input in
+        omega (arith, size, most, room, all, input)
+
+    -- The same frames, and the same position.
+    module _ (frames : reached.0.frames ≡ done) (position : reached.0.position ≡ at) where
+      since_is : reached.0.since ≡ rest ++ share
+      since_is = sym (append_cancel (stream done) (rest ++ share) reached.0.since (same_whole ∙ ap (λ (fs : List Frame). stream fs ++ reached.0.since) frames))
+
+      pub same_follows : (found ≡ taken.Refused → ⊥) → HasFollowed role limits new (came ++ share) done at (rest ++ share)
+      same_follows other =
+          subst (λ (bs : List ℕ). HasFollowed role limits new (came ++ share) done at bs) since_is
+          (subst (λ (p : Position). HasFollowed role limits new (came ++ share) done p reached.0.since) position
+          (subst (λ (fs : List Frame). HasFollowed role limits new (came ++ share) fs reached.0.position reached.0.since) frames (follows other)))
+
+      -- Within a frame each byte is of its payload.
+      pub is_between : (found ≡ taken.Refused → ⊥) → 0 < n → at ≡ BetweenFrames
+      is_between other some = by at refl
+        where
+          by : (p : Position) → at ≡ p → at ≡ BetweenFrames
+          by BetweenFrames here = here
+          by (InFrame info payload) here =
+              let before = size_in_frame old came done at rest h info payload here in
+              let now = size_in_frame new (came ++ share) done at (rest ++ share) (same_follows other) info payload here in
+              absurd (omega (arith, before, now, length-append rest share, size_of_share, some))
+
+  -- A part was taken.
+  module _ (old new : Scan) (piece after : List ℕ) (n : ℕ) (part : Part) (came : List ℕ) (done : List Frame) (at : Position) (rest : List ℕ) (h : HasFollowed role limits old came done at rest) (call : IsCall old new piece after n taken.Part part) where
+    pub reach : IsReachedBy role limits new (came ++ take n piece) (IsPart done at part (drop part.start (take n after)))
+    reach = (reached old new piece after n taken.Part part came done at rest h call).0
+
+    pub part_taken : IsTaken role limits done rest reach.found.before part (drop part.start (take n after)) (take n piece) reach.frames reach.position reach.since
+    unfolding reach reached
+    part_taken =
+        let consumed = reach.has_scanned.has_consumed in
+        let size = rest_few old came done at rest h in
+        let most = few old came done at rest h in
+        let own = size_of_share old new piece after n taken.Part part came done at rest h call in
+        let more = few_more old new piece after n taken.Part part came done at rest h call in
+        let open_few = few_open old came done at rest h in
+        let before = before_few old came done at rest h part reach.found.before reach.found.is_at in
+        let room = call.room in
+        let all = h.has_scanned.has_consumed.room in
+        let input = h.has_scanned.has_consumed.in_range.input in
+        record {
+          goes_on = reach.found.goes_on;
+          lawful = consumed.lawful;
+          whole = same_whole old new piece after n taken.Part part came done at rest h call;
+          no_rest = λ ends.
+              let used = call.whole refl ends in
+              let is_used = consumed.used in
+              let now = consumed.room in
+              let limit : new.context.limits.input ≡ limits.input = ap (λ (l : Limits). l.input) consumed.under in
+              nothing reach.since (omega (arith, used, is_used, now, limit, ap (λ (bs : List ℕ). length bs) consumed.whole, length-append (stream reach.frames) reach.since));
+          small = omega (arith, size, most, own, room, all, input);
+          few_frames = omega (arith, unfinished_few done, size, most);
+          few_bytes = omega (arith, open_few, before, size, most, length-drop part.start (take n after), length-take n after, room, all, input);
+        }
+
+    pub part_follows : HasFollowed role limits new (came ++ take n piece) reach.frames reach.position reach.since
+    unfolding reach reached
+    part_follows = follows old new piece after n taken.Part part came done at rest h call (λ same. cc)

@@ -1,0 +1,6 @@
+-- for callers
+pub mod EventsAt
+pub mod Payloads
+-- for private functions
+pub mod FollowedScans
+pub mod Following

@@ -1,0 +1,56 @@
+//! Laws about this crate's definitions. Each function does nothing: its contract is the law.
+
+ghost use Rattle.std.specs.Prelude.{◌≡◌, ◌≤◌, ℕ, true, Result, Ok, List, [], ◌∷◌, ◌++◌, length};
+ghost use Rattle.wsn_io.specs.Stops.{HasNoFailure};
+ghost use Rattle.wsn_io.specs.Transfer.{Outgoing, IsWritten};
+ghost use Rattle.wsn_io.specs.declared.stop.Stop.{Stop};
+ghost use Rattle.wsn_wire.specs.declared.endpoint.Role.{Role};
+ghost use Rattle.wsn_wire.specs.Frame.{Frame, stream};
+ghost use Rattle.wsn_rules.specs.declared.verdict.Verdict.{Verdict};
+ghost use Rattle.wsn_rules.specs.Limits.{Limits};
+ghost use Rattle.wsn_rules.specs.Meaning.{event_at};
+ghost use Rattle.wsn_rules.specs.ShownStream.{event_offset};
+ghost use Rattle.wsn_rules.specs.Verdict.{IsVerdict};
+ghost use Rattle.wsn_payload.specs.EventsAt.{content, IsWholeAt, IsUnfinishedAt, EndsBefore, IsInsideAt};
+ghost use Rattle.wsn_payload.specs.Payloads.{IsPayloadOfAll};
+ghost use Rattle.wsn_payload.specs.declared.answer.EventStart.{EventStart};
+ghost use Rattle.wsn_payload.specs.declared.answer.Payload.{Payload};
+ghost use Rattle.wsn_payload.specs.declared.answer.Payload.TheVariants.{Whole};
+
+/// An event of a stream whose first frame begins at an offset is complete there, within the input limit, and what
+/// [`payload`](crate::payload) writes of a complete event there is its payload and no other. It isn't unfinished, not
+/// all frames end before it, and the offset is in no frame of another event.
+pub fn law_payload_of_event()
+    ensures some { (role : Role) (limits : Limits) (bytes : List ℕ) (fs before later : List Frame) (f : Frame)
+        (verdict : Verdict) →
+        IsVerdict role limits bytes fs verdict → fs ≡ before ++ f ∷ later → f.fin ≡ true →
+        length (stream (before ++ f ∷ [])) ≤ limits.input →
+        IsWholeAt role limits bytes (event_offset before f) (content (event_at before f)) }
+    ensures one { (role : Role) (limits : Limits) (bytes payload : List ℕ) (fs before later : List Frame) (f : Frame)
+        (verdict : Verdict) →
+        IsVerdict role limits bytes fs verdict → fs ≡ before ++ f ∷ later → f.fin ≡ true →
+        IsWholeAt role limits bytes (event_offset before f) payload → payload ≡ content (event_at before f) }
+    ensures finished { (role : Role) (limits : Limits) (bytes payload : List ℕ) (fs before later : List Frame)
+        (f : Frame) (verdict other : Verdict) →
+        IsVerdict role limits bytes fs verdict → fs ≡ before ++ f ∷ later → f.fin ≡ true →
+        IsUnfinishedAt role limits bytes other (event_offset before f) payload → ⊥ }
+    ensures reached { (role : Role) (limits : Limits) (bytes : List ℕ) (fs before later : List Frame) (f : Frame)
+        (verdict other : Verdict) →
+        IsVerdict role limits bytes fs verdict → fs ≡ before ++ f ∷ later → f.fin ≡ true →
+        EndsBefore role limits bytes other (event_offset before f) → ⊥ }
+    ensures own { (role : Role) (limits : Limits) (bytes : List ℕ) (fs before later : List Frame) (f : Frame)
+        (verdict : Verdict) (start : EventStart) →
+        IsVerdict role limits bytes fs verdict → fs ≡ before ++ f ∷ later → f.fin ≡ true →
+        IsInsideAt role limits bytes (event_offset before f) start → ⊥ }
+{}
+
+/// [`payload`](crate::payload) answers [`Whole`](crate::Payload::Whole) for an event that ends within the input limit and
+/// writes its payload, in whatever chunks the input comes, unless a read or a write fails.
+pub fn law_whole_payload()
+    ensures { (role : Role) (limits : Limits) (all : List ℕ) (fs before later : List Frame) (f : Frame)
+        (verdict : Verdict) (first after : Outgoing) (result : Result Payload Stop) →
+        IsVerdict role limits all fs verdict → fs ≡ before ++ f ∷ later → f.fin ≡ true →
+        length (stream (before ++ f ∷ [])) ≤ limits.input → HasNoFailure result →
+        IsPayloadOfAll role limits (event_offset before f) all first after result →
+        (result ≡ Ok Whole) × IsWritten first after (content (event_at before f)) }
+{}

@@ -1,0 +1,122 @@
+ghost use Rattle.std.specs.Prelude.{◌≡◌, ℕ, ◌+◌, ◌≤◌, ◌<◌, List, Some, None, IfOk, IsNone, length, drop, false};
+ghost use Rattle.wsn_io.specs.Transfer.{Outgoing};
+ghost use Rattle.wsn_wire.specs.declared.endpoint.Role.{Role};
+ghost use Rattle.wsn_rules.specs.Limits.{Limits};
+ghost use Rattle.wsn_scan.specs.Scans.{room_of};
+ghost use Rattle.wsn_wire.specs.Frame.{IsBytes};
+ghost use Rattle.wsn_payload.specs.FollowedScans.{IsCall};
+ghost use Rattle.wsn_payload.specs.Payloads.{IsPayloadTaken, IsPayloadOfAll};
+ghost use Rattle.wsn_payload.specs.Following.{HasSought, IsSeeking, SeeksOn, SeeksThrough};
+
+use crate::answer::Payload;
+use crate::event_at::EventAt;
+use std::io::{Read, Write};
+use wsn_io::{Input, Output, Stop};
+use wsn_rules::Limits;
+use wsn_scan::{CHUNK, Part, Scan, Taken, read_chunk};
+use wsn_wire::Role;
+
+/// Writes the payload of the event whose first frame begins at the offset `at`: of a message, ping, pong or Close,
+/// unmasked and joined from its frames, as its bytes come (RFC 6455 sections 5.3 to 5.6). `role` is the endpoint that
+/// sent the stream, and `at` counts its bytes from 0. It reads up to the answer.
+///
+/// Errors: `Read` if a read fails, and `InputLimit` if a byte past the input limit comes. With either, what came of the
+/// payload within the limit is written. `Write` if the writer fails: a prefix of the payload is written.
+pub fn payload<R: Read, W: Write>(
+    input: &mut Input<R>,
+    output: &mut Output<W>,
+    role: Role,
+    limits: Limits,
+    at: u64,
+) -> Result<Payload, Stop>
+    requires readable { input.old.failed ≡ false }
+    requires writable { output.old.failed ≡ false }
+    ensures taken { IsPayloadTaken role limits at input.old input.new output.old output.new result }
+    ensures whole { (all : List ℕ) → input.old.remaining ≡ Some all →
+        IsPayloadOfAll role limits at all output.old output.new result }
+{
+    let mut scan = Scan::new(role, limits);
+    let mut event = EventAt::new(at);
+    let mut buffer = [0; CHUNK];
+    loop {
+        let Some(chunk) = read_chunk(input, scan.room(), &mut buffer)? else {
+            return Ok(event.ended(scan.finish()));
+        };
+        let piece = &mut buffer[..chunk.len];
+        if let Some(answer) = take_chunk(&mut scan, &mut event, piece, output)? {
+            return Ok(answer);
+        }
+        if chunk.past_limit {
+            return Err(Stop::InputLimit);
+        }
+    }
+}
+
+/// Takes all parts of frames in the piece, up to an answer.
+fn take_chunk<W: Write>(
+    scan: &mut Scan,
+    event: &mut EventAt,
+    piece: &mut [u8],
+    output: &mut Output<W>,
+) -> Result<Option<Payload>, Stop>
+    requires begun { IsSeeking scan.old event.old output.old }
+    requires fits { length piece.old ≤ room_of scan.old }
+    ensures { (role : Role) (limits : Limits) (at : ℕ) (came : List ℕ) (first : Outgoing) →
+        HasSought role limits at scan.old event.old came first output.old →
+        SeeksThrough role limits at scan.new event.new came piece.old first output.new result }
+{
+    let mut at = 0;
+    while at < piece.len() {
+        match take_part(scan, event, &mut piece[at..], output)? {
+            (_, Some(answer)) => return Ok(Some(answer)),
+            (count, None) => at += count,
+        }
+    }
+    Ok(None)
+}
+
+/// Calls the scan once and takes what it finds. Returns the number of bytes that it consumed, and the answer, if there is
+/// one.
+fn take_part<W: Write>(
+    scan: &mut Scan,
+    event: &mut EventAt,
+    piece: &mut [u8],
+    output: &mut Output<W>,
+) -> Result<(usize, Option<Payload>), Stop>
+    requires fits { length piece.old ≤ room_of scan.old }
+    requires some { 0 < length piece.old }
+    requires writable { output.old.failed ≡ false }
+    ensures within { IfOk result (λ step. step.0 ≤ length piece.old) }
+    ensures kept { IfOk result (λ step. drop step.0 piece.new ≡ drop step.0 piece.old) }
+    ensures room { IfOk result (λ step. room_of scan.new + step.0 ≡ room_of scan.old) }
+    ensures seeks { (role : Role) (limits : Limits) (at : ℕ) (came : List ℕ) (first : Outgoing) →
+        HasSought role limits at scan.old event.old came first output.old →
+        SeeksOn role limits at scan.new event.new came piece.old first output.new result }
+    ensures progress { IsSeeking scan.old event.old output.old →
+        IfOk result (λ step. IsNone step.1 → 0 < step.0) }
+{
+    let mut part = Part::new();
+    let (count, found) = call(scan, piece, &mut part);
+    let bytes = &piece[..count];
+    let answer = match found {
+        Taken::More | Taken::Closed => None,
+        Taken::Part => event.take(&part, &bytes[part.start..], output)?,
+        Taken::Refused => {
+            event.put(bytes, output)?;
+            Some(event.ended(scan.finish()))
+        }
+    };
+    Ok((count, answer))
+}
+
+/// Calls the scan once, and returns how many bytes it consumed and what they are.
+#[inline(always)]
+fn call(scan: &mut Scan, piece: &mut [u8], part: &mut Part) -> (usize, Taken)
+    requires { length piece.old ≤ room_of scan.old }
+    ensures in_bytes { IsBytes piece.old }
+    ensures call { IsBytes piece.old → IsCall scan.old scan.new piece.old piece.new result.0 result.1 part.new }
+    ensures kept { drop result.0 piece.new ≡ drop result.0 piece.old }
+    ensures start { result.1 ≡ Taken.Part → part.new.start ≤ result.0 }
+{
+    scan.next(piece, part)
+}

@@ -1,0 +1,140 @@
+use Rattle.std.proofs.Common.{◌≡◌, ℕ, inl, inr, [], ◌++◌, take, drop, refl, sym, ap, ◌∙◌, subst, arith, rules}
+use Rattle.std.proofs.lemmas.List.{length-take-le}
+use Rattle.wsn_wire.specs.declared.refusal.Reason.TheVariants.{TextCut}
+use Rattle.wsn_rules.specs.Group.{unfinished}
+use Rattle.wsn_frame.proofs.FrameStarts.{goes_on, begins}
+use Rattle.wsn_frame.proofs.PayloadBytes.{starts}
+use Rattle.wsn_frame.proofs.PayloadMore.{unmasked_nothing}
+use Rattle.wsn_scan.specs.Positions.{BetweenFrames}
+use Rattle.wsn_scan.proofs.HeadBytes.{bytes_taken}
+use Rattle.wsn_scan.proofs.HeadsReported.{cut_begins_none}
+use Rattle.wsn_scan.proofs.PayloadPrefixes.{none_taken}
+use Rattle.wsn_scan.proofs.Refusals.{refuses}
+use Rattle.wsn_scan.proofs.BegunFrames.{begun_part, none_shown}
+use Rattle.wsn_scan.specs.declared.scan.Scan.{Scan}
+use Rattle.wsn_scan.specs.Scans.{HasConsumed}
+use Rattle.wsn_scan.proofs.scan.Scan.begin_slow.Goals as goal
+
+pub returns-then-head-eq0-clause-taken : goal.returns-then-head-eq0-clause-taken
+returns-then-head-eq0-clause-taken c role limits bytes rest fs in_piece has_consumed none some is_head =
+    let head = c.args.head.now in
+    let start = c.args.start in
+    let piece = c.args.piece.now in
+    let group = unfinished fs in
+    let last = take start piece in
+    let same : c.begin.new.self ≡ c.args.self.now = c.in_default.ensures.none.0 in
+    let room = ap (λ (s : Scan). s.room) same in
+    let consumed = subst (λ (s : Scan). HasConsumed role limits s bytes fs rest) (sym same) has_consumed in
+    let is_evident = c.in_default.ensures.cut c.if-head-eq0.true role limits group (rest ++ last) has_consumed.message is_head in
+    let there = refuses role limits c.begin.new.self bytes rest last fs BetweenFrames start TextCut consumed none (length-take-le start piece c.requires.within) (omega (arith, c.requires, room)) (bytes_taken start piece in_piece) some is_evident
+    (inr (inl (refl, none, cut_begins_none role limits fs head (rest ++ last) TextCut is_head is_evident.is_evident))) (none_taken fs (bytes ++ last) BetweenFrames refl) in
+    rw (c.refuse.ensures.reported.0, c.refuse.ensures.reported.1, c.refuse.ensures.after) (record { frames = fs; since = rest ++ last; position = BetweenFrames; has_scanned = there; found = (refl, refl) }, tt)
+
+pub returns-clause-taken : goal.returns-clause-taken
+returns-clause-taken c role limits bytes rest fs in_piece has_consumed none some is_head =
+    let head = c.args.head.now in
+    let start = c.args.start in
+    let piece = c.args.piece.now in
+    let group = unfinished fs in
+    let last = take start piece in
+    let checked = c.new-check.ensures group has_consumed.message (goes_on role limits group head (rest ++ last) is_head) (begins role limits group head (rest ++ last) is_head) in
+    let holds = starts role limits group head (rest ++ last) is_head c.new-check.result checked (omega (arith, c.if-head-eq0.false)) in
+    let consumed = subst (λ (s : Scan). HasConsumed role limits s bytes fs rest) (sym c.in_default.ensures.none.0) has_consumed in
+    let added = c.add_part.ensures.taken role limits bytes rest last [] [] [] fs consumed none (bytes_taken start piece in_piece) (length-take-le start piece c.requires.within) holds refl (omega arith) (unmasked_nothing head.key) in (
+      record {
+        frames = added.frames;
+        since = added.since;
+        position = added.position;
+        has_scanned = added.has_scanned;
+        found = record {
+          before = [];
+          is_at = (refl, refl);
+          goes_on = begun_part fs c.add_part.new.part [] _ added.frames added.position (ap (λ (n : ℕ). drop n (take start c.begin.new.piece)) c.add_part.ensures.start ∙ none_shown start c.begin.new.piece) added.found;
+        };
+      },
+      (λ more. some, λ is. inr (refl, c.add_part.ensures.start)),
+    )
+
+pub begin-requires-clause-fits : goal.begin-requires-clause-fits
+begin-requires-clause-fits c = search rules
+
+pub begin-requires-clause-open : goal.begin-requires-clause-open
+begin-requires-clause-open c = search rules
+
+pub begin-requires-clause-within : goal.begin-requires-clause-within
+begin-requires-clause-within c = search rules
+
+pub returns-in-Some-clause-taken : goal.returns-in-Some-clause-taken
+returns-in-Some-clause-taken c = search rules
+
+pub returns-in-Some-clause-within : goal.returns-in-Some-clause-within
+returns-in-Some-clause-within c = search rules
+
+pub returns-in-Some-clause-kept : goal.returns-in-Some-clause-kept
+returns-in-Some-clause-kept c = search rules
+
+pub returns-in-Some-clause-head : goal.returns-in-Some-clause-head
+returns-in-Some-clause-head c = search rules
+
+pub returns-in-Some-clause-untouched : goal.returns-in-Some-clause-untouched
+returns-in-Some-clause-untouched c = search rules
+
+pub returns-in-Some-clause-room : goal.returns-in-Some-clause-room
+returns-in-Some-clause-room c = search rules
+
+pub returns-in-Some-clause-reported : goal.returns-in-Some-clause-reported
+returns-in-Some-clause-reported c = search rules
+
+pub refuse-requires : goal.refuse-requires
+refuse-requires c = search rules
+
+pub returns-then-head-eq0-clause-within : goal.returns-then-head-eq0-clause-within
+returns-then-head-eq0-clause-within c = search rules
+
+pub returns-then-head-eq0-clause-kept : goal.returns-then-head-eq0-clause-kept
+returns-then-head-eq0-clause-kept c = search rules
+
+pub returns-then-head-eq0-clause-head : goal.returns-then-head-eq0-clause-head
+returns-then-head-eq0-clause-head c = search rules
+
+pub returns-then-head-eq0-clause-untouched : goal.returns-then-head-eq0-clause-untouched
+returns-then-head-eq0-clause-untouched c = search rules
+
+pub returns-then-head-eq0-clause-room : goal.returns-then-head-eq0-clause-room
+returns-then-head-eq0-clause-room c = search rules
+
+pub returns-then-head-eq0-clause-reported : goal.returns-then-head-eq0-clause-reported
+returns-then-head-eq0-clause-reported c = search rules
+
+pub add_part-requires-clause-fits : goal.add_part-requires-clause-fits
+add_part-requires-clause-fits c = search rules
+
+pub add_part-requires-clause-open : goal.add_part-requires-clause-open
+add_part-requires-clause-open c = search rules
+
+pub returns-clause-within : goal.returns-clause-within
+returns-clause-within c = search rules
+
+pub returns-clause-kept : goal.returns-clause-kept
+returns-clause-kept c = search rules
+
+pub returns-clause-head : goal.returns-clause-head
+returns-clause-head c = search rules
+
+pub returns-clause-untouched : goal.returns-clause-untouched
+returns-clause-untouched c = search rules
+
+pub returns-clause-room : goal.returns-clause-room
+returns-clause-room c = search rules
+
+pub returns-clause-reported : goal.returns-clause-reported
+returns-clause-reported c = search rules
+
+pub returns-in-Some-clause-whole : goal.returns-in-Some-clause-whole
+returns-in-Some-clause-whole c = search rules
+
+pub returns-then-head-eq0-clause-whole : goal.returns-then-head-eq0-clause-whole
+returns-then-head-eq0-clause-whole c = search rules
+
+pub returns-clause-whole : goal.returns-clause-whole
+returns-clause-whole c = search rules

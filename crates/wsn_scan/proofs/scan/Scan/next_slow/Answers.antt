@@ -1,0 +1,193 @@
+use Rattle.std.proofs.Common.{refl, sym, subst, rules, arith, ◌≡◌, ℕ, List, take, ap, ◌∙◌}
+use Rattle.std.proofs.lemmas.Grind.{common_steps}
+use Rattle.wsn_frame.specs.declared.partial_head.PartialHead.{PartialHead}
+use Rattle.wsn_scan.specs.declared.stage.Stage.{Stage}
+use Rattle.wsn_scan.specs.declared.stage.Stage.TheVariants as stages
+use Rattle.wsn_scan.specs.Scans.{HasScannedAt, IsAt}
+use Rattle.wsn_scan.proofs.HeadBytes.{before_head}
+use Rattle.wsn_scan.proofs.MoreBytes.{same_scan}
+use Rattle.wsn_scan.proofs.UnmaskedParts.{unmasked_none, same_between}
+use Rattle.wsn_scan.specs.declared.part.Taken.TheVariants as taken
+use Rattle.wsn_scan.proofs.scan.Scan.next_slow.Goals as goal
+
+pub returns-in-Between-clause-taken : goal.returns-in-Between-clause-taken
+returns-in-Between-clause-taken c role limits bytes rest fs at in_bytes has_scanned =
+    c.next_head.ensures.taken role limits bytes rest fs at in_bytes
+    (before_head role limits c.args.self.now bytes rest fs at (subst (λ (stage : Stage). HasScannedAt role limits c.args.self.now stage bytes fs rest at) c.in-Between.is has_scanned))
+
+pub returns-in-Head-clause-taken : goal.returns-in-Head-clause-taken
+returns-in-Head-clause-taken c role limits bytes rest fs at in_bytes has_scanned =
+    let there = subst (λ (stage : Stage). HasScannedAt role limits c.args.self.now stage bytes fs rest at) c.in-Head.is has_scanned in
+    c.next_head-in-Head.ensures.taken role limits bytes rest fs at in_bytes
+    (record {
+      has_consumed = same_scan role limits c.args.self.now _ bytes rest fs refl refl refl refl there.has_consumed;
+      is_at = subst (λ (part : PartialHead). IsAt role limits (stages.Head part) bytes fs rest at) (sym c.replace-begun.ensures.value) there.is_at;
+    })
+
+pub returns-in-Payload-clause-taken : goal.returns-in-Payload-clause-taken
+returns-in-Payload-clause-taken c role limits bytes rest fs at in_bytes has_scanned =
+    let there = subst (λ (stage : Stage). HasScannedAt role limits c.args.self.now stage bytes fs rest at) c.in-Payload.is has_scanned in
+    c.next_payload.ensures.taken role limits bytes rest fs at in_bytes
+    (record { has_consumed = same_scan role limits c.args.self.now _ bytes rest fs refl refl refl refl there.has_consumed; is_at = there.is_at })
+
+pub next_head-requires : goal.next_head-requires
+next_head-requires c = search rules
+
+pub next_head-requires-in-Head : goal.next_head-requires-in-Head
+next_head-requires-in-Head c = search rules
+
+pub next_payload-requires : goal.next_payload-requires
+next_payload-requires c = search rules
+
+pub overflow_sub-self : goal.overflow_sub-self
+overflow_sub-self c = search rules
+
+pub returns-in-Between-clause-within : goal.returns-in-Between-clause-within
+returns-in-Between-clause-within c = search rules
+
+pub returns-in-Between-clause-kept : goal.returns-in-Between-clause-kept
+returns-in-Between-clause-kept c = search rules
+
+pub returns-in-Between-clause-head : goal.returns-in-Between-clause-head
+returns-in-Between-clause-head c = search rules
+
+pub returns-in-Between-clause-untouched : goal.returns-in-Between-clause-untouched
+returns-in-Between-clause-untouched c = search rules
+
+pub returns-in-Between-clause-room : goal.returns-in-Between-clause-room
+returns-in-Between-clause-room c = search rules
+
+pub returns-in-Between-clause-reported : goal.returns-in-Between-clause-reported
+returns-in-Between-clause-reported c = search rules
+
+pub returns-in-Head-clause-within : goal.returns-in-Head-clause-within
+returns-in-Head-clause-within c = search rules
+
+pub returns-in-Head-clause-kept : goal.returns-in-Head-clause-kept
+returns-in-Head-clause-kept c = search rules
+
+pub returns-in-Head-clause-head : goal.returns-in-Head-clause-head
+returns-in-Head-clause-head c = search rules
+
+pub returns-in-Head-clause-untouched : goal.returns-in-Head-clause-untouched
+returns-in-Head-clause-untouched c = search rules
+
+pub returns-in-Head-clause-room : goal.returns-in-Head-clause-room
+returns-in-Head-clause-room c = search rules
+
+pub returns-in-Head-clause-reported : goal.returns-in-Head-clause-reported
+returns-in-Head-clause-reported c = search rules
+
+pub returns-in-Payload-clause-within : goal.returns-in-Payload-clause-within
+returns-in-Payload-clause-within c = search rules
+
+pub returns-in-Payload-clause-kept : goal.returns-in-Payload-clause-kept
+returns-in-Payload-clause-kept c = search rules
+
+pub returns-in-Payload-clause-head : goal.returns-in-Payload-clause-head
+returns-in-Payload-clause-head c = search rules
+
+pub returns-in-Payload-clause-untouched : goal.returns-in-Payload-clause-untouched
+returns-in-Payload-clause-untouched c = search rules
+
+pub returns-in-Payload-clause-room : goal.returns-in-Payload-clause-room
+returns-in-Payload-clause-room c = search rules
+
+pub returns-in-Payload-clause-reported : goal.returns-in-Payload-clause-reported
+returns-in-Payload-clause-reported c = search rules
+
+pub returns-in-Closed-clause-taken : goal.returns-in-Closed-clause-taken
+returns-in-Closed-clause-taken c = grind (arith, common_steps)
+
+pub returns-in-Closed-clause-within : goal.returns-in-Closed-clause-within
+returns-in-Closed-clause-within c = search rules
+
+pub returns-in-Closed-clause-kept : goal.returns-in-Closed-clause-kept
+returns-in-Closed-clause-kept c = search rules
+
+pub returns-in-Closed-clause-head : goal.returns-in-Closed-clause-head
+returns-in-Closed-clause-head c = search rules
+
+pub returns-in-Closed-clause-untouched : goal.returns-in-Closed-clause-untouched
+returns-in-Closed-clause-untouched c = search rules
+
+pub returns-in-Closed-clause-room : goal.returns-in-Closed-clause-room
+returns-in-Closed-clause-room c = search rules
+
+pub returns-in-Closed-clause-reported : goal.returns-in-Closed-clause-reported
+returns-in-Closed-clause-reported c = search rules
+
+pub returns-in-Refused-clause-taken : goal.returns-in-Refused-clause-taken
+returns-in-Refused-clause-taken c = search rules
+
+pub returns-in-Refused-clause-within : goal.returns-in-Refused-clause-within
+returns-in-Refused-clause-within c = search rules
+
+pub returns-in-Refused-clause-kept : goal.returns-in-Refused-clause-kept
+returns-in-Refused-clause-kept c = search rules
+
+pub returns-in-Refused-clause-head : goal.returns-in-Refused-clause-head
+returns-in-Refused-clause-head c = search rules
+
+pub returns-in-Refused-clause-untouched : goal.returns-in-Refused-clause-untouched
+returns-in-Refused-clause-untouched c = search rules
+
+pub returns-in-Refused-clause-room : goal.returns-in-Refused-clause-room
+returns-in-Refused-clause-room c = search rules
+
+pub returns-in-Refused-clause-reported : goal.returns-in-Refused-clause-reported
+returns-in-Refused-clause-reported c = search rules
+
+pub returns-in-Between-clause-again : goal.returns-in-Between-clause-again
+returns-in-Between-clause-again c = search rules
+
+pub returns-in-Head-clause-again : goal.returns-in-Head-clause-again
+returns-in-Head-clause-again c = search rules
+
+pub returns-in-Payload-clause-again : goal.returns-in-Payload-clause-again
+returns-in-Payload-clause-again c = search rules
+
+pub returns-in-Closed-clause-again : goal.returns-in-Closed-clause-again
+returns-in-Closed-clause-again c = search rules
+
+pub returns-in-Refused-clause-again : goal.returns-in-Refused-clause-again
+returns-in-Refused-clause-again c = search rules
+
+pub returns-in-Between-clause-refused : goal.returns-in-Between-clause-refused
+returns-in-Between-clause-refused c is role limits bytes rest fs at has_scanned =
+    let there = subst (λ (stage : Stage). HasScannedAt role limits c.args.self.now stage bytes fs rest at) c.in-Between.is has_scanned in
+    let n = c.next_head.result.0 in
+    ap (λ (bs : List ℕ). take n bs) (c.next_head.ensures.untouched (λ part. let both : taken.Refused ≡ taken.Part = sym is ∙ part in cc)) ∙ same_between at (take n c.args.piece.now) there.is_at.2
+
+pub returns-in-Head-clause-refused : goal.returns-in-Head-clause-refused
+returns-in-Head-clause-refused c is role limits bytes rest fs at has_scanned =
+    let there = subst (λ (stage : Stage). HasScannedAt role limits c.args.self.now stage bytes fs rest at) c.in-Head.is has_scanned in
+    let n = c.next_head-in-Head.result.0 in
+    ap (λ (bs : List ℕ). take n bs) (c.next_head-in-Head.ensures.untouched (λ part. let both : taken.Refused ≡ taken.Part = sym is ∙ part in cc)) ∙ same_between at (take n c.args.piece.now) there.is_at.2
+
+pub returns-in-Payload-clause-refused : goal.returns-in-Payload-clause-refused
+returns-in-Payload-clause-refused c is role limits bytes rest fs at has_scanned =
+    let there = subst (λ (stage : Stage). HasScannedAt role limits c.args.self.now stage bytes fs rest at) c.in-Payload.is has_scanned in
+    c.next_payload.ensures.refused is role limits bytes rest fs at
+    (record { has_consumed = same_scan role limits c.args.self.now _ bytes rest fs refl refl refl refl there.has_consumed; is_at = there.is_at })
+
+pub returns-in-Refused-clause-refused : goal.returns-in-Refused-clause-refused
+returns-in-Refused-clause-refused c is role limits bytes rest fs at has_scanned = unmasked_none at
+
+pub returns-in-Between-clause-whole : goal.returns-in-Between-clause-whole
+returns-in-Between-clause-whole c = search rules
+
+pub returns-in-Head-clause-whole : goal.returns-in-Head-clause-whole
+returns-in-Head-clause-whole c = search rules
+
+pub returns-in-Payload-clause-whole : goal.returns-in-Payload-clause-whole
+returns-in-Payload-clause-whole c = search rules
+
+pub returns-in-Closed-clause-whole : goal.returns-in-Closed-clause-whole
+returns-in-Closed-clause-whole c = search rules
+
+pub returns-in-Closed-clause-refused : goal.returns-in-Closed-clause-refused
+returns-in-Closed-clause-refused c = search rules
+
+pub returns-in-Refused-clause-whole : goal.returns-in-Refused-clause-whole
+returns-in-Refused-clause-whole c = search rules

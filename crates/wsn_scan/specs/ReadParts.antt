@@ -1,0 +1,57 @@
+-- What a reader of frames returns, and what that says of the bytes that came.
+use Rattle.std.specs.Prelude.{◌≡◌, ℕ, ◌+◌, ◌≤◌, false, Option, None, Some, Result, Ok, Err, List, ◌++◌, length, take}
+use Rattle.wsn_wire.specs.declared.endpoint.Role.{Role}
+use Rattle.wsn_wire.specs.Frame.{Frame}
+use Rattle.wsn_io.specs.Transfer.{Incoming, IsConsumed}
+use Rattle.wsn_io.specs.declared.stop.Stop.{Stop}
+use Rattle.wsn_rules.specs.declared.verdict.Verdict.{Verdict}
+use Rattle.wsn_rules.specs.Limits.{Limits}
+use Rattle.wsn_rules.specs.Heads.{heads_of, AreHeads}
+use Rattle.wsn_rules.specs.Verdict.{IsVerdict}
+use Rattle.wsn_scan.specs.declared.frame_reader.FrameReader.{FrameReader}
+use Rattle.wsn_scan.specs.declared.part.Part.{Part}
+use Rattle.wsn_scan.specs.Judging.{IsReached, IsStopped}
+use Rattle.wsn_scan.specs.Positions.{Position, begun_at}
+use Rattle.wsn_scan.specs.Parts.{IsPart}
+use Rattle.wsn_scan.specs.FrameReaders.{HasTaken, held_payload}
+
+-- It takes this part of a frame, whose payload it holds.
+pub record TakesPart (role : Role) (limits : Limits) (reader : FrameReader) (part : Part) (came : List ℕ)
+    (fs : List Frame) (at : Position) : Type 0 where
+  pub frames : List Frame
+  pub position : Position
+  pub is_part : IsPart fs at part (held_payload reader) frames position
+  pub has_taken : HasTaken role limits reader came frames position
+
+-- All of these bytes are taken: each whole frame to its end, and each head.
+abbrev pub AllTaken : Role → Limits → List ℕ → List Frame → Position → Type 0
+AllTaken role limits bytes fs at = AreHeads role limits bytes fs (heads_of fs ++ begun_at at)
+
+-- The verdict on the bytes that came, as a judge reaches it. Each whole frame in them was taken to its end, and each
+-- head.
+abbrev pub IsDone : Role → Limits → Incoming → List ℕ → List Frame → Position → Verdict → Type 0
+IsDone role limits new came fs at verdict =
+    IsReached role limits new came verdict × IsVerdict role limits came fs verdict × AllTaken role limits came fs at
+
+-- A stop, as a judge's. Of the bytes within the limit, each whole frame was taken to its end, and each head.
+abbrev pub IsHaltedAt : Role → Limits → Incoming → List ℕ → List Frame → Position → Stop → Type 0
+IsHaltedAt role limits new came fs at halted =
+    IsStopped role limits new came halted
+    × ((verdict : Verdict) × IsVerdict role limits (take limits.input came) fs verdict)
+    × AllTaken role limits (take limits.input came) fs at
+
+-- The result is right for the bytes that came: a part, the verdict or a stop.
+abbrev pub IsNextPart : Role → Limits → Incoming → FrameReader → Part → List ℕ → List Frame → Position →
+    Result (Option Verdict) Stop → Type 0
+IsNextPart role limits new reader part came fs at (Ok None) =
+    TakesPart role limits reader part came fs at × (new.failed ≡ false)
+IsNextPart role limits new reader part came fs at (Ok (Some verdict)) = IsDone role limits new came fs at verdict
+IsNextPart role limits new reader part came fs at (Err halted) = IsHaltedAt role limits new came fs at halted
+
+-- A call has read these bytes more, and its result is right for all that came: at most one byte past the limit.
+pub record ReadsOn (role : Role) (limits : Limits) (old new : Incoming) (reader : FrameReader) (part : Part)
+    (came : List ℕ) (fs : List Frame) (at : Position) (result : Result (Option Verdict) Stop) : Type 0 where
+  pub more : List ℕ
+  pub consumed : IsConsumed old new more
+  pub few : length (came ++ more) ≤ limits.input + 1
+  pub next : IsNextPart role limits new reader part (came ++ more) fs at result

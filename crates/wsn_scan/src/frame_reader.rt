@@ -1,0 +1,205 @@
+ghost use Rattle.std.specs.Prelude.{◌≡◌, ℕ, ◌+◌, ◌<◌, ◌≤◌, ◌↔◌, List, [], None, Ok, true, false, length, IsSome};
+ghost use Rattle.std.specs.List.{slice_range};
+ghost use Rattle.wsn_wire.specs.Frame.{Frame, IsBytes};
+ghost use Rattle.wsn_scan.specs.Refill.{chunk_size};
+ghost use Rattle.wsn_scan.specs.Scans.{IsAdvance, room_of, refusal_in};
+ghost use Rattle.wsn_scan.specs.EventFrames.{TakesEvents, IsIdle};
+
+use crate::part::{Part, Taken};
+use crate::refill::{CHUNK, refill};
+use crate::scan::Scan;
+use std::io::Read;
+use wsn_io::Stop;
+use wsn_rules::{Limits, Verdict};
+use wsn_wire::{Input, Role};
+
+/// Reads an input and takes it apart into its frames as they come, and then gives the verdict (RFC 6455 section 5.2). It
+/// holds at most [`CHUNK`] bytes of the input.
+#[derive(Drop)]
+pub struct FrameReader {
+    scan: Scan,
+    buffer: [u8; CHUNK],
+    /// The payload that was taken last is `from..at` of the buffer; `at..end` isn't scanned yet.
+    from: usize,
+    at: usize,
+    end: usize,
+    /// One byte past the input limit came.
+    past: bool,
+    ghost scanned: { from ≤ at },
+    ghost left: { at ≤ end },
+    ghost held: { end ≤ chunk_size },
+    ghost size: { length buffer ≡ chunk_size },
+}
+
+impl FrameReader {
+    ghost use Rattle.wsn_scan.specs.Words.{Position, BetweenFrames, HasTaken, IsReading, parts_left, held_payload, ReadsOn, StepsOn, Progresses, IsUsed, IsFilled, TakesRun};
+
+    /// A reader that has read nothing. `role` is the endpoint that sent the stream. It allocates no memory.
+    #[tactic(none)]
+    pub fn new(role: Role, limits: Limits) -> FrameReader
+        ensures { HasTaken role limits result [] [] BetweenFrames }
+    {
+        FrameReader {
+            scan: Scan::new(role, limits),
+            buffer: [0; CHUNK],
+            from: 0,
+            at: 0,
+            end: 0,
+            past: false,
+        }
+    }
+
+    /// The payload of the part that [`FrameReader::next`] took last, unmasked (RFC 6455 section 5.3), or the normal form
+    /// that [`FrameReader::take_events`] took.
+    #[tactic(none)]
+    pub fn payload(&self) -> &[u8]
+        ensures { result.now ≡ held_payload self.now }
+    {
+        &self.buffer[self.from..self.at]
+    }
+
+    /// Reads on from the input and takes the next part of a frame: puts it into `part`, and returns `None`.
+    /// [`payload`](FrameReader::payload) then returns its payload. Or it returns the verdict: at the input's end, or at
+    /// the offending byte of a refusal. Don't call it again after a verdict or an error.
+    ///
+    /// Errors: `Read` if the reader fails; `InputLimit` if a byte past the input limit comes. Before a verdict or an
+    /// error, each head in the bytes that came within the limit is reported, and each whole frame to its end. The
+    /// payload of a frame that has begun may not be reported in full.
+    #[inline(always)]
+    #[tactic(none)]
+    pub fn next<R: Read>(
+        &mut self,
+        input: &mut Input<R>,
+        part: &mut Part,
+    ) -> Result<Option<Verdict>, Stop>
+        requires begun { IsReading self.old }
+        requires readable { input.old.failed ≡ false }
+        ensures next { (role : Role) (limits : _) (came : List ℕ) (fs : List Frame) (at : Position) →
+            HasTaken role limits self.old came fs at →
+            ReadsOn role limits input.old input.new self.new part.new came fs at result }
+        ensures falls { result ≡ Ok None → parts_left self.new < parts_left self.old }
+    {
+        loop {
+            match self.step(part) {
+                Taken::Part => return Ok(None),
+                Taken::Refused => return Ok(Some(self.scan.finish())),
+                Taken::More | Taken::Closed => {
+                    if let Some(verdict) = self.fill(input)? {
+                        return Ok(Some(verdict));
+                    }
+                }
+            }
+        }
+    }
+
+    /// Takes the frames that come next if each is whole in the buffer, ends an event and leaves no message open (RFC 6455
+    /// section 5.4). Returns whether there is one. If so, [`payload`](FrameReader::payload) returns the normal form of
+    /// their events; otherwise nothing changes. It reads nothing.
+    pub fn take_events(&mut self) -> bool
+        requires { IsReading self.old }
+        ensures taken { result ≡ true → (role : Role) (limits : _) (came : List ℕ) (fs : List Frame) (at : Position) →
+            HasTaken role limits self.old came fs at → TakesRun role limits self.new came fs at }
+        ensures none { result ≡ false → self.new ≡ self.old }
+        ensures left { parts_left self.new ≤ parts_left self.old }
+    {
+        let from = self.at;
+        let count = events_in(&mut self.scan, &mut self.buffer, from, self.end);
+        if count == 0 {
+            return false;
+        }
+        self.at += count;
+        self.from = from;
+        true
+    }
+
+    /// Calls the scan once, unless all that came is scanned.
+    #[inline(always)]
+    fn step(&mut self, part: &mut Part) -> Taken
+        requires begun { IsReading self.old }
+        ensures taken { (role : Role) (limits : _) (came : List ℕ) (fs : List Frame) (at : Position) →
+            HasTaken role limits self.old came fs at →
+            StepsOn role limits self.new part.new came fs at result }
+        ensures falls { Progresses self.old self.new result }
+    {
+        if self.at == self.end {
+            return Taken::More;
+        }
+        let from = self.at;
+        let (taken, found) = part_in(&mut self.scan, &mut self.buffer, from, self.end, part);
+        self.at = from + taken;
+        self.from = match found {
+            Taken::Part => from + part.start,
+            _ => self.at,
+        };
+        found
+    }
+
+    /// Reads once, after all bytes that came are scanned. Returns the verdict if the input has ended.
+    #[tactic(none)]
+    fn fill<R: Read>(&mut self, input: &mut Input<R>) -> Result<Option<Verdict>, Stop>
+        requires readable { input.old.failed ≡ false }
+        ensures filled { (role : Role) (limits : _) (came : List ℕ) (fs : List Frame) (at : Position) →
+            IsUsed role limits self.old came fs at →
+            IsFilled role limits input.old input.new self.new came fs at result }
+        ensures left { parts_left self.new ≡ parts_left self.old }
+        ensures scan { self.new.scan ≡ self.old.scan }
+        ensures within { result ≡ Ok None → self.old.past ≡ false }
+    {
+        if self.past {
+            return Err(Stop::InputLimit);
+        }
+        let Some(chunk) = refill(input, self.scan.room(), &mut self.buffer)? else {
+            return Ok(Some(self.scan.finish()));
+        };
+        self.from = 0;
+        self.at = 0;
+        self.end = chunk.len;
+        self.past = chunk.past_limit;
+        Ok(None)
+    }
+}
+
+/// Passes `buffer[at..end]` to the scan. The bytes after those consumed don't change.
+#[inline(always)]
+fn part_in(
+    scan: &mut Scan,
+    buffer: &mut [u8],
+    at: usize,
+    end: usize,
+    part: &mut Part,
+) -> (usize, Taken)
+    requires within { (at ≤ end) × (end ≤ length buffer.old) }
+    requires fits { end ≤ room_of scan.old + at }
+    ensures in_bytes { IsBytes (slice_range buffer.old at end) }
+    ensures taken { IsAdvance (record {
+      before = scan.old;
+      after = scan.new;
+      piece = slice_range buffer.old at end;
+      piece_after = slice_range buffer.new at end;
+      count = result.0;
+      found = result.1;
+      part = part.new;
+    }) }
+    ensures within { at + result.0 ≤ end }
+    ensures start { result.1 ≡ Taken.Part → part.new.start ≤ result.0 }
+    ensures kept { slice_range buffer.new (at + result.0) end ≡ slice_range buffer.old (at + result.0) end }
+    ensures room { room_of scan.new + result.0 ≡ room_of scan.old }
+    ensures reported { IsSome (refusal_in scan.new) ↔ (result.1 ≡ Taken.Refused) }
+{
+    scan.next(&mut buffer[at..end], part)
+}
+
+/// Passes `buffer[at..end]` to the scan, which takes events. The bytes after those consumed don't change.
+fn events_in(scan: &mut Scan, buffer: &mut [u8], at: usize, end: usize) -> usize
+    requires within { (at ≤ end) × (end ≤ length buffer.old) }
+    requires fits { end ≤ room_of scan.old + at }
+    ensures taken { 0 < result → IsIdle scan.old
+        × TakesEvents scan.old scan.new (slice_range buffer.old at end) (slice_range buffer.new at end) result }
+    ensures within { at + result ≤ end }
+    ensures kept { slice_range buffer.new (at + result) end ≡ slice_range buffer.old (at + result) end }
+    ensures room { room_of scan.new + result ≡ room_of scan.old }
+    ensures reported { refusal_in scan.old ≡ None → refusal_in scan.new ≡ None }
+    ensures none { result ≡ 0 → (scan.new ≡ scan.old) × (buffer.new ≡ buffer.old) }
+{
+    scan.take_events(&mut buffer[at..end])
+}

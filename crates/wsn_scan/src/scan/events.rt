@@ -1,0 +1,226 @@
+//! Runs of frames that are whole in a piece and each end an event, with the event's normal frame written in their place.
+ghost use Rattle.std.specs.Prelude.{◌≡◌, ◌≢◌, ◌+◌, ◌<◌, ◌≤◌, ◌⊎◌, true, false, None, Ok, List, [], ◌∷◌, length, drop, IsTrue, IfSome, IfNone};
+ghost use Rattle.wsn_wire.specs.Frame.{Frame, IsBytes, first_byte};
+ghost use Rattle.wsn_frame.specs.declared.payload_check.PayloadCheck.{PayloadCheck};
+ghost use Rattle.wsn_frame.specs.OpenMessages.{IsOpenMessage};
+ghost use Rattle.wsn_frame.specs.PayloadChecks.{HasChecked, IsChecked};
+ghost use Rattle.wsn_frame.specs.PartialHeads.{encoded_form};
+ghost use Rattle.wsn_scan.specs.EventFrames.{IsEventFrame, TakesEvents, IsIdle, info_found, with_key_cleared};
+ghost use Rattle.wsn_scan.specs.Feeding.{ConsumesPrefix};
+ghost use Rattle.wsn_scan.specs.Scans.{room_of, refusal_in};
+
+use super::Scan;
+use crate::stage::Stage;
+use wsn_frame::{FrameContext, Head, PayloadCheck, unmask, whole_head};
+use wsn_rules::HeadInfo;
+use wsn_wire::{FirstByte, Form, Op};
+
+/// A final frame, which ends an event and encodes its length shortest.
+#[derive(Clone, Copy)]
+struct EventFrame {
+    op: Op,
+    /// The masking key, if the frame is masked.
+    key: Option<[u8; 4]>,
+    /// The number of the frame's bytes.
+    size: usize,
+    /// The number of the payload's bytes, the last of these.
+    len: usize,
+}
+
+impl EventFrame {
+    /// Its head, if its first byte is at this offset.
+    #[inline(always)]
+    fn info(&self, place: u64) -> HeadInfo
+        ensures { result ≡ info_found place self.now }
+    {
+        HeadInfo {
+            place,
+            fin: true,
+            op: self.op,
+            key: self.key,
+            form: Form::Shortest,
+            len: self.len as u64,
+        }
+    }
+}
+
+impl Scan {
+    /// Consumes frames at the start of the piece, up to the first that [`take_event`] leaves, and writes the normal
+    /// form of their events in their place (RFC 6455 section 5.4). Returns the number of bytes. It does so if the scan
+    /// is between frames and no message is open. With 0 nothing changes.
+    #[inline(never)]
+    #[tactic(none)]
+    pub(crate) fn take_events(&mut self, piece: &mut [u8]) -> usize
+        requires { length piece.old ≤ room_of self.old }
+        ensures taken { 0 < result → IsIdle self.old × TakesEvents self.old self.new piece.old piece.new result }
+        ensures within { result ≤ length piece.old }
+        ensures kept { drop result piece.new ≡ drop result piece.old }
+        ensures room { room_of self.new + result ≡ room_of self.old }
+        ensures reported { refusal_in self.old ≡ None → refusal_in self.new ≡ None }
+        ensures none { result ≡ 0 → (self.new ≡ self.old) × (piece.new ≡ piece.old) }
+    {
+        if !self.is_idle() {
+            return 0;
+        }
+        // The compiler knows of this copy that no message is open.
+        let context = FrameContext {
+            message: None,
+            ..self.context
+        };
+        let mut counts = self.counts;
+        let mut at = 0;
+        while let Some(frame) = take_event(&context, &mut piece[at..]) {
+            counts = counts.with(true, frame.op);
+            at += frame.size;
+        }
+        if at == 0 {
+            return 0;
+        }
+        self.counts = counts;
+        self.room -= at as u64;
+        self.used = self.taken();
+        at
+    }
+
+    /// Consumes the frame at the start of the piece if [`take_event`] takes it, and returns its size and its head; its
+    /// event's normal frame is in its place. It does so if the scan is between frames and no message is open. Otherwise it
+    /// returns `None`, and nothing changes.
+    #[inline(always)]
+    #[tactic(none)]
+    pub(crate) fn next_event(&mut self, piece: &mut [u8]) -> Option<(usize, HeadInfo)>
+        requires { length piece.old ≤ room_of self.old }
+        ensures taken { IfSome result (λ found. IsBytes piece.old →
+            ConsumesPrefix self.old self.new piece.old found.0 (found.1 ∷ [])) }
+        ensures within { IfSome result (λ found. (0 < found.0) × (found.0 ≤ length piece.old)) }
+        ensures kept { IfSome result (λ found. drop found.0 piece.new ≡ drop found.0 piece.old) }
+        ensures room { IfSome result (λ found. room_of self.new + found.0 ≡ room_of self.old) }
+        ensures none { IfNone result ((self.new ≡ self.old) × (piece.new ≡ piece.old)) }
+    {
+        if !self.is_idle() {
+            return None;
+        }
+        // The compiler knows of this copy that no message is open.
+        let context = FrameContext {
+            message: None,
+            ..self.context
+        };
+        let frame = take_event(&context, piece)?;
+        let head = frame.info(self.used);
+        self.counts = self.counts.with(true, frame.op);
+        self.room -= frame.size as u64;
+        self.used = self.taken();
+        Some((frame.size, head))
+    }
+
+    /// Whether it is between frames, and no message is open.
+    #[inline(always)]
+    pub(crate) fn is_idle(&self) -> bool
+        ensures { IsTrue result → IsIdle self.now }
+    {
+        matches!((&self.stage, &self.context.message), (Stage::Between, None))
+    }
+}
+
+/// Writes the normal frame of an event in place of the frame that ends it, at the start of the piece, and returns that
+/// frame. It does so if no message is open, the piece has the whole frame, and the frame is valid, final and no Close,
+/// and encodes its length shortest. Otherwise it returns `None`, and nothing changes.
+#[inline(always)]
+#[tactic(none)]
+fn take_event(context: &FrameContext, piece: &mut [u8]) -> Option<EventFrame>
+    requires { context.now.message ≡ None }
+    ensures taken { IfSome result (λ frame. IsBytes piece.old →
+        IsEventFrame context.now.role context.now.limits piece.old piece.new frame) }
+    ensures within { IfSome result (λ frame. (0 < frame.size) × (frame.size ≤ length piece.old)) }
+    ensures kept { IfSome result (λ frame. drop frame.size piece.new ≡ drop frame.size piece.old) }
+    ensures none { IfNone result (piece.new ≡ piece.old) }
+{
+    let (start, head) = whole_head(piece, context)?;
+    if head.len == 0 {
+        let frame = take_empty(&head, &mut piece[..start])?;
+        return Some(frame);
+    }
+    let room = (piece.len() - start) as u64;
+    if head.len > room || !is_plain(&head) {
+        return None;
+    }
+    let end = start + head.len as usize;
+    unmask(head.key, 0, &mut piece[start..end]);
+    if !is_valid(head.first, &piece[start..end]) {
+        unmask(head.key, 0, &mut piece[start..end]);
+        return None;
+    }
+    clear_key(head.key, &mut piece[..start]);
+    Some(EventFrame {
+        op: head.first.op,
+        key: head.key,
+        size: end,
+        len: head.len as usize,
+    })
+}
+
+/// Whether a whole payload, unmasked, is valid in a final frame while no message is open (RFC 6455 section 8.1). Only a
+/// text's is looked at.
+#[inline(always)]
+#[tactic(none)]
+fn is_valid(first: FirstByte, payload: &[u8]) -> bool
+    requires some { 0 < length payload.now }
+    requires no_close { first.op ≢ Op.Close }
+    ensures { result ≡ true → first.fin ≡ true → (group : List Frame) → IsOpenMessage None group
+        → (first.op ≡ Op.Continue → group ≢ []) → ((first.op ≡ Op.Text) ⊎ (first.op ≡ Op.Binary) → group ≡ [])
+        → (check : PayloadCheck) × (next : PayloadCheck) × HasChecked group (first_byte first.fin first.op) check []
+        × IsChecked group (first_byte first.fin first.op) (length payload.now) [] payload.now (Ok next) }
+{
+    match first.op {
+        Op::Text => PayloadCheck::new(first, None).take(payload, true, true),
+        _ => true,
+    }
+}
+
+/// Writes the normal frame of an event in place of the empty frame that ends it, all of whose bytes are this head, and
+/// returns that frame. It does so if the frame is final and no Close, and encodes its length shortest. Otherwise it
+/// returns `None`, and nothing changes.
+#[inline(always)]
+#[tactic(none)]
+fn take_empty(head: &Head, bytes: &mut [u8]) -> Option<EventFrame>
+    requires { IfSome head.now.key (λ _. 4 ≤ length bytes.old) }
+    ensures taken { IfSome result (λ frame. frame ≡
+        record { op = head.now.first.op; key = head.now.key; size = length bytes.old; len = 0 }) }
+    ensures plain { IfSome result (λ _. (head.now.first.fin ≡ true) × (head.now.first.op ≢ Op.Close)
+        × (encoded_form head.now.encoded head.now.len ≡ Form.Shortest)) }
+    ensures cleared { IfSome result (λ _. bytes.new ≡ with_key_cleared head.now.key bytes.old) }
+    ensures none { IfNone result (bytes.new ≡ bytes.old) }
+{
+    if !is_plain(head) {
+        return None;
+    }
+    clear_key(head.key, bytes);
+    Some(EventFrame {
+        op: head.first.op,
+        key: head.key,
+        size: bytes.len(),
+        len: 0,
+    })
+}
+
+/// Whether the frame is final and no Close, and its length is in the shortest encoding (RFC 6455 section 5.2).
+#[inline(always)]
+#[tactic(none)]
+fn is_plain(head: &Head) -> bool
+    ensures { IsTrue result → (head.now.first.fin ≡ true) × (head.now.first.op ≢ Op.Close)
+        × (encoded_form head.now.encoded head.now.len ≡ Form.Shortest) }
+{
+    head.first.fin && head.first.op != Op::Close && matches!(head.info(0).form, Form::Shortest)
+}
+
+/// Writes zeros over the key at the end of a head, if it has one.
+#[inline(always)]
+fn clear_key(key: Option<[u8; 4]>, head: &mut [u8])
+    requires { IfSome key (λ _. 4 ≤ length head.old) }
+    ensures { head.new ≡ with_key_cleared key head.old }
+{
+    let Some(_) = key else {
+        return;
+    };
+    let at = head.len() - 4;
+    head[at..].copy_from_slice(&[0; 4]);
+}

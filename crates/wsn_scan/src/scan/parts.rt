@@ -1,0 +1,455 @@
+//! How a scan takes the parts of frames.
+ghost use Rattle.std.specs.Prelude.{◌≡◌, ◌≢◌, ◌+◌, ◌≤◌, ◌↔◌, true, false, ℕ, Ok, List, [], ◌∷◌, ◌++◌, ◌<◌, ◌^◌, length, IsTrue};
+ghost use Rattle.wsn_wire.specs.Frame.{Frame};
+ghost use Rattle.wsn_wire.specs.Layout.{fin_bit};
+ghost use Rattle.wsn_wire.specs.declared.refusal.Reason.{Reason};
+ghost use Rattle.wsn_wire.specs.declared.refusal.Reason.TheVariants.{TextCut};
+ghost use Rattle.wsn_rules.specs.Evidence.{EvidentByPayload};
+ghost use Rattle.wsn_frame.specs.PayloadChecks.{HasChecked, IsChecked};
+ghost use Rattle.wsn_frame.specs.declared.payload_check.PayloadCheck.{PayloadCheck};
+ghost use Rattle.wsn_frame.specs.OpenMessages.{IsMessageAfter};
+ghost use Rattle.wsn_frame.specs.Counts.{AreCounts};
+
+use super::Scan;
+use crate::part::{Part, Taken};
+use crate::stage::{Inside, Stage};
+use std::mem;
+use wsn_frame::{
+    Counts, FrameContext, Head, HeadStep, OpenMessage, PartialHead, PayloadCheck, message_after,
+    unmask, whole_head,
+};
+use wsn_rules::Refusal;
+use wsn_wire::{Op, Reason};
+
+impl Scan {
+    ghost use Rattle.std.specs.Prelude.{◌≡◌, ◌≢◌, ◌+◌, ◌-◌, ◌<◌, ◌≤◌, ◌↔◌, true, None, length, take, drop, IfSome, IfNone, IsSome, IsTrue};
+    ghost use Rattle.wsn_scan.specs.Words.{AdvancesFrom, Unmasks, HasNoRest, BeginsAt, BeginsFrame, AddsPart, EndsFrame, IsCutAt, room_of, refusal_in, refusal_of, info_at};
+
+    /// Takes what the piece has of the frame at its start, if the scan is between frames, the frame's head is whole there,
+    /// it is no Close, and no byte is evidence for a refusal. Otherwise nothing changes.
+    #[inline(always)]
+    #[tactic(none)]
+    pub(super) fn take_frame(&mut self, piece: &mut [u8], part: &mut Part) -> Option<usize>
+        requires fits { length piece.old ≤ room_of self.old }
+        ensures taken { IfSome result (λ count.
+            AdvancesFrom self.old.stage self.old self.new piece.old piece.new count Taken.Part part.new) }
+        ensures within { IfSome result (λ count. (part.new.start ≤ count) × (count ≤ length piece.old)) }
+        ensures kept { IfSome result (λ count. drop count piece.new ≡ drop count piece.old) }
+        ensures head { IfSome result (λ _. take part.new.start piece.new ≡ take part.new.start piece.old) }
+        ensures room { IfSome result (λ count. room_of self.new + count ≡ room_of self.old) }
+        ensures reported { IfSome result (λ _. refusal_in self.new ≡ None) }
+        ensures between { IfSome result (λ _. self.old.stage ≡ Stage.Between) }
+
+        ensures whole { IfSome result (λ _. part.new.ends ≡ true → HasNoRest self.new) }
+        ensures none { IfNone result ((self.new ≡ self.old) × (piece.new ≡ piece.old)) }
+    {
+        if !self.is_between() {
+            return None;
+        }
+        // The compiler knows of the first copy that no message is open.
+        match self.context.message {
+            None => self.take_frame_after(&None, piece, part),
+            message => self.take_frame_within(&message, piece, part),
+        }
+    }
+
+    /// Does what [`take_frame_after`](Scan::take_frame_after) does; a message is open.
+    #[inline(never)]
+    fn take_frame_within(
+        &mut self,
+        message: &Option<OpenMessage>,
+        piece: &mut [u8],
+        part: &mut Part,
+    ) -> Option<usize>
+        requires fits { length piece.old ≤ room_of self.old }
+        requires open { message.now ≡ self.old.context.message }
+        ensures taken { IfSome result (λ count.
+            AdvancesFrom Stage.Between self.old self.new piece.old piece.new count Taken.Part part.new) }
+        ensures within { IfSome result (λ count. (part.new.start ≤ count) × (count ≤ length piece.old)) }
+        ensures kept { IfSome result (λ count. drop count piece.new ≡ drop count piece.old) }
+        ensures head { IfSome result (λ _. take part.new.start piece.new ≡ take part.new.start piece.old) }
+        ensures room { IfSome result (λ count. room_of self.new + count ≡ room_of self.old) }
+        ensures reported { IfSome result (λ _. refusal_in self.new ≡ None) }
+        ensures whole { IfSome result (λ _. part.new.ends ≡ true → HasNoRest self.new) }
+        ensures none { IfNone result ((self.new ≡ self.old) × (piece.new ≡ piece.old)) }
+    {
+        self.take_frame_after(message, piece, part)
+    }
+
+    /// Whether it is between frames.
+    #[inline(always)]
+    fn is_between(&self) -> bool
+        ensures { IsTrue result → self.now.stage ≡ Stage.Between }
+    {
+        matches!(self.stage, Stage::Between)
+    }
+
+    /// The same between frames; `message` is the open message.
+    #[inline(always)]
+    #[tactic(none)]
+    fn take_frame_after(
+        &mut self,
+        message: &Option<OpenMessage>,
+        piece: &mut [u8],
+        part: &mut Part,
+    ) -> Option<usize>
+        requires fits { length piece.old ≤ room_of self.old }
+        requires open { message.now ≡ self.old.context.message }
+        ensures taken { IfSome result (λ count.
+            AdvancesFrom Stage.Between self.old self.new piece.old piece.new count Taken.Part part.new) }
+        ensures within { IfSome result (λ count. (part.new.start ≤ count) × (count ≤ length piece.old)) }
+        ensures kept { IfSome result (λ count. drop count piece.new ≡ drop count piece.old) }
+        ensures head { IfSome result (λ _. take part.new.start piece.new ≡ take part.new.start piece.old) }
+        ensures room { IfSome result (λ count. room_of self.new + count ≡ room_of self.old) }
+        ensures reported { IfSome result (λ _. refusal_in self.new ≡ None) }
+        ensures whole { IfSome result (λ _. part.new.ends ≡ true → HasNoRest self.new) }
+        ensures none { IfNone result ((self.new ≡ self.old) × (piece.new ≡ piece.old)) }
+    {
+        let context = FrameContext {
+            message: *message,
+            ..self.context
+        };
+        let (start, head) = whole_head(piece, &context)?;
+        if head.first.op == Op::Close {
+            return None;
+        }
+        self.begin(message, start, &head, piece, part)
+    }
+
+    /// Does what [`next`](Scan::next) does where no frame begins, where a head isn't whole in the piece or is a Close's,
+    /// and where a byte is evidence for a refusal.
+    #[inline(never)]
+    #[tactic(none)]
+    pub(super) fn next_slow(&mut self, piece: &mut [u8], part: &mut Part) -> (usize, Taken)
+        requires { length piece.old ≤ room_of self.old }
+        ensures taken { AdvancesFrom self.old.stage self.old self.new piece.old piece.new result.0 result.1 part.new }
+        ensures within { result.0 ≤ length piece.old }
+        ensures kept { drop result.0 piece.new ≡ drop result.0 piece.old }
+        ensures head { result.1 ≡ Taken.Part → (part.new.start ≤ result.0)
+            × (take part.new.start piece.new ≡ take part.new.start piece.old) }
+        ensures whole { result.1 ≡ Taken.Part → part.new.ends ≡ true → HasNoRest self.new }
+        ensures untouched { result.1 ≢ Taken.Part → result.1 ≢ Taken.Refused → piece.new ≡ piece.old }
+        ensures refused { result.1 ≡ Taken.Refused → Unmasks self.old.stage self.old piece.old piece.new result.0 }
+        ensures room { room_of self.new + result.0 ≡ room_of self.old }
+        ensures reported { IsSome (refusal_in self.new) ↔ (result.1 ≡ Taken.Refused) }
+        ensures again { IfSome (refusal_in self.old) (λ _. (self.new ≡ self.old) × (piece.new ≡ piece.old)
+            × (result.0 ≡ 0) × (result.1 ≡ Taken.Refused)) }
+    {
+        match &mut self.stage {
+            Stage::Between => self.next_head(PartialHead::Empty, piece, part),
+            Stage::Head(begun) => {
+                let begun = mem::replace(begun, PartialHead::Empty);
+                self.next_head(begun, piece, part)
+            }
+            Stage::Payload(inside) => {
+                let inside = *inside;
+                self.next_payload(inside, piece, part)
+            }
+            Stage::Closed(_) => {
+                self.room -= piece.len() as u64;
+                (piece.len(), Taken::Closed)
+            }
+            Stage::Refused(_) => (0, Taken::Refused),
+        }
+    }
+
+    /// Reads a head byte by byte up to its end, and takes what the piece has of its frame.
+    #[tactic(none)]
+    fn next_head(
+        &mut self,
+        mut begun: PartialHead,
+        piece: &mut [u8],
+        part: &mut Part,
+    ) -> (usize, Taken)
+        requires { length piece.old ≤ room_of self.old }
+        ensures taken { AdvancesFrom (Stage.Head begun) self.old self.new piece.old piece.new result.0 result.1 part.new }
+        ensures within { result.0 ≤ length piece.old }
+        ensures kept { drop result.0 piece.new ≡ drop result.0 piece.old }
+        ensures head { result.1 ≡ Taken.Part → (part.new.start ≤ result.0)
+            × (take part.new.start piece.new ≡ take part.new.start piece.old) }
+        ensures whole { result.1 ≡ Taken.Part → part.new.ends ≡ true → HasNoRest self.new }
+        ensures untouched { result.1 ≢ Taken.Part → piece.new ≡ piece.old }
+        ensures room { room_of self.new + result.0 ≡ room_of self.old }
+        ensures reported { IsSome (refusal_in self.new) ↔ (result.1 ≡ Taken.Refused) }
+    {
+        for i in 0..piece.len() {
+            match begun.with(piece[i], &self.context) {
+                HeadStep::More(more) => begun = more,
+                HeadStep::Refused(reason) => return self.refuse(i + 1, reason),
+                HeadStep::Whole(head) => return self.begin_slow(i + 1, &head, piece, part),
+            }
+        }
+        self.room -= piece.len() as u64;
+        self.stage = Stage::Head(begun);
+        (piece.len(), Taken::More)
+    }
+
+    /// Takes what the piece has of a frame whose head ends at `start`. If a byte of its payload is evidence for a refusal,
+    /// it takes the head alone.
+    #[tactic(none)]
+    fn begin_slow(
+        &mut self,
+        start: usize,
+        head: &Head,
+        piece: &mut [u8],
+        part: &mut Part,
+    ) -> (usize, Taken)
+        requires fits { length piece.old ≤ room_of self.old }
+        requires within { start ≤ length piece.old }
+        ensures taken { BeginsFrame self.old self.new start head.now piece.old piece.new result.0 result.1 part.new }
+        ensures within { result.0 ≤ length piece.old }
+        ensures kept { drop result.0 piece.new ≡ drop result.0 piece.old }
+        ensures head { result.1 ≡ Taken.Part → (part.new.start ≤ result.0)
+            × (take part.new.start piece.new ≡ take part.new.start piece.old) }
+        ensures whole { result.1 ≡ Taken.Part → part.new.ends ≡ true → HasNoRest self.new }
+        ensures untouched { result.1 ≢ Taken.Part → piece.new ≡ piece.old }
+        ensures room { room_of self.new + result.0 ≡ room_of self.old }
+        ensures reported { IsSome (refusal_in self.new) ↔ (result.1 ≡ Taken.Refused) }
+    {
+        let message = self.context.message;
+        if let Some(taken) = self.begin(&message, start, head, piece, part) {
+            return (taken, Taken::Part);
+        }
+        if head.len == 0 {
+            return self.refuse(start, Reason::TextCut);
+        }
+        let check = PayloadCheck::new(head.first, message);
+        self.add_part(&message, head, &check, 0, start, start, part);
+        part.begins = true;
+        (start, Taken::Part)
+    }
+
+    /// Takes what the piece has of a frame whose head ends at `start`, unless a byte is evidence for a refusal. Then
+    /// nothing changes.
+    #[inline(always)]
+    #[tactic(none)]
+    fn begin(
+        &mut self,
+        message: &Option<OpenMessage>,
+        start: usize,
+        head: &Head,
+        piece: &mut [u8],
+        part: &mut Part,
+    ) -> Option<usize>
+        requires fits { length piece.old ≤ room_of self.old }
+        requires open { message.now ≡ self.old.context.message }
+        requires within { start ≤ length piece.old }
+        ensures taken { IfSome result (λ count.
+            BeginsAt self.old self.new start head.now piece.old piece.new count part.new) }
+        ensures within { IfSome result (λ count. (start ≤ count) × (count ≤ length piece.old)) }
+        ensures start { IfSome result (λ _. part.new.start ≡ start) }
+        ensures kept { IfSome result (λ count. drop count piece.new ≡ drop count piece.old) }
+        ensures head { IfSome result (λ _. take start piece.new ≡ take start piece.old) }
+        ensures room { IfSome result (λ count. room_of self.new + count ≡ room_of self.old) }
+        ensures reported { IfSome result (λ _. refusal_in self.new ≡ None) }
+        ensures whole { IfSome result (λ _. part.new.ends ≡ true → HasNoRest self.new) }
+        ensures none { IfNone result ((self.new ≡ self.old) × (piece.new ≡ piece.old)) }
+        ensures cut { IfNone result (head.now.len ≡ 0 → IsCutAt message.now head.now) }
+    {
+        let mut check = PayloadCheck::new(head.first, *message);
+        let count = head.len.min((piece.len() - start) as u64);
+        let end = start + count as usize;
+        unmask(head.key, 0, &mut piece[start..end]);
+        if !takes(
+            &mut check,
+            &piece[start..end],
+            head.first.fin,
+            count == head.len,
+        ) {
+            unmask(head.key, 0, &mut piece[start..end]);
+            return None;
+        }
+        self.add_part(message, head, &check, count, start, end, part);
+        part.begins = true;
+        Some(end)
+    }
+
+    /// Takes what the piece has of the payload of a frame that began in an earlier one.
+    #[tactic(none)]
+    fn next_payload(&mut self, inside: Inside, piece: &mut [u8], part: &mut Part) -> (usize, Taken)
+        requires { length piece.old ≤ room_of self.old }
+        ensures taken { AdvancesFrom (Stage.Payload inside) self.old self.new piece.old piece.new result.0 result.1 part.new }
+        ensures within { result.0 ≤ length piece.old }
+        ensures kept { drop result.0 piece.new ≡ drop result.0 piece.old }
+        ensures head { result.1 ≡ Taken.Part → part.new.start ≡ 0 }
+        ensures whole { result.1 ≡ Taken.Part → part.new.ends ≡ true → HasNoRest self.new }
+        ensures untouched { result.1 ≢ Taken.Part → result.1 ≢ Taken.Refused → piece.new ≡ piece.old }
+        ensures refused { result.1 ≡ Taken.Refused →
+            Unmasks (Stage.Payload inside) self.old piece.old piece.new result.0 }
+        ensures room { room_of self.new + result.0 ≡ room_of self.old }
+        ensures reported { IsSome (refusal_in self.new) ↔ (result.1 ≡ Taken.Refused) }
+    {
+        let Inside { head, check, done } = inside;
+        let left = head.len.saturating_sub(done);
+        let count = left.min(piece.len() as u64) as usize;
+        if count == 0 {
+            self.stage = Stage::Payload(inside);
+            return (0, Taken::More);
+        }
+        unmask(head.key, done, &mut piece[..count]);
+        match check.feed(&piece[..count], head.first.fin, count as u64 == left) {
+            Ok(check) => {
+                let done = done + count as u64;
+                let message = self.context.message;
+                self.add_part(&message, &head, &check, done, 0, count, part);
+                (count, Taken::Part)
+            }
+            Err(bad) => {
+                let taken = bad.at.saturating_add(1).min(count);
+                unmask(head.key, done + taken as u64, &mut piece[taken..count]);
+                self.refuse(taken, bad.reason)
+            }
+        }
+    }
+
+    /// Takes the first `end` bytes of a piece as a part of a frame that doesn't begin it. The part's payload begins at
+    /// `start`; with it `done` bytes of the frame's payload came. If that is all, the frame ends. `message` is the open
+    /// message.
+    #[inline(always)]
+    #[tactic(none)]
+    fn add_part(
+        &mut self,
+        message: &Option<OpenMessage>,
+        head: &Head,
+        check: &PayloadCheck,
+        done: u64,
+        start: usize,
+        end: usize,
+        part: &mut Part,
+    )
+        requires fits { end ≤ room_of self.old }
+        requires open { message.now ≡ self.old.context.message }
+        ensures taken { AddsPart self.old self.new head.now check.now done end part.new }
+        ensures head { part.new.head ≡ info_at self.old.used head.now }
+        ensures begins { part.new.begins ≡ false }
+        ensures ends { part.new.ends ≡ true ↔ (done ≡ head.now.len) }
+        ensures start { part.new.start ≡ start }
+        ensures whole { part.new.ends ≡ true → HasNoRest self.new }
+        ensures room { room_of self.new + end ≡ room_of self.old }
+        ensures reported { refusal_in self.new ≡ None }
+    {
+        let ends = done == head.len;
+        part.head = head.info(self.used);
+        part.begins = false;
+        part.ends = ends;
+        part.start = start;
+        self.room -= end as u64;
+        if ends {
+            self.end(message, head, check);
+        } else {
+            self.stage = Stage::Payload(Inside {
+                head: *head,
+                check: *check,
+                done,
+            });
+        }
+    }
+
+    /// Ends a frame: all of its payload came. `message` is the open message before it.
+    #[inline(always)]
+    #[tactic(none)]
+    fn end(&mut self, message: &Option<OpenMessage>, head: &Head, check: &PayloadCheck)
+        requires open { message.now ≡ self.old.context.message }
+        ensures taken { EndsFrame self.old self.new head.now check.now }
+        ensures whole { HasNoRest self.new }
+        ensures room { room_of self.new ≡ room_of self.old }
+        ensures reported { refusal_in self.new ≡ None }
+    {
+        self.used = self.taken();
+        count(&mut self.counts, head.first.fin, head.first.op);
+        update(&mut self.context.message, message, head, check);
+        self.stage.end_frame(check);
+    }
+
+    /// Refuses the stream: the last of these `count` bytes is the offending byte.
+    #[tactic(none)]
+    fn refuse(&mut self, count: usize, reason: Reason) -> (usize, Taken)
+        requires { count ≤ room_of self.old }
+        ensures reported { (result.0 ≡ count) × (result.1 ≡ Taken.Refused) }
+        ensures after { self.new ≡ record self.old {
+          room = self.old.room - count;
+          stage = Stage.Refused
+              (refusal_of self.old count reason);
+        } }
+    {
+        self.room -= count as u64;
+        let refusal = Refusal {
+            place: self.taken().saturating_sub(1),
+            reason,
+        };
+        self.stage = Stage::Refused(refusal);
+        (count, Taken::Refused)
+    }
+}
+
+/// Checks more of a payload, which is unmasked, in place, and returns whether no byte of it is evidence for a refusal.
+/// `fin` is the frame's FIN; `ends` says whether the bytes end its payload: an empty payload can end a message within a
+/// character, too (RFC 6455 section 8.1).
+#[inline(always)]
+#[tactic(none)]
+fn takes(check: &mut PayloadCheck, payload: &[u8], fin: bool, ends: bool) -> bool
+    ensures taken { result ≡ true → (group : List Frame) (first total : ℕ) (before : List ℕ) →
+        HasChecked group first check.old before → fin_bit first ≡ fin
+        → (ends ≡ true ↔ (length before + length payload.now ≡ total)) → length before + length payload.now ≤ total
+        → IsChecked group first total before payload.now (Ok check.new) }
+    ensures whole { result ≡ true → ends ≡ true → length payload.now ≡ 0 → (group : List Frame) (first : ℕ) →
+        HasChecked group first check.old [] → fin_bit first ≡ fin
+        → (reason : Reason) → EvidentByPayload group reason first 0 [] → ⊥ }
+    ensures cut { result ≡ false → length payload.now ≡ 0 → (group : List Frame) (first : ℕ) →
+        HasChecked group first check.old [] → fin_bit first ≡ fin → EvidentByPayload group TextCut first 0 []
+        × ((reason : Reason) → reason ≢ TextCut → EvidentByPayload group reason first 0 [] → ⊥) }
+{
+    if payload.is_empty() {
+        return !(ends && check.is_cut(fin));
+    }
+    check.take(payload, fin, ends)
+}
+
+/// Counts one more frame, which has this FIN and this opcode. Fewer than 2^63 frames have been counted.
+#[inline(always)]
+fn count(counts: &mut Counts, fin: bool, op: Op)
+    ensures { (fs : List Frame) (f : Frame) → AreCounts counts.old fs → length fs < 2 ^ 63 → f.fin ≡ fin → f.op ≡ op →
+        AreCounts counts.new (fs ++ f ∷ []) }
+{
+    counts.frames = counts.frames.wrapping_add(1);
+    if !op.is_control() {
+        if fin {
+            counts.messages = counts.messages.wrapping_add(1);
+        }
+        return;
+    }
+    match op {
+        Op::Ping => counts.pings = counts.pings.wrapping_add(1),
+        Op::Pong => counts.pongs = counts.pongs.wrapping_add(1),
+        _ => {}
+    }
+}
+
+/// Makes the open message that after a frame with this head, whose payload was checked with this result. `message` is a
+/// copy of it, of which the compiler may know more.
+#[inline(always)]
+fn update(
+    open_message: &mut Option<OpenMessage>,
+    message: &Option<OpenMessage>,
+    head: &Head,
+    check: &PayloadCheck,
+)
+    requires { message.now ≡ open_message.old }
+    ensures { IsMessageAfter open_message.old head.now check.now open_message.new }
+{
+    if !keeps_message(message, head) {
+        *open_message = message_after(*message, head, check);
+    }
+}
+
+/// Whether the same message, or none, is open after a frame with this head: after a control, and after a message of one
+/// frame (RFC 6455 section 5.4).
+#[inline(always)]
+fn keeps_message(message: &Option<OpenMessage>, head: &Head) -> bool
+    ensures { IsTrue result → (check : PayloadCheck) → IsMessageAfter message.now head.now check message.now }
+{
+    if head.first.op.is_control() {
+        return true;
+    }
+    head.first.fin && message.is_none()
+}
