@@ -13,7 +13,8 @@ use wsn_doubles::writers::{FULL, Full, Narrow};
 use wsn_scan::{Limits, MESSAGE_MAX};
 use wsn_wire::Role;
 
-/// Two streams of a server, the line of their comparison, and the maximum number of messages in memory at a time.
+/// Two streams of a server, the line of their comparison, and the maximum number of messages in memory at a time. A
+/// frame that comes whole in one read needs none, where it is a message.
 #[derive(Clone, Copy)]
 pub struct Pair {
     pub first: &'static [u8],
@@ -37,7 +38,7 @@ impl Pair {
     }
 }
 
-pub static PAIRS: [Pair; 13] = [
+pub static PAIRS: [Pair; 14] = [
     Pair {
         first: b"\x01\x03Hel\x89\x00\x80\x02lo",
         second: b"\x89\x00\x81\x05Hello",
@@ -54,23 +55,29 @@ pub static PAIRS: [Pair; 13] = [
         first: b"\x81\x01A",
         second: b"\x81\x01B",
         line: "different 0",
-        messages: 2,
+        messages: 1,
     },
     Pair {
-        first: b"\x81\x01A",
-        second: b"\x82\x01A",
+        first: b"\x81\x02AB",
+        second: b"\x81\x02AC",
         line: "different 0",
         messages: 2,
     },
     Pair {
-        first: b"\x81\x01A",
-        second: b"\x81\x01A\x89\x00",
+        first: b"\x81\x02AB",
+        second: b"\x82\x02AB",
+        line: "different 0",
+        messages: 2,
+    },
+    Pair {
+        first: b"\x81\x02AB",
+        second: b"\x81\x02AB\x89\x00",
         line: "different 1",
         messages: 2,
     },
     Pair {
-        first: b"\x81\x01A\x89\x00",
-        second: b"\x81\x01A",
+        first: b"\x81\x02AB\x89\x00",
+        second: b"\x81\x02AB",
         line: "different 1",
         messages: 2,
     },
@@ -81,14 +88,14 @@ pub static PAIRS: [Pair; 13] = [
         messages: 0,
     },
     Pair {
-        first: b"\x81\x01A",
-        second: b"\x81\x01B\xc1",
-        line: "second refused 3 reserved-bits 1002",
+        first: b"\x81\x02AB",
+        second: b"\x81\x02AC\xc1",
+        line: "second refused 4 reserved-bits 1002",
         messages: 2,
     },
     Pair {
-        first: b"\x89\x00\x81\x02AB\x81\x01C",
-        second: b"\x89\x00\x81\x02AB\x01\x00\x80\x01C",
+        first: b"\x89\x00\x81\x02AB\x81\x02CD",
+        second: b"\x89\x00\x81\x02AB\x01\x00\x80\x02CD",
         line: "equal",
         messages: 2,
     },
@@ -99,8 +106,8 @@ pub static PAIRS: [Pair; 13] = [
         messages: 2,
     },
     Pair {
-        first: b"\x89\x00\x81\x02AB\x8a\x00",
-        second: b"\x89\x00\x81\x02AC\x8a\x00",
+        first: b"\x89\x00\x81\x03ABC\x8a\x00",
+        second: b"\x89\x00\x81\x03ABD\x8a\x00",
         line: "different 1",
         messages: 2,
     },
@@ -111,7 +118,7 @@ pub static PAIRS: [Pair; 13] = [
         messages: 0,
     },
     Pair {
-        first: b"\x81\x01A",
+        first: b"\x81\x02AB",
         second: b"\xc1",
         line: "second refused 0 reserved-bits 1002",
         messages: 1,
