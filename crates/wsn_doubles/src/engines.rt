@@ -5,8 +5,9 @@ use crate::vectors::Stream;
 use std::alloc::Allocator;
 use std::io::Write;
 use wsn_canon::{Compared, normalise, same};
+use wsn_list::list;
 use wsn_plan::{Plan, PlanAnswer, RecutAnswer, plan_of, recut, recut_uniform};
-use wsn_scan::{Limits, Stop, Verdict, judge, list};
+use wsn_scan::{Limits, Stop, Verdict, judge};
 use wsn_wire::{Input, Output, Role};
 
 /// The answer of `judge`.

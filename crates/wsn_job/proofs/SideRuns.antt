@@ -13,7 +13,7 @@ use Rattle.wsn_print.specs.StopText.{stop_line}
 use Rattle.wsn_capture.specs.declared.line_fault.LineFault.{LineFault}
 use Rattle.wsn_capture.specs.LineFaults.{fault_word}
 use Rattle.wsn_scan.specs.Judging.{IsReached, IsJudged}
-use Rattle.wsn_scan.specs.Listing.{IsListedAs}
+use Rattle.wsn_list.specs.Listing.{IsListedAs}
 use Rattle.wsn_events.specs.Normalised.{IsNormalised}
 use Rattle.wsn_show.specs.declared.style.Style.{Style}
 use Rattle.wsn_show.specs.StreamShows.{IsStreamShown}

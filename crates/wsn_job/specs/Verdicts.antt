@@ -12,7 +12,7 @@ use Rattle.wsn_print.specs.Formats.{verdict_text}
 use Rattle.wsn_io.specs.declared.stop.Stop.{Stop}
 use Rattle.wsn_io.specs.declared.stop.Stop.TheVariants as stop
 use Rattle.wsn_scan.specs.Judging.{IsJudged}
-use Rattle.wsn_scan.specs.Listing.{IsListedAs}
+use Rattle.wsn_list.specs.Listing.{IsListedAs}
 use Rattle.wsn_events.specs.Normalised.{IsNormalised}
 use Rattle.wsn_job.specs.Channels.{Channels}
 use Rattle.wsn_job.specs.Diagnostics.{IsDiagnosed, IsStopDiagnosed}

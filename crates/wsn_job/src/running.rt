@@ -12,7 +12,7 @@ use crate::verdicts::print_verdict;
 use std::alloc::Allocator;
 use std::io::{Read, Write};
 use wsn_events::normalise;
-use wsn_scan::list_as;
+use wsn_list::list_as;
 use wsn_show::{show, show_stream};
 use wsn_wire::{Input, Output};
 

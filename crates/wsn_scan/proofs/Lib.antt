@@ -13,15 +13,11 @@ pub mod HeadBytes
 pub mod HeadsReported
 pub mod HeadsSoFar
 pub mod JudgedInputs
-pub mod ListedInputs
-pub mod ListedParts
 pub mod MoreBytes
 pub mod NextCases
 pub mod OneAnswer
-pub mod OneListing
 pub mod PayloadPrefixes
 pub mod PositionLaws
-pub mod Printing
 pub mod ReaderBuffers
 pub mod ReaderCalls
 pub mod ReaderEvents

@@ -22,10 +22,9 @@ use Rattle.wsn_rules.specs.Verdict.{IsRefused, IsVerdict}
 use Rattle.wsn_scan.specs.Scans.{HasScannedAt, summary_of, taken_of, verdict_between, refusal_at, refusal_in, refusal_judged, IsRefusedThere}
 use Rattle.wsn_scan.specs.Positions.{Position}
 use Rattle.wsn_rules.specs.Heads.{AreHeads}
-use Rattle.wsn_scan.specs.Judging.{IsUnrefused}
+use Rattle.wsn_scan.specs.Judging.{HasVerdictAndHeads, IsUnrefused}
 use Rattle.wsn_rules.specs.declared.head_info.HeadInfo.{HeadInfo}
 use Rattle.wsn_scan.specs.Feeding.{HasScannedBytes}
-use Rattle.wsn_scan.specs.Listing.{HasVerdictAndHeads}
 use Rattle.wsn_scan.proofs.HeadsSoFar.{heads_reported}
 use Rattle.wsn_rules.proofs.OneVerdict.{one_verdict}
 use Rattle.wsn_rules.proofs.StaysRefused.{place_within, refused_alike}

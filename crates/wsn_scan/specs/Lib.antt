@@ -3,7 +3,6 @@ pub mod Positions
 pub mod Parts
 pub mod Feeding
 pub mod Judging
-pub mod Listing
 pub mod FrameReaders
 pub mod ReadParts
 -- for private functions

@@ -1,26 +1,21 @@
 -- The names that the clauses in src/ use, re-exported.
-pub use Rattle.std.specs.Io.KnownBytes.{IsAtEnd}
 pub use Rattle.wsn_wire.specs.Frame.{Frame, IsBytes}
-pub use Rattle.wsn_io.specs.Transfer.{Incoming, Outgoing, IsWritten, IsWrittenUpToFailure}
+pub use Rattle.wsn_io.specs.Transfer.{Incoming}
 pub use Rattle.wsn_wire.specs.declared.endpoint.Role.{Role}
 pub use Rattle.wsn_rules.specs.Group.{unfinished}
 pub use Rattle.wsn_rules.specs.Heads.{AreHeads, heads_of}
 pub use Rattle.wsn_rules.specs.Limits.{Limits}
-pub use Rattle.wsn_print.specs.VerdictText.{verdict_line}
-pub use Rattle.wsn_print.specs.declared.format.Format.{Format}
-pub use Rattle.wsn_print.specs.Formats.{heads_text}
 pub use Rattle.wsn_rules.specs.Verdict.{IsVerdict}
 pub use Rattle.wsn_rules.specs.declared.head_info.HeadInfo.{HeadInfo}
 pub use Rattle.wsn_rules.specs.declared.verdict.Verdict.{Verdict}
 pub use Rattle.wsn_scan.specs.Judging.{IsJudged, IsUnrefused}
 pub use Rattle.wsn_scan.specs.Refill.{IsRefilled}
-pub use Rattle.wsn_io.specs.Stops.{IsWrittenOrStops, HasNoFailure}
 pub use Rattle.wsn_scan.specs.declared.scan.Scan.{Scan}
 pub use Rattle.wsn_io.specs.declared.stop.Stop.{Stop}
 pub use Rattle.wsn_frame.specs.PartialHeads.{info_at}
-pub use Rattle.wsn_scan.specs.Feeding.{HasScannedBytes, IsRunning, heads_in, HasFed, ConsumesPrefix}
-pub use Rattle.wsn_scan.specs.Positions.{Position, BetweenFrames, InFrame, begun_at, IsPayloadPrefix, IsPayloadSoFar, IsPositionIn, IsTakenOf}
-pub use Rattle.wsn_scan.specs.Parts.{IsPart, Finds, Consumes, FindsByCase}
+pub use Rattle.wsn_scan.specs.Feeding.{IsRunning, HasFed, ConsumesPrefix}
+pub use Rattle.wsn_scan.specs.Positions.{Position, BetweenFrames, InFrame, begun_at, IsPayloadSoFar, IsPositionIn, IsTakenOf}
+pub use Rattle.wsn_scan.specs.Parts.{Consumes, FindsByCase}
 pub use Rattle.wsn_scan.specs.FrameReaders.{HasTaken, IsReading, parts_left, held_payload, TakesRun}
 pub use Rattle.wsn_scan.specs.ReadParts.{ReadsOn}
 pub use Rattle.wsn_scan.specs.ReaderSteps.{StepsOn, Progresses, IsUsed, IsFilled}
@@ -30,4 +25,3 @@ pub use Rattle.wsn_scan.specs.Scans.{verdict_between}
 pub use Rattle.wsn_scan.specs.declared.part.Part.{Part}
 pub use Rattle.wsn_scan.specs.declared.part.Taken.{Taken}
 pub use Rattle.wsn_scan.specs.declared.frame_reader.FrameReader.{FrameReader}
-pub use Rattle.wsn_scan.specs.Listing.{IsEnded, IsListedChunk, PrintsMore, PrintsHeld, IsListed, IsListedAs, IsListedWhole, IsListedWholeAs}

@@ -1,7 +1,7 @@
 //! Laws about this crate's answers and definitions. Each function does nothing: its contract is the law.
 
 ghost use Rattle.std.specs.Prelude.{◌≡◌, ℕ, ◌+◌, false, None, Some, Result, List, length};
-ghost use Rattle.wsn_scan.specs.Words.{Frame, IsBytes, Role, Incoming, Limits, Verdict, Stop, FrameReader, Position, InFrame, HasTaken, IsTakenOf, IsJudged, Outgoing, IsWritten, IsListedWholeAs, Format, HasNoFailure, Scan, HasScanned, IsPositionIn, IsPayloadSoFar, HeadInfo, refusal_in, room_of, ScanCall, IsAnswered, FindsByCase};
+ghost use Rattle.wsn_scan.specs.Words.{Frame, IsBytes, Role, Incoming, Limits, Verdict, Stop, FrameReader, Position, InFrame, HasTaken, IsTakenOf, IsJudged, Scan, HasScanned, IsPositionIn, IsPayloadSoFar, HeadInfo, refusal_in, room_of, ScanCall, IsAnswered, FindsByCase};
 
 /// [`judge`](crate::judge) has one right answer for an input whose bytes are known, in whatever chunks they come,
 /// unless a read fails.
@@ -10,17 +10,6 @@ pub fn law_one_answer()
         (result same : Result Verdict Stop) →
         old.remaining ≡ Some all → new.failed ≡ false → other.failed ≡ false →
         IsJudged role limits old new result → IsJudged role limits old other same → result ≡ same }
-{}
-
-/// [`list_as`](crate::list_as) has one answer for an input whose bytes are known and prints one text in each format, in
-/// whatever chunks they come, unless a read or a write fails. So has [`list`](crate::list).
-pub fn law_one_listing()
-    ensures { (format : Format) (role : Role) (limits : Limits) (all : List ℕ)
-        (before after other_before other_after : Outgoing) (result other : Result Verdict Stop) →
-        HasNoFailure result → HasNoFailure other → IsListedWholeAs format role limits all before after result →
-        IsListedWholeAs format role limits all other_before other_after other →
-        (result ≡ other) × ((bytes : List ℕ) × IsWritten before after bytes
-        × IsWritten other_before other_after bytes) }
 {}
 
 /// Where a scan is in the bytes that it has consumed, in whatever pieces they came. They begin with the frames that it

@@ -1,10 +1,7 @@
-//! Reads one endpoint's stream, takes it apart into its frames, lists them and gives its verdict (RFC 6455 sections 5
-//! and 7).
+//! Reads one endpoint's stream, takes it apart into its frames and gives its verdict (RFC 6455 sections 5 and 7).
 //!
-//! [`judge`] reads an input to its verdict. [`list`] does so too and prints a line for each frame first, [`list_as`] in
-//! a [`Format`]. [`FrameReader`] takes the parts of each frame as they come: its head, its payload and its end. [`Scan`]
-//! does the work for all three: it consumes a stream in pieces and keeps none of the bytes. [`put_verdict`] prints a
-//! verdict.
+//! [`judge`] reads an input to its verdict. [`FrameReader`] takes the parts of each frame as they come: its head, its
+//! payload and its end. [`Scan`] does the work for both: it consumes a stream in pieces and keeps none of the bytes.
 //!
 //! `wsn_rules` defines what a stream means and which verdict it has. `specs/` defines how a scan's state relates to the
 //! bytes that it has consumed. One frame's head, key and payload check are in `wsn_frame`.
@@ -13,7 +10,6 @@
 mod frame_reader;
 mod judging;
 pub mod laws;
-mod listing;
 mod part;
 mod refill;
 mod scan;
@@ -21,10 +17,8 @@ mod stage;
 
 pub use frame_reader::FrameReader;
 pub use judging::judge;
-pub use listing::{list, list_as};
 pub use part::{Part, Taken};
 pub use refill::{CHUNK, ReadChunk, refill as read_chunk};
 pub use scan::Scan;
 pub use wsn_io::Stop;
-pub use wsn_print::{Format, put_verdict};
 pub use wsn_rules::{HeadInfo, INPUT_MAX, Limits, MESSAGE_MAX, Refusal, Summary, Verdict};

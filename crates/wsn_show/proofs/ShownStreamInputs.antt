@@ -27,7 +27,7 @@ use Rattle.wsn_print.specs.ShownObjects.Position.{InStream}
 use Rattle.wsn_scan.specs.declared.refill.ReadChunk.{ReadChunk}
 use Rattle.wsn_scan.specs.Refill.{IsChunk, chunk_size, count_of}
 use Rattle.wsn_scan.specs.Judging.{IsReached, IsUnrefused}
-use Rattle.wsn_scan.specs.Listing.{IsEnded, IsListAnswer, IsReadUpToRefusal}
+use Rattle.wsn_list.specs.Listing.{IsEnded, IsListAnswer, IsReadUpToRefusal}
 use Rattle.wsn_scan.proofs.Chunks.{one_past, none_past, in_count, most_of, by_past}
 use Rattle.wsn_scan.proofs.Unrefused.{place_after}
 use Rattle.wsn_show.specs.declared.style.Style.{Style}

@@ -11,7 +11,8 @@ use wsn_doubles::answer_lines::{answer_line, frame_line};
 use wsn_doubles::engines::judged;
 use wsn_doubles::readers::{Chopped, Endless, READS};
 use wsn_doubles::vectors::{Stream, greatest, stream_named, streams};
-use wsn_scan::{HeadInfo, Limits, MESSAGE_MAX, Stop, Verdict, judge, list};
+use wsn_list::list;
+use wsn_scan::{HeadInfo, Limits, MESSAGE_MAX, Stop, Verdict, judge};
 use wsn_wire::{Form, Input, Op, Output, Role};
 
 /// Fails unless this is the line of the stream's verdict, or, where the bytes do not decide that, one of `accepted`

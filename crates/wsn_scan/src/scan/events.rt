@@ -87,7 +87,7 @@ impl Scan {
     /// returns `None`, and nothing changes.
     #[inline(always)]
     #[tactic(none)]
-    pub(crate) fn next_event(&mut self, piece: &mut [u8]) -> Option<(usize, HeadInfo)>
+    pub fn next_event(&mut self, piece: &mut [u8]) -> Option<(usize, HeadInfo)>
         requires { length piece.old ≤ room_of self.old }
         ensures taken { IfSome result (λ found. IsBytes piece.old →
             ConsumesPrefix self.old self.new piece.old found.0 (found.1 ∷ [])) }
@@ -114,7 +114,7 @@ impl Scan {
 
     /// Whether it is between frames, and no message is open.
     #[inline(always)]
-    pub(crate) fn is_idle(&self) -> bool
+    pub fn is_idle(&self) -> bool
         ensures { IsTrue result → IsIdle self.now }
     {
         matches!((&self.stage, &self.context.message), (Stage::Between, None))

@@ -6,7 +6,7 @@ use Rattle.wsn_rules.specs.Verdict.{IsVerdict}
 use Rattle.wsn_scan.specs.declared.refill.ReadChunk.{ReadChunk}
 use Rattle.wsn_scan.specs.Refill.{IsRefilled}
 use Rattle.wsn_show.specs.declared.style.Style.{Style}
-use Rattle.wsn_scan.specs.Listing.{IsEnded}
+use Rattle.wsn_list.specs.Listing.{IsEnded}
 use Rattle.wsn_scan.proofs.Chunks.{got_chunk, none_past}
 use Rattle.wsn_show.specs.StreamShows.{IsStreamShown}
 use Rattle.wsn_show.proofs.ShownStreamInputs.{begins, stopped, ended, write_failed, refuses, passes_limit, goes_on}

@@ -1,6 +1,5 @@
 use Rattle.std.proofs.Common.{ℕ, ◌-◌, [], ◌∷◌, refl, sym, subst, arith, rules}
 use Rattle.wsn_rules.specs.declared.head_info.HeadInfo.{HeadInfo}
-use Rattle.wsn_scan.specs.declared.scan.Scan.{Scan}
 use Rattle.wsn_scan.specs.EventFrames.{info_found}
 use Rattle.wsn_scan.specs.Feeding.{ConsumesPrefix}
 use Rattle.wsn_scan.proofs.EventHeads.{event_head}

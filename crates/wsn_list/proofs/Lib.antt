@@ -1,0 +1,4 @@
+pub mod ListedInputs
+pub mod ListedParts
+pub mod OneListing
+pub mod Printing
