@@ -6,8 +6,9 @@ use std::cell::RefCell;
 use std::io::{self, Read, Write};
 use std::rt::Runtime;
 use wsn_capture::SideReader;
-use wsn_cli::{Comparison, hint_on_sides, hint_on_streams, run_same, run_same_on_sides};
+use wsn_cli::{Comparison, hint_on_sides, hint_on_streams};
 use wsn_io::{BlockReader, BlockWriter, FirstBytes, Input, Output, Stop, TiedWriter};
+use wsn_job::{run_same, run_same_on_sides};
 use wsn_wire::Role;
 
 /// How a comparison ended.

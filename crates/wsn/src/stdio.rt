@@ -1,5 +1,5 @@
 ghost use Rattle.std.specs.Prelude.{◌≡◌, IfSome};
-ghost use Rattle.wsn_job.specs.Jobs.{MayRun};
+ghost use Rattle.wsn_command.specs.Jobs.{MayRun};
 ghost use Rattle.wsn_cli.specs.Requests.{IsOwnSide};
 
 use crate::FAULT;
@@ -14,10 +14,10 @@ use std::rt::Runtime;
 use std::{fs, str};
 use wsn_capture::SideReader;
 use wsn_cli::{
-    CaptureStart, Hint, How, Job, Mistake, Unread, UnreadFile, hint_on_run, plan_hint_of, run,
-    run_on_side,
+    CaptureStart, Hint, How, Job, Mistake, Unread, UnreadFile, hint_on_run, plan_hint_of,
 };
 use wsn_io::{BlockReader, BlockWriter, FirstBytes, Input, Output, Stop, TiedReader, TiedWriter};
+use wsn_job::{run, run_on_side};
 use wsn_plan::{PlanFileFault, read_plan_file};
 use wsn_rules::Limits;
 use wsn_wire::Role;

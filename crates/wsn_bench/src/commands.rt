@@ -1,4 +1,4 @@
-ghost use Rattle.wsn_job.specs.Jobs.{MayRun};
+ghost use Rattle.wsn_command.specs.Jobs.{MayRun};
 ghost use Rattle.wsn_job.specs.Sides.{MayRunOnSide};
 
 use crate::digest::Digest;

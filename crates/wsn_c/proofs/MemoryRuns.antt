@@ -4,7 +4,7 @@ use Rattle.std.specs.Io.KnownBytes.{Consumes}
 use Rattle.std.specs.declared.alloc.Global.{Global}
 use Rattle.std.proofs.Common.{rules, subst}
 use Rattle.wsn_io.specs.Transfer.{Incoming, Outgoing}
-use Rattle.wsn_job.specs.declared.job.Job.{Job}
+use Rattle.wsn_command.specs.declared.job.Job.{Job}
 use Rattle.wsn_job.specs.Jobs.{IsRun}
 use Rattle.wsn_io.specs.declared.stop.Stop.{Stop}
 use Rattle.wsn_rules.specs.declared.compared.Compared.{Compared}
@@ -12,7 +12,7 @@ use Rattle.wsn_print.specs.Statuses.{comparison_status}
 use Rattle.wsn_job.specs.Channels.{channels, compared_channels}
 use Rattle.wsn_job.specs.Comparisons.{IsComparisonPrinted}
 use Rattle.wsn_job.specs.Diagnostics.{IsStopDiagnosed}
-use Rattle.wsn_job.specs.declared.comparison.Comparison.{Comparison}
+use Rattle.wsn_command.specs.declared.comparison.Comparison.{Comparison}
 use Rattle.wsn_c.specs.declared.options.Options.{Options}
 use Rattle.wsn_c.specs.declared.options.Asked.{Asked}
 use Rattle.wsn_c.specs.Asking.{AreInRange, IsAsked}

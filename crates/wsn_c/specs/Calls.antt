@@ -2,12 +2,12 @@
 use Rattle.std.specs.Prelude.{◌≡◌, ◌++◌, ℕ, Bool, false, Result, List, [], None, Some, length, take, drop, codes}
 use Rattle.std.specs.declared.alloc.Global.{Global}
 use Rattle.wsn_io.specs.Transfer.{Incoming, Outgoing}
-use Rattle.wsn_job.specs.declared.job.Job.{Job}
+use Rattle.wsn_command.specs.declared.job.Job.{Job}
 use Rattle.wsn_job.specs.Jobs.{IsRun}
 use Rattle.wsn_job.specs.Channels.{channels, compared_channels}
 use Rattle.wsn_job.specs.Comparisons.{IsComparisonPrinted}
 use Rattle.wsn_job.specs.Diagnostics.{IsStopDiagnosed}
-use Rattle.wsn_job.specs.declared.comparison.Comparison.{Comparison}
+use Rattle.wsn_command.specs.declared.comparison.Comparison.{Comparison}
 use Rattle.wsn_print.specs.Statuses.{comparison_status}
 use Rattle.wsn_rules.specs.declared.compared.Compared.{Compared}
 use Rattle.wsn_io.specs.declared.stop.Stop.{Stop}

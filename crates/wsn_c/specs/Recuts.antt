@@ -2,10 +2,10 @@
 use Rattle.std.specs.Prelude.{◌≡◌, ◌≤◌, ◌⊎◌, ◌++◌, ℕ, Bool, List, [], Option, None, Some, Result, Ok, Err, length, codes, decimal}
 use Rattle.std.specs.declared.alloc.Global.{Global}
 use Rattle.wsn_rules.specs.declared.step.Step.{Step}
-use Rattle.wsn_job.specs.declared.job.Job.{Job}
-use Rattle.wsn_job.specs.declared.job.Job.TheVariants.{Recut}
-use Rattle.wsn_job.specs.declared.job.How.TheVariants.{ByPlan, BySize}
-use Rattle.wsn_job.specs.Recuts.{key_by_size}
+use Rattle.wsn_command.specs.declared.job.Job.{Job}
+use Rattle.wsn_command.specs.declared.job.Job.TheVariants.{Recut}
+use Rattle.wsn_command.specs.declared.job.How.TheVariants.{ByPlan, BySize}
+use Rattle.wsn_command.specs.Jobs.{key_by_size}
 use Rattle.wsn_plan_text.specs.PlanText.{IsReadPlan}
 use Rattle.wsn_plan_text.specs.declared.plan_fault.PlanFault.{PlanFault}
 use Rattle.wsn_plan_text.specs.declared.plan_fault.PlanFault.TheVariants as fault

@@ -1,4 +1,4 @@
-ghost use Rattle.wsn_job.specs.declared.job.Job.TheVariants.{Judge, Frames, Normal, Plan, ShowStream};
+ghost use Rattle.wsn_command.specs.declared.job.Job.TheVariants.{Judge, Frames, Normal, Plan, ShowStream};
 ghost use Rattle.wsn_c.specs.Calls.{IsCalled, call};
 
 use crate::answer::Answer;

@@ -2,7 +2,7 @@ ghost use Rattle.std.specs.Prelude.{◌≡◌, ◌≤◌, IsSome, IfSome, ◌↔
 ghost use Rattle.wsn_c.specs.Calls.{call};
 ghost use Rattle.wsn_c.specs.Numbers.{flag_number};
 ghost use Rattle.wsn_c.specs.Recuts.{IsRecut, IsRecutBySize, GivesRecut, IsKeyInRange, IsJobBySize, MayRecutBySize, fault_line, key_named};
-ghost use Rattle.wsn_job.specs.Jobs.{MayRun};
+ghost use Rattle.wsn_command.specs.Jobs.{MayRun};
 
 use crate::answer::Answer;
 use crate::options::{Asked, Options, flag};

@@ -1,5 +1,5 @@
 ghost use Rattle.std.specs.Prelude.{◌≡◌, length};
-ghost use Rattle.wsn_job.specs.Jobs.{MayRun};
+ghost use Rattle.wsn_command.specs.Jobs.{MayRun};
 ghost use Rattle.wsn_c.specs.Calls.{Gives, GivesRun, GivesUsage, call, fitted};
 
 use crate::answer::Answer;

@@ -3,9 +3,9 @@ use Rattle.std.specs.Prelude.{◌≡◌, ◌^◌, ℕ, Option, None, Some, IfSom
 use Rattle.wsn_wire.specs.declared.endpoint.Role.{Role}
 use Rattle.wsn_rules.specs.Limits.{Limits, InRange}
 use Rattle.wsn_print.specs.declared.format.Format.{Format}
-use Rattle.wsn_job.specs.Jobs.{MayRun, job_role}
-use Rattle.wsn_job.specs.declared.job.Job.{Job}
-use Rattle.wsn_job.specs.declared.job.Job.TheVariants.{Judge, Frames, Normal, Plan, Recut, ShowStream, Closing, Show}
+use Rattle.wsn_command.specs.Jobs.{MayRun, job_role}
+use Rattle.wsn_command.specs.declared.job.Job.{Job}
+use Rattle.wsn_command.specs.declared.job.Job.TheVariants.{Judge, Frames, Normal, Plan, Recut, ShowStream, Closing, Show}
 use Rattle.wsn_cli.specs.Inputs.{AreApart}
 use Rattle.wsn_cli.specs.declared.request.Request.{Request}
 use Rattle.wsn_cli.specs.declared.request.Request.TheVariants.{Run, RecutBy, Same, Help}

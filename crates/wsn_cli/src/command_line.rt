@@ -4,8 +4,8 @@ ghost use Rattle.wsn_wire.specs.declared.endpoint.Role.{Role};
 ghost use Rattle.wsn_wire.specs.declared.endpoint.Role.TheVariants.{Server};
 ghost use Rattle.wsn_wire.specs.declared.length_forms.Lengths.TheVariants.{Any};
 ghost use Rattle.wsn_print.specs.declared.format.Format.TheVariants as formats;
-ghost use Rattle.wsn_job.specs.Jobs.{MayRun, job_role};
-ghost use Rattle.wsn_job.specs.declared.job.Job.TheVariants.{Show, ShowStream};
+ghost use Rattle.wsn_command.specs.Jobs.{MayRun, job_role};
+ghost use Rattle.wsn_command.specs.declared.job.Job.TheVariants.{Show, ShowStream};
 ghost use Rattle.wsn_cli.specs.Options.{IsAsked, IsAskedMaximum};
 ghost use Rattle.wsn_cli.specs.Requests.{AreAskedLimits, CanBeDone, job_format, job_limits, job_name};
 
@@ -24,9 +24,9 @@ use crate::request::{Request, Usage};
 use clap::error::ErrorKind;
 use clap::{Arg, ArgAction, ArgMatches, Command, Error};
 use std::alloc::{AllocError, Global};
-use wsn_job::Job;
+use wsn_command::Job;
 use wsn_rules::Limits;
-use wsn_show::Style;
+use wsn_print::Style;
 
 /// A command: its name, its help texts, what it reads, and whether it prints an answer that can be JSON.
 struct Described {

@@ -3,13 +3,13 @@ ghost use Rattle.wsn_print.specs.declared.format.Format.TheVariants.{Json};
 ghost use Rattle.wsn_rules.specs.Limits.{Limits};
 ghost use Rattle.wsn_hint.specs.Hints.{Fits};
 ghost use Rattle.wsn_hint.specs.SideHints.{FitsSides};
-ghost use Rattle.wsn_job.specs.Jobs.{job_role};
+ghost use Rattle.wsn_command.specs.Jobs.{job_role};
 ghost use Rattle.wsn_cli.specs.Requests.{job_format, job_limits};
 
 use crate::compared_hint::ComparedHint;
 use std::alloc::Allocator;
 use wsn_hint::{Hint, after_close_hint_of, capture_hint_of, hint_of, sides_hint_of};
-use wsn_job::{Comparison, Job};
+use wsn_command::{Comparison, Job};
 use wsn_print::Format;
 use wsn_rules::Limits;
 use wsn_wire::Role;

@@ -13,10 +13,10 @@ use crate::request::Usage;
 use clap::builder::ValueParser;
 use clap::{Arg, ArgAction, ArgMatches, Command, value_parser};
 use std::alloc::{AllocError, Global};
-use wsn_job::Comparison;
+use wsn_command::Comparison;
 use wsn_print::{Format, ViewLimit};
 use wsn_rules::{Detail, INPUT_MAX, Limits, MESSAGE_MAX, Without};
-use wsn_show::Style;
+use wsn_print::Style;
 use wsn_wire::{Lengths, Role};
 
 static ROLES: [&str; 2] = ["client", "server"];

@@ -10,7 +10,7 @@ use clap::builder::ValueParser;
 use clap::{Arg, ArgAction, ArgMatches, Command, value_parser};
 use hex::FromHex;
 use std::alloc::{AllocError, Global};
-use wsn_job::{How, Job};
+use wsn_command::{How, Job};
 
 /// Adds `--role`, the options for how the stream is recut, `--capture` and the file.
 pub fn with_recuts<'a>(alloc: Global, command: Command<'a>) -> Result<Command<'a>, AllocError> {

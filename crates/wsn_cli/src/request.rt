@@ -1,6 +1,6 @@
 use crate::mistake::Mistake;
 use std::alloc::{AllocError, AllocFailed};
-use wsn_job::{Comparison, Job};
+use wsn_command::{Comparison, Job};
 use wsn_rules::Limits;
 use wsn_wire::Role;
 

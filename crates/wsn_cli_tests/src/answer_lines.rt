@@ -4,9 +4,8 @@
 use std::alloc::{AllocError, Global};
 use std::process::Abort;
 use wsn_cli::{Comparison, Format, How, Job, Request, Usage, Without, asked};
-use wsn_print::ViewLimit;
+use wsn_print::{Style, ViewLimit};
 use wsn_rules::{Detail, Limits};
-use wsn_show::Style;
 use wsn_wire::{Lengths, Role};
 
 /// Fails unless this is the answer to the words of a line, which single spaces separate.

@@ -8,9 +8,8 @@ use wsn_cli::{
     capture_hint_of, hint_of, hint_on_run, hint_on_sides, hint_on_streams, plan_hint_of,
     sides_hint_of,
 };
-use wsn_print::ViewLimit;
+use wsn_print::{Style, ViewLimit};
 use wsn_rules::{Detail, INPUT_MAX, Limits, MESSAGE_MAX};
-use wsn_show::Style;
 use wsn_wire::Role;
 
 fn limits(rt: &impl Abort, message: u32) -> Limits {

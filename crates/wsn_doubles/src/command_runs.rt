@@ -1,5 +1,5 @@
 //! Commands run with the readers and writers of the tests.
-ghost use Rattle.wsn_job.specs.Jobs.{MayRun};
+ghost use Rattle.wsn_command.specs.Jobs.{MayRun};
 ghost use Rattle.wsn_job.specs.Sides.{MayRunOnSide};
 
 use crate::readers::Chopped;

@@ -1,30 +1,13 @@
 -- What a job's run did.
-use Rattle.std.specs.Prelude.{ℕ, Option, None, Some}
-use Rattle.wsn_wire.specs.declared.endpoint.Role.{Role}
-use Rattle.wsn_job.specs.declared.job.Job.{Job}
-use Rattle.wsn_job.specs.declared.job.Job.TheVariants.{Judge, Frames, Normal, Plan, Recut, ShowStream, Closing, Show}
+use Rattle.std.specs.Prelude.{ℕ}
+use Rattle.wsn_command.specs.declared.job.Job.{Job}
+use Rattle.wsn_command.specs.declared.job.Job.TheVariants.{Judge, Frames, Normal, Plan, Recut, ShowStream, Closing, Show}
 use Rattle.wsn_job.specs.Channels.{Channels}
 use Rattle.wsn_job.specs.Verdicts.{IsJudgeRun, IsFramesRun, IsNormalRun}
 use Rattle.wsn_job.specs.Plans.{IsPlanRun}
-use Rattle.wsn_job.specs.Recuts.{IsRecutRun, MayRecut}
+use Rattle.wsn_job.specs.Recuts.{IsRecutRun}
 use Rattle.wsn_job.specs.Closings.{IsClosingRun}
 use Rattle.wsn_job.specs.Shows.{IsShowRun, IsShowStreamRun}
-
--- The job may be run: a recut's frames are as its role requires; other jobs have no condition.
-abbrev pub MayRun : {A : Type 0} → Job A → Type 0
-MayRun (Recut role limits how) = MayRecut role how
-MayRun job = Unit {0}
-
--- the endpoint whose stream the job reads; `closing` and `show` read both streams
-abbrev pub job_role : {A : Type 0} → Job A → Option Role
-job_role (Judge role limits format) = Some role
-job_role (Frames role limits format) = Some role
-job_role (Normal role limits) = Some role
-job_role (Plan role limits) = Some role
-job_role (Recut role limits how) = Some role
-job_role (ShowStream role limits style) = Some role
-job_role (Closing limits format) = None
-job_role (Show limits style) = None
 
 -- The job's run: its channels before and after, and the exit status, are of one answer.
 abbrev pub IsRun : {A : Type 0} → Job A → Channels → Channels → ℕ → Type 0

@@ -1,7 +1,6 @@
 -- What `recut` prints on standard output and standard error, and its exit status.
-use Rattle.std.specs.Prelude.{◌≡◌, ◌↔◌, ◌≤◌, ℕ, Option, None, Some, IsSome, replicate, Result, Ok, Err, List}
+use Rattle.std.specs.Prelude.{◌≡◌, ℕ, Result, Ok, Err, List}
 use Rattle.wsn_wire.specs.declared.endpoint.Role.{Role}
-use Rattle.wsn_wire.specs.declared.endpoint.Role.TheVariants.{Client, Server}
 use Rattle.wsn_io.specs.Transfer.{Outgoing}
 use Rattle.wsn_rules.specs.Limits.{Limits}
 use Rattle.wsn_print.specs.FaultText.{recut_fault_line}
@@ -11,8 +10,8 @@ use Rattle.wsn_io.specs.declared.stop.Stop.{Stop}
 use Rattle.wsn_plan.specs.declared.recutting.RecutAnswer.{RecutAnswer}
 use Rattle.wsn_plan.specs.declared.recutting.RecutAnswer.TheVariants.{Done, NotAccepted, Fault}
 use Rattle.wsn_plan.specs.Recutting.{Planner, IsRecut}
-use Rattle.wsn_job.specs.declared.job.How.{How}
-use Rattle.wsn_job.specs.declared.job.How.TheVariants.{ByPlan, BySize}
+use Rattle.wsn_command.specs.declared.job.How.{How}
+use Rattle.wsn_command.specs.declared.job.How.TheVariants.{ByPlan, BySize}
 use Rattle.wsn_job.specs.Channels.{Channels}
 use Rattle.wsn_job.specs.Diagnostics.{IsDiagnosed}
 use Rattle.wsn_print.specs.StopText.{stop_line}
@@ -21,17 +20,6 @@ use Rattle.wsn_print.specs.StopText.{stop_line}
 abbrev pub planned_by : {A : Type 0} → How A → Planner
 planned_by (ByPlan plan) = λ events. plan
 planned_by (BySize size weave key) = uniform_plan size weave key
-
--- The recut is by plan; or by size, with frames of at least one byte, and with a key exactly for a client.
-abbrev pub MayRecut : {A : Type 0} → Role → How A → Type 0
-MayRecut role (ByPlan plan) = Unit {0}
-MayRecut role (BySize size weave key) = (1 ≤ size) × (IsSome key ↔ (role ≡ Client))
-
--- the key of a recut by size: for a client the key asked for, or zeros; for a server none
-abbrev pub key_by_size : Role → Option (List ℕ) → Option (List ℕ)
-key_by_size Client None = Some (replicate 4 0)
-key_by_size Client (Some key) = Some key
-key_by_size Server key = None
 
 -- the exit status: 0 if the recut was written, 1 for any other answer, 2 for a stop
 abbrev pub recut_status : Result RecutAnswer Stop → ℕ

@@ -9,10 +9,11 @@ use Rattle.wsn_print.specs.StopText.{stop_line}
 use Rattle.wsn_capture.specs.declared.line_fault.LineFault.{LineFault}
 use Rattle.wsn_capture.specs.LineFaults.{fault_word}
 use Rattle.wsn_capture.specs.SideTexts.{sentinel}
-use Rattle.wsn_job.specs.declared.job.Job.{Job}
+use Rattle.wsn_command.specs.declared.job.Job.{Job}
 use Rattle.wsn_job.specs.Channels.{Channels}
 use Rattle.wsn_job.specs.Diagnostics.{IsDiagnosed, IsStopDiagnosed}
-use Rattle.wsn_job.specs.Jobs.{IsRun, MayRun, job_role}
+use Rattle.wsn_command.specs.Jobs.{MayRun, job_role}
+use Rattle.wsn_job.specs.Jobs.{IsRun}
 
 -- The job may be run on a side: it reads one endpoint's stream. `closing` reads both.
 abbrev pub MayRunOnSide : {A : Type 0} → Job A → Type 0

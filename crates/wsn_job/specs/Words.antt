@@ -10,5 +10,6 @@ pub use Rattle.wsn_print.specs.VerdictText.{verdict_line}
 pub use Rattle.wsn_plan.specs.Recutting.{IsRecut}
 pub use Rattle.wsn_job.specs.Comparisons.{IsComparisonPrinted}
 pub use Rattle.wsn_job.specs.Diagnostics.{IsStopDiagnosed, IsDiagnosed}
-pub use Rattle.wsn_job.specs.Recuts.{IsRecutRun, IsRecutDiagnosed, MayRecut, planned_by, recut_status}
+pub use Rattle.wsn_command.specs.Jobs.{MayRecut}
+pub use Rattle.wsn_job.specs.Recuts.{IsRecutRun, IsRecutDiagnosed, planned_by, recut_status}
 pub use Rattle.wsn_job.specs.Verdicts.{IsVerdictPrinted, IsVerdictDiagnosed, IsJudgeRun, IsFramesRun, IsNormalRun}

@@ -4,8 +4,8 @@ use Rattle.wsn_io.specs.Transfer.{Incoming, Outgoing}
 use Rattle.wsn_print.specs.Statuses.{verdict_status}
 use Rattle.wsn_list.specs.Listing.{IsListedAs}
 use Rattle.wsn_events.specs.Normalised.{IsNormalised}
-use Rattle.wsn_job.specs.declared.job.Job.{Job}
-use Rattle.wsn_job.specs.declared.job.Job.TheVariants.{Judge, Frames, Normal, Plan, Recut, ShowStream, Closing, Show}
+use Rattle.wsn_command.specs.declared.job.Job.{Job}
+use Rattle.wsn_command.specs.declared.job.Job.TheVariants.{Judge, Frames, Normal, Plan, Recut, ShowStream, Closing, Show}
 use Rattle.wsn_job.specs.declared.done.Done.{Done}
 use Rattle.wsn_job.specs.declared.done.Done.TheVariants as done
 use Rattle.wsn_job.specs.Diagnostics.{IsStopDiagnosed}

@@ -5,7 +5,7 @@ ghost use Rattle.wsn_events.specs.Excerpts.{HasExcerpts};
 ghost use Rattle.wsn_job.specs.Comparisons.{IsAnswerText};
 ghost use Rattle.wsn_job.specs.Words.{Stop, Compared, IsComparisonPrinted, comparison_status, IsStopDiagnosed};
 
-use crate::comparison::Comparison;
+use wsn_command::Comparison;
 use crate::diagnostics::diagnose_if_stopped;
 use std::alloc::Allocator;
 use std::io::{Read, Write};

@@ -8,11 +8,9 @@
 #![tactic(auto)]
 
 mod closings;
-mod comparison;
 mod comparisons;
 mod diagnostics;
 mod done;
-mod job;
 mod plans;
 mod recuts;
 mod running;
@@ -20,10 +18,9 @@ mod sides;
 pub mod status_examples;
 mod verdicts;
 
-pub use comparison::Comparison;
 pub use comparisons::run_same;
-pub use job::{How, Job};
 pub use running::run;
 pub use sides::{run_on_side, run_same_on_sides};
+pub use wsn_command::{Comparison, How, Job};
 pub use wsn_print::Format;
 pub use wsn_rules::Without;

@@ -2,7 +2,7 @@ ghost use Rattle.std.specs.Prelude.{◌≡◌, false};
 ghost use Rattle.wsn_job.specs.Words.{IsRecut, IsRecutDiagnosed, MayRecut, planned_by, recut_status};
 
 use crate::diagnostics::{diagnose, diagnose_stop, diagnose_verdict};
-use crate::job::How;
+use wsn_command::How;
 use std::alloc::Allocator;
 use std::io::{Read, Write};
 use wsn_plan::{RecutAnswer, recut, recut_uniform};

@@ -1,11 +1,12 @@
 ghost use Rattle.std.specs.Prelude.{◌≡◌, ◌⊎◌, false, true};
-ghost use Rattle.wsn_job.specs.Jobs.{IsRun, MayRun};
+ghost use Rattle.wsn_command.specs.Jobs.{MayRun};
+ghost use Rattle.wsn_job.specs.Jobs.{IsRun};
 ghost use Rattle.wsn_job.specs.Channels.{channels};
 ghost use Rattle.wsn_job.specs.Work.{IsDone, done_status};
 
 use crate::closings::print_report;
 use crate::done::Done;
-use crate::job::Job;
+use wsn_command::Job;
 use crate::plans::print_plan;
 use crate::recuts::recut_input;
 use crate::verdicts::print_verdict;

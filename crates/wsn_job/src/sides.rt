@@ -3,10 +3,10 @@ ghost use Rattle.wsn_job.specs.Channels.{channels, compared_channels};
 ghost use Rattle.wsn_job.specs.Sides.{MayRunOnSide, IsRunOnSide, IsFaultySide, IsFirstFaultySide, IsSameDiagnosed};
 ghost use Rattle.wsn_job.specs.Words.{Stop, Compared, IsComparisonPrinted, comparison_status};
 
-use crate::comparison::Comparison;
+use wsn_command::Comparison;
 use crate::comparisons::print_comparison;
 use crate::diagnostics::{diagnose_if_stopped, diagnose_line_fault};
-use crate::job::Job;
+use wsn_command::Job;
 use crate::running::work;
 use std::alloc::Allocator;
 use std::io::{Read, Write};

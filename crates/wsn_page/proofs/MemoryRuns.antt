@@ -11,8 +11,8 @@ use Rattle.wsn_print.specs.Statuses.{verdict_status}
 use Rattle.wsn_show.specs.Showing.{IsShown}
 use Rattle.wsn_show.specs.StreamShows.{IsStreamShown}
 use Rattle.wsn_show.specs.declared.showing.ShowStop.{ShowStop}
-use Rattle.wsn_show.specs.declared.style.Style.{Style}
-use Rattle.wsn_job.specs.declared.job.Job.TheVariants.{Show, ShowStream}
+use Rattle.wsn_print.specs.declared.style.Style.{Style}
+use Rattle.wsn_command.specs.declared.job.Job.TheVariants.{Show, ShowStream}
 use Rattle.wsn_job.specs.Closings.{IsClosingDiagnosed, closing_status}
 use Rattle.wsn_job.specs.Diagnostics.{IsDiagnosed, IsStopDiagnosed}
 use Rattle.wsn_page.specs.Calls.{IsRunOver, input_of, output_of, shown_message, stream_message}

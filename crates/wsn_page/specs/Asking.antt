@@ -8,7 +8,7 @@ use Rattle.wsn_rules.specs.Limits.{Limits}
 use Rattle.wsn_rules.specs.declared.detail.Detail.{Detail}
 use Rattle.wsn_rules.specs.declared.detail.Detail.TheVariants.{Events, Frames}
 use Rattle.wsn_print.specs.declared.format.Format.TheVariants.{Json}
-use Rattle.wsn_show.specs.declared.style.Style.{Style}
+use Rattle.wsn_print.specs.declared.style.Style.{Style}
 use Rattle.wsn_page.specs.declared.settings.Settings.{Settings}
 
 -- the endpoint that sent the stream

@@ -7,8 +7,8 @@ use Rattle.wsn_rules.specs.declared.report.Report.{Report}
 use Rattle.wsn_rules.specs.declared.verdict.Verdict.{Verdict}
 use Rattle.wsn_print.specs.StopText.{stop_line}
 use Rattle.wsn_show.specs.declared.showing.ShowStop.{ShowStop}
-use Rattle.wsn_show.specs.declared.style.Style.{Style}
-use Rattle.wsn_job.specs.declared.job.Job.{Job}
+use Rattle.wsn_print.specs.declared.style.Style.{Style}
+use Rattle.wsn_command.specs.declared.job.Job.{Job}
 use Rattle.wsn_job.specs.Jobs.{IsRun}
 use Rattle.wsn_job.specs.Channels.{channels}
 use Rattle.wsn_job.specs.Closings.{closing_stop_line}

@@ -1,4 +1,4 @@
-ghost use Rattle.wsn_job.specs.declared.job.Job.TheVariants.{Show, ShowStream};
+ghost use Rattle.wsn_command.specs.declared.job.Job.TheVariants.{Show, ShowStream};
 ghost use Rattle.wsn_page.specs.Asking.{limits_asked, role_asked};
 ghost use Rattle.wsn_page.specs.Calls.{GivesShown, call};
 

@@ -50,6 +50,7 @@ mod shown;
 mod shown_objects;
 mod statuses;
 mod stops;
+mod style;
 mod verdicts;
 mod views;
 
@@ -78,4 +79,5 @@ pub use shown_objects::{
 };
 pub use statuses::{status_of_comparison, status_of_outcome, status_of_verdict};
 pub use stops::line_of_stop;
+pub use style::Style;
 pub use verdicts::put_verdict;

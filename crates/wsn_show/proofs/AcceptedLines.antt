@@ -14,7 +14,7 @@ use Rattle.wsn_capture.specs.LineFaults.{IsAcceptedLine, AreAcceptedAfter}
 use Rattle.wsn_capture.specs.CaptureLines.{HasAccepted, HasNotedCloses, count_of}
 use Rattle.wsn_capture.proofs.AcceptedLines.{accepted_count, own_bytes}
 use Rattle.wsn_capture.proofs.ClosingLines.{sent-push}
-use Rattle.wsn_show.specs.declared.style.Style.{Style}
+use Rattle.wsn_print.specs.declared.style.Style.{Style}
 use Rattle.wsn_show.specs.declared.capture_view.CaptureView.{CaptureView}
 use Rattle.wsn_show.specs.declared.end_notes.EndNotes.{EndNotes}
 use Rattle.wsn_show.specs.EndNotes.{HasNotedEnd}

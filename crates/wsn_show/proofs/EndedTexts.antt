@@ -8,7 +8,7 @@ use Rattle.wsn_rules.proofs.TextLines.{lines_at_end}
 use Rattle.wsn_rules.specs.declared.report.Report.{Report}
 use Rattle.wsn_wire.specs.declared.endpoint.Role.TheVariants.{Client, Server}
 use Rattle.wsn_rules.specs.ShownCapture.{LineItem, of_stream}
-use Rattle.wsn_show.specs.declared.style.Style.{Style}
+use Rattle.wsn_print.specs.declared.style.Style.{Style}
 use Rattle.wsn_show.specs.Styles.{styled_line_item, styled_line, styled_ended_by, styled_capture, styled_report}
 use Rattle.wsn_print.specs.ShownObjects.Position.{AtEnd}
 use Rattle.wsn_capture.specs.declared.capture_stop.CaptureStop.TheVariants as capture

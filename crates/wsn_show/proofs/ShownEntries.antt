@@ -15,7 +15,7 @@ use Rattle.wsn_rules.specs.ShownCapture.LineItem.{End, Comment}
 use Rattle.wsn_print.specs.ShownObjects.{Position}
 use Rattle.wsn_print.specs.Formats.{end_entry, comment_entry}
 use Rattle.wsn_capture.specs.CaptureLines.{count_of}
-use Rattle.wsn_show.specs.declared.style.Style.{Style}
+use Rattle.wsn_print.specs.declared.style.Style.{Style}
 use Rattle.wsn_show.specs.Styles.{styled_item, styled_items, styled_line_item}
 use Rattle.wsn_capture.specs.declared.line_fault.LineFault.TheVariants.{InputLimit}
 use Rattle.wsn_rules.proofs.Prefixes.{head_same}

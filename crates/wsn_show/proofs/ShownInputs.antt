@@ -6,7 +6,7 @@ use Rattle.wsn_io.proofs.Received.{consumed_none, consumed_on, consumed_end, con
 use Rattle.wsn_io.proofs.PutTexts.{prints_nothing}
 use Rattle.wsn_rules.specs.Limits.{Limits}
 use Rattle.wsn_rules.specs.declared.report.Report.{Report}
-use Rattle.wsn_show.specs.declared.style.Style.{Style}
+use Rattle.wsn_print.specs.declared.style.Style.{Style}
 use Rattle.wsn_show.specs.Styles.{styled_line}
 use Rattle.wsn_capture.specs.declared.line_fault.LineFault.{LineFault}
 use Rattle.wsn_capture.specs.declared.capture_stop.CaptureStop.TheVariants as capture

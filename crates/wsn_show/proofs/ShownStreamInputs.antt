@@ -30,7 +30,7 @@ use Rattle.wsn_scan.specs.Judging.{IsReached, IsUnrefused}
 use Rattle.wsn_list.specs.Listing.{IsEnded, IsListAnswer, IsReadUpToRefusal}
 use Rattle.wsn_scan.proofs.Chunks.{one_past, none_past, in_count, most_of, by_past}
 use Rattle.wsn_scan.proofs.Unrefused.{place_after}
-use Rattle.wsn_show.specs.declared.style.Style.{Style}
+use Rattle.wsn_print.specs.declared.style.Style.{Style}
 use Rattle.wsn_show.specs.Styles.{styled_item, styled_items, styled_verdict}
 use Rattle.wsn_show.specs.ShownSoFar.{items_in}
 use Rattle.wsn_show.specs.StreamViews.{Viewed, HasViewed}

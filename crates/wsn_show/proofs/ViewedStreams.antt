@@ -10,7 +10,7 @@ use Rattle.wsn_rules.proofs.Prefixes.{append_cancel}
 use Rattle.wsn_rules.proofs.ShownStreams.{shown_goes_on}
 use Rattle.wsn_scan.specs.declared.scan.Scan.{Scan}
 use Rattle.wsn_scan.specs.Scans.{refusal_in}
-use Rattle.wsn_show.specs.declared.style.Style.{Style}
+use Rattle.wsn_print.specs.declared.style.Style.{Style}
 use Rattle.wsn_show.specs.Styles.{styled_items}
 use Rattle.wsn_show.specs.declared.entry_context.EntryContext.{EntryContext}
 use Rattle.wsn_show.specs.declared.stream_parts.StreamParts.{StreamParts}

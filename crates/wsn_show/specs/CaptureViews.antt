@@ -11,7 +11,7 @@ use Rattle.wsn_rules.specs.ShownStream.{Item}
 use Rattle.wsn_rules.specs.declared.report.Report.{Report}
 use Rattle.wsn_rules.specs.Reports.{IsReportOf}
 use Rattle.wsn_rules.specs.ShownCapture.{LineItem, ShownLine, GivesTime, GivesNoTime, of_stream, IsTimeAfter, IsShownOfEntry, IsLeftAtEnd}
-use Rattle.wsn_show.specs.declared.style.Style.{Style}
+use Rattle.wsn_print.specs.declared.style.Style.{Style}
 use Rattle.wsn_show.specs.declared.ended_by.EndedBy.{EndedBy}
 use Rattle.wsn_show.specs.EndedBy.{IsEndedBy}
 use Rattle.wsn_show.specs.EndNotes.{HasNotedEnd}

@@ -8,7 +8,7 @@ use Rattle.wsn_rules.specs.ShownCapture.{LineItem, ShownLine}
 use Rattle.wsn_print.specs.ShownObjects.{Position}
 use Rattle.wsn_print.specs.ShownObjects.Position.{AtEnd}
 use Rattle.wsn_print.specs.Formats.{item_entry, line_item_entry, line_entries, report_text, verdict_text}
-use Rattle.wsn_show.specs.declared.style.Style.{Style}
+use Rattle.wsn_print.specs.declared.style.Style.{Style}
 use Rattle.wsn_show.specs.declared.ended_by.EndedBy.{EndedBy}
 use Rattle.wsn_show.specs.EndedBy.{ended_by_text}
 

@@ -2,7 +2,7 @@ ghost use Rattle.std.specs.Prelude.{◌≡◌, List, false};
 ghost use Rattle.wsn_rules.specs.Limits.{Limits};
 ghost use Rattle.wsn_rules.specs.Entries.{Entry};
 ghost use Rattle.wsn_rules.specs.Sides.{sent};
-ghost use Rattle.wsn_show.specs.declared.style.Style.{Style};
+ghost use Rattle.wsn_print.specs.declared.style.Style.{Style};
 ghost use Rattle.wsn_show.specs.StreamViews.{HasViewed};
 ghost use Rattle.wsn_print.specs.ShownObjects.Position.{InLine};
 ghost use Rattle.wsn_print.specs.ShownParts.{position_of};
@@ -12,7 +12,7 @@ ghost use Rattle.wsn_show.specs.CaptureViews.{ShowsMark};
 use crate::end_notes::EndNotes;
 use crate::ended_by::text_of;
 use crate::stream_view::StreamView;
-use crate::style::Style;
+use wsn_print::Style;
 use crate::times::{CurrentTime, LINE_MAX};
 use std::io::Write;
 use wsn_capture::{BYTES_MAX, CaptureLines, LineEntry, LineFault, Report, strip_cr};
@@ -39,7 +39,7 @@ impl CaptureView {
     ghost use Rattle.wsn_rules.specs.Reports.{IsReportOf};
     ghost use Rattle.wsn_capture.specs.CaptureLines.{HasAccepted, HasNotedCloses, count_of};
     ghost use Rattle.wsn_capture.specs.LineFaults.{IsFaultAfter};
-    ghost use Rattle.wsn_show.specs.declared.style.Style.{Style};
+    ghost use Rattle.wsn_print.specs.declared.style.Style.{Style};
     ghost use Rattle.wsn_show.specs.CaptureViews.{HasShownLines, IsShowingLines, AreViewed, CanShow, Shows, ShowsLine, LeavesAtEnd, SaysWhoEnded, Finishes};
 
     /// A view that has shown no line. The limits apply to each endpoint's stream separately.

@@ -1,4 +1,4 @@
-use crate::style::Style;
+use wsn_print::Style;
 use wsn_print::Origin;
 use wsn_wire::Role;
 

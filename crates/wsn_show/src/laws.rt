@@ -7,7 +7,7 @@ ghost use Rattle.wsn_rules.specs.TextLines.{AreLines};
 ghost use Rattle.wsn_rules.specs.declared.report.Report.{Report};
 ghost use Rattle.wsn_capture.specs.LineFaults.{AreAcceptedLines};
 ghost use Rattle.wsn_show.specs.declared.ended_by.EndedBy.{EndedBy};
-ghost use Rattle.wsn_show.specs.declared.style.Style.{Style};
+ghost use Rattle.wsn_print.specs.declared.style.Style.{Style};
 ghost use Rattle.wsn_show.specs.EndedBy.{IsEndedBy};
 ghost use Rattle.wsn_show.specs.Showing.{IsWholeText};
 

@@ -33,11 +33,10 @@ mod shown_scan;
 mod stream_parts;
 mod stream_showing;
 mod stream_view;
-mod style;
 mod times;
 
 pub use capture_view::CaptureView;
 pub use showing::{ShowStop, show};
 pub use stream_showing::show_stream;
 pub use stream_view::StreamView;
-pub use style::Style;
+pub use wsn_print::Style;

@@ -4,13 +4,13 @@ ghost use Rattle.wsn_rules.specs.Limits.{Limits};
 ghost use Rattle.wsn_rules.specs.Entries.{Entry};
 ghost use Rattle.wsn_rules.specs.TextLines.{AreLines};
 ghost use Rattle.wsn_capture.specs.CaptureLines.{count_of};
-ghost use Rattle.wsn_show.specs.declared.style.Style.{Style};
+ghost use Rattle.wsn_print.specs.declared.style.Style.{Style};
 ghost use Rattle.wsn_show.specs.CaptureViews.{HasShownLines, IsShowingLines, ShowsLine};
 ghost use Rattle.wsn_show.specs.Showing.{IsShown};
 ghost use Rattle.wsn_show.specs.PassedLines.{HasPrinted, HasPrintedLines, IsPrinting, StopsAtLine, StopsWithin, EndsShowing, bytes_ahead};
 
 use crate::capture_view::CaptureView;
-use crate::style::Style;
+use wsn_print::Style;
 use std::io::{Read, Write};
 use wsn_capture::{BEGUN_MAX, BYTES_MAX, CaptureStop, Lines, Report};
 use wsn_io::{Input, Output};

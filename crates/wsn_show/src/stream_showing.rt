@@ -5,11 +5,11 @@ ghost use Rattle.wsn_rules.specs.Limits.{Limits};
 ghost use Rattle.wsn_scan.specs.Judging.{IsUnrefused};
 ghost use Rattle.wsn_list.specs.Listing.{IsEnded};
 ghost use Rattle.wsn_show.specs.StreamViews.{HasViewed};
-ghost use Rattle.wsn_show.specs.declared.style.Style.{Style};
+ghost use Rattle.wsn_print.specs.declared.style.Style.{Style};
 ghost use Rattle.wsn_show.specs.StreamShows.{IsItemText, IsStreamShown, EndsStream};
 
 use crate::stream_view::StreamView;
-use crate::style::Style;
+use wsn_print::Style;
 use std::io::{Read, Write};
 use wsn_io::{Input, Output, Stop};
 use wsn_print::{Format, Origin, put_verdict_as};

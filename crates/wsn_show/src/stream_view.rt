@@ -1,6 +1,6 @@
 use crate::entry_context::EntryContext;
 use crate::shown_scan::ShownScan;
-use crate::style::Style;
+use wsn_print::Style;
 use std::io::Write;
 use std::marker::Model;
 use wsn_io::Output;
@@ -55,7 +55,7 @@ impl StreamView {
     ghost use Rattle.wsn_rules.specs.ShownCapture.{beyond};
     ghost use Rattle.wsn_capture.specs.Closes.{IsClosedBy};
     ghost use Rattle.wsn_print.specs.ShownParts.{position_of};
-    ghost use Rattle.wsn_show.specs.declared.style.Style.{Style};
+    ghost use Rattle.wsn_print.specs.declared.style.Style.{Style};
     ghost use Rattle.wsn_show.specs.Styles.{styled_items};
     ghost use Rattle.wsn_show.specs.StreamViews.{HasViewed};
 

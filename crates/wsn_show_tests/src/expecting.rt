@@ -1,5 +1,5 @@
 //! What the tests expect of a run.
-ghost use Rattle.wsn_job.specs.Jobs.{MayRun};
+ghost use Rattle.wsn_command.specs.Jobs.{MayRun};
 
 use std::alloc::Global;
 use std::process::Abort;

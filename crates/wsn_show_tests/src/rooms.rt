@@ -1,7 +1,7 @@
 //! Writers with room for fewer bytes than are printed. Whatever is held back and written together, they get the longest
 //! prefix that fits: as much as of the same text written piece by piece.
 
-ghost use Rattle.wsn_job.specs.Jobs.{MayRun};
+ghost use Rattle.wsn_command.specs.Jobs.{MayRun};
 
 use crate::expecting::{events_of, objects_of, style_of};
 use std::alloc::Global;

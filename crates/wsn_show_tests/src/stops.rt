@@ -1,6 +1,6 @@
 //! `show` with lines that aren't accepted, and with readers and writers that fail.
 
-ghost use Rattle.wsn_job.specs.Jobs.{MayRun};
+ghost use Rattle.wsn_command.specs.Jobs.{MayRun};
 
 use crate::expecting::{Expected, events_of, expect_job, expect_run};
 use std::alloc::Global;

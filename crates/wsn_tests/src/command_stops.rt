@@ -1,6 +1,6 @@
 //! Commands whose reader or writer fails, after each byte of a stream of three frames: output that is due was
 //! written, one line reports the failure, and the exit status is 2.
-ghost use Rattle.wsn_job.specs.Jobs.{MayRun};
+ghost use Rattle.wsn_command.specs.Jobs.{MayRun};
 
 use crate::expecting::{expect_count, expect_run, prefix_of};
 use std::alloc::Global;

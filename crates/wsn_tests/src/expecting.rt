@@ -1,6 +1,6 @@
 //! Assertions on lines, bytes, answers and runs. The context of a failure is its last argument.
 ghost use Rattle.std.specs.Prelude.{◌≡◌, true};
-ghost use Rattle.wsn_job.specs.Jobs.{MayRun};
+ghost use Rattle.wsn_command.specs.Jobs.{MayRun};
 
 use std::alloc::{Allocator, Global};
 use std::fmt::{Debug, Display};

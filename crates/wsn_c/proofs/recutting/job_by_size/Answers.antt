@@ -1,7 +1,7 @@
 use Rattle.std.proofs.Common.{ap, ◌∙◌}
-use Rattle.wsn_job.specs.declared.job.Job.TheVariants.{Recut}
-use Rattle.wsn_job.specs.declared.job.How.TheVariants.{BySize}
-use Rattle.wsn_job.specs.Recuts.{key_by_size}
+use Rattle.wsn_command.specs.declared.job.Job.TheVariants.{Recut}
+use Rattle.wsn_command.specs.declared.job.How.TheVariants.{BySize}
+use Rattle.wsn_command.specs.Jobs.{key_by_size}
 use Rattle.wsn_c.proofs.recutting.job_by_size.Goals as goal
 
 pub returns-clause-value : goal.returns-clause-value

@@ -5,7 +5,7 @@ use Rattle.wsn_rules.specs.Sides.{sent}
 use Rattle.wsn_print.specs.declared.format.Format.{Format}
 use Rattle.wsn_print.specs.Formats.{end_entry}
 use Rattle.wsn_print.specs.ShownParts.{position_of}
-use Rattle.wsn_show.specs.declared.style.Style.{Style}
+use Rattle.wsn_print.specs.declared.style.Style.{Style}
 use Rattle.wsn_show.proofs.ShownEntries.{PutsLeft, marks}
 use Rattle.wsn_show.proofs.capture_view.put_end_of.Goals as goal
 

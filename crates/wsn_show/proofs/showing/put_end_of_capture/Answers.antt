@@ -1,6 +1,6 @@
 use Rattle.std.proofs.Common.{subst, rules}
 use Rattle.wsn_io.specs.Transfer.{IsWritten, IsPartlyWritten}
-use Rattle.wsn_show.specs.declared.style.Style.{Style}
+use Rattle.wsn_print.specs.declared.style.Style.{Style}
 use Rattle.wsn_show.specs.Styles.{styled_report}
 use Rattle.wsn_show.proofs.EndedTexts.{stopped_before, reported, stopped_in}
 use Rattle.wsn_show.proofs.showing.put_end_of_capture.Goals as goal

@@ -5,7 +5,7 @@ use Rattle.std.proofs.lemmas.Result.{err_from_is_err_and}
 use Rattle.wsn_io.specs.Transfer.{Outgoing}
 use Rattle.wsn_rules.specs.Limits.{Limits}
 use Rattle.wsn_capture.proofs.PiecePrefixes.{taken_more, rest_is, room_for_line}
-use Rattle.wsn_show.specs.declared.style.Style.{Style}
+use Rattle.wsn_print.specs.declared.style.Style.{Style}
 use Rattle.wsn_show.specs.declared.showing.ShowStop.{ShowStop}
 use Rattle.wsn_show.specs.PassedLines.{HasPrinted, StopsWithin}
 use Rattle.wsn_capture.specs.SplitLines.{EndsLine}

@@ -2,7 +2,7 @@ use Rattle.std.proofs.Common.{◌≡◌, ◌≤◌, ◌<◌, ◌+◌, ◌-◌, �
 use Rattle.wsn_io.specs.Transfer.{Outgoing}
 use Rattle.wsn_rules.specs.Limits.{Limits}
 use Rattle.wsn_capture.specs.CaptureLines.{count_of}
-use Rattle.wsn_show.specs.declared.style.Style.{Style}
+use Rattle.wsn_print.specs.declared.style.Style.{Style}
 use Rattle.wsn_show.specs.PassedLines.{HasPrinted, IsPrinting, bytes_ahead}
 use Rattle.wsn_show.proofs.showing.show_piece.Given as goal
 

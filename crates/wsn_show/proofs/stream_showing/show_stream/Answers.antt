@@ -5,7 +5,7 @@ use Rattle.wsn_rules.specs.declared.verdict.Verdict.{Verdict}
 use Rattle.wsn_rules.specs.Verdict.{IsVerdict}
 use Rattle.wsn_scan.specs.declared.refill.ReadChunk.{ReadChunk}
 use Rattle.wsn_scan.specs.Refill.{IsRefilled}
-use Rattle.wsn_show.specs.declared.style.Style.{Style}
+use Rattle.wsn_print.specs.declared.style.Style.{Style}
 use Rattle.wsn_list.specs.Listing.{IsEnded}
 use Rattle.wsn_scan.proofs.Chunks.{got_chunk, none_past}
 use Rattle.wsn_show.specs.StreamShows.{IsStreamShown}

@@ -4,7 +4,7 @@ use Rattle.wsn_io.proofs.PutTexts.{prints_on, prints_no_more, went_out}
 use Rattle.wsn_print.specs.declared.format.Format.{Format}
 use Rattle.wsn_show.specs.EndedBy.{ended_by_text}
 use Rattle.wsn_show.specs.Styles.{styled_ended_by}
-use Rattle.wsn_show.specs.declared.style.Style.{Style}
+use Rattle.wsn_print.specs.declared.style.Style.{Style}
 use Rattle.wsn_show.proofs.capture_view.CaptureView.put_who_ended.Goals as goal
 
 pub returns-then-not-failed : goal.returns-then-not-failed

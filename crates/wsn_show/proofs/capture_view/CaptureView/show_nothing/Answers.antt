@@ -3,7 +3,7 @@ use Rattle.wsn_io.specs.Transfer.{IsWrittenUpToFailure}
 use Rattle.wsn_print.specs.declared.format.Format.{Format}
 use Rattle.wsn_print.specs.Formats.{comment_entry}
 use Rattle.wsn_capture.specs.CaptureLines.{count_of}
-use Rattle.wsn_show.specs.declared.style.Style.{Style}
+use Rattle.wsn_print.specs.declared.style.Style.{Style}
 use Rattle.wsn_io.proofs.PutTexts.{prints_nothing, went_out}
 use Rattle.wsn_show.specs.CaptureViews.{ShowsText}
 use Rattle.wsn_show.proofs.ShownEntries.{empty_text, some_text, shows_empty, shows_time, shows_comment}

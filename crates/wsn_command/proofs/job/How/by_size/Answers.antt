@@ -1,5 +1,5 @@
 use Rattle.std.proofs.Common.{rules}
-use Rattle.wsn_job.proofs.job.How.by_size.Goals as goal
+use Rattle.wsn_command.proofs.job.How.by_size.Goals as goal
 
 pub returns-clause-may : goal.returns-clause-may
 returns-clause-may g c = search rules

@@ -1,9 +1,10 @@
 ghost use Rattle.std.specs.Prelude.{◌≤◌};
 
-use wsn_print::{Format, ViewLimit};
+use crate::format::Format;
+use crate::shown::ViewLimit;
 use wsn_rules::Detail;
 
-/// How a capture is shown.
+/// How a stream or a capture is shown.
 #[derive(Clone, Copy)]
 pub struct Style {
     /// The most bytes of a payload that an entry shows.

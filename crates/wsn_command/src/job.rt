@@ -1,13 +1,12 @@
 ghost use Rattle.std.specs.Prelude.{◌≡◌, ◌↔◌, ◌⊎◌, None, IsSome, IfSome};
 ghost use Rattle.wsn_wire.specs.declared.endpoint.Role.TheVariants.{Server};
-ghost use Rattle.wsn_job.specs.Recuts.{MayRecut, key_by_size};
-ghost use Rattle.wsn_job.specs.declared.job.How.TheVariants.{BySize};
+ghost use Rattle.wsn_command.specs.Jobs.{MayRecut, key_by_size};
+ghost use Rattle.wsn_command.specs.declared.job.How.TheVariants.{BySize};
 
 use std::alloc::{Allocator, Global};
 use wsn_plan::Plan;
-use wsn_print::Format;
-use wsn_scan::Limits;
-use wsn_show::Style;
+use wsn_print::{Format, Style};
+use wsn_rules::Limits;
 use wsn_wire::Role;
 
 /// The work of one command over one input, and the format in which it prints its answer, if it has one.
@@ -32,7 +31,7 @@ pub enum Job<A: Allocator = Global> {
 }
 
 impl<A: Allocator> Job<A> {
-    ghost use Rattle.wsn_job.specs.Jobs.{job_role};
+    ghost use Rattle.wsn_command.specs.Jobs.{job_role};
 
     /// The endpoint whose stream the job reads. `None` for `Closing` and `Show`, which read the streams of both.
     #[tactic(none)]

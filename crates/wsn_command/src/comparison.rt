@@ -1,9 +1,8 @@
 ghost use Rattle.std.specs.Prelude.{◌≤◌, IfSome};
 ghost use Rattle.std.proofs.Props.{props};
 
-use wsn_events::Without;
 use wsn_print::{Format, ViewLimit};
-use wsn_scan::Limits;
+use wsn_rules::{Limits, Without};
 use wsn_wire::Role;
 
 /// How two streams are compared, and how the answer is printed.

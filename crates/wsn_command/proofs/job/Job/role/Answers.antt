@@ -1,5 +1,5 @@
 use Rattle.std.proofs.Common.{rules}
-use Rattle.wsn_job.proofs.job.Job.role.Goals as goal
+use Rattle.wsn_command.proofs.job.Job.role.Goals as goal
 
 pub returns-in-Closing : goal.returns-in-Closing
 returns-in-Closing g c = search rules
