@@ -5,7 +5,7 @@ use Rattle.wsn_rules.specs.Limits.{Limits, InRange}
 use Rattle.wsn_print.specs.declared.format.Format.{Format}
 use Rattle.wsn_command.specs.Jobs.{MayRun, job_role}
 use Rattle.wsn_command.specs.declared.job.Job.{Job}
-use Rattle.wsn_command.specs.declared.job.Job.TheVariants.{Judge, Frames, Normal, Plan, Recut, ShowStream, Closing, Show}
+use Rattle.wsn_command.specs.declared.job.Job.TheVariants.{Judge, Frames, Normal, Plan, Recut, Payload, ShowStream, Closing, Show}
 use Rattle.wsn_cli.specs.Inputs.{AreApart}
 use Rattle.wsn_cli.specs.declared.request.Request.{Request}
 use Rattle.wsn_cli.specs.declared.request.Request.TheVariants.{Run, RecutBy, Same, Help}
@@ -22,11 +22,17 @@ job_limits (Frames role limits format) = limits
 job_limits (Normal role limits) = limits
 job_limits (Plan role limits) = limits
 job_limits (Recut role limits how) = limits
+job_limits (Payload role limits at) = limits
 job_limits (ShowStream role limits style) = limits
 job_limits (Closing limits format) = limits
 job_limits (Show limits style) = limits
 
--- the format of a job's answer; a stream or a plan that is written has none
+-- the offset at which the event begins whose payload is asked for
+abbrev pub job_at : {A : Type 0} → Job A → Option ℕ
+job_at (Payload role limits at) = Some at
+job_at job = None
+
+-- the format of a job's answer; a stream, a payload or a plan that is written has none
 abbrev pub job_format : {A : Type 0} → Job A → Option Format
 job_format (Judge role limits format) = Some format
 job_format (Frames role limits format) = Some format
@@ -42,6 +48,7 @@ job_name (Frames role limits format) = codes "frames"
 job_name (Normal role limits) = codes "normal"
 job_name (Plan role limits) = codes "plan"
 job_name (Recut role limits how) = codes "recut"
+job_name (Payload role limits at) = codes "payload"
 job_name (ShowStream role limits style) = codes "show"
 job_name (Closing limits format) = codes "closing"
 job_name (Show limits style) = codes "show"

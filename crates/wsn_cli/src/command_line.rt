@@ -7,7 +7,7 @@ ghost use Rattle.wsn_print.specs.declared.format.Format.TheVariants as formats;
 ghost use Rattle.wsn_command.specs.Jobs.{MayRun, job_role};
 ghost use Rattle.wsn_command.specs.declared.job.Job.TheVariants.{Show, ShowStream};
 ghost use Rattle.wsn_cli.specs.Options.{IsAsked, IsAskedMaximum};
-ghost use Rattle.wsn_cli.specs.Requests.{AreAskedLimits, CanBeDone, job_format, job_limits, job_name};
+ghost use Rattle.wsn_cli.specs.Requests.{AreAskedLimits, CanBeDone, job_at, job_format, job_limits, job_name};
 
 use crate::error_words::shown_in_errors;
 use crate::escaped::Escaped;
@@ -15,9 +15,9 @@ use crate::explain::{explanation, list_of_words, similar_words};
 use crate::help;
 use crate::mistake::Mistake;
 use crate::options::{
-    check_digits, comparison_of, file, file_of, format_of, limits_of, role, role_of, side_of,
-    style_of, with_capture, with_events_view, with_file, with_json, with_limits, with_role,
-    with_view, with_wire, with_without,
+    at_of, check_digits, comparison_of, file, file_of, format_of, limits_of, role, role_of,
+    side_of, style_of, with_at, with_capture, with_events_view, with_file, with_json, with_limits,
+    with_role, with_view, with_wire, with_without,
 };
 use crate::recut_options::{recut_of, with_recuts};
 use crate::request::{Request, Usage};
@@ -25,8 +25,8 @@ use clap::error::ErrorKind;
 use clap::{Arg, ArgAction, ArgMatches, Command, Error};
 use std::alloc::{AllocError, Global};
 use wsn_command::Job;
-use wsn_rules::Limits;
 use wsn_print::Style;
+use wsn_rules::Limits;
 
 /// A command: its name, its help texts, what it reads, and whether it prints an answer that can be JSON.
 struct Described {
@@ -41,6 +41,8 @@ struct Described {
 enum Reads {
     /// A stream.
     Stream,
+    /// A stream, and the offset in it at which an event begins.
+    StreamAt,
     /// A stream, to be recut.
     StreamToCut,
     /// Two streams, sent by endpoints of one role.
@@ -54,7 +56,7 @@ enum Reads {
 }
 
 /// The commands, in the order in which help lists them.
-static COMMANDS: [Described; 9] = [
+static COMMANDS: [Described; 10] = [
     Described {
         name: "show",
         about: help::SHOW,
@@ -75,6 +77,13 @@ static COMMANDS: [Described; 9] = [
         details: help::FRAMES_DETAILS,
         reads: Reads::Stream,
         has_json: true,
+    },
+    Described {
+        name: "payload",
+        about: help::PAYLOAD,
+        details: help::PAYLOAD_DETAILS,
+        reads: Reads::StreamAt,
+        has_json: false,
     },
     Described {
         name: "normal",
@@ -127,6 +136,7 @@ fn command<'a>(alloc: Global, described: &'a Described) -> Result<Command<'a>, A
         .after_help(described.details);
     let command = match described.reads {
         Reads::Stream => with_stream(alloc, command),
+        Reads::StreamAt => with_at(alloc, with_stream(alloc, command)?),
         Reads::StreamToCut => with_recuts(alloc, command),
         Reads::Streams => with_streams(alloc, command),
         Reads::Capture => with_file(alloc, command),
@@ -230,6 +240,8 @@ fn job_of(name: &str, matches: &ArgMatches<'_>) -> Option<Job>
         ↔ (first_value (found_of matches.now) (codes "lengths") ≡ Some (codes "any"))) }
     ensures role { IfSome result (λ job. IfSome (job_role job) (λ role. role ≡ Server
         ↔ (first_value (found_of matches.now) (codes "role") ≡ Some (codes "server")))) }
+    ensures at { IfSome result (λ job. IfSome (job_at job)
+        (IsAsked (one_text (found_of matches.now) (codes "at")) 0)) }
     ensures text { (one_text (found_of matches.now) (codes "json") ≡ None)
         → IfSome result (λ job. IfSome (job_format job) (λ format. format ≡ formats.Text)) }
     ensures json { (one_text (found_of matches.now) (codes "json") ≡ Some (codes "true"))
@@ -240,6 +252,7 @@ fn job_of(name: &str, matches: &ArgMatches<'_>) -> Option<Job>
     match name {
         "judge" => Some(Job::Judge(role, limits, format_of(matches))),
         "frames" => Some(Job::Frames(role, limits, format_of(matches))),
+        "payload" => Some(Job::Payload(role, limits, at_of(matches)?)),
         "normal" => Some(Job::Normal(role, limits)),
         "plan" => Some(Job::Plan(role, limits)),
         "closing" => Some(Job::Closing(limits, format_of(matches))),

@@ -60,6 +60,29 @@ Example: a server's message in two fragments, and a ping between them
   7 fin cont - 2
   accepted 11 tail 0 unfinished -";
 
+pub const PAYLOAD: &str = "\
+Write the payload of one message, ping, pong or Close";
+
+pub const PAYLOAD_DETAILS: &str = "\
+Writes the payload of the event whose first frame begins at the offset that show
+and frames print: unmasked, joined from its frames, and nothing else, as its
+bytes come. Bytes after the event aren't read. If the event isn't complete, what
+came of it is written, up to the offending byte if it is refused; the verdict's
+line goes to standard error, and the status is 1. If no event begins there,
+nothing is written, the status is 2, and this line goes to standard error:
+  nothing begins at OFFSET; it is in the KIND at START
+            the offset is in a frame of the text, binary, ping, pong or close
+            that begins at START
+  nothing begins at OFFSET: VERDICT
+            all frames end before it
+
+Example: a message in two fragments, and where its second one is
+  $ printf '\\001\\003Hel\\200\\002lo' > stream
+  $ wsn payload --role server --at 0 stream; echo
+  Hello
+  $ wsn payload --role server --at 5 stream 2>&1
+  nothing begins at 5; it is in the text at 0";
+
 pub const NORMAL: &str = "\
 Write a stream's normal form: one frame for each message or control";
 
@@ -297,11 +320,12 @@ pcap, or what a refusal usually means, and what to do. It changes no answer.
 
 Exit status:
   0  accepted; for same, equal; for plan, there is one; for recut, done; for
-     closing and show, clean or complete
+     payload, all of it is written; for closing and show, clean or complete
   1  any other verdict, answer or outcome
   2  no answer; a line on standard error says why: read failed, write failed,
      input limit (more than 2^40 bytes came), out of memory, cannot read FILE:
      WHY, line N: WORD (a malformed line of a capture: 'wsn help closing'),
-     usage; or several lines, if the command line is wrong; or none, if the
-     reader of standard output has ended, as head does
+     nothing begins at OFFSET (payload), usage; or several lines, if the command
+     line is wrong; or none, if the reader of standard output has ended, as head
+     does
 ";

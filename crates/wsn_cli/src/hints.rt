@@ -8,8 +8,8 @@ ghost use Rattle.wsn_cli.specs.Requests.{job_format, job_limits};
 
 use crate::compared_hint::ComparedHint;
 use std::alloc::Allocator;
-use wsn_hint::{Hint, after_close_hint_of, capture_hint_of, hint_of, sides_hint_of};
 use wsn_command::{Comparison, Job};
+use wsn_hint::{Hint, after_close_hint_of, capture_hint_of, hint_of, sides_hint_of};
 use wsn_print::Format;
 use wsn_rules::Limits;
 use wsn_wire::Role;
@@ -177,6 +177,7 @@ fn limits_of<A: Allocator>(job: &Job<A>) -> Limits
         | Job::Normal(_, limits)
         | Job::Plan(_, limits)
         | Job::Recut(_, limits, _)
+        | Job::Payload(_, limits, _)
         | Job::ShowStream(_, limits, _)
         | Job::Closing(limits, _)
         | Job::Show(limits, _) => *limits,
@@ -200,7 +201,9 @@ fn is_json<A: Allocator>(job: &Job<A>) -> bool
     let format = match job {
         Job::Judge(_, _, format) | Job::Frames(_, _, format) | Job::Closing(_, format) => *format,
         Job::ShowStream(_, _, style) | Job::Show(_, style) => style.format,
-        Job::Normal(_, _) | Job::Plan(_, _) | Job::Recut(_, _, _) => Format::Text,
+        Job::Normal(_, _) | Job::Plan(_, _) | Job::Recut(_, _, _) | Job::Payload(_, _, _) => {
+            Format::Text
+        }
     };
     format == Format::Json
 }

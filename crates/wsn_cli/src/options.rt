@@ -14,9 +14,8 @@ use clap::builder::ValueParser;
 use clap::{Arg, ArgAction, ArgMatches, Command, value_parser};
 use std::alloc::{AllocError, Global};
 use wsn_command::Comparison;
-use wsn_print::{Format, ViewLimit};
+use wsn_print::{Format, Style, ViewLimit};
 use wsn_rules::{Detail, INPUT_MAX, Limits, MESSAGE_MAX, Without};
-use wsn_print::Style;
 use wsn_wire::{Lengths, Role};
 
 static ROLES: [&str; 2] = ["client", "server"];
@@ -69,6 +68,13 @@ fn with_message_limits<'a>(alloc: Global, command: Command<'a>) -> Result<Comman
     let help = "Maximum frames of a message, 1 to 4294967295\n[default: no maximum]";
     let frames = option(alloc, "frames", "COUNT", help);
     command.arg(frames.value_parser(value_parser!(u32).range(1..)))
+}
+
+/// Adds `--at`.
+pub fn with_at<'a>(alloc: Global, command: Command<'a>) -> Result<Command<'a>, AllocError> {
+    let help = "Where the event's first frame begins: the OFFSET\nthat show prints";
+    let at = option(alloc, "at", "OFFSET", help).required(true);
+    command.arg(at.value_parser(value_parser!(u64)))
 }
 
 /// Adds `--view`.
@@ -203,6 +209,13 @@ pub fn limits_of(matches: &ArgMatches<'_>) -> Option<Limits>
     }
 }
 
+/// The offset at which an event begins, from `--at`; `None` if its value is no number below 2^64.
+pub fn at_of(matches: &ArgMatches<'_>) -> Option<u64>
+    ensures { IfSome result (IsAsked (one_text (found_of matches.now) (codes "at")) 0) }
+{
+    Some(matches.try_get_one::<u64>("at").ok()?.unwrap_or(0))
+}
+
 /// The number that an option asks for, or `None` without the option; `None` of that if its value is no number below 2^32.
 fn number_of(matches: &ArgMatches<'_>, name: &str) -> Option<Option<u32>>
     ensures { IfSome result (IsAskedMaximum (one_text (found_of matches.now) name.now)) }
@@ -311,7 +324,7 @@ pub fn comparison_of(matches: &ArgMatches<'_>) -> Option<Comparison>
 
 /// Refuses a number with any character but digits, such as `+5`, which clap accepts.
 pub fn check_digits(matches: &ArgMatches<'_>) -> Result<(), Usage> {
-    for option in ["limit", "frames", "size", "view"] {
+    for option in ["limit", "frames", "size", "view", "at"] {
         let value = matches.get_str(option).unwrap_or("");
         if !value.bytes().all(|byte| byte.is_ascii_digit()) {
             return Err(Usage::Own(Mistake::SignedNumber));

@@ -5,7 +5,7 @@ use Rattle.wsn_wire.specs.declared.endpoint.Role.TheVariants.{Client, Server}
 use Rattle.wsn_command.specs.declared.job.How.{How}
 use Rattle.wsn_command.specs.declared.job.How.TheVariants.{ByPlan, BySize}
 use Rattle.wsn_command.specs.declared.job.Job.{Job}
-use Rattle.wsn_command.specs.declared.job.Job.TheVariants.{Judge, Frames, Normal, Plan, Recut, ShowStream, Closing, Show}
+use Rattle.wsn_command.specs.declared.job.Job.TheVariants.{Judge, Frames, Normal, Plan, Recut, Payload, ShowStream, Closing, Show}
 
 -- The recut is by plan; or by size, with frames of at least one byte, and with a key exactly for a client.
 abbrev pub MayRecut : {A : Type 0} → Role → How A → Type 0
@@ -30,6 +30,7 @@ job_role (Frames role limits format) = Some role
 job_role (Normal role limits) = Some role
 job_role (Plan role limits) = Some role
 job_role (Recut role limits how) = Some role
+job_role (Payload role limits at) = Some role
 job_role (ShowStream role limits style) = Some role
 job_role (Closing limits format) = None
 job_role (Show limits style) = None

@@ -22,6 +22,8 @@ pub enum Job<A: Allocator = Global> {
     Plan(Role, Limits),
     /// Write the stream's meaning in other frames.
     Recut(Role, Limits, How<A>),
+    /// Write the payload of the event whose first frame begins at this offset.
+    Payload(Role, Limits, u64),
     /// Print how the connection closed, from a capture of both sides.
     Closing(Limits, Format),
     /// Print what the stream that this endpoint sent says, in order and in this style, and then the verdict.
@@ -44,6 +46,7 @@ impl<A: Allocator> Job<A> {
             | Job::Normal(role, _)
             | Job::Plan(role, _)
             | Job::Recut(role, _, _)
+            | Job::Payload(role, _, _)
             | Job::ShowStream(role, _, _) => Some(*role),
             Job::Closing(_, _) | Job::Show(_, _) => None,
         }

@@ -23,13 +23,17 @@ use Rattle.wsn_plan.specs.declared.recutting.RecutAnswer.{RecutAnswer}
 use Rattle.wsn_plan.specs.Planning.{IsPlanned}
 use Rattle.wsn_plan.specs.Recutting.{Planner, IsRecut}
 use Rattle.wsn_command.specs.declared.job.Job.{Job}
-use Rattle.wsn_command.specs.declared.job.Job.TheVariants.{Judge, Frames, Normal, Plan, Recut, ShowStream, Closing, Show}
+use Rattle.wsn_command.specs.declared.job.Job.TheVariants.{Judge, Frames, Normal, Plan, Recut, Payload, ShowStream, Closing, Show}
 use Rattle.wsn_job.specs.declared.done.Done.{Done}
 use Rattle.wsn_job.specs.declared.done.Done.TheVariants as done
 use Rattle.wsn_job.specs.Channels.{Channels, channels}
 use Rattle.wsn_job.specs.Diagnostics.{IsDiagnosed, IsStopDiagnosed}
 use Rattle.wsn_job.specs.Jobs.{IsRun}
 use Rattle.wsn_job.specs.Plans.{IsPlanPrinted, IsPlanDiagnosed}
+use Rattle.wsn_payload.specs.declared.answer.Payload.TheVariants.{Whole, Unfinished, Inside, Nothing}
+use Rattle.wsn_payload.specs.declared.answer.Payload.{Payload}
+use Rattle.wsn_payload.specs.Payloads.{IsPayloadTaken}
+use Rattle.wsn_job.specs.Payloads.{IsPayloadDiagnosed}
 use Rattle.wsn_job.specs.Recuts.{IsRecutDiagnosed, planned_by}
 use Rattle.wsn_job.specs.Sides.{MayRunOnSide, IsFaultySide, IsRunOnSide}
 use Rattle.wsn_job.specs.Verdicts.{IsVerdictPrinted, IsVerdictDiagnosed}
@@ -108,6 +112,17 @@ module _ (role : Role) (limits : Limits) (old new : Incoming) (failed : new.fail
   recut planner before after (Err stop.Memory) is = let h : new.failed ≡ false = is.of_bytes.0.1 in absurd cc
   recut planner before after (Err stop.Write) is = reached is.came is.of_bytes.0 is.of_bytes.2.0
 
+  payload_taken : (at : ℕ) (before after : Outgoing) (result : Result Payload Stop) →
+      IsPayloadTaken role limits at old new before after result → result ≡ Err stop.Read
+  payload_taken at before after (Ok Whole) is = let h : new.failed ≡ false = is.answer.3 in absurd cc
+  payload_taken at before after (Ok (Unfinished verdict)) is = reached is.came verdict is.answer.3
+  payload_taken at before after (Ok (Inside event)) is = let h : new.failed ≡ false = is.answer.2 in absurd cc
+  payload_taken at before after (Ok (Nothing verdict)) is = reached is.came verdict is.answer.2
+  payload_taken at before after (Err stop.Read) is = refl
+  payload_taken at before after (Err stop.InputLimit) is = let h : new.failed ≡ false = is.answer.3.2 in absurd cc
+  payload_taken at before after (Err stop.Memory) is = absurd is.answer.3
+  payload_taken at before after (Err stop.Write) is = let h : new.failed ≡ false = is.answer.3 in absurd cc
+
 -- With `read failed` on standard error, the work is a run.
 pub run_of_failed_read : {A : Type 0} (job : Job A) (before after : Channels) (d : Done A) → MayRunOnSide job →
     IsDone job before.input after.input before.output after.output d → after.input.failed ≡ true →
@@ -128,6 +143,9 @@ run_of_failed_read {A} (Plan role limits) before after (done.Plan answer) may is
 run_of_failed_read (Recut role limits how) before after (done.Recut answer) may is failed errors said =
     let stopped = recut role limits before.input after.input failed (planned_by how) before.output after.output answer is in
     (answer, is, refl, subst (λ (a : Result RecutAnswer Stop). IsRecutDiagnosed a before.errors errors) (sym stopped) said)
+run_of_failed_read (Payload role limits at) before after (done.Payload place answer) may is failed errors said =
+    let stopped = payload_taken role limits before.input after.input failed at before.output after.output answer is.1 in
+    (answer, is.1, refl, subst (λ (a : Result Payload Stop). IsPayloadDiagnosed at a before.errors errors) (sym stopped) said)
 run_of_failed_read (ShowStream role limits style) before after (done.ShowStream answer) may is failed errors said =
     let stopped = stream_shown role limits before.input after.input failed style before.output after.output answer is in
     (answer, is, refl, subst (λ (a : Result Verdict Stop). IsStopDiagnosed a before.errors errors) (sym stopped) said)

@@ -1,11 +1,11 @@
 -- What a job's work came to, before standard error is written.
-use Rattle.std.specs.Prelude.{ℕ}
+use Rattle.std.specs.Prelude.{◌≡◌, ℕ}
 use Rattle.wsn_io.specs.Transfer.{Incoming, Outgoing}
 use Rattle.wsn_print.specs.Statuses.{verdict_status}
 use Rattle.wsn_list.specs.Listing.{IsListedAs}
 use Rattle.wsn_events.specs.Normalised.{IsNormalised}
 use Rattle.wsn_command.specs.declared.job.Job.{Job}
-use Rattle.wsn_command.specs.declared.job.Job.TheVariants.{Judge, Frames, Normal, Plan, Recut, ShowStream, Closing, Show}
+use Rattle.wsn_command.specs.declared.job.Job.TheVariants.{Judge, Frames, Normal, Plan, Recut, Payload, ShowStream, Closing, Show}
 use Rattle.wsn_job.specs.declared.done.Done.{Done}
 use Rattle.wsn_job.specs.declared.done.Done.TheVariants as done
 use Rattle.wsn_job.specs.Diagnostics.{IsStopDiagnosed}
@@ -13,6 +13,8 @@ use Rattle.wsn_job.specs.Verdicts.{IsVerdictPrinted, IsVerdictDiagnosed}
 use Rattle.wsn_job.specs.Plans.{IsPlanPrinted, IsPlanDiagnosed, plan_status}
 use Rattle.wsn_plan.specs.Recutting.{IsRecut}
 use Rattle.wsn_job.specs.Recuts.{IsRecutDiagnosed, planned_by, recut_status}
+use Rattle.wsn_payload.specs.Payloads.{IsPayloadTaken}
+use Rattle.wsn_job.specs.Payloads.{IsPayloadDiagnosed, payload_status}
 use Rattle.wsn_show.specs.Showing.{IsShown}
 use Rattle.wsn_show.specs.StreamShows.{IsStreamShown}
 use Rattle.wsn_job.specs.Closings.{IsReportPrinted, IsClosingDiagnosed, closing_status}
@@ -28,6 +30,8 @@ IsDone (Normal role limits) old new before after (done.Normal answer) =
 IsDone (Plan role limits) old new before after (done.Plan answer) = IsPlanPrinted role limits old new before after answer
 IsDone (Recut role limits how) old new before after (done.Recut answer) =
     IsRecut role limits (planned_by how) old new before after answer
+IsDone (Payload role limits at) old new before after (done.Payload place answer) =
+    (place ≡ at) × IsPayloadTaken role limits at old new before after answer
 IsDone (ShowStream role limits style) old new before after (done.ShowStream answer) =
     IsStreamShown role limits style old new before after answer
 IsDone (Closing limits format) old new before after (done.Closing answer) =
@@ -42,6 +46,7 @@ done_status (done.Frames answer) = verdict_status answer
 done_status (done.Normal answer) = verdict_status answer
 done_status (done.Plan answer) = plan_status answer
 done_status (done.Recut answer) = recut_status answer
+done_status (done.Payload at answer) = payload_status answer
 done_status (done.ShowStream answer) = verdict_status answer
 done_status (done.Closing answer) = closing_status answer
 done_status (done.Show answer) = closing_status answer
@@ -53,6 +58,7 @@ IsDoneDiagnosed (done.Frames answer) old new = IsStopDiagnosed answer old new
 IsDoneDiagnosed (done.Normal answer) old new = IsVerdictDiagnosed answer old new
 IsDoneDiagnosed (done.Plan answer) old new = IsPlanDiagnosed answer old new
 IsDoneDiagnosed (done.Recut answer) old new = IsRecutDiagnosed answer old new
+IsDoneDiagnosed (done.Payload at answer) old new = IsPayloadDiagnosed at answer old new
 IsDoneDiagnosed (done.ShowStream answer) old new = IsStopDiagnosed answer old new
 IsDoneDiagnosed (done.Closing answer) old new = IsClosingDiagnosed answer old new
 IsDoneDiagnosed (done.Show answer) old new = IsClosingDiagnosed answer old new

@@ -5,10 +5,10 @@ ghost use Rattle.wsn_events.specs.Excerpts.{HasExcerpts};
 ghost use Rattle.wsn_job.specs.Comparisons.{IsAnswerText};
 ghost use Rattle.wsn_job.specs.Words.{Stop, Compared, IsComparisonPrinted, comparison_status, IsStopDiagnosed};
 
-use wsn_command::Comparison;
 use crate::diagnostics::diagnose_if_stopped;
 use std::alloc::Allocator;
 use std::io::{Read, Write};
+use wsn_command::Comparison;
 use wsn_events::{Compared, FirstDifference, contrast};
 use wsn_print::{ViewLimit, put_compared_as, put_difference_as, status_of_comparison};
 use wsn_scan::Stop;

@@ -1,10 +1,11 @@
 use crate::diagnostics::diagnose_if_stopped;
 use crate::verdicts::diagnose_unless_accepted;
-use crate::{closings, plans, recuts};
+use crate::{closings, payloads, plans, recuts};
 use std::alloc::Allocator;
 use std::io::Write;
 use wsn_capture::Report;
 use wsn_io::{Output, Stop};
+use wsn_payload::Payload;
 use wsn_plan::{PlanAnswer, RecutAnswer};
 use wsn_print::status_of_verdict;
 use wsn_rules::Verdict;
@@ -18,6 +19,8 @@ pub(crate) enum Done<A: Allocator> {
     Normal(Result<Verdict, Stop>),
     Plan(Result<PlanAnswer<A>, Stop>),
     Recut(Result<RecutAnswer, Stop>),
+    /// With the offset that was asked for.
+    Payload(u64, Result<Payload, Stop>),
     ShowStream(Result<Verdict, Stop>),
     Closing(Result<Report, ShowStop>),
     Show(Result<Report, ShowStop>),
@@ -39,6 +42,7 @@ impl<A: Allocator> Done<A> {
             Done::Normal(done) => diagnose_unless_accepted(*done, errors),
             Done::Plan(done) => plans::diagnose_answer(done, errors),
             Done::Recut(done) => recuts::diagnose_answer(*done, errors),
+            Done::Payload(at, done) => payloads::diagnose_payload(*at, *done, errors),
             Done::Closing(done) | Done::Show(done) => {
                 closings::diagnose_closing(*done, errors);
             }
@@ -55,6 +59,7 @@ impl<A: Allocator> Done<A> {
                 status_of_verdict(*done),
             Done::Plan(done) => plans::status(done),
             Done::Recut(done) => recuts::status(*done),
+            Done::Payload(_, done) => payloads::status(*done),
             Done::Closing(done) | Done::Show(done) => closings::status(*done),
         }
     }

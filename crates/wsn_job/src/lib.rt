@@ -11,6 +11,7 @@ mod closings;
 mod comparisons;
 mod diagnostics;
 mod done;
+mod payloads;
 mod plans;
 mod recuts;
 mod running;

@@ -2,9 +2,9 @@ ghost use Rattle.std.specs.Prelude.{◌≡◌, false};
 ghost use Rattle.wsn_job.specs.Words.{IsRecut, IsRecutDiagnosed, MayRecut, planned_by, recut_status};
 
 use crate::diagnostics::{diagnose, diagnose_stop, diagnose_verdict};
-use wsn_command::How;
 use std::alloc::Allocator;
 use std::io::{Read, Write};
+use wsn_command::How;
 use wsn_plan::{RecutAnswer, recut, recut_uniform};
 use wsn_print::line_of_recut_fault;
 use wsn_scan::{Limits, Stop};

@@ -6,14 +6,15 @@ ghost use Rattle.wsn_job.specs.Work.{IsDone, done_status};
 
 use crate::closings::print_report;
 use crate::done::Done;
-use wsn_command::Job;
 use crate::plans::print_plan;
 use crate::recuts::recut_input;
 use crate::verdicts::print_verdict;
 use std::alloc::Allocator;
 use std::io::{Read, Write};
+use wsn_command::Job;
 use wsn_events::normalise;
 use wsn_list::list_as;
+use wsn_payload::payload;
 use wsn_show::{show, show_stream};
 use wsn_wire::{Input, Output};
 
@@ -75,6 +76,9 @@ pub(crate) fn work<A: Allocator + Copy, R: Read, W: Write>(
         Job::Plan(role, limits) => Done::Plan(print_plan(alloc, input, *role, *limits, output)),
         Job::Recut(role, limits, how) => {
             Done::Recut(recut_input(alloc, input, *role, *limits, how, output))
+        }
+        Job::Payload(role, limits, at) => {
+            Done::Payload(*at, payload(input, output, *role, *limits, *at))
         }
         Job::ShowStream(role, limits, style) => {
             Done::ShowStream(show_stream(input, output, *role, *limits, *style))

@@ -3,14 +3,13 @@ ghost use Rattle.wsn_job.specs.Channels.{channels, compared_channels};
 ghost use Rattle.wsn_job.specs.Sides.{MayRunOnSide, IsRunOnSide, IsFaultySide, IsFirstFaultySide, IsSameDiagnosed};
 ghost use Rattle.wsn_job.specs.Words.{Stop, Compared, IsComparisonPrinted, comparison_status};
 
-use wsn_command::Comparison;
 use crate::comparisons::print_comparison;
 use crate::diagnostics::{diagnose_if_stopped, diagnose_line_fault};
-use wsn_command::Job;
 use crate::running::work;
 use std::alloc::Allocator;
 use std::io::{Read, Write};
 use wsn_capture::{CaptureStop, LineFault, SideReader};
+use wsn_command::{Comparison, Job};
 use wsn_events::Compared;
 use wsn_print::status_of_comparison;
 use wsn_scan::Stop;

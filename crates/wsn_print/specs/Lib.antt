@@ -6,6 +6,7 @@ pub mod ReportText
 pub mod ComparisonText
 pub mod FaultText
 pub mod StopText
+pub mod PayloadText
 pub mod Statuses
 pub mod Json
 pub mod Objects

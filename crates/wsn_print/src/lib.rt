@@ -17,7 +17,7 @@
 //! where an entry is. [`put_difference_as`] writes a difference with the events that differ.
 //!
 //! `specs/Fields.antt` defines the fields of lines; `VerdictText`, `HeadText`, `ReportText`, `ComparisonText`,
-//! `FaultText`, `StopText` and `ShownText` define the lines, `Json`, `Objects` and `ShownObjects` the objects, `Formats`
+//! `FaultText`, `StopText`, `PayloadText` and `ShownText` define the lines, `Json`, `Objects` and `ShownObjects` the objects, `Formats`
 //! the texts in each format, `DifferenceText` a difference with its events, and `Statuses` the exit statuses. `ShownParts` says what the arguments of the functions
 //! that show an entry stand for, `QuotedTexts` what a quoted text is ([`quoted_laws`]).
 //! [`printed_lines`], [`printed_entries`] and [`printed_objects`] have examples of printed lines, computed from the
@@ -40,6 +40,7 @@ mod line;
 mod object_views;
 mod objects;
 mod parts;
+mod payloads;
 pub mod printed_entries;
 pub mod printed_lines;
 pub mod printed_objects;
@@ -67,6 +68,7 @@ pub use head_lines::HeadLines;
 pub use line::Line;
 pub use objects::{put_compared_object, put_report_object, put_verdict_object};
 pub use parts::{put, put_form, put_key, put_number};
+pub use payloads::{line_of_inside, line_of_nothing};
 pub use quoted::put_comment;
 pub use reports::put_report;
 pub use shown::{

@@ -56,6 +56,15 @@ impl<const MAX: usize> Line<MAX> {
         self.len = put_slice(text.as_bytes(), &mut self.text, self.len);
     }
 
+    /// Appends another line.
+    pub(crate) fn push_line<const OTHER: usize>(&mut self, other: &Line<OTHER>)
+        requires { length self.old + OTHER ≤ MAX }
+        ensures text { self.new ≡ self.old ++ other.now }
+        ensures len { length self.new ≤ length self.old + OTHER }
+    {
+        self.len = put_slice(&other.text[..other.len], &mut self.text, self.len);
+    }
+
     /// Appends a number in decimal digits, at most 20.
     pub fn push_number(&mut self, n: u64)
         requires { length self.old + 20 ≤ MAX }

@@ -19,7 +19,8 @@ pub fn put_verdict<W: Write>(to: &mut Output<W>, verdict: &Verdict) -> Result<()
     put_line(to, line_of_verdict(verdict).bytes())
 }
 
-fn line_of_verdict(verdict: &Verdict) -> Line<VERDICT_LINE_MAX>
+/// The line of a verdict, as [`put_verdict`] writes it.
+pub(crate) fn line_of_verdict(verdict: &Verdict) -> Line<VERDICT_LINE_MAX>
     ensures { result ≡ verdict_line verdict.now }
 {
     match verdict {

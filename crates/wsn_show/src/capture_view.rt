@@ -12,12 +12,11 @@ ghost use Rattle.wsn_show.specs.CaptureViews.{ShowsMark};
 use crate::end_notes::EndNotes;
 use crate::ended_by::text_of;
 use crate::stream_view::StreamView;
-use wsn_print::Style;
 use crate::times::{CurrentTime, LINE_MAX};
 use std::io::Write;
 use wsn_capture::{BYTES_MAX, CaptureLines, LineEntry, LineFault, Report, strip_cr};
 use wsn_io::{Output, put_line};
-use wsn_print::{EntryFront, Origin, put_comment_as, put_end_as};
+use wsn_print::{EntryFront, Origin, Style, put_comment_as, put_end_as};
 use wsn_rules::Limits;
 use wsn_wire::Role;
 

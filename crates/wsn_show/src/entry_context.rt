@@ -1,5 +1,4 @@
-use wsn_print::Style;
-use wsn_print::Origin;
+use wsn_print::{Origin, Style};
 use wsn_wire::Role;
 
 /// What all entries of a stream have in common that are printed at one time.

@@ -10,11 +10,10 @@ ghost use Rattle.wsn_show.specs.Showing.{IsShown};
 ghost use Rattle.wsn_show.specs.PassedLines.{HasPrinted, HasPrintedLines, IsPrinting, StopsAtLine, StopsWithin, EndsShowing, bytes_ahead};
 
 use crate::capture_view::CaptureView;
-use wsn_print::Style;
 use std::io::{Read, Write};
 use wsn_capture::{BEGUN_MAX, BYTES_MAX, CaptureStop, Lines, Report};
 use wsn_io::{Input, Output};
-use wsn_print::put_report_as;
+use wsn_print::{Style, put_report_as};
 use wsn_rules::Limits;
 use wsn_scan::CHUNK;
 

@@ -9,10 +9,9 @@ ghost use Rattle.wsn_print.specs.declared.style.Style.{Style};
 ghost use Rattle.wsn_show.specs.StreamShows.{IsItemText, IsStreamShown, EndsStream};
 
 use crate::stream_view::StreamView;
-use wsn_print::Style;
 use std::io::{Read, Write};
 use wsn_io::{Input, Output, Stop};
-use wsn_print::{Format, Origin, put_verdict_as};
+use wsn_print::{Format, Origin, Style, put_verdict_as};
 use wsn_rules::{Limits, Verdict};
 use wsn_scan::{CHUNK, read_chunk};
 use wsn_wire::Role;

@@ -1,10 +1,9 @@
 use crate::entry_context::EntryContext;
 use crate::shown_scan::ShownScan;
-use wsn_print::Style;
 use std::io::Write;
 use std::marker::Model;
 use wsn_io::Output;
-use wsn_print::Origin;
+use wsn_print::{Origin, Style};
 use wsn_rules::{Limits, Verdict};
 use wsn_wire::Role;
 

@@ -1,7 +1,7 @@
 //! The lines on standard error of a command that has no answer; its status is 2.
 use super::Entry;
 
-static ERRORS: [Entry; 7] = [
+static ERRORS: [Entry; 8] = [
     Entry {
         words: &["usage"],
         text: "\
@@ -69,6 +69,19 @@ Usual causes: a misspelt name; the file is in another folder (no such file);
 another user's file (no permission).
 Next: ls -l FILE. In the printed name, \\x1b and the like are control characters,
 \\u202e and the like are characters that change how a terminal shows text.
+",
+    },
+    Entry {
+        words: &["nothing begins at"],
+        text: "\
+nothing begins at OFFSET: no message, ping, pong or Close has its first frame
+there, so payload writes nothing. After it: the event in whose frames the offset
+lies, or the stream's verdict, if all frames end before it.
+Usual causes: the offset of a message's second frame, of a byte inside a frame,
+or of a refusal's PLACE; the other side's offset, so the other --role; a capture
+without --capture.
+Next: give the offset that the line names, or one that show prints behind SIDE
+and TIME.
 ",
     },
     Entry {

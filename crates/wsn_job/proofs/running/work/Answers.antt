@@ -147,3 +147,21 @@ returns-in-ShowStream-clause-read g c = search rules
 
 pub returns-in-ShowStream-clause-write : goal.returns-in-ShowStream-clause-write
 returns-in-ShowStream-clause-write g c = search rules
+
+pub payload-requires-clause-readable : goal.payload-requires-clause-readable
+payload-requires-clause-readable g c = search rules
+
+pub payload-requires-clause-writable : goal.payload-requires-clause-writable
+payload-requires-clause-writable g c = search rules
+
+pub returns-in-Payload-clause-done : goal.returns-in-Payload-clause-done
+returns-in-Payload-clause-done g c = search rules
+
+pub returns-in-Payload-clause-status : goal.returns-in-Payload-clause-status
+returns-in-Payload-clause-status g c = search rules
+
+pub returns-in-Payload-clause-read : goal.returns-in-Payload-clause-read
+returns-in-Payload-clause-read g c = search rules
+
+pub returns-in-Payload-clause-write : goal.returns-in-Payload-clause-write
+returns-in-Payload-clause-write g c = search rules

@@ -12,3 +12,6 @@ returns-in-Closing g c = search rules
 
 pub returns-in-Judge : goal.returns-in-Judge
 returns-in-Judge g c = search rules
+
+pub returns-in-Payload : goal.returns-in-Payload
+returns-in-Payload g c = search rules

@@ -1,0 +1,36 @@
+-- What `payload` says on standard error, and its exit status.
+use Rattle.std.specs.Prelude.{◌≡◌, ℕ, Result, Ok, Err}
+use Rattle.wsn_wire.specs.declared.endpoint.Role.{Role}
+use Rattle.wsn_io.specs.Transfer.{Outgoing}
+use Rattle.wsn_io.specs.declared.stop.Stop.{Stop}
+use Rattle.wsn_rules.specs.Limits.{Limits}
+use Rattle.wsn_print.specs.StopText.{stop_line}
+use Rattle.wsn_print.specs.VerdictText.{verdict_line}
+use Rattle.wsn_print.specs.PayloadText.{inside_line, nothing_line}
+use Rattle.wsn_payload.specs.declared.answer.Payload.{Payload}
+use Rattle.wsn_payload.specs.declared.answer.Payload.TheVariants.{Whole, Unfinished, Inside, Nothing}
+use Rattle.wsn_payload.specs.Payloads.{IsPayloadTaken}
+use Rattle.wsn_job.specs.Channels.{Channels}
+use Rattle.wsn_job.specs.Diagnostics.{IsDiagnosed}
+
+-- the exit status: 0 if the event is complete, 1 if it isn't, 2 if none begins at the offset, and for a stop
+abbrev pub payload_status : Result Payload Stop → ℕ
+payload_status (Ok Whole) = 0
+payload_status (Ok (Unfinished verdict)) = 1
+payload_status (Ok answer) = 2
+payload_status (Err stopped) = 2
+
+-- Nothing is said of a complete event. Otherwise one line says at which verdict it isn't complete, that no event begins
+-- at the offset, or that the work stopped.
+abbrev pub IsPayloadDiagnosed : ℕ → Result Payload Stop → Outgoing → Outgoing → Type 0
+IsPayloadDiagnosed at (Ok Whole) old new = new ≡ old
+IsPayloadDiagnosed at (Ok (Unfinished verdict)) old new = IsDiagnosed old new (verdict_line verdict)
+IsPayloadDiagnosed at (Ok (Inside event)) old new = IsDiagnosed old new (inside_line at event.op event.offset)
+IsPayloadDiagnosed at (Ok (Nothing verdict)) old new = IsDiagnosed old new (nothing_line at verdict)
+IsPayloadDiagnosed at (Err stopped) old new = IsDiagnosed old new (stop_line stopped)
+
+-- `payload`: its channels before and after, and the exit status, are of one answer.
+abbrev pub IsPayloadRun : Role → Limits → ℕ → Channels → Channels → ℕ → Type 0
+IsPayloadRun role limits at before after status = (done : Result Payload Stop)
+    × IsPayloadTaken role limits at before.input after.input before.output after.output done
+    × (status ≡ payload_status done) × IsPayloadDiagnosed at done before.errors after.errors
