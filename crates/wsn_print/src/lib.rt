@@ -2,7 +2,8 @@
 //! capture. Each has a definition in `specs/` and a function. (A plan's text is in `wsn_plan_text`.)
 //!
 //! [`put_verdict`] writes the line of a verdict, [`put_compared`] the line of a comparison, and [`put_report`] the seven
-//! lines of a report. [`HeadLines`] holds the lines or objects of frames, so that one write takes them. The lines of
+//! lines of a report. [`HeadLines`] holds the lines or objects of frames, so that one write takes them. [`KeptBytes`] keeps
+//! any bytes, in an array of a fixed size. The lines of
 //! faults and stops are built as a [`Line`], a text in a fixed array. [`put`], [`put_number`], [`put_key`] and
 //! [`put_form`] write the parts of a line where they stay. The `status_of_..` functions return the exit status of an
 //! answer. Nothing here allocates.
@@ -35,6 +36,7 @@ mod head_lines;
 mod heads;
 mod held_text;
 mod json;
+mod kept_bytes;
 mod kept_digits;
 mod line;
 mod object_views;
@@ -63,6 +65,7 @@ pub use format::{
     Format, put_comment_as, put_compared_as, put_end_as, put_report_as, put_verdict_as,
 };
 pub use head_lines::HeadLines;
+pub use kept_bytes::KeptBytes;
 pub use line::Line;
 pub use objects::{put_compared_object, put_report_object, put_verdict_object};
 pub use parts::{put, put_form, put_key, put_number};
