@@ -2,11 +2,10 @@
 //! capture. Each has a definition in `specs/` and a function. (A plan's text is in `wsn_plan_text`.)
 //!
 //! [`put_verdict`] writes the line of a verdict, [`put_compared`] the line of a comparison, and [`put_report`] the seven
-//! lines of a report. [`HeadLines`] holds the lines or objects of frames, so that one write takes them. [`KeptBytes`] keeps
-//! any bytes, in an array of a fixed size. The lines of
+//! lines of a report. [`HeadLines`] holds the lines or objects of frames, so that one write takes them. The lines of
 //! faults and stops are built as a [`Line`], a text in a fixed array. [`put`], [`put_number`], [`put_key`] and
 //! [`put_form`] write the parts of a line where they stay. The `status_of_..` functions return the exit status of an
-//! answer. Nothing here allocates.
+//! answer. [`KeptBytes`] keeps bytes in an array, until they are written or forgotten. Nothing here allocates.
 //!
 //! Of what is shown, [`put_event`] writes the line of a complete event, [`put_frame`] that of a frame,
 //! [`put_unfinished`] and [`put_unfinished_head`] that of what isn't complete, [`put_refused`] that of a refusal,
