@@ -6,6 +6,7 @@ ghost use Rattle.wsn_print.specs.Objects.{frame_object};
 use crate::format::Format;
 use crate::frame_members::put_members;
 use crate::heads::put_fields;
+use crate::kept_bytes::KeptBytes;
 use crate::kept_digits::KeptDigits;
 use crate::parts::{put, put_last_four, put_number};
 use std::marker::Model;
@@ -20,9 +21,7 @@ const LINE_MAX: usize = 142;
 /// The lines of heads, one after another, held until they are written, at most 4,096 bytes.
 #[derive(Drop)]
 pub struct HeadLines {
-    text: [u8; HELD_MAX],
-    /// The first `len` bytes of the text are held.
-    len: usize,
+    text: KeptBytes<HELD_MAX>,
     /// The digits above the last four of an offset.
     above: KeptDigits,
 }
@@ -30,9 +29,7 @@ pub struct HeadLines {
 impl Model for HeadLines {
     ghost Value = { List ℕ };
 
-    ghost view = { λ lines. take lines.len lines.text };
-
-    ghost invariant = { λ lines. lines.len ≤ 4096 };
+    ghost view = { λ lines. lines.text };
 }
 
 impl HeadLines {
@@ -41,8 +38,7 @@ impl HeadLines {
         ensures { result ≡ [] }
     {
         HeadLines {
-            text: [0; HELD_MAX],
-            len: 0,
+            text: KeptBytes::new(),
             above: KeptDigits::new(),
         }
     }
@@ -53,7 +49,7 @@ impl HeadLines {
         ensures full { result ≡ true → 4096 < length self.now + 142 }
         ensures room { result ≡ false → length self.now + 142 ≤ 4096 }
     {
-        self.len > HELD_MAX - LINE_MAX
+        !self.text.has_room(LINE_MAX)
     }
 
     /// Adds the line of a head, in a format.
@@ -62,9 +58,10 @@ impl HeadLines {
         requires { length self.old + 142 ≤ 4096 }
         ensures { self.new ≡ self.old ++ head_text format head.now }
     {
-        self.len = match format {
-            Format::Text => put_head_at(head, &mut self.above, &mut self.text, self.len),
-            Format::Json => put_object_at(head, &mut self.above, &mut self.text, self.len),
+        let text = &mut self.text;
+        text.len = match format {
+            Format::Text => put_head_at(head, &mut self.above, &mut text.bytes, text.len),
+            Format::Json => put_object_at(head, &mut self.above, &mut text.bytes, text.len),
         };
     }
 
@@ -73,7 +70,7 @@ impl HeadLines {
     pub fn text(&self) -> &[u8]
         ensures { result.now ≡ self.now }
     {
-        &self.text[..self.len]
+        self.text.as_slice()
     }
 
     /// Removes all lines.
@@ -81,7 +78,7 @@ impl HeadLines {
     pub fn clear(&mut self)
         ensures { self.new ≡ [] }
     {
-        self.len = 0;
+        self.text.clear();
     }
 }
 

@@ -1,11 +1,11 @@
-ghost use Rattle.std.specs.Prelude.{◌≡◌, ℕ, ◌+◌, ◌*◌, ◌-◌, ◌<◌, ◌≤◌, true, false, List, [], ◌++◌, length, take, drop, flat_map, codes};
+ghost use Rattle.std.specs.Prelude.{◌≡◌, ℕ, ◌+◌, ◌*◌, ◌-◌, ◌<◌, ◌≤◌, List, ◌++◌, length, take, drop, flat_map, codes};
 ghost use Rattle.std.specs.List.{prefix_len};
 ghost use Rattle.wsn_print.specs.Runs.{escaped, escaped_byte, is_plain};
 ghost use Rattle.wsn_print.specs.ShownText.{unicode_escape};
 
 use crate::escapes::{BLOCK, Escapes, hidden_at_start, marks, plain_at_start, takes_backslash};
+use crate::kept_bytes::KeptBytes;
 use crate::parts::{put, put_front, put_hex, put_slice};
-use std::marker::Model;
 use std::simd::prelude::*;
 
 /// The maximum length in bytes of the text that is held.
@@ -18,45 +18,12 @@ pub(crate) const CHARACTER_MAX: usize = 6;
 const PLAIN_MAX: usize = 32;
 
 /// The room that one turn of a text needs: a block, and a character that is escaped.
-const TURN_MAX: usize = 38;
+pub(crate) const TURN_MAX: usize = 38;
 
 /// Text as it is written, held until then, at most 256 bytes.
-#[derive(Drop)]
-pub(crate) struct HeldText {
-    text: [u8; HELD_MAX],
-    /// The first `len` bytes of the text are held.
-    len: usize,
-}
-
-impl Model for HeldText {
-    ghost Value = { List ℕ };
-
-    ghost view = { λ held. take held.len held.text };
-
-    ghost invariant = { λ held. held.len ≤ 256 };
-}
+pub(crate) type HeldText = KeptBytes<HELD_MAX>;
 
 impl HeldText {
-    /// No text.
-    #[inline(always)]
-    pub(crate) fn new() -> Self
-        ensures { result ≡ [] }
-    {
-        HeldText {
-            text: [0; HELD_MAX],
-            len: 0,
-        }
-    }
-
-    /// Whether it has to be cleared before more is added.
-    #[inline(always)]
-    pub(crate) fn is_full(&self) -> bool
-        ensures full { result ≡ true → 256 < length self.now + TURN_MAX }
-        ensures room { result ≡ false → length self.now + TURN_MAX ≤ 256 }
-    {
-        self.len > HELD_MAX - TURN_MAX
-    }
-
     /// Adds bytes at the start of a text: some that begin no hidden character, and one character after them, if it is
     /// hidden. Returns their number, which isn't 0.
     #[inline(always)]
@@ -104,10 +71,10 @@ impl HeldText {
         let block = u8x16::from_slice(text);
         let count = plain_at_start(block).min(most);
         if marks(escapes, block) != 0 {
-            self.len = put_each(escapes, &text[..count], &mut self.text, self.len);
+            self.len = put_each(escapes, &text[..count], &mut self.bytes, self.len);
             return count;
         }
-        self.len = put_front(&text[..BLOCK], count, &mut self.text, self.len);
+        self.len = put_front(&text[..BLOCK], count, &mut self.bytes, self.len);
         count
     }
 
@@ -123,11 +90,11 @@ impl HeldText {
     {
         match hidden_at_start(text) {
             Some((number, more)) => {
-                self.len = put_escape(number, &mut self.text, self.len);
+                self.len = put_escape(number, &mut self.bytes, self.len);
                 1 + more
             }
             None => {
-                self.len = put_each(escapes, &text[..1], &mut self.text, self.len);
+                self.len = put_each(escapes, &text[..1], &mut self.bytes, self.len);
                 1
             }
         }
@@ -139,23 +106,7 @@ impl HeldText {
         requires { length self.old + 1 ≤ 256 }
         ensures { self.new ≡ self.old ++ codes "\"" }
     {
-        self.len = put([b'"'], &mut self.text, self.len);
-    }
-
-    /// The text.
-    #[inline(always)]
-    pub(crate) fn text(&self) -> &[u8]
-        ensures { result.now ≡ self.now }
-    {
-        &self.text[..self.len]
-    }
-
-    /// Removes all text.
-    #[inline(always)]
-    pub(crate) fn clear(&mut self)
-        ensures { self.new ≡ [] }
-    {
-        self.len = 0;
+        self.len = put([b'"'], &mut self.bytes, self.len);
     }
 }
 

@@ -5,7 +5,7 @@
 //! lines of a report. [`HeadLines`] holds the lines or objects of frames, so that one write takes them. The lines of
 //! faults and stops are built as a [`Line`], a text in a fixed array. [`put`], [`put_number`], [`put_key`] and
 //! [`put_form`] write the parts of a line where they stay. The `status_of_..` functions return the exit status of an
-//! answer. Nothing here allocates.
+//! answer. [`KeptBytes`] keeps bytes in an array, until they are written or forgotten. Nothing here allocates.
 //!
 //! Of what is shown, [`put_event`] writes the line of a complete event, [`put_frame`] that of a frame,
 //! [`put_unfinished`] and [`put_unfinished_head`] that of what isn't complete, [`put_refused`] that of a refusal,
@@ -35,6 +35,7 @@ mod head_lines;
 mod heads;
 mod held_text;
 mod json;
+mod kept_bytes;
 mod kept_digits;
 mod line;
 mod object_views;
@@ -65,6 +66,7 @@ pub use format::{
     Format, put_comment_as, put_compared_as, put_end_as, put_report_as, put_verdict_as,
 };
 pub use head_lines::HeadLines;
+pub use kept_bytes::KeptBytes;
 pub use line::Line;
 pub use objects::{put_compared_object, put_report_object, put_verdict_object};
 pub use parts::{put, put_form, put_key, put_number};

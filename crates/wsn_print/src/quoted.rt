@@ -1,4 +1,4 @@
-ghost use Rattle.std.specs.Prelude.{◌≡◌, ℕ, List, ◌+◌, ◌++◌, ◌/◌, ◌%◌, [], ◌∷◌, ◌==◌, ◌<◌, ◌≤◌, false, true, length, if◌then◌else◌, flat_map, codes, IfOk};
+ghost use Rattle.std.specs.Prelude.{◌≡◌, ◌+◌, ◌++◌, [], ◌∷◌, ◌<◌, ◌≤◌, false, length, flat_map, codes, IfOk};
 ghost use Rattle.hex.specs.Hex.{encode_lower};
 ghost use Rattle.std.specs.Str.{chars, IsUtf8};
 ghost use Rattle.std.specs.Str.Lossy.{utf8_valid_len};
@@ -9,7 +9,7 @@ ghost use Rattle.wsn_print.specs.Runs.{escaped};
 ghost use Rattle.wsn_print.specs.HeldTexts.{IsHeldOrStops};
 
 use crate::escapes::Escapes;
-use crate::held_text::{CHARACTER_MAX, HeldText};
+use crate::held_text::{CHARACTER_MAX, HeldText, TURN_MAX};
 use crate::line::Line;
 use std::io::Write;
 use std::str;
@@ -50,9 +50,9 @@ pub(crate) fn put_quoted<W: Write>(to: &mut Output<W>, text: &[u8]) -> Result<()
     let mut held = HeldText::new();
     held.add_mark();
     hold_escaped(to, &mut held, Escapes::Quoted, text)?;
-    make_room(to, &mut held)?;
+    held.make_room(to, TURN_MAX)?;
     held.add_mark();
-    put_line(to, held.text())
+    put_line(to, held.as_slice())
 }
 
 /// Writes the characters of a comment that is quoted. Of a comment that isn't UTF-8, each byte that isn't printable ASCII
@@ -93,7 +93,7 @@ fn put_escaped<W: Write>(to: &mut Output<W>, escapes: Escapes, text: &[u8]) -> R
 {
     let mut held = HeldText::new();
     hold_escaped(to, &mut held, escapes, text)?;
-    put_line(to, held.text())
+    put_line(to, held.as_slice())
 }
 
 /// Adds a text in UTF-8 to what is held, by blocks, with some characters escaped, and writes what is held where there is
@@ -110,37 +110,10 @@ fn hold_escaped<W: Write>(
 {
     let mut at = 0;
     while at < text.len() {
-        make_room(to, held)?;
+        held.make_room(to, TURN_MAX)?;
         at += held.add_start(escapes, &text[at..]);
     }
     Ok(())
-}
-
-/// Writes the characters that are held if there is no room for another.
-#[inline(always)]
-fn make_room<W: Write>(to: &mut Output<W>, held: &mut HeldText) -> Result<(), Stop>
-    requires { to.old.failed ≡ false }
-    ensures held { (front : List ℕ) × (front ++ held.new ≡ held.old)
-        × IsWrittenOrStops to.old to.new front result }
-    ensures room { length held.new + 38 ≤ 256 }
-{
-    if held.is_full() {
-        put_held(to, held)
-    } else {
-        Ok(())
-    }
-}
-
-/// Writes the characters that are held, and removes them.
-#[inline(never)]
-fn put_held<W: Write>(to: &mut Output<W>, held: &mut HeldText) -> Result<(), Stop>
-    requires { to.old.failed ≡ false }
-    ensures written { IsWrittenOrStops to.old to.new held.old result }
-    ensures none_held { held.new ≡ [] }
-{
-    let written = put_line(to, held.text());
-    held.clear();
-    written
 }
 
 #[inline(never)]

@@ -1,6 +1,6 @@
 use Rattle.std.proofs.Common.{take}
 use Rattle.wsn_plan_text.specs.PlanText.{plan_text}
-use Rattle.wsn_plan_text.proofs.WrittenPlans.{IsGathered}
+use Rattle.wsn_print.proofs.Gathered.{IsGathered}
 use Rattle.wsn_plan_text.proofs.writing_plans.write_plan.Given as goal
 
 -- The lines of the steps so far are written, or held after those that are.

@@ -17,4 +17,4 @@ returns g c =
     let held = c.in_ok-hold_escaped.ensures in
     gathering_ended c.args.to.now c.hold_escaped.new.to c.put_line.new.to added c.hold_escaped.new.held c.put_line.result
     (held.0, held.1 ∙ ap (λ (before : List ℕ). before ++ added) c.new-held.ensures, held.2)
-    (subst (λ (t : List ℕ). IsWrittenOrStops c.hold_escaped.new.to c.put_line.new.to t c.put_line.result) c.text.ensures c.put_line.ensures)
+    (subst (λ (t : List ℕ). IsWrittenOrStops c.hold_escaped.new.to c.put_line.new.to t c.put_line.result) c.as_slice.ensures.value c.put_line.ensures)

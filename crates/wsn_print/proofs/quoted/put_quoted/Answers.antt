@@ -28,26 +28,26 @@ pub returns-in_err-make_room-clause-text : goal.returns-in_err-make_room-clause-
 returns-in_err-make_room-clause-text g c = λ utf8.
     let text : List ℕ = codes "\"" ++ flat_map quoted_character (chars c.args.text.now) in
     let held = c.in_ok-hold_escaped.ensures in
-    let room = c.in_err-make_room.ensures.held in
+    let room = c.in_err-make_room.ensures.kept in
     let one : IsGathered c.args.to.now c.hold_escaped.new.to text c.hold_escaped.new.held = (
       held.0,
       held.1 ∙ begun c.args.text.now c.add_mark.new.self c.new-held.result c.new-held.ensures c.add_mark.ensures utf8,
       held.2,
     ) in
-    gathering_stopped c.args.to.now c.hold_escaped.new.to c.make_room.new.to text c.hold_escaped.new.held room.0 c.make_room.new.held (codes "\"") (quoted c.args.text.now)
+    gathering_stopped c.args.to.now c.hold_escaped.new.to c.make_room.new.to text c.hold_escaped.new.held room.0 c.make_room.new.self (codes "\"") (quoted c.args.text.now)
     c.in_err-make_room.field-0.0 c.from_residual-in_err-make_room.result one refl room.1 room.2 c.from_residual-in_err-make_room.ensures.1
 
 pub returns-clause-text : goal.returns-clause-text
 returns-clause-text g c = λ utf8.
     let text : List ℕ = codes "\"" ++ flat_map quoted_character (chars c.args.text.now) in
     let held = c.in_ok-hold_escaped.ensures in
-    let room = c.in_ok-make_room.ensures.held in
+    let room = c.in_ok-make_room.ensures.kept in
     let one : IsGathered c.args.to.now c.hold_escaped.new.to text c.hold_escaped.new.held = (
       held.0,
       held.1 ∙ begun c.args.text.now c.add_mark.new.self c.new-held.result c.new-held.ensures c.add_mark.ensures utf8,
       held.2,
     ) in
-    let all = gathers_on c.args.to.now c.hold_escaped.new.to c.make_room.new.to text c.hold_escaped.new.held c.make_room.new.held c.add_mark-2.new.self (codes "\"") one
+    let all = gathers_on c.args.to.now c.hold_escaped.new.to c.make_room.new.to text c.hold_escaped.new.held c.make_room.new.self c.add_mark-2.new.self (codes "\"") one
     (room.0, room.1, room.2) c.add_mark-2.ensures in
     gathering_ended c.args.to.now c.make_room.new.to c.put_line.new.to (quoted c.args.text.now) c.add_mark-2.new.self c.put_line.result all
-    (subst (λ (t : List ℕ). IsWrittenOrStops c.make_room.new.to c.put_line.new.to t c.put_line.result) c.text.ensures c.put_line.ensures)
+    (subst (λ (t : List ℕ). IsWrittenOrStops c.make_room.new.to c.put_line.new.to t c.put_line.result) c.as_slice.ensures.value c.put_line.ensures)

@@ -18,11 +18,12 @@ returns-in-Some-clause-ends c = λ ended.
     let found = c.in-Some.ensures in
     let few : c.in-Some.end < length front = omega (arith, found.0.high) in
     let one : take (c.in-Some.end + 1) c.args.piece.now ≡ take c.in-Some.end front ++ 10 ∷ [] = first_of (search rules, grind (arith, common_steps)) in
-    let size : length c.add.new.self ≡ length c.args.self.now + length (take c.in-Some.end front) = ap (λ (bs : List ℕ). length bs) c.add.ensures ∙ length-append c.args.self.now (take c.in-Some.end front) in
+    let added : c.add.new.self ≡ c.args.self.now ++ take c.in-Some.end front = c.add.ensures ∙ ap (λ (bs : List ℕ). bs ++ take c.in-Some.end front) c.self.view_is in
+    let size : length c.add.new.self ≡ length c.args.self.now + length (take c.in-Some.end front) = ap (λ (bs : List ℕ). length bs) added ∙ length-append c.args.self.now (take c.in-Some.end front) in
     let short : length c.add.new.self < 8196 = first_of (search rules, grind (arith, common_steps)) in
     record {
       bytes = take c.in-Some.end front;
-      is = c.add.ensures;
+      is = added;
       in_line = before_lf front c.in-Some.end (λ k low high within. found.0.before k low high);
       ends = inl (one, short);
     }
@@ -33,9 +34,10 @@ returns-in-None-clause-goes_on c = λ more.
     let line : IsLine (take (length front) front) = before_lf front (length front) (λ k low high within. c.in-None.ensures k low high) in
     let all : take (length front) front ≡ front = take_all (length front) front (omega arith) in
     let same : take (length front) c.args.piece.now ≡ front = first_of (search rules, grind (arith, common_steps)) in
+    let added : c.add-in-None.new.self ≡ c.args.self.now ++ front = c.add-in-None.ensures ∙ ap (λ (bs : List ℕ). bs ++ front) c.self.view_is in
     let short : length c.add-in-None.new.self < 8196 = first_of (search rules, grind (arith, common_steps)) in
     record {
-      is = c.add-in-None.ensures ∙ ap (λ (bs : List ℕ). c.args.self.now ++ bs) (sym same);
+      is = added ∙ ap (λ (bs : List ℕ). c.args.self.now ++ bs) (sym same);
       in_line = subst IsLine (all ∙ sym same) line;
       short = short;
     }
@@ -46,10 +48,11 @@ returns-in-None-clause-ends c = λ full.
     let line : IsLine (take (length front) front) = before_lf front (length front) (λ k low high within. c.in-None.ensures k low high) in
     let all : take (length front) front ≡ front = take_all (length front) front (omega arith) in
     let same : take (length front) c.args.piece.now ≡ front = first_of (search rules, grind (arith, common_steps)) in
+    let added : c.add-in-None.new.self ≡ c.args.self.now ++ front = c.add-in-None.ensures ∙ ap (λ (bs : List ℕ). bs ++ front) c.self.view_is in
     let size : length c.add-in-None.new.self ≡ 8196 = first_of (search rules, grind (arith, common_steps)) in
     record {
       bytes = front;
-      is = c.add-in-None.ensures;
+      is = added;
       in_line = subst IsLine all line;
       ends = inr (same, size);
     }
