@@ -15,7 +15,7 @@ use Rattle.wsn_wire.specs.declared.refusal.Reason.TheVariants.{MaskMissing, Mask
 use Rattle.wsn_wire.specs.Frame.{Frame, IsBytes, opcode, first_byte}
 use Rattle.wsn_wire.specs.Layout.{opcode_field, mask_bit, len_form_at, length_count, encoded_length}
 use Rattle.wsn_wire.specs.Refusal.{number_of, IsFirstEvident}
-use Rattle.wsn_wire.specs.Rows.{EvidentInSecond, EvidentInLength}
+use Rattle.wsn_wire.specs.EvidenceInHeads.{EvidentInSecond, EvidentInLength}
 use Rattle.wsn_wire.proofs.FrameLemmas.{IsBytes-append, IsBytes-right, first_byte_fields}
 use Rattle.wsn_frame.specs.declared.partial_head.PartialHead.TheVariants.{Empty, First, Two, Eight, Key}
 use Rattle.wsn_rules.specs.Limits.{Limits}

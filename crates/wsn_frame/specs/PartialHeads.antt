@@ -10,7 +10,7 @@ use Rattle.wsn_wire.specs.declared.length_forms.LenForm.{LenForm}
 use Rattle.wsn_wire.specs.declared.length_forms.LenForm.TheVariants as len_form
 use Rattle.wsn_wire.specs.Frame.{Frame, IsBytes, IsKey, first_byte, key_bytes}
 use Rattle.wsn_wire.specs.Layout.{mask_bit, len_form_at, length_count, encoded_length}
-use Rattle.wsn_wire.specs.Rows.{EvidentInSecond, EvidentInLength}
+use Rattle.wsn_wire.specs.EvidenceInHeads.{EvidentInSecond, EvidentInLength}
 use Rattle.wsn_frame.specs.declared.partial_head.PartialHead.{PartialHead}
 use Rattle.wsn_frame.specs.declared.partial_head.PartialHead.TheVariants.{Empty, First, Two, Eight, Key}
 use Rattle.wsn_frame.specs.declared.partial_head.Head.{Head}

@@ -4,7 +4,7 @@ ghost use Rattle.wsn_hint.specs.Hints.{Fits, BeginsNoLine, HasBlank, HasControl,
 
 use crate::formats::{after_digits, format_of};
 use crate::hint::Hint;
-use crate::starts::is_lawful_start;
+use crate::early_verdict::is_lawful_start;
 use crate::streams::is_text;
 use wsn_rules::{INPUT_MAX, Limits, MESSAGE_MAX};
 use wsn_wire::Role;

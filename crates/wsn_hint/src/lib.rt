@@ -10,11 +10,11 @@
 
 mod capture_start;
 mod captures;
+mod early_verdict;
 mod formats;
 mod hint;
 mod plans;
 mod sides;
-mod starts;
 mod streams;
 
 pub use capture_start::CaptureStart;

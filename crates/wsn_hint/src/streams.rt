@@ -5,7 +5,7 @@ ghost use Rattle.wsn_hint.specs.Hints.{IsRefusedEarly, Fits, IsDataHead, BeginsC
 
 use crate::formats::format_of;
 use crate::hint::Hint;
-use crate::starts::{early_verdict, is_lawful_start};
+use crate::early_verdict::{early_verdict, is_lawful_start};
 use wsn_rules::{Limits, Verdict};
 use wsn_wire::{Reason, Role};
 

@@ -7,7 +7,7 @@ use Rattle.wsn_wire.specs.declared.refusal.Reason.TheVariants.{NothingToContinue
 use Rattle.wsn_wire.specs.Frame.{Frame, opcode}
 use Rattle.wsn_wire.specs.Layout.{opcode_field}
 use Rattle.wsn_wire.specs.Refusal.{number_of, IsFirstEvident}
-use Rattle.wsn_wire.specs.Rows.{EvidentInFirst}
+use Rattle.wsn_wire.specs.EvidenceInHeads.{EvidentInFirst}
 use Rattle.wsn_rules.specs.Limits.{Limits}
 use Rattle.wsn_rules.specs.Evidence.{EvidentByFirst}
 use Rattle.wsn_rules.proofs.HeadEvidence.{first_number, first_row}

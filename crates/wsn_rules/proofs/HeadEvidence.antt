@@ -9,7 +9,7 @@ use Rattle.wsn_wire.specs.declared.refusal.Reason.TheVariants.{ReservedBits, Res
 use Rattle.wsn_wire.specs.Frame.{Frame, masked}
 use Rattle.wsn_wire.specs.Layout.{mask_bit, len_form_at, length_count, encoded_length, key_count}
 use Rattle.wsn_wire.specs.Refusal.{number_of}
-use Rattle.wsn_wire.specs.Rows.{EvidentInFirst, EvidentInSecond, EvidentInLength}
+use Rattle.wsn_wire.specs.EvidenceInHeads.{EvidentInFirst, EvidentInSecond, EvidentInLength}
 use Rattle.wsn_rules.specs.Limits.{Limits}
 use Rattle.wsn_rules.specs.Evidence.{Evidence, EvidentByFirst, EvidentByLength, EvidentByPayload, unmasked}
 use Rattle.wsn_rules.specs.Evidence.Evidence.{ByFirst, BySecond, ByLength, ByPayload}

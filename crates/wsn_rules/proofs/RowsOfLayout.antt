@@ -5,7 +5,7 @@ use Rattle.wsn_wire.specs.declared.endpoint.Role.{Role}
 use Rattle.wsn_wire.specs.declared.refusal.Reason.{Reason}
 use Rattle.wsn_wire.specs.Frame.{Frame, masked}
 use Rattle.wsn_wire.specs.Layout.{HasLayout, mask_bit, len_form_at, length_count, encoded_length, key_count}
-use Rattle.wsn_wire.specs.Rows.{EvidentInSecond}
+use Rattle.wsn_wire.specs.EvidenceInHeads.{EvidentInSecond}
 use Rattle.wsn_wire.proofs.MaskLemmas.{length-masked}
 use Rattle.wsn_rules.specs.Limits.{Limits}
 use Rattle.wsn_rules.specs.Evidence.{Evidence, EvidentByFirst, EvidentByLength, EvidentByPayload, unmasked}

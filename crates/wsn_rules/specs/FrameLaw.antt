@@ -4,7 +4,7 @@ use Rattle.wsn_wire.specs.declared.endpoint.Role.{Role}
 use Rattle.wsn_wire.specs.declared.opcode.Op.TheVariants.{Close}
 use Rattle.wsn_wire.specs.declared.length_forms.Lengths.{Lengths}
 use Rattle.wsn_wire.specs.Frame.{Frame}
-use Rattle.wsn_wire.specs.Sender.{IsEncodedFor}
+use Rattle.wsn_wire.specs.HeadLaw.{IsEncodedFor}
 use Rattle.wsn_text.specs.CloseBody.{IsCloseBody}
 
 -- The frame is lawful by itself.

@@ -2,5 +2,5 @@
 pub mod Frame
 pub mod Layout
 pub mod Refusal
-pub mod Rows
-pub mod Sender
+pub mod EvidenceInHeads
+pub mod HeadLaw

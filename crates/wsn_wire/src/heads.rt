@@ -3,7 +3,7 @@ ghost use Rattle.wsn_wire.specs.declared.refusal.Reason.{Reason};
 ghost use Rattle.wsn_wire.specs.Frame.{is_control, first_byte, second_byte, IsSecondByteFor, len_form_of, length_bytes, head_bytes, FormFits};
 ghost use Rattle.wsn_wire.specs.Layout.{len_form_at, encoded_length};
 ghost use Rattle.wsn_wire.specs.Refusal.{IsFirstEvident};
-ghost use Rattle.wsn_wire.specs.Rows.{EvidentInFirst, EvidentInSecond, EvidentInLength};
+ghost use Rattle.wsn_wire.specs.EvidenceInHeads.{EvidentInFirst, EvidentInSecond, EvidentInLength};
 
 use crate::endpoint::Role;
 use crate::length_forms::{Form, LenForm, Lengths};

@@ -5,7 +5,7 @@
 //! [`Input`] and [`Output`] are re-exported from `wsn_io`. [`laws`] states what follows from the definitions.
 //!
 //! `specs/Frame.antt` defines a frame's bytes, `specs/Layout.antt` which bytes have the layout of a frame,
-//! `specs/Rows.antt` the refusals for which a frame's head alone is evidence, `specs/Sender.antt` the rules for a
+//! `specs/EvidenceInHeads.antt` the refusals for which a frame's head alone is evidence, `specs/HeadLaw.antt` the rules for a
 //! sender's head, and `specs/Refusal.antt` the table of refusals.
 #![tactic(auto)]
 

@@ -1,6 +1,6 @@
 ghost use Rattle.std.specs.Prelude.{◌≡◌, ◌<◌, IfNone, IfSome};
 ghost use Rattle.wsn_wire.specs.Frame.{opcode, is_control};
-ghost use Rattle.wsn_wire.specs.Rows.{IsReserved};
+ghost use Rattle.wsn_wire.specs.EvidenceInHeads.{IsReserved};
 
 /// A frame's opcode (RFC 6455 section 5.2). The opcodes 3 to 7 and 11 to 15 are reserved.
 #[derive(Clone, Copy, Debug, PartialEq, Eq)]

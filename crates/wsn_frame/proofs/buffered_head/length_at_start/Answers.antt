@@ -1,7 +1,7 @@
 use Rattle.std.proofs.Common.{ℕ, List, [], ◌∷◌, ◌++◌, take, get_or, ◌<◌, refl, sym, ◌∙◌, subst, arith}
 use Rattle.wsn_wire.specs.declared.length_forms.LenForm.{LenForm}
 use Rattle.wsn_wire.specs.declared.length_forms.LenForm.TheVariants.{Short, Two}
-use Rattle.wsn_wire.specs.Rows.{EvidentInLength}
+use Rattle.wsn_wire.specs.EvidenceInHeads.{EvidentInLength}
 use Rattle.wsn_frame.specs.PartialHeads.{HasLength}
 use Rattle.wsn_frame.proofs.HeadSteps.{short_reported, length_asked, length_goes_on, length_reported_by}
 use Rattle.wsn_frame.proofs.HeadsAtOnce.{front_two, front_four}

@@ -3,7 +3,7 @@ use Rattle.std.proofs.Common.{length, refl, ap, ◌∙◌, subst, arith, rules}
 use Rattle.std.proofs.lemmas.Bool.{false≢true}
 use Rattle.wsn_wire.specs.declared.length_forms.LenForm.TheVariants.{Two}
 use Rattle.wsn_wire.specs.Refusal.{IsFirstEvident}
-use Rattle.wsn_wire.specs.Rows.{EvidentInLength}
+use Rattle.wsn_wire.specs.EvidenceInHeads.{EvidentInLength}
 use Rattle.wsn_frame.proofs.HeadSteps.{pushed, not_full, of_two, in_two, length_goes_on, length_reported_by, length_refused}
 use Rattle.wsn_frame.proofs.partial_head.with_two.Goals as goal
 

@@ -4,7 +4,7 @@ use Rattle.std.proofs.lemmas.Bool.{ne_eqb, false≢true}
 use Rattle.wsn_wire.specs.declared.refusal.Reason.{Reason}
 use Rattle.wsn_wire.specs.declared.refusal.Reason.TheVariants.{ReservedBits, ReservedOpcode, ControlNotFinal}
 use Rattle.wsn_wire.specs.Refusal.{number_of}
-use Rattle.wsn_wire.specs.Rows.{IsReserved, EvidentInFirst}
+use Rattle.wsn_wire.specs.EvidenceInHeads.{IsReserved, EvidentInFirst}
 use Rattle.wsn_wire.proofs.ByteLemmas.{opcode_mask, top_mask, reserved_clear, reserved_set}
 use Rattle.wsn_wire.proofs.FrameLemmas.{IsFirstByteOf}
 use Rattle.wsn_wire.proofs.HeadLemmas.{first_byte-parts, first_shows_nothing}

@@ -4,7 +4,7 @@ use Rattle.wsn_rules.specs.declared.verdict.Verdict.{Verdict}
 use Rattle.wsn_rules.specs.declared.verdict.Verdict.TheVariants.{Accepted}
 use Rattle.wsn_hint.specs.Hints.{HasVerdict}
 use Rattle.wsn_hint.proofs.EarlyVerdicts.{accepted_unrefused, cut_unrefused}
-use Rattle.wsn_hint.proofs.starts.is_lawful_start.Goals as goal
+use Rattle.wsn_hint.proofs.early_verdict.is_lawful_start.Goals as goal
 
 pub returns-in-Some-Accepted : goal.returns-in-Some-Accepted
 returns-in-Some-Accepted c = λ true_is fs place reason refused.

@@ -9,7 +9,7 @@ use Rattle.wsn_wire.specs.declared.length_forms.Lengths.{Lengths}
 use Rattle.wsn_wire.specs.declared.length_forms.Lengths.TheVariants as encodings
 use Rattle.wsn_wire.specs.Frame.{Frame, is_control, IsEncodable}
 use Rattle.wsn_wire.specs.Layout.{len_form_at}
-use Rattle.wsn_wire.specs.Rows.{EvidentInFirst, EvidentInSecond, EvidentInLength}
+use Rattle.wsn_wire.specs.EvidenceInHeads.{EvidentInFirst, EvidentInSecond, EvidentInLength}
 
 -- [5.5] A control frame has FIN and at most 125 bytes of payload, with the shortest encoding of its length.
 pub record ControlLaw (f : Frame) : Type 0 where
