@@ -3,8 +3,8 @@ ghost use Rattle.wsn_command.specs.Jobs.{MayRun};
 ghost use Rattle.wsn_cli.specs.Requests.{IsOwnSide};
 
 use crate::FAULT;
+use crate::named_input::NamedInput;
 use crate::pipe::Pipe;
-use crate::source::Source;
 use arrayvec::ArrayVec;
 use std::alloc::Allocator;
 use std::cell::RefCell;
@@ -75,16 +75,19 @@ pub fn perform<R: Runtime + AllocGlobal>(
 
 /// Opens an input: the file with this name, or standard input. The error is the exit status for a file that can't be
 /// opened, or is a folder, which is reported as `cannot read` with its name and why.
-pub fn open<R: Runtime>(rt: &R, file: &Option<String>) -> Result<Source<R::Reader, R::File>, u8> {
+pub fn open<R: Runtime>(
+    rt: &R,
+    file: &Option<String>,
+) -> Result<NamedInput<R::Reader, R::File>, u8> {
     let Some(name) = file else {
-        return Ok(Source::StandardInput(rt.reader()));
+        return Ok(NamedInput::StandardInput(rt.reader()));
     };
     match fs::open(rt, name) {
         Ok(file) => {
             if is_folder(&file) {
                 Err(diagnose_unread(rt, name.as_str(), Unread::Folder))
             } else {
-                Ok(Source::File(file))
+                Ok(NamedInput::File(file))
             }
         }
         Err(error) => Err(diagnose_unread(rt, name.as_str(), Unread::of(error.kind()))),
