@@ -209,15 +209,15 @@ shorten it between two characters. A short reason in ASCII is the safest.
     Entry {
         words: &["text-bad"],
         text: "\
-text-bad, code 1007: the byte at OFFSET can't come there in UTF-8, and the
-message is text.
+text-bad, code 1007: the byte at OFFSET is the first that can't follow what came
+before in UTF-8, so the cause may stand in front of it: e9, e-acute in Latin-1,
+begins a character of three bytes in UTF-8, and the letter after it is refused.
 RFC 6455, 5.6: the payload of a text message is UTF-8; 8.1: if it isn't, the
 receiver must fail the connection.
-Usual causes: text in Latin-1 or Windows-1252 (fc is u-umlaut, 92 an
-apostrophe); binary data sent as text (gzip begins with 1f 8b); surrogates one
-by one (ed a0 ..) or c0 80, from CESU-8 or Java's modified UTF-8.
-Next: 'wsn show CAPTURE' ends the line 'refused' with the text up to that byte,
-unmasked, in hex. Convert it to UTF-8 where it is made, or send it as binary.
+Usual causes: text in Latin-1 or Windows-1252 (92 is an apostrophe); binary data
+sent as text (gzip: 1f 8b); surrogates one by one (ed a0 ..); c0 80, from Java.
+Next: 'wsn payload' writes the text up to that byte, unmasked; 'wsn show' prints
+its end in hex. Convert it where it is made, or send it as binary.
 9 of 36 implementations accept it (gorilla, libwebsockets): see docs/PEERS.md.
 ",
     },
