@@ -6,6 +6,7 @@ pub mod Judging
 pub mod Listing
 pub mod FrameReaders
 pub mod ReadParts
+pub mod FollowedScans
 -- for private functions
 pub mod Scans
 pub mod Refill
