@@ -51,7 +51,7 @@ module _ (limits : Limits) (accepted : CaptureLines) (lines : List (List ℕ)) (
       room = λ role.
           let rest = room role in
           let all = has.room role in
-          let size = ap (λ (bs : List ℕ). length bs) (sent-push role limits given entry) ∙ length-append (sent role given) (bytes_in role entry) in
+          let size = ap (λ (bs : List ℕ). length bs) (sent-push role given entry) ∙ length-append (sent role given) (bytes_in role entry) in
           omega (arith, rest, all, size);
     }
 

@@ -1,23 +1,11 @@
 -- Lines that are accepted one by one.
-use Rattle.std.proofs.Common.{◌≡◌, ℕ, Result, Ok, Err, List, [], ◌∷◌, ◌++◌, length, refl, sym, subst, append_assoc, append-nil, arith}
-use Rattle.std.specs.Prelude.{OnOk, IfErr}
+use Rattle.std.proofs.Common.{◌≡◌, ℕ, Result, Err, List, [], ◌∷◌, ◌++◌, length, refl, sym, subst, append_assoc, append-nil, arith}
+use Rattle.std.specs.Prelude.{IfErr}
 use Rattle.wsn_rules.specs.Limits.{Limits}
 use Rattle.wsn_rules.specs.Entries.{Entry, AreEntries}
 use Rattle.wsn_capture.specs.LineFaults.{IsAcceptedLine, AreAcceptedAfter}
 
 -- ---- results
-
-pub on_ok : {T E : Type 0} (r : Result T E) {P Q R : Type 0} → OnOk r P → OnOk r Q → (P → Q → R) → OnOk r R
-on_ok (Ok x) p q f = f p q
-on_ok (Err e) p q f = tt
-
-pub on_ok_three : {T E : Type 0} (r : Result T E) {P Q S R : Type 0} → OnOk r P → OnOk r Q → OnOk r S → (P → Q → S → R) → OnOk r R
-on_ok_three (Ok x) p q s f = f p q s
-on_ok_three (Err e) p q s f = tt
-
-pub if_err : {T E : Type 0} (r : Result T E) {P Q : E → Type 0} → IfErr r P → ((e : E) → P e → Q e) → IfErr r Q
-if_err (Ok x) p f = tt
-if_err (Err e) p f = f e p
 
 pub if_this : {T E : Type 0} (P : E → Type 0) {r : Result T E} {e : E} → r ≡ Err e → P e → IfErr r P
 if_this P is p = subst (λ (r : _). IfErr r P) (sym is) p

@@ -24,6 +24,10 @@ use Rattle.wsn_rules.specs.Sides.{bytes_in, sent}
 use Rattle.wsn_rules.specs.Reports.{ClosesIn}
 use Rattle.wsn_capture.specs.Closes.{IsUnclosed, IsClosedBy, IsCloseLine}
 
+-- the bytes of one entry more
+pub sent-push : (role : Role) (given : List Entry) (entry : Entry) → sent role (given ++ entry ∷ []) ≡ sent role given ++ bytes_in role entry
+sent-push role given entry = flat_map-append (bytes_in role) given (entry ∷ []) ∙ ap (λ (bs : List ℕ). sent role given ++ bs) (append-nil (bytes_in role entry))
+
 module _ (role : Role) (limits : Limits) where
   -- ---- whether a stream has a Close
 
@@ -92,9 +96,6 @@ module _ (role : Role) (limits : Limits) where
 
   -- ---- further lines
 
-  pub sent-push : (given : List Entry) (entry : Entry) → sent role (given ++ entry ∷ []) ≡ sent role given ++ bytes_in role entry
-  sent-push given entry = flat_map-append (bytes_in role) given (entry ∷ []) ∙ ap (λ (bs : List ℕ). sent role given ++ bs) (append-nil (bytes_in role entry))
-
   -- a Close ends in one of the lines
   pub closes_within : (given : List Entry) (line : ℕ) → ClosesIn role limits given line → line < length given
   closes_within given line is =
@@ -113,7 +114,7 @@ module _ (role : Role) (limits : Limits) where
       let following = ap (λ (es : List Entry). length (sent role es)) (take-append-le (suc line) given (entry ∷ []) (omega (arith, within))) in
       record {
         frames = is.frames;
-        accepted = subst (λ (bs : List ℕ). IsAccepted role limits bs is.frames) (sym (sent-push given entry)) (accepted_longer (sent role given) (bytes_in role entry) is.frames is.accepted is.closes);
+        accepted = subst (λ (bs : List ℕ). IsAccepted role limits bs is.frames) (sym (sent-push role given entry)) (accepted_longer (sent role given) (bytes_in role entry) is.frames is.accepted is.closes);
         closes = is.closes;
         before = omega (arith, before, is.before);
         following = omega (arith, following, is.following);
@@ -126,11 +127,11 @@ module _ (role : Role) (limits : Limits) where
       let all = ap (λ (es : List Entry). length (sent role es)) (take_all (suc (length given)) (given ++ entry ∷ []) size) in
       let tail = used (sent role given ++ bytes_in role entry) fs is closes in
       let sizes = ap (λ (bs : List ℕ). length bs) tail.1 ∙ length-append (stream fs) tail.0 in
-      let pushed = ap (λ (bs : List ℕ). length bs) (sent-push given entry) in
+      let pushed = ap (λ (bs : List ℕ). length bs) (sent-push role given entry) in
       let late = ends_after (sent role given) (bytes_in role entry) fs unclosed is closes in
       record {
         frames = fs;
-        accepted = subst (λ (bs : List ℕ). IsAccepted role limits bs fs) (sym (sent-push given entry)) is;
+        accepted = subst (λ (bs : List ℕ). IsAccepted role limits bs fs) (sym (sent-push role given entry)) is;
         closes = closes;
         before = omega (arith, front, late);
         following = omega (arith, all, pushed, sizes);
@@ -146,10 +147,10 @@ module _ (role : Role) (limits : Limits) where
 
   -- no line is noted while no Close comes
   pub line_none : (given : List Entry) (entry : Entry) → IsClosedBy role limits (sent role given ++ bytes_in role entry) false → IsCloseLine role limits (given ++ entry ∷ []) None
-  line_none given entry unclosed = subst (IsUnclosed role limits) (sym (sent-push given entry)) unclosed
+  line_none given entry unclosed = subst (IsUnclosed role limits) (sym (sent-push role given entry)) unclosed
 
   -- the line that is noted after an entry that adds none
   pub line_kept : (given : List Entry) (entry : Entry) (known : Option ℕ) → bytes_in role entry ≡ [] → IsCloseLine role limits given known → IsCloseLine role limits (given ++ entry ∷ []) known
   line_kept given entry (Some line) none is = closes_longer given entry line is
   line_kept given entry None none is =
-      subst (IsUnclosed role limits) (sym (sent-push given entry ∙ ap (λ (bs : List ℕ). sent role given ++ bs) none ∙ append-nil (sent role given))) is
+      subst (IsUnclosed role limits) (sym (sent-push role given entry ∙ ap (λ (bs : List ℕ). sent role given ++ bs) none ∙ append-nil (sent role given))) is

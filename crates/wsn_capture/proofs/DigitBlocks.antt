@@ -124,7 +124,7 @@ by_options c d k h l None p is_h is_l small_h small_l = absurd (omega arith)
 pair_decoded : (c d k h l : ℕ) → IsValueOf c h → IsValueOf d l → h < 16 → l < 16 → pair_value c d k ≡ Ok (add (h * 16 % 2 ^ 8) l)
 pair_decoded c d k h l is_h is_l small_h small_l = by_options c d k h l (hex_digit_value c) (hex_digit_value d) is_h is_l small_h small_l
 
-small_value : (c v : ℕ) → hex_digit_value c ≡ Some v → v < 16
+pub small_value : (c v : ℕ) → hex_digit_value c ≡ Some v → v < 16
 small_value c v h = grind (arith)
 
 bad_option : (o : Option ℕ) (h : ℕ) → ((v : ℕ) → o ≡ Some v → v < 16) → MatchOption o (16 ≤ h) (λ v. h ≡ v) → 16 ≤ h → is_some o ≡ false

@@ -1,6 +1,5 @@
 -- Every list of entries has a report, if the limits are in range.
-use Rattle.std.proofs.Common.{◌≡◌, ℕ, zero, suc, ◌+◌, ◌*◌, ◌%◌, ◌==◌, ◌<◌, ◌≤◌, ◌⊎◌, Bool, true, false, cond, Option, None, Some, is_some, Result, Ok, Err, List, [], ◌∷◌, ◌++◌, length, inl, inr, refl, sym, ap, ◌∙◌, subst, append_assoc, append-nil, arith}
-use Rattle.std.proofs.lemmas.Bool.{cases_eq}
+use Rattle.std.proofs.Common.{◌≡◌, ℕ, ◌+◌, ◌*◌, ◌%◌, ◌==◌, ◌<◌, Bool, true, false, cond, Option, None, Some, is_some, Result, Ok, Err, List, [], ◌∷◌, ◌++◌, length, inl, inr, refl, sym, ap, ◌∙◌, subst, append_assoc, append-nil, arith}
 use Rattle.std.proofs.lemmas.List.Concat.{flat_map-append}
 use Rattle.hex.specs.Hex.{decode_of, decode_pairs, hex_digit_value, pair_value}
 use Rattle.hex.specs.declared.error.FromHexError.{FromHexError}
@@ -17,24 +16,19 @@ use Rattle.wsn_rules.specs.Verdict.{IsVerdict}
 use Rattle.wsn_rules.proofs.EveryInput.{has_verdict}
 use Rattle.wsn_rules.proofs.Prefixes.{nil-push, nil-parts}
 use Rattle.wsn_rules.specs.declared.report.Side.{Side}
-use Rattle.wsn_rules.specs.declared.report.Side.TheVariants.{Closed, Refused as RefusedSide, Ended, Cut as CutSide, Running}
-use Rattle.wsn_rules.specs.declared.report.Outcome.{Outcome}
-use Rattle.wsn_rules.specs.declared.report.Outcome.TheVariants.{Failed, Clean, Complete, Abnormal, Half, Live}
 use Rattle.wsn_rules.specs.declared.report.Report.{Report}
 use Rattle.wsn_rules.specs.Entries.{Entry, GivesEntry, AreEntries}
 use Rattle.wsn_rules.specs.Entries.Entry.{Nothing, Bytes, Mark}
 use Rattle.wsn_rules.specs.Sides.{bytes_in, sent, has_ended, side_of, IsSide}
-use Rattle.wsn_rules.specs.Reports.{IsRefusedSide, IsClosedSide, IsEndedEarly, OutcomeFits, outcome_order, echo_of, seen_of, IsOutcome, IsReport}
+use Rattle.wsn_rules.specs.Reports.{echo_of, seen_of, IsReport}
 use Rattle.wsn_capture.specs.Closes.{IsUnclosed, IsClosedBy, IsCloseLine, earlier_of}
 use Rattle.wsn_capture.proofs.PairedDigits.{pair_of}
 use Rattle.wsn_capture.proofs.ClosingLines.{accepted_closed, cut_unclosed, sent-push, closes_longer, line_new, line_none}
 use Rattle.wsn_capture.proofs.ReportedLines.{first_by_lines}
-use Rattle.wsn_rules.proofs.Outcomes.{outcome_at, at_its_place}
+use Rattle.wsn_rules.proofs.Outcomes.{has_outcome}
+use Rattle.wsn_capture.proofs.DigitBlocks.{small_value}
 
 -- ---- digits encode bytes
-
-digit_small : (c v : ℕ) → hex_digit_value c ≡ Some v → v < 16
-digit_small c v is = grind (arith)
 
 pair_small : (high low i : ℕ) (h l : Option ℕ) (v : ℕ) → ((d : ℕ) → h ≡ Some d → d < 16) → ((d : ℕ) → l ≡ Some d → d < 16) → pair_of high low i h l ≡ Ok v → v < 256
 pair_small high low i (Some d) (Some e) v small also is =
@@ -57,7 +51,7 @@ decoded_bytes i (high ∷ low ∷ rest) bytes is = by_pair (decoded_bytes (i + 2
 
     by_pair : ((more : List ℕ) → decode_pairs (i + 2) rest ≡ Ok more → IsBytes more) → (r : Result ℕ FromHexError) → pair_value high low i ≡ r → IsBytes bytes
     by_pair following (Ok v) pair =
-        by_rest v (decode_pairs (i + 2) rest) following (pair_small high low i (hex_digit_value high) (hex_digit_value low) v (digit_small high) (digit_small low) pair)
+        by_rest v (decode_pairs (i + 2) rest) following (pair_small high low i (hex_digit_value high) (hex_digit_value low) v (small_value high) (small_value low) pair)
         (sym (decode_pairs-ok_pair i high low v rest pair) ∙ is)
     by_pair following (Err e) pair = let both : Err e ≡ Ok bytes = sym (decode_pairs-err_pair i high low e rest pair) ∙ is in absurd (cc both)
 
@@ -109,7 +103,7 @@ module _ (role : Role) (limits : Limits) (range : InRange limits) where
   one_more : (given : List Entry) (entry : Entry) (known : Option ℕ) → IsCloseLine role limits given known → IsBytes (sent role (given ++ entry ∷ [])) → (noted : Option ℕ) × IsCloseLine role limits (given ++ entry ∷ []) noted
   one_more given entry (Some line) is in_bytes = (Some line, closes_longer role limits given entry line is)
   one_more given entry None is in_bytes =
-      let found = closed_or_not (sent role given ++ bytes_in role entry) (subst IsBytes (sent-push role limits given entry) in_bytes) in
+      let found = closed_or_not (sent role given ++ bytes_in role entry) (subst IsBytes (sent-push role given entry) in_bytes) in
       by_closed found.0 found.1
     where
       by_closed : (closed : Bool) → IsClosedBy role limits (sent role given ++ bytes_in role entry) closed → (noted : Option ℕ) × IsCloseLine role limits (given ++ entry ∷ []) noted
@@ -133,92 +127,6 @@ module _ (role : Role) (limits : Limits) (range : InRange limits) where
   has_side bytes ended in_bytes =
       let found = has_verdict role limits range bytes in_bytes in
       (side_of found.verdict ended, (found.frames, found.verdict, found.is, refl))
-
--- ---- the outcome
-
--- A fact that holds, or doesn't.
-abbrev Decided : Type 0 → Type 0
-Decided A = A ⊎ (A → ⊥)
-
-refused_or_not : (side : Side) → Decided (IsRefusedSide side)
-refused_or_not (Closed code) = inr (λ is. is)
-refused_or_not (RefusedSide refusal) = inl tt
-refused_or_not Ended = inr (λ is. is)
-refused_or_not CutSide = inr (λ is. is)
-refused_or_not Running = inr (λ is. is)
-
-closed_or_open : (side : Side) → Decided (IsClosedSide side)
-closed_or_open (Closed code) = inl tt
-closed_or_open (RefusedSide refusal) = inr (λ is. is)
-closed_or_open Ended = inr (λ is. is)
-closed_or_open CutSide = inr (λ is. is)
-closed_or_open Running = inr (λ is. is)
-
-early_or_not : (side : Side) → Decided (IsEndedEarly side)
-early_or_not (Closed code) = inr (λ is. is)
-early_or_not (RefusedSide refusal) = inr (λ is. is)
-early_or_not Ended = inl tt
-early_or_not CutSide = inl tt
-early_or_not Running = inr (λ is. is)
-
-true_or_not : (b : Bool) → Decided (b ≡ true)
-true_or_not true = inl refl
-true_or_not false = inr (λ is. cc is)
-
-one_of : {A B : Type 0} → Decided A → Decided B → Decided (A ⊎ B)
-one_of (inl a) b = inl (inl a)
-one_of (inr none) (inl b) = inl (inr b)
-one_of (inr none) (inr neither) = inr (λ is. elim is [ inl a ↦ none a | inr b ↦ neither b ])
-
-both : {A B : Type 0} → Decided A → Decided B → Decided (A × B)
-both (inl a) (inl b) = inl (a, b)
-both (inl a) (inr none) = inr (λ is. none is.1)
-both (inr none) b = inr (λ is. none is.0)
-
-order_at : (n : ℕ) → n ≤ 5 → outcome_order (outcome_at n) ≡ n
-order_at zero le = refl
-order_at (suc zero) le = refl
-order_at (suc (suc zero)) le = refl
-order_at (suc (suc (suc zero))) le = refl
-order_at (suc (suc (suc (suc zero)))) le = refl
-order_at (suc (suc (suc (suc (suc n))))) le = omega (arith, le)
-
-module _ (client server : Side) (client_ended server_ended : Bool) where
-  fits_or_not : (outcome : Outcome) → Decided (OutcomeFits client server client_ended server_ended outcome)
-  fits_or_not Failed = one_of (refused_or_not client) (refused_or_not server)
-  fits_or_not Clean =
-      elim (both (both (closed_or_open client) (closed_or_open server)) (both (true_or_not client_ended) (true_or_not server_ended))) [
-        | inl all ↦ inl (all.0.0, all.0.1, all.1.0, all.1.1)
-        | inr none ↦ inr (λ is. none ((is.0, is.1), (is.2, is.3)))
-      ]
-  fits_or_not Complete = both (closed_or_open client) (closed_or_open server)
-  fits_or_not Abnormal = one_of (early_or_not client) (early_or_not server)
-  fits_or_not Half = one_of (closed_or_open client) (closed_or_open server)
-  fits_or_not Live = inl tt
-
-  -- No outcome before this number fits.
-  abbrev NoneBefore : ℕ → Type 0
-  NoneBefore n = (other : Outcome) → OutcomeFits client server client_ended server_ended other → n ≤ outcome_order other
-
-  none_there : (n : ℕ) → NoneBefore n → (OutcomeFits client server client_ended server_ended (outcome_at n) → ⊥) → NoneBefore (suc n)
-  none_there n before none other held =
-      let following = before other held in
-      elim (cases_eq (outcome_order other) n) [
-        | inl here ↦ absurd (none (subst (OutcomeFits client server client_ended server_ended) (sym (at_its_place other) ∙ ap outcome_at here) held))
-        | inr there ↦ omega (arith, following, there)
-      ]
-
-  from : (left n : ℕ) → n + left ≡ 5 → NoneBefore n → (outcome : Outcome) × IsOutcome client server client_ended server_ended outcome
-  from zero n place before = (Live, record { fits = tt; first = λ other held. let following = before other held in omega (arith, place, following) })
-  from (suc left) n place before =
-      let at = order_at n (omega (arith, place)) in
-      elim (fits_or_not (outcome_at n)) [
-        | inl fits ↦ (outcome_at n, record { fits = fits; first = λ other held. let following = before other held in omega (arith, at, following) })
-        | inr none ↦ from left (suc n) (omega (arith, place)) (none_there n before none)
-      ]
-
-  pub has_outcome : (outcome : Outcome) × IsOutcome client server client_ended server_ended outcome
-  has_outcome = from 5 0 refl (λ other held. omega arith)
 
 -- ---- the report
 

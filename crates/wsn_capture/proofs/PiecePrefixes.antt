@@ -1,11 +1,12 @@
 -- The prefix of a piece that belongs to one line.
-use Rattle.std.proofs.Common.{◌≡◌, ℕ, ◌+◌, ◌-◌, ◌<◌, ◌≤◌, inl, inr, List, [], ◌∷◌, ◌++◌, length, take, drop, refl, sym, ap, ◌∙◌, subst, append_assoc, length-append, take-append-drop, length-drop, arith}
+use Rattle.std.proofs.Common.{◌≡◌, ℕ, ◌+◌, ◌-◌, ◌<◌, ◌≤◌, inl, inr, List, [], ◌∷◌, ◌++◌, length, take, drop, refl, sym, ap, ◌∙◌, subst, append_assoc, length-append, take-append-drop, arith}
 use Rattle.std.proofs.Math.Seq.{take-add}
-use Rattle.std.proofs.lemmas.List.{take_all, length-take-le}
+use Rattle.std.proofs.lemmas.List.{length-take-le}
 use Rattle.wsn_rules.specs.Limits.{Limits}
 use Rattle.wsn_capture.specs.declared.capture_stop.CaptureStop.{CaptureStop}
 use Rattle.wsn_rules.specs.TextLines.{IsLine}
 use Rattle.wsn_rules.specs.Entries.{Entry}
+use Rattle.wsn_print.proofs.HeldViews.{rest_is}
 use Rattle.wsn_capture.specs.LineFaults.{AreAcceptedLines}
 use Rattle.wsn_capture.specs.CaptureAnswers.{IsUnfaulted}
 use Rattle.wsn_capture.specs.SplitLines.{GoesOn, EndsLine}
@@ -14,20 +15,16 @@ use Rattle.wsn_capture.proofs.SplitLines.{split_more, no_long, split_line, stop_
 
 -- ---- lists
 
-last_of : (bytes : List ℕ) → 0 < length bytes → (earlier : List ℕ) × (last : ℕ) × (bytes ≡ earlier ++ last ∷ [])
+pub last_of : (bytes : List ℕ) → 0 < length bytes → (earlier : List ℕ) × (last : ℕ) × (bytes ≡ earlier ++ last ∷ [])
 last_of [] some = absurd (omega arith)
 last_of (b ∷ []) some = ([], b, refl)
 last_of (b ∷ c ∷ bytes) some = let rest = last_of (c ∷ bytes) (omega arith) in (b ∷ rest.0, rest.1, ap (λ (bs : List ℕ). b ∷ bs) rest.2)
-
--- the rest of a piece
-pub rest_is : (piece : List ℕ) (at : ℕ) → take (length piece - at) (drop at piece) ≡ drop at piece
-rest_is piece at = take_all (length piece - at) (drop at piece) (omega (arith, length-drop at piece))
 
 -- what is consumed of the rest next
 pub taken_more : (came piece : List ℕ) (at count : ℕ) → (came ++ take at piece) ++ take count (take (length piece - at) (drop at piece)) ≡ came ++ take (at + count) piece
 taken_more came piece at count =
     append_assoc came (take at piece) (take count (take (length piece - at) (drop at piece)))
-    ∙ ap (λ (bs : List ℕ). came ++ bs) (ap (λ (bs : List ℕ). take at piece ++ take count bs) (rest_is piece at) ∙ sym (take-add at count piece))
+    ∙ ap (λ (bs : List ℕ). came ++ bs) (ap (λ (bs : List ℕ). take at piece ++ take count bs) (rest_is at piece) ∙ sym (take-add at count piece))
 
 -- ---- stops
 
@@ -60,7 +57,7 @@ stop_after limits came front rest stop within =
 
 pub stop_in_rest : (limits : Limits) (came piece : List ℕ) (at : ℕ) (stop : CaptureStop) → IsStopWithin limits (came ++ take at piece) (take (length piece - at) (drop at piece)) stop → IsStopWithin limits came piece stop
 stop_in_rest limits came piece at stop within =
-    subst (λ (bs : List ℕ). IsStopWithin limits came bs stop) (ap (λ (bs : List ℕ). take at piece ++ bs) (rest_is piece at) ∙ take-append-drop at piece)
+    subst (λ (bs : List ℕ). IsStopWithin limits came bs stop) (ap (λ (bs : List ℕ). take at piece ++ bs) (rest_is at piece) ∙ take-append-drop at piece)
     (stop_after limits came (take at piece) (take (length piece - at) (drop at piece)) stop within)
 
 -- ---- a prefix of a piece

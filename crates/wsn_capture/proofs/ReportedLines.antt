@@ -1,6 +1,6 @@
 -- The report of the state of both streams.
-use Rattle.std.proofs.Common.{◌≡◌, ℕ, ◌<◌, ◌≤◌, nat_lt, Bool, true, false, cond, Option, None, Some, List, inl, inr, sym, ap, subst, arith}
-use Rattle.std.proofs.lemmas.Bool.{cases_lt, cases_eq}
+use Rattle.std.proofs.Common.{◌≡◌, ℕ, ◌<◌, ◌≤◌, Bool, cond, Option, None, Some, List, inl, inr, sym, ap, subst, arith}
+use Rattle.std.proofs.lemmas.Bool.{cases_lt, cases_eq, lt-ltb, le-ltb}
 use Rattle.wsn_wire.specs.declared.endpoint.Role.{Role}
 use Rattle.wsn_wire.specs.declared.endpoint.Role.TheVariants.{Client, Server}
 use Rattle.wsn_rules.specs.Limits.{Limits}
@@ -14,12 +14,6 @@ module _ (limits : Limits) (given : List Entry) where
   unclosed : (role : Role) (line : ℕ) → IsUnclosed role limits (sent role given) → ClosesIn role limits given line → ⊥
   unclosed role line none closes = none closes.frames closes.accepted closes.closes
 
-  less_is : (a b : ℕ) → a < b → nat_lt a b ≡ true
-  less_is a b less = grind (arith)
-
-  not_less : (a b : ℕ) → b ≤ a → nat_lt a b ≡ false
-  not_less a b le = grind (arith)
-
   -- the Close that ends in an earlier line came first
   pub first_by_lines : (client server : Option ℕ) → IsCloseLine Client limits given client → IsCloseLine Server limits given server → IsFirst limits given (earlier_of client server)
   first_by_lines None None no_client no_server = neither
@@ -32,10 +26,10 @@ module _ (limits : Limits) (given : List Entry) where
   first_by_lines (Some client) (Some server) closes also =
       elim (cases_lt client server) [
         | inl less ↦
-            subst (IsFirst limits given) (sym (ap (λ (b : Bool). cond b (Some Client) (Some Server)) (less_is client server less)))
+            subst (IsFirst limits given) (sym (ap (λ (b : Bool). cond b (Some Client) (Some Server)) (lt-ltb client server less)))
             (client, closes, (λ other is. let same = one_line Server limits given server other also is in omega (arith, less, same)))
         | inr le ↦
-            subst (IsFirst limits given) (sym (ap (λ (b : Bool). cond b (Some Client) (Some Server)) (not_less client server le)))
+            subst (IsFirst limits given) (sym (ap (λ (b : Bool). cond b (Some Client) (Some Server)) (le-ltb client server le)))
             (server, also, (λ other is. let same = one_line Client limits given client other closes is in let two = two_lines limits given client server closes also in by_two client server le two other same))
       ]
     where

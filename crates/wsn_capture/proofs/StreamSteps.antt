@@ -92,7 +92,7 @@ pub room_for : (role : Role) (limits : Limits) (scan : Scan) (accepted : Capture
     → HasStreamed role limits scan (sent role given) → length bytes ≤ room_of scan
 room_for role limits scan accepted lines given bytes line has s =
     let room = has.room role in
-    let all = ap (λ (bs : List ℕ). length bs) (sent-push role limits given (Bytes role bytes) ∙ ap (λ (bs : List ℕ). sent role given ++ bs) (own_bytes role bytes)) ∙ length-append (sent role given) bytes in
+    let all = ap (λ (bs : List ℕ). length bs) (sent-push role given (Bytes role bytes) ∙ ap (λ (bs : List ℕ). sent role given ++ bs) (own_bytes role bytes)) ∙ length-append (sent role given) bytes in
     let parts = ap (λ (bs : List ℕ). length bs) s.whole ∙ length-append s.came s.following in
     let own = s.taken.has_scanned.has_consumed.room in
     omega (arith, room, all, parts, own)
@@ -104,8 +104,8 @@ module _ (limits : Limits) (capture : Captured) (lines : List (List ℕ)) (has :
     entries = has.entries ++ Bytes Client bytes ∷ [];
     accepted = accepted;
     noted = closes;
-    client = subst (HasStreamed Client limits scan) (sym (sent-push Client limits has.entries (Bytes Client bytes))) came;
-    server = subst (HasStreamed Server limits capture.server) (sym (sent-push Server limits has.entries (Bytes Client bytes) ∙ append-nil (sent Server has.entries))) has.server;
+    client = subst (HasStreamed Client limits scan) (sym (sent-push Client has.entries (Bytes Client bytes))) came;
+    server = subst (HasStreamed Server limits capture.server) (sym (sent-push Server has.entries (Bytes Client bytes) ∙ append-nil (sent Server has.entries))) has.server;
   }
 
   pub server_line : (scan : Scan) (bytes : List ℕ) → HasAccepted limits noted (lines ++ line ∷ []) (has.entries ++ Bytes Server bytes ∷ []) → HasNotedCloses limits noted (has.entries ++ Bytes Server bytes ∷ [])
@@ -114,8 +114,8 @@ module _ (limits : Limits) (capture : Captured) (lines : List (List ℕ)) (has :
     entries = has.entries ++ Bytes Server bytes ∷ [];
     accepted = accepted;
     noted = closes;
-    client = subst (HasStreamed Client limits capture.client) (sym (sent-push Client limits has.entries (Bytes Server bytes) ∙ append-nil (sent Client has.entries))) has.client;
-    server = subst (HasStreamed Server limits scan) (sym (sent-push Server limits has.entries (Bytes Server bytes))) came;
+    client = subst (HasStreamed Client limits capture.client) (sym (sent-push Client has.entries (Bytes Server bytes) ∙ append-nil (sent Client has.entries))) has.client;
+    server = subst (HasStreamed Server limits scan) (sym (sent-push Server has.entries (Bytes Server bytes))) came;
   }
 
   -- a line without bytes
@@ -125,8 +125,8 @@ module _ (limits : Limits) (capture : Captured) (lines : List (List ℕ)) (has :
     entries = has.entries ++ entry ∷ [];
     accepted = accepted;
     noted = closes;
-    client = subst (HasStreamed Client limits capture.client) (sym (sent-push Client limits has.entries entry ∙ ap (λ (bs : List ℕ). sent Client has.entries ++ bs) (none Client) ∙ append-nil (sent Client has.entries))) has.client;
-    server = subst (HasStreamed Server limits capture.server) (sym (sent-push Server limits has.entries entry ∙ ap (λ (bs : List ℕ). sent Server has.entries ++ bs) (none Server) ∙ append-nil (sent Server has.entries))) has.server;
+    client = subst (HasStreamed Client limits capture.client) (sym (sent-push Client has.entries entry ∙ ap (λ (bs : List ℕ). sent Client has.entries ++ bs) (none Client) ∙ append-nil (sent Client has.entries))) has.client;
+    server = subst (HasStreamed Server limits capture.server) (sym (sent-push Server has.entries entry ∙ ap (λ (bs : List ℕ). sent Server has.entries ++ bs) (none Server) ∙ append-nil (sent Server has.entries))) has.server;
   }
 
 -- What the lines say once they have accepted one more, before its bytes are scanned.

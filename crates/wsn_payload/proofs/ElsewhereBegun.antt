@@ -1,9 +1,8 @@
 -- If an event begins at an offset, the offset isn't in a frame of another event.
-use Rattle.std.proofs.Common.{◌≡◌, ◌≢◌, ℕ, ◌+◌, ◌<◌, ◌≤◌, ◌⊎◌, true, false, not, List, [], ◌∷◌, ◌++◌, length, inl, inr, refl, sym, ap, ◌∙◌, subst, append-nil, append_assoc, arith, length-append}
+use Rattle.std.proofs.Common.{◌≡◌, ◌≢◌, ℕ, ◌+◌, ◌<◌, ◌≤◌, ◌⊎◌, true, false, not, List, [], ◌∷◌, ◌++◌, length, inl, inr, refl, sym, ap, ◌∙◌, subst, append-nil, append_assoc, arith}
 use Rattle.std.proofs.lemmas.Bool.{cases_Bool}
 use Rattle.wsn_wire.specs.declared.endpoint.Role.{Role}
-use Rattle.wsn_wire.specs.Frame.{Frame, is_control, head_bytes, frame_bytes, wire_payload, stream}
-use Rattle.wsn_frame.proofs.PayloadMore.{length-unmasked_by}
+use Rattle.wsn_wire.specs.Frame.{Frame, is_control, frame_bytes, stream}
 use Rattle.wsn_rules.specs.declared.head_info.HeadInfo.{HeadInfo}
 use Rattle.wsn_rules.specs.Limits.{Limits}
 use Rattle.wsn_rules.specs.Group.{IsOpen}
@@ -16,12 +15,11 @@ use Rattle.wsn_rules.proofs.OneHead.{one_begun}
 use Rattle.wsn_rules.proofs.OpenOffsets.{offset_after_control, offset_after_fragment}
 use Rattle.wsn_rules.proofs.Prefixes.{push-append, append_cancel}
 use Rattle.wsn_rules.proofs.Walk.{stream-append}
-use Rattle.wsn_scan.proofs.HeadsReported.{heads_push}
+use Rattle.wsn_scan.proofs.HeadsReported.{heads_push, frame_begins}
 use Rattle.wsn_payload.specs.declared.answer.EventStart.{EventStart}
 use Rattle.wsn_payload.specs.EventsAt.{end_of, IsInsideAt}
-use Rattle.wsn_payload.proofs.FollowedScans.{wire_payload_is}
-use Rattle.wsn_payload.proofs.OpenMessages.{longer_by, open_before, offset_of_data}
-use Rattle.wsn_payload.proofs.OneEvent.{ArePast, past_differs, past_more, past_within, split, frame_begins}
+use Rattle.wsn_payload.proofs.OpenMessages.{open_before, offset_of_data, frame_end}
+use Rattle.wsn_payload.proofs.OneEvent.{ArePast, past_differs, past_more, past_within, split}
 
 -- After a frame that has the offset and whose event begins elsewhere, no event begins at the offset.
 past_elsewhere : (fs : List Frame) (f : Frame) (at : ℕ) → length (stream fs) ≤ at → at < length (stream (fs ++ f ∷ [])) → event_offset fs f ≢ at → ArePast (fs ++ f ∷ []) at
@@ -34,12 +32,6 @@ past_elsewhere fs f at from to differs = record { over = to; other = by (cases_B
         omega (arith, before, is, from, offset_after_control fs f (ap not control) was)
     by (inr other) (inl final) some is = some (unfinished_final fs f (ap not other) final)
     by (inr other) (inr more) some is = differs (offset_of_data fs f other ∙ sym (offset_after_fragment fs f (ap not other) more) ∙ is)
-
-frame_end : (fs : List Frame) (f : Frame) → end_of (info_of (length (stream fs)) f) ≡ length (stream (fs ++ f ∷ []))
-frame_end fs f =
-    let wire : length (wire_payload f.key f.payload) ≡ length f.payload = ap (λ (bs : List ℕ). length bs) (wire_payload_is f.key f.payload) ∙ length-unmasked_by f.key 0 f.payload in
-    let frame = length-append (head_bytes f.fin f.op f.key f.form (length f.payload)) (wire_payload f.key f.payload) in
-    omega (arith, longer_by fs f, frame, wire)
 
 -- The offset of an event isn't in another frame of these.
 elsewhere : (before later front rest : List Frame) (f x : Frame) (info : HeadInfo) → before ++ f ∷ later ≡ front ++ x ∷ rest → f.fin ≡ true → info ≡ info_of (length (stream front)) x → info.place ≤ event_offset before f → event_offset before f < end_of info

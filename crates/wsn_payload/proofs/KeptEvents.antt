@@ -5,8 +5,7 @@ use Rattle.std.proofs.lemmas.Bool.{cases_Bool, cond-true, cond-false}
 use Rattle.wsn_wire.specs.declared.endpoint.Role.{Role}
 use Rattle.wsn_wire.specs.declared.opcode.Op.{Op}
 use Rattle.wsn_wire.specs.declared.opcode.Op.TheVariants.{Continue, Text, Binary, Close, Ping, Pong}
-use Rattle.wsn_wire.specs.Frame.{Frame, is_control, head_bytes, wire_payload, stream}
-use Rattle.wsn_frame.proofs.PayloadMore.{length-unmasked_by}
+use Rattle.wsn_wire.specs.Frame.{Frame, is_control, stream}
 use Rattle.wsn_rules.specs.declared.head_info.HeadInfo.{HeadInfo}
 use Rattle.wsn_rules.specs.Limits.{Limits}
 use Rattle.wsn_rules.specs.Group.{is_data, unfinished, IsOpen, first_op, payload_of}
@@ -22,8 +21,8 @@ use Rattle.wsn_payload.specs.declared.answer.EventStart.{EventStart}
 use Rattle.wsn_payload.specs.declared.event_at.EventAt.{EventAt}
 use Rattle.wsn_payload.specs.EventsAt.{content, IsOpenAt, IsBegunAt, end_of, EndBefore}
 use Rattle.wsn_payload.specs.Following.{KeepsOpen, KeepsFrame, HasBegunAt, Keeps, MayBegin, IsElsewhere, EndsEvent, own_part}
-use Rattle.wsn_payload.proofs.FollowedScans.{wire_payload_is}
-use Rattle.wsn_payload.proofs.OpenMessages.{open_or_not, longer_by, open_before, offset_of_control, offset_of_data, offset_within, content_of_control, content_of_data, apart_from_control, first_of_more, first_alike, control_is_final}
+use Rattle.wsn_scan.proofs.FrameEnds.{first_alike}
+use Rattle.wsn_payload.proofs.OpenMessages.{open_or_not, open_before, offset_of_control, offset_of_data, offset_within, content_of_control, content_of_data, apart_from_control, first_of_more, control_is_final, frame_end}
 
 no_false : {A : Type 0} (b : Bool) → b ≡ true → b ≡ false → A
 no_false b holds fails = let both : true ≡ false = sym holds ∙ fails in absurd cc
@@ -216,12 +215,6 @@ module _ (role : Role) (limits : Limits) (kept : EventAt) (at : ℕ) (fs : List 
   abbrev info : HeadInfo
   info = info_of (length (stream fs)) f
 
-  size_is : end_of info ≡ length (stream (fs ++ f ∷ []))
-  size_is =
-      let wire : length (wire_payload f.key f.payload) ≡ length f.payload = ap (λ (bs : List ℕ). length bs) (wire_payload_is f.key f.payload) ∙ length-unmasked_by f.key 0 f.payload in
-      let frame = length-append (head_bytes f.fin f.op f.key f.form (length f.payload)) (wire_payload f.key f.payload) in
-      omega (arith, longer_by fs f, frame, wire)
-
   -- before its end, the offset isn't after it
   not_after : event_offset fs f ≡ at → EndBefore fs (InFrame info f.payload) at → ⊥
   not_after same ends =
@@ -294,4 +287,4 @@ module _ (role : Role) (limits : Limits) (kept : EventAt) (at : ℕ) (fs : List 
 
       by : (b : Bool) → HasBegunAt b fs (InFrame info f.payload) at text → HasBegunAt b (fs ++ f ∷ []) BetweenFrames at text
       by true is = begun_after is
-      by false is = (let ends = is.0 in omega (arith, ends, size_is), is.1)
+      by false is = (let ends = is.0 in omega (arith, ends, frame_end fs f), is.1)

@@ -1,4 +1,3 @@
-pub mod FollowedScans
 pub mod OpenMessages
 pub mod KeptEvents
 pub mod TakenParts

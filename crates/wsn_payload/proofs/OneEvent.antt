@@ -2,12 +2,11 @@
 use Rattle.std.proofs.Common.{◌≡◌, ◌≢◌, ℕ, ◌<◌, ◌≤◌, ◌⊎◌, true, false, not, List, [], ◌∷◌, ◌++◌, length, inl, inr, refl, sym, ap, ◌∙◌, subst, append-nil, append_assoc, arith}
 use Rattle.std.proofs.lemmas.Bool.{cases_Bool}
 use Rattle.wsn_wire.specs.declared.endpoint.Role.{Role}
-use Rattle.wsn_wire.specs.Frame.{Frame, is_control, head_bytes, frame_bytes, wire_payload, stream}
+use Rattle.wsn_wire.specs.Frame.{Frame, is_control, stream}
 use Rattle.wsn_rules.specs.declared.head_info.HeadInfo.{HeadInfo}
 use Rattle.wsn_rules.specs.declared.verdict.Verdict.{Verdict}
 use Rattle.wsn_rules.specs.Limits.{Limits}
 use Rattle.wsn_rules.specs.Group.{IsOpen}
-use Rattle.wsn_rules.specs.Heads.{info_of, BeginsWithHead}
 use Rattle.wsn_rules.specs.Lawful.{IsLawful}
 use Rattle.wsn_rules.specs.Meaning.{event_at}
 use Rattle.wsn_rules.specs.ShownStream.{open_offset, event_offset, frame_so_far}
@@ -18,8 +17,6 @@ use Rattle.wsn_rules.proofs.OneVerdict.{one_verdict}
 use Rattle.wsn_rules.proofs.OpenOffsets.{offset_of_none, offset_after_control, offset_after_fragment}
 use Rattle.wsn_rules.proofs.Prefixes.{push-append}
 use Rattle.wsn_rules.proofs.Walk.{stream-append}
-use Rattle.wsn_rules.proofs.LawfulLists.{law_at_split}
-use Rattle.wsn_rules.proofs.OneVerdict.{lawful_frame_shows_nothing}
 use Rattle.wsn_scan.specs.Positions.{Position, BetweenFrames, InFrame}
 use Rattle.wsn_payload.specs.EventsAt.{content, IsWholeAt, IsBegunAt, EndBefore, AreApart, IsUnfinishedAt, EndsBefore}
 use Rattle.wsn_payload.proofs.OpenMessages.{open_or_not, longer_by, frame_some, open_before, offset_of_control, offset_of_data, offset_within}
@@ -102,30 +99,6 @@ not_begun fs (InFrame info part) at payload past (inr is) = past_differs fs (fra
 pub not_before : (fs : List Frame) (position : Position) (at : ℕ) → ArePast fs at → ((info : HeadInfo) (part : List ℕ) → position ≡ InFrame info part → info.place ≡ length (stream fs)) → EndBefore fs position at → ⊥
 not_before fs BetweenFrames at past place ends = let over = past.over in omega (arith, over, ends)
 not_before fs (InFrame info part) at past place ends = let over = past.over in let there = place info part refl in omega (arith, over, ends, there)
-
--- ---- a head
-
--- A lawful frame's bytes begin with its head.
-pub frame_begins : (role : Role) (limits : Limits) (fs : List Frame) (f : Frame) (gs : List Frame) (following : List ℕ) → IsLawful role limits (fs ++ f ∷ gs) → BeginsWithHead role limits fs (frame_bytes f ++ following) (info_of (length (stream fs)) f)
-frame_begins role limits fs f gs following lawful =
-    let encodable = (law_at_split role limits fs f gs lawful).frame.encoded.encodable in
-    let head = head_bytes f.fin f.op f.key f.form (length f.payload) in
-    let wire = wire_payload f.key f.payload in
-    record {
-      head = head;
-      following = wire ++ following;
-      whole = append_assoc head wire following;
-      place = refl;
-      encoded = refl;
-      key = encodable.key;
-      form = encodable.form;
-      size = encodable.size;
-      has_no_evidence = record {
-        none = λ seen later reason whole evidence.
-            lawful_frame_shows_nothing role limits fs f gs lawful seen (later ++ (wire ++ following)) following reason
-            (sym (append_assoc seen later (wire ++ following)) ∙ ap (λ (bs : List ℕ). bs ++ (wire ++ following)) (sym whole) ∙ sym (append_assoc head wire following)) evidence;
-      };
-    }
 
 -- ---- of a stream
 

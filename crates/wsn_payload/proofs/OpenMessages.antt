@@ -3,6 +3,7 @@ use Rattle.std.proofs.Common.{◌≡◌, ◌≢◌, ℕ, ◌+◌, ◌<◌, ◌�
 use Rattle.std.proofs.lemmas.Bool.{cases_Bool, cond-true, cond-false}
 use Rattle.wsn_wire.specs.declared.endpoint.Role.{Role}
 use Rattle.wsn_wire.specs.Frame.{Frame, is_control, head_bytes, frame_bytes, wire_payload, stream}
+use Rattle.wsn_wire.proofs.FrameLemmas.{length-wire_payload}
 use Rattle.wsn_rules.specs.Limits.{Limits}
 use Rattle.wsn_rules.specs.Group.{is_data, unfinished, IsOpen, first_op, payload_of}
 use Rattle.wsn_rules.specs.Lawful.{IsLawful}
@@ -14,7 +15,8 @@ use Rattle.wsn_rules.proofs.MessageText.{text_of_push}
 use Rattle.wsn_rules.proofs.OpenOffsets.{offset_after_control, offset_after_fragment}
 use Rattle.wsn_rules.proofs.Prefixes.{push-append}
 use Rattle.wsn_rules.proofs.Walk.{stream_push}
-use Rattle.wsn_payload.specs.EventsAt.{content}
+use Rattle.wsn_rules.specs.Heads.{info_of}
+use Rattle.wsn_payload.specs.EventsAt.{content, end_of}
 
 pub open_or_not : (fs : List Frame) → (unfinished fs ≡ []) ⊎ IsOpen fs
 open_or_not fs = by (unfinished fs)
@@ -32,6 +34,12 @@ frame_some f =
 
 pub longer_by : (fs : List Frame) (f : Frame) → length (stream (fs ++ f ∷ [])) ≡ length (stream fs) + length (frame_bytes f)
 longer_by fs f = ap (λ (bs : List ℕ). length bs) (stream_push fs f) ∙ length-append (stream fs) (frame_bytes f)
+
+-- The frame's head and its payload end where the frame ends.
+pub frame_end : (fs : List Frame) (f : Frame) → end_of (info_of (length (stream fs)) f) ≡ length (stream (fs ++ f ∷ []))
+frame_end fs f =
+    let size = length-append (head_bytes f.fin f.op f.key f.form (length f.payload)) (wire_payload f.key f.payload) in
+    omega (arith, longer_by fs f, size, length-wire_payload f.key f.payload)
 
 -- An open message begins before the next frame.
 pub open_before : (fs : List Frame) → IsOpen fs → open_offset fs < length (stream fs)
@@ -89,11 +97,6 @@ apart_from_control fs f at control some begins also =
 pub first_of_more : (group : List Frame) (f : Frame) → group ≢ [] → first_op (group ++ f ∷ []) ≡ first_op group
 first_of_more [] f some = absurd (some refl)
 first_of_more (g ∷ group) f some = refl
-
--- The first opcode depends on the opcode of one more frame alone.
-pub first_alike : (group : List Frame) (f g : Frame) → f.op ≡ g.op → first_op (group ++ f ∷ []) ≡ first_op (group ++ g ∷ [])
-first_alike [] f g same = same
-first_alike (h ∷ group) f g same = refl
 
 pub control_is_final : (role : Role) (limits : Limits) (fs : List Frame) (f : Frame) → IsLawful role limits (fs ++ f ∷ []) → is_control f.op ≡ true → f.fin ≡ true
 control_is_final role limits fs f lawful control = (((lawful.each fs [] f refl).frame.encoded).control control).final

@@ -3,7 +3,6 @@ use Rattle.std.proofs.Common.{◌≡◌, ℕ, ◌+◌, ◌≤◌, Bool, true, fa
 use Rattle.std.proofs.KnownBytes.{Appends-nil}
 use Rattle.std.proofs.lemmas.Bool.{cond-true, cond-false}
 use Rattle.std.proofs.lemmas.List.{length-take-le, take-take, take_all, take-append-le}
-use Rattle.std.proofs.Math.Seq.{take-append-add}
 use Rattle.std.specs.Io.KnownBytes.{Consumes, IsAtEnd}
 use Rattle.wsn_io.specs.Transfer.{Incoming, Outgoing, IsConsumed, IsKept, IsReceived, IsWritten}
 use Rattle.wsn_io.specs.declared.stop.Stop.{Stop}
@@ -22,7 +21,7 @@ use Rattle.wsn_scan.specs.Judging.{IsReached, IsUnrefused, IsWithinLimit}
 use Rattle.wsn_scan.specs.Positions.{Position, BetweenFrames}
 use Rattle.wsn_scan.specs.Refill.{IsChunk, chunk_size, count_of}
 use Rattle.wsn_scan.specs.Scans.{HasScanned, room_of}
-use Rattle.wsn_scan.proofs.Chunks.{one_past, none_past, in_count, most_of, by_past}
+use Rattle.wsn_scan.proofs.Chunks.{one_past, none_past, in_count, most_of, chunk_within}
 use Rattle.wsn_scan.proofs.Unrefused.{unrefused_first, place_after}
 use Rattle.wsn_scan.proofs.WholeInputs.{of_all as verdict_of_all}
 use Rattle.wsn_payload.specs.declared.answer.EventStart.{EventStart}
@@ -32,7 +31,8 @@ use Rattle.wsn_payload.specs.declared.event_at.EventAt.{EventAt}
 use Rattle.wsn_payload.specs.EventsAt.{IsWholeAt, IsRestAt, judged_bytes, AreApart, IsUnfinishedAt, EndsBefore, IsInsideAt}
 use Rattle.wsn_payload.specs.Following.{HasBegunAt, Keeps, HasSought, IsRefusedHere, IsAnsweredAt, SeeksThrough}
 use Rattle.wsn_payload.specs.Payloads.{IsPartAt, IsPayloadInFront, IsPayloadAnswer, IsPayloadTaken, IsPayloadOfAll}
-use Rattle.wsn_payload.proofs.SoughtSteps.{apart, so_judged, not_refused_yet, room_within}
+use Rattle.wsn_scan.proofs.FollowedScans.{room_within, unrefused_so_far, judged_so_far}
+use Rattle.wsn_payload.proofs.SoughtSteps.{apart}
 
 -- ---- more bytes
 
@@ -114,10 +114,10 @@ module _ (role : Role) (limits : Limits) (at : ℕ) where
     fits = room_within role limits scan came h.frames h.position h.rest h.followed
 
     none_refused : IsUnrefused role limits came
-    none_refused = not_refused_yet role limits scan came h.frames h.position h.rest h.followed
+    none_refused = unrefused_so_far role limits scan came h.frames h.position h.rest h.followed
 
     some_part : (verdict : Verdict) × IsPartAt role limits came verdict at h.payload
-    some_part = let v = so_judged role limits scan came h.frames h.position h.rest h.followed in (v.0, part_of scan kept came first now h v.0 v.1)
+    some_part = let v = judged_so_far role limits scan came h.frames h.position h.rest h.followed in (v.0, part_of scan kept came first now h v.0 v.1)
 
     -- a read failed
     pub stopped : (new : Incoming) → IsKept mid new → new.failed ≡ true → IsPayloadTaken role limits at old new first now (Err stop.Read)
@@ -189,26 +189,16 @@ module _ (role : Role) (limits : Limits) (at : ℕ) where
           ∙ ap (λ (bs : List ℕ). bs ++ drop chunk.len (take (count_of chunk) buffer)) (sym (append_assoc came (take n piece) (drop n piece)))
           ∙ append_assoc (came ++ take n piece) (drop n piece) (drop chunk.len (take (count_of chunk) buffer))
 
-      -- the bytes within the limit
       within_is : take limits.input all_came ≡ came ++ piece
-      within_is =
-          by_past chunk.past_limit
-          (λ past.
-          let input : limits.input ≡ length came + chunk.len = omega (arith, room, got.past past) in
-          ap (λ (m : ℕ). take m all_came) input ∙ take-append-add came (take (count_of chunk) buffer) chunk.len
-          ∙ ap (λ (bs : List ℕ). came ++ bs) (take-take chunk.len (count_of chunk) buffer (in_count chunk)))
-          (λ none.
-          let count = none_past chunk none in
-          take_all limits.input all_came (omega (arith, room, length_all, count, got.in_room))
-          ∙ ap (λ (m : ℕ). came ++ take m buffer) count)
+      within_is = chunk_within mid new (room_of scan) buffer chunk got limits.input came room
 
       pub goes_on : chunk.past_limit ≡ false → SeeksThrough role limits at next next_kept came piece first after (Ok None) → HasSoughtInput old new first after next next_kept (came ++ piece)
       goes_on none sought = record { consumed = subst (λ (m : ℕ). IsConsumed old new (came ++ take m buffer)) (none_past chunk none) consumed_all; sought = sought; unfailed = unfailed_now }
 
       pub passes_limit : chunk.past_limit ≡ true → SeeksThrough role limits at next next_kept came piece first after (Ok None) → IsPayloadTaken role limits at old new first after (Err stop.InputLimit)
       passes_limit past sought =
-          let v = so_judged role limits next (came ++ piece) sought.frames sought.position sought.rest sought.followed in
-          let none = not_refused_yet role limits next (came ++ piece) sought.frames sought.position sought.rest sought.followed in
+          let v = judged_so_far role limits next (came ++ piece) sought.frames sought.position sought.rest sought.followed in
+          let none = unrefused_so_far role limits next (came ++ piece) sought.frames sought.position sought.rest sought.followed in
           record {
             came = all_came;
             received = received_all;

@@ -1,6 +1,5 @@
 -- What one call of the scan says of the event that begins at an offset.
-use Rattle.std.proofs.Common.{◌≡◌, ℕ, ◌+◌, ◌<◌, ◌≤◌, ◌^◌, ◌⊎◌, Bool, true, false, not, Option, None, Some, Result, Ok, Err, List, [], ◌∷◌, ◌++◌, length, take, drop, if◌then◌else◌, inl, inr, refl, sym, ap, ◌∙◌, subst, append-nil, append_assoc, arith, length-append, length-drop, take-append-drop, ◌-◌}
-use Rattle.std.specs.Prelude.{IsSome}
+use Rattle.std.proofs.Common.{◌≡◌, ℕ, ◌+◌, ◌≤◌, ◌^◌, ◌⊎◌, Bool, true, false, not, Option, None, Some, Result, Ok, Err, List, [], ◌∷◌, ◌++◌, length, take, drop, if◌then◌else◌, inl, inr, refl, sym, ap, ◌∙◌, subst, append-nil, append_assoc, arith, length-append, take-append-drop, ◌-◌}
 use Rattle.std.proofs.lemmas.Bool.{cases_Bool, cond-true, cond-false}
 use Rattle.std.proofs.lemmas.List.{take_all, take-append-le, drop_at}
 use Rattle.wsn_io.specs.Transfer.{Outgoing, IsWritten, IsPartlyWritten}
@@ -25,28 +24,23 @@ use Rattle.wsn_rules.specs.Lawful.{IsLawful}
 use Rattle.wsn_rules.specs.ShownStream.{frame_so_far}
 use Rattle.wsn_rules.specs.Verdict.{IsVerdict}
 use Rattle.wsn_rules.proofs.HeadsGoOn.{begins_longer}
-use Rattle.wsn_rules.proofs.Prefixes.{append_cancel}
 use Rattle.wsn_scan.specs.declared.part.Part.{Part}
 use Rattle.wsn_scan.specs.declared.part.Taken.{Taken}
 use Rattle.wsn_scan.specs.declared.part.Taken.TheVariants as taken
 use Rattle.wsn_scan.specs.declared.scan.Scan.{Scan}
-use Rattle.wsn_scan.specs.declared.stage.Stage.{Stage}
-use Rattle.wsn_scan.specs.declared.stage.Stage.TheVariants as stages
-use Rattle.wsn_scan.specs.Judging.{IsUnrefused}
-use Rattle.wsn_scan.specs.Parts.{IsPart, Consumes, unmasked_at}
+use Rattle.wsn_scan.specs.Parts.{IsPart, unmasked_at}
 use Rattle.wsn_scan.specs.Positions.{Position, BetweenFrames, InFrame, begun_at}
-use Rattle.wsn_scan.specs.Scans.{HasScanned, IsAt, IsReachedBy, IsRefusedThere, refusal_in, refusal_at, refusal_judged}
-use Rattle.wsn_scan.proofs.HeadsReported.{heads_push}
+use Rattle.wsn_scan.specs.Scans.{HasScanned, IsReachedBy, IsRefusedThere, refusal_in}
 use Rattle.wsn_scan.proofs.HeadsSoFar.{heads_reported}
-use Rattle.wsn_scan.proofs.Unrefused.{unrefused, not_refused}
 use Rattle.wsn_payload.specs.declared.answer.Payload.{Payload}
 use Rattle.wsn_payload.specs.declared.answer.Payload.TheVariants.{Whole, Unfinished, Inside, Nothing}
 use Rattle.wsn_payload.specs.declared.event_at.EventAt.{EventAt}
 use Rattle.wsn_payload.specs.EventsAt.{IsWholeAt, IsRestAt, IsBegunAt, judged_bytes, AreApart, IsInsideAt}
-use Rattle.wsn_payload.specs.FollowedScans.{HasFollowed, IsCall}
+use Rattle.wsn_scan.specs.FollowedScans.{HasFollowed, IsCall}
 use Rattle.wsn_payload.specs.Following.{HasBegunAt, Keeps, MayBegin, EndsEvent, TakesPart, own_part, HasSought, IsRefusedHere, IsStepOf, SeeksOn}
 use Rattle.wsn_payload.specs.Payloads.{IsPayloadInFront}
-use Rattle.wsn_payload.proofs.FollowedScans.{wire_payload_is, lawful_done, few, whole_is, in_frame, between, reached, same_whole, same_follows, reach, part_follows}
+use Rattle.wsn_scan.proofs.FollowedScans.{wire_payload_is, few, lawful_done, whole_is, rest_few, room_within, unrefused_so_far, judged_so_far, in_frame, between, reached, same_follows, reach, part_follows, refused_there, refused_begun}
+use Rattle.wsn_scan.proofs.FoundHeads.{heads_after}
 use Rattle.wsn_payload.proofs.KeptEvents.{goes_on}
 use Rattle.wsn_payload.proofs.OpenMessages.{open_or_not, offset_within}
 
@@ -57,13 +51,10 @@ module _ (role : Role) (limits : Limits) (scan : Scan) (came : List ℕ) (done :
   rest_at BetweenFrames is = elim (between role limits scan came done position rest h is) [ inl closed ↦ inl closed | inr none ↦ inr none.1 ]
   rest_at (InFrame info payload) is = let b = in_frame role limits scan came done position rest h info payload is in (b.no_close, (b.begins, b.payload_is))
 
-  pub not_refused_yet : IsUnrefused role limits came
-  not_refused_yet = unrefused role limits scan came (heads_of done ++ begun_at position) (record { frames = done; since = rest; position = position; has_scanned = h.has_scanned; heads_are = refl }) h.unrefused
-
   all_judged : (v : Verdict) → IsVerdict role limits came done v → judged_bytes v came ≡ came
   all_judged (Accepted s) is = refl
   all_judged (Cut s) is = refl
-  all_judged (Refused r) is = absurd (not_refused_yet done r.place r.reason is)
+  all_judged (Refused r) is = absurd (unrefused_so_far role limits scan came done position rest h done r.place r.reason is)
 
   pub apart : (v : Verdict) → IsVerdict role limits came done v → AreApart role limits came v done position
   apart v is = record {
@@ -73,9 +64,6 @@ module _ (role : Role) (limits : Limits) (scan : Scan) (came : List ℕ) (done :
         (rest_at position refl);
   }
 
-  pub so_judged : (v : Verdict) × IsVerdict role limits came done v
-  so_judged = not_refused role limits scan came rest done position h.has_scanned h.unrefused
-
   -- a frame that has begun may begin there
   pub begun_may : (info : HeadInfo) (payload : List ℕ) → position ≡ InFrame info payload → MayBegin done info
   begun_may info payload is =
@@ -83,7 +71,7 @@ module _ (role : Role) (limits : Limits) (scan : Scan) (came : List ℕ) (done :
       let first = first_byte info.fin info.op in
       let field = (first_byte_fields info.fin info.op).opcode_is in
       let most = few role limits scan came done position rest h in
-      let size = ap (λ (bs : List ℕ). length bs) (whole_is role limits scan came done position rest h) ∙ length-append (stream done) rest in
+      let size = rest_few role limits scan came done position rest h in
       let place = b.place in
       record {
         continues = λ op none. b.has_no_evidence.none (first ∷ []) _ NothingToContinue b.encoded (ByFirst first refl (field ∙ ap opcode op, none));
@@ -96,9 +84,6 @@ module _ (role : Role) (limits : Limits) (scan : Scan) (came : List ℕ) (done :
         size = b.size;
         key = b.key;
       }
-
-  pub room_within : length came ≤ limits.input
-  room_within = let room = h.has_scanned.has_consumed.room in omega (arith, room)
 
 -- a whole lawful frame may begin there
 pub whole_may : (role : Role) (limits : Limits) (done : List Frame) (f : Frame) → IsLawful role limits (done ++ f ∷ []) → length (stream done) ≤ 2 ^ 40 → MayBegin done (info_of (length (stream done)) f)
@@ -134,16 +119,6 @@ whole_may role limits done f lawful few_bytes =
     differs : (f.op ≡ Text) ⊎ (f.op ≡ Binary) → f.op ≡ Continue → ⊥
     differs (inl text) is = let both : Text ≡ Continue = sym text ∙ is in cc
     differs (inr binary) is = let both : Binary ≡ Continue = sym binary ∙ is in cc
-
-refused_there : (role : Role) (limits : Limits) (stage : Stage) (bytes rest : List ℕ) (fs : List Frame) (at : Position) (refusal : Refusal) → IsAt role limits stage bytes fs rest at → refusal_at stage ≡ Some refusal
-    → IsRefusedThere role limits refusal bytes fs at
-refused_there role limits stages.Between bytes rest fs at refusal there is = absurd cc
-refused_there role limits (stages.Head part) bytes rest fs at refusal there is = absurd cc
-refused_there role limits (stages.Payload inside) bytes rest fs at refusal there is = absurd cc
-refused_there role limits (stages.Closed code) bytes rest fs at refusal there is = absurd cc
-refused_there role limits (stages.Refused own) bytes rest fs at refusal there is =
-    let same : own ≡ refusal = cc in
-    subst (λ (r : Refusal). IsRefusedThere role limits r bytes fs at) same there
 
 -- The position with the offending byte and those before it.
 abbrev pub with_evidence : Position → List ℕ → Position
@@ -185,7 +160,7 @@ module _ (role : Role) (limits : Limits) (at : ℕ) (old new : Scan) (piece afte
     few_done : length (stream done) ≤ 2 ^ 40
     few_done =
         let most = few role limits old came done h.position h.rest h.followed in
-        let size = ap (λ (bs : List ℕ). length bs) (whole_is role limits old came done h.position h.rest h.followed) ∙ length-append (stream done) h.rest in
+        let size = rest_few role limits old came done h.position h.rest h.followed in
         omega (arith, most, size)
 
     pub may_begin : MayBegin done part.head
@@ -199,26 +174,16 @@ module _ (role : Role) (limits : Limits) (at : ℕ) (old new : Scan) (piece afte
             let w = r.found.goes_on.within goes in
             subst (λ (fs : List Frame). MayBegin fs part.head) w.0 (begun_may role limits new (came ++ share) r.frames r.position r.since follows_part part.head _ w.1)
 
-    -- the heads up to the part's own
-    record HeadsTo (frames : List Frame) : Type 0 where
-      pub last : List Frame
-      pub frames_are : frames ≡ done ++ last
-      pub heads_are : heads_of r.frames ++ begun_at r.position ≡ heads_of done ++ part.head ∷ []
+    -- the frame that the part ends, if it ends one
+    last_frame : (last : List Frame) × (r.frames ≡ done ++ last)
+    last_frame =
+        elim (cases_Bool part.ends) [
+          | inl ends ↦ let e = r.found.goes_on.ends ends in (e.0 ∷ [], e.3)
+          | inr goes ↦ ([], (r.found.goes_on.within goes).0 ∙ sym (append-nil done))
+        ]
 
-    heads_to : HeadsTo r.frames
-    heads_to = by (cases_Bool part.ends)
-      where
-        by : (part.ends ≡ true) ⊎ (part.ends ≡ false) → HeadsTo r.frames
-        by (inl ends) =
-            let e = r.found.goes_on.ends ends in
-            record {
-              last = e.0 ∷ [];
-              frames_are = e.3;
-              heads_are = (λ i. heads_of (e.3 i) ++ begun_at (e.4 i)) ∙ append-nil (heads_of (done ++ e.0 ∷ [])) ∙ heads_push done e.0 ∙ ap (λ (head : HeadInfo). heads_of done ++ head ∷ []) (sym e.1);
-            }
-        by (inr goes) =
-            let w = r.found.goes_on.within goes in
-            record { last = []; frames_are = w.0 ∙ sym (append-nil done); heads_are = λ i. heads_of (w.0 i) ++ begun_at (w.1 i) }
+    heads_are : heads_of r.frames ++ begun_at r.position ≡ heads_of done ++ part.head ∷ []
+    heads_are = heads_after done r.found.before part (drop part.start (take n after)) r.frames r.position r.found.goes_on
 
     whole_piece : came ++ piece ≡ (came ++ share) ++ drop n piece
     whole_piece = ap (λ (bs : List ℕ). came ++ bs) (sym (take-append-drop n piece)) ∙ sym (append_assoc came share (drop n piece))
@@ -249,7 +214,7 @@ module _ (role : Role) (limits : Limits) (at : ℕ) (old new : Scan) (piece afte
       within = room_within role limits new (came ++ share) r.frames r.position r.since follows_part;
       is = elim is [
         | inl begun ↦
-            let v = so_judged role limits new (came ++ share) r.frames r.position r.since follows_part in
+            let v = judged_so_far role limits new (came ++ share) r.frames r.position r.since follows_part in
             inr (v.0, record { frames = r.frames; position = r.position; are_apart = apart role limits new (came ++ share) r.frames r.position r.since follows_part v.0 v.1; is_begun = begun })
         | inr e ↦ inl (ends_whole e.0 payload e.1 e.2)
       ];
@@ -266,15 +231,15 @@ module _ (role : Role) (limits : Limits) (at : ℕ) (old new : Scan) (piece afte
     part_step kept_after out (Ok (Some (Inside start))) t given is =
         let nothing : IsWritten first out [] = subst (IsWritten first out) t.1 (subst (λ (o : Outgoing). IsWritten first o h.payload) (sym t.2) h.written) in
         let most = room_within role limits new (came ++ share) r.frames r.position r.since follows_part in
-        let heads = subst (AreHeads role limits (came ++ share) (done ++ heads_to.last)) heads_to.heads_are
-        (subst (λ (fs : List Frame). AreHeads role limits (came ++ share) fs (heads_of r.frames ++ begun_at r.position)) heads_to.frames_are (heads_reported role limits new (came ++ share) r.since r.frames r.position follows_part.has_scanned)) in
+        let heads = subst (AreHeads role limits (came ++ share) (done ++ last_frame.0)) heads_are
+        (subst (λ (fs : List Frame). AreHeads role limits (came ++ share) fs (heads_of r.frames ++ begun_at r.position)) last_frame.1 (heads_reported role limits new (came ++ share) r.since r.frames r.position follows_part.has_scanned)) in
         let there : IsInsideAt role limits (came ++ share) at start = record {
           front = came ++ share;
           later = [];
           whole = sym (append-nil (came ++ share));
           within = most;
           before = done;
-          last = heads_to.last;
+          last = last_frame.0;
           info = part.head;
           are_heads = heads;
           from = t.0.from;
@@ -299,22 +264,10 @@ module _ (role : Role) (limits : Limits) (at : ℕ) (old new : Scan) (piece afte
     evidence = take n after
 
     reaches : (scanned : HasScanned role limits new (came ++ share) done longer h.position) × IsRefusedThere role limits refusal (came ++ share) done h.position
-    reaches =
-        let r = reached role limits old new piece after n taken.Refused part came done h.position h.rest h.followed call in
-        let whole = same_whole role limits old new piece after n taken.Refused part came done h.position h.rest h.followed call in
-        let since_is : r.0.since ≡ longer = sym (append_cancel (stream done) longer r.0.since (whole ∙ ap (λ (fs : List Frame). stream fs ++ r.0.since) r.0.found.0)) in
-        let there : HasScanned role limits new (came ++ share) done longer h.position =
-        subst (λ (bs : List ℕ). HasScanned role limits new (came ++ share) done bs h.position) since_is
-        (subst (λ (p : Position). HasScanned role limits new (came ++ share) done r.0.since p) r.0.found.1
-        (subst (λ (fs : List Frame). HasScanned role limits new (came ++ share) fs r.0.since r.0.position) r.0.found.0 r.0.has_scanned)) in
-        (there, refused_there role limits new.stage (came ++ share) longer done h.position refusal there.is_at is)
+    reaches = refused_there role limits old new piece after n part came done h.position h.rest h.followed refusal is call
 
     begun : IsBegun role limits done longer (begun_at h.position)
-    begun =
-        let heads : AreHeads role limits (came ++ share) done (heads_of done ++ begun_at h.position) = subst (λ (bs : List ℕ). AreHeads role limits bs done (heads_of done ++ begun_at h.position)) (append-nil (came ++ share)) (reaches.1.heads []) in
-        let rest_is : heads.rest ≡ longer = append_cancel (stream done) heads.rest longer (sym heads.whole ∙ reaches.0.has_consumed.whole) in
-        let begun_is : heads.begun ≡ begun_at h.position = append_cancel (heads_of done) heads.begun (begun_at h.position) (sym heads.all) in
-        subst (λ (bs : List ℕ). IsBegun role limits done bs (begun_at h.position)) rest_is (subst (IsBegun role limits done heads.rest) begun_is heads.is_begun)
+    begun = refused_begun role limits old new piece after n part came done h.position h.rest h.followed refusal is call
 
     unmasked : evidence ≡ unmasked_at h.position share
     unmasked = call.refused refl role limits came h.rest done h.position h.followed.has_scanned
@@ -420,28 +373,3 @@ module _ (role : Role) (limits : Limits) (at : ℕ) (old new : Scan) (piece afte
             },
           );
         }
-
--- the verdict of a scan that has refused
-pub verdict_of_refusal : (v : Verdict) (refusal : Refusal) → refusal_judged v ≡ Some refusal → v ≡ Refused refusal
-verdict_of_refusal (Accepted s) refusal is = absurd cc
-verdict_of_refusal (Cut s) refusal is = absurd cc
-verdict_of_refusal (Refused r) refusal is = let same : r ≡ refusal = cc in ap Refused same
-
--- A call with bytes consumes some, unless it refuses.
-pub consumes_some : (role : Role) (limits : Limits) (old new : Scan) (piece after : List ℕ) (n : ℕ) (found : Taken) (part : Part) (came : List ℕ) (done : List Frame) (at : Position) (rest : List ℕ)
-    → HasFollowed role limits old came done at rest → IsCall old new piece after n found part → 0 < length piece → (found ≡ taken.Refused → ⊥) → 0 < n
-consumes_some role limits old new piece after n found part came done at rest h call some other = by found other (reached role limits old new piece after n found part came done at rest h call).1
-  where
-    by : (f : Taken) → (f ≡ taken.Refused → ⊥) → Consumes f part (length piece) n → 0 < n
-    by taken.More fails is = omega (arith, is, some)
-    by taken.Part fails is = is.0 some
-    by taken.Closed fails is = omega (arith, is, some)
-    by taken.Refused fails is = absurd (fails refl)
-
-pub refusal_of_some : (o : Option Refusal) → IsSome o → (refusal : Refusal) × (o ≡ Some refusal)
-refusal_of_some None some = let both : false ≡ true = some in cc
-refusal_of_some (Some refusal) some = (refusal, refl)
-
--- the part that is passed on is all that comes after the first `start` bytes
-pub rest_is : (start : ℕ) (xs : List ℕ) → take (length xs - start) (drop start xs) ≡ drop start xs
-rest_is start xs = take_all (length xs - start) (drop start xs) (omega (arith, length-drop start xs))

@@ -1,5 +1,5 @@
 -- What a part of a frame says of the event that begins at an offset.
-use Rattle.std.proofs.Common.{◌≡◌, ℕ, ◌⊎◌, Bool, true, false, List, [], ◌∷◌, ◌++◌, length, inl, inr, refl, sym, ap, ◌∙◌, subst, arith}
+use Rattle.std.proofs.Common.{◌≡◌, ℕ, ◌⊎◌, Bool, true, false, List, [], ◌∷◌, ◌++◌, length, inl, inr, refl, sym, ap, subst, arith}
 use Rattle.std.proofs.lemmas.Bool.{cases_Bool}
 use Rattle.wsn_wire.specs.declared.endpoint.Role.{Role}
 use Rattle.wsn_wire.specs.Frame.{Frame, stream}
@@ -13,7 +13,8 @@ use Rattle.wsn_scan.specs.Parts.{IsPartAt}
 use Rattle.wsn_scan.specs.Positions.{Position, BetweenFrames, InFrame}
 use Rattle.wsn_payload.specs.declared.event_at.EventAt.{EventAt}
 use Rattle.wsn_payload.specs.EventsAt.{IsBegunAt, EndBefore}
-use Rattle.wsn_payload.specs.FollowedScans.{IsTaken}
+use Rattle.wsn_scan.specs.FollowedScans.{IsTaken}
+use Rattle.wsn_scan.proofs.FollowedScans.{begins_at, goes_on_at}
 use Rattle.wsn_payload.specs.Following.{HasBegunAt, Keeps, EndsEvent, EndsFrame, own_part}
 use Rattle.wsn_payload.proofs.OpenMessages.{offset_within}
 use Rattle.wsn_payload.proofs.KeptEvents.{goes_on, content_whole, begun_own}
@@ -21,15 +22,12 @@ use Rattle.wsn_payload.proofs.KeptEvents.{goes_on, content_whole, begun_own}
 -- What is kept when the part's payload has been written: the frame has begun.
 pub into_frame : (kept : EventAt) (at : ℕ) (fs : List Frame) (from : Position) (part : Part) (before text : List ℕ) → part.begins ≡ false → IsPartAt from part before → Keeps kept at fs from text
     → Keeps kept at fs (InFrame part.head before) text
-into_frame kept at fs BetweenFrames part before text goes is_at k = let both : false ≡ true = sym goes ∙ is_at.0 in absurd cc
-into_frame kept at fs (InFrame info payload) part before text goes is_at k =
-    subst (λ (bs : List ℕ). Keeps kept at fs (InFrame part.head bs) text) (sym is_at.2) (subst (λ (i : HeadInfo). Keeps kept at fs (InFrame i payload) text) (sym is_at.1) k)
+into_frame kept at fs from part before text goes is_at k = subst (λ (p : Position). Keeps kept at fs p text) (goes_on_at from part before is_at goes) k
 
 -- A part that begins a frame comes between frames.
 pub begins_between : (kept : EventAt) (at : ℕ) (fs : List Frame) (from : Position) (part : Part) (before text : List ℕ) → part.begins ≡ true → IsPartAt from part before → Keeps kept at fs from text
     → Keeps kept at fs BetweenFrames text × (before ≡ [])
-begins_between kept at fs BetweenFrames part before text begins is_at k = (k, is_at.1)
-begins_between kept at fs (InFrame info payload) part before text begins is_at k = let both : true ≡ false = sym begins ∙ is_at.0 in absurd cc
+begins_between kept at fs from part before text begins is_at k = let is = begins_at from part before is_at begins in (subst (λ (p : Position). Keeps kept at fs p text) is.0 k, is.1)
 
 module _ (role : Role) (limits : Limits) (kept : EventAt) (at : ℕ) (fs frames : List Frame) (position : Position) (rest before share since text : List ℕ) (part : Part) (payload : List ℕ)
     (t : IsTaken role limits fs rest before part payload share frames position since) (place : part.head.place ≡ length (stream fs))

@@ -17,7 +17,7 @@ use Rattle.wsn_rules.specs.ShownStream.{open_offset, event_offset, frame_so_far}
 use Rattle.wsn_rules.specs.Verdict.{IsRefused}
 use Rattle.wsn_scan.specs.declared.scan.Scan.{Scan}
 use Rattle.wsn_scan.specs.Positions.{Position, BetweenFrames, InFrame}
-use Rattle.wsn_payload.specs.FollowedScans.{HasFollowed}
+use Rattle.wsn_scan.specs.FollowedScans.{HasFollowed}
 use Rattle.wsn_payload.specs.declared.answer.EventStart.{EventStart}
 use Rattle.wsn_payload.specs.declared.answer.Payload.{Payload}
 use Rattle.wsn_payload.specs.declared.answer.Payload.TheVariants.{Whole, Unfinished, Inside, Nothing}

@@ -2,5 +2,4 @@
 pub mod EventsAt
 pub mod Payloads
 -- for private functions
-pub mod FollowedScans
 pub mod Following

@@ -31,7 +31,7 @@ impl EventAt {
     ghost use Rattle.wsn_rules.specs.Limits.{Limits};
     ghost use Rattle.wsn_scan.specs.Parts.{IsPartAt};
     ghost use Rattle.wsn_scan.specs.Positions.{Position, BetweenFrames, InFrame};
-    ghost use Rattle.wsn_payload.specs.FollowedScans.{IsTaken};
+    ghost use Rattle.wsn_scan.specs.FollowedScans.{IsTaken};
     ghost use Rattle.wsn_payload.specs.Following.{Keeps, MayBegin, BeginsFrame, EndsFrame, TakesPart, own_part};
 
     /// No part has come.

@@ -4,7 +4,7 @@ ghost use Rattle.wsn_wire.specs.declared.endpoint.Role.{Role};
 ghost use Rattle.wsn_rules.specs.Limits.{Limits};
 ghost use Rattle.wsn_scan.specs.Scans.{room_of};
 ghost use Rattle.wsn_wire.specs.Frame.{IsBytes};
-ghost use Rattle.wsn_payload.specs.FollowedScans.{IsCall};
+ghost use Rattle.wsn_scan.specs.FollowedScans.{IsCall};
 ghost use Rattle.wsn_payload.specs.Payloads.{IsPayloadTaken, IsPayloadOfAll};
 ghost use Rattle.wsn_payload.specs.Following.{HasSought, IsSeeking, SeeksOn, SeeksThrough};
 

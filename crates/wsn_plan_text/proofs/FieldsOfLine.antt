@@ -1,7 +1,7 @@
 -- A line has its fields in one way: its first word and the text after it determine them.
 use Rattle.std.proofs.Common.{◌≡◌, ℕ, Option, Some, List, ◌∷◌, ◌++◌, codes, refl, sym, ap, ◌∙◌, append_assoc, arith}
 use Rattle.wsn_plan_text.specs.PlanText.{HasNo, preceded_by, Fields, OfPiece, OfLast, OfControl, HasFields}
-use Rattle.wsn_plan_text.specs.Splits.{AreKeyAndForm, AreFields, first_word, rest_of}
+use Rattle.wsn_plan_text.specs.Splits.{AreFields, first_word, rest_of}
 use Rattle.wsn_plan_text.proofs.OneSplit.{one_cut}
 
 pub word_has_no_space : (fields : Fields) → HasNo 32 (first_word fields)
@@ -32,10 +32,6 @@ from_parts line (OfLast key form) are e = (are.0, are.1, e ∙ sym (last_as_part
 from_parts line (OfControl key) are e = (are, e)
 
 -- ---- only one way
-
-pub one_key_and_form : (text key other : List ℕ) (form more : Option (List ℕ)) → AreKeyAndForm text key form → AreKeyAndForm text other more
-    → (key ≡ other) × (form ≡ more)
-one_key_and_form text key other form more are also = one_cut 32 key other form more are.0.1 also.0.1 (sym are.2 ∙ also.2)
 
 -- the text after a word, as a number and the rest
 number_and_rest : (number other key more : List ℕ) → HasNo 32 number → HasNo 32 other → number ++ 32 ∷ key ≡ other ++ 32 ∷ more

@@ -14,9 +14,6 @@ abbrev pub HasReadPlan : List ℕ → List ℕ → List Step → ℕ → Type 0
 HasReadPlan text rest plan number = (lines : List (List ℕ)) × AllZip EncodesStep lines plan × (length lines ≡ number)
     × ((more : List (List ℕ)) → AreLines rest more → AreLines text (lines ++ more))
 
-pub nothing_read : (text : List ℕ) → HasReadPlan text text [] 0
-nothing_read text = ([], tt, refl, λ more has. has)
-
 pub all_read : (text rest : List ℕ) (plan : List Step) (number : ℕ) → HasReadPlan text rest plan number → rest ≡ [] → EncodesPlan text plan
 all_read text rest plan number read none =
     let here : AreLines rest [] = subst (λ (other : List ℕ). AreLines other []) (sym none) no_lines in

@@ -7,7 +7,7 @@ use Rattle.wsn_plan_text.specs.PlanText.{IsField, Fields, HasFields}
 use Rattle.wsn_plan_text.specs.Splits.{IsSplit, AreKeyAndForm, AreFieldsAfter}
 use Rattle.wsn_plan_text.specs.SeenFields.{seen}
 use Rattle.wsn_plan_text.specs.declared.line_fields.Fields as declared
-use Rattle.wsn_plan_text.proofs.FieldsAfterWords.{at_first_space, cut_is_no_field, uncut_is_clear, piece_at_cut, fields_from_cut, fields_after_cut, no_fields_uncut}
+use Rattle.wsn_plan_text.proofs.FieldsAfterWords.{at_first_space, cut_is_no_field, uncut_is_clear, piece_at_cut, fields_from_cut, fields_after_cut}
 
 none_of_length_0 : (text : List ℕ) → length text ≡ 0 → text ≡ []
 none_of_length_0 [] e = refl
@@ -63,6 +63,3 @@ fields_of_cut line word rest more None split e none =
 fields_of_cut line word rest more (Some fields) split e are =
     let whole : IsSplit 32 line word (Some rest) = subst (IsSplit 32 line word) e split in
     fields_from_cut line word rest (seen fields) whole are
-
-pub fields_of_uncut : (line word : List ℕ) (more : Option (List ℕ)) (fields : Fields) → IsSplit 32 line word more → more ≡ None → HasFields line fields → ⊥
-fields_of_uncut line word more fields split e has = no_fields_uncut line word fields (subst (IsSplit 32 line word) e split) has

@@ -1,5 +1,5 @@
 -- A frame that begins in a piece: its head, and what the piece has of its payload.
-use Rattle.std.proofs.Common.{rules, nat_eq, Bool, None, Some, false, ◌≡◌, ◌↔◌, ℕ, zero, suc, ◌+◌, ◌-◌, ◌≤◌, true, Ok, Option, List, [], ◌∷◌, ◌++◌, length, take, drop, refl, sym, ap, ◌∙◌, subst, arith, append-nil}
+use Rattle.std.proofs.Common.{rules, nat_eq, Bool, None, Some, false, ◌≡◌, ◌↔◌, ℕ, zero, suc, ◌+◌, ◌-◌, ◌≤◌, true, Ok, Option, List, [], ◌++◌, length, take, drop, refl, sym, ap, ◌∙◌, subst, arith, append-nil}
 use Rattle.wsn_wire.specs.declared.endpoint.Role.{Role}
 use Rattle.wsn_wire.specs.declared.refusal.Reason.{Reason}
 use Rattle.wsn_wire.specs.declared.refusal.Reason.TheVariants.{TextCut}
@@ -14,6 +14,7 @@ use Rattle.wsn_frame.specs.Payloads.{unmasked_by, HoldsPayload}
 use Rattle.wsn_frame.proofs.PayloadBytes.{starts, starts_empty, unmasked_by-nil}
 use Rattle.wsn_frame.proofs.PayloadMore.{holds_on}
 use Rattle.wsn_frame.proofs.FramesAtOnce.{payload_after}
+use Rattle.wsn_frame.proofs.HeadsAtOnce.{no_items}
 use borrow.Rule.Slice.PartMut.{mid_of, put_mid}
 use Rattle.std.specs.Prelude.{IfSome}
 use Rattle.std.proofs.lemmas.List.{drop-take}
@@ -23,10 +24,6 @@ use Rattle.wsn_scan.specs.declared.part.Taken.{Taken}
 use Rattle.wsn_scan.specs.declared.scan.Scan.{Scan}
 use Rattle.wsn_scan.specs.Scans.{IsReachedBy}
 use Rattle.wsn_scan.specs.Parts.{GoesOn, Finds}
-
-nothing : (bytes : List ℕ) → length bytes ≡ 0 → bytes ≡ []
-nothing [] is = refl
-nothing (x ∷ xs) is = absurd (omega (arith, is))
 
 -- The check of this part of the payload is that of the frame's bytes so far, also where the frame is empty.
 pub holds_begun : (role : Role) (limits : Limits) (group : List Frame) (head : Head) (check next : PayloadCheck) (head_bytes wire rest : List ℕ) → rest ≡ head_bytes ++ wire → IsBytes wire
@@ -38,7 +35,7 @@ holds_begun role limits group head check next head_bytes wire rest whole in_byte
   where
     by_len : (n : ℕ) → head.len ≡ n → HoldsPayload role limits group head next wire rest
     by_len zero empty =
-        let none : wire ≡ [] = nothing wire (omega (arith, within, empty)) in
+        let none : wire ≡ [] = no_items wire (omega (arith, within, empty)) in
         let bare : unmasked_by head.key 0 wire ≡ [] = ap (λ (bs : List ℕ). unmasked_by head.key 0 bs) none ∙ unmasked_by-nil head.key in
         let own : HasChecked group (first_byte head.first.fin head.first.op) next [] = subst (λ (bs : List ℕ). HasChecked group (first_byte head.first.fin head.first.op) next bs) bare fed.0 in
         let alone = starts_empty role limits group head head_bytes is_head next own empty (λ row. quiet empty TextCut row) (λ reason other row. quiet empty reason row) in

@@ -1,13 +1,14 @@
 -- What a chunk's two fields say of how many bytes came.
 use Rattle.std.specs.Prelude.{nat_lt}
 use Rattle.std.proofs.Common.{◌≡◌, ℕ, ◌+◌, ◌<◌, ◌≤◌, Bool, true, false, Option, Some, Ok, List, ◌++◌, length, take, refl, sym, ap, ◌∙◌, subst, arith, length-append, inl, inr}
-use Rattle.std.proofs.lemmas.List.{take-append-le}
+use Rattle.std.proofs.Math.Seq.{take-append-add}
+use Rattle.std.proofs.lemmas.List.{take_all, take-append-le, take-take, length-take-le}
 use Rattle.std.proofs.lemmas.Bool.{cases_lt, lt-ltb, le-ltb, ltb-true}
 use Rattle.wsn_wire.specs.Frame.{IsBytes}
 use Rattle.wsn_io.specs.Transfer.{Incoming, IsConsumed}
 use Rattle.wsn_scan.specs.declared.refill.ReadChunk.{ReadChunk}
 use Rattle.wsn_scan.specs.Refill.{IsRefilled, IsChunk, count_of, count_past}
-use Rattle.wsn_scan.proofs.HeadBytes.{bytes_taken}
+use Rattle.wsn_rules.proofs.PlanTheory.MessageFrames.{bytes_take}
 
 pub by_past : {P : Type 0} (past : Bool) → (past ≡ true → P) → (past ≡ false → P) → P
 by_past true if_so if_not = if_so refl
@@ -39,6 +40,21 @@ module _ (old new : Incoming) (room : ℕ) (buffer : List ℕ) (chunk : ReadChun
   pub full : room ≤ count_of chunk → chunk.len ≡ room
   full more = by_past chunk.past_limit got.past (λ is. omega (arith, none_past chunk is, got.in_room))
 
+  -- the bytes within the limit, after those that came before
+  pub chunk_within : (limit : ℕ) (came : List ℕ) → room + length came ≡ limit → take limit (came ++ take (count_of chunk) buffer) ≡ came ++ take chunk.len buffer
+  chunk_within limit came left =
+      by_past chunk.past_limit
+      (λ past.
+      let input : limit ≡ length came + chunk.len = omega (arith, left, got.past past) in
+      ap (λ (m : ℕ). take m (came ++ take (count_of chunk) buffer)) input ∙ take-append-add came (take (count_of chunk) buffer) chunk.len
+      ∙ ap (λ (bs : List ℕ). came ++ bs) (take-take chunk.len (count_of chunk) buffer (in_count chunk)))
+      (λ none.
+      let count = none_past chunk none in
+      let all = length-append came (take (count_of chunk) buffer) in
+      let size = length-take-le (count_of chunk) buffer got.in_buffer in
+      take_all limit (came ++ take (count_of chunk) buffer) (omega (arith, left, all, size, count, got.in_room))
+      ∙ ap (λ (m : ℕ). came ++ take m buffer) count)
+
 -- One read put n bytes at the start of the buffer, and those within the room are counted.
 pub chunk_read : (old new : Incoming) (room : ℕ) (into rest : List ℕ) (len n : ℕ) → 0 < n → n ≤ length into → n ≤ room + 1 → (n ≤ room → len ≡ n) → (room ≤ n → len ≡ room)
     → IsConsumed old new (take n into) → IsBytes (into ++ rest) → new.failed ≡ old.failed → IsChunk old new room (into ++ rest) (record { len = len; past_limit = nat_lt len n })
@@ -48,7 +64,7 @@ chunk_read old new room into rest len n some fits most all_fits fills consumed i
   in_room = elim (cases_lt room n) [ inl more ↦ omega (arith, fills (omega arith)) | inr less ↦ omega (arith, all_fits less) ];
   past = λ is. fills (let more = ltb-true len n is in elim (cases_lt room n) [ inl over ↦ omega arith | inr less ↦ absurd (omega (arith, all_fits less)) ]);
   consumed = subst (λ (bs : List ℕ). IsConsumed old new bs) (sym same) consumed;
-  in_bytes = bytes_taken (len + count_past (nat_lt len n)) (into ++ rest) in_bytes;
+  in_bytes = bytes_take (len + count_past (nat_lt len n)) (into ++ rest) in_bytes;
   unfailed = unfailed;
 }
   where

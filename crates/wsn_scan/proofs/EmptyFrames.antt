@@ -29,7 +29,7 @@ use Rattle.wsn_frame.proofs.FrameStarts.{goes_on}
 use Rattle.wsn_frame.proofs.PayloadBytes.{starts_empty, unmasked_by-nil}
 use Rattle.wsn_scan.specs.EventFrames.{EndsEventAt, IsEventFrame, with_key_cleared}
 use Rattle.wsn_scan.proofs.EventFrames.{ends_event}
-use Rattle.wsn_scan.proofs.HeadBytes.{bytes_taken}
+use Rattle.wsn_rules.proofs.PlanTheory.MessageFrames.{bytes_take}
 
 -- ---- the payload
 
@@ -105,7 +105,7 @@ module _ (role : Role) (limits : Limits) (head : Head) (piece bytes : List ℕ) 
           subst (λ (g : List Frame). HoldsPayload role limits g head next [] (take start piece)) (sym none) (holds role limits head (take start piece) h empty no_close) in
           let holds_all : HoldsPayload role limits group head next [] (take start piece ++ []) =
           subst (λ (bs : List ℕ). HoldsPayload role limits group head next [] bs) (sym joined) of_group in
-          let in_front : IsBytes (take start piece ++ []) = subst IsBytes (sym joined) (bytes_taken start piece in_piece) in
+          let in_front : IsBytes (take start piece ++ []) = subst IsBytes (sym joined) (bytes_take start piece in_piece) in
           let was : take (length (take start piece)) piece ≡ take start piece ++ [] = ap (λ (n : ℕ). take n piece) size_front ∙ sym joined in
           let is : take (length (take start piece)) after ≡ with_key_cleared head.key (take start piece) ++ unmasked_by head.key 0 [] =
           ap (λ (n : ℕ). take n after) size_front ∙ front_after ∙ cleared ∙ sym (append-nil (with_key_cleared head.key (take start piece)))

@@ -56,7 +56,7 @@ key_fits role limits group head bytes h = of head.key h.of_four h.whole
 -- ---- the event
 
 -- a key of zeros changes no byte
-normal_wire : (role : Role) (payload : List ℕ) → payload ≡ wire_payload (normal_key role) payload
+pub normal_wire : (role : Role) (payload : List ℕ) → payload ≡ wire_payload (normal_key role) payload
 normal_wire Server payload = refl
 normal_wire Client payload = sym (masked-zero 0 payload)
 

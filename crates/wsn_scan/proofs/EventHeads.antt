@@ -7,6 +7,7 @@ use Rattle.wsn_rules.specs.declared.head_info.HeadInfo.{HeadInfo}
 use Rattle.wsn_rules.specs.Limits.{Limits}
 use Rattle.wsn_rules.specs.Heads.{info_of, heads_from, heads_of}
 use Rattle.wsn_rules.proofs.Walk.{AreSpellable, spellable_of_lawful, walk}
+use Rattle.wsn_frame.proofs.HeadsAtOnce.{no_items}
 use Rattle.wsn_scan.specs.declared.scan.Scan.{Scan}
 use Rattle.wsn_scan.specs.declared.stage.Stage.{Stage}
 use Rattle.wsn_scan.specs.declared.stage.Stage.TheVariants as stages
@@ -45,12 +46,8 @@ further fs gs came first second is =
           let nothing : p.0 ≡ [] = none_of p.0 (omega (arith, size)) in
           let same : gs ≡ fs ++ [] = sym (append-nil gs) ∙ ap (λ (hs : List Frame). gs ++ hs) (sym nothing) ∙ sym p.1 ∙ sym (append-nil fs) in
           let gone : length came ≡ 0 = omega (arith, size) in
-          ([], same, nothing_of came gone)
+          ([], same, no_items came gone)
     ]
-  where
-    nothing_of : (bs : List ℕ) → length bs ≡ 0 → bs ≡ []
-    nothing_of [] is = refl
-    nothing_of (b ∷ bs) is = absurd (omega (arith, is))
 
 -- the same bytes are the same frames
 alike : (fs gs : List Frame) → AreSpellable fs → AreSpellable gs → stream fs ≡ stream gs → fs ≡ gs

@@ -27,7 +27,7 @@ use Rattle.wsn_scan.specs.EventFrames.{EndsEventAt, IsEventFrame, IsIdle, TakesE
 use Rattle.wsn_scan.specs.Positions.{Position, BetweenFrames}
 use Rattle.wsn_scan.specs.Scans.{IsAt, HasScanned, HasScannedAt}
 use Rattle.wsn_scan.proofs.FrameEnds.{frames_few}
-use Rattle.wsn_scan.proofs.HeadBytes.{bytes_taken}
+use Rattle.wsn_rules.proofs.PlanTheory.MessageFrames.{bytes_take}
 
 -- ---- the normal form of more events
 
@@ -95,7 +95,7 @@ module _ (role : Role) (limits : Limits) (old new : Scan) (bytes piece after : L
           in_range = hc.in_range;
           lawful = lawful_push role limits fs f hc.lawful no_close ends.law;
           whole = whole ∙ sym (append-nil (stream all));
-          in_bytes = IsBytes-append bytes came hc.in_bytes (bytes_taken found.size piece in_piece);
+          in_bytes = IsBytes-append bytes came hc.in_bytes (bytes_take found.size piece in_piece);
           room = omega (arith, hc.room, size, size_came, past.room);
           used = omega (arith, hc.room, size, size_came, size_whole, input, past.room, past.used);
           counts = past.counts fs f hc.counts few ends.final ends.op_is;

@@ -1,6 +1,7 @@
 -- The heads of the frames that were taken, after a call: those before it, and the one that it finds.
-use Rattle.std.proofs.Common.{◌≡◌, ℕ, ◌+◌, ◌<◌, None, Bool, true, false, if◌then◌else◌, List, [], ◌∷◌, ◌++◌, length, take, drop, refl, subst, sym, ap, ◌∙◌, arith, append-nil}
+use Rattle.std.proofs.Common.{◌≡◌, ℕ, ◌+◌, ◌<◌, None, Bool, true, false, inl, inr, if◌then◌else◌, List, [], ◌∷◌, ◌++◌, length, take, drop, refl, subst, sym, ap, ◌∙◌, arith, append-nil}
 use Rattle.std.specs.Prelude.{IsSome}
+use Rattle.std.proofs.lemmas.Bool.{cases_Bool}
 use Rattle.wsn_wire.specs.Frame.{Frame, IsBytes}
 use Rattle.wsn_rules.specs.declared.head_info.HeadInfo.{HeadInfo}
 use Rattle.wsn_rules.specs.Heads.{heads_of}
@@ -15,22 +16,19 @@ use Rattle.wsn_scan.specs.Feeding.{ConsumesPrefix, IsRunning, heads_in}
 use Rattle.wsn_scan.proofs.FedPieces.{takes_further, bytes_after}
 use Rattle.wsn_scan.proofs.HeadsReported.{heads_push}
 
-by_bool : {P : Type 0} (b : Bool) → (b ≡ true → P) → (b ≡ false → P) → P
-by_bool true if_so if_not = if_so refl
-by_bool false if_so if_not = if_not refl
-
 -- ---- the heads after a call
 
 -- after a part, its head is the last
-heads_after : (fs : List Frame) (before : List ℕ) (part : Part) (payload : List ℕ) (frames : List Frame) (position : Position) → GoesOn fs before part payload frames position
+pub heads_after : (fs : List Frame) (before : List ℕ) (part : Part) (payload : List ℕ) (frames : List Frame) (position : Position) → GoesOn fs before part payload frames position
     → heads_of frames ++ begun_at position ≡ heads_of fs ++ part.head ∷ []
 heads_after fs before part payload frames position goes_on =
-    by_bool part.ends
-    (λ yes.
-    let ended = goes_on.ends yes in
-    (λ i. heads_of (ended.3 i) ++ begun_at (ended.4 i)) ∙ append-nil (heads_of (fs ++ ended.0 ∷ [])) ∙ heads_push fs ended.0
-    ∙ ap (λ (head : HeadInfo). heads_of fs ++ head ∷ []) (sym ended.1))
-    (λ no. let within = goes_on.within no in λ i. heads_of (within.0 i) ++ begun_at (within.1 i))
+    elim (cases_Bool part.ends) [
+      | inl done ↦
+          let ended = goes_on.ends done in
+          (λ i. heads_of (ended.3 i) ++ begun_at (ended.4 i)) ∙ append-nil (heads_of (fs ++ ended.0 ∷ [])) ∙ heads_push fs ended.0
+          ∙ ap (λ (head : HeadInfo). heads_of fs ++ head ∷ []) (sym ended.1)
+      | inr unended ↦ let within = goes_on.within unended in λ i. heads_of (within.0 i) ++ begun_at (within.1 i)
+    ]
 
 -- before it, there was no head of its frame if it begins one
 heads_before : (fs : List Frame) (at : Position) (part : Part) (before : List ℕ) → IsPartAt at part before → (heads_of fs ++ begun_at at) ++ heads_in taken.Part part ≡ heads_of fs ++ part.head ∷ []

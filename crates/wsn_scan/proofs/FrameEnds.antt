@@ -16,7 +16,7 @@ use Rattle.wsn_frame.specs.declared.partial_head.Head.{Head}
 use Rattle.wsn_frame.specs.declared.payload_check.PayloadCheck.{PayloadCheck}
 use Rattle.wsn_scan.specs.declared.scan.Scan.{Scan}
 use Rattle.wsn_rules.specs.Limits.{Limits, InRange}
-use Rattle.wsn_rules.specs.Group.{after_last, is_data, is_final, unfinished, payload_of}
+use Rattle.wsn_rules.specs.Group.{after_last, is_data, is_final, unfinished, payload_of, first_op}
 use Rattle.wsn_rules.specs.Lawful.{LawAt, IsLawful}
 use Rattle.wsn_rules.specs.Accepted.{HasNoClose, EndsWithClose}
 use Rattle.wsn_rules.specs.Summary.{is_close, close_code, close_of}
@@ -56,9 +56,6 @@ is_a_close f is = close_from_opcode f.op (sym (first_byte_fields f.fin f.op).opc
 
 pub ends_with_close : (fs : List Frame) (f : Frame) → f.op ≡ Close → EndsWithClose (fs ++ f ∷ [])
 ends_with_close fs f is = (fs, f, is, refl)
-
-pub close_is_final : (role : Role) (limits : Limits) (fs : List Frame) (f : Frame) → IsLawful role limits (fs ++ f ∷ []) → f.op ≡ Close → f.fin ≡ true
-close_is_final role limits fs f lawful is = ((law_at_split role limits fs f [] lawful).frame.encoded.control (ap is_control is)).final
 
 -- what is unfinished after one frame more
 pub unfinished_after : (fs : List Frame) (f : Frame) → unfinished (fs ++ f ∷ []) ≡ group_after (unfinished fs) f
@@ -233,3 +230,8 @@ frame_ends role limits old new bytes rest wire fs head check following has_consu
         is_at = following.stage role limits bytes fs f lawful none checked;
       };
     }
+
+-- The first opcode depends on the opcode of one more frame alone.
+pub first_alike : (group : List Frame) (f g : Frame) → f.op ≡ g.op → first_op (group ++ f ∷ []) ≡ first_op (group ++ g ∷ [])
+first_alike [] f g same = same
+first_alike (h ∷ group) f g same = refl

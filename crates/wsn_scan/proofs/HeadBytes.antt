@@ -1,9 +1,8 @@
 -- A head that a piece continues.
-use Rattle.std.proofs.Common.{◌≡◌, ℕ, ◌+◌, ◌<◌, List, [], ◌∷◌, ◌++◌, length, take, drop, get_or, sym, ap, ◌∙◌, subst, append_assoc, take-append-drop}
+use Rattle.std.proofs.Common.{◌≡◌, ℕ, ◌+◌, ◌<◌, List, [], ◌∷◌, ◌++◌, length, take, get_or, sym, ap, ◌∙◌, subst, append_assoc}
 use Rattle.std.proofs.lemmas.List.{take_more}
 use Rattle.wsn_wire.specs.declared.endpoint.Role.{Role}
 use Rattle.wsn_wire.specs.Frame.{Frame, IsBytes}
-use Rattle.wsn_wire.proofs.FrameLemmas.{IsBytes-left}
 use Rattle.wsn_frame.specs.declared.partial_head.PartialHead.{PartialHead}
 use Rattle.wsn_frame.specs.declared.partial_head.HeadStep.{HeadStep}
 use Rattle.wsn_scan.specs.declared.scan.Scan.{Scan}
@@ -52,9 +51,6 @@ step_begins_none role limits fs part rest piece i reason less in_head is_evident
     refused_begins_none role limits fs (rest ++ take i piece) (rest ++ take (i + 1) piece) byte reason
     (ap (λ (bs : List ℕ). rest ++ bs) (take_more piece i 0 less) ∙ sym (append_assoc rest (take i piece) (byte ∷ [])))
     (part_begins_none role limits fs part (rest ++ take i piece) in_head.has_bytes) is_evident
-
-pub bytes_taken : (n : ℕ) (piece : List ℕ) → IsBytes piece → IsBytes (take n piece)
-bytes_taken n piece all = IsBytes-left (take n piece) (drop n piece) (subst IsBytes (sym (take-append-drop n piece)) all)
 
 -- between frames, a scan is before a head's first byte
 pub before_head : (role : Role) (limits : Limits) (scan : Scan) (bytes rest : List ℕ) (fs : List Frame) (at : Position) → HasScannedAt role limits scan stages.Between bytes fs rest at

@@ -1,5 +1,5 @@
 -- The heads that are reported: those of whole frames, and of one that has begun.
-use Rattle.std.proofs.Common.{◌≡◌, ℕ, ◌+◌, ◌<◌, zero, suc, Bool, cond, is_some, List, [], ◌∷◌, ◌++◌, length, inl, inr, refl, sym, ap, ◌∙◌, subst, arith, append_assoc, append-nil, length-append}
+use Rattle.std.proofs.Common.{◌≡◌, ℕ, ◌+◌, ◌<◌, Bool, cond, is_some, List, [], ◌∷◌, ◌++◌, length, inl, inr, refl, sym, ap, ◌∙◌, subst, arith, append_assoc, append-nil, length-append}
 use Rattle.wsn_wire.specs.declared.endpoint.Role.{Role}
 use Rattle.wsn_wire.specs.declared.refusal.Reason.{Reason}
 use Rattle.wsn_wire.specs.declared.length_forms.Form.{Form}
@@ -24,7 +24,11 @@ use Rattle.wsn_rules.specs.Heads.{info_of, heads_from, heads_of, BeginsWithHead,
 use Rattle.wsn_rules.proofs.Prefixes.{two_fronts}
 use Rattle.wsn_rules.proofs.HeadEvidence.{first_row, encoding_row}
 use Rattle.wsn_rules.proofs.HeadsGoOn.{begins_two, begins_longer}
-use Rattle.wsn_rules.proofs.LayoutPrefixes.{layout_of}
+use Rattle.wsn_rules.proofs.LayoutPrefixes.{layout_of, zeros, length-zeros, zeros_bytes}
+use Rattle.wsn_rules.specs.Lawful.{IsLawful}
+use Rattle.wsn_rules.proofs.LawfulLists.{law_at_split}
+use Rattle.wsn_rules.proofs.OneVerdict.{lawful_frame_shows_nothing}
+use Rattle.wsn_frame.proofs.HeadsAtOnce.{no_items}
 
 -- ---- whole frames
 
@@ -38,11 +42,6 @@ heads_from_push place (g ∷ fs) f =
 
 pub heads_push : (fs : List Frame) (f : Frame) → heads_of (fs ++ f ∷ []) ≡ heads_of fs ++ info_of (length (stream fs)) f ∷ []
 heads_push fs f = let same : 0 + length (stream fs) ≡ length (stream fs) = omega arith in heads_from_push 0 fs f ∙ ap (λ (n : ℕ). heads_of fs ++ info_of n f ∷ []) same
-
--- the reported heads and one more
-pub heads_with : (head : Head) (fs : List Frame) (heads : List HeadInfo) (place : ℕ) (info : HeadInfo) → heads ≡ heads_of fs → place ≡ length (stream fs) → info ≡ info_at place head
-    → heads ++ info ∷ [] ≡ heads_of fs ++ info_at (length (stream fs)) head ∷ []
-heads_with head fs heads place info so_far at is = λ i. so_far i ++ (is ∙ ap (λ (n : ℕ). info_at n head) at) i ∷ []
 
 -- ---- the frame of a head
 
@@ -104,21 +103,6 @@ frame_of_head role limits group head bytes wire h has_no_evidence in_wire all =
         length_is = encoded.length_is ∙ ap (λ (f : LenForm). encoded_length f h.lengths) (sym h.encoded) ∙ sym h.reported;
       },
     )
-
--- n zeros
-zeros : ℕ → List ℕ
-zeros zero = []
-zeros (suc n) = 0 ∷ zeros n
-
-length-zeros : (n : ℕ) → length (zeros n) ≡ n
-unfolding zeros
-length-zeros zero = refl
-length-zeros (suc n) = ap suc (length-zeros n)
-
-zeros_bytes : (n : ℕ) → IsBytes (zeros n)
-unfolding zeros
-zeros_bytes zero = tt
-zeros_bytes (suc n) = (omega arith, zeros_bytes n)
 
 -- lists that end in lists of one length
 fronts_same : (xs ys us vs : List ℕ) → length us ≡ length vs → xs ++ us ≡ ys ++ vs → xs ≡ ys
@@ -233,10 +217,6 @@ part_begins_none role limits fs (Key f encoded len came) rest is info b =
     let keys : key_count second ≡ 4 = ap (λ (mask : Bool). cond mask 4 0) is.4 in
     short_of_head role limits fs rest (first_byte f.fin f.op) second (lengths ++ came.items) is.2 (omega (arith, size, length-append lengths came.items, count, keys, is.8)) info b
 
-empty : (bs : List ℕ) → length bs ≡ 0 → bs ≡ []
-empty [] is = refl
-empty (y ∷ ys) is = absurd (omega (arith, is))
-
 -- a whole head that is all of the bytes isn't refused
 all_of_head : (role : Role) (limits : Limits) (fs : List Frame) (rest : List ℕ) (reason : Reason) (info : HeadInfo) (b : BeginsWithHead role limits fs rest info) → b.following ≡ []
     → Evidence role limits (unfinished fs) reason rest → ⊥
@@ -261,7 +241,7 @@ refused_begins_none role limits fs front all byte reason is none is_evident info
     of (x ∷ xs) head_is last =
         let nothing : xs ++ b.following ≡ [] = cc in
         let size : length xs + length b.following ≡ 0 = sym (length-append xs b.following) ∙ ap (λ (bs : List ℕ). length bs) nothing in
-        all_of_head role limits fs all reason info b (empty b.following (omega (arith, size))) is_evident
+        all_of_head role limits fs all reason info b (no_items b.following (omega (arith, size))) is_evident
 
 -- a whole head whose last byte is the offending one isn't reported
 pub cut_begins_none : (role : Role) (limits : Limits) (fs : List Frame) (head : Head) (bytes : List ℕ) (reason : Reason) (h : IsHead role limits (unfinished fs) head bytes)
@@ -274,7 +254,7 @@ cut_begins_none role limits fs head bytes reason h is_evident info b =
     let count : length h.lengths ≡ length_count (len_form_at second) = h.counted ∙ ap length_count h.encoded in
     let keys : length (key_bytes head.key) ≡ key_count second = key_bytes_count head.key h.of_four ∙ ap (λ (mask : Bool). cond mask 4 0) (sym h.masked) in
     let all : length bytes ≡ length b.head + length b.following = ap (λ (bs : List ℕ). length bs) b.whole ∙ length-append b.head b.following in
-    all_of_head role limits fs bytes reason info b (empty b.following (omega (arith, size, own, count, keys, all, length-append h.lengths (key_bytes head.key)))) is_evident
+    all_of_head role limits fs bytes reason info b (no_items b.following (omega (arith, size, own, count, keys, all, length-append h.lengths (key_bytes head.key)))) is_evident
 
 -- what is reported of a frame that has begun stays so where its bytes are refused
 pub begun_stays : (role : Role) (limits : Limits) (fs : List Frame) (rest later : List ℕ) (reason : Reason) (begun : List HeadInfo) → Evidence role limits (unfinished fs) reason rest
@@ -290,3 +270,25 @@ begun_stays role limits fs rest later reason begun is_evident (inr (inl none)) =
           | inl p ↦ b.has_no_evidence.none rest p.0 reason p.1 is_evident
           | inr p ↦ none.2 info (record { head = b.head; following = p.0; whole = p.1; place = b.place; encoded = b.encoded; key = b.key; form = b.form; size = b.size; has_no_evidence = b.has_no_evidence })
         ]
+
+-- A lawful frame's bytes begin with its head.
+unfoldable pub frame_begins : (role : Role) (limits : Limits) (fs : List Frame) (f : Frame) (gs : List Frame) (following : List ℕ) → IsLawful role limits (fs ++ f ∷ gs) → BeginsWithHead role limits fs (frame_bytes f ++ following) (info_of (length (stream fs)) f)
+frame_begins role limits fs f gs following lawful =
+    let encodable = (law_at_split role limits fs f gs lawful).frame.encoded.encodable in
+    let head = head_bytes f.fin f.op f.key f.form (length f.payload) in
+    let wire = wire_payload f.key f.payload in
+    record {
+      head = head;
+      following = wire ++ following;
+      whole = append_assoc head wire following;
+      place = refl;
+      encoded = refl;
+      key = encodable.key;
+      form = encodable.form;
+      size = encodable.size;
+      has_no_evidence = record {
+        none = λ seen later reason whole evidence.
+            lawful_frame_shows_nothing role limits fs f gs lawful seen (later ++ (wire ++ following)) following reason
+            (sym (append_assoc seen later (wire ++ following)) ∙ ap (λ (bs : List ℕ). bs ++ (wire ++ following)) (sym whole) ∙ sym (append_assoc head wire following)) evidence;
+      };
+    }

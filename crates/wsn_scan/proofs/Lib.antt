@@ -6,6 +6,7 @@ pub mod EventFrames
 pub mod EventHeads
 pub mod EventRuns
 pub mod FedPieces
+pub mod FollowedScans
 pub mod FoundHeads
 pub mod FrameEnds
 pub mod FreePayloads

@@ -30,12 +30,13 @@ use Rattle.wsn_scan.specs.ReaderSteps.{IsUsed, IsFilled, IsFilledBy, idle, idle_
 use Rattle.wsn_scan.specs.Scans.{HasScanned, room_of, refusal_in, refusal_judged}
 use Rattle.wsn_scan.proofs.Chunks.{all_fit, full, most_of, past_test as chunk_past}
 use Rattle.wsn_scan.proofs.HeadsSoFar.{heads_reported}
-use Rattle.wsn_scan.proofs.ReaderBuffers.{nothing, length_unread, past_limit, all_within}
+use Rattle.wsn_frame.proofs.HeadsAtOnce.{no_items}
+use Rattle.wsn_scan.proofs.ReaderBuffers.{length_unread, past_limit, all_within}
 use Rattle.wsn_scan.proofs.Unrefused.{unrefused, not_refused}
 
 module _ (role : Role) (limits : Limits) (reader : FrameReader) (came : List ℕ) (fs : List Frame) (at : Position) (used : IsUsed role limits reader came fs at) where
   none_unread : unread reader ≡ []
-  none_unread = nothing (unread reader) (length_unread limits reader came used.has_taken.scanned used.has_taken.buffered ∙ omega (arith, used.all))
+  none_unread = no_items (unread reader) (length_unread limits reader came used.has_taken.scanned used.has_taken.buffered ∙ omega (arith, used.all))
 
   -- all that came within the limit is scanned
   scanned_all : take limits.input came ≡ used.has_taken.scanned

@@ -43,7 +43,7 @@ unrefused_by found None exactly other = refl
 unrefused_by found (Some refusal) exactly other = absurd (other (exactly.0 refl))
 
 -- the refusal of a scan that has refused
-refusal_by : (refusal : Option Refusal) → IsSome refusal → (r : Refusal) × (refusal ≡ Some r)
+pub refusal_by : (refusal : Option Refusal) → IsSome refusal → (r : Refusal) × (refusal ≡ Some r)
 refusal_by None some = absurd cc
 refusal_by (Some r) some = (r, refl)
 

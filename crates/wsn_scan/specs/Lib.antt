@@ -5,6 +5,7 @@ pub mod Feeding
 pub mod Judging
 pub mod FrameReaders
 pub mod ReadParts
+pub mod FollowedScans
 -- for private functions
 pub mod Scans
 pub mod Refill

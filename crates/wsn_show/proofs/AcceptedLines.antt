@@ -2,18 +2,14 @@
 use Rattle.std.proofs.Common.{◌≡◌, ℕ, ◌+◌, ◌≤◌, ◌<◌, Option, None, Some, List, [], ◌∷◌, ◌++◌, length, inl, inr, refl, sym, ap, ◌∙◌, subst, append_assoc, append-nil, length-append, arith}
 use Rattle.std.specs.List.{AllByRecursion}
 use Rattle.wsn_io.specs.Transfer.{Outgoing}
-use Rattle.wsn_wire.specs.declared.endpoint.Role.{Role}
 use Rattle.wsn_rules.specs.Limits.{Limits}
 use Rattle.wsn_rules.specs.Entries.{Entry, without_cr}
-use Rattle.wsn_rules.specs.Entries.Entry.{Bytes}
-use Rattle.wsn_rules.specs.Sides.{sent}
 use Rattle.wsn_rules.specs.ShownCapture.{IsNoTime, IsTimeAfter}
 use Rattle.wsn_capture.specs.declared.capture_lines.CaptureLines.{CaptureLines}
 use Rattle.wsn_capture.specs.declared.line_fault.LineFault.TheVariants.{TooLong}
 use Rattle.wsn_capture.specs.LineFaults.{IsAcceptedLine, AreAcceptedAfter}
 use Rattle.wsn_capture.specs.CaptureLines.{HasAccepted, HasNotedCloses, count_of}
-use Rattle.wsn_capture.proofs.AcceptedLines.{accepted_count, own_bytes}
-use Rattle.wsn_capture.proofs.ClosingLines.{sent-push}
+use Rattle.wsn_capture.proofs.AcceptedLines.{accepted_count}
 use Rattle.wsn_print.specs.declared.style.Style.{Style}
 use Rattle.wsn_show.specs.declared.capture_view.CaptureView.{CaptureView}
 use Rattle.wsn_show.specs.declared.end_notes.EndNotes.{EndNotes}
@@ -83,9 +79,6 @@ module _ (limits : Limits) (style : Style) (view : CaptureView) (lines : List (L
   }
 
 -- ---- the bytes of a line
-
-pub sent_more : (role : Role) (limits : Limits) (given : List Entry) (bytes : List ℕ) → sent role (given ++ Bytes role bytes ∷ []) ≡ sent role given ++ bytes
-sent_more role limits given bytes = sent-push role limits given (Bytes role bytes) ∙ ap (λ (bs : List ℕ). sent role given ++ bs) (own_bytes role bytes)
 
 pub counted : (old accepted new : CaptureLines) → (count_of accepted ≡ count_of old + 1) × (count_of accepted ≤ 1000000) → count_of new ≡ count_of accepted → (count_of new ≡ count_of old + 1) × (count_of new ≤ 1000000)
 counted old accepted new more same = (omega (arith, more.0, same), omega (arith, more.1, same))

@@ -1,6 +1,6 @@
 -- What is held of an item is enough to print it.
 use Rattle.std.proofs.Common.{◌≡◌, ◌≢◌, ℕ, ◌+◌, ◌-◌, ◌/◌, ◌<◌, ◌≤◌, ◌⊎◌, true, false, not, Option, List, [], ◌∷◌, ◌++◌, length, take, drop, min, inl, inr, refl, sym, ap, ◌∙◌, subst, arith, length-append, length-drop, nat_lt}
-use Rattle.std.proofs.lemmas.Bool.{cases_lt, cond-true, cond-false}
+use Rattle.std.proofs.lemmas.Bool.{cases_lt, cond-true, cond-false, lt-ltb, le-ltb}
 use Rattle.std.proofs.lemmas.List.{take_all, take-take, take-append-le, length-take, length-take-le}
 use Rattle.wsn_wire.specs.declared.endpoint.Role.{Role}
 use Rattle.wsn_wire.specs.declared.opcode.Op.{Op}
@@ -108,16 +108,10 @@ represents_control n shown op body first control is bytes held has short = recor
 -- ---- the open message
 
 pub open_is : (fs : List Frame) (lacks : Option ℕ) → 0 < length (unfinished fs) → open_items fs lacks ≡ open_item fs (unfinished fs) lacks ∷ []
-open_is fs lacks some = cond-true (nat_lt 0 (length (unfinished fs))) _ [] (less_is 0 (length (unfinished fs)) some)
-  where
-    less_is : (a b : ℕ) → a < b → nat_lt a b ≡ true
-    less_is a b less = grind (arith)
+open_is fs lacks some = cond-true (nat_lt 0 (length (unfinished fs))) _ [] (lt-ltb 0 (length (unfinished fs)) some)
 
 pub none_is : (fs : List Frame) (lacks : Option ℕ) → length (unfinished fs) ≡ 0 → open_items fs lacks ≡ []
-none_is fs lacks none = cond-false (nat_lt 0 (length (unfinished fs))) _ [] (not_less 0 (length (unfinished fs)) (omega (arith, none)))
-  where
-    not_less : (a b : ℕ) → b ≤ a → nat_lt a b ≡ false
-    not_less a b le = grind (arith)
+none_is fs lacks none = cond-false (nat_lt 0 (length (unfinished fs))) _ [] (le-ltb 0 (length (unfinished fs)) (omega (arith, none)))
 
 pub group_some : (fs : List Frame) → 0 < length (unfinished fs) → unfinished fs ≢ []
 group_some fs some none = let size : length (unfinished fs) ≡ 0 = ap (λ (gs : List Frame). length gs) none in omega (arith, some, size)

@@ -1,12 +1,13 @@
 -- What is kept of a stream as its frames go on.
-use Rattle.std.proofs.Common.{◌≡◌, ℕ, Bool, true, false, not, List, [], ◌∷◌, ◌++◌, length, inl, inr, refl, sym, ap, ◌∙◌, subst}
+use Rattle.std.proofs.Common.{◌≡◌, ℕ, true, false, not, List, [], ◌∷◌, ◌++◌, length, inl, inr, refl, sym, ap, ◌∙◌, subst}
 use Rattle.std.proofs.lemmas.Bool.{cases_Bool, cond-true, cond-false}
 use Rattle.wsn_wire.specs.Frame.{Frame, is_control, stream}
 use Rattle.wsn_rules.specs.declared.head_info.HeadInfo.{HeadInfo}
-use Rattle.wsn_rules.specs.Group.{unfinished, first_op}
+use Rattle.wsn_rules.specs.Group.{unfinished}
 use Rattle.wsn_rules.specs.Heads.{info_of}
 use Rattle.wsn_rules.specs.ShownStream.{frame_so_far}
 use Rattle.wsn_scan.specs.Positions.{BetweenFrames, InFrame}
+use Rattle.wsn_scan.proofs.FrameEnds.{first_alike}
 use Rattle.wsn_show.specs.declared.message_so_far.MessageSoFar.{MessageSoFar}
 use Rattle.wsn_show.specs.declared.frame_so_far.FrameSoFar.{FrameSoFar}
 use Rattle.wsn_show.specs.declared.stream_parts.StreamParts.{StreamParts}
@@ -27,18 +28,6 @@ no_part head =
       | inl control ↦ part_of_control head [] control
       | inr other ↦ part_of_data head [] other
     ]
-
-pub is_other : (b : Bool) → not b ≡ true → b ≡ false
-is_other true is = cc
-is_other false is = refl
-
-pub is_control_head : (b : Bool) → not b ≡ false → b ≡ true
-is_control_head true is = refl
-is_control_head false is = cc
-
-same_first : (group : List Frame) (f g : Frame) → f.op ≡ g.op → first_op (group ++ f ∷ []) ≡ first_op (group ++ g ∷ [])
-same_first [] f g same = same
-same_first (h ∷ group) f g same = refl
 
 module _ (parts : StreamParts) (fs : List Frame) (head : HeadInfo) where
   -- ---- a head
@@ -69,7 +58,7 @@ module _ (parts : StreamParts) (fs : List Frame) (head : HeadInfo) where
     joined = λ again.
         let joined = kept.joined other in
         record {
-          op = op ∙ joined.op ∙ same_first (unfinished fs) (frame_so_far head part) (frame_so_far head (part ++ more)) refl;
+          op = op ∙ joined.op ∙ first_alike (unfinished fs) (frame_so_far head part) (frame_so_far head (part ++ more)) refl;
           offset = offset ∙ joined.offset;
         };
     frame = in_frame;

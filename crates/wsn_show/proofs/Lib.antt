@@ -2,7 +2,6 @@ pub mod MoreBytesHeld
 pub mod OpenMessages
 pub mod KeptParts
 pub mod TextsSoFar
-pub mod FollowedScans
 pub mod PrintedItems
 pub mod HeldItems
 pub mod PrintedParts

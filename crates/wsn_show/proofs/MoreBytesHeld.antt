@@ -43,7 +43,3 @@ last_more held came more is =
           ap (λ (bs : List ℕ). bs ++ drop (length more - 2048) more) (drop_all (length held + length (drop (length more - 2048) more) - 2048) held over)
           ∙ sym (ap (λ (m : ℕ). drop m (came ++ more)) at ∙ drop-append-add came more (length more - 2048))
     ]
-
--- what is passed on of a slice from an offset on
-pub rest_is : (at : ℕ) (xs : List ℕ) → take (length xs - at) (drop at xs) ≡ drop at xs
-rest_is at xs = take_all (length xs - at) (drop at xs) (omega (arith, length-drop at xs))

@@ -1,5 +1,5 @@
 -- What is kept of the open message after one more frame.
-use Rattle.std.proofs.Common.{◌≡◌, ◌≢◌, ℕ, ◌+◌, true, false, List, [], ◌∷◌, ◌++◌, length, refl, sym, ap, ◌∙◌, subst, append-nil, length-append}
+use Rattle.std.proofs.Common.{◌≡◌, ◌≢◌, ℕ, ◌+◌, true, false, List, [], ◌∷◌, ◌++◌, length, sym, ap, ◌∙◌, subst, append-nil, length-append}
 use Rattle.wsn_wire.specs.Frame.{Frame, stream}
 use Rattle.wsn_rules.specs.Group.{is_data, unfinished, first_op, payload_of}
 use Rattle.wsn_rules.proofs.Groups.{unfinished_control, unfinished_final, unfinished_more}
@@ -58,15 +58,4 @@ pub joined_first : (message : MessageSoFar) (fs : List Frame) (f : Frame) → un
 joined_first message fs f none op offset = record {
   op = op ∙ ap (λ (gs : List Frame). first_op (gs ++ f ∷ [])) (sym none);
   offset = offset ∙ sym (offset_of_none fs none);
-}
-
-first_of_more : (group : List Frame) (f : Frame) → group ≢ [] → first_op (group ++ f ∷ []) ≡ first_op group
-first_of_more [] f some = absurd (some refl)
-first_of_more (g ∷ group) f some = refl
-
--- It continues a message.
-pub joined_more : (message : MessageSoFar) (fs : List Frame) (f : Frame) → unfinished fs ≢ [] → KeepsMessage message fs [] → HasJoined message fs f
-joined_more message fs f some kept = record {
-  op = kept.op some ∙ sym (first_of_more (unfinished fs) f some);
-  offset = kept.offset some;
 }

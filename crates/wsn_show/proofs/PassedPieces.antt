@@ -10,13 +10,14 @@ use Rattle.wsn_rules.specs.Entries.{Entry}
 use Rattle.wsn_rules.specs.TextLines.{IsLine, ended}
 use Rattle.wsn_rules.proofs.TextLines.{ended-push, each_join}
 use Rattle.wsn_rules.specs.ShownCapture.{ShownLine, AreShownAfter}
+use Rattle.wsn_print.proofs.HeldViews.{rest_is}
 use Rattle.wsn_print.specs.declared.style.Style.{Style}
 use Rattle.wsn_show.specs.Styles.{styled_line}
 use Rattle.wsn_capture.specs.declared.capture_stop.CaptureStop.TheVariants as capture
 use Rattle.wsn_capture.specs.LineFaults.{AreAcceptedLines}
 use Rattle.wsn_capture.specs.LineSplitters.{HasPassedOn, IsStopAt, IsStopWithin}
 use Rattle.wsn_capture.proofs.SplitLines.{split_line, line_join, stop_line, stop_at_most, no_long}
-use Rattle.wsn_capture.proofs.PiecePrefixes.{goes_on, rest_is, stop_in_rest}
+use Rattle.wsn_capture.proofs.PiecePrefixes.{goes_on, stop_in_rest, last_of}
 use Rattle.wsn_show.specs.declared.capture_view.CaptureView.{CaptureView}
 use Rattle.wsn_show.specs.declared.showing.ShowStop.{ShowStop}
 use Rattle.wsn_show.specs.declared.showing.ShowStop.TheVariants as stop
@@ -112,11 +113,6 @@ module _ (limits : Limits) (style : Style) (first : Outgoing) (view : CaptureVie
         }
 
 -- ---- stops
-
-last_of : (bytes : List ℕ) → 0 < length bytes → (earlier : List ℕ) × (last : ℕ) × (bytes ≡ earlier ++ last ∷ [])
-last_of [] some = absurd (omega (arith, some))
-last_of (b ∷ []) some = ([], b, refl)
-last_of (b ∷ c ∷ bytes) some = let rest = last_of (c ∷ bytes) (omega arith) in (b ∷ rest.0, rest.1, ap (λ (bs : List ℕ). b ∷ bs) rest.2)
 
 pub failed_part : (before after : Outgoing) (text : List ℕ) → after.failed ≡ true → IsWrittenUpToFailure before after text → IsPartlyWritten before after text
 failed_part before after text failed (inl written) = let both : true ≡ false = sym failed ∙ written.0 in cc
@@ -224,7 +220,7 @@ module _ (limits : Limits) (style : Style) (first : Outgoing) (view : CaptureVie
 rest_whole : (came piece : List ℕ) (at : ℕ) → (came ++ take at piece) ++ take (length piece - at) (drop at piece) ≡ came ++ piece
 rest_whole came piece at =
     append_assoc came (take at piece) (take (length piece - at) (drop at piece))
-    ∙ ap (λ (bs : List ℕ). came ++ (take at piece ++ bs)) (rest_is piece at) ∙ ap (λ (bs : List ℕ). came ++ bs) (take-append-drop at piece)
+    ∙ ap (λ (bs : List ℕ). came ++ (take at piece ++ bs)) (rest_is at piece) ∙ ap (λ (bs : List ℕ). came ++ bs) (take-append-drop at piece)
 
 pub stops_in_rest : (limits : Limits) (style : Style) (first now : Outgoing) (came piece : List ℕ) (at : ℕ) (s : ShowStop)
     → StopsWithin limits style first now (came ++ take at piece) (take (length piece - at) (drop at piece)) s → StopsWithin limits style first now came piece s

@@ -1,6 +1,6 @@
 -- The items that are printed of what is kept.
-use Rattle.std.proofs.Common.{◌≡◌, ℕ, ◌-◌, ◌<◌, ◌≤◌, true, false, Option, None, Some, List, [], ◌∷◌, ◌++◌, length, refl, sym, ap, ◌∙◌, arith, nat_lt, if◌then◌else◌}
-use Rattle.std.proofs.lemmas.Bool.{cond-true, cond-false}
+use Rattle.std.proofs.Common.{◌≡◌, ℕ, ◌-◌, ◌<◌, true, false, Option, None, Some, List, [], ◌∷◌, ◌++◌, length, refl, sym, ap, ◌∙◌, arith, nat_lt, if◌then◌else◌}
+use Rattle.std.proofs.lemmas.Bool.{cond-true, cond-false, lt-ltb, le-ltb}
 use Rattle.wsn_wire.specs.declared.opcode.Op.{Op}
 use Rattle.wsn_wire.specs.declared.opcode.Op.TheVariants.{Continue, Text, Binary, Close, Ping, Pong}
 use Rattle.wsn_wire.specs.Frame.{Frame, is_control, stream}
@@ -15,14 +15,6 @@ use Rattle.wsn_scan.specs.Positions.{Position, BetweenFrames, InFrame}
 use Rattle.wsn_show.specs.StreamParts.{head_at}
 
 -- ---- complete events
-
-pub other_op : (op : Op) → (op ≡ Close → ⊥) → is_close op ≡ false
-other_op Close other = absurd (other refl)
-other_op Continue other = refl
-other_op Text other = refl
-other_op Binary other = refl
-other_op Ping other = refl
-other_op Pong other = refl
 
 pub no_close_of_data : (op : Op) → is_control op ≡ false → is_close op ≡ false
 no_close_of_data Close is = cc
@@ -60,19 +52,13 @@ pub head_none : (fs : List Frame) (rest : List ℕ) → length rest ≡ 0 → it
 head_none fs [] none = refl
 head_none fs (b ∷ rest) none = absurd (omega (arith, none))
 
-less_is : (a b : ℕ) → a < b → nat_lt a b ≡ true
-less_is a b less = grind (arith)
-
-not_less : (a b : ℕ) → b ≤ a → nat_lt a b ≡ false
-not_less a b le = grind (arith)
-
 pub head_of_message : (fs : List Frame) (rest : List ℕ) → 0 < length rest → 0 < length (unfinished fs) → items_of_head fs rest ≡ open_items fs None
 head_of_message fs [] some more = absurd (omega (arith, some))
-head_of_message fs (b ∷ rest) some more = cond-true (nat_lt 0 (length (unfinished fs))) _ _ (less_is 0 (length (unfinished fs)) more)
+head_of_message fs (b ∷ rest) some more = cond-true (nat_lt 0 (length (unfinished fs))) _ _ (lt-ltb 0 (length (unfinished fs)) more)
 
 pub head_alone : (fs : List Frame) (rest : List ℕ) → 0 < length rest → length (unfinished fs) ≡ 0 → items_of_head fs rest ≡ UnfinishedHead (length (stream fs)) ∷ []
 head_alone fs [] some none = absurd (omega (arith, some))
-head_alone fs (b ∷ rest) some none = cond-false (nat_lt 0 (length (unfinished fs))) _ _ (not_less 0 (length (unfinished fs)) (omega (arith, none)))
+head_alone fs (b ∷ rest) some none = cond-false (nat_lt 0 (length (unfinished fs))) _ _ (le-ltb 0 (length (unfinished fs)) (omega (arith, none)))
 
 pub bytes_none : (item : ℕ → List ℕ → Item) (offset : ℕ) (bytes : List ℕ) → length bytes ≡ 0 → items_of_bytes item offset bytes ≡ []
 bytes_none item offset [] none = refl

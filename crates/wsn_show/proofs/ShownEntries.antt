@@ -1,6 +1,6 @@
 -- What a line with one entry shows.
-use Rattle.std.proofs.Common.{◌≡◌, ℕ, ◌+◌, ◌≤◌, ◌<◌, ◌==◌, true, false, Option, Some, List, [], ◌∷◌, ◌++◌, length, flat_map, inl, inr, refl, sym, ap, ◌∙◌, subst, append-nil, arith}
-use Rattle.std.proofs.lemmas.Bool.{eqb-true, false≢true}
+use Rattle.std.proofs.Common.{◌≡◌, ℕ, ◌+◌, ◌≤◌, ◌<◌, ◌==◌, false, Option, Some, List, [], ◌∷◌, ◌++◌, length, flat_map, inl, inr, refl, sym, ap, ◌∙◌, subst, append-nil, arith}
+use Rattle.std.proofs.lemmas.Bool.{false≢true}
 use Rattle.std.proofs.lemmas.List.Concat.{flat_map-append}
 use Rattle.wsn_wire.specs.declared.endpoint.Role.{Role}
 use Rattle.wsn_wire.specs.declared.endpoint.Role.TheVariants.{Client, Server}
@@ -21,16 +21,13 @@ use Rattle.wsn_capture.specs.declared.line_fault.LineFault.TheVariants.{InputLim
 use Rattle.wsn_rules.proofs.Prefixes.{head_same}
 use Rattle.wsn_rules.proofs.OneEntry.{letter_of, front_is, mark_is, one_given}
 use Rattle.wsn_capture.specs.declared.capture_lines.CaptureLines.{CaptureLines}
+use Rattle.wsn_capture.proofs.ClosingLines.{sent-push}
 use Rattle.wsn_show.specs.declared.capture_view.CaptureView.{CaptureView}
 use Rattle.wsn_show.specs.declared.stream_view.StreamView.{StreamView}
 use Rattle.wsn_show.specs.StreamViews.{HasViewed}
 use Rattle.wsn_show.specs.CaptureViews.{AreViewed, IsAcceptedText, CanShow, line_position, ShowsText, ShowsMark}
 
 -- ---- empty texts
-
-pub empty_text : (bs : List ℕ) → (length bs == 0) ≡ true → bs ≡ []
-empty_text [] zero = refl
-empty_text (b ∷ bs) zero = let none = eqb-true (length (b ∷ bs)) 0 zero in absurd (omega (arith, none))
 
 pub some_text : (bs : List ℕ) → (length bs == 0) ≡ false → bs ≡ [] → ⊥
 some_text bs some is = false≢true (sym (subst (λ (xs : List ℕ). (length xs == 0) ≡ false) is some))
@@ -66,13 +63,9 @@ with_end_text style role position items offset =
 
 -- ---- streams
 
-sent_push : (role : Role) (given : List Entry) (entry : Entry) → sent role (given ++ entry ∷ []) ≡ sent role given ++ bytes_in role entry
-sent_push role given entry =
-    flat_map-append (bytes_in role) given (entry ∷ []) ∙ ap (λ (bs : List ℕ). sent role given ++ bs) (append-nil (bytes_in role entry))
-
 sent_kept : (role : Role) (given : List Entry) (entry : Entry) → bytes_in role entry ≡ [] → sent role given ≡ sent role (given ++ entry ∷ [])
 sent_kept role given entry none =
-    sym (sent_push role given entry ∙ ap (λ (bs : List ℕ). sent role given ++ bs) none ∙ append-nil (sent role given))
+    sym (sent-push role given entry ∙ ap (λ (bs : List ℕ). sent role given ++ bs) none ∙ append-nil (sent role given))
 
 no_letter : (role : Role) (rest comment : List ℕ) → letter_of role ∷ rest ≡ 35 ∷ comment → ⊥
 no_letter Client rest comment is = let first = head_same _ _ _ _ is in omega (arith, first)
@@ -103,7 +96,7 @@ module _ (limits : Limits) (style : Style) (given : List Entry) (old : CaptureVi
         let items = of_stream Client (beyond (length (sent Client given)) takes.shown) in
         subst (λ (e : Entry). ShowsText limits style old (record old { lines = lines; client = new }) given text e before after) is (record {
           viewed = record {
-            client = subst (HasViewed Client limits style new) (sym (sent_push Client given (Bytes Client bytes))) takes.viewed;
+            client = subst (HasViewed Client limits style new) (sym (sent-push Client given (Bytes Client bytes))) takes.viewed;
             server = subst (HasViewed Server limits style old.server) (sent_kept Server given (Bytes Client bytes) refl) viewed.server;
           };
           time = inr (no_time_in_bytes Client digits, refl);
@@ -122,7 +115,7 @@ module _ (limits : Limits) (style : Style) (given : List Entry) (old : CaptureVi
         subst (λ (e : Entry). ShowsText limits style old (record old { lines = lines; server = new }) given text e before after) is (record {
           viewed = record {
             client = subst (HasViewed Client limits style old.client) (sent_kept Client given (Bytes Server bytes) refl) viewed.client;
-            server = subst (HasViewed Server limits style new) (sym (sent_push Server given (Bytes Server bytes))) takes.viewed;
+            server = subst (HasViewed Server limits style new) (sym (sent-push Server given (Bytes Server bytes))) takes.viewed;
           };
           time = inr (no_time_in_bytes Server digits, refl);
           items = items;

@@ -1,8 +1,7 @@
 -- What is shown of a piece, call by call.
 use Rattle.std.proofs.Common.{◌≡◌, ℕ, ◌+◌, ◌^◌, ◌<◌, ◌≤◌, None, Some, List, [], ◌++◌, length, take, drop, inl, inr, refl, sym, ap, ◌∙◌, subst, append-nil, append_assoc, arith, length-append, length-drop, take-append-drop}
-use Rattle.std.proofs.Math.Seq.{take-add, drop-append-add}
-use Rattle.std.proofs.lemmas.List.{drop_all, length-take-le, drop-append-le}
-use borrow.Rule.Slice.PartMut.{mid_of, post_of, put_mid, put_same}
+use Rattle.std.proofs.Math.Seq.{take-add}
+use Rattle.std.proofs.lemmas.List.{drop_all, length-take-le}
 use Rattle.wsn_io.specs.Transfer.{Outgoing}
 use Rattle.wsn_wire.specs.declared.endpoint.Role.{Role}
 use Rattle.wsn_rules.specs.declared.detail.Detail.{Detail}
@@ -21,7 +20,7 @@ use Rattle.wsn_show.specs.StreamParts.{Keeps, held_at}
 use Rattle.wsn_show.specs.ShownItems.{Prints}
 use Rattle.wsn_show.specs.ShownSoFar.{items_in, HasShownFrames, HasShownRefusal, HasShown, ShowsMore, ShowsFrames}
 use Rattle.wsn_show.proofs.PrintedItems.{prints_nothing, prints_both}
-use Rattle.wsn_show.proofs.FollowedScans.{few, rest_few, size_in_frame}
+use Rattle.wsn_scan.proofs.FollowedScans.{few, rest_few, size_in_frame}
 use Rattle.wsn_show.proofs.FramesSoFar.{items_in-append, nothing_so_far}
 
 -- ---- no bytes
@@ -69,22 +68,6 @@ goes_on role limits mid new mid_parts new_parts context before between after cam
       has = subst (HasShown context.style.detail role limits new new_parts ((came ++ take at piece) ++ take n share)) all more.has;
       printed = subst (Prints context before after) (sym (items_in-append first.extra more.extra)) (prints_both context before between after (items_in first.extra) (items_in more.extra) first.printed more.printed);
     } in both)
-
--- ---- the piece
-
--- the bytes after n more, once the call has returned
-after_share : (at k n : ℕ) (xs ys : List ℕ) → at ≤ length xs → n ≤ length ys → drop (at + n) (put_mid at k xs ys) ≡ drop n ys ++ post_of at k xs
-after_share at k n xs ys within fits =
-    let front : length (take at xs) ≡ at = length-take-le at xs within in
-    ap (λ (m : ℕ). drop (m + n) (put_mid at k xs ys)) (sym front) ∙ drop-append-add (take at xs) (ys ++ post_of at k xs) n ∙ drop-append-le n ys (post_of at k xs) fits
-
--- the bytes after the first n of the part stay in the piece
-pub kept_in_piece : (at k n : ℕ) (xs ys : List ℕ) → at ≤ length xs → n ≤ length (mid_of at k xs) → length ys ≡ length (mid_of at k xs) → drop n ys ≡ drop n (mid_of at k xs) → drop (at + n) (put_mid at k xs ys) ≡ drop (at + n) xs
-kept_in_piece at k n xs ys within fits size same =
-    after_share at k n xs ys within (omega arith)
-    ∙ ap (λ (zs : List ℕ). zs ++ post_of at k xs) same
-    ∙ sym (after_share at k n xs (mid_of at k xs) within fits)
-    ∙ ap (drop (at + n)) (put_same at k xs)
 
 -- ---- bytes that aren't read
 

@@ -1,5 +1,5 @@
 -- What one call of the scan adds to what was shown.
-use Rattle.std.proofs.Common.{◌≡◌, ℕ, ◌+◌, ◌<◌, ◌^◌, true, false, None, Some, List, [], ◌∷◌, ◌++◌, length, take, drop, inl, inr, refl, sym, ap, ◌∙◌, subst, append-nil, arith, length-append}
+use Rattle.std.proofs.Common.{◌≡◌, ℕ, ◌+◌, ◌-◌, ◌<◌, ◌^◌, true, false, None, Some, List, [], ◌∷◌, ◌++◌, length, take, drop, inl, inr, refl, sym, ap, ◌∙◌, subst, append-nil, arith, length-append}
 use Rattle.std.specs.Prelude.{IsSome}
 use Rattle.std.proofs.lemmas.List.{take_all, drop_at}
 use Rattle.wsn_io.specs.Transfer.{Outgoing}
@@ -8,46 +8,32 @@ use Rattle.wsn_wire.specs.Frame.{Frame, stream, wire_payload}
 use Rattle.wsn_rules.specs.declared.detail.Detail.{Detail}
 use Rattle.wsn_rules.specs.declared.verdict.Refusal.{Refusal}
 use Rattle.wsn_rules.specs.Limits.{Limits}
-use Rattle.wsn_rules.specs.Heads.{heads_of, IsBegun, AreHeads}
+use Rattle.wsn_rules.specs.Heads.{heads_of, IsBegun}
 use Rattle.wsn_rules.specs.ShownStream.{Shown, shown_after, interrupted, IsShownEvidence}
 use Rattle.wsn_rules.specs.ShownStream.Item.{RefusedFrame}
 use Rattle.wsn_rules.specs.Verdict.{IsRefused}
 use Rattle.wsn_rules.proofs.HeadsGoOn.{begins_longer}
-use Rattle.wsn_rules.proofs.Prefixes.{append_cancel}
 use Rattle.wsn_frame.specs.Payloads.{unmasked_by}
 use Rattle.wsn_frame.proofs.PayloadMore.{unmasked_by-joined}
 use Rattle.wsn_scan.specs.declared.part.Part.{Part}
 use Rattle.wsn_scan.specs.declared.part.Taken.{Taken}
 use Rattle.wsn_scan.specs.declared.part.Taken.TheVariants as taken
 use Rattle.wsn_scan.specs.declared.scan.Scan.{Scan}
-use Rattle.wsn_scan.specs.declared.stage.Stage.{Stage}
-use Rattle.wsn_scan.specs.declared.stage.Stage.TheVariants as stages
 use Rattle.wsn_scan.specs.Parts.{IsPartAt, Finds, Consumes, unmasked_at}
 use Rattle.wsn_scan.specs.Positions.{Position, BetweenFrames, InFrame, begun_at}
-use Rattle.wsn_scan.specs.Scans.{HasScanned, IsAt, IsReachedBy, IsRefusedThere, refusal_in, refusal_at}
-use Rattle.wsn_scan.proofs.Unrefused.{unrefused, place_after}
+use Rattle.wsn_scan.specs.Scans.{HasScanned, IsReachedBy, IsRefusedThere, refusal_in}
+use Rattle.wsn_scan.proofs.Unrefused.{place_after}
 use Rattle.wsn_show.specs.declared.entry_context.EntryContext.{EntryContext}
 use Rattle.wsn_show.specs.declared.stream_parts.StreamParts.{StreamParts}
-use Rattle.wsn_show.specs.FollowedScans.{HasFollowed, IsCall}
+use Rattle.wsn_scan.specs.FollowedScans.{HasFollowed, IsCall, IsTaken}
 use Rattle.wsn_show.specs.HeldParts.{HasFirst}
 use Rattle.wsn_show.specs.ShownItems.{Prints}
 use Rattle.wsn_show.specs.ShownSoFar.{HasShownFrames, HasShownRefusal, ShowsMore}
 use Rattle.wsn_show.specs.StreamParts.{Keeps, held_at}
-use Rattle.wsn_show.specs.TakenParts.{IsTaken, ShowsPart}
+use Rattle.wsn_show.specs.TakenParts.{ShowsPart}
 use Rattle.wsn_show.proofs.PrintedItems.{prints_nothing}
-use Rattle.wsn_show.proofs.FollowedScans.{wire_payload_is, lawful_done, in_frame, size_in_frame, size_of_share, reached, same_whole, few_more, same_follows, is_between, reach, part_taken, part_follows}
+use Rattle.wsn_scan.proofs.FollowedScans.{wire_payload_is, lawful_done, unrefused_so_far, in_frame, size_in_frame, size_of_share, reached, few_more, same_follows, is_between, reach, part_taken, part_follows, refused_there, refused_begun}
 use Rattle.wsn_show.proofs.FramesSoFar.{items_after, are_so_far}
-
--- A scan that reported a refusal refused the bytes there.
-refused_there : (role : Role) (limits : Limits) (stage : Stage) (bytes rest : List ℕ) (fs : List Frame) (at : Position) (refusal : Refusal) → IsAt role limits stage bytes fs rest at → refusal_at stage ≡ Some refusal
-    → IsRefusedThere role limits refusal bytes fs at
-refused_there role limits stages.Between bytes rest fs at refusal there is = absurd cc
-refused_there role limits (stages.Head part) bytes rest fs at refusal there is = absurd cc
-refused_there role limits (stages.Payload inside) bytes rest fs at refusal there is = absurd cc
-refused_there role limits (stages.Closed code) bytes rest fs at refusal there is = absurd cc
-refused_there role limits (stages.Refused own) bytes rest fs at refusal there is =
-    let same : own ≡ refusal = cc in
-    subst (λ (r : Refusal). IsRefusedThere role limits r bytes fs at) same there
 
 module _ (role : Role) (limits : Limits) (old new : Scan) (piece after : List ℕ) (n : ℕ) (part : Part) (came : List ℕ) (shown : List Shown) (parts parts_after : StreamParts) (context : EntryContext) (out out_after : Outgoing)
     (frames : HasShownFrames context.style.detail role limits old parts came shown) where
@@ -106,7 +92,7 @@ module _ (role : Role) (limits : Limits) (old new : Scan) (piece after : List �
   -- ---- a part
 
   pub part_step : IsCall old new piece after n taken.Part part
-      → ((ended : List Frame) (to : Position) (before since : List ℕ) → IsPartAt frames.at part before → IsTaken role limits done frames.rest before part (drop part.start (take n after)) share ended to since
+      → ((ended : List Frame) (to : Position) (before since : List ℕ) → IsPartAt frames.at part before → IsTaken role limits done frames.rest before part (take (length (take n after) - part.start) (drop part.start (take n after))) share ended to since
       → Keeps parts done frames.at frames.rest → ShowsPart done frames.at ended to since parts_after context out out_after)
       → ShowsMore role limits new parts_after context out out_after (came ++ share) shown
   part_step call takes =
@@ -126,28 +112,15 @@ module _ (role : Role) (limits : Limits) (old new : Scan) (piece after : List �
 
   module _ (refusal : Refusal) (is : refusal_in new ≡ Some refusal) (call : IsCall old new piece after n taken.Refused part) where
     reaches : (scanned : HasScanned role limits new (came ++ share) done longer frames.at) × IsRefusedThere role limits refusal (came ++ share) done frames.at
-    reaches =
-        let r = reached role limits old new piece after n taken.Refused part came done frames.at frames.rest frames.followed call in
-        let whole = same_whole role limits old new piece after n taken.Refused part came done frames.at frames.rest frames.followed call in
-        let since_is : r.0.since ≡ longer = sym (append_cancel (stream done) longer r.0.since (whole ∙ ap (λ (fs : List Frame). stream fs ++ r.0.since) r.0.found.0)) in
-        let there : HasScanned role limits new (came ++ share) done longer frames.at =
-        subst (λ (bs : List ℕ). HasScanned role limits new (came ++ share) done bs frames.at) since_is
-        (subst (λ (p : Position). HasScanned role limits new (came ++ share) done r.0.since p) r.0.found.1
-        (subst (λ (fs : List Frame). HasScanned role limits new (came ++ share) fs r.0.since r.0.position) r.0.found.0 r.0.has_scanned)) in
-        (there, refused_there role limits new.stage (came ++ share) longer done frames.at refusal there.is_at is)
+    reaches = refused_there role limits old new piece after n part came done frames.at frames.rest frames.followed refusal is call
 
     begun : IsBegun role limits done longer (begun_at frames.at)
-    begun =
-        let heads : AreHeads role limits (came ++ share) done (heads_of done ++ begun_at frames.at) = subst (λ (bs : List ℕ). AreHeads role limits bs done (heads_of done ++ begun_at frames.at)) (append-nil (came ++ share)) (reaches.1.heads []) in
-        let rest_is : heads.rest ≡ longer = append_cancel (stream done) heads.rest longer (sym heads.whole ∙ reaches.0.has_consumed.whole) in
-        let begun_is : heads.begun ≡ begun_at frames.at = append_cancel (heads_of done) heads.begun (begun_at frames.at) (sym heads.all) in
-        subst (λ (bs : List ℕ). IsBegun role limits done bs (begun_at frames.at)) rest_is (subst (IsBegun role limits done heads.rest) begun_is heads.is_begun)
+    begun = refused_begun role limits old new piece after n part came done frames.at frames.rest frames.followed refusal is call
 
     -- The offending byte is one of this call's.
     some : 0 < n
     some =
-        let f = frames.followed in
-        let before = unrefused role limits old came (heads_of done ++ begun_at frames.at) (record { frames = done; since = frames.rest; position = frames.at; has_scanned = f.has_scanned; heads_are = refl }) f.unrefused in
+        let before = unrefused_so_far role limits old came done frames.at frames.rest frames.followed in
         let refused = subst (λ (bs : List ℕ). IsRefused role limits bs done refusal.place refusal.reason) (append-nil (came ++ share)) (reaches.1.refused []) in
         let place = reaches.1.place in
         let own = size_of_share role limits old new piece after n taken.Refused part came done frames.at frames.rest frames.followed call in

@@ -1,9 +1,8 @@
 -- An input whose stream is shown: the answer fits the bytes that came.
 use Rattle.std.proofs.Common.{◌≡◌, ◌≢◌, ℕ, ◌+◌, ◌<◌, ◌≤◌, false, true, Result, Ok, Err, List, [], ◌++◌, length, take, drop, inl, inr, refl, sym, ap, ◌∙◌, subst, append_assoc, append-nil, length-append, arith}
 use Rattle.std.proofs.KnownBytes.{Appends-nil}
-use Rattle.std.proofs.lemmas.List.{length-take-le, take-take, take_all, take-append-drop, map-append}
+use Rattle.std.proofs.lemmas.List.{length-take-le, take_all, take-append-drop, map-append}
 use Rattle.std.proofs.lemmas.List.Concat.{flat_map-append}
-use Rattle.std.proofs.Math.Seq.{take-append-add}
 use Rattle.std.specs.Io.KnownBytes.{IsAtEnd}
 use Rattle.wsn_io.specs.Transfer.{Incoming, Outgoing, IsConsumed, IsKept, IsReceived, IsWritten, IsPartlyWritten, IsWrittenUpToFailure}
 use Rattle.wsn_io.specs.declared.stop.Stop.{Stop}
@@ -28,7 +27,7 @@ use Rattle.wsn_scan.specs.declared.refill.ReadChunk.{ReadChunk}
 use Rattle.wsn_scan.specs.Refill.{IsChunk, chunk_size, count_of}
 use Rattle.wsn_scan.specs.Judging.{IsReached, IsUnrefused}
 use Rattle.wsn_list.specs.Listing.{IsEnded, IsListAnswer, IsReadUpToRefusal}
-use Rattle.wsn_scan.proofs.Chunks.{one_past, none_past, in_count, most_of, by_past}
+use Rattle.wsn_scan.proofs.Chunks.{one_past, none_past, in_count, most_of, chunk_within}
 use Rattle.wsn_scan.proofs.Unrefused.{place_after}
 use Rattle.wsn_print.specs.declared.style.Style.{Style}
 use Rattle.wsn_show.specs.Styles.{styled_item, styled_items, styled_verdict}
@@ -172,18 +171,8 @@ module _ (role : Role) (limits : Limits) (style : Style) where
       length_piece : length piece ≡ chunk.len
       length_piece = length-take-le chunk.len buffer (omega (arith, got.in_buffer, in_count chunk))
 
-      -- the bytes within the limit
       within_is : take limits.input all_came ≡ came ++ piece
-      within_is =
-          by_past chunk.past_limit
-          (λ past.
-          let input : limits.input ≡ length came + chunk.len = (let room = read.viewed.room in omega (arith, room, got.past past)) in
-          ap (λ (m : ℕ). take m all_came) input ∙ take-append-add came (take (count_of chunk) buffer) chunk.len
-          ∙ ap (λ (bs : List ℕ). came ++ bs) (take-take chunk.len (count_of chunk) buffer (in_count chunk)))
-          (λ none.
-          let count = none_past chunk none in
-          take_all limits.input all_came (let room = read.viewed.room in omega (arith, room, length_all, count, got.in_room))
-          ∙ ap (λ (m : ℕ). came ++ take m buffer) count)
+      within_is = chunk_within mid new view.room buffer chunk got limits.input came read.viewed.room
 
       -- all that came are the bytes within the limit, and perhaps one more
       more_came : (more : List ℕ) × (all_came ≡ (came ++ piece) ++ more)

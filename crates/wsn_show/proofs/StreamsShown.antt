@@ -13,6 +13,7 @@ use Rattle.wsn_wire.specs.Frame.{Frame, opcode, is_control, first_byte, second_b
 use Rattle.wsn_wire.specs.Layout.{opcode_field}
 use Rattle.wsn_wire.specs.EvidenceInHeads.{IsControlOpcode, IsLong}
 use Rattle.wsn_wire.proofs.FrameLemmas.{first_byte_fields, second_byte_fields, spells-len_form_of}
+use Rattle.wsn_wire.proofs.HeadLemmas.{control_opcode}
 use Rattle.wsn_rules.specs.declared.detail.Detail.{Detail}
 use Rattle.wsn_rules.specs.declared.head_info.HeadInfo.{HeadInfo}
 use Rattle.wsn_rules.specs.declared.verdict.Refusal.{Refusal}
@@ -23,7 +24,7 @@ use Rattle.wsn_rules.specs.Limits.{Limits}
 use Rattle.wsn_rules.specs.Accepted.{HasNoClose, EndsWithClose, Ends}
 use Rattle.wsn_rules.specs.Evidence.Evidence.{ByFirst, BySecond}
 use Rattle.wsn_rules.specs.Group.{unfinished, first_op}
-use Rattle.wsn_rules.specs.Heads.{heads_of, BeginsWithHead}
+use Rattle.wsn_rules.specs.Heads.{BeginsWithHead}
 use Rattle.wsn_rules.specs.Lawful.{IsLawful}
 use Rattle.wsn_rules.specs.ShownStream.{Shown, AreShownFrames, frame_so_far, items_of_bytes, items_of_head, items_of_part, IsLeftOfRest, IsShownEvidence, IsShownVerdict, IsShownStream, IsLeftOf, IsLeftOver}
 use Rattle.wsn_rules.specs.ShownStream.Item.{Unread, Tail}
@@ -35,17 +36,16 @@ use Rattle.wsn_rules.proofs.Prefixes.{append_cancel}
 use Rattle.wsn_rules.proofs.ShownStreams.{frames_stay}
 use Rattle.wsn_rules.proofs.StaysRefused.{stays_refused}
 use Rattle.wsn_scan.specs.declared.scan.Scan.{Scan}
-use Rattle.wsn_scan.specs.Positions.{Position, BetweenFrames, InFrame, begun_at}
+use Rattle.wsn_scan.specs.Positions.{Position, BetweenFrames, InFrame}
 use Rattle.wsn_scan.specs.Scans.{HasScanned, refusal_in, refusal_judged}
 use Rattle.wsn_scan.proofs.FrameEnds.{close_of-push, unfinished_few}
 use Rattle.wsn_rules.proofs.HeadsGoOn.{begins_two}
-use Rattle.wsn_scan.proofs.Unrefused.{unrefused, not_refused}
 use Rattle.wsn_show.specs.declared.stream_parts.StreamParts.{StreamParts}
 use Rattle.wsn_show.specs.HeldParts.{HasFirst}
 use Rattle.wsn_show.specs.StreamParts.{HasKind, IsSoundPart, held_at, items_left}
-use Rattle.wsn_show.specs.FollowedScans.{HasFollowed}
+use Rattle.wsn_scan.specs.FollowedScans.{HasFollowed}
 use Rattle.wsn_show.specs.ShownSoFar.{HasShownFrames, HasShownRefusal, HasShown}
-use Rattle.wsn_show.proofs.FollowedScans.{few, rest_few, is_begun, in_frame, between}
+use Rattle.wsn_scan.proofs.FollowedScans.{few, rest_few, unrefused_so_far, judged_so_far, is_begun, in_frame, between}
 use Rattle.wsn_show.proofs.FramesSoFar.{are_so_far}
 use Rattle.wsn_show.proofs.HeldItems.{none_is}
 
@@ -57,14 +57,6 @@ begun_continues role limits fs rest info b is none =
     let first = first_byte info.fin info.op in
     let field : opcode_field first ≡ 0 = (first_byte_fields info.fin info.op).opcode_is ∙ ap opcode is in
     b.has_no_evidence.none (first ∷ []) _ NothingToContinue b.encoded (ByFirst first refl (field, none))
-
-control_opcode : (op : Op) → is_control op ≡ true → IsControlOpcode (opcode op)
-control_opcode Close is = (omega arith, omega arith)
-control_opcode Ping is = (omega arith, omega arith)
-control_opcode Pong is = (omega arith, omega arith)
-control_opcode Continue is = cc
-control_opcode Text is = cc
-control_opcode Binary is = cc
 
 less_of : (a b : ℕ) → nat_lt a b ≡ true → a < b
 less_of a b is = grind (arith)
@@ -125,11 +117,10 @@ module _ (detail : Detail) (role : Role) (limits : Limits) (scan : Scan) (parts 
 
     no_refusal : (fs : List Frame) (refusal : Refusal) → IsVerdict role limits came fs (Refused refusal) → ⊥
     no_refusal fs refusal is =
-        let h = frames.followed in
-        unrefused role limits scan came (heads_of done ++ begun_at frames.at) (record { frames = done; since = frames.rest; position = frames.at; has_scanned = h.has_scanned; heads_are = refl }) h.unrefused fs refusal.place refusal.reason is
+        unrefused_so_far role limits scan came done frames.at frames.rest frames.followed fs refusal.place refusal.reason is
 
     verdict_of : (verdict : Verdict) × IsVerdict role limits came done verdict
-    verdict_of = let h = frames.followed in not_refused role limits scan came frames.rest done frames.at h.has_scanned h.unrefused
+    verdict_of = judged_so_far role limits scan came done frames.at frames.rest frames.followed
 
     nothing_of : (verdict : Verdict) → IsVerdict role limits came done verdict → IsShownVerdict detail role limits came done verdict []
     nothing_of (Accepted summary) is = refl
@@ -177,9 +168,6 @@ module _ (detail : Detail) (role : Role) (limits : Limits) (scan : Scan) (parts 
   all_shown (inr refusal) = refusal_shown refusal
 
   -- ---- the verdict
-
-  Judges : Verdict → Type 0
-  Judges verdict = (bytes rest : List ℕ) (fs : List Frame) (at : Position) → HasScanned role limits scan bytes fs rest at → IsVerdict role limits bytes fs verdict
 
   verdict_on : (read unread : List ℕ) (fs : List Frame) (verdict : Verdict) (refusal : Refusal) → refusal_judged verdict ≡ Some refusal → IsVerdict role limits read fs verdict → IsVerdict role limits (read ++ unread) fs verdict
   verdict_on read unread fs (Accepted summary) refusal is judged = absurd cc

@@ -24,7 +24,6 @@ use Rattle.wsn_print.specs.declared.shown.ShownEvent.{ShownEvent}
 use Rattle.wsn_print.specs.ShownParts.{event_of, Represents, HasText}
 use Rattle.wsn_print.proofs.HeldViews.{first_held}
 use Rattle.wsn_scan.specs.declared.part.Part.{Part}
-use Rattle.wsn_scan.specs.Parts.{IsPartAt}
 use Rattle.wsn_scan.specs.Positions.{Position, BetweenFrames, InFrame}
 use Rattle.wsn_show.specs.declared.entry_context.EntryContext.{EntryContext}
 use Rattle.wsn_show.specs.declared.message_so_far.MessageSoFar.{MessageSoFar}
@@ -33,7 +32,8 @@ use Rattle.wsn_show.specs.HeldParts.{HasFirst}
 use Rattle.wsn_show.specs.ShownItems.{Prints, items_of_begun, items_of_ended, items_of_end}
 use Rattle.wsn_show.specs.ShownSoFar.{items_in, shown_so_far}
 use Rattle.wsn_show.specs.StreamParts.{KeepsMessage, Keeps}
-use Rattle.wsn_show.specs.TakenParts.{IsTaken, IsWholeFrame, IsAlone, ShowsPart}
+use Rattle.wsn_scan.specs.FollowedScans.{IsTaken}
+use Rattle.wsn_show.specs.TakenParts.{IsWholeFrame, IsAlone, ShowsPart}
 use Rattle.wsn_show.proofs.FramesSoFar.{items_in-append, shown_begun, shown_ended, begun_items, ended_items, unended_items, same_so_far, begun_so_far, ended_so_far}
 use Rattle.wsn_show.proofs.HeldItems.{control_is, represents_message, kind_of_data, text_of_data, control_short, text_reason}
 use Rattle.wsn_show.proofs.TextsSoFar.{text_payload}
@@ -226,12 +226,3 @@ shows_first fs head frames position since parts context old mid new printed s =
           (prints_both context old mid new (items_in first) (items_in s.extra) (subst (Prints context old mid) (sym (begun_items detail head)) printed) s.printed);
       keeps = s.keeps;
     }
-
--- Where a part begins its frame, and where it doesn't.
-pub begins_at : (at : Position) (part : Part) (before : List ℕ) → IsPartAt at part before → part.begins ≡ true → (at ≡ BetweenFrames) × (before ≡ [])
-begins_at BetweenFrames part before is begins = (refl, is.1)
-begins_at (InFrame head payload) part before is begins = let both : true ≡ false = sym begins ∙ is.0 in cc
-
-pub goes_on_at : (at : Position) (part : Part) (before : List ℕ) → IsPartAt at part before → part.begins ≡ false → at ≡ InFrame part.head before
-goes_on_at BetweenFrames part before is more = let both : true ≡ false = sym is.0 ∙ more in cc
-goes_on_at (InFrame head payload) part before is more = λ i. InFrame (sym is.1 i) (sym is.2 i)

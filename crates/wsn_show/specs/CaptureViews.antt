@@ -21,7 +21,7 @@ use Rattle.wsn_capture.specs.LineFaults.{HasFault}
 use Rattle.wsn_capture.specs.CaptureLines.{HasAccepted, HasNotedCloses, count_of}
 use Rattle.wsn_print.specs.ShownObjects.{Position}
 use Rattle.wsn_print.specs.ShownObjects.Position.{InLine, AtEnd}
-use Rattle.wsn_show.specs.StreamViews.{Viewed, HasViewed}
+use Rattle.wsn_show.specs.StreamViews.{HasViewed}
 use Rattle.wsn_show.specs.declared.capture_view.CaptureView.{CaptureView}
 
 -- ---- lines that were shown
@@ -47,11 +47,6 @@ pub record IsShowingLines (view : CaptureView) : Type 0 where
   pub lines : List (List ℕ)
   pub entries : List Entry
   pub has_shown : HasShownLines limits style view lines entries
-
--- The view of an endpoint's stream.
-abbrev pub view_of : Role → CaptureView → Viewed
-view_of Client view = view.client
-view_of Server view = view.server
 
 -- ---- one more line
 

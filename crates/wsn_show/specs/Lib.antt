@@ -3,7 +3,6 @@ pub mod Styles
 pub mod Kept
 pub mod HeldParts
 pub mod StreamParts
-pub mod FollowedScans
 pub mod ShownItems
 pub mod ShownSoFar
 pub mod TakenParts

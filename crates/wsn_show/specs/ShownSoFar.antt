@@ -19,7 +19,7 @@ use Rattle.wsn_show.specs.declared.entry_context.EntryContext.{EntryContext}
 use Rattle.wsn_show.specs.declared.stream_parts.StreamParts.{StreamParts}
 use Rattle.wsn_show.specs.HeldParts.{HasFirst}
 use Rattle.wsn_show.specs.StreamParts.{Keeps}
-use Rattle.wsn_show.specs.FollowedScans.{HasFollowed}
+use Rattle.wsn_scan.specs.FollowedScans.{HasFollowed}
 use Rattle.wsn_show.specs.ShownItems.{Prints}
 
 -- The items, without the number of bytes with which they are shown.

@@ -1,16 +1,13 @@
 -- A part of a frame that is taken, and what is shown of it.
-use Rattle.std.specs.Prelude.{◌≡◌, ℕ, ◌+◌, ◌<◌, ◌^◌, ◌⊎◌, true, List, [], ◌∷◌, ◌++◌, length}
+use Rattle.std.specs.Prelude.{◌≡◌, ℕ, ◌+◌, ◌⊎◌, true, List, [], ◌∷◌, ◌++◌, length}
 use Rattle.wsn_io.specs.Transfer.{Outgoing}
 use Rattle.wsn_wire.specs.declared.endpoint.Role.{Role}
 use Rattle.wsn_wire.specs.Frame.{Frame, is_control, stream}
 use Rattle.wsn_rules.specs.declared.head_info.HeadInfo.{HeadInfo}
-use Rattle.wsn_rules.specs.Group.{unfinished, payload_of}
 use Rattle.wsn_rules.specs.Heads.{info_of}
 use Rattle.wsn_rules.specs.Lawful.{IsLawful}
 use Rattle.wsn_rules.specs.Limits.{Limits}
 use Rattle.wsn_rules.specs.ShownStream.{Shown}
-use Rattle.wsn_scan.specs.declared.part.Part.{Part}
-use Rattle.wsn_scan.specs.Parts.{GoesOn}
 use Rattle.wsn_scan.specs.Positions.{Position}
 use Rattle.wsn_show.specs.declared.entry_context.EntryContext.{EntryContext}
 use Rattle.wsn_show.specs.declared.message_so_far.MessageSoFar.{MessageSoFar}
@@ -18,19 +15,6 @@ use Rattle.wsn_show.specs.declared.stream_parts.StreamParts.{StreamParts}
 use Rattle.wsn_show.specs.ShownItems.{Prints}
 use Rattle.wsn_show.specs.ShownSoFar.{items_in, shown_so_far}
 use Rattle.wsn_show.specs.StreamParts.{Keeps}
-
--- After the frames fs and the bytes `rest`, the bytes `share` came. The part takes this payload in them, after `before`,
--- and leads to these frames and this position; the bytes `since` came after these frames. None of the counts is too
--- large.
-pub record IsTaken (role : Role) (limits : Limits) (fs : List Frame) (rest before : List ℕ) (part : Part)
-    (payload share : List ℕ) (frames : List Frame) (position : Position) (since : List ℕ) : Type 0 where
-  pub goes_on : GoesOn fs before part payload frames position
-  pub lawful : IsLawful role limits frames
-  pub whole : stream fs ++ (rest ++ share) ≡ stream frames ++ since
-  pub no_rest : part.ends ≡ true → since ≡ []
-  pub small : length (stream fs) + (length rest + length share) < 2 ^ 64
-  pub few_frames : length (unfinished fs) + 1 < 2 ^ 64
-  pub few_bytes : length (payload_of (unfinished fs)) + length before + length payload < 2 ^ 64
 
 -- After the frames fs the lawful frame f came, whole: this is its head, and this is its payload.
 pub record IsWholeFrame (role : Role) (limits : Limits) (fs : List Frame) (f : Frame) (head : HeadInfo)

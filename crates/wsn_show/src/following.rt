@@ -24,7 +24,8 @@ impl StreamParts {
     ghost use Rattle.wsn_show.specs.HeldParts.{HasFirst};
     ghost use Rattle.wsn_show.specs.StreamParts.{KeepsMessage, Keeps, held_at};
     ghost use Rattle.wsn_show.specs.ShownItems.{Prints, items_of_ended};
-    ghost use Rattle.wsn_show.specs.TakenParts.{IsTaken, IsWholeFrame, IsAlone, ShowsPart};
+    ghost use Rattle.wsn_scan.specs.FollowedScans.{IsTaken};
+    ghost use Rattle.wsn_show.specs.TakenParts.{IsWholeFrame, IsAlone, ShowsPart};
 
     /// Takes a part of a frame, and prints what it completes. `payload` is its payload, unmasked, and `size` the number
     /// of its bytes.

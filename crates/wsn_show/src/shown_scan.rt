@@ -1,7 +1,7 @@
 ghost use Rattle.std.specs.Prelude.{◌≡◌, ◌≤◌, length, drop};
 ghost use Rattle.wsn_wire.specs.Frame.{IsBytes};
 ghost use Rattle.wsn_scan.specs.Scans.{room_of};
-ghost use Rattle.wsn_show.specs.FollowedScans.{IsCall};
+ghost use Rattle.wsn_scan.specs.FollowedScans.{IsCall};
 
 use crate::entry_context::EntryContext;
 use crate::stream_parts::StreamParts;

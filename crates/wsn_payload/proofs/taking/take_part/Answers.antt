@@ -1,4 +1,4 @@
-use Rattle.std.proofs.Common.{◌≡◌, ℕ, if◌then◌else◌, Option, Result, Ok, Err, List, take, refl, sym, ap, ◌∙◌, subst}
+use Rattle.std.proofs.Common.{◌≡◌, if◌then◌else◌, Option, Result, Ok, Err, take, refl, sym, ap, ◌∙◌, subst}
 use Rattle.std.proofs.lemmas.Result.{err_from_is_err_and}
 use Rattle.wsn_io.specs.declared.stop.Stop.{Stop}
 use Rattle.wsn_scan.specs.declared.part.Taken.{Taken}
@@ -6,10 +6,12 @@ use Rattle.wsn_scan.specs.Scans.{refusal_in}
 use Rattle.wsn_rules.specs.declared.verdict.Verdict.{Verdict}
 use Rattle.wsn_payload.specs.declared.answer.Payload.{Payload}
 use Rattle.wsn_payload.specs.declared.answer.Payload.TheVariants.{Unfinished, Nothing}
-use Rattle.wsn_payload.specs.FollowedScans.{IsCall, IsTaken}
+use Rattle.wsn_scan.specs.FollowedScans.{IsCall}
 use Rattle.wsn_payload.specs.Following.{TakesPart, SeeksOn}
-use Rattle.wsn_payload.proofs.FollowedScans.{part_taken, reach}
-use Rattle.wsn_payload.proofs.SoughtSteps.{rest_is, quiet, may_begin, part_step, refused_step, refused_failed, verdict_of_refusal, refusal_of_some}
+use Rattle.wsn_scan.proofs.FollowedScans.{part_taken, reach}
+use Rattle.wsn_scan.proofs.ReaderCalls.{refused_as}
+use Rattle.wsn_scan.proofs.ReaderSteps.{refusal_by}
+use Rattle.wsn_payload.proofs.SoughtSteps.{quiet, may_begin, part_step, refused_step, refused_failed}
 use Rattle.wsn_payload.proofs.taking.take_part.Goals as goal
 
 pub returns-in-More-clause-seeks : goal.returns-in-More-clause-seeks
@@ -29,8 +31,7 @@ returns-in_err-answer-in-Part-clause-seeks g c role limits at came first h =
     let r = reach role limits old new piece after n part came h.frames h.position h.rest h.followed call in
     let may = may_begin role limits at old new piece after n part came first c.args.output.now c.args.event.now h call in
     let taken = c.take.ensures role limits at h.frames r.frames h.position r.position h.rest r.found.before (take n piece) r.since h.payload (λ begins. may) may.place r.found.is_at
-    (subst (λ (bs : List ℕ). IsTaken role limits h.frames h.rest r.found.before part bs (take n piece) r.frames r.position r.since) (sym (rest_is part.start (take n after)))
-    (part_taken role limits old new piece after n part came h.frames h.position h.rest h.followed call)) h.keeps in
+    (part_taken role limits old new piece after n part came h.frames h.position h.rest h.followed call) h.keeps in
     let failed = subst (λ (x : Result (Option Payload) Stop). TakesPart c.take.new.self at h.frames part.head r.frames r.position h.payload c.args.output.now c.take.new.output x) c.in_err-answer-in-Part.was taken in
     let out = err_from_is_err_and c.from_residual.result c.from_residual.ensures.1 in
     let is : c.from_residual.result ≡ Err c.in_err-answer-in-Part.field-0.0 = out.1 ∙ ap Err out.2 in
@@ -48,8 +49,7 @@ returns-in_ok-answer-in-Part-clause-seeks g c role limits at came first h =
     let r = reach role limits old new piece after n part came h.frames h.position h.rest h.followed call in
     let may = may_begin role limits at old new piece after n part came first c.args.output.now c.args.event.now h call in
     let taken = c.take.ensures role limits at h.frames r.frames h.position r.position h.rest r.found.before (take n piece) r.since h.payload (λ begins. may) may.place r.found.is_at
-    (subst (λ (bs : List ℕ). IsTaken role limits h.frames h.rest r.found.before part bs (take n piece) r.frames r.position r.since) (sym (rest_is part.start (take n after)))
-    (part_taken role limits old new piece after n part came h.frames h.position h.rest h.followed call)) h.keeps in
+    (part_taken role limits old new piece after n part came h.frames h.position h.rest h.followed call) h.keeps in
     let given = subst (λ (x : Result (Option Payload) Stop). TakesPart c.take.new.self at h.frames part.head r.frames r.position h.payload c.args.output.now c.take.new.output x) c.in_ok-answer-in-Part.was taken in
     part_step role limits at old new piece after n part came first c.args.output.now c.args.event.now h call c.take.new.self c.take.new.output (Ok c.in_ok-answer-in-Part.answer) given (Ok (n, c.in_ok-answer-in-Part.answer)) refl
 
@@ -62,7 +62,7 @@ returns-in_err-put-in-Refused-clause-seeks g c role limits at came first h =
     let n = c.call-count.result.0 in
     let part = c.call-count.new.part in
     let call = subst (λ (f : Taken). IsCall old new piece after n f part) c.in-Refused.is (c.call-count.ensures.call c.call-count.ensures.in_bytes) in
-    let refusal = refusal_of_some (refusal_in new) (call.reported.1 refl) in
+    let refusal = refusal_by (refusal_in new) (call.reported.1 refl) in
     let failed = c.in_err-put-in-Refused.ensures.written in
     let out = err_from_is_err_and c.from_residual-in_err-put-in-Refused.result c.from_residual-in_err-put-in-Refused.ensures.1 in
     let is : c.from_residual-in_err-put-in-Refused.result ≡ Err c.in_err-put-in-Refused.field-0.0 = out.1 ∙ ap Err out.2 in
@@ -78,7 +78,7 @@ returns-in_ok-put-in-Refused-clause-seeks g c role limits at came first h =
     let n = c.call-count.result.0 in
     let part = c.call-count.new.part in
     let call = subst (λ (f : Taken). IsCall old new piece after n f part) c.in-Refused.is (c.call-count.ensures.call c.call-count.ensures.in_bytes) in
-    let refusal = refusal_of_some (refusal_in new) (call.reported.1 refl) in
-    let verdict = verdict_of_refusal c.finish.result refusal.0 (c.finish.ensures.reported ∙ refusal.1) in
+    let refusal = refusal_by (refusal_in new) (call.reported.1 refl) in
+    let verdict = refused_as c.finish.result refusal.0 (c.finish.ensures.reported ∙ refusal.1) in
     refused_step role limits at old new piece after n part came first c.args.output.now c.args.event.now h refusal.0 refusal.1 call c.put.new.output c.in_ok-put-in-Refused.ensures.written c.ended.result
     (c.ended.ensures ∙ ap (λ (v : Verdict). if c.args.event.now.begun then Unfinished v else Nothing v) verdict)

@@ -1,15 +1,16 @@
 use Rattle.std.proofs.Common.{◌≡◌, Result, Err, sym, ap, ◌∙◌, subst}
 use Rattle.std.proofs.lemmas.Result.{err_from_is_err_and}
 use Rattle.wsn_rules.specs.declared.report.Report.{Report}
+use Rattle.wsn_capture.proofs.SplitLines.{empty_is}
 use Rattle.wsn_show.specs.declared.showing.ShowStop.{ShowStop}
 use Rattle.wsn_show.specs.PassedLines.{EndsShowing}
-use Rattle.wsn_show.proofs.ShownEntries.{empty_text, some_text}
+use Rattle.wsn_show.proofs.ShownEntries.{some_text}
 use Rattle.wsn_show.proofs.EndedTexts.{no_more_lines, all_printed, with_last, last_printed, last_stops}
 use Rattle.wsn_show.proofs.showing.end.Goals as goal
 
 pub returns-then-is_empty : goal.returns-then-is_empty
 returns-then-is_empty g c limits style first came has =
-    let none = empty_text c.args.last.now (sym c.is_empty.ensures ∙ c.if-is_empty.true) in
+    let none = empty_is c.args.last.now (sym c.is_empty.ensures ∙ c.if-is_empty.true) in
     c.put_end_of_capture.ensures limits style first came has.lines
     (no_more_lines limits style first c.args.view.now c.args.last.now c.args.output.now came has none)
     (all_printed limits style first c.args.view.now c.args.last.now c.args.output.now came has)

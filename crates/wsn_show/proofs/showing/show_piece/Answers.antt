@@ -4,7 +4,8 @@ use Rattle.std.proofs.lemmas.List.{take_all, length-take-le, length-drop}
 use Rattle.std.proofs.lemmas.Result.{err_from_is_err_and}
 use Rattle.wsn_io.specs.Transfer.{Outgoing}
 use Rattle.wsn_rules.specs.Limits.{Limits}
-use Rattle.wsn_capture.proofs.PiecePrefixes.{taken_more, rest_is, room_for_line}
+use Rattle.wsn_print.proofs.HeldViews.{rest_is}
+use Rattle.wsn_capture.proofs.PiecePrefixes.{taken_more, room_for_line}
 use Rattle.wsn_print.specs.declared.style.Style.{Style}
 use Rattle.wsn_show.specs.declared.showing.ShowStop.{ShowStop}
 use Rattle.wsn_show.specs.PassedLines.{HasPrinted, StopsWithin}
@@ -45,7 +46,7 @@ loop-taken-preserved-then-ended g c =
     (printed_in limits style first c.loop-taken.view c.loop-taken.lines c.loop-taken.output came has c.show_line.new.view c.line.result.now c.show_line.new.output
     rest c.take-count.result.0 ends (c.in_ok-show_line.ensures.shown limits style has.lines has.entries has.has_shown) c.in_ok-show_line.ensures.writable) in
     let some = inv.printing in
-    let size : length rest ≡ length piece - at = ap (λ (bs : List ℕ). length bs) (rest_is piece at) ∙ length-drop at piece in
+    let size : length rest ≡ length piece - at = ap (λ (bs : List ℕ). length bs) (rest_is at piece) ∙ length-drop at piece in
     let room = room_for_line c.loop-taken.lines c.line.result.now rest c.take-count.result.0 c.take-count.ensures.within.1 ends in
     let empty : length c.clear.new.self ≡ 0 = ap (λ (bs : List ℕ). length bs) c.clear.ensures in
     record {
@@ -74,7 +75,7 @@ loop-taken-preserved g c =
     let inv = c.loop-taken.invariant in
     let some = inv.printing in
     let goes = c.take-count.ensures.goes_on c.if-ended.false in
-    let size : length rest ≡ length piece - at = ap (λ (bs : List ℕ). length bs) (rest_is piece at) ∙ length-drop at piece in
+    let size : length rest ≡ length piece - at = ap (λ (bs : List ℕ). length bs) (rest_is at piece) ∙ length-drop at piece in
     let taken = length-take-le c.take-count.result.0 rest c.take-count.ensures.within.1 in
     let whole = ap (λ (bs : List ℕ). length bs) goes.is ∙ length-append c.loop-taken.lines (take c.take-count.result.0 rest) in
     record {

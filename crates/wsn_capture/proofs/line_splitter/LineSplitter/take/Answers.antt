@@ -2,9 +2,10 @@ use Rattle.std.proofs.Common.{◌≡◌, ◌-◌, ◌++◌, ℕ, List, Result, E
 use Rattle.std.proofs.lemmas.Result.{err_from_is_err_and}
 use Rattle.std.specs.Prelude.{IfErr}
 use Rattle.wsn_rules.specs.Limits.{Limits}
+use Rattle.wsn_print.proofs.HeldViews.{rest_is}
 use Rattle.wsn_capture.specs.declared.capture_stop.CaptureStop.{CaptureStop}
 use Rattle.wsn_capture.specs.LineSplitters.{HasSplit, IsStopWithin}
-use Rattle.wsn_capture.proofs.PiecePrefixes.{rest_is, taken_more, stop_in_rest}
+use Rattle.wsn_capture.proofs.PiecePrefixes.{taken_more, stop_in_rest}
 use Rattle.wsn_capture.proofs.line_splitter.LineSplitter.take.Goals as goal
 
 pub returns-in_err-taken-clause-stop : goal.returns-in_err-taken-clause-stop
@@ -20,7 +21,7 @@ loop-taken-preserved c =
     let piece = c.args.piece.now in
     let at = c.loop-taken.taken in
     let count = c.in_ok-taken.field-0 in
-    let size : length (take (length piece - at) (drop at piece)) ≡ length piece - at = ap length (rest_is piece at) ∙ length-drop at piece in
+    let size : length (take (length piece - at) (drop at piece)) ≡ length piece - at = ap length (rest_is at piece) ∙ length-drop at piece in
     record {
       within = omega (arith, c.in_ok-taken.ensures.within.1, size, c.loop-taken-test.true);
       few = c.in_ok-taken.ensures.few;

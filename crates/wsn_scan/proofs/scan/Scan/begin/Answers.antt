@@ -15,7 +15,7 @@ use Rattle.wsn_frame.proofs.FrameStarts.{goes_on, begins}
 use Rattle.wsn_frame.proofs.FramesAtOnce.{kept_after_frame, payload_after, masked_back, head_and_payload}
 use Rattle.wsn_frame.proofs.PayloadBytes.{cut_at_start}
 use Rattle.wsn_frame.proofs.PayloadMore.{length-unmasked_by}
-use Rattle.wsn_scan.proofs.HeadBytes.{bytes_taken}
+use Rattle.wsn_rules.proofs.PlanTheory.MessageFrames.{bytes_take}
 use Rattle.wsn_scan.proofs.BegunFrames.{holds_begun, drop_mid, total_is, begun_part, not_all}
 use Rattle.wsn_scan.proofs.scan.Scan.begin.Goals as goal
 
@@ -54,7 +54,7 @@ returns-clause-taken c role limits bytes rest fs in_piece has_consumed none some
     let within : end ≤ length piece = omega (arith, c.requires.within, c.min-count.ensures) in
     let size : length wire ≡ count = mid_len start end piece within ∙ omega arith in
     let parts : came ≡ take start piece ++ wire = head_and_payload start end piece (omega arith) in
-    let in_came : IsBytes came = bytes_taken end piece in_piece in
+    let in_came : IsBytes came = bytes_take end piece in_piece in
     let in_wire : IsBytes wire = IsBytes-right (take start piece) wire (subst IsBytes parts in_came) in
     let is_open : IsOpenMessage c.args.message.now group = subst (λ (m : Option OpenMessage). IsOpenMessage m group) (sym c.requires.open) has_consumed.message in
     let checked = c.new-check.ensures group is_open (goes_on role limits group head (rest ++ take start piece) is_head) (begins role limits group head (rest ++ take start piece) is_head) in

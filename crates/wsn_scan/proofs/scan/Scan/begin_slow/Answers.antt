@@ -6,7 +6,7 @@ use Rattle.wsn_frame.proofs.FrameStarts.{goes_on, begins}
 use Rattle.wsn_frame.proofs.PayloadBytes.{starts}
 use Rattle.wsn_frame.proofs.PayloadMore.{unmasked_nothing}
 use Rattle.wsn_scan.specs.Positions.{BetweenFrames}
-use Rattle.wsn_scan.proofs.HeadBytes.{bytes_taken}
+use Rattle.wsn_rules.proofs.PlanTheory.MessageFrames.{bytes_take}
 use Rattle.wsn_scan.proofs.HeadsReported.{cut_begins_none}
 use Rattle.wsn_scan.proofs.PayloadPrefixes.{none_taken}
 use Rattle.wsn_scan.proofs.Refusals.{refuses}
@@ -26,7 +26,7 @@ returns-then-head-eq0-clause-taken c role limits bytes rest fs in_piece has_cons
     let room = ap (λ (s : Scan). s.room) same in
     let consumed = subst (λ (s : Scan). HasConsumed role limits s bytes fs rest) (sym same) has_consumed in
     let is_evident = c.in_default.ensures.cut c.if-head-eq0.true role limits group (rest ++ last) has_consumed.message is_head in
-    let there = refuses role limits c.begin.new.self bytes rest last fs BetweenFrames start TextCut consumed none (length-take-le start piece c.requires.within) (omega (arith, c.requires, room)) (bytes_taken start piece in_piece) some is_evident
+    let there = refuses role limits c.begin.new.self bytes rest last fs BetweenFrames start TextCut consumed none (length-take-le start piece c.requires.within) (omega (arith, c.requires, room)) (bytes_take start piece in_piece) some is_evident
     (inr (inl (refl, none, cut_begins_none role limits fs head (rest ++ last) TextCut is_head is_evident.is_evident))) (none_taken fs (bytes ++ last) BetweenFrames refl) in
     rw (c.refuse.ensures.reported.0, c.refuse.ensures.reported.1, c.refuse.ensures.after) (record { frames = fs; since = rest ++ last; position = BetweenFrames; has_scanned = there; found = (refl, refl) }, tt)
 
@@ -40,7 +40,7 @@ returns-clause-taken c role limits bytes rest fs in_piece has_consumed none some
     let checked = c.new-check.ensures group has_consumed.message (goes_on role limits group head (rest ++ last) is_head) (begins role limits group head (rest ++ last) is_head) in
     let holds = starts role limits group head (rest ++ last) is_head c.new-check.result checked (omega (arith, c.if-head-eq0.false)) in
     let consumed = subst (λ (s : Scan). HasConsumed role limits s bytes fs rest) (sym c.in_default.ensures.none.0) has_consumed in
-    let added = c.add_part.ensures.taken role limits bytes rest last [] [] [] fs consumed none (bytes_taken start piece in_piece) (length-take-le start piece c.requires.within) holds refl (omega arith) (unmasked_nothing head.key) in (
+    let added = c.add_part.ensures.taken role limits bytes rest last [] [] [] fs consumed none (bytes_take start piece in_piece) (length-take-le start piece c.requires.within) holds refl (omega arith) (unmasked_nothing head.key) in (
       record {
         frames = added.frames;
         since = added.since;

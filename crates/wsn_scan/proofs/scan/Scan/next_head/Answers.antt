@@ -7,7 +7,8 @@ use Rattle.wsn_frame.specs.PartialHeads.{IsInHead, IsStep}
 use Rattle.wsn_rules.specs.Heads.{IsBegun}
 use Rattle.wsn_scan.specs.Positions.{Position, begun_at}
 use Rattle.wsn_scan.specs.Scans.{HasConsumed, BeginsFrame}
-use Rattle.wsn_scan.proofs.HeadBytes.{Steps, step_on, step_begins_none, bytes_taken}
+use Rattle.wsn_rules.proofs.PlanTheory.MessageFrames.{bytes_take}
+use Rattle.wsn_scan.proofs.HeadBytes.{Steps, step_on, step_begins_none}
 use Rattle.wsn_scan.proofs.MoreBytes.{knows_more}
 use Rattle.wsn_scan.proofs.Refusals.{refuses}
 use Rattle.wsn_scan.proofs.PayloadPrefixes.{none_taken}
@@ -29,7 +30,7 @@ returns-in-Refused-clause-taken c role limits bytes rest fs at in_bytes has_scan
     subst (λ (p : Position). IsBegun role limits fs (rest ++ last) (begun_at p)) (sym between)
     (inr (inl (refl, has_scanned.is_at.0, step_begins_none role limits fs c.loop-i.begun rest piece c.loop-i.i c.in-Refused.reason less in_head is_evident.is_evident))) in
     let there = refuses role limits c.loop-i.self bytes rest last fs at count c.in-Refused.reason has_consumed has_scanned.is_at.0 (length-take-le count piece (omega (arith, less)))
-    (omega (arith, c.requires, room, less)) (bytes_taken count piece in_bytes) (omega arith) is_evident begun (none_taken fs (bytes ++ last) at between) in
+    (omega (arith, c.requires, room, less)) (bytes_take count piece in_bytes) (omega arith) is_evident begun (none_taken fs (bytes ++ last) at between) in
     rw (c.refuse.ensures.reported.0, c.refuse.ensures.reported.1, c.refuse.ensures.after) (record { frames = fs; since = rest ++ last; position = at; has_scanned = there; found = (refl, refl) }, tt)
 
 pub returns-in-Whole-clause-taken : goal.returns-in-Whole-clause-taken
@@ -70,7 +71,7 @@ returns-clause-taken c role limits bytes rest fs at in_bytes has_scanned =
         position = at;
         has_scanned = record {
           has_consumed = knows_more role limits c.loop-i.self _ bytes rest last fs (record { sender = refl; under = refl; room = omega (arith, all, size, room, c.requires); used = refl; counts = refl; message = refl })
-              (bytes_taken count piece in_bytes) has_consumed;
+              (bytes_take count piece in_bytes) has_consumed;
           is_at = (has_scanned.is_at.0, subst (λ (n : ℕ). IsInHead role limits (unfinished fs) c.loop-i.begun (rest ++ take n piece)) ended in_head, has_scanned.is_at.2);
         };
         found = (refl, refl, has_scanned.is_at.0);

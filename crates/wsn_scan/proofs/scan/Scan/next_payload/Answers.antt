@@ -14,7 +14,7 @@ use Rattle.wsn_rules.specs.Heads.{IsBegun}
 use Rattle.wsn_scan.specs.Positions.{Position, begun_at}
 use Rattle.wsn_scan.specs.Parts.{IsPart}
 use Rattle.wsn_scan.proofs.HeadsReported.{head_begins, front_without_evidence}
-use Rattle.wsn_scan.proofs.HeadBytes.{bytes_taken}
+use Rattle.wsn_rules.proofs.PlanTheory.MessageFrames.{bytes_take}
 use Rattle.wsn_frame.proofs.PayloadMore.{payload_on, holds_on, evident_last, checked_share, masked_again, length-unmasked_by}
 use Rattle.wsn_scan.proofs.Refusals.{refuses}
 use Rattle.wsn_scan.proofs.PayloadPrefixes.{handed_out, of_its_head}
@@ -41,7 +41,7 @@ returns-in-Ok-clause-taken c role limits bytes rest fs at in_bytes has_scanned =
     checked_share group (first_byte head.first.fin head.first.op) head.len head.key c.args.inside.done count c.saturating_sub-left.result wire piece c.unmask.new.bytes (Ok c.in-Ok.check) within
     here.done here.short c.saturating_sub-left.ensures fits c.unmask.ensures
     (c.in-Ok.ensures.checked group (first_byte head.first.fin head.first.op) head.len (unmasked_by head.key 0 wire) h.checked (first_byte_fields head.first.fin head.first.op).fin_is) in
-    let in_w = bytes_taken count piece in_bytes in
+    let in_w = bytes_take count piece in_bytes in
     let joined : length (wire ++ w) ≡ length wire + length w = length-append wire w in
     let payload : before ++ take count (c.unmask.new.bytes ++ drop count piece) ≡ unmasked_by head.key 0 (wire ++ w) =
     payload_on head.key c.args.inside.done count piece c.unmask.new.bytes within c.unmask.ensures wire before here.done here.unmasked in
@@ -102,7 +102,7 @@ returns-in-Err-clause-taken c role limits bytes rest fs at in_bytes has_scanned 
     (handed_out role limits fs head h.head_bytes wire last (bytes ++ last) (rest ++ last) before h.is_head has_no_evidence whole
     (ap (λ (bs : List ℕ). bs ++ last) has_scanned.has_consumed.whole ∙ append_assoc (stream fs) rest last) (omega (arith, here.short)) here.unmasked) in
     let there = refuses role limits c.args.self.now bytes rest last fs at taken bad.reason has_scanned.has_consumed has_scanned.is_at.0 (length-take-le taken piece (omega (arith, is_taken, small, within)))
-    (omega (arith, is_taken, small, within, c.requires)) (bytes_taken taken piece in_bytes) (omega (arith, is_taken)) is_evident begun prefix in
+    (omega (arith, is_taken, small, within, c.requires)) (bytes_take taken piece in_bytes) (omega (arith, is_taken)) is_evident begun prefix in
     rw (c.refuse.ensures.reported.0, c.refuse.ensures.reported.1, c.refuse.ensures.after) (record { frames = fs; since = rest ++ last; position = at; has_scanned = there; found = (refl, refl) }, tt)
 
 pub returns-in-Err-clause-kept : goal.returns-in-Err-clause-kept

@@ -16,7 +16,7 @@ use Rattle.wsn_scan.specs.declared.scan.events.EventFrame.{EventFrame}
 use Rattle.wsn_scan.specs.EventFrames.{IsEventFrame}
 use Rattle.wsn_scan.proofs.EmptyFrames.{empty_event, kept_after_head}
 use Rattle.wsn_scan.proofs.EventFrames.{ends_event, key_fits, key_room, written_after, kept_before}
-use Rattle.wsn_scan.proofs.HeadBytes.{bytes_taken}
+use Rattle.wsn_rules.proofs.PlanTheory.MessageFrames.{bytes_take}
 use Rattle.wsn_scan.proofs.scan.events.take_event.Goals as goal
 
 pub returns-clause-taken : goal.returns-clause-taken
@@ -36,7 +36,7 @@ returns-clause-taken c in_piece =
     let ordered : start ≤ end = omega arith in
     let size : length wire ≡ head.len = mid_len start end piece within ∙ omega arith in
     let parts : came ≡ front ++ wire = head_and_payload start end piece ordered in
-    let in_came : IsBytes (front ++ wire) = subst IsBytes parts (bytes_taken end piece in_piece) in
+    let in_came : IsBytes (front ++ wire) = subst IsBytes parts (bytes_take end piece in_piece) in
     let in_wire : IsBytes wire = IsBytes-right front wire in_came in
     let fed = mid_of start (end - start) (put_mid start (end - start) piece c.unmask.new.bytes) in
     let fed_is : fed ≡ unmasked_by head.key 0 wire = payload_after head.key start end piece c.unmask.new.bytes ordered within c.unmask.ensures in (

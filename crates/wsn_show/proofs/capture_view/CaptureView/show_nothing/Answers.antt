@@ -5,13 +5,14 @@ use Rattle.wsn_print.specs.Formats.{comment_entry}
 use Rattle.wsn_capture.specs.CaptureLines.{count_of}
 use Rattle.wsn_print.specs.declared.style.Style.{Style}
 use Rattle.wsn_io.proofs.PutTexts.{prints_nothing, went_out}
+use Rattle.wsn_capture.proofs.SplitLines.{empty_is}
 use Rattle.wsn_show.specs.CaptureViews.{ShowsText}
-use Rattle.wsn_show.proofs.ShownEntries.{empty_text, some_text, shows_empty, shows_time, shows_comment}
+use Rattle.wsn_show.proofs.ShownEntries.{some_text, shows_empty, shows_time, shows_comment}
 use Rattle.wsn_show.proofs.capture_view.CaptureView.show_nothing.Goals as goal
 
 pub returns-then-is_empty-clause-shows : goal.returns-then-is_empty-clause-shows
 returns-then-is_empty-clause-shows g c limits style given entry viewed accepted =
-    shows_empty limits style given c.args.self.now viewed entry c.args.output.now c.args.output.now c.args.text.now accepted (empty_text c.args.text.now (sym c.is_empty.ensures ∙ c.if-is_empty.true)) c.requires.nothing
+    shows_empty limits style given c.args.self.now viewed entry c.args.output.now c.args.output.now c.args.text.now accepted (empty_is c.args.text.now (sym c.is_empty.ensures ∙ c.if-is_empty.true)) c.requires.nothing
     (prints_nothing c.args.output.now c.requires.writable)
 
 pub returns-then-take-clause-shows : goal.returns-then-take-clause-shows

@@ -1,9 +1,9 @@
 use Rattle.std.proofs.Common.{◌≡◌, ℕ, ◌+◌, ◌-◌, ◌<◌, ◌≤◌, List, [], ◌++◌, length, take, drop, None, refl, sym, ap, ◌∙◌, subst, append-nil, arith, length-drop}
 use borrow.Rule.Slice.PartMut.{mid_of, same_len_mid}
 use Rattle.wsn_scan.specs.Scans.{refusal_in}
-use Rattle.wsn_scan.proofs.FedPieces.{share_is, same_further}
+use Rattle.wsn_scan.proofs.FedPieces.{share_is, kept_after, same_further}
 use Rattle.wsn_show.specs.ShownSoFar.{HasShownFrames}
-use Rattle.wsn_show.proofs.ShownPieces.{same_frames_shown, goes_on, unrefused_more, frames_more, kept_in_piece}
+use Rattle.wsn_show.proofs.ShownPieces.{same_frames_shown, goes_on, unrefused_more, frames_more}
 use Rattle.wsn_show.proofs.shown_scan.ShownScan.feed.Goals as goal
 
 pub loop-at-init : goal.loop-at-init
@@ -23,7 +23,7 @@ returns-in-Some-clause-kept g c =
     let here = c.loop-at.piece in
     let known = c.loop-at.invariant in
     let in_here : at ≤ length here = omega (arith, known.within, known.size) in
-    kept_in_piece at (length here - at) c.step-at.result here c.step-at.new.piece in_here c.step-at.ensures.within c.step-at.auto.piece c.step-at.ensures.kept
+    kept_after at (length here - at) c.step-at.result here c.step-at.new.piece in_here c.step-at.ensures.within c.step-at.auto.piece c.step-at.ensures.kept
     ∙ same_further at c.step-at.result here c.args.piece.now in_here known.within known.kept
 
 pub returns-in-Some-clause-shows : goal.returns-in-Some-clause-shows
@@ -67,7 +67,7 @@ loop-at-preserved g c =
       within = omega (arith, size, length-drop at piece, c.step-at.ensures.within, known.within);
       size = same_len_mid at (length here - at) here c.step-at.new.piece c.step-at.auto.piece ∙ known.size;
       kept =
-          kept_in_piece at (length here - at) c.step-at.result here c.step-at.new.piece in_here c.step-at.ensures.within c.step-at.auto.piece c.step-at.ensures.kept
+          kept_after at (length here - at) c.step-at.result here c.step-at.new.piece in_here c.step-at.ensures.within c.step-at.auto.piece c.step-at.ensures.kept
           ∙ same_further at c.step-at.result here piece in_here known.within known.kept;
       room = omega (arith, c.step-at.ensures.room, known.room);
       shows = λ role limits came shown frames.

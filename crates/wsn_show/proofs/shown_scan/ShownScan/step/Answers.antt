@@ -3,11 +3,9 @@ use Rattle.std.proofs.lemmas.List.{length-take, length-take-le}
 use Rattle.wsn_scan.specs.declared.part.Taken.{Taken}
 use Rattle.wsn_scan.specs.Positions.{BetweenFrames}
 use Rattle.wsn_scan.specs.Scans.{refusal_in}
-use Rattle.wsn_show.specs.FollowedScans.{IsCall}
+use Rattle.wsn_scan.specs.FollowedScans.{IsCall}
 use Rattle.wsn_show.specs.StreamParts.{Keeps, held_at}
-use Rattle.wsn_show.specs.TakenParts.{IsTaken}
-use Rattle.wsn_show.proofs.FollowedScans.{lawful_done}
-use Rattle.wsn_show.proofs.MoreBytesHeld.{rest_is}
+use Rattle.wsn_scan.proofs.FollowedScans.{lawful_done}
 use Rattle.wsn_show.proofs.ShownSteps.{more_step, closed_step, part_step, refused_step, small_evidence, consumes_some}
 use Rattle.wsn_show.proofs.shown_scan.ShownScan.step.Goals as goal
 
@@ -67,8 +65,7 @@ returns-in-Part-clause-shows g c role limits came shown frames =
     let call = subst (λ (f : Taken). IsCall old new piece after n f part) c.in-Part.is (c.call-count.ensures.call c.call-count.ensures.in_bytes) in
     part_step role limits old new piece after n part came shown c.args.self.now.parts c.take.new.self context c.args.output.now c.take.new.output frames call
     (λ ended to before since is_at t kept.
-    c.take.ensures role limits frames.done ended frames.at to frames.rest before (take n piece) since (length-take-le n piece call.within) is_at
-    (subst (λ (bs : List ℕ). IsTaken role limits frames.done frames.rest before part bs (take n piece) ended to since) (sym (rest_is part.start (take n after))) t) kept)
+    c.take.ensures role limits frames.done ended frames.at to frames.rest before (take n piece) since (length-take-le n piece call.within) is_at t kept)
 
 pub returns-in-Part-clause-progress : goal.returns-in-Part-clause-progress
 returns-in-Part-clause-progress g c showing none =

@@ -1,6 +1,7 @@
 use Rattle.std.proofs.Common.{[], refl, sym, ◌∙◌}
+use Rattle.std.proofs.lemmas.Bool.{not-false}
 use Rattle.wsn_rules.specs.ShownStream.{frame_so_far}
-use Rattle.wsn_show.proofs.KeptParts.{is_control_head, begins_data, begins_control}
+use Rattle.wsn_show.proofs.KeptParts.{begins_data, begins_control}
 use Rattle.wsn_wire.specs.Frame.{is_control}
 use Rattle.wsn_show.proofs.stream_parts.StreamParts.begin.Goals as goal
 
@@ -13,4 +14,4 @@ returns-then-is_data c fs rest kept =
 pub returns-else-is_data : goal.returns-else-is_data
 returns-else-is_data c fs rest kept =
     let frame = c.begin.ensures fs rest kept.frame in
-    begins_control c.args.self.now fs c.args.head c.args.self.now.message c.begin.new.self rest (is_control_head (is_control c.args.head.op) (sym (c.is_data.ensures c.args.head frame.head) ∙ c.if-is_data.false)) kept.message frame
+    begins_control c.args.self.now fs c.args.head c.args.self.now.message c.begin.new.self rest (not-false (is_control c.args.head.op) (sym (c.is_data.ensures c.args.head frame.head) ∙ c.if-is_data.false)) kept.message frame

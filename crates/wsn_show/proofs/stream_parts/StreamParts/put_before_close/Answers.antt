@@ -4,7 +4,7 @@ use Rattle.wsn_rules.specs.Summary.{is_close}
 use Rattle.wsn_rules.specs.ShownStream.{open_items}
 use Rattle.wsn_show.specs.ShownItems.{Prints}
 use Rattle.wsn_show.proofs.PrintedItems.{prints_nothing}
-use Rattle.wsn_show.proofs.PrintedParts.{other_op}
+use Rattle.wsn_scan.proofs.ScanVerdicts.{other_op}
 use Rattle.wsn_show.proofs.stream_parts.StreamParts.put_before_close.Goals as goal
 
 pub returns-in-Close : goal.returns-in-Close

@@ -1,8 +1,9 @@
 use Rattle.std.proofs.Common.{ℕ, List, sym, subst}
 use Rattle.wsn_scan.specs.Positions.{Position}
 use Rattle.wsn_show.specs.StreamParts.{Keeps}
-use Rattle.wsn_show.specs.TakenParts.{IsTaken, ShowsPart}
-use Rattle.wsn_show.proofs.TakenParts.{begins_at, goes_on_at}
+use Rattle.wsn_scan.specs.FollowedScans.{IsTaken}
+use Rattle.wsn_scan.proofs.FollowedScans.{begins_at, goes_on_at}
+use Rattle.wsn_show.specs.TakenParts.{ShowsPart}
 use Rattle.wsn_show.proofs.stream_parts.StreamParts.take.Goals as goal
 
 pub returns-then-part : goal.returns-then-part

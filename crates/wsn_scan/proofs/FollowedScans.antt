@@ -1,40 +1,52 @@
 -- What one call of a scan says of the frames that it follows.
-use Rattle.std.proofs.Common.{◌≡◌, ℕ, ◌+◌, ◌<◌, ◌≤◌, ◌^◌, ◌⊎◌, false, Option, None, Some, List, [], ◌∷◌, ◌++◌, length, take, drop, inl, inr, refl, sym, ap, ◌∙◌, subst, arith, append_assoc, length-append, length-drop}
+use Rattle.std.proofs.Common.{◌≡◌, ℕ, ◌+◌, ◌-◌, ◌<◌, ◌≤◌, ◌^◌, ◌⊎◌, true, false, not, Option, None, Some, List, [], ◌∷◌, ◌++◌, length, take, drop, inl, inr, refl, sym, ap, ◌∙◌, subst, arith, append-nil, append_assoc, length-append, length-drop}
 use Rattle.std.specs.Prelude.{IsSome}
 use Rattle.std.proofs.lemmas.List.{length-take, length-take-le}
 use Rattle.wsn_wire.specs.declared.endpoint.Role.{Role}
-use Rattle.wsn_wire.specs.Frame.{Frame, first_byte, head_bytes, is_control, wire_payload, stream}
+use Rattle.wsn_wire.specs.declared.opcode.Op.TheVariants.{Text}
+use Rattle.wsn_wire.specs.Frame.{Frame, first_byte, head_bytes, is_control, opcode, wire_payload, stream}
+use Rattle.wsn_wire.specs.Layout.{opcode_field}
+use Rattle.wsn_wire.proofs.FrameLemmas.{first_byte_fields}
+use Rattle.wsn_text.specs.Utf8.{BeginsText}
 use Rattle.wsn_rules.specs.declared.head_info.HeadInfo.{HeadInfo}
 use Rattle.wsn_rules.specs.declared.verdict.Refusal.{Refusal}
+use Rattle.wsn_rules.specs.declared.verdict.Verdict.{Verdict}
 use Rattle.wsn_rules.specs.Limits.{Limits}
 use Rattle.wsn_rules.specs.Accepted.{HasNoClose, EndsWithClose}
-use Rattle.wsn_rules.specs.Group.{unfinished, payload_of}
+use Rattle.wsn_rules.specs.Evidence.{IsOfText}
+use Rattle.wsn_rules.specs.Group.{unfinished, first_op, payload_of}
 use Rattle.wsn_rules.specs.Heads.{heads_of, BeginsWithHead, IsBegun, AreHeads}
 use Rattle.wsn_rules.specs.Lawful.{IsLawful}
 use Rattle.wsn_rules.specs.NoEvidence.{HasNoEvidence}
 use Rattle.wsn_rules.specs.ShownStream.{frame_so_far}
+use Rattle.wsn_rules.specs.Verdict.{IsVerdict}
 use Rattle.wsn_rules.proofs.Groups.{group_of_lawful}
+use Rattle.wsn_rules.proofs.MessageText.{of_text_from_group, opcode_of_data, text_of_push}
 use Rattle.wsn_rules.proofs.Prefixes.{append_cancel}
+use Rattle.wsn_frame.specs.declared.payload_check.PayloadCheck.{PayloadCheck}
+use Rattle.wsn_frame.specs.declared.payload_check.PayloadCheck.TheVariants as checks
 use Rattle.wsn_frame.specs.PartialHeads.{info_at}
 use Rattle.wsn_frame.specs.PayloadChecks.{HasChecked}
 use Rattle.wsn_frame.specs.Payloads.{unmasked_by}
+use Rattle.wsn_frame.proofs.HeadsAtOnce.{no_items}
 use Rattle.wsn_frame.proofs.PayloadMore.{length-unmasked_by}
+use Rattle.wsn_print.proofs.HeldViews.{rest_is}
 use Rattle.wsn_scan.specs.declared.part.Part.{Part}
 use Rattle.wsn_scan.specs.declared.part.Taken.{Taken}
 use Rattle.wsn_scan.specs.declared.part.Taken.TheVariants as taken
 use Rattle.wsn_scan.specs.declared.stage.Stage.{Stage}
 use Rattle.wsn_scan.specs.declared.stage.Stage.TheVariants as stages
 use Rattle.wsn_scan.specs.declared.scan.Scan.{Scan}
+use Rattle.wsn_scan.specs.Feeding.{HasScannedBytes}
+use Rattle.wsn_scan.specs.FollowedScans.{HasFollowed, IsCall, IsTaken}
+use Rattle.wsn_scan.specs.Judging.{IsUnrefused}
 use Rattle.wsn_scan.specs.Parts.{IsPart, IsPartAt, Finds, Consumes}
 use Rattle.wsn_scan.specs.Positions.{Position, BetweenFrames, InFrame, begun_at}
-use Rattle.wsn_scan.specs.Scans.{IsAt, IsReachedBy, refusal_in, refusal_at}
+use Rattle.wsn_scan.specs.Scans.{HasScanned, IsAt, IsReachedBy, IsRefusedThere, refusal_in, refusal_at}
 use Rattle.wsn_scan.proofs.FrameEnds.{unfinished_few}
 use Rattle.wsn_scan.proofs.HeadsReported.{front_without_evidence, head_begins_at}
 use Rattle.wsn_scan.proofs.HeadsSoFar.{heads_reported}
-use Rattle.wsn_show.specs.FollowedScans.{HasFollowed, IsCall}
-use Rattle.wsn_show.specs.StreamParts.{BeginsIfText}
-use Rattle.wsn_show.specs.TakenParts.{IsTaken}
-use Rattle.wsn_show.proofs.TextsSoFar.{checked_text}
+use Rattle.wsn_scan.proofs.Unrefused.{unrefused, not_refused, refused}
 
 pub wire_payload_is : (key : Option (List ℕ)) (payload : List ℕ) → wire_payload key payload ≡ unmasked_by key 0 payload
 wire_payload_is None payload = refl
@@ -44,12 +56,40 @@ none_unless : (refusal : Option Refusal) → (IsSome refusal → ⊥) → refusa
 none_unless None other = refl
 none_unless (Some refusal) other = absurd (other refl)
 
-nothing : (bytes : List ℕ) → length bytes ≡ 0 → bytes ≡ []
-nothing [] is = refl
-nothing (x ∷ xs) is = absurd (omega (arith, is))
+-- The payload so far of a text message begins text, if it was checked.
+checked_text : (group : List Frame) (info : HeadInfo) (check : PayloadCheck) (payload : List ℕ) → HasChecked group (first_byte info.fin info.op) check payload → is_control info.op ≡ false
+    → first_op (group ++ frame_so_far info payload ∷ []) ≡ Text → BeginsText (payload_of (group ++ frame_so_far info payload ∷ []))
+checked_text group info check payload checked other text = subst BeginsText (sym (text_of_push group (frame_so_far info payload))) (by check checked)
+  where
+    field : opcode_field (first_byte info.fin info.op) ≡ opcode info.op
+    field = (first_byte_fields info.fin info.op).opcode_is
+
+    of_text : IsOfText group (opcode_field (first_byte info.fin info.op))
+    of_text = subst (IsOfText group) (sym field) (of_text_from_group group (frame_so_far info payload) (ap not other) text)
+
+    by : (check : PayloadCheck) → HasChecked group (first_byte info.fin info.op) check payload → BeginsText (payload_of group ++ payload)
+    by checks.Free checked = absurd (checked.0 of_text)
+    by (checks.Text utf8) checked = checked.2
+    by (checks.Close body) checked = let small = opcode_of_data info.op (ap not other) in absurd (omega (arith, small, checked.0, field))
+
+-- Where a part begins its frame, and where it doesn't.
+pub begins_at : (at : Position) (part : Part) (before : List ℕ) → IsPartAt at part before → part.begins ≡ true → (at ≡ BetweenFrames) × (before ≡ [])
+begins_at BetweenFrames part before is begins = (refl, is.1)
+begins_at (InFrame head payload) part before is begins = let both : true ≡ false = sym begins ∙ is.0 in cc
+
+pub goes_on_at : (at : Position) (part : Part) (before : List ℕ) → IsPartAt at part before → part.begins ≡ false → at ≡ InFrame part.head before
+goes_on_at BetweenFrames part before is more = let both : true ≡ false = sym is.0 ∙ more in cc
+goes_on_at (InFrame head payload) part before is more = λ i. InFrame (sym is.1 i) (sym is.2 i)
 
 module _ (role : Role) (limits : Limits) where
   -- ---- where a scan is
+
+  -- The heads after whole frames are those of the rest.
+  begun_by : (bytes rest : List ℕ) (fs : List Frame) (begun : List HeadInfo) → bytes ≡ stream fs ++ rest → AreHeads role limits bytes fs (heads_of fs ++ begun) → IsBegun role limits fs rest begun
+  begun_by bytes rest fs begun whole heads =
+      let rest_is : heads.rest ≡ rest = append_cancel (stream fs) heads.rest rest (sym heads.whole ∙ whole) in
+      let begun_is : heads.begun ≡ begun = append_cancel (heads_of fs) heads.begun begun (sym heads.all) in
+      subst (λ (bs : List ℕ). IsBegun role limits fs bs begun) rest_is (subst (IsBegun role limits fs heads.rest) begun_is heads.is_begun)
 
   module _ (scan : Scan) (came : List ℕ) (done : List Frame) (at : Position) (rest : List ℕ) (h : HasFollowed role limits scan came done at rest) where
     -- the bytes are few
@@ -65,6 +105,15 @@ module _ (role : Role) (limits : Limits) where
     pub rest_few : length (stream done) + length rest ≡ length came
     rest_few = sym (ap (λ (bs : List ℕ). length bs) whole_is ∙ length-append (stream done) rest)
 
+    pub room_within : length came ≤ limits.input
+    room_within = let room = h.has_scanned.has_consumed.room in omega (arith, room)
+
+    pub unrefused_so_far : IsUnrefused role limits came
+    unrefused_so_far = unrefused role limits scan came (heads_of done ++ begun_at at) (record { frames = done; since = rest; position = at; has_scanned = h.has_scanned; heads_are = refl }) h.unrefused
+
+    pub judged_so_far : (verdict : Verdict) × IsVerdict role limits came done verdict
+    judged_so_far = not_refused role limits scan came rest done at h.has_scanned h.unrefused
+
     -- Bytes of a payload aren't many.
     pub few_open : length (payload_of (unfinished done)) ≤ 16777216
     few_open =
@@ -76,10 +125,7 @@ module _ (role : Role) (limits : Limits) where
     heads = heads_reported role limits scan came rest done at h.has_scanned
 
     pub is_begun : IsBegun role limits done rest (begun_at at)
-    is_begun =
-        let rest_is : heads.rest ≡ rest = append_cancel (stream done) heads.rest rest (sym heads.whole ∙ whole_is) in
-        let begun_is : heads.begun ≡ begun_at at = append_cancel (heads_of done) heads.begun (begun_at at) (sym heads.all) in
-        subst (λ (bs : List ℕ). IsBegun role limits done bs (begun_at at)) rest_is (subst (IsBegun role limits done heads.rest) begun_is heads.is_begun)
+    is_begun = begun_by came rest done (begun_at at) whole_is heads
 
     -- The frame has begun, and this is all of its payload that came.
     pub record HasBegun (info : HeadInfo) (payload : List ℕ) : Type 0 where
@@ -88,7 +134,8 @@ module _ (role : Role) (limits : Limits) where
       pub payload_is : payload ≡ wire_payload info.key begins.following
       pub within : length payload ≤ info.len
       pub size : length begins.following ≡ length payload
-      pub text : is_control info.op ≡ false → BeginsIfText (unfinished done ++ frame_so_far info payload ∷ [])
+      pub text : is_control info.op ≡ false → first_op (unfinished done ++ frame_so_far info payload ∷ []) ≡ Text
+          → BeginsText (payload_of (unfinished done ++ frame_so_far info payload ∷ []))
 
     module _ (info : HeadInfo) (payload : List ℕ) (is : at ≡ InFrame info payload) where
       other : at ≡ BetweenFrames → HasBegun info payload
@@ -183,11 +230,14 @@ module _ (role : Role) (limits : Limits) where
       since_is : reached.0.since ≡ rest ++ share
       since_is = sym (append_cancel (stream done) (rest ++ share) reached.0.since (same_whole ∙ ap (λ (fs : List Frame). stream fs ++ reached.0.since) frames))
 
+      pub same_scanned : HasScanned role limits new (came ++ share) done (rest ++ share) at
+      same_scanned =
+          subst (λ (bs : List ℕ). HasScanned role limits new (came ++ share) done bs at) since_is
+          (subst (λ (p : Position). HasScanned role limits new (came ++ share) done reached.0.since p) position
+          (subst (λ (fs : List Frame). HasScanned role limits new (came ++ share) fs reached.0.since reached.0.position) frames reached.0.has_scanned))
+
       pub same_follows : (found ≡ taken.Refused → ⊥) → HasFollowed role limits new (came ++ share) done at (rest ++ share)
-      same_follows other =
-          subst (λ (bs : List ℕ). HasFollowed role limits new (came ++ share) done at bs) since_is
-          (subst (λ (p : Position). HasFollowed role limits new (came ++ share) done p reached.0.since) position
-          (subst (λ (fs : List Frame). HasFollowed role limits new (came ++ share) fs reached.0.position reached.0.since) frames (follows other)))
+      same_follows other = record { has_scanned = same_scanned; unrefused = unrefused_by other }
 
       -- Within a frame each byte is of its payload.
       pub is_between : (found ≡ taken.Refused → ⊥) → 0 < n → at ≡ BetweenFrames
@@ -205,9 +255,9 @@ module _ (role : Role) (limits : Limits) where
     pub reach : IsReachedBy role limits new (came ++ take n piece) (IsPart done at part (drop part.start (take n after)))
     reach = (reached old new piece after n taken.Part part came done at rest h call).0
 
-    pub part_taken : IsTaken role limits done rest reach.found.before part (drop part.start (take n after)) (take n piece) reach.frames reach.position reach.since
+    taken_whole : IsTaken role limits done rest reach.found.before part (drop part.start (take n after)) (take n piece) reach.frames reach.position reach.since
     unfolding reach reached
-    part_taken =
+    taken_whole =
         let consumed = reach.has_scanned.has_consumed in
         let size = rest_few old came done at rest h in
         let most = few old came done at rest h in
@@ -227,12 +277,39 @@ module _ (role : Role) (limits : Limits) where
               let is_used = consumed.used in
               let now = consumed.room in
               let limit : new.context.limits.input ≡ limits.input = ap (λ (l : Limits). l.input) consumed.under in
-              nothing reach.since (omega (arith, used, is_used, now, limit, ap (λ (bs : List ℕ). length bs) consumed.whole, length-append (stream reach.frames) reach.since));
+              no_items reach.since (omega (arith, used, is_used, now, limit, ap (λ (bs : List ℕ). length bs) consumed.whole, length-append (stream reach.frames) reach.since));
           small = omega (arith, size, most, own, room, all, input);
           few_frames = omega (arith, unfinished_few done, size, most);
           few_bytes = omega (arith, open_few, before, size, most, length-drop part.start (take n after), length-take n after, room, all, input);
         }
 
+    -- all bytes after the first `start` are passed on
+    pub part_taken : IsTaken role limits done rest reach.found.before part (take (length (take n after) - part.start) (drop part.start (take n after))) (take n piece) reach.frames reach.position reach.since
+    part_taken =
+        subst (λ (bs : List ℕ). IsTaken role limits done rest reach.found.before part bs (take n piece) reach.frames reach.position reach.since) (sym (rest_is part.start (take n after))) taken_whole
+
     pub part_follows : HasFollowed role limits new (came ++ take n piece) reach.frames reach.position reach.since
     unfolding reach reached
     part_follows = follows old new piece after n taken.Part part came done at rest h call (λ same. cc)
+
+  -- ---- a refusal
+
+  module _ (old new : Scan) (piece after : List ℕ) (n : ℕ) (part : Part) (came : List ℕ) (done : List Frame) (at : Position) (rest : List ℕ) (h : HasFollowed role limits old came done at rest) (refusal : Refusal) (is : refusal_in new ≡ Some refusal)
+      (call : IsCall old new piece after n taken.Refused part) where
+    abbrev all : List ℕ
+    all = came ++ take n piece
+
+    abbrev longer : List ℕ
+    longer = rest ++ take n piece
+
+    pub refused_there : (scanned : HasScanned role limits new all done longer at) × IsRefusedThere role limits refusal all done at
+    refused_there =
+        let r = reached old new piece after n taken.Refused part came done at rest h call in
+        let there = same_scanned old new piece after n taken.Refused part came done at rest h call r.0.found.0 r.0.found.1 in
+        let scanned : HasScannedBytes role limits new all (heads_of done ++ begun_at at) = record { frames = done; since = longer; position = at; has_scanned = there; heads_are = refl } in
+        (there, refused role limits new all (heads_of done ++ begun_at at) refusal scanned is)
+
+    pub refused_begun : IsBegun role limits done longer (begun_at at)
+    refused_begun =
+        begun_by all longer done (begun_at at) refused_there.0.has_consumed.whole
+        (subst (λ (bs : List ℕ). AreHeads role limits bs done (heads_of done ++ begun_at at)) (append-nil all) (refused_there.1.heads []))
