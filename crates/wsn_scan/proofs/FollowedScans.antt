@@ -1,7 +1,7 @@
 -- What one call of a scan says of the frames that it follows.
 use Rattle.std.proofs.Common.{◌≡◌, ℕ, ◌+◌, ◌-◌, ◌<◌, ◌≤◌, ◌^◌, ◌⊎◌, true, false, not, Option, None, Some, List, [], ◌∷◌, ◌++◌, length, take, drop, inl, inr, refl, sym, ap, ◌∙◌, subst, arith, append-nil, append_assoc, length-append, length-drop}
 use Rattle.std.specs.Prelude.{IsSome}
-use Rattle.std.proofs.lemmas.List.{length-take, length-take-le}
+use Rattle.std.proofs.lemmas.List.{length-take, length-take-le, take_all}
 use Rattle.wsn_wire.specs.declared.endpoint.Role.{Role}
 use Rattle.wsn_wire.specs.declared.opcode.Op.TheVariants.{Text}
 use Rattle.wsn_wire.specs.Frame.{Frame, first_byte, head_bytes, is_control, opcode, wire_payload, stream}
@@ -30,7 +30,6 @@ use Rattle.wsn_frame.specs.PayloadChecks.{HasChecked}
 use Rattle.wsn_frame.specs.Payloads.{unmasked_by}
 use Rattle.wsn_frame.proofs.HeadsAtOnce.{no_items}
 use Rattle.wsn_frame.proofs.PayloadMore.{length-unmasked_by}
-use Rattle.wsn_print.proofs.HeldViews.{rest_is}
 use Rattle.wsn_scan.specs.declared.part.Part.{Part}
 use Rattle.wsn_scan.specs.declared.part.Taken.{Taken}
 use Rattle.wsn_scan.specs.declared.part.Taken.TheVariants as taken
@@ -51,6 +50,10 @@ use Rattle.wsn_scan.proofs.Unrefused.{unrefused, not_refused, refused}
 pub wire_payload_is : (key : Option (List ℕ)) (payload : List ℕ) → wire_payload key payload ≡ unmasked_by key 0 payload
 wire_payload_is None payload = refl
 wire_payload_is (Some key) payload = refl
+
+-- All that is left after some bytes.
+all_left : (k : ℕ) (bytes : List ℕ) → take (length bytes - k) (drop k bytes) ≡ drop k bytes
+all_left k bytes = take_all (length bytes - k) (drop k bytes) (omega (arith, length-drop k bytes))
 
 none_unless : (refusal : Option Refusal) → (IsSome refusal → ⊥) → refusal ≡ None
 none_unless None other = refl
@@ -286,7 +289,7 @@ module _ (role : Role) (limits : Limits) where
     -- all bytes after the first `start` are passed on
     pub part_taken : IsTaken role limits done rest reach.found.before part (take (length (take n after) - part.start) (drop part.start (take n after))) (take n piece) reach.frames reach.position reach.since
     part_taken =
-        subst (λ (bs : List ℕ). IsTaken role limits done rest reach.found.before part bs (take n piece) reach.frames reach.position reach.since) (sym (rest_is part.start (take n after))) taken_whole
+        subst (λ (bs : List ℕ). IsTaken role limits done rest reach.found.before part bs (take n piece) reach.frames reach.position reach.since) (sym (all_left part.start (take n after))) taken_whole
 
     pub part_follows : HasFollowed role limits new (came ++ take n piece) reach.frames reach.position reach.since
     unfolding reach reached
