@@ -94,9 +94,10 @@ impl<const MAX: usize> KeptBytes<MAX> {
         ensures { (room filled : List ℕ) × (number : ℕ) × (length self.old + length room ≡ MAX)
             × FnOnceReturnsAtMut F.FnOnce write room number filled × (self.new ≡ self.old ++ take number filled) }
     {
+        let at = self.len;
         let all = &mut self.bytes[..];
-        let number = write(&mut all[self.len..]);
-        self.len += number;
+        let number = write(&mut all[at..]);
+        self.len = at + number;
     }
 
     /// Drops the first `number` bytes.

@@ -45,7 +45,7 @@ front_held n count all more held few is counts =
           | inr more_held ↦ inr (omega (arith, is_min, more_held))
         ]
 
-pub evidence_held : (n : ℕ) (all : List ℕ) (last : LastBytes) (bytes : HeldBytes) → n ≤ 4096 → HasLast last all → bytes.bytes ≡ last.count → bytes.held.now ≡ last.held.items → IsEndOf (n / 2) all bytes
+pub evidence_held : (n : ℕ) (all : List ℕ) (last : LastBytes) (bytes : HeldBytes) → n ≤ 4096 → HasLast last all → bytes.bytes ≡ last.count → bytes.held.now ≡ last.held → IsEndOf (n / 2) all bytes
 evidence_held n all last bytes few is count held =
     let items : bytes.held.now ≡ drop (length all - 2048) all = held ∙ is.held in
     let size : length bytes.held.now ≡ length all - (length all - 2048) = ap (λ (bs : List ℕ). length bs) items ∙ length-drop (length all - 2048) all in
@@ -59,7 +59,7 @@ evidence_held n all last bytes few is count held =
           | inr more ↦ inl (omega (arith, size, more, few))
         ]
 
-pub front_of_bytes : (n : ℕ) (all : List ℕ) (first : FirstBytes) (bytes : HeldBytes) → n ≤ 4096 → HasFirst first all → bytes.bytes ≡ first.count → bytes.held.now ≡ first.held.items → IsFrontOf (n / 2) all bytes
+pub front_of_bytes : (n : ℕ) (all : List ℕ) (first : FirstBytes) (bytes : HeldBytes) → n ≤ 4096 → HasFirst first all → bytes.bytes ≡ first.count → bytes.held.now ≡ first.held → IsFrontOf (n / 2) all bytes
 front_of_bytes n all first bytes few is count held = (count ∙ is.count, first_held (n / 2) all bytes.held.now (omega (arith, few)) (held ∙ is.held))
 
 -- ---- events
@@ -96,7 +96,7 @@ represents_message n shown group payload kind op bytes held = record {
 }
 
 -- A control is represented.
-pub represents_control : (n : ℕ) (shown : ShownEvent) (op : Op) (body : List ℕ) (first : FirstBytes) → is_control op ≡ true → shown.op ≡ op → shown.bytes ≡ first.count → shown.held.now ≡ first.held.items
+pub represents_control : (n : ℕ) (shown : ShownEvent) (op : Op) (body : List ℕ) (first : FirstBytes) → is_control op ≡ true → shown.op ≡ op → shown.bytes ≡ first.count → shown.held.now ≡ first.held
     → HasFirst first body → length body ≤ 125 → Represents n shown (Control op body)
 represents_control n shown op body first control is bytes held has short = record {
   payload = body;
@@ -118,16 +118,16 @@ group_some fs some none = let size : length (unfinished fs) ≡ 0 = ap (λ (gs :
 
 -- The complete frames of the open message.
 pub represents_open : (role : Role) (limits : Limits) (n : ℕ) (shown : ShownEvent) (message : MessageSoFar) (fs : List Frame) (part : List ℕ) → n ≤ 4096 → IsLawful role limits fs → 0 < length (unfinished fs) → KeepsMessage message fs part
-    → shown.op ≡ message.op → shown.bytes ≡ message.bytes → shown.held.now ≡ take (min message.bytes (length message.payload.held.items)) message.payload.held.items
+    → shown.op ≡ message.op → shown.bytes ≡ message.bytes → shown.held.now ≡ take (min message.bytes (length message.payload.held)) message.payload.held
     → Represents n shown (Message (kind_of (unfinished fs)) (payload_of (unfinished fs)))
 represents_open role limits n shown message fs part few lawful some kept op bytes held =
     let unended = group_some fs some in
     represents_message n shown (unfinished fs) (payload_of (unfinished fs)) ((group_of_lawful role limits fs lawful).kind unended) (op ∙ kept.op unended) (bytes ∙ kept.bytes)
-    (subst (HoldsFirst n (payload_of (unfinished fs))) (sym held) (front_held n message.bytes (payload_of (unfinished fs)) part message.payload.held.items few kept.payload.held kept.bytes))
+    (subst (HoldsFirst n (payload_of (unfinished fs))) (sym held) (front_held n message.bytes (payload_of (unfinished fs)) part message.payload.held few kept.payload.held kept.bytes))
 
 -- The message to which the data frame f belongs.
 pub represents_joined : (n : ℕ) (shown : ShownEvent) (message : MessageSoFar) (fs : List Frame) (f : Frame) → n ≤ 4096 → (first_op (unfinished fs ++ f ∷ []) ≡ Text) ⊎ (first_op (unfinished fs ++ f ∷ []) ≡ Binary)
-    → KeepsMessage message fs f.payload → HasJoined message fs f → shown.op ≡ message.op → shown.bytes ≡ message.payload.count → shown.held.now ≡ message.payload.held.items
+    → KeepsMessage message fs f.payload → HasJoined message fs f → shown.op ≡ message.op → shown.bytes ≡ message.payload.count → shown.held.now ≡ message.payload.held
     → Represents n shown (Message (kind_of (unfinished fs ++ f ∷ [])) (payload_of (unfinished fs ++ f ∷ [])))
 represents_joined n shown message fs f few kind kept joined op bytes held =
     let text : payload_of (unfinished fs ++ f ∷ []) ≡ payload_of (unfinished fs) ++ f.payload = text_of_push (unfinished fs) f in

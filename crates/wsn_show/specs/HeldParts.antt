@@ -6,9 +6,9 @@ use Rattle.wsn_show.specs.declared.last_bytes.LastBytes.{LastBytes}
 -- These bytes came. Their number is counted, and the first 4,096 are held.
 pub record HasFirst (first : FirstBytes) (came : List ℕ) : Type 0 where
   pub count : first.count ≡ length came
-  pub held : first.held.items ≡ take 4096 came
+  pub held : first.held ≡ take 4096 came
 
 -- These bytes came. Their number is counted, and the last 2,048 are held.
 pub record HasLast (last : LastBytes) (came : List ℕ) : Type 0 where
   pub count : last.count ≡ length came
-  pub held : last.held.items ≡ drop (length came - 2048) came
+  pub held : last.held ≡ drop (length came - 2048) came

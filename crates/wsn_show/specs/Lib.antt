@@ -1,6 +1,5 @@
 -- Definitions of what `show` does: first of one stream, then of a capture.
 pub mod Styles
-pub mod Kept
 pub mod HeldParts
 pub mod StreamParts
 pub mod ShownItems

@@ -1,7 +1,6 @@
 ghost use Rattle.std.specs.Prelude.{◌≡◌};
 
-use crate::kept_bytes::KeptBytes;
-use wsn_print::HeldBytes;
+use wsn_print::{HeldBytes, KeptBytes};
 
 /// The most bytes that a [`FirstBytes`] holds.
 pub(crate) const FIRST_MAX: usize = 4_096;
@@ -55,7 +54,7 @@ impl FirstBytes {
     /// As they are printed.
     pub fn front(&self) -> HeldBytes<'_>
         ensures bytes { result.bytes ≡ self.now.count }
-        ensures held { result.held.now ≡ self.now.held.items }
+        ensures held { result.held.now ≡ self.now.held }
     {
         HeldBytes {
             bytes: self.count,
@@ -65,7 +64,7 @@ impl FirstBytes {
 
     /// The first bytes that came.
     pub fn held(&self) -> &[u8]
-        ensures { result.now ≡ self.now.held.items }
+        ensures { result.now ≡ self.now.held }
     {
         self.held.as_slice()
     }

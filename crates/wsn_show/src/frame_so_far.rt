@@ -81,7 +81,7 @@ impl FrameSoFar {
         ensures op { result.op ≡ op }
         ensures bytes { result.bytes ≡ self.now.first.count }
         ensures frames { result.frames ≡ 1 }
-        ensures held { result.held.now ≡ self.now.first.held.items }
+        ensures held { result.held.now ≡ self.now.first.held }
     {
         ShownEvent {
             op,

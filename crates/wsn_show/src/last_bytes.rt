@@ -1,7 +1,6 @@
 ghost use Rattle.std.specs.Prelude.{◌≡◌};
 
-use crate::kept_bytes::KeptBytes;
-use wsn_print::HeldBytes;
+use wsn_print::{HeldBytes, KeptBytes};
 
 /// The most bytes that a [`LastBytes`] holds.
 pub(crate) const LAST_MAX: usize = 2_048;
@@ -49,8 +48,8 @@ impl LastBytes {
     /// Drops the first bytes that are held, as many as have to go for this number to fit.
     fn make_room(&mut self, number: usize)
         requires { number ≤ LAST_MAX }
-        ensures held { self.new.held.items
-            ≡ drop ((length self.old.held.items + number) - LAST_MAX) self.old.held.items }
+        ensures held { self.new.held
+            ≡ drop ((length self.old.held + number) - LAST_MAX) self.old.held }
         ensures count { self.new.count ≡ self.old.count }
     {
         let over = (self.held.len() + number).saturating_sub(LAST_MAX);
@@ -60,7 +59,7 @@ impl LastBytes {
     /// As they are printed.
     pub fn end(&self) -> HeldBytes<'_>
         ensures bytes { result.bytes ≡ self.now.count }
-        ensures held { result.held.now ≡ self.now.held.items }
+        ensures held { result.held.now ≡ self.now.held }
     {
         HeldBytes {
             bytes: self.count,

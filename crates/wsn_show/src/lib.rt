@@ -22,7 +22,6 @@ mod entry_context;
 mod first_bytes;
 mod following;
 mod frame_so_far;
-mod kept_bytes;
 mod last_bytes;
 pub mod laws;
 mod message_so_far;

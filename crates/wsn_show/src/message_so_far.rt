@@ -68,8 +68,8 @@ impl MessageSoFar {
         ensures op { result.op ≡ self.now.op }
         ensures bytes { result.bytes ≡ self.now.bytes }
         ensures frames { result.frames ≡ self.now.frames }
-        ensures held { result.held.now ≡ take (min self.now.bytes (length self.now.payload.held.items))
-            self.now.payload.held.items }
+        ensures held { result.held.now ≡ take (min self.now.bytes (length self.now.payload.held))
+            self.now.payload.held }
     {
         let held = self.payload.held();
         let count = self.bytes.min(held.len() as u64) as usize;
@@ -86,7 +86,7 @@ impl MessageSoFar {
         ensures op { result.op ≡ self.now.op }
         ensures bytes { result.bytes ≡ self.now.payload.count }
         ensures frames { self.now.frames + 1 < 2 ^ 64 → result.frames ≡ self.now.frames + 1 }
-        ensures held { result.held.now ≡ self.now.payload.held.items }
+        ensures held { result.held.now ≡ self.now.payload.held }
     {
         ShownEvent {
             op: self.op,

@@ -5,6 +5,7 @@ ghost use Rattle.wsn_show.specs.Times.{IsWhole, IsFraction};
 
 use memchr::memchr;
 use std::marker::Model;
+use wsn_print::KeptBytes;
 
 /// The maximum length of a line in bytes, without its CR.
 pub const LINE_MAX: usize = 8194;
@@ -55,20 +56,17 @@ fn are_digits(text: &[u8]) -> bool
 /// The time that holds: that of the last line that gave one.
 #[derive(Drop)]
 pub struct CurrentTime {
-    text: [u8; LINE_MAX],
-    /// The first `len` bytes of the text are the time, if a line has given one.
-    len: usize,
+    text: KeptBytes<LINE_MAX>,
+    /// Whether a line has given the time.
     given: bool,
 }
 
 impl Model for CurrentTime {
-    ghost use Rattle.std.specs.Prelude.{ℕ, ◌≤◌, List, Option, None, Some, take, if◌then◌else◌};
+    ghost use Rattle.std.specs.Prelude.{ℕ, List, Option, None, Some, if◌then◌else◌};
 
     ghost Value = { Option (List ℕ) };
 
-    ghost view = { λ time. if time.given then Some (take time.len time.text) else None };
-
-    ghost invariant = { λ time. time.len ≤ 8194 };
+    ghost view = { λ time. if time.given then Some time.text else None };
 }
 
 impl CurrentTime {
@@ -80,8 +78,7 @@ impl CurrentTime {
         ensures { result ≡ None }
     {
         CurrentTime {
-            text: [0; LINE_MAX],
-            len: 0,
+            text: KeptBytes::new(),
             given: false,
         }
     }
@@ -93,7 +90,7 @@ impl CurrentTime {
         if !self.given {
             return None;
         }
-        Some(&self.text[..self.len])
+        Some(self.text.as_slice())
     }
 
     /// Takes a line without its CR, and returns whether it gives a time, which holds from then on.
@@ -105,8 +102,8 @@ impl CurrentTime {
         let Some(seconds) = time_of(line) else {
             return false;
         };
-        self.text[..seconds.len()].copy_from_slice(seconds);
-        self.len = seconds.len();
+        self.text.clear();
+        self.text.add(seconds);
         self.given = true;
         true
     }

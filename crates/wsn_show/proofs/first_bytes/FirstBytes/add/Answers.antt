@@ -4,7 +4,7 @@ use Rattle.wsn_show.proofs.first_bytes.FirstBytes.add.Goals as goal
 
 pub returns : goal.returns
 returns c came small has =
-    let held = c.args.self.now.held.items in
+    let held = c.args.self.now.held in
     let bytes = c.args.bytes.now in
     let size = c.len-room.ensures in
     let room : (4096 - c.len-room.result) + length held ≡ 4096 = omega (arith, size.value, size.fits) in
