@@ -11,7 +11,7 @@ use Rattle.wsn_rules.specs.Limits.{Limits}
 use Rattle.wsn_rules.specs.LeftOut.{events_without}
 use Rattle.wsn_rules.specs.Meaning.{MeantEvent}
 use Rattle.wsn_rules.specs.declared.compared.Compared.{Compared}
-use Rattle.wsn_rules.specs.declared.compared.Compared.TheVariants.{Equal, Different, NotAccepted}
+use Rattle.wsn_rules.specs.declared.compared.Compared.TheVariants.{Equal, NotAccepted}
 use Rattle.wsn_events.specs.declared.event_reader.EventReader.{EventReader}
 use Rattle.wsn_events.specs.Turns.{MeantTurn, OfVerdict}
 use Rattle.wsn_events.specs.Sources.{IsLast}
@@ -82,7 +82,7 @@ module _ {A : Type 0} (without : Without) (role : Role) (limits : Limits) where
 
 -- ---- the answer, by the verdicts
 
-not_accepted : (verdict : Verdict) → ((summary : Summary) → verdict ≡ Accepted summary → ⊥) → IsAnAccepted verdict → ⊥
+pub not_accepted : (verdict : Verdict) → ((summary : Summary) → verdict ≡ Accepted summary → ⊥) → IsAnAccepted verdict → ⊥
 not_accepted (Accepted summary) none is = none summary refl
 not_accepted (Cut summary) none is = is
 not_accepted (Refused refusal) none is = is
@@ -108,14 +108,4 @@ are_equal part verdict other difference summary other_summary is other_is none r
   (summary, accepted role limits new came events verdict summary is last),
   (other_summary, accepted role limits other_new other_came others other other_summary other_is other_last),
   subst (λ (d : Option ℕ). IsFirstDifference d (part events) (part others)) none first,
-)
-
-pub are_different : (part : List MeantEvent → List MeantEvent) (verdict other : Verdict) (difference : Option ℕ) (summary other_summary : Summary) (k : ℕ) → verdict ≡ Accepted summary → other ≡ Accepted other_summary → difference ≡ Some k
-    → Compares part verdict other difference (Different k)
-are_different part verdict other difference summary other_summary k is other_is some role limits new came events other_new other_came others last other_last first = (
-  events,
-  others,
-  (summary, accepted role limits new came events verdict summary is last),
-  (other_summary, accepted role limits other_new other_came others other other_summary other_is other_last),
-  subst (λ (d : Option ℕ). IsFirstDifference d (part events) (part others)) some first,
 )

@@ -25,10 +25,10 @@ use Rattle.wsn_rules.proofs.OpenOffsets.{offset_of_none}
 use Rattle.wsn_scan.specs.declared.frame_reader.FrameReader.{FrameReader}
 use Rattle.wsn_scan.specs.declared.part.Part.{Part}
 use Rattle.wsn_scan.specs.FrameReaders.{HasTaken, held_payload}
-use Rattle.wsn_scan.specs.Parts.{IsPartAt}
-use Rattle.wsn_scan.specs.Positions.{Position, BetweenFrames, InFrame, IsTakenOf}
+use Rattle.wsn_scan.specs.Positions.{Position, BetweenFrames, IsTakenOf}
 use Rattle.wsn_scan.specs.ReadParts.{TakesPart}
 use Rattle.wsn_scan.proofs.ReaderReports.{reported_of}
+use Rattle.wsn_scan.proofs.FollowedScans.{begins_at}
 use Rattle.wsn_events.specs.declared.event.Event.{Event}
 use Rattle.wsn_events.specs.declared.event_reader.EventReader.{EventReader}
 use Rattle.wsn_events.specs.declared.reassembly.Reassembly.{Reassembly}
@@ -145,11 +145,6 @@ module _ {A : Type 0} (role : Role) (limits : Limits) (reading : EventReader A) 
     count = count_is;
   }
 
--- a part that begins a frame comes between frames
-nothing_before : (at : Position) (part : Part) (before : List ℕ) → part.begins ≡ true → IsPartAt at part before → before ≡ []
-nothing_before BetweenFrames part before begins is = is.1
-nothing_before (InFrame head payload) part before begins is = let both : true ≡ false = sym begins ∙ is.0 in absurd cc
-
 -- the part that came last is a whole message
 pub lends_part : {A : Type 0} (role : Role) (limits : Limits) (reading : EventReader A) (reader : FrameReader) (part : Part) (now came : List ℕ) (given : List MeantEvent) (has : HasGiven role limits reading came given)
     (takes : TakesPart role limits reader part now has.frames has.position) → IsTakenOf role limits now takes.frames takes.position → (g : Reassembly A) (kind : Kind) → IsWholeMessage part kind → IsInFrame g has.frames part.head.op takes.is_part.before
@@ -159,7 +154,7 @@ lends_part role limits reading reader part now came given has takes taken g kind
     let payload = held_payload reader in
     let e = ended_by role limits now fs has.position part payload takes.frames takes.position takes.is_part taken whole.ends in
     let op : part.head.op ≡ e.frame.op = ap (λ (h : HeadInfo). h.op) e.head_is in
-    let none : takes.is_part.before ≡ [] = nothing_before has.position part takes.is_part.before whole.begins takes.is_part.is_at in
+    let none : takes.is_part.before ≡ [] = (begins_at has.position part takes.is_part.before takes.is_part.is_at whole.begins).1 in
     let has_taken = subst (λ (at : Position). HasTaken role limits reader now (fs ++ e.frame ∷ []) at) e.position_is (subst (λ (gs : List Frame). HasTaken role limits reader now gs takes.position) e.frames_are takes.has_taken) in
     lends_frame role limits reading reader g kind now given fs e.frame has.events has.going has_taken e.taken
     (sym (ap (λ (h : HeadInfo). h.fin) e.head_is) ∙ whole.final) (sym op ∙ whole.op)

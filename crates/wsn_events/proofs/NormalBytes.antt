@@ -2,13 +2,11 @@
 use Rattle.std.proofs.Common.{◌≡◌, ℕ, ◌<◌, Bool, Option, Result, List, ◌++◌, length, take, true, false, Ok, Err, inl, inr, refl, sym, ap, ◌∙◌, subst}
 use Rattle.std.specs.Io.KnownBytes.{Appends}
 use Rattle.wsn_wire.specs.declared.endpoint.Role.{Role}
-use Rattle.wsn_wire.specs.declared.endpoint.Role.TheVariants.{Client, Server}
 use Rattle.wsn_wire.specs.declared.opcode.Op.{Op}
 use Rattle.wsn_wire.specs.declared.length_forms.Form.{Form}
 use Rattle.wsn_wire.specs.declared.length_forms.Form.TheVariants.{Shortest}
 use Rattle.wsn_wire.specs.Frame.{frame_bytes, head_bytes, wire_payload}
 use Rattle.wsn_wire.proofs.FrameLemmas.{length-wire_payload}
-use Rattle.wsn_wire.proofs.MaskLemmas.{masked-zero}
 use Rattle.wsn_io.specs.Transfer.{Outgoing, IsWrittenUpToFailure}
 use Rattle.wsn_io.specs.declared.stop.Stop.{Stop}
 use Rattle.wsn_io.specs.declared.stop.Stop.TheVariants as stop
@@ -16,15 +14,11 @@ use Rattle.wsn_io.specs.Stops.{IsWrittenOrStops}
 use Rattle.wsn_io.proofs.PutTexts.{prints_on, prints_no_more}
 use Rattle.wsn_rules.specs.Meaning.{Control}
 use Rattle.wsn_rules.specs.NormalForm.{normal_frame, normal_key}
+use Rattle.wsn_scan.proofs.EventFrames.{normal_wire}
 
 -- The bytes of one final frame; those of a message are encoded alike.
 abbrev pub normal_bytes : Role → Op → List ℕ → List ℕ
 normal_bytes role o payload = frame_bytes (normal_frame role (Control o payload))
-
--- a key of zeros changes no byte
-normal_wire : (role : Role) (payload : List ℕ) → payload ≡ wire_payload (normal_key role) payload
-normal_wire Server payload = refl
-normal_wire Client payload = sym (masked-zero 0 payload)
 
 -- the payload as it is sent, after its head
 pub frame_is : (fin : Bool) (o : Op) (key : Option (List ℕ)) (form : Form) (head wire payload : List ℕ) → head ≡ head_bytes fin o key form (length wire) → wire ≡ wire_payload key payload

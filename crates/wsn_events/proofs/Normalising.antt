@@ -1,12 +1,11 @@
 -- A stream's events, written one after the other: what was written at each answer.
-use Rattle.std.proofs.Common.{◌≡◌, ℕ, ◌+◌, Result, Ok, Err, false, List, [], ◌∷◌, ◌++◌, length, take, map, sym, ap, ◌∙◌, subst, append-nil}
-use Rattle.std.proofs.lemmas.List.{map-append}
+use Rattle.std.proofs.Common.{◌≡◌, ℕ, ◌+◌, Result, Ok, Err, false, List, [], ◌∷◌, ◌++◌, length, take, sym, ap, ◌∙◌, subst}
 use Rattle.std.proofs.KnownBytes.{Appends-nil, Appends-trans}
 use Rattle.wsn_io.proofs.Received.{received_none, received_on}
 use Rattle.std.proofs.Math.Seq.{take-append-add}
 use Rattle.std.specs.Io.KnownBytes.{Appends}
 use Rattle.wsn_wire.specs.declared.endpoint.Role.{Role}
-use Rattle.wsn_wire.specs.Frame.{frame_bytes, stream}
+use Rattle.wsn_wire.specs.Frame.{frame_bytes}
 use Rattle.wsn_io.specs.Transfer.{Incoming, Outgoing, IsReceived, IsWritten, IsPartlyWritten}
 use Rattle.wsn_rules.specs.declared.verdict.Verdict.{Verdict}
 use Rattle.wsn_io.specs.declared.stop.Stop.{Stop}
@@ -14,7 +13,6 @@ use Rattle.wsn_io.specs.declared.stop.Stop.TheVariants as stop
 use Rattle.wsn_rules.specs.Limits.{Limits}
 use Rattle.wsn_rules.specs.Meaning.{MeantEvent}
 use Rattle.wsn_io.proofs.PutTexts.{front_of_more}
-use Rattle.wsn_rules.proofs.Walk.{stream-append}
 use Rattle.wsn_events.specs.declared.event.Event.{Event}
 use Rattle.wsn_events.specs.declared.event_reader.EventReader.{EventReader}
 use Rattle.wsn_events.specs.declared.source.Next.{Next}
@@ -22,19 +20,10 @@ use Rattle.wsn_events.specs.declared.source.Next.TheVariants as nexts
 use Rattle.wsn_rules.specs.LawfulEvents.{IsLawfulEvent}
 use Rattle.wsn_events.specs.EventsMeant.{meant}
 use Rattle.wsn_rules.specs.NormalForm.{normal_frame, normal_form}
+use Rattle.wsn_scan.proofs.EventRuns.{normal_form-append, normal_form_push}
 use Rattle.wsn_events.specs.Normalised.{IsNormalised, IsNormalFormWritten}
 use Rattle.wsn_events.specs.EventReaders.{HasGiven, GoesOn}
 use Rattle.wsn_events.specs.Sources.{AreFirstOf, IsLast}
-
--- ---- the normal form of more events
-
-pub normal_form-append : (role : Role) (events more : List MeantEvent) → normal_form role (events ++ more) ≡ normal_form role events ++ normal_form role more
-normal_form-append role events more =
-    ap stream (map-append (normal_frame role) events more) ∙ stream-append (map (normal_frame role) events) (map (normal_frame role) more)
-
-pub normal_form_push : (role : Role) (events : List MeantEvent) (e : MeantEvent) → normal_form role (events ++ e ∷ []) ≡ normal_form role events ++ frame_bytes (normal_frame role e)
-normal_form_push role events e =
-    normal_form-append role events (e ∷ []) ∙ ap (λ (bs : List ℕ). normal_form role events ++ bs) (append-nil (frame_bytes (normal_frame role e)))
 
 -- The source has read all that came, and the normal form of the events that it gave was written.
 pub record HasWritten {A : Type 0} (role : Role) (limits : Limits) (old new : Incoming) (before after : Outgoing) (source : EventReader A) : Type 0 where

@@ -20,20 +20,19 @@ use Rattle.wsn_rules.specs.LawfulEvents.{IsLawfulControl}
 use Rattle.wsn_scan.specs.declared.part.Part.{Part}
 use Rattle.wsn_scan.specs.Parts.{IsPartAt}
 use Rattle.wsn_scan.specs.Positions.{Position, BetweenFrames, InFrame}
-use Rattle.wsn_rules.specs.declared.head_info.HeadInfo.{HeadInfo}
 use Rattle.wsn_events.specs.Reassembly.{HasBegun, IsBetweenFrames, IsInFrame, IsPlacedAt, IsReassembled}
 use Rattle.wsn_rules.proofs.LawfulMeaning.{event_of_control, event_of_data}
+use Rattle.wsn_scan.proofs.FollowedScans.{begins_at, goes_on_at}
 
 -- ---- a part of a frame, which begins there or has begun before
 
 pub begins_by : {A : Type 0} (g begun : Reassembly A) (part : Part) (fs : List Frame) (before : List ℕ) (at : Position) → part.begins ≡ true → IsPartAt at part before → IsReassembled g fs at → (IsBetweenFrames g fs → IsInFrame begun fs part.head.op []) → IsInFrame begun fs part.head.op before
-begins_by g begun part fs before BetweenFrames begins is was begin = subst (λ (bs : List ℕ). IsInFrame begun fs part.head.op bs) (sym is.1) (begin was)
-begins_by g begun part fs before (InFrame head payload) begins is was begin = let both : true ≡ false = sym begins ∙ is.0 in absurd cc
+begins_by g begun part fs before at begins is was begin =
+    let between = begins_at at part before is begins in
+    subst (λ (bs : List ℕ). IsInFrame begun fs part.head.op bs) (sym between.1) (begin (subst (λ (p : Position). IsReassembled g fs p) between.0 was))
 
 pub begun_before : {A : Type 0} (g : Reassembly A) (part : Part) (fs : List Frame) (before : List ℕ) (at : Position) → part.begins ≡ false → IsPartAt at part before → IsReassembled g fs at → IsInFrame g fs part.head.op before
-begun_before g part fs before BetweenFrames begun is was = let both : true ≡ false = sym is.0 ∙ begun in absurd cc
-begun_before g part fs before (InFrame head payload) begun is was =
-    subst (λ (bs : List ℕ). IsInFrame g fs part.head.op bs) (sym is.2) (subst (λ (h : HeadInfo). IsInFrame g fs h.op payload) (sym is.1) was)
+begun_before g part fs before at begun is was = subst (λ (p : Position). IsReassembled g fs p) (goes_on_at at part before is begun) was
 
 -- ---- the end of a frame
 

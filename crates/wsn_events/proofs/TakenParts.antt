@@ -1,19 +1,18 @@
 -- What a part of a frame says of the bytes that came.
 use Rattle.std.proofs.Common.{◌≡◌, ◌≢◌, ℕ, Bool, true, false, List, [], ◌∷◌, ◌++◌, length, take, refl, sym, ap, ◌∙◌, subst, arith, append_assoc, length-append}
 use Rattle.wsn_wire.specs.declared.endpoint.Role.{Role}
-use Rattle.wsn_wire.specs.Frame.{Frame, is_control, head_bytes, wire_payload, frame_bytes, stream}
+use Rattle.wsn_wire.specs.Frame.{Frame, is_control, wire_payload, frame_bytes, stream}
 use Rattle.wsn_wire.proofs.FrameLemmas.{length-wire_payload}
 use Rattle.wsn_rules.specs.declared.head_info.HeadInfo.{HeadInfo}
-use Rattle.wsn_rules.specs.Heads.{info_of, BeginsWithHead}
-use Rattle.wsn_rules.specs.Lawful.{IsLawful}
+use Rattle.wsn_rules.specs.Heads.{info_of}
 use Rattle.wsn_rules.specs.Limits.{Limits}
 use Rattle.wsn_rules.specs.Meaning.{MeantEvent, meaning}
 use Rattle.wsn_rules.proofs.LawfulLists.{came_on}
-use Rattle.wsn_rules.proofs.OneVerdict.{lawful_frame_shows_nothing}
 use Rattle.wsn_rules.proofs.Walk.{stream_push}
 use Rattle.wsn_scan.specs.declared.part.Part.{Part}
 use Rattle.wsn_scan.specs.Parts.{IsPart}
 use Rattle.wsn_scan.specs.Positions.{Position, BetweenFrames, InFrame, IsTakenOf}
+use Rattle.wsn_scan.proofs.HeadsReported.{frame_begins}
 use Rattle.wsn_events.specs.Sources.{AreFirstOf, HasDataPayload}
 use Rattle.wsn_events.proofs.GivenSoFar.{data_came, given_first, positive}
 
@@ -25,29 +24,6 @@ pub record EndsPart (role : Role) (limits : Limits) (came : List ℕ) (fs : List
   pub frames_are : frames ≡ fs ++ frame ∷ []
   pub position_is : position ≡ BetweenFrames
   pub taken : IsTakenOf role limits came (fs ++ frame ∷ []) BetweenFrames
-
--- a lawful frame's bytes begin with its head
-frame_begins : (role : Role) (limits : Limits) (fs : List Frame) (f : Frame) (following : List ℕ) → IsLawful role limits (fs ++ f ∷ [])
-    → BeginsWithHead role limits fs (frame_bytes f ++ following) (info_of (length (stream fs)) f)
-frame_begins role limits fs f following lawful =
-    let encodable = (came_on role limits fs f lawful).2.frame.encoded.encodable in
-    let head = head_bytes f.fin f.op f.key f.form (length f.payload) in
-    let wire = wire_payload f.key f.payload in
-    record {
-      head = head;
-      following = wire ++ following;
-      whole = append_assoc head wire following;
-      place = refl;
-      encoded = refl;
-      key = encodable.key;
-      form = encodable.form;
-      size = encodable.size;
-      has_no_evidence = record {
-        none = λ seen later reason whole evidence.
-            lawful_frame_shows_nothing role limits fs f [] lawful seen (later ++ (wire ++ following)) following reason
-            (sym (append_assoc seen later (wire ++ following)) ∙ ap (λ (bs : List ℕ). bs ++ (wire ++ following)) (sym whole) ∙ sym (append_assoc head wire following)) evidence;
-      };
-    }
 
 -- the bytes begin with the frames before a frame that has come
 by_frame : (bytes rest : List ℕ) (fs : List Frame) (f : Frame) → bytes ≡ stream (fs ++ f ∷ []) ++ rest → bytes ≡ stream fs ++ (frame_bytes f ++ rest)
@@ -77,7 +53,7 @@ data_of_frame role limits came fs f taken of_data some =
       rest = frame_bytes f ++ taken.rest;
       whole = by_frame (take limits.input came) taken.rest fs f taken.whole;
       info = info_of (length (stream fs)) f;
-      begins = frame_begins role limits fs f taken.rest taken.lawful;
+      begins = frame_begins role limits fs f [] taken.rest taken.lawful;
       of_data = of_data;
       some = size;
       payload = λ none.

@@ -153,17 +153,6 @@ module _ {A : Type 0} (walk : Walk) (es : List (Kept A)) (placed : IsPlaced walk
 
   -- ---- after a step
 
-  pub placed_piece : (pieces held : ℕ) → IsPlaced (record walk { pieces = pieces; held = held }) (map kept_meant es)
-  placed_piece pieces held = record { event = placed.event; message = placed.message; first = placed.first }
-
-  pub placed_last : (next : ℕ) → BeginsWithMessage (drop walk.event (map kept_meant es)) → next ≤ length es → drop next (map kept_meant es) ≡ from_message (drop (walk.event + 1) (map kept_meant es))
-      → IsPlaced (record { pieces = 0; held = 0; event = walk.event + 1; message = next }) (map kept_meant es)
-  placed_last next begins within first = record {
-    event = (after_one walk.event (map kept_meant es) _ _ begins.3).0;
-    message = omega (arith, within, length-map es kept_meant);
-    first = first;
-  }
-
   pub placed_control : BeginsWithControl (drop walk.event (map kept_meant es)) → IsPlaced (record walk { event = walk.event + 1 }) (map kept_meant es)
   placed_control begins =
       let following = after_one walk.event (map kept_meant es) _ _ begins.3 in

@@ -1,6 +1,5 @@
 -- For an input whose bytes are known a recut has one answer and writes one list of bytes, and planning has one answer.
-use Rattle.std.proofs.Common.{◌≡◌, ℕ, ◌+◌, ◌<◌, false, Result, Ok, Err, List, [], length, take, refl, sym, ap, ◌∙◌, subst, arith}
-use Rattle.std.proofs.lemmas.List.{take-take}
+use Rattle.std.proofs.Common.{◌≡◌, ℕ, false, Result, Ok, Err, List, [], refl, sym, ap, ◌∙◌, subst}
 use Rattle.std.proofs.KnownBytes.{Appends-nil}
 use Rattle.wsn_wire.specs.declared.endpoint.Role.{Role}
 use Rattle.wsn_wire.specs.Frame.{Frame}
@@ -8,23 +7,19 @@ use Rattle.wsn_io.specs.Transfer.{Outgoing, IsWritten}
 use Rattle.wsn_rules.specs.declared.step.Step.{Step}
 use Rattle.wsn_rules.specs.declared.why.Why.{Why}
 use Rattle.wsn_rules.specs.declared.verdict.Verdict.{Verdict}
-use Rattle.wsn_rules.specs.declared.verdict.Verdict.TheVariants.{Accepted, Cut, Refused}
 use Rattle.wsn_rules.specs.Limits.{Limits}
 use Rattle.wsn_rules.specs.Meaning.{MeantEvent, meaning}
 use Rattle.wsn_rules.specs.Recut.{recut_bytes}
-use Rattle.wsn_rules.specs.Verdict.{IsVerdict}
 use Rattle.wsn_rules.proofs.OneVerdict.{one_verdict}
 use Rattle.wsn_rules.proofs.PlanTheory.Faults.{not_both, one_fault}
-use Rattle.wsn_rules.proofs.StaysRefused.{refused_alike}
 use Rattle.wsn_io.specs.declared.stop.Stop.{Stop}
 use Rattle.wsn_io.specs.declared.stop.Stop.TheVariants as stop
-use Rattle.wsn_scan.specs.Judging.{IsUnrefused}
-use Rattle.wsn_events.specs.Normalised.{IsWithinLimit}
 use Rattle.wsn_plan.specs.declared.planning.PlanAnswer.{PlanAnswer}
 use Rattle.wsn_plan.specs.declared.planning.PlanAnswer.TheVariants as plans
 use Rattle.wsn_plan.specs.declared.recutting.RecutAnswer.{RecutAnswer}
 use Rattle.wsn_plan.specs.declared.recutting.RecutAnswer.TheVariants.{Done, NotAccepted, Fault}
 use Rattle.wsn_io.specs.Stops.{HasNoFailure}
+use Rattle.wsn_scan.proofs.WholeInputs.{not_past}
 use Rattle.wsn_plan.specs.Planning.{IsPlanFor, IsPlannedWhole}
 use Rattle.wsn_plan.specs.Recutting.{IsAnswerTo, GoesOut, IsRecutWhole, Planner}
 
@@ -33,14 +28,6 @@ unwritten : (before after : Outgoing) → before.failed ≡ false → after ≡ 
 unwritten before after sound same = subst (λ (o : Outgoing). IsWritten before o []) (sym same) (sound, Appends-nil before.written)
 
 module _ (role : Role) (limits : Limits) where
-  -- a verdict within the limit, or more bytes than the limit
-  past_or_not : (all : List ℕ) (fs : List Frame) (verdict : Verdict) → IsVerdict role limits all fs verdict → IsWithinLimit limits all verdict → limits.input < length all
-      → IsUnrefused role limits (take limits.input all) → ⊥
-  past_or_not all fs (Accepted s) is within more none = omega (arith, within, more)
-  past_or_not all fs (Cut s) is within more none = omega (arith, within, more)
-  past_or_not all fs (Refused r) is within more none =
-      none fs r.place r.reason (refused_alike role limits fs all (take limits.input all) r.place r.reason (take-take (r.place + 1) limits.input all (omega (arith, within))) is)
-
   -- ---- recuts
 
   pub one_recut_answer : (plan : List Step) (verdict : Verdict) (events : List MeantEvent) (answer other : RecutAnswer) → IsAnswerTo role limits plan verdict events answer
@@ -104,8 +91,8 @@ module _ (role : Role) (limits : Limits) where
     one_recut (Ok answer) (Ok other) says also one two =
         let both = both_answer answer other one two in
         (ap (λ (a : RecutAnswer). let r : Result RecutAnswer Stop = Ok a in r) both.0, both.1)
-    one_recut (Ok answer) (Err stop.InputLimit) says also one two = absurd (past_or_not all one.1 one.0 one.2 one.3 two.0 two.1)
-    one_recut (Err stop.InputLimit) (Ok other) says also one two = absurd (past_or_not all two.1 two.0 two.2 two.3 one.0 one.1)
+    one_recut (Ok answer) (Err stop.InputLimit) says also one two = absurd (not_past role limits all one.1 one.0 one.2 one.3 two.0 two.1)
+    one_recut (Err stop.InputLimit) (Ok other) says also one two = absurd (not_past role limits all two.1 two.0 two.2 two.3 one.0 one.1)
     one_recut (Err stop.InputLimit) (Err stop.InputLimit) says also one two = (refl, ([], unwritten before after sound one.2, unwritten other_before other_after also_sound two.2))
     one_recut (Err stop.Read) other says also one two = absurd says
     one_recut (Err stop.Memory) other says also one two = absurd says
@@ -134,8 +121,8 @@ module _ (role : Role) (limits : Limits) where
         let alike = one_verdict role limits all fs gs v w v_is w_is in
         let reported_here : IsPlanFor fs v other = subst (λ (u : Verdict). IsPlanFor fs u other) (sym alike.1) (subst (λ (hs : List Frame). IsPlanFor hs w other) (sym alike.0) also_reported) in
         ap (λ (a : PlanAnswer A). let r : Result (PlanAnswer A) Stop = Ok a in r) (one_plan_answer fs v answer other has_reported reported_here)
-    one_plan_of (Ok answer) (Err stop.InputLimit) says also one two = absurd (past_or_not all one.1 one.0 one.2 one.3 two.0 two.1)
-    one_plan_of (Err stop.InputLimit) (Ok other) says also one two = absurd (past_or_not all two.1 two.0 two.2 two.3 one.0 one.1)
+    one_plan_of (Ok answer) (Err stop.InputLimit) says also one two = absurd (not_past role limits all one.1 one.0 one.2 one.3 two.0 two.1)
+    one_plan_of (Err stop.InputLimit) (Ok other) says also one two = absurd (not_past role limits all two.1 two.0 two.2 two.3 one.0 one.1)
     one_plan_of (Err stop.InputLimit) (Err stop.InputLimit) says also one two = refl
     one_plan_of (Err stop.Read) other says also one two = absurd says
     one_plan_of (Err stop.Memory) other says also one two = absurd says

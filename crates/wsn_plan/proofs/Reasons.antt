@@ -48,14 +48,8 @@ module _ (role : Role) (limits : Limits) (count held : ℕ) (left : List MeantEv
     abbrev Held : Why → Type 0
     Held = Holds role limits count held left step
 
-    pub key_fails : (HasKeyOf role step → ⊥) → IsFirstWhy Held KeyMismatch
-    key_fails not = first_is Held KeyMismatch (none_passed Held) not
-
     pub keyed : HasKeyOf role step → Passed Held 1
     keyed key = pass Held KeyMismatch (none_passed Held) (λ not. not key)
-
-    pub no_event_left : HasKeyOf role step → left ≡ [] → IsFirstWhy Held StepsLeft
-    no_event_left key none = first_is Held StepsLeft (keyed key) none
 
     pub some_event_left : HasKeyOf role step → left ≢ [] → Passed Held 2
     some_event_left key some = pass Held StepsLeft (keyed key) some

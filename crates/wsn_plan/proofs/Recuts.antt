@@ -7,7 +7,7 @@ use Rattle.wsn_wire.specs.Frame.{Frame, stream}
 use Rattle.wsn_io.specs.Transfer.{Incoming, Outgoing}
 use Rattle.wsn_rules.specs.declared.verdict.Summary.{Summary}
 use Rattle.wsn_rules.specs.declared.verdict.Verdict.{Verdict}
-use Rattle.wsn_rules.specs.declared.verdict.Verdict.TheVariants.{Accepted, Cut, Refused}
+use Rattle.wsn_rules.specs.declared.verdict.Verdict.TheVariants.{Accepted}
 use Rattle.wsn_rules.specs.Limits.{Limits}
 use Rattle.wsn_rules.specs.LawfulEvents.{AreLawful}
 use Rattle.wsn_rules.specs.Accepted.{IsAccepted}
@@ -26,12 +26,8 @@ use Rattle.wsn_plan.specs.declared.recutting.RecutAnswer.{RecutAnswer}
 use Rattle.wsn_plan.specs.declared.recutting.RecutAnswer.TheVariants.{Done, NotAccepted, Fault}
 use Rattle.wsn_plan.specs.Gathering.{HasWholeFrame, IsStoppedAfter, IsGathered}
 use Rattle.wsn_events.specs.Comparing.{IsAnAccepted}
+use Rattle.wsn_events.proofs.Comparisons.{not_accepted}
 use Rattle.wsn_plan.specs.Recutting.{IsAnswerTo, GoesOut, IsRefragmented, Planner, IsRecutOf, IsRecut, IsRecutWhole}
-
-not_accepted : (verdict : Verdict) → ((s : Summary) → verdict ≡ Accepted s → ⊥) → IsAnAccepted verdict → ⊥
-not_accepted (Accepted s) none is = none s refl
-not_accepted (Cut s) none is = is
-not_accepted (Refused r) none is = is
 
 accepted : (verdict : Verdict) (s : Summary) → verdict ≡ Accepted s → IsAnAccepted verdict
 accepted verdict s is = subst IsAnAccepted (sym is) tt
