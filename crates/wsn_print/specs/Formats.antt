@@ -1,5 +1,5 @@
 -- What is printed in each format, with its LF: answers, and what is shown of streams and captures.
-use Rattle.std.specs.Prelude.{ℕ, List, ◌++◌, flat_map}
+use Rattle.std.specs.Prelude.{ℕ, List, flat_map}
 use Rattle.wsn_wire.specs.declared.endpoint.Role.{Role}
 use Rattle.wsn_rules.specs.declared.compared.Compared.{Compared}
 use Rattle.wsn_rules.specs.declared.head_info.HeadInfo.{HeadInfo}
@@ -17,7 +17,7 @@ use Rattle.wsn_print.specs.ComparisonText.{comparison_line}
 use Rattle.wsn_print.specs.Objects.{verdict_object, frame_object, report_object, comparison_object}
 use Rattle.wsn_print.specs.ShownText.{item_line, end_line, comment_line}
 use Rattle.wsn_print.specs.ShownObjects.{Position, time_at, number_at, item_object, end_object, comment_object}
-use Rattle.wsn_print.specs.ShownObjects.Position.{InLine, AtEnd}
+use Rattle.wsn_print.specs.ShownObjects.Position.{InLine}
 
 -- ---- answers
 
@@ -71,8 +71,3 @@ line_item_entry format n position (Comment text) = comment_entry format (number_
 -- What is printed of a line of a capture.
 abbrev pub line_entries : Format → ℕ → ShownLine → List ℕ
 line_entries format n shown = flat_map (line_item_entry format n (InLine shown.number shown.time)) shown.items
-
--- What is printed of a capture: of each line, of what is left over at its end, and the report.
-abbrev pub capture_text : Format → ℕ → List ShownLine → List LineItem → Report → List ℕ
-capture_text format n lines last report =
-    flat_map (line_entries format n) lines ++ flat_map (line_item_entry format n AtEnd) last ++ report_text format report

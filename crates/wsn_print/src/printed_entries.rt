@@ -1,5 +1,4 @@
-//! Examples of the printed lines of `show`, computed from the definitions in `specs/ShownText.antt` and
-//! `specs/Formats.antt`.
+//! Examples of the printed lines of `show`, computed from the definitions in `specs/ShownText.antt`.
 
 ghost use Rattle.std.specs.Prelude.{◌≡◌, true, false, None, Some, [], ◌∷◌, ◌++◌, codes, replicate};
 ghost use Rattle.wsn_wire.specs.declared.endpoint.Role.TheVariants.{Client, Server};
@@ -7,14 +6,9 @@ ghost use Rattle.wsn_wire.specs.declared.opcode.Kind.TheVariants as kind;
 ghost use Rattle.wsn_wire.specs.declared.opcode.Op.TheVariants.{Text, Continue, Close, Ping, Pong};
 ghost use Rattle.wsn_wire.specs.declared.length_forms.Form.TheVariants.{Shortest, Two};
 ghost use Rattle.wsn_wire.specs.declared.refusal.Reason.TheVariants.{TextBad};
-ghost use Rattle.wsn_rules.specs.declared.report.Outcome.TheVariants.{Failed};
-ghost use Rattle.wsn_rules.specs.declared.report.Side.TheVariants as side;
 ghost use Rattle.wsn_rules.specs.Meaning.{Message, Control};
 ghost use Rattle.wsn_rules.specs.ShownStream.Item.{Event, Head, Unfinished, UnfinishedHead, RefusedFrame, Unread, Tail};
-ghost use Rattle.wsn_rules.specs.ShownCapture.LineItem.{OfStream, End, Comment};
 ghost use Rattle.wsn_print.specs.ShownText.{item_line, text_view, hex_view, body_view, quoted, comment_line, end_line};
-ghost use Rattle.wsn_print.specs.Formats.{capture_text};
-ghost use Rattle.wsn_print.specs.declared.format.Format.TheVariants as format;
 
 /// The lines of complete events: their offset is that of the first frame.
 pub fn of_events()
@@ -139,22 +133,4 @@ pub fn of_comments()
     ensures u_202e { comment_line (0x23 ∷ 0xe2 ∷ 0x80 ∷ 0xae ∷ []) ≡ codes "#\\u202e\n" }
     ensures not_utf_8 { comment_line (0x23 ∷ 0xe9 ∷ 0x09 ∷ []) ≡ codes "#\\xe9\\x09\n" }
     ensures partly_utf_8 { comment_line (0x23 ∷ 0xc3 ∷ 0xa9 ∷ 0xe9 ∷ []) ≡ codes "#\\xc3\\xa9\\xe9\n" }
-{}
-
-/// What is printed of a whole capture: its lines, what is left over at its end, and the report.
-pub fn of_a_capture()
-    ensures { capture_text format.Text 48 ((record { number = 1; time = None; items = OfStream Server (Event 0 (Message kind.Text (codes "Hello")) 1) ∷ OfStream Server (RefusedFrame 7 (record { place = 11; reason = TextBad }) (codes "Gr" ++ (0xfc ∷ []))) ∷ [] })
-        ∷ (record { number = 3; time = Some (codes "0.5"); items = OfStream Client (Event 0 (Control Close ((0x03 ∷ 0xef ∷ []))) 1) ∷ [] })
-        ∷ (record { number = 4; time = Some (codes "0.5"); items = End Client 8 ∷ [] })
-        ∷ (record { number = 5; time = None; items = Comment (codes "# reset") ∷ [] }) ∷ [])
-        (OfStream Server (Unread 12 ((0xdf ∷ []))) ∷ [])
-        (record {
-          client = side.Closed (Some 1007);
-          server = side.Refused (record { place = 11; reason = TextBad });
-          first = Some Client;
-          echo = None;
-          client_sees = Some 1006;
-          server_sees = Some 1007;
-          outcome = Failed;
-        }) ≡ codes "S - 0 text 5 1 \"Hello\"\nS - 7 refused 11 text-bad 1007 4772fc\nC 0.5 0 close 2 1 1007\nC 0.5 8 end\n# reset\nS - 12 unread 1 df\nclient closed 1007\nserver refused 11 text-bad 1007\nfirst client\necho -\nclient-sees 1006\nserver-sees 1007\noutcome failed\n" }
 {}

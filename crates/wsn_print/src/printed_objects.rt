@@ -13,9 +13,6 @@ ghost use Rattle.wsn_rules.specs.declared.report.Side.TheVariants as side;
 ghost use Rattle.wsn_rules.specs.declared.verdict.Verdict.TheVariants.{Accepted, Cut, Refused};
 ghost use Rattle.wsn_rules.specs.Meaning.{Message, Control};
 ghost use Rattle.wsn_rules.specs.ShownStream.Item.{Event, Unfinished, UnfinishedHead, RefusedFrame, Unread, Tail};
-ghost use Rattle.wsn_rules.specs.ShownCapture.LineItem.{OfStream, End, Comment};
-ghost use Rattle.wsn_print.specs.declared.format.Format.TheVariants as format;
-ghost use Rattle.wsn_print.specs.Formats.{capture_text};
 ghost use Rattle.wsn_print.specs.Objects.{verdict_object, frame_object, report_object, comparison_object};
 ghost use Rattle.wsn_print.specs.ShownObjects.{item_object, end_object, shown_frame_object, comment_object};
 ghost use Rattle.wsn_print.specs.ShownObjects.Position.{InLine, AtEnd, InStream};
@@ -202,21 +199,4 @@ pub fn of_comments()
     ensures as_it_is { comment_object 2 (codes "# reset by the server") ≡ codes "{\"type\":\"comment\",\"line\":2,\"text\":\" reset by the server\"}\n" }
     ensures escaped { comment_object 2 (codes "#\"\t\\") ≡ codes "{\"type\":\"comment\",\"line\":2,\"text\":\"\\\"\\u0009\\\\\"}\n" }
     ensures not_utf_8 { comment_object 2 (0x23 ∷ 0xe9 ∷ 0x5c ∷ 0x41 ∷ []) ≡ codes "{\"type\":\"comment\",\"line\":2,\"text\":\"\\\\xe9\\\\A\"}\n" }
-{}
-
-/// What is printed of a whole capture: its lines by number, what is left over at its end, and the report.
-pub fn of_a_capture()
-    ensures { capture_text format.Json 48 ((record { number = 1; time = None; items = OfStream Server (Event 0 (Message kind.Text (codes "Hello")) 1) ∷ [] })
-        ∷ (record { number = 3; time = Some (codes "0.5"); items = End Client 8 ∷ [] })
-        ∷ (record { number = 4; time = Some (codes "0.5"); items = Comment (codes "# reset") ∷ [] }) ∷ [])
-        (OfStream Server (Unread 12 ((0xdf ∷ []))) ∷ [])
-        (record {
-          client = side.Closed (Some 1007);
-          server = side.Ended;
-          first = Some Client;
-          echo = None;
-          client_sees = Some 1006;
-          server_sees = Some 1007;
-          outcome = outcome.Failed;
-        }) ≡ codes "{\"type\":\"event\",\"line\":1,\"side\":\"server\",\"time\":null,\"offset\":0,\"event\":\"text\",\"bytes\":5,\"frames\":1,\"text\":\"Hello\"}\n{\"type\":\"end\",\"line\":3,\"side\":\"client\",\"time\":0.5,\"offset\":8}\n{\"type\":\"comment\",\"line\":4,\"text\":\" reset\"}\n{\"type\":\"unread\",\"side\":\"server\",\"time\":null,\"offset\":12,\"bytes\":1,\"hex\":\"df\"}\n{\"type\":\"report\",\"client\":{\"state\":\"closed\",\"code\":1007},\"server\":{\"state\":\"ended\"},\"first\":\"client\",\"echo\":null,\"client_sees\":1006,\"server_sees\":1007,\"outcome\":\"failed\"}\n" }
 {}

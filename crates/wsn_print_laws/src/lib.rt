@@ -16,6 +16,9 @@
 //!
 //! The definitions of the objects are those of `wsn_print` (`specs/Objects.antt`, `ShownObjects.antt`) and of `wsn_show`
 //! (`specs/EndedBy.antt`), whose functions write them. Nothing here runs.
+//!
+//! [`printed_captures`] has examples of what `show` prints of a whole capture, computed from the definitions.
 #![tactic(auto)]
 
 pub mod laws;
+pub mod printed_captures;
