@@ -11,6 +11,7 @@
 pub use wsn_events::laws::{
     law_normalising_twice, law_one_comparison, law_one_difference, law_one_normal_form,
 };
+pub use wsn_list::laws::law_one_listing;
 pub use wsn_plan::laws::{
     law_one_line_fault, law_one_plan, law_one_plan_of, law_one_recut, law_restored,
     law_same_meaning,
@@ -20,4 +21,4 @@ pub use wsn_rules::laws::{
     law_canon, law_meaning_is_lawful, law_normal_form_is_a_recut, law_once, law_recut, law_restore,
     law_stays_refused, law_unique,
 };
-pub use wsn_scan::laws::{law_one_answer, law_one_listing};
+pub use wsn_scan::laws::law_one_answer;

@@ -131,6 +131,10 @@ fn job_line(alloc: Global, job: &Job) -> Result<String, AllocError> {
             let stream = stream_line(alloc, "frames", *role, limits)?;
             with_format(alloc, &stream, *format)
         }
+        Job::Payload(role, limits, at) => {
+            let stream = stream_line(alloc, "payload", *role, limits)?;
+            format!(in alloc; "{stream}, at {at}")
+        }
         Job::Normal(role, limits) => stream_line(alloc, "normal", *role, limits),
         Job::Plan(role, limits) => stream_line(alloc, "plan", *role, limits),
         Job::Recut(role, limits, how) => recut_line(alloc, *role, limits, how),

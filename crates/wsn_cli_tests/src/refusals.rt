@@ -3,11 +3,15 @@
 use crate::answer_lines::expect_answer;
 
 /// A missing or unknown word, and a role or number out of its range.
-static WRONG: [&str; 46] = [
+static WRONG: [&str; 50] = [
     "wsn",
     "wsn other",
     "wsn judge",
     "wsn frames",
+    "wsn payload --role server",
+    "wsn payload --at 7",
+    "wsn payload --role server --at end",
+    "wsn payload --role server --at 18446744073709551616",
     "wsn normal",
     "wsn plan",
     "wsn recut --size 3",

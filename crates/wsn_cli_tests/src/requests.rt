@@ -3,7 +3,7 @@
 use crate::answer_lines::expect_answer;
 
 /// Without options each command has the greatest limits on bytes, no limit on frames, and the shortest lengths.
-static COMMANDS: [(&str, &str); 16] = [
+static COMMANDS: [(&str, &str); 18] = [
     (
         "wsn judge --role server",
         "judge server 16777216 1099511627776 - shortest",
@@ -19,6 +19,14 @@ static COMMANDS: [(&str, &str); 16] = [
     (
         "wsn frames --role client",
         "frames client 16777216 1099511627776 - shortest",
+    ),
+    (
+        "wsn payload --role server --at 7",
+        "payload server 16777216 1099511627776 - shortest, at 7",
+    ),
+    (
+        "wsn payload --role client --at=18446744073709551615",
+        "payload client 16777216 1099511627776 - shortest, at 18446744073709551615",
     ),
     (
         "wsn normal --role client",
