@@ -65,7 +65,7 @@ fn clap_refuses_wrong_words(rt: HostRuntime) {
 
 /// Options of `recut` that don't go together, a key that isn't eight digits, a number with a sign, and two inputs that
 /// are both standard input: with each the mistake.
-static REFUSED: [(&str, &str); 23] = [
+static REFUSED: [(&str, &str); 24] = [
     ("wsn recut --role server", "NoPlanOrSize"),
     ("wsn recut --role server --plan p --size 2", "PlanAndSize"),
     (
@@ -89,6 +89,7 @@ static REFUSED: [(&str, &str); 23] = [
     ("wsn recut --role client --size 2 --key ", "BadKey"),
     ("wsn judge --role server --limit +5", "SignedNumber"),
     ("wsn closing --limit=-0", "SignedNumber"),
+    ("wsn payload --role server --at +5", "SignedNumber"),
     ("wsn show --view +5", "SignedNumber"),
     ("wsn same --role client a b --view +5", "SignedNumber"),
     ("wsn same --role client --frames +1 a b", "SignedNumber"),
