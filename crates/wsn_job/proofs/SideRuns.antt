@@ -31,7 +31,7 @@ use Rattle.wsn_job.specs.Diagnostics.{IsDiagnosed, IsStopDiagnosed}
 use Rattle.wsn_job.specs.Jobs.{IsRun}
 use Rattle.wsn_job.specs.Plans.{IsPlanPrinted, IsPlanDiagnosed}
 use Rattle.wsn_payload.specs.declared.answer.Payload.TheVariants.{Whole, Unfinished, Inside, Nothing}
-use Rattle.wsn_payload.specs.declared.answer.Payload.{Payload}
+use Rattle.wsn_payload.specs.declared.answer.Payload.{Payload as Taken}
 use Rattle.wsn_payload.specs.Payloads.{IsPayloadTaken}
 use Rattle.wsn_job.specs.Payloads.{IsPayloadDiagnosed}
 use Rattle.wsn_job.specs.Recuts.{IsRecutDiagnosed, planned_by}
@@ -112,7 +112,7 @@ module _ (role : Role) (limits : Limits) (old new : Incoming) (failed : new.fail
   recut planner before after (Err stop.Memory) is = let h : new.failed ≡ false = is.of_bytes.0.1 in absurd cc
   recut planner before after (Err stop.Write) is = reached is.came is.of_bytes.0 is.of_bytes.2.0
 
-  payload_taken : (at : ℕ) (before after : Outgoing) (result : Result Payload Stop) →
+  payload_taken : (at : ℕ) (before after : Outgoing) (result : Result Taken Stop) →
       IsPayloadTaken role limits at old new before after result → result ≡ Err stop.Read
   payload_taken at before after (Ok Whole) is = let h : new.failed ≡ false = is.answer.3 in absurd cc
   payload_taken at before after (Ok (Unfinished verdict)) is = reached is.came verdict is.answer.3
@@ -145,7 +145,7 @@ run_of_failed_read (Recut role limits how) before after (done.Recut answer) may 
     (answer, is, refl, subst (λ (a : Result RecutAnswer Stop). IsRecutDiagnosed a before.errors errors) (sym stopped) said)
 run_of_failed_read (Payload role limits at) before after (done.Payload place answer) may is failed errors said =
     let stopped = payload_taken role limits before.input after.input failed at before.output after.output answer is.1 in
-    (answer, is.1, refl, subst (λ (a : Result Payload Stop). IsPayloadDiagnosed at a before.errors errors) (sym stopped) said)
+    (answer, is.1, refl, subst (λ (a : Result Taken Stop). IsPayloadDiagnosed at a before.errors errors) (sym stopped) said)
 run_of_failed_read (ShowStream role limits style) before after (done.ShowStream answer) may is failed errors said =
     let stopped = stream_shown role limits before.input after.input failed style before.output after.output answer is in
     (answer, is, refl, subst (λ (a : Result Verdict Stop). IsStopDiagnosed a before.errors errors) (sym stopped) said)

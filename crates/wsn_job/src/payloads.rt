@@ -9,7 +9,6 @@ use wsn_print::{line_of_inside, line_of_nothing};
 
 /// Writes to `errors` what isn't in the payload: the verdict at which the event isn't complete, that nothing begins at
 /// the offset, or a stop.
-#[tactic(none)]
 pub(crate) fn diagnose_payload<E: Write>(
     at: u64,
     done: Result<Payload, Stop>,
@@ -29,7 +28,6 @@ pub(crate) fn diagnose_payload<E: Write>(
 }
 
 /// The program's exit status.
-#[tactic(none)]
 pub(crate) fn status(done: Result<Payload, Stop>) -> u8
     ensures { result ≡ payload_status done }
 {
