@@ -2,9 +2,9 @@ ghost use Rattle.std.specs.Prelude.{◌≡◌, ◌↔◌, true, IsTrue, IfSome};
 ghost use Rattle.wsn_rules.specs.Limits.{Limits};
 ghost use Rattle.wsn_hint.specs.Hints.{Fits, BeginsNoLine, HasBlank, HasControl, IsControl, MayBeStream, MayBeginLine};
 
+use crate::early_verdict::is_lawful_start;
 use crate::formats::{after_digits, format_of};
 use crate::hint::Hint;
-use crate::early_verdict::is_lawful_start;
 use crate::streams::is_text;
 use wsn_rules::{INPUT_MAX, Limits, MESSAGE_MAX};
 use wsn_wire::Role;

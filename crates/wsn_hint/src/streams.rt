@@ -3,9 +3,9 @@ ghost use Rattle.std.specs.List.{AllByRecursion};
 ghost use Rattle.wsn_hint.specs.declared.hint.Hint.TheVariants.{Empty};
 ghost use Rattle.wsn_hint.specs.Hints.{IsRefusedEarly, Fits, IsDataHead, BeginsCompressed, BeginsCapture, IsTextByte};
 
+use crate::early_verdict::{early_verdict, is_lawful_start};
 use crate::formats::format_of;
 use crate::hint::Hint;
-use crate::early_verdict::{early_verdict, is_lawful_start};
 use wsn_rules::{Limits, Verdict};
 use wsn_wire::{Reason, Role};
 
