@@ -15,7 +15,8 @@ use Rattle.wsn_print.specs.HeadText.{head_line}
 use Rattle.wsn_print.specs.ReportText.{report_lines}
 use Rattle.wsn_print.specs.ComparisonText.{comparison_line}
 use Rattle.wsn_print.specs.Objects.{verdict_object, frame_object, report_object, comparison_object}
-use Rattle.wsn_print.specs.ShownText.{item_line, end_line, comment_line}
+use Rattle.wsn_print.specs.ShownText.{end_line, comment_line}
+use Rattle.wsn_print.specs.CharacterText.{item_lines}
 use Rattle.wsn_print.specs.ShownObjects.{Position, time_at, number_at, item_object, end_object, comment_object}
 use Rattle.wsn_print.specs.ShownObjects.Position.{InLine}
 
@@ -49,7 +50,7 @@ comparison_text Json = comparison_object
 
 -- An item of an endpoint's stream, with views of at most n bytes.
 abbrev pub item_entry : Format → ℕ → Role → Position → Item → List ℕ
-item_entry Text n role position item = item_line n role (time_at position) item
+item_entry Text n role position item = item_lines n role (time_at position) item
 item_entry Json n role position item = item_object n role position item
 
 -- An endpoint's end mark. The offset is the number of bytes that the endpoint sent.

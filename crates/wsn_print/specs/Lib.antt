@@ -11,6 +11,7 @@ pub mod Statuses
 pub mod Json
 pub mod Objects
 pub mod ShownText
+pub mod CharacterText
 pub mod ShownObjects
 pub mod ShownParts
 pub mod Formats

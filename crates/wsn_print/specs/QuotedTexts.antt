@@ -72,7 +72,7 @@ bytes_in (Event offset event frames) = payload_in event
 bytes_in (Head info) = key_bytes info.key
 bytes_in (Unfinished offset event frames lacks) = payload_in event
 bytes_in (UnfinishedHead offset) = []
-bytes_in (RefusedFrame offset refusal evidence) = evidence
+bytes_in (RefusedFrame offset refusal evidence character) = evidence
 bytes_in (Unread offset bytes) = bytes
 bytes_in (Tail offset bytes) = bytes
 

@@ -15,6 +15,7 @@ use Rattle.wsn_rules.specs.ShownStream.{Item}
 use Rattle.wsn_rules.specs.ShownStream.Item.{Event, Head, Unfinished, UnfinishedHead, RefusedFrame, Unread, Tail}
 use Rattle.wsn_print.specs.Json.{field, string_field, number_field, number_or_null_field}
 use Rattle.wsn_print.specs.Objects.{refusal_fields, head_fields}
+use Rattle.wsn_print.specs.CharacterText.{character_fields}
 use Rattle.wsn_print.specs.ShownText.{is_from, quoted_character, quoted, text_part, is_printable, event_word, event_size, offset_of}
 
 -- ---- views
@@ -135,7 +136,7 @@ item_type (Event offset event frames) = codes "event"
 item_type (Head info) = codes "frame"
 item_type (Unfinished offset event frames lacks) = codes "unfinished"
 item_type (UnfinishedHead offset) = codes "unfinished"
-item_type (RefusedFrame offset refusal evidence) = codes "refused"
+item_type (RefusedFrame offset refusal evidence character) = codes "refused"
 item_type (Unread offset bytes) = codes "unread"
 item_type (Tail offset bytes) = codes "tail"
 
@@ -153,7 +154,8 @@ item_fields n (Unfinished offset event frames lacks) =
     ++ unfinished_view_fields n event
 item_fields n (UnfinishedHead offset) =
     event_fields (codes "head") 0 0 ++ number_or_null_field (codes "lacks") None ++ hex_field []
-item_fields n (RefusedFrame offset refusal evidence) = refusal_fields (codes "place") refusal ++ end_fields n evidence
+item_fields n (RefusedFrame offset refusal evidence character) =
+    refusal_fields (codes "place") refusal ++ end_fields n evidence ++ character_fields n evidence character
 item_fields n (Unread offset bytes) = number_field (codes "bytes") (length bytes) ++ hex_fields n bytes
 item_fields n (Tail offset bytes) = number_field (codes "bytes") (length bytes) ++ hex_fields n bytes
 

@@ -5,6 +5,7 @@ use Rattle.wsn_wire.specs.declared.opcode.Kind.TheVariants as kinds
 use Rattle.wsn_wire.specs.declared.opcode.Op.{Op}
 use Rattle.wsn_wire.specs.declared.opcode.Op.TheVariants as ops
 use Rattle.wsn_text.specs.Utf8.{BeginsText}
+use Rattle.wsn_rules.specs.BadCharacter.{BadCharacter}
 use Rattle.wsn_rules.specs.Meaning.{MeantEvent, Message, Control}
 use Rattle.wsn_rules.specs.ShownStream.{Item}
 use Rattle.wsn_rules.specs.ShownStream.Item.{Event, Unread, Tail}
@@ -14,6 +15,7 @@ use Rattle.wsn_print.specs.declared.shown.Origin.TheVariants as origins
 use Rattle.wsn_print.specs.declared.shown.ShownEvent.{ShownEvent}
 use Rattle.wsn_print.specs.declared.shown.PlacedEvent.{PlacedEvent}
 use Rattle.wsn_print.specs.declared.shown.HeldBytes.{HeldBytes}
+use Rattle.wsn_print.specs.declared.shown.ShownCharacter.{ShownCharacter}
 use Rattle.wsn_print.specs.declared.shown.Remainder.{Remainder}
 use Rattle.wsn_print.specs.declared.shown.Remainder.TheVariants as remainders
 use Rattle.wsn_print.specs.ShownObjects.{Position}
@@ -92,6 +94,15 @@ abbrev pub StandsFor : ℕ → Option PlacedEvent → Option Item → Type 0
 StandsFor n None None = ⊤
 StandsFor n (Some placed) (Some (Event offset event frames)) = IsPlaced n placed offset event frames
 StandsFor n placed item = ⊥
+
+-- The bad character for which this stands.
+abbrev pub character_of : ShownCharacter → BadCharacter
+character_of shown = record { offset = shown.offset; in_payload = shown.in_payload; bytes = shown.bytes.now }
+
+-- The bad character for which this stands, if there is one.
+abbrev pub character_in : Option ShownCharacter → Option BadCharacter
+character_in None = None
+character_in (Some shown) = Some (character_of shown)
 
 -- The word for bytes that belong to no frame.
 abbrev pub remainder_word : Remainder → List ℕ

@@ -164,7 +164,7 @@ offset_of (Event offset event frames) = offset
 offset_of (Head info) = info.place
 offset_of (Unfinished offset event frames lacks) = offset
 offset_of (UnfinishedHead offset) = offset
-offset_of (RefusedFrame offset refusal evidence) = offset
+offset_of (RefusedFrame offset refusal evidence character) = offset
 offset_of (Unread offset bytes) = offset
 offset_of (Tail offset bytes) = offset
 
@@ -176,7 +176,7 @@ item_text n (Unfinished offset event frames lacks) =
     codes "unfinished " ++ event_text event frames ++ codes " lacks " ++ number_text lacks ++ codes " "
     ++ unfinished_view n event
 item_text n (UnfinishedHead offset) = codes "unfinished head 0 0 lacks - -"
-item_text n (RefusedFrame offset refusal evidence) = refusal_text refusal ++ codes " " ++ end_view n evidence
+item_text n (RefusedFrame offset refusal evidence character) = refusal_text refusal ++ codes " " ++ end_view n evidence
 item_text n (Unread offset bytes) = bytes_text n (codes "unread") bytes
 item_text n (Tail offset bytes) = bytes_text n (codes "tail") bytes
 

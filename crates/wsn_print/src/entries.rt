@@ -115,9 +115,10 @@ pub fn put_refused<W: Write>(
     evidence: &HeldBytes<'_>,
 ) -> Result<(), Stop>
     requires { to.old.failed ≡ false }
-    ensures { (all : List ℕ) → IsEndOf (view / 2) all evidence.now →
+    ensures text { (all : List ℕ) (character : Option BadCharacter) → IsEndOf (view / 2) all evidence.now →
         IsWrittenOrStops to.old to.new (item_line view front.now.role (time_of front.now)
-        (RefusedFrame front.now.offset refusal.now all)) result }
+        (RefusedFrame front.now.offset refusal.now all character)) result }
+    ensures unfailed { IfOk result (λ done. to.new.failed ≡ false) }
 {
     put_front(to, front)?;
     put_line(to, line_of_refusal(refusal).bytes())?;

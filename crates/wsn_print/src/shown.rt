@@ -151,6 +151,17 @@ pub struct HeldBytes<'a> {
     pub held: &'a [u8],
 }
 
+/// The character with which a text goes wrong.
+#[derive(Clone, Copy)]
+pub struct ShownCharacter<'a> {
+    /// The offset of its first byte in the endpoint's stream, from 0.
+    pub offset: u64,
+    /// The place of its first byte in the payload of the message, from 0.
+    pub in_payload: u64,
+    /// Its bytes up to the offending one.
+    pub bytes: &'a [u8],
+}
+
 /// What bytes are that belong to no frame.
 #[derive(Clone, Copy)]
 pub enum Remainder {

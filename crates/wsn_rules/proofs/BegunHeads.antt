@@ -1,5 +1,5 @@
 -- A whole head at the front of bytes: what has come after it, and that there is one unless a part of it is missing.
-use Rattle.std.proofs.Common.{◌≡◌, ◌≢◌, ℕ, ◌+◌, ◌-◌, ◌≤◌, Bool, true, not, List, [], ◌∷◌, ◌++◌, ◌⊎◌, length, if◌then◌else◌, refl, sym, ap, ◌∙◌, subst, inl, inr, append-nil, append_assoc, length-append, arith}
+use Rattle.std.proofs.Common.{◌≡◌, ◌≢◌, ℕ, ◌+◌, ◌-◌, ◌≤◌, Bool, true, not, Option, List, [], ◌∷◌, ◌++◌, ◌⊎◌, length, if◌then◌else◌, refl, sym, ap, ◌∙◌, subst, inl, inr, append-nil, append_assoc, length-append, arith}
 use Rattle.std.specs.Prelude.{◌↔◌}
 use Rattle.std.proofs.lemmas.Bool.{cases_lt}
 use Rattle.wsn_wire.specs.declared.endpoint.Role.{Role}
@@ -22,6 +22,7 @@ use Rattle.wsn_rules.specs.Heads.{BeginsWithHead, info_of}
 use Rattle.wsn_rules.specs.Verdict.{ComesFirst, EndsWithinFrame, IsCut, IsEvidentAt, IsRefused}
 use Rattle.wsn_rules.specs.ShownBytes.{begun_bytes}
 use Rattle.wsn_rules.specs.ShownPlaces.{IsEncodableHead, IsPartOfHead, HasBegun, AreOfOneFrame, IsEvidenceIn}
+use Rattle.wsn_rules.specs.BadCharacter.{BadCharacter}
 use Rattle.wsn_rules.specs.ShownStream.{IsShownEvidence}
 use Rattle.wsn_rules.proofs.Prefixes.{two_fronts}
 use Rattle.wsn_rules.proofs.HeadEvidence.{first_row, encoding_row}
@@ -309,11 +310,11 @@ module _ (role : Role) (limits : Limits) where
 
   -- ---- the evidence of a refused frame
 
-  pub shown_evidence : (bytes : List ℕ) (fs : List Frame) (refusal : Refusal) (refused : IsRefused role limits bytes fs refusal.place refusal.reason) (evidence : List ℕ) → IsShownEvidence role limits fs refused.is_evident.seen evidence
+  pub shown_evidence : (bytes : List ℕ) (fs : List Frame) (refusal : Refusal) (refused : IsRefused role limits bytes fs refusal.place refusal.reason) (evidence : List ℕ) (character : Option BadCharacter) → IsShownEvidence role limits fs refusal.reason refused.is_evident.seen evidence character
       → IsEvidenceIn refused.is_evident.seen evidence
-  shown_evidence bytes fs refusal refused evidence (inl p) =
+  shown_evidence bytes fs refusal refused evidence character (inl p) =
       inl (p.0, p.1.following, encodable_begun fs refused.is_evident.seen p.0 p.1, p.2, begun_is fs refused.is_evident.seen p.0 p.1, p.3)
-  shown_evidence bytes fs refusal refused evidence (inr p) = inr (none, p.1)
+  shown_evidence bytes fs refusal refused evidence character (inr p) = inr (none, p.1)
     where
       none : (info : HeadInfo) (following : List ℕ) → IsEncodableHead info → refused.is_evident.seen ≡ begun_bytes info following → following ≡ []
       none info [] is e = refl

@@ -1,5 +1,5 @@
 -- Every stream has a list of items, and what is left over of it.
-use Rattle.std.proofs.Common.{◌≡◌, ◌≢◌, ℕ, ◌+◌, ◌<◌, ◌≤◌, List, [], ◌∷◌, ◌++◌, ◌⊎◌, length, take, drop, map, refl, sym, ap, ◌∙◌, subst, inl, inr, append_assoc, length-append, take-append-drop, arith}
+use Rattle.std.proofs.Common.{◌≡◌, ◌≢◌, ℕ, ◌+◌, ◌<◌, ◌≤◌, Option, None, List, [], ◌∷◌, ◌++◌, ◌⊎◌, length, take, drop, map, refl, sym, ap, ◌∙◌, subst, inl, inr, append_assoc, length-append, take-append-drop, arith}
 use Rattle.std.proofs.lemmas.List.{take_at}
 use Rattle.wsn_wire.specs.declared.endpoint.Role.{Role}
 use Rattle.wsn_wire.specs.declared.refusal.Reason.{Reason}
@@ -20,6 +20,7 @@ use Rattle.wsn_rules.specs.Evidence.Evidence.{ByFirst, BySecond, ByLength}
 use Rattle.wsn_rules.specs.Group.{unfinished}
 use Rattle.wsn_rules.specs.Heads.{BeginsWithHead, IsBegun, info_of, heads_of}
 use Rattle.wsn_rules.specs.Verdict.{IsVerdict}
+use Rattle.wsn_rules.specs.BadCharacter.{BadCharacter, character_of}
 use Rattle.wsn_rules.specs.ShownPlaces.{IsEncodableHead}
 use Rattle.wsn_rules.specs.ShownStream.{Item, Shown, shown_after, shown_of, shown_head, AreShownFrames, interrupted, IsShownEvidence, IsShownVerdict, IsShownStream, items_of_bytes, items_of_part, items_of_head, IsLeftOf, IsLeftOver}
 use Rattle.wsn_rules.specs.ShownStream.Item.{RefusedFrame, Unread, Tail}
@@ -209,25 +210,27 @@ module _ (role : Role) (limits : Limits) (range : InRange limits) where
         (heads_of fs ++ begun.0, record { rest = parts.rest; begun = begun.0; lawful = parts.lawful; whole = parts.whole; is_begun = begun.1; all = refl }, refl),
       )
 
-  some_evidence : (fs : List Frame) (seen : List ℕ) → IsBytes seen → (evidence : List ℕ) × IsShownEvidence role limits fs seen evidence
-  some_evidence fs seen all =
+  some_evidence : (fs : List Frame) (reason : Reason) (seen : List ℕ) → IsBytes seen → (evidence : List ℕ) × (character : Option BadCharacter) × IsShownEvidence role limits fs reason seen evidence character
+  some_evidence fs reason seen all =
       elim (decide_head role limits fs seen all) [
-        | inr none ↦ (seen, inr ((λ info b. absurd (none info b)), refl))
+        | inr none ↦ (seen, None, inr ((λ info b. absurd (none info b)), refl, refl))
         | inl p ↦ by p.0 p.1 p.1.following refl
       ]
     where
-      by : (info : HeadInfo) (b : BeginsWithHead role limits fs seen info) (following : List ℕ) → b.following ≡ following → (evidence : List ℕ) × IsShownEvidence role limits fs seen evidence
-      by info b [] is = (seen, inr ((λ other c. one_following role limits fs seen other info c b ∙ is), refl))
-      by info b (x ∷ following) is = (wire_payload info.key b.following, inl (info, b, (λ none. let both : x ∷ following ≡ [] = sym is ∙ none in cc), refl))
+      by : (info : HeadInfo) (b : BeginsWithHead role limits fs seen info) (following : List ℕ) → b.following ≡ following → (evidence : List ℕ) × (character : Option BadCharacter) × IsShownEvidence role limits fs reason seen evidence character
+      by info b [] is = (seen, None, inr ((λ other c. one_following role limits fs seen other info c b ∙ is), refl, refl))
+      by info b (x ∷ following) is =
+          let part = wire_payload info.key b.following in
+          (part, character_of reason fs info part, inl (info, b, (λ none. let both : x ∷ following ≡ [] = sym is ∙ none in cc), refl, refl))
 
   some_of_verdict : (detail : Detail) (bytes : List ℕ) (fs : List Frame) (v : Verdict) → IsBytes bytes → (shown : List Shown) × IsShownVerdict detail role limits bytes fs v shown
   some_of_verdict detail bytes fs (Accepted summary) all = ([], refl)
   some_of_verdict detail bytes fs (Cut summary) all = ([], refl)
   some_of_verdict detail bytes fs (Refused refusal) all =
       let seen = drop (length (stream fs)) (take (refusal.place + 1) bytes) in
-      let evidence = some_evidence fs seen (IsBytes-drop (length (stream fs)) (take (refusal.place + 1) bytes) (IsBytes-take (refusal.place + 1) bytes all)) in (
-        shown_after (refusal.place + 1) (interrupted detail fs ++ RefusedFrame (length (stream fs)) refusal evidence.0 ∷ []),
-        record { evidence = evidence.0; is_evidence = evidence.1; is = refl },
+      let evidence = some_evidence fs refusal.reason seen (IsBytes-drop (length (stream fs)) (take (refusal.place + 1) bytes) (IsBytes-take (refusal.place + 1) bytes all)) in (
+        shown_after (refusal.place + 1) (interrupted detail fs ++ RefusedFrame (length (stream fs)) refusal evidence.0 evidence.1 ∷ []),
+        record { evidence = evidence.0; character = evidence.1; is_evidence = evidence.2; is = refl },
       )
 
   pub some_shown : (detail : Detail) (bytes : List ℕ) → IsBytes bytes → (shown : List Shown) × IsShownStream detail role limits bytes shown

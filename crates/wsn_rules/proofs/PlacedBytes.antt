@@ -6,7 +6,8 @@ use Rattle.std.proofs.lemmas.List.Concat.{flat_map-append}
 use Rattle.wsn_wire.specs.Frame.{Frame, frame_bytes}
 use Rattle.wsn_rules.specs.Meaning.{Message, Control}
 use Rattle.wsn_rules.specs.ShownBytes.{AreDealt}
-use Rattle.wsn_rules.specs.ShownPlaces.{PlacedByte, placed, end_or, end_of, PlacedFrame, frames_in, placed_frames, IsPlaced, ArePlaced, is_open_message, IsShownWithNext, IsEnd, AreInOrder}
+use Rattle.wsn_rules.specs.PlacedByte.{PlacedByte, placed}
+use Rattle.wsn_rules.specs.ShownPlaces.{end_or, end_of, PlacedFrame, frames_in, placed_frames, IsPlaced, ArePlaced, is_open_message, IsShownWithNext, IsEnd, AreInOrder}
 use Rattle.wsn_rules.specs.ShownStream.{Item, Shown}
 use Rattle.wsn_rules.specs.ShownStream.Item.{Event, Head, Unfinished, UnfinishedHead, RefusedFrame, Unread, Tail}
 use Rattle.wsn_rules.proofs.Prefixes.{nil-push}
@@ -103,7 +104,7 @@ takes (Unfinished offset (Message kind payload) count lacks) = true
 takes (Unfinished offset (Control op body) count lacks) = false
 takes (Head info) = false
 takes (UnfinishedHead offset) = false
-takes (RefusedFrame offset refusal evidence) = false
+takes (RefusedFrame offset refusal evidence character) = false
 takes (Unread offset all) = false
 takes (Tail offset all) = false
 

@@ -1,7 +1,8 @@
 -- Where items are, for bytes that are written out.
 use Rattle.std.proofs.Common.{◌≡◌, ℕ, List, [], ◌∷◌, ◌++◌, map, sym, ap, ◌∙◌, subst}
 use Rattle.wsn_rules.specs.ShownBytes.{AreDealt}
-use Rattle.wsn_rules.specs.ShownPlaces.{PlacedByte, placed, IsPlaced, ArePlaced, AreInPlace}
+use Rattle.wsn_rules.specs.PlacedByte.{PlacedByte, placed}
+use Rattle.wsn_rules.specs.ShownPlaces.{IsPlaced, ArePlaced, AreInPlace}
 use Rattle.wsn_rules.specs.ShownStream.{Shown}
 use Rattle.wsn_rules.proofs.Prefixes.{nil-push, head_same, tail_same}
 use Rattle.wsn_rules.proofs.PlacedBytes.{bytes_of_placed}

@@ -11,7 +11,8 @@ use Rattle.wsn_rules.specs.declared.head_info.HeadInfo.{HeadInfo}
 use Rattle.wsn_rules.specs.Limits.{Limits}
 use Rattle.wsn_rules.specs.Meaning.{Message, Control}
 use Rattle.wsn_rules.specs.ShownBytes.{AreDealt, IsGroupOf, begun_bytes, AreOpenBytes, AreBytesOf, HaveBytes, AreSharedOut}
-use Rattle.wsn_rules.specs.ShownPlaces.{PlacedByte, placed, PlacedFrame, frames_in, placed_frames, IsPartOfHead, HasBegun, IsOpenPile, IsPileOf, ArePlaced}
+use Rattle.wsn_rules.specs.PlacedByte.{PlacedByte, placed}
+use Rattle.wsn_rules.specs.ShownPlaces.{PlacedFrame, frames_in, placed_frames, IsPartOfHead, HasBegun, IsOpenPile, IsPileOf, ArePlaced}
 use Rattle.wsn_rules.specs.ShownStream.{Item, Shown, shown_after, frame_so_far, IsLeftOver, IsShownStream}
 use Rattle.wsn_rules.specs.ShownStream.Item.{Event, Head, Unfinished, UnfinishedHead, RefusedFrame, Unread, Tail}
 use Rattle.wsn_rules.proofs.Walk.{stream_push}
@@ -85,7 +86,7 @@ item_bytes (Head info) pile p =
     let head = head_bytes info.fin info.op info.key info.form info.len in
     ([], of_piece info.place head pile p.1 ∙ sym (append-nil head))
 item_bytes (UnfinishedHead offset) pile (part, is_part, is) = λ none. some_part part is_part (sym (of_piece offset part pile is) ∙ none)
-item_bytes (RefusedFrame offset refusal evidence) pile (seen, one, is_evidence, ends, is) = ap (λ (bs : List ℕ). offset + length bs) (of_piece offset seen pile is) ∙ ends
+item_bytes (RefusedFrame offset refusal evidence character) pile (seen, one, is_evidence, ends, is) = ap (λ (bs : List ℕ). offset + length bs) (of_piece offset seen pile is) ∙ ends
 item_bytes (Unread offset bytes) pile is = of_piece offset bytes pile is
 item_bytes (Tail offset bytes) pile is = of_piece offset bytes pile is
 

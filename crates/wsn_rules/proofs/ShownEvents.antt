@@ -45,7 +45,7 @@ module _ (without : Without) where
   as_many_in (Head info) = refl
   as_many_in (Unfinished offset event frames lacks) = refl
   as_many_in (UnfinishedHead offset) = refl
-  as_many_in (RefusedFrame offset refusal evidence) = refl
+  as_many_in (RefusedFrame offset refusal evidence character) = refl
   as_many_in (Unread offset bytes) = refl
   as_many_in (Tail offset bytes) = refl
 
@@ -75,7 +75,7 @@ module _ (without : Without) where
   shows_with (Head info) shown rest k = rest k
   shows_with (Unfinished offset event frames lacks) shown rest k = rest k
   shows_with (UnfinishedHead offset) shown rest k = rest k
-  shows_with (RefusedFrame offset refusal evidence) shown rest k = rest k
+  shows_with (RefusedFrame offset refusal evidence character) shown rest k = rest k
   shows_with (Unread offset bytes) shown rest k = rest k
   shows_with (Tail offset bytes) shown rest k = rest k
 

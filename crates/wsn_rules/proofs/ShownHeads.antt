@@ -13,7 +13,8 @@ use Rattle.wsn_rules.specs.Limits.{Limits}
 use Rattle.wsn_rules.specs.Group.{unfinished}
 use Rattle.wsn_rules.specs.Heads.{info_of, heads_from, heads_of, BeginsWithHead, IsBegun}
 use Rattle.wsn_rules.specs.Verdict.{IsRefused, IsVerdict}
-use Rattle.wsn_rules.specs.ShownPlaces.{PlacedByte, placed, IsEncodableHead, IsPlaced, ArePlaced, is_open_message, IsEnd, AreInOrder, IsPartOf, AreHeadsInPlace}
+use Rattle.wsn_rules.specs.PlacedByte.{PlacedByte, placed}
+use Rattle.wsn_rules.specs.ShownPlaces.{IsEncodableHead, IsPlaced, ArePlaced, is_open_message, IsEnd, AreInOrder, IsPartOf, AreHeadsInPlace}
 use Rattle.wsn_rules.specs.ShownStream.{Shown, shown_head, IsShownVerdict, IsShownStream}
 use Rattle.wsn_rules.proofs.Prefixes.{append_cancel, two_fronts}
 use Rattle.wsn_rules.proofs.Walk.{AreSpellable, spellable_of_lawful}
@@ -100,7 +101,7 @@ module _ (role : Role) (limits : Limits) (bytes : List ℕ) (fs : List Frame) wh
       let seen = refused.is_evident.seen in
       let some = evidence_is_some role limits (unfinished fs) refusal.reason seen refused.is_evident.evidence in
       subst (λ (ss : List Shown). ArePlacedFrom bytes n ss) (sym is.is)
-      (one_more bytes n _ [] (stream fs) seen refused.is_evident.later refused.is_evident.whole (λ e. absurd e) refl some refused.is_evident.at_place later (refused_placed role limits bytes fs refusal refused is.evidence is.is_evidence) (nothing_placed bytes (refusal.place + 1)))
+      (one_more bytes n _ [] (stream fs) seen refused.is_evident.later refused.is_evident.whole (λ e. absurd e) refl some refused.is_evident.at_place later (refused_placed role limits bytes fs refusal refused is.evidence is.character is.is_evidence) (nothing_placed bytes (refusal.place + 1)))
 
   -- What is shown of the verdict, after an offset that all evidence comes after.
   of_verdict : (n : ℕ) (v : Verdict) (shown : List Shown) → IsVerdict role limits bytes fs v → IsShownVerdict Frames role limits bytes fs v shown → ((refusal : Refusal) → IsRefused role limits bytes fs refusal.place refusal.reason → n < refusal.place + 1) → ArePlacedFrom bytes n shown

@@ -1,5 +1,5 @@
 -- Each item that is shown of a stream is where it says, and every byte of the stream is in exactly one of them.
-use Rattle.std.proofs.Common.{◌≡◌, ◌≢◌, ℕ, ◌+◌, ◌-◌, ◌<◌, ◌≤◌, true, false, not, None, Some, List, [], ◌∷◌, ◌++◌, ◌⊎◌, length, take, drop, nat_lt, if◌then◌else◌, refl, sym, ap, ◌∙◌, subst, inl, inr, append-nil, append_assoc, length-append, true≢false, arith}
+use Rattle.std.proofs.Common.{◌≡◌, ◌≢◌, ℕ, ◌+◌, ◌-◌, ◌<◌, ◌≤◌, true, false, not, Option, None, Some, List, [], ◌∷◌, ◌++◌, ◌⊎◌, length, take, drop, nat_lt, if◌then◌else◌, refl, sym, ap, ◌∙◌, subst, inl, inr, append-nil, append_assoc, length-append, true≢false, arith}
 use Rattle.std.specs.Prelude.{◌↔◌}
 use Rattle.std.specs.List.{AllByRecursion}
 use Rattle.std.proofs.lemmas.Bool.{cases_Bool, cond-true, cond-false}
@@ -23,7 +23,9 @@ use Rattle.wsn_rules.specs.Meaning.{MeantEvent, Message, Control, event_at}
 use Rattle.wsn_rules.specs.Summary.{is_close}
 use Rattle.wsn_rules.specs.Verdict.{EndsWithinFrame, IsCut, IsRefused, IsVerdict}
 use Rattle.wsn_rules.specs.ShownBytes.{IsGroupOf, begun_bytes}
-use Rattle.wsn_rules.specs.ShownPlaces.{PlacedByte, placed, BeginsAt, end_of, PlacedFrame, frames_in, placed_frames, IsFragment, IsLastFrame, IsControlFrame, BeginOnce, IsMessageOf, IsEncodableHead, IsPartOfHead, HasBegun, IsPlaced, is_open_message, Interrupts, IsShownWithNext, AreInPlace}
+use Rattle.wsn_rules.specs.BadCharacter.{BadCharacter}
+use Rattle.wsn_rules.specs.PlacedByte.{PlacedByte, placed}
+use Rattle.wsn_rules.specs.ShownPlaces.{BeginsAt, end_of, PlacedFrame, frames_in, placed_frames, IsFragment, IsLastFrame, IsControlFrame, BeginOnce, IsMessageOf, IsEncodableHead, IsPartOfHead, HasBegun, IsPlaced, is_open_message, Interrupts, IsShownWithNext, AreInPlace}
 use Rattle.wsn_rules.specs.ShownStream.{Item, Shown, shown_after, open_offset, open_item, open_items, event_offset, event_frames, items_of_final, shown_at, shown_of, items_of_bytes, frame_so_far, items_of_part, items_of_head, IsLeftOfRest, IsLeftOf, IsLeftOver, IsShownEvidence, IsShownVerdict, IsShownStream}
 use Rattle.wsn_rules.specs.ShownStream.Item.{Event, Unfinished, UnfinishedHead, RefusedFrame, Unread, Tail}
 use Rattle.wsn_rules.proofs.Prefixes.{nil-push, push-append}
@@ -538,10 +540,10 @@ module _ (role : Role) (limits : Limits) where
   begins_some n [] some = absurd (omega (arith, some))
   begins_some n (b ∷ bytes) some = refl
 
-  pub refused_placed : (bytes : List ℕ) (fs : List Frame) (refusal : Refusal) (refused : IsRefused role limits bytes fs refusal.place refusal.reason) (evidence : List ℕ)
-      → IsShownEvidence role limits fs (drop (length (stream fs)) (take (refusal.place + 1) bytes)) evidence
-      → IsPlaced (with (refusal.place + 1) (RefusedFrame (length (stream fs)) refusal evidence)) (placed (length (stream fs)) refused.is_evident.seen)
-  refused_placed bytes fs refusal refused evidence is_evidence =
+  pub refused_placed : (bytes : List ℕ) (fs : List Frame) (refusal : Refusal) (refused : IsRefused role limits bytes fs refusal.place refusal.reason) (evidence : List ℕ) (character : Option BadCharacter)
+      → IsShownEvidence role limits fs refusal.reason (drop (length (stream fs)) (take (refusal.place + 1) bytes)) evidence character
+      → IsPlaced (with (refusal.place + 1) (RefusedFrame (length (stream fs)) refusal evidence character)) (placed (length (stream fs)) refused.is_evident.seen)
+  refused_placed bytes fs refusal refused evidence character is_evidence =
       let n = length (stream fs) in
       let seen = refused.is_evident.seen in
       let later = refused.is_evident.later in
@@ -551,7 +553,7 @@ module _ (role : Role) (limits : Limits) where
       let to_seen : length (stream fs ++ seen) ≡ refusal.place + 1 = length-append (stream fs) seen ∙ sym stops in
       let front : drop n (take (refusal.place + 1) bytes) ≡ seen =
       ap (λ (bs : List ℕ). drop n (take (refusal.place + 1) bs)) grouped ∙ ap (λ (bs : List ℕ). drop n bs) (take_at (stream fs ++ seen) later (refusal.place + 1) to_seen) ∙ drop_front (stream fs) seen in
-      let is = shown_evidence role limits bytes fs refusal refused evidence (subst (λ (bs : List ℕ). IsShownEvidence role limits fs bs evidence) front is_evidence) in
+      let is = shown_evidence role limits bytes fs refusal refused evidence character (subst (λ (bs : List ℕ). IsShownEvidence role limits fs refusal.reason bs evidence character) front is_evidence) in
       let end = end_is n seen some in
       record {
         begins = begins_some n seen some;
@@ -601,12 +603,12 @@ module _ (role : Role) (limits : Limits) where
       let whole : bytes ≡ stream fs ++ (seen ++ later) = refused.is_evident.whole in
       let stops : refusal.place + 1 ≡ n + length seen = refused.is_evident.at_place in
       let some = evidence_is_some role limits (unfinished fs) refusal.reason seen refused.is_evident.evidence in
-      let item = RefusedFrame n refusal shown.evidence in
+      let item = RefusedFrame n refusal shown.evidence shown.character in
       let grouped : bytes ≡ (stream fs ++ seen) ++ later = whole ∙ sym (append_assoc (stream fs) seen later) in
       let to_seen : length (stream fs ++ seen) ≡ refusal.place + 1 = length-append (stream fs) seen ∙ sym stops in
       let past : drop (refusal.place + 1) bytes ≡ later =
       ap (λ (m : ℕ). drop m bytes) (sym to_seen) ∙ ap (λ (bs : List ℕ). drop (length (stream fs ++ seen)) bs) grouped ∙ drop_front (stream fs ++ seen) later in
-      let of = refused_placed bytes fs refusal refused shown.evidence shown.is_evidence in
+      let of = refused_placed bytes fs refusal refused shown.evidence shown.character shown.is_evidence in
       let rest = shown_after total (items_of_bytes Unread (refusal.place + 1) later) in
       let all_size : total ≡ (refusal.place + 1) + length later = size_of bytes (stream fs ++ seen) later grouped ∙ ap (λ m. m + length later) to_seen in
       let of_refusal : of_verdict ≡ shown_after k (open_items fs (Some 0)) ++ with k item ∷ [] = shown.is ∙ map-append (λ (i : Item). with k i) (open_items fs (Some 0)) (item ∷ []) in

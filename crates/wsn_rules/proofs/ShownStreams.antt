@@ -24,6 +24,7 @@ use Rattle.wsn_rules.specs.Verdict.{IsRefused, IsVerdict}
 use Rattle.wsn_rules.specs.ShownStream.{Item, Shown, shown_after, open_items, items_of_final, shown_at, shown_of, shown_head, AreShownFrames, interrupted, IsShownEvidence, IsShownRefusal, IsShownVerdict, IsShownStream, event_in, events_shown, head_in, heads_shown}
 use Rattle.wsn_rules.specs.ShownStream.Item.{RefusedFrame}
 use Rattle.wsn_rules.specs.ShownCapture.{beyond}
+use Rattle.wsn_rules.specs.BadCharacter.{BadCharacter, character_of}
 use Rattle.wsn_rules.proofs.Prefixes.{push-append, append_cancel, GoesOn, two_fronts}
 use Rattle.wsn_rules.proofs.Walk.{stream-append}
 use Rattle.wsn_rules.proofs.OneVerdict.{AreAll, all_of_verdict, all_go_on, one_verdict}
@@ -158,15 +159,16 @@ all_mapped P (info ∷ heads) all = (all.0, all_mapped P heads all.1)
 -- ---- one list of items
 
 module _ (role : Role) (limits : Limits) where
-  one_evidence : (fs : List Frame) (seen shown other : List ℕ) → IsShownEvidence role limits fs seen shown → IsShownEvidence role limits fs seen other → shown ≡ other
-  one_evidence fs seen shown other (inl p) (inl q) =
-      let info = p.0 in
+  one_evidence : (fs : List Frame) (reason : Reason) (seen shown other : List ℕ) (character another : Option BadCharacter) → IsShownEvidence role limits fs reason seen shown character → IsShownEvidence role limits fs reason seen other another
+      → (shown ≡ other) × (character ≡ another)
+  one_evidence fs reason seen shown other character another (inl p) (inl q) =
       let same = one_begun role limits fs seen p.0 q.0 p.1 q.1 in
       let bytes = one_following role limits fs seen p.0 q.0 p.1 q.1 in
-      p.3 ∙ ap (λ (h : HeadInfo). wire_payload h.key p.1.following) same ∙ ap (λ (bs : List ℕ). wire_payload q.0.key bs) bytes ∙ sym q.3
-  one_evidence fs seen shown other (inl p) (inr q) = absurd (p.2 (q.0 p.0 p.1))
-  one_evidence fs seen shown other (inr p) (inl q) = absurd (q.2 (p.0 q.0 q.1))
-  one_evidence fs seen shown other (inr p) (inr q) = p.1 ∙ sym q.1
+      let shown_is : shown ≡ other = p.3 ∙ ap (λ (h : HeadInfo). wire_payload h.key p.1.following) same ∙ ap (λ (bs : List ℕ). wire_payload q.0.key bs) bytes ∙ sym q.3 in
+      (shown_is, p.4 ∙ ap (λ (h : HeadInfo). character_of reason fs h shown) same ∙ ap (λ (bs : List ℕ). character_of reason fs q.0 bs) shown_is ∙ sym q.4)
+  one_evidence fs reason seen shown other character another (inl p) (inr q) = absurd (p.2 (q.0 p.0 p.1))
+  one_evidence fs reason seen shown other character another (inr p) (inl q) = absurd (q.2 (p.0 q.0 q.1))
+  one_evidence fs reason seen shown other character another (inr p) (inr q) = (p.1 ∙ sym q.1, p.2 ∙ sym q.2)
 
   one_of_frames : (detail : Detail) (bytes : List ℕ) (fs : List Frame) (shown other : List Shown) → AreShownFrames detail role limits bytes fs shown → AreShownFrames detail role limits bytes fs other → shown ≡ other
   one_of_frames Events bytes fs shown other p q = p ∙ sym q
@@ -175,8 +177,9 @@ module _ (role : Role) (limits : Limits) where
   module _ (detail : Detail) where
     one_refusal_shown : (bytes : List ℕ) (fs : List Frame) (refusal : Refusal) (shown other : List Shown) → IsShownRefusal detail role limits bytes fs refusal shown → IsShownRefusal detail role limits bytes fs refusal other → shown ≡ other
     one_refusal_shown bytes fs refusal shown other p q =
-        let same = one_evidence fs (drop (length (stream fs)) (take (refusal.place + 1) bytes)) p.evidence q.evidence p.is_evidence q.is_evidence in
-        p.is ∙ ap (λ (bs : List ℕ). shown_after (refusal.place + 1) (interrupted detail fs ++ RefusedFrame (length (stream fs)) refusal bs ∷ [])) same ∙ sym q.is
+        let same = one_evidence fs refusal.reason (drop (length (stream fs)) (take (refusal.place + 1) bytes)) p.evidence q.evidence p.character q.character p.is_evidence q.is_evidence in
+        p.is ∙ ap (λ (bs : List ℕ). shown_after (refusal.place + 1) (interrupted detail fs ++ RefusedFrame (length (stream fs)) refusal bs p.character ∷ [])) same.0
+        ∙ ap (λ (c : Option BadCharacter). shown_after (refusal.place + 1) (interrupted detail fs ++ RefusedFrame (length (stream fs)) refusal q.evidence c ∷ [])) same.1 ∙ sym q.is
 
     one_of_verdict : (bytes : List ℕ) (fs : List Frame) (v : Verdict) (shown other : List Shown) → IsShownVerdict detail role limits bytes fs v shown → IsShownVerdict detail role limits bytes fs v other → shown ≡ other
     one_of_verdict bytes fs (Accepted s) shown other p q = p ∙ sym q
@@ -196,7 +199,7 @@ module _ (role : Role) (limits : Limits) where
   no_event_of_verdict bytes fs (Accepted s) shown p = ap events_shown p
   no_event_of_verdict bytes fs (Cut s) shown p = ap events_shown p
   no_event_of_verdict bytes fs (Refused r) shown p =
-      let refused = RefusedFrame (length (stream fs)) r p.evidence ∷ [] in
+      let refused = RefusedFrame (length (stream fs)) r p.evidence p.character ∷ [] in
       ap events_shown p.is ∙ events_after_are (r.place + 1) (open_items fs (Some 0) ++ refused)
       ∙ flat_map-append event_in (open_items fs (Some 0)) refused ∙ ap (λ (es : List MeantEvent). es ++ []) (no_open_event fs (Some 0))
 
@@ -357,7 +360,8 @@ module _ (role : Role) (limits : Limits) where
           of_verdict = p.of_verdict;
           is_of_verdict = record {
             evidence = moved.evidence;
-            is_evidence = subst (λ (bs : List ℕ). IsShownEvidence role limits fs (drop (length (stream fs)) bs) moved.evidence) (sym front) moved.is_evidence;
+            character = moved.character;
+            is_evidence = subst (λ (bs : List ℕ). IsShownEvidence role limits fs r.reason (drop (length (stream fs)) bs) moved.evidence moved.character) (sym front) moved.is_evidence;
             is = moved.is;
           };
           all = p.all;

@@ -35,6 +35,8 @@ pub mod Entries
 pub mod Sides
 pub mod Reports
 -- what is shown of a stream, and of a capture
+pub mod PlacedByte
+pub mod BadCharacter
 pub mod ShownStream
 pub mod ShownEvents
 pub mod ShownBytes

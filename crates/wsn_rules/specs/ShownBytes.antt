@@ -51,7 +51,7 @@ AreBytesOf (Unfinished offset (Control op body) count lacks) bytes =
     × (bytes ≡ begun_bytes info following)
 AreBytesOf (Head info) bytes = (following : List ℕ) × (bytes ≡ begun_bytes info following)
 AreBytesOf (UnfinishedHead offset) bytes = bytes ≢ []
-AreBytesOf (RefusedFrame offset refusal evidence) bytes = offset + length bytes ≡ refusal.place + 1
+AreBytesOf (RefusedFrame offset refusal evidence character) bytes = offset + length bytes ≡ refusal.place + 1
 AreBytesOf (Unread offset all) bytes = bytes ≡ all
 AreBytesOf (Tail offset all) bytes = bytes ≡ all
 

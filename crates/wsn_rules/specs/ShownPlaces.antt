@@ -8,22 +8,13 @@ use Rattle.wsn_wire.specs.Frame.{Frame, IsKey, FormFits, IsEncodable, is_control
 use Rattle.wsn_wire.specs.Layout.{len_form_at, length_count, key_count}
 use Rattle.wsn_rules.specs.declared.head_info.HeadInfo.{HeadInfo}
 use Rattle.wsn_rules.specs.Group.{is_data}
+use Rattle.wsn_rules.specs.PlacedByte.{PlacedByte, placed}
 use Rattle.wsn_rules.specs.Meaning.{Message, Control}
 use Rattle.wsn_rules.specs.ShownStream.{Item, Shown, frame_so_far}
 use Rattle.wsn_rules.specs.ShownStream.Item.{Event, Head, Unfinished, UnfinishedHead, RefusedFrame, Unread, Tail}
 use Rattle.wsn_rules.specs.ShownBytes.{AreDealt, IsGroupOf, begun_bytes}
 
 -- ---- bytes and frames at their offsets
-
--- A byte of a stream, and its offset.
-pub record PlacedByte : Type 0 where
-  pub place : ℕ
-  pub byte : ℕ
-
--- Bytes in one piece, the first of them at this offset.
-abbrev pub placed : ℕ → List ℕ → List PlacedByte
-placed place [] = []
-placed place (b ∷ bytes) = record { place = place; byte = b } ∷ placed (place + 1) bytes
 
 -- The first of the bytes is at this offset.
 abbrev pub BeginsAt : ℕ → List PlacedByte → Type 0
@@ -150,7 +141,7 @@ IsPileOf (Unfinished offset (Control op body) count lacks) pile =
 IsPileOf (Head info) pile =
     IsEncodableHead info × (pile ≡ placed info.place (head_bytes info.fin info.op info.key info.form info.len))
 IsPileOf (UnfinishedHead offset) pile = (part : List ℕ) × IsPartOfHead part × (pile ≡ placed offset part)
-IsPileOf (RefusedFrame offset refusal evidence) pile =
+IsPileOf (RefusedFrame offset refusal evidence character) pile =
     (seen : List ℕ) × AreOfOneFrame seen × IsEvidenceIn seen evidence × (offset + length seen ≡ refusal.place + 1)
     × (pile ≡ placed offset seen)
 IsPileOf (Unread offset bytes) pile = pile ≡ placed offset bytes
@@ -162,7 +153,7 @@ offset_of (Event offset event count) = offset
 offset_of (Head info) = info.place
 offset_of (Unfinished offset event count lacks) = offset
 offset_of (UnfinishedHead offset) = offset
-offset_of (RefusedFrame offset refusal evidence) = offset
+offset_of (RefusedFrame offset refusal evidence character) = offset
 offset_of (Unread offset bytes) = offset
 offset_of (Tail offset bytes) = offset
 
@@ -189,7 +180,7 @@ is_open_message item = false
 abbrev pub Interrupts : Item → Type 0
 Interrupts (Event offset (Control Close body) count) = ⊤
 Interrupts (Unfinished offset (Control op body) count lacks) = ⊤
-Interrupts (RefusedFrame offset refusal evidence) = ⊤
+Interrupts (RefusedFrame offset refusal evidence character) = ⊤
 Interrupts item = ⊥
 
 -- A message that isn't complete is shown with this number of bytes: with the next item, which interrupts it; or with

@@ -2,6 +2,7 @@
 -- the stream belongs to one of these. RFC 6455 sections 5.2 to 5.6 and 7.1.
 use Rattle.std.specs.Prelude.{◌≡◌, ◌≢◌, ℕ, ◌+◌, ◌-◌, ◌⊎◌, Bool, nat_lt, Option, None, Some, List, [], ◌∷◌, ◌++◌, length, take, drop, map, flat_map, if◌then◌else◌}
 use Rattle.wsn_wire.specs.declared.endpoint.Role.{Role}
+use Rattle.wsn_wire.specs.declared.refusal.Reason.{Reason}
 use Rattle.wsn_wire.specs.Frame.{Frame, stream, is_control, head_bytes, wire_payload}
 use Rattle.wsn_rules.specs.declared.detail.Detail.{Detail}
 use Rattle.wsn_rules.specs.declared.detail.Detail.TheVariants.{Events, Frames}
@@ -15,6 +16,7 @@ use Rattle.wsn_rules.specs.Meaning.{MeantEvent, Message, Control, event_at}
 use Rattle.wsn_rules.specs.Summary.{ends_message, is_close}
 use Rattle.wsn_rules.specs.Heads.{BeginsWithHead, AreHeads}
 use Rattle.wsn_rules.specs.Verdict.{IsVerdict}
+use Rattle.wsn_rules.specs.BadCharacter.{BadCharacter, character_of}
 
 -- ---- the items
 
@@ -29,8 +31,9 @@ pub data Item : Type 0 where
   Unfinished : ℕ → MeantEvent → ℕ → Option ℕ → Item
   -- A part of a head, while no message is open.
   UnfinishedHead : ℕ → Item
-  -- The refusal of the frame that begins at the offset, and the bytes that are evidence for it.
-  RefusedFrame : ℕ → Refusal → List ℕ → Item
+  -- The refusal of the frame that begins at the offset, the bytes that are evidence for it, and the bad character of a
+  -- text that is refused for one.
+  RefusedFrame : ℕ → Refusal → List ℕ → Option BadCharacter → Item
   -- Bytes after a refusal.
   Unread : ℕ → List ℕ → Item
   -- Bytes after a Close.
@@ -119,21 +122,25 @@ interrupted Frames fs = []
 -- ---- a refusal
 
 -- The evidence that is shown of a frame whose bytes up to the offending one are `seen`: its payload, unmasked, if the
--- offending byte is in the payload, otherwise the head as it came.
-abbrev pub IsShownEvidence : Role → Limits → List Frame → List ℕ → List ℕ → Type 0
-IsShownEvidence role limits fs seen shown =
+-- offending byte is in the payload, otherwise the head as it came. A bad character is in the payload.
+abbrev pub IsShownEvidence : Role → Limits → List Frame → Reason → List ℕ → List ℕ → Option BadCharacter → Type 0
+IsShownEvidence role limits fs reason seen shown character =
     ((info : HeadInfo) × (begun : BeginsWithHead role limits fs seen info) × (begun.following ≢ [])
-    × (shown ≡ wire_payload info.key begun.following))
-    ⊎ (((info : HeadInfo) (begun : BeginsWithHead role limits fs seen info) → begun.following ≡ []) × (shown ≡ seen))
+    × (shown ≡ wire_payload info.key begun.following) × (character ≡ character_of reason fs info shown))
+    ⊎ (((info : HeadInfo) (begun : BeginsWithHead role limits fs seen info) → begun.following ≡ []) × (shown ≡ seen)
+    × (character ≡ None))
 
 -- What is shown of a refusal after the frames fs, with the offending byte. A message that it interrupts comes first.
 pub record IsShownRefusal (detail : Detail) (role : Role) (limits : Limits) (bytes : List ℕ) (fs : List Frame)
     (refusal : Refusal) (shown : List Shown) : Type 0 where
   pub evidence : List ℕ
-  pub is_evidence : IsShownEvidence role limits fs (drop (length (stream fs)) (take (refusal.place + 1) bytes)) evidence
+  pub character : Option BadCharacter
+  pub is_evidence :
+      IsShownEvidence role limits fs refusal.reason (drop (length (stream fs)) (take (refusal.place + 1) bytes)) evidence
+      character
   pub is :
       shown ≡ shown_after (refusal.place + 1)
-      (interrupted detail fs ++ RefusedFrame (length (stream fs)) refusal evidence ∷ [])
+      (interrupted detail fs ++ RefusedFrame (length (stream fs)) refusal evidence character ∷ [])
 
 -- What is shown of a verdict, beside its frames.
 abbrev pub IsShownVerdict : Detail → Role → Limits → List ℕ → List Frame → Verdict → List Shown → Type 0

@@ -63,17 +63,17 @@ pub fn wrong_refusals()
     ensures evidence { (after : ℕ) →
         ¬ (AreInPlace (0xc1 ∷ []) (record {
           after = after;
-          item = RefusedFrame 0 (record { place = 0; reason = ReservedBits }) (0xde ∷ 0xad ∷ []);
+          item = RefusedFrame 0 (record { place = 0; reason = ReservedBits }) (0xde ∷ 0xad ∷ []) None;
         } ∷ [])) }
     ensures place { (after : ℕ) →
         ¬ (AreInPlace (0xc1 ∷ []) (record {
           after = after;
-          item = RefusedFrame 0 (record { place = 5; reason = ReservedBits }) (0xc1 ∷ []);
+          item = RefusedFrame 0 (record { place = 5; reason = ReservedBits }) (0xc1 ∷ []) None;
         } ∷ [])) }
     ensures two_frames { (after : ℕ) →
         ¬ (AreInPlace (0x89 ∷ 0x00 ∷ 0xc1 ∷ []) (record {
           after = after;
-          item = RefusedFrame 0 (record { place = 2; reason = ReservedBits }) (0xc1 ∷ []);
+          item = RefusedFrame 0 (record { place = 2; reason = ReservedBits }) (0xc1 ∷ []) None;
         } ∷ [])) }
 {}
 

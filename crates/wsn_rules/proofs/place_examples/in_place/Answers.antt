@@ -3,7 +3,7 @@ use Rattle.wsn_wire.specs.declared.opcode.Op.TheVariants.{Continue, Text, Ping}
 use Rattle.wsn_wire.specs.Frame.{IsEncodable}
 use Rattle.wsn_rules.specs.ShownBytes.{AreDealt}
 use Rattle.wsn_rules.specs.ShownExamples.{server_frame}
-use Rattle.wsn_rules.specs.ShownPlaces.{PlacedByte, placed}
+use Rattle.wsn_rules.specs.PlacedByte.{PlacedByte, placed}
 use Rattle.wsn_rules.proofs.place_examples.in_place.Goals as goal
 
 ping_encodable : IsEncodable (server_frame true Ping [])

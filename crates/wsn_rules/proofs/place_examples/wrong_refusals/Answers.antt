@@ -10,7 +10,7 @@ use Rattle.wsn_rules.proofs.place_examples.wrong_refusals.Goals as goal
 
 pub returns-clause-evidence : goal.returns-clause-evidence
 returns-clause-evidence c after are =
-    let p = (only_item (0xc1 ∷ []) (record { after = after; item = RefusedFrame 0 (record { place = 0; reason = ReservedBits }) (0xde ∷ 0xad ∷ []) }) are).is_pile in
+    let p = (only_item (0xc1 ∷ []) (record { after = after; item = RefusedFrame 0 (record { place = 0; reason = ReservedBits }) (0xde ∷ 0xad ∷ []) None }) are).is_pile in
     by p.0 (same_bytes 0 0 (0xc1 ∷ []) p.0 p.4) p.2
   where
     short : (a b d : ℕ) (bs : List ℕ) → d ∷ [] ≡ a ∷ b ∷ bs → ⊥
@@ -22,14 +22,14 @@ returns-clause-evidence c after are =
 
 pub returns-clause-place : goal.returns-clause-place
 returns-clause-place c after are =
-    let p = (only_item (0xc1 ∷ []) (record { after = after; item = RefusedFrame 0 (record { place = 5; reason = ReservedBits }) (0xc1 ∷ []) }) are).is_pile in
+    let p = (only_item (0xc1 ∷ []) (record { after = after; item = RefusedFrame 0 (record { place = 5; reason = ReservedBits }) (0xc1 ∷ []) None }) are).is_pile in
     let size : 1 ≡ length p.0 = ap (λ (bs : List ℕ). length bs) (same_bytes 0 0 (0xc1 ∷ []) p.0 p.4) in
     let end = p.3 in
     omega (arith, size, end)
 
 pub returns-clause-two_frames : goal.returns-clause-two_frames
 returns-clause-two_frames c after are =
-    let p = (only_item (0x89 ∷ 0x00 ∷ 0xc1 ∷ []) (record { after = after; item = RefusedFrame 0 (record { place = 2; reason = ReservedBits }) (0xc1 ∷ []) }) are).is_pile in
+    let p = (only_item (0x89 ∷ 0x00 ∷ 0xc1 ∷ []) (record { after = after; item = RefusedFrame 0 (record { place = 2; reason = ReservedBits }) (0xc1 ∷ []) None }) are).is_pile in
     let head : HeadInfo = record { place = 0; fin = true; op = Ping; key = None; form = Shortest; len = 0 } in
     let of : IsEncodableHead head = record { key = tt; form = tt; size = omega arith } in
     let fits = p.1 head (0xc1 ∷ []) of (sym (same_bytes 0 0 (0x89 ∷ 0x00 ∷ 0xc1 ∷ []) p.0 p.4)) in

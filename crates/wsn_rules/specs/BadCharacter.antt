@@ -1,0 +1,69 @@
+-- The character with which a text goes wrong: its bytes up to the offending one, and where they are. They may be in
+-- more than one frame. RFC 6455 sections 5.6 and 8.1.
+use Rattle.std.specs.Prelude.{ℕ, ◌+◌, ◌-◌, Option, None, Some, List, [], ◌∷◌, ◌++◌, length, drop, map, if◌then◌else◌}
+use Rattle.std.specs.Str.Lossy.{utf8_valid_len}
+use Rattle.wsn_wire.specs.declared.refusal.Reason.{Reason}
+use Rattle.wsn_wire.specs.declared.refusal.Reason.TheVariants.{TextBad}
+use Rattle.wsn_wire.specs.Frame.{Frame, head_bytes, frame_bytes}
+use Rattle.wsn_rules.specs.declared.head_info.HeadInfo.{HeadInfo}
+use Rattle.wsn_rules.specs.Group.{is_data, unfinished, payload_of}
+use Rattle.wsn_rules.specs.Heads.{info_of}
+use Rattle.wsn_rules.specs.PlacedByte.{PlacedByte, placed}
+
+-- The offset of its first byte in the stream, the place of that byte in the payload of the message, from 0, and its
+-- bytes up to the offending one.
+pub record BadCharacter : Type 0 where
+  pub offset : ℕ
+  pub in_payload : ℕ
+  pub bytes : List ℕ
+
+-- ---- the payload of the message, with offsets
+
+-- The offset of the first byte after a head.
+abbrev pub payload_offset : HeadInfo → ℕ
+payload_offset info = info.place + length (head_bytes info.fin info.op info.key info.form info.len)
+
+-- The payloads of the data frames among these, the first of which is at this offset.
+abbrev pub placed_payloads : ℕ → List Frame → List PlacedByte
+placed_payloads place [] = []
+placed_payloads place (f ∷ fs) =
+    (if is_data f then placed (payload_offset (info_of place f)) f.payload else [])
+    ++ placed_payloads (place + length (frame_bytes f)) fs
+
+-- The last n elements.
+abbrev pub last_of : {A : Type 0} → ℕ → List A → List A
+last_of n xs = drop (length xs - n) xs
+
+-- The payload of the message that is open after the frames fs.
+abbrev pub open_payload : List Frame → List PlacedByte
+open_payload fs = last_of (length (payload_of (unfinished fs))) (placed_payloads 0 fs)
+
+-- The payload of the message so far, if after the frames fs a data frame with this head and this part of its payload
+-- has come.
+abbrev pub message_payload : List Frame → HeadInfo → List ℕ → List PlacedByte
+message_payload fs info part = open_payload fs ++ placed (payload_offset info) part
+
+-- ---- the character
+
+-- The offset of the first byte; 0 if there is none.
+abbrev pub first_offset : List PlacedByte → ℕ
+first_offset [] = 0
+first_offset (b ∷ bytes) = b.place
+
+-- The bytes without their offsets.
+abbrev pub bytes_of : List PlacedByte → List ℕ
+bytes_of = map (λ b. b.byte)
+
+-- What follows the whole characters with which this payload begins.
+abbrev pub bad_character : List PlacedByte → BadCharacter
+bad_character payload = record {
+  offset = first_offset (drop (utf8_valid_len (bytes_of payload)) payload);
+  in_payload = utf8_valid_len (bytes_of payload);
+  bytes = bytes_of (drop (utf8_valid_len (bytes_of payload)) payload);
+}
+
+-- The bad character, if the refusal is for one, of a frame that is refused after the frames fs, with this head and this
+-- part of its payload up to the offending byte.
+abbrev pub character_of : Reason → List Frame → HeadInfo → List ℕ → Option BadCharacter
+character_of TextBad fs info part = Some (bad_character (message_payload fs info part))
+character_of reason fs info part = None
