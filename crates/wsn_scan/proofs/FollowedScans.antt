@@ -1,12 +1,13 @@
 -- What one call of a scan says of the frames that it follows.
 use Rattle.std.proofs.Common.{◌≡◌, ℕ, ◌+◌, ◌-◌, ◌<◌, ◌≤◌, ◌^◌, ◌⊎◌, true, false, not, Option, None, Some, List, [], ◌∷◌, ◌++◌, length, take, drop, inl, inr, refl, sym, ap, ◌∙◌, subst, arith, append-nil, append_assoc, length-append, length-drop}
 use Rattle.std.specs.Prelude.{IsSome}
+use Rattle.std.proofs.lemmas.Bool.{cases_Bool}
 use Rattle.std.proofs.lemmas.List.{length-take, length-take-le, take_all}
 use Rattle.wsn_wire.specs.declared.endpoint.Role.{Role}
 use Rattle.wsn_wire.specs.declared.opcode.Op.TheVariants.{Text}
-use Rattle.wsn_wire.specs.Frame.{Frame, first_byte, head_bytes, is_control, opcode, wire_payload, stream}
+use Rattle.wsn_wire.specs.Frame.{Frame, first_byte, head_bytes, frame_bytes, is_control, opcode, wire_payload, stream}
 use Rattle.wsn_wire.specs.Layout.{opcode_field}
-use Rattle.wsn_wire.proofs.FrameLemmas.{first_byte_fields}
+use Rattle.wsn_wire.proofs.FrameLemmas.{first_byte_fields, length-wire_payload}
 use Rattle.wsn_text.specs.Utf8.{BeginsText}
 use Rattle.wsn_rules.specs.declared.head_info.HeadInfo.{HeadInfo}
 use Rattle.wsn_rules.specs.declared.verdict.Refusal.{Refusal}
@@ -15,7 +16,8 @@ use Rattle.wsn_rules.specs.Limits.{Limits}
 use Rattle.wsn_rules.specs.Accepted.{HasNoClose, EndsWithClose}
 use Rattle.wsn_rules.specs.Evidence.{IsOfText}
 use Rattle.wsn_rules.specs.Group.{unfinished, first_op, payload_of}
-use Rattle.wsn_rules.specs.Heads.{heads_of, BeginsWithHead, IsBegun, AreHeads}
+use Rattle.wsn_rules.specs.BadCharacter.{payload_offset}
+use Rattle.wsn_rules.specs.Heads.{heads_of, info_of, BeginsWithHead, IsBegun, AreHeads}
 use Rattle.wsn_rules.specs.Lawful.{IsLawful}
 use Rattle.wsn_rules.specs.NoEvidence.{HasNoEvidence}
 use Rattle.wsn_rules.specs.ShownStream.{frame_so_far}
@@ -23,6 +25,7 @@ use Rattle.wsn_rules.specs.Verdict.{IsVerdict}
 use Rattle.wsn_rules.proofs.Groups.{group_of_lawful}
 use Rattle.wsn_rules.proofs.MessageText.{of_text_from_group, opcode_of_data, text_of_push}
 use Rattle.wsn_rules.proofs.Prefixes.{append_cancel}
+use Rattle.wsn_rules.proofs.Walk.{stream_push}
 use Rattle.wsn_frame.specs.declared.payload_check.PayloadCheck.{PayloadCheck}
 use Rattle.wsn_frame.specs.declared.payload_check.PayloadCheck.TheVariants as checks
 use Rattle.wsn_frame.specs.PartialHeads.{info_at}
@@ -258,6 +261,43 @@ module _ (role : Role) (limits : Limits) where
     pub reach : IsReachedBy role limits new (came ++ take n piece) (IsPart done at part (drop part.start (take n after)))
     reach = (reached old new piece after n taken.Part part came done at rest h call).0
 
+    same_size : length (stream done) + (length rest + length (take n piece)) ≡ length (stream reach.frames) + length reach.since
+    unfolding reach reached
+    same_size =
+        let all = ap (λ (bs : List ℕ). length bs) (same_whole old new piece after n taken.Part part came done at rest h call) in
+        omega (arith, all, length-append (stream done) (rest ++ take n piece), length-append rest (take n piece), length-append (stream reach.frames) reach.since)
+
+    abbrev payload : List ℕ
+    payload = reach.found.before ++ drop part.start (take n after)
+
+    -- The payload that was taken is at the end of the bytes.
+    payload_at_end : (part.ends ≡ true → reach.since ≡ []) → payload_offset part.head + length payload ≡ length (stream done) + (length rest + length (take n piece))
+    unfolding reach reached
+    payload_at_end no_rest =
+        elim (cases_Bool part.ends) [
+          | inl ends ↦ at_frame_end (reach.found.goes_on.ends ends) (no_rest ends)
+          | inr within ↦ in_the_frame (reach.found.goes_on.within within)
+        ]
+      where
+        at_frame_end : ((frame : Frame) × (part.head ≡ info_of (length (stream done)) frame) × (frame.payload ≡ payload) × (reach.frames ≡ done ++ frame ∷ []) × (reach.position ≡ BetweenFrames)) → reach.since ≡ []
+            → payload_offset part.head + length payload ≡ length (stream done) + (length rest + length (take n piece))
+        at_frame_end (frame, head_is, payload_is, frames_are, there) none =
+            let head : payload_offset part.head ≡ payload_offset (info_of (length (stream done)) frame) = ap payload_offset head_is in
+            let size : length payload ≡ length frame.payload = ap (λ (bs : List ℕ). length bs) (sym payload_is) in
+            let own = length-append (head_bytes frame.fin frame.op frame.key frame.form (length frame.payload)) (wire_payload frame.key frame.payload) in
+            let wire = length-wire_payload frame.key frame.payload in
+            let all : length (stream reach.frames) ≡ length (stream done) + length (frame_bytes frame) =
+            ap (λ (gs : List Frame). length (stream gs)) frames_are ∙ ap (λ (bs : List ℕ). length bs) (stream_push done frame) ∙ length-append (stream done) (frame_bytes frame) in
+            omega (arith, head, size, own, wire, all, same_size, ap (λ (bs : List ℕ). length bs) none)
+
+        in_the_frame : (reach.frames ≡ done) × (reach.position ≡ InFrame part.head payload) → payload_offset part.head + length payload ≡ length (stream done) + (length rest + length (take n piece))
+        in_the_frame g =
+            let now = follows old new piece after n taken.Part part came done at rest h call (λ same. cc) in
+            let all = came ++ take n piece in
+            let size = size_in_frame new all reach.frames reach.position reach.since now part.head payload g.1 in
+            let place = (in_frame new all reach.frames reach.position reach.since now part.head payload g.1).begins.place in
+            omega (arith, size, place, same_size, ap (λ (gs : List Frame). length (stream gs)) g.0)
+
     taken_whole : IsTaken role limits done rest reach.found.before part (drop part.start (take n after)) (take n piece) reach.frames reach.position reach.since
     unfolding reach reached
     taken_whole =
@@ -271,16 +311,18 @@ module _ (role : Role) (limits : Limits) where
         let room = call.room in
         let all = h.has_scanned.has_consumed.room in
         let input = h.has_scanned.has_consumed.in_range.input in
+        let no_rest : part.ends ≡ true → reach.since ≡ [] = λ ends.
+        let used = call.whole refl ends in
+        let is_used = consumed.used in
+        let now = consumed.room in
+        let limit : new.context.limits.input ≡ limits.input = ap (λ (l : Limits). l.input) consumed.under in
+        no_items reach.since (omega (arith, used, is_used, now, limit, ap (λ (bs : List ℕ). length bs) consumed.whole, length-append (stream reach.frames) reach.since)) in
         record {
           goes_on = reach.found.goes_on;
           lawful = consumed.lawful;
           whole = same_whole old new piece after n taken.Part part came done at rest h call;
-          no_rest = λ ends.
-              let used = call.whole refl ends in
-              let is_used = consumed.used in
-              let now = consumed.room in
-              let limit : new.context.limits.input ≡ limits.input = ap (λ (l : Limits). l.input) consumed.under in
-              no_items reach.since (omega (arith, used, is_used, now, limit, ap (λ (bs : List ℕ). length bs) consumed.whole, length-append (stream reach.frames) reach.since));
+          no_rest = no_rest;
+          sized = payload_at_end no_rest;
           small = omega (arith, size, most, own, room, all, input);
           few_frames = omega (arith, unfinished_few done, size, most);
           few_bytes = omega (arith, open_few, before, size, most, length-drop part.start (take n after), length-take n after, room, all, input);

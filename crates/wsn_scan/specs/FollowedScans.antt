@@ -2,6 +2,7 @@
 use Rattle.std.specs.Prelude.{◌≡◌, ◌≢◌, ℕ, ◌+◌, ◌<◌, ◌≤◌, ◌^◌, ◌↔◌, true, None, IsSome, List, [], ◌++◌, length}
 use Rattle.wsn_wire.specs.declared.endpoint.Role.{Role}
 use Rattle.wsn_wire.specs.Frame.{Frame, IsBytes, stream}
+use Rattle.wsn_rules.specs.BadCharacter.{payload_offset}
 use Rattle.wsn_rules.specs.Group.{unfinished, payload_of}
 use Rattle.wsn_rules.specs.Lawful.{IsLawful}
 use Rattle.wsn_rules.specs.Limits.{Limits}
@@ -40,14 +41,15 @@ pub record IsCall (old new : Scan) (piece after : List ℕ) (n : ℕ) (found : T
   pub reported : IsSome (refusal_in new) ↔ (found ≡ taken.Refused)
 
 -- After the frames fs and the bytes `rest`, the bytes `share` came. The part takes this payload in them, after `before`,
--- and leads to these frames and this position; the bytes `since` came after these frames. None of the counts is too
--- large.
+-- and leads to these frames and this position; the bytes `since` came after these frames. The payload is at the end of
+-- the bytes. None of the counts is too large.
 pub record IsTaken (role : Role) (limits : Limits) (fs : List Frame) (rest before : List ℕ) (part : Part)
     (payload share : List ℕ) (frames : List Frame) (position : Position) (since : List ℕ) : Type 0 where
   pub goes_on : GoesOn fs before part payload frames position
   pub lawful : IsLawful role limits frames
   pub whole : stream fs ++ (rest ++ share) ≡ stream frames ++ since
   pub no_rest : part.ends ≡ true → since ≡ []
+  pub sized : payload_offset part.head + length (before ++ payload) ≡ length (stream fs) + (length rest + length share)
   pub small : length (stream fs) + (length rest + length share) < 2 ^ 64
   pub few_frames : length (unfinished fs) + 1 < 2 ^ 64
   pub few_bytes : length (payload_of (unfinished fs)) + length before + length payload < 2 ^ 64

@@ -1,0 +1,84 @@
+ghost use Rattle.std.specs.Prelude.{◌≡◌, ℕ, ◌+◌, ◌-◌, ◌<◌, ◌≤◌, ◌^◌, List, [], ◌++◌, length, drop};
+ghost use Rattle.wsn_text.specs.Utf8.{IsFirstBad};
+ghost use Rattle.wsn_rules.specs.BadCharacter.{bad_character, bytes_of};
+ghost use Rattle.wsn_rules.specs.PlacedByte.{PlacedByte, placed};
+ghost use Rattle.wsn_print.specs.ShownParts.{character_of};
+ghost use Rattle.wsn_show.specs.LastPayloads.{placed_bytes, HasLastPayload, character_held};
+
+use arrayvec::ArrayVec;
+use wsn_print::{KeptBytes, ShownCharacter};
+use wsn_text::bad_character_len;
+
+/// The most bytes of a character, the offending one of a bad character included.
+const CHARACTER_MAX: usize = 4;
+
+/// A byte of a stream, and its offset.
+#[derive(Clone, Copy)]
+pub struct StreamByte {
+    pub place: u64,
+    pub byte: u8,
+}
+
+/// The last four payload bytes of the open message, each with its offset in the stream: with the next byte they say where
+/// a character begins that goes wrong (RFC 6455 section 8.1).
+#[derive(Drop)]
+pub struct LastPayload {
+    pub held: ArrayVec<StreamByte, CHARACTER_MAX>,
+}
+
+impl LastPayload {
+    /// No byte has come.
+    pub fn new() -> LastPayload
+        ensures { HasLastPayload result [] }
+    {
+        LastPayload {
+            held: ArrayVec::new(),
+        }
+    }
+
+    /// Forgets the bytes that came.
+    pub fn clear(&mut self)
+        ensures { HasLastPayload self.new [] }
+    {
+        self.held.clear();
+    }
+
+    /// More bytes come, the first of them at this offset.
+    pub fn add(&mut self, bytes: &[u8], offset: u64)
+        ensures { (came : List PlacedByte) → offset + length bytes.now < 2 ^ 64 → HasLastPayload self.old came →
+            HasLastPayload self.new (came ++ placed offset bytes.now) }
+    {
+        let skipped = bytes.len().saturating_sub(CHARACTER_MAX);
+        let mut place = offset.saturating_add(skipped as u64);
+        for byte in &bytes[skipped..] {
+            self.push(StreamByte { place, byte: *byte });
+            place = place.saturating_add(1);
+        }
+    }
+
+    /// One more byte comes.
+    fn push(&mut self, byte: StreamByte)
+        ensures { (came : List PlacedByte) → HasLastPayload self.old came →
+            HasLastPayload self.new (came ++ placed byte.place (byte.byte ∷ [])) }
+    {
+        if self.held.is_full() {
+            self.held.remove(0);
+        }
+        self.held.push(byte);
+    }
+
+    /// The bad character of a message whose payload, of so many bytes, ends with its first bad byte.
+    pub fn bad_character(&self, count: u64) -> HeldCharacter
+        ensures { (came : List PlacedByte) (i : ℕ) → HasLastPayload self.now came → length came ≡ count →
+            IsFirstBad (bytes_of came) i → i + 1 ≡ length came → character_held result ≡ bad_character came }
+    {
+        let bytes = self.bytes();
+        let len = bad_character_len(bytes.as_slice());
+        let first = self.held.len() - len;
+        HeldCharacter {
+            offset: self.place_at(first),
+            in_payload: count.saturating_sub(len as u64),
+            bytes: bytes.without(first),
+        }
+    }
+}
