@@ -1,6 +1,7 @@
 -- Definitions of what `show` does: first of one stream, then of a capture.
 pub mod Styles
 pub mod HeldParts
+pub mod LastPayloads
 pub mod StreamParts
 pub mod ShownItems
 pub mod ShownSoFar

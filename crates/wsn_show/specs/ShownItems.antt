@@ -9,7 +9,7 @@ use Rattle.wsn_rules.specs.Meaning.{MeantEvent}
 use Rattle.wsn_rules.specs.ShownStream.{Item, items_of_final}
 use Rattle.wsn_rules.specs.ShownStream.Item.{Event, Head, Unfinished, UnfinishedHead, RefusedFrame}
 use Rattle.wsn_print.specs.ShownObjects.{Position}
-use Rattle.wsn_print.specs.ShownParts.{position_of, Represents, HasText, HasTextPayload, IsFrontOf, IsEndOf, item_of_remainder}
+use Rattle.wsn_print.specs.ShownParts.{position_of, Represents, HasText, HasTextPayload, IsFrontOf, IsEndOf, character_in, item_of_remainder}
 use Rattle.wsn_show.specs.Styles.{styled_items}
 use Rattle.wsn_show.specs.declared.entry_context.EntryContext.{EntryContext}
 use Rattle.wsn_show.specs.declared.shown_item.ShownItem.{ShownItem}
@@ -23,8 +23,8 @@ IsItem n offset (shown.Frame info) item = item ≡ Head (record info { place = o
 IsItem n offset (shown.Unfinished held lacks) item = (event : MeantEvent) × Represents n held event × HasTextPayload event
     × (item ≡ Unfinished offset event held.frames lacks)
 IsItem n offset shown.UnfinishedHead item = item ≡ UnfinishedHead offset
-IsItem n offset (shown.Refused refusal evidence) item = (all : List ℕ) × IsEndOf (n / 2) all evidence
-    × (item ≡ RefusedFrame offset refusal all)
+IsItem n offset (shown.Refused refusal evidence character) item = (all : List ℕ) × IsEndOf (n / 2) all evidence
+    × (item ≡ RefusedFrame offset refusal all (character_in character))
 IsItem n offset (shown.Remainder which bytes) item = (all : List ℕ) × IsFrontOf (n / 2) all bytes
     × (item ≡ item_of_remainder which offset all)
 

@@ -1,4 +1,4 @@
--- What is kept of a stream: the open message, and the frame that has begun.
+-- What is kept of a stream: the open message, the frame that has begun, and the last bytes of the message's payload.
 use Rattle.std.specs.Prelude.{◌≡◌, ◌≢◌, ℕ, ◌≤◌, ◌⊎◌, ⊤, true, false, Option, None, Some, List, [], ◌∷◌, ◌++◌, length, if◌then◌else◌}
 use Rattle.wsn_wire.specs.declared.opcode.Op.{Op}
 use Rattle.wsn_wire.specs.declared.opcode.Op.TheVariants.{Text, Binary}
@@ -12,6 +12,7 @@ use Rattle.wsn_show.specs.declared.message_so_far.MessageSoFar.{MessageSoFar}
 use Rattle.wsn_show.specs.declared.frame_so_far.FrameSoFar.{FrameSoFar}
 use Rattle.wsn_show.specs.declared.stream_parts.StreamParts.{StreamParts}
 use Rattle.wsn_show.specs.HeldParts.{HasFirst, HasLast}
+use Rattle.wsn_show.specs.LastPayloads.{HasLastPayload, payload_at}
 
 -- ---- the open message
 
@@ -67,6 +68,7 @@ pub record Keeps (parts : StreamParts) (fs : List Frame) (at : Position) (rest :
   pub message : KeepsMessage parts.message fs (data_part at)
   pub joined : HasJoinedAt parts.message fs at
   pub frame : KeepsFrame parts.frame fs at rest
+  pub last : HasLastPayload parts.last (payload_at fs at)
 
 -- ---- what is shown of it
 

@@ -2,6 +2,7 @@
 
 use crate::entry_context::EntryContext;
 use crate::first_bytes::FIRST_MAX;
+use crate::last_payload::HeldCharacter;
 use crate::shown_item::{ShownItem, put_begun, put_item};
 use crate::stream_parts::StreamParts;
 use std::io::Write;
@@ -9,11 +10,13 @@ use wsn_io::Output;
 use wsn_print::ShownEvent;
 use wsn_rules::{Detail, HeadInfo, Refusal};
 use wsn_scan::Part;
+use wsn_wire::Reason;
 
 impl StreamParts {
     ghost use Rattle.std.specs.Prelude.{◌≡◌, ℕ, ◌+◌, ◌<◌, ◌^◌, List, [], ◌∷◌, ◌++◌, true, false, length};
     ghost use Rattle.wsn_wire.specs.Frame.{Frame, is_control, stream};
     ghost use Rattle.wsn_wire.specs.declared.endpoint.Role.{Role};
+    ghost use Rattle.wsn_wire.specs.declared.refusal.Reason.TheVariants.{TextBad};
     ghost use Rattle.wsn_rules.specs.Limits.{Limits};
     ghost use Rattle.wsn_rules.specs.Group.{unfinished};
     ghost use Rattle.wsn_rules.specs.Lawful.{IsLawful};
@@ -22,6 +25,7 @@ impl StreamParts {
     ghost use Rattle.wsn_scan.specs.Positions.{Position, BetweenFrames, InFrame};
     ghost use Rattle.wsn_scan.specs.Parts.{IsPartAt};
     ghost use Rattle.wsn_show.specs.HeldParts.{HasFirst};
+    ghost use Rattle.wsn_show.specs.LastPayloads.{GoesWrongAt, character_at, character_held_in};
     ghost use Rattle.wsn_show.specs.StreamParts.{KeepsMessage, Keeps, held_at};
     ghost use Rattle.wsn_show.specs.ShownItems.{Prints, items_of_ended};
     ghost use Rattle.wsn_scan.specs.FollowedScans.{IsTaken};
@@ -151,13 +155,45 @@ impl StreamParts {
     )
         ensures printed { (role : Role) (limits : Limits) (fs : List Frame) (at : Position) (rest : List ℕ) →
             IsLawful role limits fs → length (held_at at rest) + length bytes.now < 2 ^ 64 →
-            Keeps self.old fs at rest →
+            GoesWrongAt refusal.now.reason fs at rest bytes.now → Keeps self.old fs at rest →
             Prints context.now output.old output.new (interrupted context.now.style.detail fs
-            ++ RefusedFrame (length (stream fs)) refusal.now (held_at at rest ++ bytes.now) ∷ []) }
+            ++ RefusedFrame (length (stream fs)) refusal.now (held_at at rest ++ bytes.now)
+            (character_at refusal.now.reason fs at bytes.now) ∷ []) }
         ensures first { HasFirst self.new.frame.first [] }
     {
+        let character = self.bad_character(refusal.reason, bytes);
         self.frame.last.add(bytes);
-        self.put_refused(output, context, refusal);
+        self.put_refused(output, context, refusal, &character);
         self.frame.first.clear();
+    }
+
+    /// The bad character, if a frame's text is refused for one at the last of these bytes.
+    fn bad_character(&mut self, reason: Reason, bytes: &[u8]) -> Option<HeldCharacter>
+        ensures character { (fs : List Frame) (at : Position) (rest : List ℕ) →
+            GoesWrongAt reason fs at rest bytes.now → Keeps self.old fs at rest →
+            character_held_in result ≡ character_at reason fs at bytes.now }
+        ensures message { self.new.message ≡ self.old.message }
+        ensures frame { self.new.frame ≡ self.old.frame }
+    {
+        match reason {
+            Reason::TextBad => self.character_in_frame(bytes),
+            _ => None,
+        }
+    }
+
+    /// The bad character, if a frame has begun, whose text goes wrong with the last of these bytes.
+    fn character_in_frame(&mut self, bytes: &[u8]) -> Option<HeldCharacter>
+        ensures character { (fs : List Frame) (at : Position) (rest : List ℕ) →
+            GoesWrongAt TextBad fs at rest bytes.now → Keeps self.old fs at rest →
+            character_held_in result ≡ character_at TextBad fs at bytes.now }
+        ensures message { self.new.message ≡ self.old.message }
+        ensures frame { self.new.frame ≡ self.old.frame }
+    {
+        if self.frame.head.is_none() {
+            return None;
+        }
+        self.last.add(bytes, self.frame.end_so_far());
+        let count = self.message.payload.count();
+        Some(self.last.bad_character(count.saturating_add(bytes.len() as u64)))
     }
 }

@@ -66,6 +66,13 @@ impl FrameSoFar {
         self.last.clear();
     }
 
+    /// The offset after its bytes so far.
+    pub fn end_so_far(&self) -> u64
+        ensures { self.now.offset + self.now.size < 2 ^ 64 → result ≡ self.now.offset + self.now.size }
+    {
+        self.offset.saturating_add(self.size)
+    }
+
     /// Whether its head is complete and is that of a data frame.
     pub fn is_data(&self) -> bool
         ensures { (head : HeadInfo) → self.now.head ≡ Some head → result ≡ not (is_control head.op) }

@@ -1,9 +1,9 @@
-ghost use Rattle.std.specs.Prelude.{◌≡◌, ℕ, ◌+◌, ◌-◌, ◌<◌, ◌≤◌, ◌^◌, List, [], ◌++◌, length, drop};
+ghost use Rattle.std.specs.Prelude.{◌≡◌, ℕ, ◌+◌, ◌<◌, ◌^◌, List, [], ◌∷◌, ◌++◌, length, drop};
 ghost use Rattle.wsn_text.specs.Utf8.{IsFirstBad};
-ghost use Rattle.wsn_rules.specs.BadCharacter.{bad_character, bytes_of};
+ghost use Rattle.wsn_rules.specs.BadCharacter.{first_offset, bytes_of, bad_character};
 ghost use Rattle.wsn_rules.specs.PlacedByte.{PlacedByte, placed};
-ghost use Rattle.wsn_print.specs.ShownParts.{character_of};
-ghost use Rattle.wsn_show.specs.LastPayloads.{placed_bytes, HasLastPayload, character_held};
+ghost use Rattle.wsn_print.specs.ShownParts.{character_of, character_in};
+ghost use Rattle.wsn_show.specs.LastPayloads.{placed_bytes, HasLastPayload, character_held, character_held_in};
 
 use arrayvec::ArrayVec;
 use wsn_print::{KeptBytes, ShownCharacter};
@@ -72,13 +72,69 @@ impl LastPayload {
         ensures { (came : List PlacedByte) (i : ℕ) → HasLastPayload self.now came → length came ≡ count →
             IsFirstBad (bytes_of came) i → i + 1 ≡ length came → character_held result ≡ bad_character came }
     {
-        let bytes = self.bytes();
+        let mut bytes = self.bytes();
         let len = bad_character_len(bytes.as_slice());
-        let first = self.held.len() - len;
+        let first = bytes.len() - len;
+        bytes.drop_front(first);
         HeldCharacter {
             offset: self.place_at(first),
             in_payload: count.saturating_sub(len as u64),
-            bytes: bytes.without(first),
+            bytes,
+        }
+    }
+
+    /// The bytes that are held.
+    fn bytes(&self) -> KeptBytes<CHARACTER_MAX>
+        ensures { result ≡ bytes_of (placed_bytes self.now.held.items) }
+    {
+        let mut bytes = KeptBytes::new();
+        for held in self.held.as_slice() {
+            bytes.add(&[held.byte]);
+        }
+        bytes
+    }
+
+    /// The offset of the byte with this index among those that are held; 0 if there is none.
+    fn place_at(&self, index: usize) -> u64
+        ensures { result ≡ first_offset (drop index (placed_bytes self.now.held.items)) }
+    {
+        match self.held.as_slice().get(index) {
+            Some(held) => held.place,
+            None => 0,
+        }
+    }
+}
+
+/// The character with which a text goes wrong.
+#[derive(Drop)]
+pub struct HeldCharacter {
+    /// The offset of its first byte.
+    offset: u64,
+    /// The place of its first byte in the payload of the message, from 0.
+    in_payload: u64,
+    /// Its bytes up to the offending one.
+    bytes: KeptBytes<CHARACTER_MAX>,
+}
+
+/// As it is printed, if there is one.
+pub fn shown_in(character: &Option<HeldCharacter>) -> Option<ShownCharacter<'_>>
+    ensures { character_in result ≡ character_held_in character.now }
+{
+    match character {
+        Some(character) => Some(character.shown()),
+        None => None,
+    }
+}
+
+impl HeldCharacter {
+    /// As it is printed.
+    pub fn shown(&self) -> ShownCharacter<'_>
+        ensures { character_of result ≡ character_held self.now }
+    {
+        ShownCharacter {
+            offset: self.offset,
+            in_payload: self.in_payload,
+            bytes: self.bytes.as_slice(),
         }
     }
 }

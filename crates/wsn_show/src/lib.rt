@@ -23,6 +23,7 @@ mod first_bytes;
 mod following;
 mod frame_so_far;
 mod last_bytes;
+mod last_payload;
 pub mod laws;
 mod message_so_far;
 mod printing;

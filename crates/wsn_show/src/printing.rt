@@ -1,6 +1,7 @@
 //! Printing what is kept of a stream.
 
 use crate::entry_context::EntryContext;
+use crate::last_payload::{HeldCharacter, shown_in};
 use crate::shown_item::{ShownItem, put_item};
 use crate::stream_parts::StreamParts;
 use std::io::Write;
@@ -23,6 +24,7 @@ impl StreamParts {
     ghost use Rattle.wsn_print.specs.ShownParts.{item_of_remainder};
     ghost use Rattle.wsn_scan.specs.Positions.{Position, BetweenFrames, InFrame};
     ghost use Rattle.wsn_show.specs.HeldParts.{HasFirst, HasLast};
+    ghost use Rattle.wsn_show.specs.LastPayloads.{character_held_in};
     ghost use Rattle.wsn_show.specs.StreamParts.{KeepsMessage, HasJoined, Keeps, IsSoundPart, items_left};
     ghost use Rattle.wsn_show.specs.ShownItems.{Prints, items_of_ended, items_of_end};
 
@@ -159,15 +161,16 @@ impl StreamParts {
         output: &mut Output<W>,
         context: &EntryContext<'_>,
         refusal: &Refusal,
+        character: &Option<HeldCharacter>,
     )
         ensures { (role : Role) (limits : Limits) (fs : List Frame) (part evidence : List ℕ) →
             IsLawful role limits fs → KeepsMessage self.now.message fs part →
             self.now.frame.offset ≡ length (stream fs) → HasLast self.now.frame.last evidence →
-            Prints context.now output.old output.new
-            (interrupted context.now.style.detail fs ++ RefusedFrame (length (stream fs)) refusal.now evidence ∷ []) }
+            Prints context.now output.old output.new (interrupted context.now.style.detail fs
+            ++ RefusedFrame (length (stream fs)) refusal.now evidence (character_held_in character.now) ∷ []) }
     {
         self.put_interrupted(output, context);
-        let item = ShownItem::Refused(*refusal, self.frame.last.end());
+        let item = ShownItem::Refused(*refusal, self.frame.last.end(), shown_in(character));
         put_item(output, context, self.frame.offset, &item);
     }
 

@@ -1,16 +1,17 @@
 ghost use Rattle.wsn_rules.specs.ShownStream.{Item};
+ghost use Rattle.wsn_rules.specs.ShownStream.Item.{RefusedFrame};
 ghost use Rattle.wsn_show.specs.ShownItems.{IsItem, Prints, items_of_begun};
-ghost use Rattle.std.specs.Prelude.{◌≡◌, [], ◌∷◌, false};
+ghost use Rattle.std.specs.Prelude.{◌≡◌, ℕ, ◌/◌, List, [], ◌∷◌, false};
 ghost use Rattle.wsn_io.specs.Stops.{IsWrittenOrStops};
-ghost use Rattle.wsn_print.specs.ShownText.{item_line};
+ghost use Rattle.wsn_print.specs.CharacterText.{item_lines};
 ghost use Rattle.wsn_print.specs.ShownObjects.{item_object, shown_frame_object};
-ghost use Rattle.wsn_print.specs.ShownParts.{time_of, position_of};
+ghost use Rattle.wsn_print.specs.ShownParts.{time_of, position_of, IsEndOf, character_in};
 
 use crate::entry_context::EntryContext;
 use std::io::Write;
 use wsn_io::{Output, Stop};
 use wsn_print::{
-    EntryFront, Format, Front, HeldBytes, Remainder, ShownEvent, ViewLimit, put_event,
+    EntryFront, Format, Front, HeldBytes, Remainder, ShownCharacter, ShownEvent, ViewLimit, put_bad_character, put_event,
     put_event_object, put_frame, put_refused, put_refused_object, put_remainder,
     put_remainder_object, put_shown_frame_object, put_unfinished, put_unfinished_head,
     put_unfinished_head_object, put_unfinished_object,
@@ -29,8 +30,8 @@ pub enum ShownItem<'a> {
     Unfinished(ShownEvent<'a>, Option<u64>),
     /// A part of a head, while no message is open.
     UnfinishedHead,
-    /// A refusal and its evidence.
-    Refused(Refusal, HeldBytes<'a>),
+    /// A refusal, its evidence, and the bad character of a text that is refused for one.
+    Refused(Refusal, HeldBytes<'a>, Option<ShownCharacter<'a>>),
     /// Bytes that belong to no frame.
     Remainder(Remainder, HeldBytes<'a>),
 }
@@ -61,7 +62,7 @@ pub fn put_item<W: Write>(
     };
 }
 
-/// Prints the line of the item with this front.
+/// Prints the lines of the item with this front.
 fn put_line_of<W: Write>(
     output: &mut Output<W>,
     view: ViewLimit,
@@ -70,17 +71,38 @@ fn put_line_of<W: Write>(
 ) -> Result<(), Stop>
     requires { output.old.failed ≡ false }
     ensures { (shown : Item) → IsItem view front.now.offset item.now shown →
-        IsWrittenOrStops output.old output.new (item_line view front.now.role (time_of front.now) shown) result }
+        IsWrittenOrStops output.old output.new (item_lines view front.now.role (time_of front.now) shown) result }
 {
     match item {
         ShownItem::Event(event) => put_event(output, view, front, event),
         ShownItem::Frame(head) => put_frame(output, front, head),
         ShownItem::Unfinished(event, lacks) => put_unfinished(output, view, front, event, *lacks),
         ShownItem::UnfinishedHead => put_unfinished_head(output, front),
-        ShownItem::Refused(refusal, evidence) => {
-            put_refused(output, view, front, refusal, evidence)
+        ShownItem::Refused(refusal, evidence, character) => {
+            put_refusal_of(output, view, front, refusal, evidence, character)
         }
         ShownItem::Remainder(which, bytes) => put_remainder(output, view, front, *which, bytes),
+    }
+}
+
+/// Prints the line of a refusal, and that of the bad character if there is one.
+fn put_refusal_of<W: Write>(
+    output: &mut Output<W>,
+    view: ViewLimit,
+    front: &Front<'_>,
+    refusal: &Refusal,
+    evidence: &HeldBytes<'_>,
+    character: &Option<ShownCharacter<'_>>,
+) -> Result<(), Stop>
+    requires { output.old.failed ≡ false }
+    ensures { (all : List ℕ) → IsEndOf (view / 2) all evidence.now → IsWrittenOrStops output.old output.new
+        (item_lines view front.now.role (time_of front.now)
+        (RefusedFrame front.now.offset refusal.now all (character_in character.now))) result }
+{
+    put_refused(output, view, front, refusal, evidence)?;
+    match character {
+        Some(character) => put_bad_character(output, view, front, evidence, character),
+        None => Ok(()),
     }
 }
 
@@ -102,8 +124,8 @@ fn put_object_of<W: Write>(
             put_unfinished_object(output, view, front, event, *lacks)
         }
         ShownItem::UnfinishedHead => put_unfinished_head_object(output, front),
-        ShownItem::Refused(refusal, evidence) => {
-            put_refused_object(output, view, front, refusal, evidence)
+        ShownItem::Refused(refusal, evidence, character) => {
+            put_refused_object(output, view, front, refusal, evidence, character)
         }
         ShownItem::Remainder(which, bytes) => {
             put_remainder_object(output, view, front, *which, bytes)

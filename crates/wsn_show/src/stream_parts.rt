@@ -1,19 +1,23 @@
 ghost use Rattle.std.specs.Prelude.{◌≡◌};
 
 use crate::frame_so_far::FrameSoFar;
+use crate::last_payload::LastPayload;
 use crate::message_so_far::MessageSoFar;
 use wsn_rules::HeadInfo;
 
-/// What is kept of a stream, to show what comes next: the open message, and the frame that has begun.
+/// What is kept of a stream, to show what comes next: the open message, the frame that has begun, and the last bytes of
+/// the message's payload.
 #[derive(Drop)]
 pub struct StreamParts {
     pub message: MessageSoFar,
     pub frame: FrameSoFar,
+    pub last: LastPayload,
 }
 
 impl StreamParts {
     ghost use Rattle.std.specs.Prelude.{ℕ, ◌+◌, ◌<◌, ◌^◌, List, [], ◌∷◌, ◌++◌, length};
     ghost use Rattle.wsn_wire.specs.Frame.{Frame, stream};
+    ghost use Rattle.wsn_rules.specs.BadCharacter.{payload_offset};
     ghost use Rattle.wsn_rules.specs.Group.{unfinished, payload_of};
     ghost use Rattle.wsn_rules.specs.Heads.{info_of};
     ghost use Rattle.wsn_scan.specs.Positions.{Position, BetweenFrames, InFrame};
@@ -26,6 +30,7 @@ impl StreamParts {
         StreamParts {
             message: MessageSoFar::new(),
             frame: FrameSoFar::new(),
+            last: LastPayload::new(),
         }
     }
 
@@ -51,7 +56,8 @@ impl StreamParts {
     /// More of the frame's payload comes, unmasked, with `size` more bytes.
     pub fn add_payload(&mut self, payload: &[u8], size: usize)
         ensures { (fs : List Frame) (head : _) (part rest share : List ℕ) → length share ≡ size →
-            length rest + size < 2 ^ 64 →
+            length (stream fs) + (length rest + size) < 2 ^ 64 →
+            payload_offset head + length (part ++ payload.now) ≡ length (stream fs) + (length rest + size) →
             length (payload_of (unfinished fs)) + length part + length payload.now < 2 ^ 64 →
             Keeps self.old fs (InFrame head part) rest →
             Keeps self.new fs (InFrame head (part ++ payload.now)) (rest ++ share) }
@@ -59,6 +65,9 @@ impl StreamParts {
         self.frame.add(payload, size);
         if self.frame.is_data() {
             self.message.add(payload);
+            let end = self.frame.end_so_far();
+            self.last
+                .add(payload, end.saturating_sub(payload.len() as u64));
         }
     }
 
@@ -74,6 +83,9 @@ impl StreamParts {
         self.frame.end(0);
         if is_data {
             self.message.end(final_frame);
+            if final_frame {
+                self.last.clear();
+            }
         }
     }
 }
