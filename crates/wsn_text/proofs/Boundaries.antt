@@ -36,7 +36,7 @@ cut_of : (text : List ℕ) → IsText text → 0 < length text → Cut text
 cut_of text is_text long = subst Cut (sym is_text.whole) (cut_of_characters is_text.characters is_text.each (omega (arith, ap length is_text.whole)))
 
 -- If bytes begin text, and four of them follow a prefix that is text, a longer prefix is text.
-longer_front : (bytes : List ℕ) (at : ℕ) → IsText (take at bytes) → at + 4 ≤ length bytes → BeginsText bytes → (m : ℕ) × (at < m) × (m ≤ at + 4) × IsText (take m bytes)
+pub longer_front : (bytes : List ℕ) (at : ℕ) → IsText (take at bytes) → at + 4 ≤ length bytes → BeginsText bytes → (m : ℕ) × (at < m) × (m ≤ at + 4) × IsText (take m bytes)
 longer_front bytes at text le begins =
     let joined : take at bytes ++ (drop at bytes ++ begins.more) ≡ bytes ++ begins.more =
     sym (append_assoc (take at bytes) (drop at bytes) begins.more) ∙ ap (λ (front : List ℕ). front ++ begins.more) (take-append-drop at bytes) in

@@ -10,3 +10,4 @@ pub mod TextBlocks
 pub mod States
 pub mod Numbers
 pub mod WholeCharacters
+pub mod LongestText

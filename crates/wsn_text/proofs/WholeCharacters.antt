@@ -1,12 +1,12 @@
 -- Where the last character of bytes that begin text starts, if it is unfinished.
-use Rattle.std.proofs.Common.{◌≡◌, ℕ, suc, ◌+◌, ◌-◌, ◌<◌, ◌≤◌, List, [], ◌∷◌, ◌++◌, length, take, drop, get_or, refl, sym, ◌∙◌, subst, ap, append-nil, append_assoc, arith, length-append, length-drop, drop-cons, inl, inr, Bool, true, false, true≢false, IsTrue, ◌↔◌}
+use Rattle.std.proofs.Common.{◌≡◌, ℕ, suc, ◌+◌, ◌-◌, ◌<◌, ◌≤◌, List, [], ◌∷◌, ◌++◌, ◌⊎◌, length, take, drop, get_or, refl, sym, ◌∙◌, subst, ap, append-nil, append_assoc, arith, length-append, length-drop, drop-cons, inl, inr, Bool, true, false, true≢false, IsTrue, ◌↔◌}
 use Rattle.std.proofs.Math.Seq.{take-append_seam, drop-append_seam, get_or-append_seam}
 use Rattle.std.proofs.Math.ListN.{get_or-append}
 use Rattle.std.proofs.lemmas.Bool.{cases_lt}
-use Rattle.std.proofs.lemmas.List.{take-append-drop, take-append-le, drop-append-le, get_or-take, length-take}
+use Rattle.std.proofs.lemmas.List.{get_or-append-add, take-append-drop, take-append-le, drop-append-le, get_or-take, length-take}
 use Rattle.std.proofs.lemmas.Str.{IsUtf8-take, IsUtf8-drop, utf8_valid_len-IsUtf8, utf8_valid_len-IsValidUpTo}
 use Rattle.std.specs.List.{AllByRecursion, concat}
-use Rattle.std.specs.Str.{IsUtf8, IsValidUpTo}
+use Rattle.std.specs.Str.{IsUtf8}
 use Rattle.std.specs.Str.Lossy.{utf8_valid_len}
 use Rattle.wsn_text.specs.Utf8.{IsCharacter, IsText, BeginsText}
 use Rattle.wsn_text.proofs.Rests.{text-nil, text_push}
@@ -144,3 +144,37 @@ module _ (bytes : List ℕ) (i k : ℕ) (at : i + k ≡ length bytes) (some : 0 
 
   pub cut : BeginsText bytes → utf8_valid_len bytes ≡ i
   cut begins = utf8_valid_len-IsValidUpTo bytes i (record { short = omega arith; front = front_is_text begins; longest = longer_is_none })
+
+-- ---- the last three bytes of a text, or all
+
+at_end : (text skipped bytes : List ℕ) (k : ℕ) → text ≡ skipped ++ bytes → k ≤ length bytes → get_or text (length text - k) 0 ≡ get_or bytes (length bytes - k) 0
+at_end text skipped bytes k is le =
+    let size : length text ≡ length skipped + length bytes = ap (λ (bs : List ℕ). length bs) is ∙ length-append skipped bytes in
+    let index : length text - k ≡ length skipped + (length bytes - k) = omega (arith, size, le) in
+    ap (λ (bs : List ℕ). get_or bs (length text - k) 0) is ∙ ap (λ (i : ℕ). get_or (skipped ++ bytes) i 0) index ∙ get_or-append-add skipped bytes (length bytes - k) 0
+
+-- The byte k before the end begins a character of more than k bytes.
+pub unfinished_at_end : (text skipped bytes : List ℕ) (k low : ℕ) → text ≡ skipped ++ bytes → 0 < k → 0xC0 ≤ low → ((b n : ℕ) → low ≤ b → Leads b n → k ≤ n) → (k ≤ length bytes) × (low ≤ get_or bytes (length bytes - k) 0)
+    → BeginsText text → utf8_valid_len text + k ≡ length text
+unfinished_at_end text skipped bytes k low is some high long at begins =
+    let size : length text ≡ length skipped + length bytes = ap (λ (bs : List ℕ). length bs) is ∙ length-append skipped bytes in
+    let same = at_end text skipped bytes k is at.0 in
+    let from : low ≤ get_or text (length text - k) 0 = omega (arith, same, at.1) in
+    let ends = cut text (length text - k) k (omega (arith, size, at.0)) some (omega (arith, from, high)) (λ n leads. long (get_or text (length text - k) 0) n from leads) begins in
+    omega (arith, ends, size, at.0)
+
+-- No byte of the last three does.
+pub whole_at_end : (text skipped bytes : List ℕ) → text ≡ skipped ++ bytes → (3 ≤ length bytes) ⊎ (skipped ≡ []) → HasNoLead bytes → BeginsText text → utf8_valid_len text ≡ length text
+whole_at_end text skipped bytes is enough low begins =
+    whole text begins (record {
+      one = λ some. let le = reaches 1 (omega arith) some in let same = at_end text skipped bytes 1 is le in let below = low.one le in omega (arith, same, below);
+      two = λ some. let le = reaches 2 (omega arith) some in let same = at_end text skipped bytes 2 is le in let below = low.two le in omega (arith, same, below);
+      three = λ some. let le = reaches 3 (omega arith) some in let same = at_end text skipped bytes 3 is le in let below = low.three le in omega (arith, same, below);
+    })
+  where
+    reaches : (k : ℕ) → k ≤ 3 → k ≤ length text → k ≤ length bytes
+    reaches k few within =
+        elim enough [
+          | inl three ↦ omega (arith, few, three)
+          | inr none ↦ let all : length text ≡ length bytes = ap (λ (bs : List ℕ). length bs) (is ∙ ap (λ (bs : List ℕ). bs ++ bytes) none) in omega (arith, within, all)
+        ]

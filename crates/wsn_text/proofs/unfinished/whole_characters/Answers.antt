@@ -1,4 +1,4 @@
-use Rattle.std.proofs.Common.{ℕ, ◌-◌, length, take, ap, sym, arith}
+use Rattle.std.proofs.Common.{ℕ, ◌-◌, [], length, take, refl, ap, sym, inr, arith}
 use Rattle.std.proofs.lemmas.List.{length-take-le}
 use Rattle.wsn_text.proofs.unfinished.whole_characters.Goals as goal
 
@@ -10,5 +10,5 @@ slice_bounds-result-length c = sym (length-take-le (length c.args.bytes.now - c.
 
 pub returns : goal.returns
 returns c begins =
-    let is = c.unfinished_bytes.ensures.text begins in
+    let is = c.unfinished_bytes.ensures.text c.args.bytes.now [] refl (inr refl) begins in
     ap (λ (n : ℕ). take n c.args.bytes.now) (omega (arith, is))
