@@ -74,15 +74,12 @@ abbrev pub character_lines : ℕ → Role → Option (List ℕ) → List ℕ →
 character_lines n role time evidence None = []
 character_lines n role time evidence (Some character) = character_line n role time evidence character
 
--- What follows the line of an item: of a text that is refused for a bad character, this character's line.
-abbrev pub following_lines : ℕ → Role → Option (List ℕ) → Item → List ℕ
-following_lines n role time (RefusedFrame offset refusal evidence character) =
-    character_lines n role time evidence character
-following_lines n role time item = []
-
--- The lines of an item of an endpoint's stream.
+-- The lines of an item of an endpoint's stream: of a text that is refused for a bad character, this character's follows.
 abbrev pub item_lines : ℕ → Role → Option (List ℕ) → Item → List ℕ
-item_lines n role time item = item_line n role time item ++ following_lines n role time item
+item_lines n role time (RefusedFrame offset refusal evidence character) =
+    item_line n role time (RefusedFrame offset refusal evidence character)
+    ++ character_lines n role time evidence character
+item_lines n role time item = item_line n role time item
 
 -- ---- its object
 

@@ -1,3 +1,4 @@
+pub mod LastPayloads
 pub mod MoreBytesHeld
 pub mod OpenMessages
 pub mod KeptParts

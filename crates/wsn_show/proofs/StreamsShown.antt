@@ -157,7 +157,8 @@ module _ (detail : Detail) (role : Role) (limits : Limits) (scan : Scan) (parts 
         of_verdict = r.of_refusal;
         is_of_verdict = record {
           evidence = own.evidence;
-          is_evidence = subst (λ (bs : List ℕ). IsShownEvidence role limits r.done (drop (length (stream r.done)) bs) own.evidence) (sym front) own.is_evidence;
+          character = own.character;
+          is_evidence = subst (λ (bs : List ℕ). IsShownEvidence role limits r.done r.refusal.reason (drop (length (stream r.done)) bs) own.evidence own.character) (sym front) own.is_evidence;
           is = own.is;
         };
         all = r.is;

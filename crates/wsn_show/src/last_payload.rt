@@ -13,7 +13,7 @@ use wsn_text::bad_character_len;
 const CHARACTER_MAX: usize = 4;
 
 /// A byte of a stream, and its offset.
-#[derive(Clone, Copy)]
+#[derive(Clone, Copy, Default)]
 pub struct StreamByte {
     pub place: u64,
     pub byte: u8,
@@ -49,10 +49,12 @@ impl LastPayload {
             HasLastPayload self.new (came ++ placed offset bytes.now) }
     {
         let skipped = bytes.len().saturating_sub(CHARACTER_MAX);
-        let mut place = offset.saturating_add(skipped as u64);
-        for byte in &bytes[skipped..] {
-            self.push(StreamByte { place, byte: *byte });
-            place = place.saturating_add(1);
+        for index in skipped..bytes.len() {
+            let place = offset.saturating_add(index as u64);
+            self.push(StreamByte {
+                place,
+                byte: bytes[index],
+            });
         }
     }
 

@@ -3,7 +3,7 @@ use Rattle.wsn_io.specs.Stops.{IsWrittenOrStops}
 use Rattle.wsn_wire.specs.declared.endpoint.Role.{Role}
 use Rattle.wsn_print.specs.declared.format.Format.{Format}
 use Rattle.wsn_print.specs.Formats.{item_entry}
-use Rattle.wsn_print.specs.ShownText.{item_line}
+use Rattle.wsn_print.specs.CharacterText.{item_lines}
 use Rattle.wsn_print.specs.ShownParts.{time_of, position_of}
 use Rattle.wsn_show.specs.ShownItems.{IsItem}
 use Rattle.wsn_show.proofs.PrintedItems.{prints_line, prints_none}
@@ -25,8 +25,8 @@ returns-in-Text g c shown is =
     let new = c.put_line_of-stop.new.output in
     let result = c.put_line_of-stop.result in
     let here = subst (λ (k : ℕ). IsItem context.style.view k c.args.item.now shown) (sym front.offset) is in
-    let by_role = subst (λ (r : Role). IsWrittenOrStops c.args.output.now new (item_line context.style.view r (time_of c.of_line.result) shown) result) front.role (c.put_line_of-stop.ensures shown here) in
-    let by_time = subst (λ (t : Option (List ℕ)). IsWrittenOrStops c.args.output.now new (item_line context.style.view context.role t shown) result) front.time by_role in
+    let by_role = subst (λ (r : Role). IsWrittenOrStops c.args.output.now new (item_lines context.style.view r (time_of c.of_line.result) shown) result) front.role (c.put_line_of-stop.ensures shown here) in
+    let by_time = subst (λ (t : Option (List ℕ)). IsWrittenOrStops c.args.output.now new (item_lines context.style.view context.role t shown) result) front.time by_role in
     prints_line context c.args.output.now new shown shown result refl (sym c.failed.ensures ∙ c.if-failed.false)
     (subst (λ (f : Format). IsWrittenOrStops c.args.output.now new (item_entry f context.style.view context.role (position_of context.origin) shown) result) (sym c.in-Text.is) by_time)
 

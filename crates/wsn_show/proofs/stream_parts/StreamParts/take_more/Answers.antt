@@ -10,7 +10,8 @@ returns-then-part g c role limits fs frames position rest before share since siz
     let part = c.args.part.now in
     let payload = c.args.payload.now in
     let small = t.small in
-    let in_all = c.add_payload.ensures fs part.head before rest share size (omega (arith, small, size)) t.few_bytes kept in
+    let sized = t.sized in
+    let in_all = c.add_payload.ensures fs part.head before rest share size (omega (arith, small, size)) (omega (arith, sized, size)) t.few_bytes kept in
     let e = ends role limits fs rest before part payload share frames position since t c.if-part.true in
     let there = subst (λ (p : Position). Keeps c.add_payload.new.self fs p (rest ++ share)) e.position_is in_all in
     let final : e.frame.fin ≡ part.head.fin = sym (ap (λ (h : HeadInfo). h.fin) e.is.head_is) in
@@ -23,5 +24,6 @@ pub returns-else-part : goal.returns-else-part
 returns-else-part g c role limits fs frames position rest before share since size t kept =
     let part = c.args.part.now in
     let small = t.small in
+    let sized = t.sized in
     within role limits fs rest before part c.args.payload.now share frames position since t c.if-part.false c.add_payload.new.self c.args.context.now c.args.output.now
-    (c.add_payload.ensures fs part.head before rest share size (omega (arith, small, size)) t.few_bytes kept)
+    (c.add_payload.ensures fs part.head before rest share size (omega (arith, small, size)) (omega (arith, sized, size)) t.few_bytes kept)
