@@ -1,4 +1,5 @@
 pub mod ReportTexts
+pub mod CharacterPieces
 pub mod ComputedHeads
 pub mod Pieces
 pub mod Gathered

@@ -23,6 +23,9 @@ of_four front offset a b z = simp append_assoc
 pub of_five : (front offset a b d z : List ℕ) → front ++ ((offset ++ a ++ b) ++ (d ++ z)) ≡ front ++ offset ++ (a ++ b ++ d) ++ z
 of_five front offset a b d z = simp append_assoc
 
+pub of_refused : (front offset a b d z : List ℕ) → front ++ ((offset ++ a) ++ (b ++ (d ++ z))) ≡ front ++ offset ++ (a ++ b ++ d) ++ z
+of_refused front offset a b d z = simp append_assoc
+
 pub of_three : (front offset a z : List ℕ) → front ++ (offset ++ (a ++ z)) ≡ front ++ offset ++ a ++ z
 of_three front offset a z = simp append_assoc
 

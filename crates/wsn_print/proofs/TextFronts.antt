@@ -11,6 +11,7 @@ use Rattle.wsn_text.specs.Utf8.{BeginsText}
 use Rattle.wsn_text.proofs.Prefixes.{begins_take, text_begins}
 use Rattle.wsn_text.proofs.Scalars.{text_is_utf8}
 use Rattle.wsn_print.specs.ShownText.{is_from, is_printable, text_part}
+use Rattle.wsn_print.specs.CharacterText.{whole_characters}
 use Rattle.wsn_print.specs.ShownParts.{HoldsFirst}
 use Rattle.wsn_print.proofs.HeldViews.{take_held}
 use Rattle.wsn_print.proofs.VisibleTexts.{front_is_utf8}
@@ -39,3 +40,7 @@ part_is_utf8 n text =
 
 pub shown_is_utf8 : (n : ℕ) (all shown : List ℕ) → shown ≡ take (text_part n all) all → IsUtf8 shown
 shown_is_utf8 n all shown is = subst IsUtf8 (sym is) (part_is_utf8 n all)
+
+pub whole_is_utf8 : (bytes : List ℕ) → IsUtf8 (whole_characters bytes)
+unfolding utf8_valid_len
+whole_is_utf8 bytes = front_is_utf8 bytes (length bytes)

@@ -1,9 +1,10 @@
 -- Nothing of a line of `show` is hidden but the LF at its end.
 use Rattle.std.proofs.Common.{◌≡◌, ℕ, zero, suc, ◌+◌, ◌*◌, ◌-◌, ◌/◌, ◌%◌, ◌<◌, Bool, true, false, nat_lt, ◌==◌, ◌&&◌, if◌then◌else◌, Option, None, Some, List, [], ◌∷◌, ◌++◌, length, take, drop, codes, decimal, refl, sym, inl, inr, append_assoc, arith}
+use Rattle.std.specs.Prelude.{flat_map}
 use Rattle.std.specs.Fmt.{digits, digits_onto, digit_glyph}
 use Rattle.std.specs.List.{AllByRecursion}
 use Rattle.std.specs.Option.{IfSome}
-use Rattle.std.specs.Str.{IsUtf8}
+use Rattle.std.specs.Str.{IsUtf8, chars}
 use Rattle.std.proofs.lemmas.Bool.{cases_Bool, and_parts}
 use Rattle.std.proofs.lemmas.Bool.Decides.{nat_tests}
 use Rattle.hex.specs.Hex.{encode_lower}
@@ -20,16 +21,18 @@ use Rattle.wsn_wire.specs.Frame.{IsBytes, key_bytes}
 use Rattle.wsn_wire.specs.Refusal.{word_of, code_of}
 use Rattle.wsn_rules.specs.declared.head_info.HeadInfo.{HeadInfo}
 use Rattle.wsn_rules.specs.declared.verdict.Refusal.{Refusal}
+use Rattle.wsn_rules.specs.BadCharacter.{BadCharacter}
 use Rattle.wsn_rules.specs.Meaning.{MeantEvent, Message, Control}
 use Rattle.wsn_rules.specs.ShownStream.{Item}
 use Rattle.wsn_rules.specs.ShownStream.Item.{Event, Head, Unfinished, UnfinishedHead, RefusedFrame, Unread, Tail}
 use Rattle.wsn_print.specs.Fields.{number_text, refusal_text, fin_word, op_word, key_text, form_text}
 use Rattle.wsn_print.specs.HeadText.{head_fields}
-use Rattle.wsn_print.specs.ShownText.{is_from, quoted, left_out, text_part, text_view, hex_text, hex_view, end_view, is_printable, body_view, reason_text, close_view, event_view, unfinished_view, event_word, event_size, event_text, role_letter, time_text, front_text, offset_of, item_text, item_line, end_line, comment_line, comment_text}
+use Rattle.wsn_print.specs.ShownText.{is_from, quoted_character, quoted, left_out, text_part, text_view, hex_text, hex_view, end_view, is_printable, body_view, reason_text, close_view, event_view, unfinished_view, event_word, event_size, event_text, role_letter, time_text, front_text, offset_of, item_text, item_line, end_line, comment_line, comment_text}
+use Rattle.wsn_print.specs.CharacterText.{from_character, bytes_before, text_before, leaves_out, byte_escape, character_text, character_view, character_line}
 use Rattle.wsn_print.specs.ShownParts.{HasTextReason}
 use Rattle.wsn_print.specs.QuotedTexts.{IsAllVisible, bytes_in, payload_in, ShowsTextReason, IsVisibleLine}
-use Rattle.wsn_print.proofs.TextFronts.{part_is_utf8}
-use Rattle.wsn_print.proofs.VisibleTexts.{IsPrintable, visible_append, visible_ascii, digits_printable, quoted_text_visible, comment_visible}
+use Rattle.wsn_print.proofs.TextFronts.{part_is_utf8, whole_is_utf8}
+use Rattle.wsn_print.proofs.VisibleTexts.{IsPrintable, visible_append, visible_ascii, digits_printable, quoted_characters_visible, quoted_text_visible, comment_visible}
 
 -- A text of which nothing is hidden.
 record Seen (bytes : List ℕ) : Type 0 where
@@ -233,7 +236,7 @@ item n (Unfinished offset event frames lacks) fits reason =
     word (codes "unfinished ") refl ⊕ fields event frames ⊕ word (codes " lacks ") refl ⊕ number_or_dash lacks ⊕ space
     ⊕ unfinished_seen n event fits
 item n (UnfinishedHead offset) fits reason = word (codes "unfinished head 0 0 lacks - -") refl
-item n (RefusedFrame offset refusal evidence) fits reason = verdict refusal ⊕ space ⊕ end_seen n evidence fits
+item n (RefusedFrame offset refusal evidence character) fits reason = verdict refusal ⊕ space ⊕ end_seen n evidence fits
 item n (Unread offset bytes) fits reason =
     word (codes "unread") refl ⊕ space ⊕ number (length bytes) ⊕ space ⊕ hex_seen n bytes fits
 item n (Tail offset bytes) fits reason =
@@ -244,6 +247,41 @@ pub item_line_visible : (n : ℕ) (role : Role) (time : Option (List ℕ)) (show
 item_line_visible n role time shown visible fits reason =
     let line = front role time (offset_of shown) visible ⊕ item n shown fits reason in
     (front_text role time (offset_of shown) ++ item_text n shown, refl, line.is)
+
+-- ---- bad characters
+
+escapes : (bytes : List ℕ) → IsBytes bytes → Seen (flat_map byte_escape bytes)
+escapes [] fits = word [] refl
+escapes (b ∷ bytes) fits = word (codes "\\x") refl ⊕ hex (b ∷ []) (fits.0, tt) ⊕ escapes bytes fits.1
+
+before : (n : ℕ) (evidence : List ℕ) (character : BadCharacter) → Seen (flat_map quoted_character (chars (text_before n evidence character)))
+before n evidence character = record {
+  is = quoted_characters_visible (text_before n evidence character) (whole_is_utf8 (from_character (bytes_before n evidence character)));
+}
+
+up_to_it : (n : ℕ) (evidence : List ℕ) (character : BadCharacter) → IsBytes character.bytes → Seen (character_text n evidence character)
+up_to_it n evidence character fits =
+    seen_if (leaves_out n evidence character) (codes "..") [] (word (codes "..") refl) (word [] refl)
+    ⊕ (word (codes "\"") refl ⊕ before n evidence character ⊕ escapes character.bytes fits ⊕ word (codes "\"") refl)
+
+character_seen : (n : ℕ) (evidence : List ℕ) (character : BadCharacter) → IsBytes character.bytes → Seen (character_view n evidence character)
+character_seen n evidence character fits =
+    seen_if (n == 0) (codes "- -") (encode_lower character.bytes ++ codes " " ++ character_text n evidence character) (word (codes "- -") refl)
+    (hex character.bytes fits ⊕ space ⊕ up_to_it n evidence character fits)
+
+pub character_line_visible : (n : ℕ) (role : Role) (time : Option (List ℕ)) (evidence : List ℕ) (character : BadCharacter) → IfSome time IsAllVisible
+    → IsBytes character.bytes → IsVisibleLine (character_line n role time evidence character)
+character_line_visible n role time evidence character visible fits =
+    let line =
+    front role time character.offset visible ⊕ word (codes "bad-character ") refl ⊕ number character.in_payload ⊕ space
+    ⊕ character_seen n evidence character fits in (
+      front_text role time character.offset ++ codes "bad-character " ++ decimal character.in_payload ++ codes " "
+          ++ character_view n evidence character,
+      refl,
+      line.is,
+    )
+
+-- ---- end marks and comments
 
 pub end_line_visible : (role : Role) (time : Option (List ℕ)) (sent : ℕ) → IfSome time IsAllVisible → IsVisibleLine (end_line role time sent)
 end_line_visible role time sent visible =

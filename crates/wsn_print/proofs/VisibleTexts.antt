@@ -137,11 +137,14 @@ characters_visible : (f : ℕ → List ℕ) → ((c : ℕ) → IsScalar c → Is
 characters_visible f visible text utf8 =
     visible_each f (chars text) (each_scalar f visible (chars text) (scalars-chars text utf8))
 
+pub quoted_characters_visible : (text : List ℕ) → IsUtf8 text → IsAllVisible (flat_map quoted_character (chars text))
+quoted_characters_visible text utf8 = characters_visible quoted_character quoted_visible text utf8
+
 pub quoted_text_visible : (text : List ℕ) → IsUtf8 text → IsAllVisible (quoted text)
 quoted_text_visible text utf8 =
     let mark : IsAllVisible (codes "\"") = visible_ascii (codes "\"") ((omega arith, omega arith), tt) in
     visible_append (codes "\"" ++ flat_map quoted_character (chars text)) (codes "\"")
-    (visible_append (codes "\"") (flat_map quoted_character (chars text)) mark (characters_visible quoted_character quoted_visible text utf8)) mark
+    (visible_append (codes "\"") (flat_map quoted_character (chars text)) mark (quoted_characters_visible text utf8)) mark
 
 -- ---- comments
 

@@ -1,5 +1,6 @@
-ghost use Rattle.std.specs.Prelude.{◌≡◌, ℕ, ◌+◌, ◌/◌, ◌≤◌, ◌++◌, false, IfOk, List, codes, decimal, length};
+ghost use Rattle.std.specs.Prelude.{◌≡◌, ℕ, ◌+◌, ◌/◌, ◌≤◌, ◌++◌, false, IfOk, List, Option, codes, decimal, length};
 ghost use Rattle.wsn_io.specs.Stops.{IsWrittenOrStops};
+ghost use Rattle.wsn_rules.specs.BadCharacter.{BadCharacter};
 ghost use Rattle.wsn_rules.specs.Meaning.{MeantEvent};
 ghost use Rattle.wsn_rules.specs.ShownStream.Item.{Event, Head, Unfinished, UnfinishedHead, RefusedFrame};
 ghost use Rattle.wsn_print.specs.Fields.{number_text, refusal_text};
@@ -159,7 +160,7 @@ pub fn put_end<W: Write>(to: &mut Output<W>, front: &Front<'_>) -> Result<(), St
 }
 
 /// Writes what is in front of an entry.
-fn put_front<W: Write>(to: &mut Output<W>, front: &Front<'_>) -> Result<(), Stop>
+pub(crate) fn put_front<W: Write>(to: &mut Output<W>, front: &Front<'_>) -> Result<(), Stop>
     requires { to.old.failed ≡ false }
     ensures { IsWrittenOrStops to.old to.new
         (front_text front.now.role (time_of front.now) front.now.offset) result }

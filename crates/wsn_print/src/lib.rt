@@ -9,7 +9,7 @@
 //!
 //! Of what is shown, [`put_event`] writes the line of a complete event, [`put_frame`] that of a frame,
 //! [`put_unfinished`] and [`put_unfinished_head`] that of what isn't complete, [`put_refused`] that of a refusal,
-//! [`put_remainder`] that of bytes in no frame, [`put_end`] that of an end mark and [`put_comment`] that of a comment.
+//! [`put_bad_character`] that of a text's bad character, [`put_remainder`] that of bytes in no frame, [`put_end`] that of an end mark and [`put_comment`] that of a comment.
 //! They take only the part of a payload that a [`ViewLimit`] shows.
 //!
 //! Each answer and each entry can also be a JSON object in one line: `put_.._object` writes it, and [`put_verdict_as`],
@@ -17,13 +17,14 @@
 //! where an entry is. [`put_difference_as`] writes a difference with the events that differ.
 //!
 //! `specs/Fields.antt` defines the fields of lines; `VerdictText`, `HeadText`, `ReportText`, `ComparisonText`,
-//! `FaultText`, `StopText`, `PayloadText` and `ShownText` define the lines, `Json`, `Objects` and `ShownObjects` the objects, `Formats`
+//! `FaultText`, `StopText`, `PayloadText`, `ShownText` and `CharacterText` define the lines, `Json`, `Objects` and `ShownObjects` the objects, `Formats`
 //! the texts in each format, `DifferenceText` a difference with its events, and `Statuses` the exit statuses. `ShownParts` says what the arguments of the functions
 //! that show an entry stand for, `QuotedTexts` what a quoted text is ([`quoted_laws`]).
 //! [`printed_lines`], [`printed_entries`] and [`printed_objects`] have examples of printed lines, computed from the
 //! definitions.
 #![tactic(auto)]
 
+mod characters;
 mod comparisons;
 mod differences;
 mod entries;
@@ -56,6 +57,7 @@ mod style;
 mod verdicts;
 mod views;
 
+pub use characters::put_bad_character;
 pub use comparisons::put_compared;
 pub use differences::put_difference_as;
 pub use entries::{
@@ -74,8 +76,8 @@ pub use payloads::{line_of_inside, line_of_nothing};
 pub use quoted::put_comment;
 pub use reports::put_report;
 pub use shown::{
-    Difference, EntryFront, Front, HeldBytes, Origin, PlacedEvent, Remainder, ShownEvent, VIEW_MAX,
-    ViewLimit,
+    Difference, EntryFront, Front, HeldBytes, Origin, PlacedEvent, Remainder, ShownCharacter,
+    ShownEvent, VIEW_MAX, ViewLimit,
 };
 pub use shown_objects::{
     put_comment_object, put_end_object, put_event_object, put_refused_object, put_remainder_object,

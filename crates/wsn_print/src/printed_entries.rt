@@ -1,13 +1,15 @@
-//! Examples of the printed lines of `show`, computed from the definitions in `specs/ShownText.antt`.
+//! Examples of the printed lines of `show`, computed from the definitions in `specs/ShownText.antt` and
+//! `CharacterText.antt`.
 
 ghost use Rattle.std.specs.Prelude.{◌≡◌, true, false, None, Some, [], ◌∷◌, ◌++◌, codes, replicate};
 ghost use Rattle.wsn_wire.specs.declared.endpoint.Role.TheVariants.{Client, Server};
 ghost use Rattle.wsn_wire.specs.declared.opcode.Kind.TheVariants as kind;
 ghost use Rattle.wsn_wire.specs.declared.opcode.Op.TheVariants.{Text, Continue, Close, Ping, Pong};
 ghost use Rattle.wsn_wire.specs.declared.length_forms.Form.TheVariants.{Shortest, Two};
-ghost use Rattle.wsn_wire.specs.declared.refusal.Reason.TheVariants.{TextBad};
+ghost use Rattle.wsn_wire.specs.declared.refusal.Reason.TheVariants.{ReservedBits, TextBad};
 ghost use Rattle.wsn_rules.specs.Meaning.{Message, Control};
 ghost use Rattle.wsn_rules.specs.ShownStream.Item.{Event, Head, Unfinished, UnfinishedHead, RefusedFrame, Unread, Tail};
+ghost use Rattle.wsn_print.specs.CharacterText.{character_line, item_lines};
 ghost use Rattle.wsn_print.specs.ShownText.{item_line, text_view, hex_view, body_view, quoted, comment_line, end_line};
 
 /// The lines of complete events: their offset is that of the first frame.
@@ -112,16 +114,35 @@ pub fn of_unfinished()
 
 /// The lines of refusals and of the bytes behind them, of tails and of end marks.
 pub fn of_refusals()
-    ensures refused { item_line 48 Server None (RefusedFrame 7 (record { place = 11; reason = TextBad }) (codes "Gr" ++ (0xfc ∷ []))) ≡ codes "S - 7 refused 11 text-bad 1007 4772fc\n" }
-    ensures refused_at_6 { item_line 6 Server None (RefusedFrame 7 (record { place = 11; reason = TextBad }) (codes "Gr" ++ (0xfc ∷ []))) ≡ codes "S - 7 refused 11 text-bad 1007 4772fc\n" }
-    ensures refused_at_5 { item_line 5 Server None (RefusedFrame 7 (record { place = 11; reason = TextBad }) (codes "Gr" ++ (0xfc ∷ []))) ≡ codes "S - 7 refused 11 text-bad 1007 ..72fc\n" }
-    ensures refused_at_2 { item_line 2 Server None (RefusedFrame 7 (record { place = 11; reason = TextBad }) (codes "Gr" ++ (0xfc ∷ []))) ≡ codes "S - 7 refused 11 text-bad 1007 ..fc\n" }
-    ensures refused_at_1 { item_line 1 Server None (RefusedFrame 7 (record { place = 11; reason = TextBad }) (codes "Gr" ++ (0xfc ∷ []))) ≡ codes "S - 7 refused 11 text-bad 1007 ..\n" }
-    ensures refused_at_0 { item_line 0 Server None (RefusedFrame 7 (record { place = 11; reason = TextBad }) (codes "Gr" ++ (0xfc ∷ []))) ≡ codes "S - 7 refused 11 text-bad 1007 -\n" }
+    ensures refused { item_line 48 Server None (RefusedFrame 7 (record { place = 11; reason = TextBad }) (codes "Gr" ++ (0xfc ∷ [])) None) ≡ codes "S - 7 refused 11 text-bad 1007 4772fc\n" }
+    ensures refused_at_6 { item_line 6 Server None (RefusedFrame 7 (record { place = 11; reason = TextBad }) (codes "Gr" ++ (0xfc ∷ [])) None) ≡ codes "S - 7 refused 11 text-bad 1007 4772fc\n" }
+    ensures refused_at_5 { item_line 5 Server None (RefusedFrame 7 (record { place = 11; reason = TextBad }) (codes "Gr" ++ (0xfc ∷ [])) None) ≡ codes "S - 7 refused 11 text-bad 1007 ..72fc\n" }
+    ensures refused_at_2 { item_line 2 Server None (RefusedFrame 7 (record { place = 11; reason = TextBad }) (codes "Gr" ++ (0xfc ∷ [])) None) ≡ codes "S - 7 refused 11 text-bad 1007 ..fc\n" }
+    ensures refused_at_1 { item_line 1 Server None (RefusedFrame 7 (record { place = 11; reason = TextBad }) (codes "Gr" ++ (0xfc ∷ [])) None) ≡ codes "S - 7 refused 11 text-bad 1007 ..\n" }
+    ensures refused_at_0 { item_line 0 Server None (RefusedFrame 7 (record { place = 11; reason = TextBad }) (codes "Gr" ++ (0xfc ∷ [])) None) ≡ codes "S - 7 refused 11 text-bad 1007 -\n" }
     ensures unread { item_line 48 Server None (Unread 12 ((0xdf ∷ []) ++ codes "e" ++ (0x88 ∷ 0x02 ∷ 0x03 ∷ 0xef ∷ []))) ≡ codes "S - 12 unread 6 df65880203ef\n" }
     ensures unread_at_4 { item_line 4 Server None (Unread 12 ((0xdf ∷ []) ++ codes "e" ++ (0x88 ∷ 0x02 ∷ 0x03 ∷ 0xef ∷ []))) ≡ codes "S - 12 unread 6 df65 ..\n" }
     ensures tail { item_line 0 Client None (Tail 2 ((0x81 ∷ []))) ≡ codes "C - 2 tail 1 -\n" }
     ensures end { end_line Server None 18 ≡ codes "S - 18 end\n" }
+{}
+
+/// The lines of bad characters: their bytes, and the text up to the last of these, cut to whole characters.
+pub fn of_bad_characters()
+    ensures whole { character_line 48 Client None (codes "{\"name\":\"Ren" ++ (0xe9 ∷ 0x20 ∷ [])) (record { offset = 18; in_payload = 12; bytes = 0xe9 ∷ 0x20 ∷ [] }) ≡ codes "C - 18 bad-character 12 e920 \"{\\\"name\\\":\\\"Ren\\xe9\\x20\"\n" }
+    ensures at_28 { character_line 28 Client None (codes "{\"name\":\"Ren" ++ (0xe9 ∷ 0x20 ∷ [])) (record { offset = 18; in_payload = 12; bytes = 0xe9 ∷ 0x20 ∷ [] }) ≡ codes "C - 18 bad-character 12 e920 \"{\\\"name\\\":\\\"Ren\\xe9\\x20\"\n" }
+    ensures at_27 { character_line 27 Client None (codes "{\"name\":\"Ren" ++ (0xe9 ∷ 0x20 ∷ [])) (record { offset = 18; in_payload = 12; bytes = 0xe9 ∷ 0x20 ∷ [] }) ≡ codes "C - 18 bad-character 12 e920 ..\"\\\"name\\\":\\\"Ren\\xe9\\x20\"\n" }
+    ensures at_10 { character_line 10 Client None (codes "{\"name\":\"Ren" ++ (0xe9 ∷ 0x20 ∷ [])) (record { offset = 18; in_payload = 12; bytes = 0xe9 ∷ 0x20 ∷ [] }) ≡ codes "C - 18 bad-character 12 e920 ..\"Ren\\xe9\\x20\"\n" }
+    ensures at_2 { character_line 2 Client None (codes "{\"name\":\"Ren" ++ (0xe9 ∷ 0x20 ∷ [])) (record { offset = 18; in_payload = 12; bytes = 0xe9 ∷ 0x20 ∷ [] }) ≡ codes "C - 18 bad-character 12 e920 ..\"\\xe9\\x20\"\n" }
+    ensures at_1 { character_line 1 Client None (codes "{\"name\":\"Ren" ++ (0xe9 ∷ 0x20 ∷ [])) (record { offset = 18; in_payload = 12; bytes = 0xe9 ∷ 0x20 ∷ [] }) ≡ codes "C - 18 bad-character 12 e920 ..\"\\xe9\\x20\"\n" }
+    ensures at_0 { character_line 0 Client None (codes "{\"name\":\"Ren" ++ (0xe9 ∷ 0x20 ∷ [])) (record { offset = 18; in_payload = 12; bytes = 0xe9 ∷ 0x20 ∷ [] }) ≡ codes "C - 18 bad-character 12 - -\n" }
+    ensures with_a_time { character_line 48 Server (Some (codes "1.5")) (codes "Gr" ++ (0xfc ∷ [])) (record { offset = 11; in_payload = 2; bytes = 0xfc ∷ [] }) ≡ codes "S 1.5 11 bad-character 2 fc \"Gr\\xfc\"\n" }
+    ensures cut_within_a_character { character_line 10 Server None (codes "a" ++ (0xe2 ∷ 0x82 ∷ 0xac ∷ []) ++ codes "b" ++ (0xe9 ∷ 0x20 ∷ [])) (record { offset = 7; in_payload = 5; bytes = 0xe9 ∷ 0x20 ∷ [] }) ≡ codes "S - 7 bad-character 5 e920 ..\"b\\xe9\\x20\"\n" }
+    ensures cut_before_a_character { character_line 12 Server None (codes "a" ++ (0xe2 ∷ 0x82 ∷ 0xac ∷ []) ++ codes "b" ++ (0xe9 ∷ 0x20 ∷ [])) (record { offset = 7; in_payload = 5; bytes = 0xe9 ∷ 0x20 ∷ [] }) ≡ codes "S - 7 bad-character 5 e920 ..\"" ++ (0xe2 ∷ 0x82 ∷ 0xac ∷ []) ++ codes "b\\xe9\\x20\"\n" }
+    ensures of_two_frames { character_line 48 Server None (0x20 ∷ []) (record { offset = 2; in_payload = 0; bytes = 0xe2 ∷ 0x82 ∷ 0x20 ∷ [] }) ≡ codes "S - 2 bad-character 0 e28220 \"\\xe2\\x82\\x20\"\n" }
+    ensures after_a_character_of_two_frames { character_line 48 Server None ((0x82 ∷ 0xac ∷ []) ++ codes "a" ++ (0xfc ∷ [])) (record { offset = 8; in_payload = 4; bytes = 0xfc ∷ [] }) ≡ codes "S - 8 bad-character 4 fc ..\"a\\xfc\"\n" }
+    ensures after_a_hidden_character { character_line 48 Server None (0x09 ∷ 0xfc ∷ []) (record { offset = 3; in_payload = 1; bytes = 0xfc ∷ [] }) ≡ codes "S - 3 bad-character 1 fc \"\\u0009\\xfc\"\n" }
+    ensures after_its_refusal { item_lines 48 Server None (RefusedFrame 7 (record { place = 11; reason = TextBad }) (codes "Gr" ++ (0xfc ∷ [])) (Some (record { offset = 11; in_payload = 2; bytes = 0xfc ∷ [] }))) ≡ codes "S - 7 refused 11 text-bad 1007 4772fc\nS - 11 bad-character 2 fc \"Gr\\xfc\"\n" }
+    ensures without_one { item_lines 48 Server None (RefusedFrame 7 (record { place = 7; reason = ReservedBits }) (0xc1 ∷ []) None) ≡ codes "S - 7 refused 7 reserved-bits 1002 c1\n" }
 {}
 
 /// The lines of comments: hidden characters are escaped; of what is not UTF-8, all bytes that are not printable ASCII.

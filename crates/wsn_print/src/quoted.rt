@@ -69,7 +69,7 @@ pub(crate) fn put_comment_characters<W: Write>(to: &mut Output<W>, text: &[u8]) 
 
 /// Writes the characters of a text that is quoted.
 #[inline(never)]
-fn put_quoted_characters<W: Write>(to: &mut Output<W>, text: &str) -> Result<(), Stop>
+pub(crate) fn put_quoted_characters<W: Write>(to: &mut Output<W>, text: &str) -> Result<(), Stop>
     requires { to.old.failed ≡ false }
     ensures { IsWrittenOrStops to.old to.new (flat_map quoted_character (chars text.now)) result }
 {

@@ -4,8 +4,10 @@ ghost use Rattle.std.specs.Prelude.{◌≡◌, ℕ, List, Option, IfSome};
 ghost use Rattle.std.specs.Str.{IsUtf8};
 ghost use Rattle.wsn_wire.specs.declared.endpoint.Role.{Role};
 ghost use Rattle.wsn_wire.specs.Frame.{IsBytes};
+ghost use Rattle.wsn_rules.specs.BadCharacter.{BadCharacter};
 ghost use Rattle.wsn_rules.specs.ShownStream.{Item};
 ghost use Rattle.wsn_print.specs.ShownText.{quoted, item_line, end_line, comment_line};
+ghost use Rattle.wsn_print.specs.CharacterText.{character_line};
 ghost use Rattle.wsn_print.specs.QuotedTexts.{IsJsonString, IsAllVisible, IsVisibleLine, bytes_in, ShowsTextReason};
 
 /// A quoted text is a JSON string of the text (RFC 8259 section 7), and a JSON string is one of one text alone. So a
@@ -22,12 +24,15 @@ pub fn law_quoted_is_visible()
     ensures { (text : List ℕ) → IsUtf8 text → IsAllVisible (quoted text) }
 {}
 
-/// Nothing of a line of `show` is hidden but the LF at its end: of an item, whatever its payload is, of an end mark and of
-/// a comment.
+/// Nothing of a line of `show` is hidden but the LF at its end: of an item, whatever its payload is, of a bad character,
+/// of an end mark and of a comment.
 pub fn law_lines_are_visible()
     ensures item { (n : ℕ) (role : Role) (time : Option (List ℕ)) (item : Item) →
         IfSome time IsAllVisible → IsBytes (bytes_in item) → ShowsTextReason item →
         IsVisibleLine (item_line n role time item) }
+    ensures character { (n : ℕ) (role : Role) (time : Option (List ℕ)) (evidence : List ℕ) (character : BadCharacter) →
+        IfSome time IsAllVisible → IsBytes character.bytes →
+        IsVisibleLine (character_line n role time evidence character) }
     ensures end_mark { (role : Role) (time : Option (List ℕ)) (sent : ℕ) → IfSome time IsAllVisible →
         IsVisibleLine (end_line role time sent) }
     ensures comment { (text : List ℕ) → IsBytes text → IsVisibleLine (comment_line text) }

@@ -6,8 +6,9 @@ ghost use Rattle.wsn_print.specs.Fields.{op_word};
 ghost use Rattle.wsn_print.specs.Json.{number_field, number_or_null_field, string_field};
 ghost use Rattle.wsn_print.specs.Objects.{head_fields, refusal_fields};
 ghost use Rattle.wsn_print.specs.ShownObjects.{item_object, item_fields, shown_frame_object, end_object, comment_object, object_front, event_fields, line_field, side_word, time_key, time_value};
-ghost use Rattle.wsn_print.specs.ShownParts.{position_of, Represents, HasText, HasTextPayload, IsFrontOf, IsEndOf, item_of_remainder, remainder_word};
+ghost use Rattle.wsn_print.specs.ShownParts.{position_of, Represents, HasText, HasTextPayload, IsFrontOf, IsEndOf, item_of_remainder, remainder_word, character_in};
 
+use crate::characters::put_character_fields;
 use crate::entries::remainder_word;
 use crate::heads::op_word;
 use crate::json::{push_number_field, push_number_or_null_field, push_string_field};
@@ -17,7 +18,9 @@ use crate::object_views::{
 };
 use crate::objects::push_refusal;
 use crate::quoted::put_comment_characters;
-use crate::shown::{EntryFront, HeldBytes, Origin, Remainder, ShownEvent, ViewLimit};
+use crate::shown::{
+    EntryFront, HeldBytes, Origin, Remainder, ShownCharacter, ShownEvent, ViewLimit,
+};
 use std::io::Write;
 use wsn_io::{Output, Stop, put_line};
 use wsn_rules::{HeadInfo, Refusal};
@@ -113,23 +116,26 @@ pub fn put_unfinished_head_object<W: Write>(
     )
 }
 
-/// Writes a refusal as a JSON object in one line: its front, the verdict, and the last bytes of its evidence, which ends
-/// with the offending byte. `Stop::Write` if the writer fails: a prefix of the line was written.
+/// Writes a refusal as a JSON object in one line: its front, the verdict, the last bytes of its evidence, which ends with
+/// the offending byte, and the bad character of a text that is refused for one. `Stop::Write` if the writer fails: a
+/// prefix of the line was written.
 pub fn put_refused_object<W: Write>(
     to: &mut Output<W>,
     view: ViewLimit,
     front: &EntryFront<'_>,
     refusal: &Refusal,
     evidence: &HeldBytes<'_>,
+    character: &Option<ShownCharacter<'_>>,
 ) -> Result<(), Stop>
     requires { to.old.failed ≡ false }
     ensures { (all : List ℕ) → IsEndOf (view / 2) all evidence.now →
         IsWrittenOrStops to.old to.new (item_object view front.now.role (position_of front.now.origin)
-        (RefusedFrame front.now.offset refusal.now all)) result }
+        (RefusedFrame front.now.offset refusal.now all (character_in character.now))) result }
 {
     put_front(to, "refused", front.role, &front.origin)?;
     put_line(to, line_of_refusal(front.offset, refusal).bytes())?;
     put_end_fields(to, view, evidence)?;
+    put_character_fields(to, view, evidence, character)?;
     put_line(to, b"}\n")
 }
 

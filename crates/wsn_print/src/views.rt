@@ -243,7 +243,11 @@ fn put_left_out<W: Write>(to: &mut Output<W>, shown: usize, all: u64) -> Result<
 }
 
 /// Writes `..` if fewer bytes are shown than there are.
-fn put_left_out_before<W: Write>(to: &mut Output<W>, shown: usize, all: u64) -> Result<(), Stop>
+pub(crate) fn put_left_out_before<W: Write>(
+    to: &mut Output<W>,
+    shown: usize,
+    all: u64,
+) -> Result<(), Stop>
     requires { to.old.failed ≡ false }
     ensures { IsWrittenOrStops to.old to.new (if nat_lt shown all then codes ".." else []) result }
 {
