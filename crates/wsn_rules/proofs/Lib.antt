@@ -43,3 +43,4 @@ pub mod ShownPlaces
 pub mod ShownHeads
 pub mod ShownBytes
 pub mod PlacedExamples
+pub mod BadCharacters

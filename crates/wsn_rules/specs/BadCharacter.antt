@@ -1,10 +1,11 @@
 -- The character with which a text goes wrong: its bytes up to the offending one, and where they are. They may be in
 -- more than one frame. RFC 6455 sections 5.6 and 8.1.
-use Rattle.std.specs.Prelude.{ℕ, ◌+◌, ◌-◌, Option, None, Some, List, [], ◌∷◌, ◌++◌, length, drop, map, if◌then◌else◌}
+use Rattle.std.specs.Prelude.{◌≡◌, ℕ, ◌+◌, ◌-◌, ◌≤◌, Option, None, Some, List, [], ◌∷◌, ◌++◌, length, drop, map, if◌then◌else◌}
 use Rattle.std.specs.Str.Lossy.{utf8_valid_len}
 use Rattle.wsn_wire.specs.declared.refusal.Reason.{Reason}
 use Rattle.wsn_wire.specs.declared.refusal.Reason.TheVariants.{TextBad}
 use Rattle.wsn_wire.specs.Frame.{Frame, head_bytes, frame_bytes}
+use Rattle.wsn_text.specs.Utf8.{IsText, BeginsText}
 use Rattle.wsn_rules.specs.declared.head_info.HeadInfo.{HeadInfo}
 use Rattle.wsn_rules.specs.Group.{is_data, unfinished, payload_of}
 use Rattle.wsn_rules.specs.Heads.{info_of}
@@ -67,3 +68,19 @@ bad_character payload = record {
 abbrev pub character_of : Reason → List Frame → HeadInfo → List ℕ → Option BadCharacter
 character_of TextBad fs info part = Some (bad_character (message_payload fs info part))
 character_of reason fs info part = None
+
+-- ---- for the law
+
+-- The payload is whole characters and then the bytes of this one, one to four: all but the last begin text, and with
+-- the last they don't.
+pub record GoesWrongWith (payload : List ℕ) (character : BadCharacter) : Type 0 where
+  pub whole : List ℕ
+  pub is : payload ≡ whole ++ character.bytes
+  pub in_payload : character.in_payload ≡ length whole
+  pub text : IsText whole
+  pub begun : List ℕ
+  pub last : ℕ
+  pub bytes : character.bytes ≡ begun ++ last ∷ []
+  pub begins : BeginsText begun
+  pub bad : ¬ (BeginsText character.bytes)
+  pub few : length character.bytes ≤ 4
