@@ -1,100 +1,40 @@
 -- The character with which a text goes wrong: which of the payload's bytes it is, and where they are.
-use Rattle.std.proofs.Common.{◌≡◌, ℕ, zero, suc, ◌+◌, ◌-◌, ◌<◌, ◌≤◌, Bool, Option, None, Some, List, [], ◌∷◌, ◌++◌, length, take, drop, filter, if◌then◌else◌, refl, sym, ap, ◌∙◌, subst, inl, inr, append_assoc, append-nil, length-append, take-append-drop, arith}
+use Rattle.std.proofs.Common.{◌≡◌, ℕ, ◌+◌, ◌-◌, ◌<◌, ◌≤◌, Option, None, Some, List, [], ◌∷◌, ◌++◌, length, take, drop, refl, sym, ap, ◌∙◌, subst, inl, inr, append_assoc, append-nil, length-append, take-append-drop, arith}
 use Rattle.std.specs.Prelude.{is_some}
-use Rattle.std.specs.List.{list_any}
 use Rattle.std.specs.Str.Lossy.{utf8_valid_len}
-use Rattle.std.proofs.lemmas.List.{take_at, drop_at, drop-map, length-map, map-append, length-take-le}
-use Rattle.std.proofs.lemmas.List.Concat.{flat_map-append}
-use Rattle.std.proofs.lemmas.Bool.{cases_Bool, cond-true, cond-false}
+use Rattle.std.proofs.lemmas.List.{take_at, drop_at, map-append, length-take-le}
+use Rattle.std.proofs.lemmas.Bool.{cond-true, cond-false}
 use Rattle.std.proofs.lemmas.Str.{utf8_valid_len_le}
 use Rattle.wsn_wire.specs.declared.endpoint.Role.{Role}
 use Rattle.wsn_wire.specs.declared.refusal.Reason.{Reason}
 use Rattle.wsn_wire.specs.declared.refusal.Reason.TheVariants.{ReservedBits, ReservedOpcode, ControlNotFinal, NothingToContinue, MessageOpen, MaskMissing, MaskPresent, ControlTooLong, CloseOneByte, LengthTopBit, LengthNotMinimal, MessageTooBig, CloseCode, CloseReason, TextBad, TextCut, TooManyFrames}
-use Rattle.wsn_wire.specs.Frame.{Frame, IsBytes, stream, head_bytes, frame_bytes, key_bytes, masked, wire_payload}
+use Rattle.wsn_wire.specs.Frame.{Frame, IsBytes, stream, head_bytes, key_bytes, masked, wire_payload}
 use Rattle.wsn_wire.specs.Layout.{opcode_field, mask_bit}
 use Rattle.wsn_wire.proofs.FrameLemmas.{IsBytes-left, IsBytes-right, length-wire_payload}
-use Rattle.wsn_text.specs.Utf8.{BeginsText, IsFirstBad}
+use Rattle.wsn_text.specs.Utf8.{IsText, BeginsText, IsFirstBad}
 use Rattle.wsn_text.proofs.Prefixes.{begins-nil, bad_ends}
-use Rattle.wsn_text.proofs.LongestText.{split, before_bad}
+use Rattle.wsn_text.proofs.Numbers.{less_or_not}
+use Rattle.wsn_text.proofs.LongestText.{valid_is_longest, split, before_bad}
 use Rattle.wsn_rules.specs.declared.detail.Detail.{Detail}
 use Rattle.wsn_rules.specs.declared.head_info.HeadInfo.{HeadInfo}
 use Rattle.wsn_rules.specs.declared.verdict.Refusal.{Refusal}
 use Rattle.wsn_rules.specs.Limits.{Limits}
 use Rattle.wsn_rules.specs.Evidence.{Evidence, IntoPayload, IsOfText, EndsBad, unmasked}
 use Rattle.wsn_rules.specs.Evidence.Evidence.{ByFirst, BySecond, ByLength, ByPayload}
-use Rattle.wsn_rules.specs.Group.{after_last, is_data, is_final, unfinished, payload_of}
-use Rattle.wsn_rules.specs.Heads.{BeginsWithHead, info_of}
+use Rattle.wsn_rules.specs.Group.{unfinished, payload_of}
+use Rattle.wsn_rules.specs.Heads.{BeginsWithHead}
 use Rattle.wsn_rules.specs.Verdict.{IsRefused}
 use Rattle.wsn_rules.specs.PlacedByte.{PlacedByte, placed}
-use Rattle.wsn_rules.specs.BadCharacter.{BadCharacter, GoesWrongWith, payload_offset, placed_payloads, open_payload, message_payload, first_offset, bytes_of, bad_character, character_of}
+use Rattle.wsn_rules.specs.BadCharacter.{BadCharacter, GoesWrongWith, IsPayloadByte, payload_offset, open_payload, message_payload, first_offset, bytes_of, bad_character, character_of}
 use Rattle.wsn_rules.specs.ShownStream.{Item, Shown, shown_after, interrupted, IsShownEvidence, IsShownRefusal}
 use Rattle.wsn_rules.specs.ShownStream.Item.{RefusedFrame}
 use Rattle.wsn_rules.proofs.Groups.{IsGroup, group_of_lawful}
+use Rattle.wsn_rules.proofs.Prefixes.{same_front}
 use Rattle.wsn_rules.proofs.HeadEvidence.{unmasked-nil}
+use Rattle.wsn_rules.proofs.OpenPayloads.{bytes_of-drop, length-open, payload_so_far, first_at, drop_past, first_in_front, open_bytes}
 use Rattle.wsn_rules.proofs.LeastEvident.{evidence_is_some}
 use Rattle.wsn_rules.proofs.BegunHeads.{SameParts, same_parts, encodable_begun, begun_is}
 use Rattle.wsn_rules.proofs.EveryShown.{whole_head}
-
--- ---- the payload of the message, without offsets
-
-bytes_of-placed : (place : ℕ) (bytes : List ℕ) → bytes_of (placed place bytes) ≡ bytes
-bytes_of-placed place [] = refl
-bytes_of-placed place (b ∷ bytes) = ap (λ (bs : List ℕ). b ∷ bs) (bytes_of-placed (place + 1) bytes)
-
-bytes_of-append : (xs ys : List PlacedByte) → bytes_of (xs ++ ys) ≡ bytes_of xs ++ bytes_of ys
-bytes_of-append xs ys = map-append (λ (b : PlacedByte). b.byte) xs ys
-
-length-bytes_of : (xs : List PlacedByte) → length (bytes_of xs) ≡ length xs
-length-bytes_of xs = length-map xs (λ (b : PlacedByte). b.byte)
-
-bytes_of-drop : (n : ℕ) (xs : List PlacedByte) → bytes_of (drop n xs) ≡ drop n (bytes_of xs)
-bytes_of-drop n xs = sym (drop-map (λ (b : PlacedByte). b.byte) n xs)
-
-bytes_of-payloads : (place : ℕ) (fs : List Frame) → bytes_of (placed_payloads place fs) ≡ payload_of (filter is_data fs)
-bytes_of-payloads place [] = refl
-bytes_of-payloads place (f ∷ fs) =
-    let n = place + length (frame_bytes f) in
-    let here = placed (payload_offset (info_of place f)) f.payload in
-    bytes_of-append (if is_data f then here else []) (placed_payloads n fs)
-    ∙ ap (λ (bs : List ℕ). bytes_of (if is_data f then here else []) ++ bs) (bytes_of-payloads n fs)
-    ∙ elim (cases_Bool (is_data f)) [
-      | inl kept ↦
-          ap (λ (ps : List PlacedByte). bytes_of ps ++ payload_of (filter is_data fs)) (cond-true (is_data f) here [] kept)
-          ∙ ap (λ (bs : List ℕ). bs ++ payload_of (filter is_data fs)) (bytes_of-placed (payload_offset (info_of place f)) f.payload)
-          ∙ ap payload_of (sym (cond-true (is_data f) (f ∷ filter is_data fs) (filter is_data fs) kept))
-      | inr left_out ↦
-          ap (λ (ps : List PlacedByte). bytes_of ps ++ payload_of (filter is_data fs)) (cond-false (is_data f) here [] left_out)
-          ∙ ap payload_of (sym (cond-false (is_data f) (f ∷ filter is_data fs) (filter is_data fs) left_out))
-    ]
-
-after_last_ends : {A : Type 0} → (passes : A → Bool) (xs : List A) → (before : List A) × (xs ≡ before ++ after_last passes xs)
-after_last_ends {A = A} passes [] = ([], refl)
-after_last_ends {A = A} passes (x ∷ xs) =
-    elim (cases_Bool (list_any passes (x ∷ xs))) [
-      | inl some ↦
-          let p = after_last_ends passes xs in
-          (x ∷ p.0, ap (λ (ys : List A). x ∷ ys) p.1 ∙ ap (λ (ys : List A). x ∷ (p.0 ++ ys)) (sym (cond-true (list_any passes (x ∷ xs)) (after_last passes xs) (x ∷ xs) some)))
-      | inr none ↦ ([], sym (cond-false (list_any passes (x ∷ xs)) (after_last passes xs) (x ∷ xs) none))
-    ]
-
-bytes_of-open : (fs : List Frame) → bytes_of (open_payload fs) ≡ payload_of (unfinished fs)
-bytes_of-open fs =
-    let all = placed_payloads 0 fs in
-    let group = unfinished fs in
-    let parts = after_last_ends is_final (filter is_data fs) in
-    let bytes : bytes_of all ≡ payload_of parts.0 ++ payload_of group =
-    bytes_of-payloads 0 fs ∙ ap payload_of parts.1 ∙ flat_map-append (λ (f : Frame). f.payload) parts.0 group in
-    let size : length all ≡ length (payload_of parts.0) + length (payload_of group) = sym (length-bytes_of all) ∙ ap (λ (bs : List ℕ). length bs) bytes ∙ length-append (payload_of parts.0) (payload_of group) in
-    bytes_of-drop (length all - length (payload_of group)) all
-    ∙ ap (λ (bs : List ℕ). drop (length all - length (payload_of group)) bs) bytes
-    ∙ drop_at (payload_of parts.0) (payload_of group) (length all - length (payload_of group)) (omega (arith, size))
-
-pub payload_so_far : (fs : List Frame) (info : HeadInfo) (part : List ℕ) → bytes_of (message_payload fs info part) ≡ payload_of (unfinished fs) ++ part
-payload_so_far fs info part =
-    let own = placed (payload_offset info) part in
-    bytes_of-append (open_payload fs) own
-    ∙ ap (λ (bs : List ℕ). bs ++ bytes_of own) (bytes_of-open fs)
-    ∙ ap (λ (bs : List ℕ). payload_of (unfinished fs) ++ bs) (bytes_of-placed (payload_offset info) part)
 
 -- ---- the character
 
@@ -103,6 +43,17 @@ last_apart : (xs : List ℕ) → 0 < length xs → (front : List ℕ) × (x : �
 last_apart [] some = absurd (omega (arith, some))
 last_apart (x ∷ []) some = ([], x, refl)
 last_apart (x ∷ y ∷ xs) some = let p = last_apart (y ∷ xs) (omega arith) in (x ∷ p.0, p.1, ap (λ (bs : List ℕ). x ∷ bs) p.2)
+
+longest_at : (text front rest : List ℕ) → text ≡ front ++ rest → IsText front → length front ≤ length (take (utf8_valid_len text) text)
+longest_at text front rest is is_text =
+    let n = utf8_valid_len text in
+    let size : length (take n text) ≡ n = length-take-le n text (utf8_valid_len_le text) in
+    let all : length text ≡ length front + length rest = ap (λ (bs : List ℕ). length bs) is ∙ length-append front rest in
+    let same : take (length front) text ≡ front = ap (λ (bs : List ℕ). take (length front) bs) is ∙ take_at front rest (length front) refl in
+    elim (less_or_not n (length front)) [
+      | inl less ↦ absurd ((valid_is_longest text).longest (length front) less (omega (arith, all)) (subst IsText (sym same) is_text))
+      | inr le ↦ omega (arith, le, size)
+    ]
 
 goes_wrong_at : (payload : List PlacedByte) (front : List ℕ) (b : ℕ) → bytes_of payload ≡ front ++ b ∷ [] → BeginsText front → ¬ (BeginsText (front ++ b ∷ [])) → GoesWrongWith (front ++ b ∷ []) (bad_character payload)
 goes_wrong_at payload front b is begins ends =
@@ -120,6 +71,7 @@ goes_wrong_at payload front b is begins ends =
       is = sym (take-append-drop (utf8_valid_len text) text) ∙ ap (λ (bs : List ℕ). take (utf8_valid_len text) text ++ bs) (sym character);
       in_payload = same ∙ sym (length-take-le (utf8_valid_len text) text (utf8_valid_len_le text));
       text = s.whole;
+      longest = longest_at text;
       begun = s.part;
       last = b;
       bytes = bytes;
@@ -137,17 +89,16 @@ goes_wrong payload text is (i, last, bad) = by text is last bad (last_apart text
         let begins : BeginsText front = before_bad front b i moved (last ∙ ap (λ (bs : List ℕ). length bs) parts) in
         subst (λ (bs : List ℕ). GoesWrongWith bs (bad_character payload)) (sym parts) (goes_wrong_at payload front b (is ∙ parts) begins (bad_ends (front ++ b ∷ []) i moved))
 
+-- The payload determines it.
+pub one_character : (payload : List ℕ) (c d : BadCharacter) → GoesWrongWith payload c → GoesWrongWith payload d → (c.in_payload ≡ d.in_payload) × (c.bytes ≡ d.bytes)
+one_character payload c d wrong other =
+    let to = wrong.longest other.whole d.bytes other.is other.text in
+    let from = other.longest wrong.whole c.bytes wrong.is wrong.text in
+    let same : length wrong.whole ≡ length other.whole = omega (arith, to, from) in
+    let parts = same_front wrong.whole other.whole c.bytes d.bytes same (sym wrong.is ∙ other.is) in
+    (wrong.in_payload ∙ same ∙ sym other.in_payload, parts.1)
+
 -- ---- its offset
-
-first_at : (place n : ℕ) (bytes : List ℕ) → n < length bytes → first_offset (drop n (placed place bytes)) ≡ place + n
-first_at place n [] less = absurd (omega (arith, less))
-first_at place zero (b ∷ bytes) less = omega arith
-first_at place (suc n) (b ∷ bytes) less = let later = first_at (place + 1) n bytes (omega (arith, less)) in omega (arith, later)
-
-drop_past : (xs ys : List PlacedByte) (n : ℕ) → length xs ≤ n → drop n (xs ++ ys) ≡ drop (n - length xs) ys
-drop_past [] ys n long = ap (λ (m : ℕ). drop m ys) (omega arith)
-drop_past (x ∷ xs) ys zero long = absurd (omega (arith, long))
-drop_past (x ∷ xs) ys (suc n) long = drop_past xs ys n (omega (arith, long)) ∙ ap (λ (m : ℕ). drop m ys) (omega arith)
 
 -- If the last bytes of the payload are in this part, the last of them is its last byte.
 pub offset_is : (fs : List Frame) (info : HeadInfo) (part : List ℕ) → GoesWrongWith (payload_of (unfinished fs) ++ part) (bad_character (message_payload fs info part))
@@ -157,7 +108,7 @@ offset_is fs info part wrong fits =
     let c = bad_character (message_payload fs info part) in
     let held = open_payload fs in
     let n = c.in_payload in
-    let held_size : length held ≡ length (payload_of (unfinished fs)) = sym (length-bytes_of held) ∙ ap (λ (bs : List ℕ). length bs) (bytes_of-open fs) in
+    let held_size = length-open fs in
     let both : length (payload_of (unfinished fs)) + length part ≡ length wrong.whole + length c.bytes =
     sym (length-append (payload_of (unfinished fs)) part) ∙ ap (λ (bs : List ℕ). length bs) wrong.is ∙ length-append wrong.whole c.bytes in
     let at = wrong.in_payload in
@@ -167,6 +118,20 @@ offset_is fs info part wrong fits =
     let offset : c.offset ≡ payload_offset info + (n - length held) =
     ap first_offset later ∙ first_at (payload_offset info) (n - length held) part (omega (arith, held_size, both, at, some, past)) in
     omega (arith, offset, held_size, both, at, past)
+
+-- If some of them are in an earlier part, so is the first.
+pub earlier_is : (fs : List Frame) (info : HeadInfo) (part : List ℕ) → GoesWrongWith (payload_of (unfinished fs) ++ part) (bad_character (message_payload fs info part))
+    → length part < length ((bad_character (message_payload fs info part)).bytes)
+    → IsPayloadByte fs ((bad_character (message_payload fs info part)).in_payload) ((bad_character (message_payload fs info part)).offset)
+earlier_is fs info part wrong long =
+    let c = bad_character (message_payload fs info part) in
+    let held = open_payload fs in
+    let held_size = length-open fs in
+    let both : length (payload_of (unfinished fs)) + length part ≡ length wrong.whole + length c.bytes =
+    sym (length-append (payload_of (unfinished fs)) part) ∙ ap (λ (bs : List ℕ). length bs) wrong.is ∙ length-append wrong.whole c.bytes in
+    let at = wrong.in_payload in
+    let within : c.in_payload < length held = omega (arith, held_size, both, at, long) in
+    subst (λ (n : ℕ). IsPayloadByte fs c.in_payload n) (sym (first_in_front c.in_payload held (placed (payload_offset info) part) within)) (open_bytes fs c.in_payload within)
 
 -- ---- the part of the payload that is evidence
 
@@ -284,6 +249,7 @@ module _ (role : Role) (limits : Limits) where
       pub is : character ≡ Some of
       pub wrong : GoesWrongWith (payload_of (unfinished fs) ++ evidence) of
       pub offset : length of.bytes ≤ length evidence → of.offset + length of.bytes ≡ place + 1
+      pub earlier : length evidence < length of.bytes → IsPayloadByte fs of.in_payload of.offset
 
     pub has_character : (evidence : List ℕ) (character : Option BadCharacter) → IsShownEvidence role limits fs TextBad (drop (length (stream fs)) (take (place + 1) bytes)) evidence character → HasCharacter evidence character
     has_character evidence character is = by (subst (λ (bs : List ℕ). IsShownEvidence role limits fs TextBad bs evidence character) seen_is is)
@@ -303,7 +269,13 @@ module _ (role : Role) (limits : Limits) where
             let bad : EndsBad (payload_of (unfinished fs) ++ evidence) = subst (λ (bs : List ℕ). EndsBad (payload_of (unfinished fs) ++ bs)) (sym part) (ends_bad info b) in
             let wrong = goes_wrong payload (payload_of (unfinished fs) ++ evidence) (payload_so_far fs info evidence) bad in
             let end : payload_offset info + length evidence ≡ place + 1 = ap (λ (bs : List ℕ). payload_offset info + length bs) part ∙ end_is info b in
-            record { of = bad_character payload; is = is_character; wrong = wrong; offset = λ fits. offset_is fs info evidence wrong fits ∙ end }
+            record {
+              of = bad_character payload;
+              is = is_character;
+              wrong = wrong;
+              offset = λ fits. offset_is fs info evidence wrong fits ∙ end;
+              earlier = earlier_is fs info evidence wrong;
+            }
 
 -- ---- the refused frame is shown last
 
@@ -323,12 +295,13 @@ module _ (detail : Detail) (role : Role) (limits : Limits) (bytes : List ℕ) (f
       × (shown ≡ earlier ++ record { after = refusal.place + 1; item = RefusedFrame (length (stream fs)) refusal evidence (Some character) } ∷ [])
       × GoesWrongWith (payload_of (unfinished fs) ++ evidence) character
       × (length character.bytes ≤ length evidence → character.offset + length character.bytes ≡ refusal.place + 1)
+      × (length evidence < length character.bytes → IsPayloadByte fs character.in_payload character.offset)
   text_bad_shown in_bytes refused reason =
       let seen = drop (length (stream fs)) (take (refusal.place + 1) bytes) in
       let bad = subst (λ (r : Reason). IsRefused role limits bytes fs refusal.place r) reason refused in
       let c = has_character role limits bytes fs refusal.place in_bytes bad is.evidence is.character
       (subst (λ (r : Reason). IsShownEvidence role limits fs r seen is.evidence is.character) reason is.is_evidence) in
-      (shown_after (refusal.place + 1) (interrupted detail fs), is.evidence, c.of, last_is (Some c.of) c.is, c.wrong, c.offset)
+      (shown_after (refusal.place + 1) (interrupted detail fs), is.evidence, c.of, last_is (Some c.of) c.is, c.wrong, c.offset, c.earlier)
 
   pub other_shown : ¬ (refusal.reason ≡ TextBad) → (earlier : List Shown) × (evidence : List ℕ)
       × (shown ≡ earlier ++ record { after = refusal.place + 1; item = RefusedFrame (length (stream fs)) refusal evidence None } ∷ [])

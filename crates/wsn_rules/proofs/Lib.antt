@@ -43,4 +43,5 @@ pub mod ShownPlaces
 pub mod ShownHeads
 pub mod ShownBytes
 pub mod PlacedExamples
+pub mod OpenPayloads
 pub mod BadCharacters
