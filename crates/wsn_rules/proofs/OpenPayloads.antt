@@ -5,13 +5,14 @@ use Rattle.std.proofs.lemmas.List.Concat.{flat_map-append}
 use Rattle.std.proofs.lemmas.Bool.{cases_Bool, cond-true, cond-false}
 use Rattle.std.specs.List.{AllByRecursion, list_any}
 use Rattle.wsn_text.proofs.Numbers.{less_or_not}
-use Rattle.wsn_wire.specs.Frame.{Frame, stream, frame_bytes}
+use Rattle.wsn_wire.specs.Frame.{Frame, stream, head_bytes, frame_bytes}
 use Rattle.wsn_rules.specs.declared.head_info.HeadInfo.{HeadInfo}
 use Rattle.wsn_rules.specs.Group.{after_last, is_data, is_final, unfinished, payload_of}
 use Rattle.wsn_rules.specs.Heads.{info_of}
 use Rattle.wsn_rules.specs.Summary.{ends_message}
 use Rattle.wsn_rules.specs.PlacedByte.{PlacedByte, placed}
 use Rattle.wsn_rules.specs.BadCharacter.{IsPayloadByte, payload_offset, placed_payloads, last_of, open_payload, message_payload, first_offset, bytes_of}
+use Rattle.wsn_rules.proofs.Prefixes.{head_same, tail_same, two_fronts}
 use Rattle.wsn_rules.proofs.Groups.{unfinished_control, unfinished_final, unfinished_more}
 use Rattle.wsn_rules.proofs.MessageText.{text_of_push}
 
@@ -233,3 +234,66 @@ open_bytes fs = from [] fs (λ n less. absurd (omega (arith, less)))
     from : (before fs : List Frame) → AreBytes before → AreBytes (before ++ fs)
     from before [] are = subst AreBytes (sym (append-nil before)) are
     from before (f ∷ fs) are = subst AreBytes (append_assoc before (f ∷ []) fs) (from (before ++ f ∷ []) fs (after_one before f are))
+
+-- ---- a byte of the open message is at one offset
+
+abbrev size_of : List Frame → ℕ
+size_of fs = length (payload_of (unfinished fs))
+
+-- A data frame that doesn't end the message adds its payload, a control nothing.
+size_after_data : (fs : List Frame) (f : Frame) → is_data f ≡ true → ends_message f ≡ false → size_of (fs ++ f ∷ []) ≡ size_of fs + length f.payload
+size_after_data fs f kept goes_on =
+    let more : f.fin ≡ false = sym (ap (λ (b : Bool). b && f.fin) kept) ∙ goes_on in
+    ap (λ (bs : List ℕ). length bs) (ap payload_of (unfinished_more fs f kept more) ∙ text_of_push (unfinished fs) f) ∙ length-append (payload_of (unfinished fs)) f.payload
+
+size_grows : (fs gs : List Frame) → AllByRecursion (λ (f : Frame). ends_message f ≡ false) gs → size_of fs ≤ size_of (fs ++ gs)
+size_grows fs [] all = let same : size_of (fs ++ []) ≡ size_of fs = ap (λ (hs : List Frame). size_of hs) (append-nil fs) in omega (arith, same)
+size_grows fs (f ∷ gs) all =
+    let later = size_grows (fs ++ f ∷ []) gs all.1 in
+    let moved : size_of ((fs ++ f ∷ []) ++ gs) ≡ size_of (fs ++ f ∷ gs) = ap (λ (hs : List Frame). size_of hs) (append_assoc fs (f ∷ []) gs) in
+    elim (cases_Bool (is_data f)) [
+      | inl kept ↦ let more = size_after_data fs f kept all.0 in omega (arith, later, moved, more)
+      | inr left_out ↦ let same : size_of (fs ++ f ∷ []) ≡ size_of fs = ap (λ (group : List Frame). length (payload_of group)) (unfinished_control fs f left_out) in omega (arith, later, moved, same)
+    ]
+
+all_front : (P : Frame → Type 0) (fs gs : List Frame) → AllByRecursion P (fs ++ gs) → AllByRecursion P fs
+all_front P [] gs all = tt
+all_front P (f ∷ fs) gs all = (all.0, all_front P fs gs all.1)
+
+-- A byte of a frame comes before those of the data frames after it.
+module _ (fs : List Frame) (index offset other : ℕ) (p : IsPayloadByte fs index offset) (q : IsPayloadByte fs index other) where
+  not_before : (between : List Frame) → q.before ≡ p.before ++ p.frame ∷ between → p.after ≡ between ++ q.frame ∷ q.after → ⊥
+  not_before between is rest =
+      let all = all_front (λ (f : Frame). ends_message f ≡ false) between (q.frame ∷ q.after) (subst (AllByRecursion (λ (f : Frame). ends_message f ≡ false)) rest p.goes_on.1) in
+      let own = size_after_data p.before p.frame p.data_frame p.goes_on.0 in
+      let grows = size_grows (p.before ++ p.frame ∷ []) between all in
+      let moved : size_of ((p.before ++ p.frame ∷ []) ++ between) ≡ size_of q.before = ap (λ (hs : List Frame). size_of hs) (append_assoc p.before (p.frame ∷ []) between ∙ sym is) in
+      let within = p.within in
+      let at = p.index_is in
+      let also = q.index_is in
+      omega (arith, own, grows, moved, within, at, also)
+
+  at_same : p.before ≡ q.before → p.frame ≡ q.frame → offset ≡ other
+  at_same before frame =
+      let head : Frame → ℕ = λ f. length (head_bytes f.fin f.op f.key f.form (length f.payload)) in
+      let sizes : size_of p.before ≡ size_of q.before = ap (λ (hs : List Frame). size_of hs) before in
+      let streams : length (stream p.before) ≡ length (stream q.before) = ap (λ (hs : List Frame). length (stream hs)) before in
+      let heads : head p.frame ≡ head q.frame = ap head frame in
+      let at = p.index_is in
+      let also = q.index_is in
+      let offset_is = p.offset_is in
+      let other_is = q.offset_is in
+      omega (arith, sizes, streams, heads, at, also, offset_is, other_is)
+
+pub one_offset : (fs : List Frame) (index offset other : ℕ) → IsPayloadByte fs index offset → IsPayloadByte fs index other → offset ≡ other
+one_offset fs index offset other p q =
+    elim (two_fronts p.before q.before (p.frame ∷ p.after) (q.frame ∷ q.after) (sym p.whole ∙ q.whole)) [
+      | inl e ↦ first index offset other p q e.0 e.1 e.2
+      | inr e ↦ sym (first index other offset q p e.0 e.1 e.2)
+    ]
+  where
+    first : (index offset other : ℕ) (p : IsPayloadByte fs index offset) (q : IsPayloadByte fs index other) (more : List Frame) → q.before ≡ p.before ++ more → p.frame ∷ p.after ≡ more ++ q.frame ∷ q.after → offset ≡ other
+    first index offset other p q [] is rest = at_same fs index offset other p q (sym (is ∙ append-nil p.before)) (head_same p.frame q.frame p.after q.after rest)
+    first index offset other p q (m ∷ more) is rest =
+        let same : m ≡ p.frame = sym (head_same p.frame m p.after (more ++ q.frame ∷ q.after) rest) in
+        absurd (not_before fs index offset other p q more (is ∙ ap (λ (f : Frame). p.before ++ f ∷ more) same) (tail_same p.frame m p.after (more ++ q.frame ∷ q.after) rest))

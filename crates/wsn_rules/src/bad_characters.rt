@@ -18,7 +18,7 @@ ghost use Rattle.wsn_rules.specs.ShownStream.Item.{RefusedFrame};
 /// message so far is whole characters and then the bytes of this one, the last of which is the offending byte. Its
 /// offset is that of its first byte, in the refused frame or an earlier one. Any other refusal is shown without one.
 ///
-/// The payload determines the character's bytes. The payload so far, without offsets, is that of the open message and then the part of this frame's.
+/// The payload determines the character's bytes, and the frames its offset. The payload so far, without offsets, is that of the open message and then the part of this frame's.
 pub fn law_bad_character()
     ensures text_bad { (detail : Detail) (role : Role) (limits : Limits) (bytes : List ℕ) (fs : List Frame)
         (refusal : Refusal) (shown : List Shown) →
@@ -44,6 +44,8 @@ pub fn law_bad_character()
     ensures one { (payload : List ℕ) (character other : BadCharacter) →
         GoesWrongWith payload character → GoesWrongWith payload other →
         (character.in_payload ≡ other.in_payload) × (character.bytes ≡ other.bytes) }
+    ensures one_offset { (fs : List Frame) (index offset other : ℕ) →
+        IsPayloadByte fs index offset → IsPayloadByte fs index other → offset ≡ other }
     ensures payload { (fs : List Frame) (info : HeadInfo) (part : List ℕ) →
         bytes_of (message_payload fs info part) ≡ payload_of (unfinished fs) ++ part }
 {}
