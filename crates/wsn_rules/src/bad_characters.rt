@@ -1,7 +1,7 @@
 //! The law of the bad character that is shown of a refused text. The function does nothing when called; its contract is
 //! proved.
 
-ghost use Rattle.std.specs.Prelude.{◌≡◌, ℕ, ◌+◌, ◌<◌, ◌≤◌, Option, None, Some, List, [], ◌∷◌, ◌++◌, length};
+ghost use Rattle.std.specs.Prelude.{◌≡◌, ℕ, ◌+◌, ◌<◌, ◌≤◌, None, Some, List, [], ◌∷◌, ◌++◌, length};
 ghost use Rattle.wsn_wire.specs.declared.refusal.Reason.TheVariants.{TextBad};
 ghost use Rattle.wsn_wire.specs.Frame.{stream};
 ghost use Rattle.wsn_rules.specs.Words.{Role, Frame, IsBytes, Limits};
@@ -18,7 +18,8 @@ ghost use Rattle.wsn_rules.specs.ShownStream.Item.{RefusedFrame};
 /// message so far is whole characters and then the bytes of this one, the last of which is the offending byte. Its
 /// offset is that of its first byte, in the refused frame or an earlier one. Any other refusal is shown without one.
 ///
-/// The payload determines the character's bytes, and the frames its offset. The payload so far, without offsets, is that of the open message and then the part of this frame's.
+/// The payload determines the character's bytes, and the frames its offset. Without offsets, the payload so far is that
+/// of the open message and then the part of this frame's.
 pub fn law_bad_character()
     ensures text_bad { (detail : Detail) (role : Role) (limits : Limits) (bytes : List ℕ) (fs : List Frame)
         (refusal : Refusal) (shown : List Shown) →
