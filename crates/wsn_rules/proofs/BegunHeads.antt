@@ -1,6 +1,6 @@
 -- A whole head at the front of bytes: what has come after it, and that there is one unless a part of it is missing.
 use Rattle.std.proofs.Common.{◌≡◌, ◌≢◌, ℕ, ◌+◌, ◌-◌, ◌≤◌, Bool, true, not, Option, List, [], ◌∷◌, ◌++◌, ◌⊎◌, length, if◌then◌else◌, refl, sym, ap, ◌∙◌, subst, inl, inr, append-nil, append_assoc, length-append, arith}
-use Rattle.std.specs.Prelude.{◌↔◌}
+use Rattle.std.specs.Prelude.{◌↔◌, is_some}
 use Rattle.std.proofs.lemmas.Bool.{cases_lt}
 use Rattle.wsn_wire.specs.declared.endpoint.Role.{Role}
 use Rattle.wsn_wire.specs.declared.length_forms.LenForm.{LenForm}
@@ -34,6 +34,8 @@ use Rattle.wsn_rules.proofs.MessageText.{continue_or_not, opcode_of_beginning}
 pub record SameParts (info : HeadInfo) (following : List ℕ) (second : ℕ) (len key rest : List ℕ) : Type 0 where
   pub following_is : following ≡ rest
   pub len_is : info.len ≡ encoded_length (len_form_at second) len
+  pub mask_is : mask_bit second ≡ is_some info.key
+  pub key_is : key_bytes info.key ≡ key
 
 pub same_parts : (info : HeadInfo) (following : List ℕ) (first second : ℕ) (len key rest : List ℕ) → IsEncodableHead info → begun_bytes info following ≡ first ∷ second ∷ (len ++ (key ++ rest)) → length len ≡ length_count (len_form_at second)
     → length key ≡ key_count second → SameParts info following second len key rest
@@ -59,6 +61,8 @@ same_parts info following first second len key rest is same len_count key_counte
     record {
       following_is = same_keys.1;
       len_is = sym of_length.decoded ∙ ap (λ (bs : List ℕ). encoded_length field bs) same_lengths.0 ∙ ap (λ (f : LenForm). encoded_length f len) (sym field_is);
+      mask_is = mask ∙ of_second.mask_is;
+      key_is = same_keys.0;
     }
 
 -- After the second byte at least the length and the key have come.

@@ -36,10 +36,10 @@ use Rattle.wsn_rules.proofs.BegunHeads.{same_parts, head_came, encodable_begun, 
 
 -- ---- whether bytes begin with a head
 
-IsBytes-drop : (n : ℕ) (bytes : List ℕ) → IsBytes bytes → IsBytes (drop n bytes)
+pub IsBytes-drop : (n : ℕ) (bytes : List ℕ) → IsBytes bytes → IsBytes (drop n bytes)
 IsBytes-drop n bytes all = IsBytes-right (take n bytes) (drop n bytes) (subst IsBytes (sym (take-append-drop n bytes)) all)
 
-IsBytes-take : (n : ℕ) (bytes : List ℕ) → IsBytes bytes → IsBytes (take n bytes)
+pub IsBytes-take : (n : ℕ) (bytes : List ℕ) → IsBytes bytes → IsBytes (take n bytes)
 IsBytes-take n bytes all = IsBytes-left (take n bytes) (drop n bytes) (subst IsBytes (sym (take-append-drop n bytes)) all)
 
 module _ (role : Role) (limits : Limits) (fs : List Frame) where
@@ -119,7 +119,7 @@ module _ (role : Role) (limits : Limits) (fs : List Frame) where
         by_length = λ reason row. no_prefix (first ∷ second ∷ len) key reason refl (ByLength first second len refl len_count (encoding_row limits (unfinished fs) reason first second len row));
       }
 
-      whole_head : (info : HeadInfo) × BeginsWithHead role limits fs (first ∷ second ∷ (len ++ (key ++ following))) info
+      pub whole_head : (info : HeadInfo) × BeginsWithHead role limits fs (first ∷ second ∷ (len ++ (key ++ following))) info
       unfolding layout
       whole_head =
           let f = frame_at first second key payload in

@@ -76,7 +76,7 @@ counted_three xs ys zs us is =
     let inner = length-append ys zs in
     omega arith
 
-unmasked-nil : (second : ℕ) (key wire : List ℕ) → wire ≡ [] → unmasked second key wire ≡ []
+pub unmasked-nil : (second : ℕ) (key wire : List ℕ) → wire ≡ [] → unmasked second key wire ≡ []
 unmasked-nil second key wire none = ap (λ (bs : List ℕ). unmasked second key bs) none ∙ either (mask_bit second)
   where
     either : (mask : Bool) → ◌≡◌ {A = List ℕ} (if mask then masked key 0 [] else []) []

@@ -44,3 +44,5 @@ pub mod ShownHeads
 pub mod ShownBytes
 pub mod PlacedExamples
 pub mod OpenPayloads
+pub mod BadCharacters
+pub mod LastElements

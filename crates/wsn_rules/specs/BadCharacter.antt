@@ -1,13 +1,16 @@
 -- The character with which a text goes wrong: its bytes up to the offending one, and where they are. They may be in
 -- more than one frame. RFC 6455 sections 5.6 and 8.1.
-use Rattle.std.specs.Prelude.{ℕ, ◌+◌, ◌-◌, Option, None, Some, List, [], ◌∷◌, ◌++◌, length, drop, map, if◌then◌else◌}
+use Rattle.std.specs.Prelude.{◌≡◌, ℕ, ◌+◌, ◌-◌, ◌<◌, ◌≤◌, true, false, Option, None, Some, List, [], ◌∷◌, ◌++◌, length, drop, map, if◌then◌else◌}
+use Rattle.std.specs.List.{AllByRecursion}
 use Rattle.std.specs.Str.Lossy.{utf8_valid_len}
 use Rattle.wsn_wire.specs.declared.refusal.Reason.{Reason}
 use Rattle.wsn_wire.specs.declared.refusal.Reason.TheVariants.{TextBad}
-use Rattle.wsn_wire.specs.Frame.{Frame, head_bytes, frame_bytes}
+use Rattle.wsn_wire.specs.Frame.{Frame, head_bytes, frame_bytes, stream}
+use Rattle.wsn_text.specs.Utf8.{IsText, BeginsText}
 use Rattle.wsn_rules.specs.declared.head_info.HeadInfo.{HeadInfo}
 use Rattle.wsn_rules.specs.Group.{is_data, unfinished, payload_of}
 use Rattle.wsn_rules.specs.Heads.{info_of}
+use Rattle.wsn_rules.specs.Summary.{ends_message}
 use Rattle.wsn_rules.specs.PlacedByte.{PlacedByte, placed}
 
 -- The offset of its first byte in the stream, the place of that byte in the payload of the message, from 0, and its
@@ -67,3 +70,35 @@ bad_character payload = record {
 abbrev pub character_of : Reason → List Frame → HeadInfo → List ℕ → Option BadCharacter
 character_of TextBad fs info part = Some (bad_character (message_payload fs info part))
 character_of reason fs info part = None
+
+-- ---- for the law
+
+-- The payload is whole characters, as many as it begins with, and then the bytes of this one, one to four: all but the
+-- last begin text, and with the last they don't.
+pub record GoesWrongWith (payload : List ℕ) (character : BadCharacter) : Type 0 where
+  pub whole : List ℕ
+  pub is : payload ≡ whole ++ character.bytes
+  pub in_payload : character.in_payload ≡ length whole
+  pub text : IsText whole
+  pub longest : (front rest : List ℕ) → payload ≡ front ++ rest → IsText front → length front ≤ length whole
+  pub begun : List ℕ
+  pub last : ℕ
+  pub bytes : character.bytes ≡ begun ++ last ∷ []
+  pub begins : BeginsText begun
+  pub bad : ¬ (BeginsText character.bytes)
+  pub few : length character.bytes ≤ 4
+
+-- A byte of the payload of the message that is open after the frames fs, by its index there, from 0: it is byte k of the
+-- payload of one of the frames, and at this offset in the stream.
+pub record IsPayloadByte (fs : List Frame) (index offset : ℕ) : Type 0 where
+  pub before : List Frame
+  pub frame : Frame
+  pub after : List Frame
+  pub k : ℕ
+  pub whole : fs ≡ before ++ frame ∷ after
+  pub data_frame : is_data frame ≡ true
+  pub goes_on : AllByRecursion (λ f. ends_message f ≡ false) (frame ∷ after)
+  pub within : k < length frame.payload
+  pub index_is : index ≡ length (payload_of (unfinished before)) + k
+  pub offset_is :
+      offset ≡ length (stream before) + length (head_bytes frame.fin frame.op frame.key frame.form (length frame.payload)) + k

@@ -4,12 +4,15 @@
 //!
 //! `specs/Lib.antt` lists the definitions in reading order. [`laws`] has the main laws, [`lists`] how lists of frames
 //! continue, [`recuts`] how recuts continue, [`faults`] the faults of plans, [`uniform_plans`] where those plans fit,
-//! and [`shown`] what is shown of a stream and of a capture. The examples are computed from the definitions: verdicts
+//! [`shown`] what is shown of a stream and of a capture, and [`bad_characters`] the character with which a text goes
+//! wrong. The examples are computed from the definitions: verdicts
 //! and meanings in [`examples`], normal forms in [`normal_forms`], plans of inputs and recuts in [`plan_examples`],
 //! plans and their faults in [`fault_examples`], captures and their reports in [`capture_examples`], what is shown of
-//! frames in [`shown_examples`], where it is in [`place_examples`].
+//! frames in [`shown_examples`], where it is in [`place_examples`], and bad characters in [`bad_character_examples`].
 #![tactic(auto)]
 
+pub mod bad_character_examples;
+pub mod bad_characters;
 pub mod capture_examples;
 mod compared;
 mod detail;

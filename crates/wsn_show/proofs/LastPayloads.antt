@@ -1,5 +1,5 @@
 -- The last payload bytes of the open message as its frames go on, and the character that they end with.
-use Rattle.std.proofs.Common.{◌≡◌, ℕ, ◌+◌, ◌-◌, ◌≤◌, true, false, not, List, [], ◌∷◌, ◌++◌, length, drop, refl, sym, ap, ◌∙◌, subst, append-nil, append_assoc, length-drop, arith}
+use Rattle.std.proofs.Common.{◌≡◌, ℕ, ◌+◌, ◌-◌, ◌≤◌, true, false, not, List, [], ◌∷◌, ◌++◌, length, drop, inl, inr, sym, ap, ◌∙◌, subst, append-nil, append_assoc, length-drop, arith}
 use Rattle.std.proofs.lemmas.Bool.{cases_Bool, cond-true, cond-false}
 use Rattle.std.proofs.lemmas.List.{drop-drop, drop-map}
 use Rattle.std.specs.Str.Lossy.{utf8_valid_len}
@@ -9,7 +9,8 @@ use Rattle.wsn_rules.specs.BadCharacter.{BadCharacter, payload_offset, placed_pa
 use Rattle.wsn_rules.specs.Group.{unfinished, payload_of}
 use Rattle.wsn_rules.specs.Heads.{info_of}
 use Rattle.wsn_rules.specs.PlacedByte.{PlacedByte, placed}
-use Rattle.wsn_rules.proofs.OpenPayloads.{last_of_none, open_after_control, open_after_final, open_after_fragment}
+use Rattle.wsn_rules.proofs.LastElements.{last_of_none}
+use Rattle.wsn_rules.proofs.OpenPayloads.{open_after_control, open_after_final, open_after_fragment}
 use Rattle.wsn_rules.proofs.PlacedBytes.{placed-append}
 use Rattle.wsn_scan.specs.Positions.{Position, BetweenFrames, InFrame}
 use Rattle.wsn_show.specs.declared.last_payload.LastPayload.{LastPayload}

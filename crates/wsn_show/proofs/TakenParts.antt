@@ -8,6 +8,7 @@ use Rattle.wsn_wire.specs.declared.opcode.Op.{Op}
 use Rattle.wsn_wire.specs.Frame.{Frame, is_control, stream}
 use Rattle.wsn_rules.specs.declared.detail.Detail.{Detail}
 use Rattle.wsn_rules.specs.declared.head_info.HeadInfo.{HeadInfo}
+use Rattle.wsn_rules.specs.BadCharacter.{open_payload}
 use Rattle.wsn_rules.specs.Group.{unfinished, first_op, kind_of, payload_of}
 use Rattle.wsn_rules.specs.Heads.{info_of}
 use Rattle.wsn_rules.specs.Lawful.{IsLawful}
@@ -26,6 +27,8 @@ use Rattle.wsn_print.proofs.HeldViews.{first_held}
 use Rattle.wsn_scan.specs.declared.part.Part.{Part}
 use Rattle.wsn_scan.specs.Positions.{Position, BetweenFrames, InFrame}
 use Rattle.wsn_show.specs.declared.entry_context.EntryContext.{EntryContext}
+use Rattle.wsn_show.specs.declared.last_payload.LastPayload.{LastPayload}
+use Rattle.wsn_show.specs.LastPayloads.{HasLastPayload}
 use Rattle.wsn_show.specs.declared.message_so_far.MessageSoFar.{MessageSoFar}
 use Rattle.wsn_show.specs.declared.stream_parts.StreamParts.{StreamParts}
 use Rattle.wsn_show.specs.HeldParts.{HasFirst}
@@ -37,6 +40,7 @@ use Rattle.wsn_show.specs.TakenParts.{IsWholeFrame, IsAlone, ShowsPart}
 use Rattle.wsn_show.proofs.FramesSoFar.{items_in-append, shown_begun, shown_ended, begun_items, ended_items, unended_items, same_so_far, begun_so_far, ended_so_far}
 use Rattle.wsn_show.proofs.HeldItems.{control_is, represents_message, kind_of_data, text_of_data, control_short, text_reason}
 use Rattle.wsn_show.proofs.TextsSoFar.{text_payload}
+use Rattle.wsn_show.proofs.LastPayloads.{last_after_alone}
 use Rattle.wsn_show.proofs.OpenMessages.{kept_after_control, kept_after_final}
 use Rattle.wsn_show.proofs.PrintedItems.{prints_nothing, prints_both}
 use Rattle.wsn_show.proofs.PrintedParts.{no_close_of_data, final_control, final_message}
@@ -75,6 +79,10 @@ module _ (role : Role) (limits : Limits) (fs : List Frame) (f : Frame) (head : H
         | inl control ↦ kept_after_control message fs f (ap not control) kept
         | inr other ↦ after_data message (alone_final message alone) other (alone_none message alone kept other) kept
       ]
+
+  -- No payload of it is held, or that which was.
+  pub alone_last : (message : MessageSoFar) → IsAlone message head → (last : LastPayload) → KeepsMessage message fs [] → HasLastPayload last (open_payload fs) → HasLastPayload last (open_payload (fs ++ f ∷ []))
+  alone_last message alone last kept has = last_after_alone last fs f (λ other. (alone_final message alone, alone_none message alone kept other)) has
 
   -- The event that it is, which this stands for.
   pub record AloneEvent (n : ℕ) (shown : ShownEvent) : Type 0 where
