@@ -1,5 +1,5 @@
 -- The character with which a text goes wrong: which of the payload's bytes it is, and where they are.
-use Rattle.std.proofs.Common.{◌≡◌, ℕ, ◌+◌, ◌-◌, ◌<◌, ◌≤◌, Option, None, Some, List, [], ◌∷◌, ◌++◌, length, take, drop, refl, sym, ap, ◌∙◌, subst, inl, inr, append_assoc, append-nil, length-append, take-append-drop, arith}
+use Rattle.std.proofs.Common.{◌≡◌, ℕ, ◌+◌, ◌-◌, ◌<◌, ◌≤◌, false, Option, None, Some, List, [], ◌∷◌, ◌++◌, length, take, drop, refl, sym, ap, ◌∙◌, subst, inl, inr, append_assoc, append-nil, length-append, take-append-drop, arith}
 use Rattle.std.specs.Prelude.{is_some}
 use Rattle.std.specs.Str.Lossy.{utf8_valid_len}
 use Rattle.std.proofs.lemmas.List.{take_at, drop_at, map-append, length-take-le}
@@ -8,9 +8,11 @@ use Rattle.std.proofs.lemmas.Str.{utf8_valid_len_le}
 use Rattle.wsn_wire.specs.declared.endpoint.Role.{Role}
 use Rattle.wsn_wire.specs.declared.refusal.Reason.{Reason}
 use Rattle.wsn_wire.specs.declared.refusal.Reason.TheVariants.{ReservedBits, ReservedOpcode, ControlNotFinal, NothingToContinue, MessageOpen, MaskMissing, MaskPresent, ControlTooLong, CloseOneByte, LengthTopBit, LengthNotMinimal, MessageTooBig, CloseCode, CloseReason, TextBad, TextCut, TooManyFrames}
-use Rattle.wsn_wire.specs.Frame.{Frame, IsBytes, stream, head_bytes, key_bytes, masked, wire_payload}
+use Rattle.wsn_wire.specs.declared.opcode.Op.{Op}
+use Rattle.wsn_wire.specs.declared.opcode.Op.TheVariants.{Continue, Text, Binary, Close, Ping, Pong}
+use Rattle.wsn_wire.specs.Frame.{Frame, IsBytes, is_control, opcode, stream, head_bytes, key_bytes, masked, wire_payload}
 use Rattle.wsn_wire.specs.Layout.{opcode_field, mask_bit}
-use Rattle.wsn_wire.proofs.FrameLemmas.{IsBytes-left, IsBytes-right, length-wire_payload}
+use Rattle.wsn_wire.proofs.FrameLemmas.{first_byte_fields, IsBytes-left, IsBytes-right, length-wire_payload}
 use Rattle.wsn_text.specs.Utf8.{IsText, BeginsText, IsFirstBad}
 use Rattle.wsn_text.proofs.Prefixes.{begins-nil, bad_ends}
 use Rattle.wsn_text.proofs.Numbers.{less_or_not}
@@ -151,6 +153,18 @@ module _ (role : Role) (limits : Limits) where
   is_text_bad group seen (ByLength first second len is count row) = absurd row
   is_text_bad group seen (ByPayload p row) = record { into = p; of_text = row.0; bad = row.1 }
 
+  text_opcode : (group : List Frame) (opcode : ℕ) → IsOfText group opcode → opcode ≤ 2
+  text_opcode [] opcode of_text = omega (arith, of_text)
+  text_opcode (f ∷ group) opcode of_text = of_text.0
+
+  not_control : (op : Op) → opcode op ≤ 2 → is_control op ≡ false
+  not_control Continue few = refl
+  not_control Text few = refl
+  not_control Binary few = refl
+  not_control Close few = absurd (omega (arith, few))
+  not_control Ping few = absurd (omega (arith, few))
+  not_control Pong few = absurd (omega (arith, few))
+
   group_begins : (group : List Frame) (opcode : ℕ) → IsGroup limits group → IsOfText group opcode → BeginsText (payload_of group)
   group_begins [] opcode is of_text = begins-nil
   group_begins (f ∷ group) opcode is of_text = is.begins of_text.1
@@ -216,7 +230,7 @@ module _ (role : Role) (limits : Limits) where
             p.whole ∙ ap (λ (bs : List ℕ). p.first ∷ p.second ∷ bs) (sym (append_assoc p.len p.key p.wire)) ∙ ap (λ (bs : List ℕ). bs ++ p.wire) (sym (take-append-drop m front)) ∙ append_assoc (take m front) (drop m front) p.wire in
             no_evidence (take m front) (drop m front ++ p.wire) s whole (omega (arith, follows, length-append (drop m front) p.wire)) evidence
 
-    parts : (info : HeadInfo) (b : BeginsWithHead role limits fs refused.is_evident.seen info) → SameParts info b.following text_bad.into.second text_bad.into.len text_bad.into.key text_bad.into.wire
+    parts : (info : HeadInfo) (b : BeginsWithHead role limits fs refused.is_evident.seen info) → SameParts info b.following text_bad.into.first text_bad.into.second text_bad.into.len text_bad.into.key text_bad.into.wire
     parts info b =
         let p = text_bad.into in
         same_parts info b.following p.first p.second p.len p.key p.wire (encodable_begun role limits fs seen info b) (sym (begun_is role limits fs seen info b) ∙ p.whole) p.len_count p.key_counted
@@ -226,13 +240,21 @@ module _ (role : Role) (limits : Limits) where
         let wire : length text_bad.into.wire ≡ 0 = ap (λ (bs : List ℕ). length bs) (sym (parts info b).following_is ∙ none) in
         omega (arith, wire, some)
 
-    ends_bad : (info : HeadInfo) (b : BeginsWithHead role limits fs refused.is_evident.seen info) → EndsBad (payload_of (unfinished fs) ++ wire_payload info.key b.following)
+    pub ends_bad : (info : HeadInfo) (b : BeginsWithHead role limits fs refused.is_evident.seen info) → EndsBad (payload_of (unfinished fs) ++ wire_payload info.key b.following)
     ends_bad info b =
         let p = text_bad.into in
         let same = parts info b in
         let payload : wire_payload info.key b.following ≡ unmasked p.second p.key p.wire =
         ap (λ (bs : List ℕ). wire_payload info.key bs) same.following_is ∙ unmasked_is info.key p.second p.key p.wire same.mask_is same.key_is in
         subst (λ (bs : List ℕ). EndsBad (payload_of group ++ bs)) (sym payload) text_bad.bad
+
+    -- The frame is a data frame.
+    pub of_data : (info : HeadInfo) (b : BeginsWithHead role limits fs refused.is_evident.seen info) → is_control info.op ≡ false
+    of_data info b =
+        let first = (first_byte_fields info.fin info.op).opcode_is in
+        let same : opcode info.op ≡ opcode_field text_bad.into.first = sym first ∙ ap opcode_field (parts info b).first_is in
+        let few = text_opcode group (opcode_field text_bad.into.first) text_bad.of_text in
+        not_control info.op (omega (arith, same, few))
 
     -- The payload ends with the offending byte.
     end_is : (info : HeadInfo) (b : BeginsWithHead role limits fs refused.is_evident.seen info) → payload_offset info + length (wire_payload info.key b.following) ≡ place + 1

@@ -31,14 +31,15 @@ use Rattle.wsn_rules.proofs.MessageText.{continue_or_not, opcode_of_beginning}
 
 -- ---- the parts of bytes that begin with a whole head
 
-pub record SameParts (info : HeadInfo) (following : List ℕ) (second : ℕ) (len key rest : List ℕ) : Type 0 where
+pub record SameParts (info : HeadInfo) (following : List ℕ) (first second : ℕ) (len key rest : List ℕ) : Type 0 where
+  pub first_is : first_byte info.fin info.op ≡ first
   pub following_is : following ≡ rest
   pub len_is : info.len ≡ encoded_length (len_form_at second) len
   pub mask_is : mask_bit second ≡ is_some info.key
   pub key_is : key_bytes info.key ≡ key
 
 pub same_parts : (info : HeadInfo) (following : List ℕ) (first second : ℕ) (len key rest : List ℕ) → IsEncodableHead info → begun_bytes info following ≡ first ∷ second ∷ (len ++ (key ++ rest)) → length len ≡ length_count (len_form_at second)
-    → length key ≡ key_count second → SameParts info following second len key rest
+    → length key ≡ key_count second → SameParts info following first second len key rest
 same_parts info following first second len key rest is same len_count key_counted =
     let field = len_form_of info.form info.len in
     let lengths = length_bytes field info.len in
@@ -58,7 +59,9 @@ same_parts info following first second len key rest is same len_count key_counte
     let counts : length keys ≡ length key =
     key_bytes_count info.key is.key ∙ ap (λ (b : Bool). if b then 4 else 0) (sym of_second.mask_is ∙ sym mask) ∙ sym key_counted in
     let same_keys = fronts_agree keys key following rest counts same_lengths.1 in
+    let firsts : first_byte info.fin info.op ≡ first = cc in
     record {
+      first_is = firsts;
       following_is = same_keys.1;
       len_is = sym of_length.decoded ∙ ap (λ (bs : List ℕ). encoded_length field bs) same_lengths.0 ∙ ap (λ (f : LenForm). encoded_length f len) (sym field_is);
       mask_is = mask ∙ of_second.mask_is;
