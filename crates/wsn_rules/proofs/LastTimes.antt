@@ -1,12 +1,12 @@
 -- The time of an endpoint's last bytes, after one more line.
-use Rattle.std.proofs.Common.{◌≡◌, ◌≢◌, ◌≤◌, ℕ, Option, None, List, [], ◌∷◌, ◌++◌, length, take, refl, sym, ap, ◌∙◌, subst, inl, inr, arith, append_assoc, length-append}
+use Rattle.std.proofs.Common.{◌≡◌, ◌≢◌, ◌≤◌, ℕ, Option, List, [], ◌∷◌, ◌++◌, length, take, refl, sym, ap, ◌∙◌, subst, inl, inr, arith, append_assoc, length-append}
 use Rattle.std.proofs.Math.Seq.{take-append_seam}
 use Rattle.std.proofs.lemmas.List.{take-append-le}
 use Rattle.std.proofs.lemmas.List.Concat.{flat_map-append}
 use Rattle.wsn_wire.specs.declared.endpoint.Role.{Role}
 use Rattle.wsn_rules.specs.Entries.{Entry, AreEntries}
 use Rattle.wsn_rules.specs.Sides.{bytes_in, sent}
-use Rattle.wsn_rules.specs.ShownCapture.{IsTimeAfter, IsTimeOfLastBytes, IsTimeOfLast}
+use Rattle.wsn_rules.specs.ShownCapture.{IsTimeAfter, IsTimeOfLast}
 use Rattle.wsn_rules.proofs.Prefixes.{nil-cons}
 
 pub one_each : (lines : List (List ℕ)) (entries : List Entry) → AreEntries lines entries → length lines ≡ length entries

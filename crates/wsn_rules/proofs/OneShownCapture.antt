@@ -14,7 +14,7 @@ use Rattle.wsn_rules.specs.Entries.{Entry, without_cr}
 use Rattle.wsn_rules.specs.Entries.Entry.{Nothing, Bytes, Mark}
 use Rattle.wsn_rules.specs.Reports.{IsReportOf}
 use Rattle.wsn_rules.specs.Sides.{bytes_in, sent}
-use Rattle.wsn_rules.specs.ShownCapture.{GivesTime, IsTime, IsNoTime, IsTimeAfter, LineItem, of_stream, beyond, IsShownNothing, IsShownOfEntry, ShownLine, AreShownAfter, IsTimeOfLastBytes, IsTimeOfLast, LeftAtEnd, AreLeftAtEnd, IsLeftAtEnd, IsShownCapture}
+use Rattle.wsn_rules.specs.ShownCapture.{GivesTime, IsTime, IsNoTime, IsTimeAfter, LineItem, of_stream, beyond, IsShownNothing, IsShownOfEntry, ShownLine, AreShownAfter, IsTimeOfLast, LeftAtEnd, AreLeftAtEnd, IsLeftAtEnd, IsShownCapture}
 use Rattle.wsn_rules.specs.ShownCapture.LineItem.{End}
 use Rattle.wsn_rules.specs.ShownStream.{Item, Shown, items_of_part, IsLeftOfRest, IsLeftOf, IsLeftOver}
 use Rattle.wsn_rules.proofs.Prefixes.{append_cancel, head_same, tail_same, nil-parts, GoesOn, two_fronts}

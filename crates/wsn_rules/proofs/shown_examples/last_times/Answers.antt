@@ -1,4 +1,4 @@
-use Rattle.std.proofs.Common.{◌≡◌, ◌≢◌, ◌≤◌, ℕ, List, [], ◌∷◌, ◌++◌, codes, refl, inl, inr, arith}
+use Rattle.std.proofs.Common.{◌≤◌, ℕ, [], ◌∷◌, codes, refl, inl, inr, arith}
 use Rattle.wsn_wire.specs.declared.endpoint.Role.TheVariants.{Client, Server}
 use Rattle.wsn_rules.specs.Entries.{Nothing, Bytes, Mark}
 use Rattle.wsn_rules.specs.ShownCapture.{GivesTime, IsSeconds}
