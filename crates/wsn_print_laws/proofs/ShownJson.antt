@@ -1,6 +1,6 @@
 -- The value of a shown item's object.
-use Rattle.std.proofs.Common.{◌≡◌, ◌≢◌, ℕ, zero, suc, ◌+◌, ◌*◌, ◌-◌, ◌/◌, ◌<◌, ◌≤◌, ◌==◌, inl, inr, Bool, true, false, if◌then◌else◌, Option, None, Some, List, [], ◌∷◌, ◌++◌, length, take, drop, codes, refl, sym, ap, ◌∙◌, subst, arith, append_assoc, append-nil}
-use Rattle.std.specs.Prelude.{nat_lt, IfSome}
+use Rattle.std.proofs.Common.{◌≡◌, ◌≢◌, ℕ, zero, suc, ◌+◌, ◌*◌, ◌-◌, ◌/◌, ◌<◌, ◌≤◌, ◌==◌, ◌||◌, inl, inr, Bool, true, false, if◌then◌else◌, Option, None, Some, List, [], ◌∷◌, ◌++◌, length, take, drop, codes, refl, sym, ap, ◌∙◌, subst, arith, append_assoc, append-nil}
+use Rattle.std.specs.Prelude.{nat_lt, decimal, IfSome}
 use Rattle.std.specs.List.{AllByRecursion}
 use Rattle.std.specs.Str.{chars, IsUtf8}
 use Rattle.std.proofs.lemmas.Bool.{cases_lt}
@@ -13,6 +13,7 @@ use Rattle.wsn_wire.specs.declared.opcode.Op.{Op}
 use Rattle.wsn_wire.specs.declared.opcode.Op.TheVariants as ops
 use Rattle.wsn_wire.specs.Frame.{IsBytes}
 use Rattle.wsn_wire.specs.Refusal.{word_of, code_of}
+use Rattle.wsn_rules.specs.BadCharacter.{BadCharacter}
 use Rattle.wsn_rules.specs.Meaning.{MeantEvent, Message, Control}
 use Rattle.wsn_rules.specs.ShownCapture.{IsSeconds}
 use Rattle.wsn_rules.specs.ShownStream.{Item}
@@ -22,13 +23,14 @@ use Rattle.wsn_print.specs.Json.{number_or_null, boolean, field, string_field, n
 use Rattle.wsn_print.specs.Objects.{key_value, form_word, head_members}
 use Rattle.wsn_print.specs.QuotedTexts.{payload_in, ShowsTextReason}
 use Rattle.wsn_print.specs.ShownParts.{HasTextReason}
-use Rattle.wsn_print.specs.ShownText.{text_part, is_printable, event_word, event_size, offset_of}
+use Rattle.wsn_print.specs.CharacterText.{from_character, bytes_before, text_before, leaves_out, shown_bytes, truncated_text, character_object, character_fields}
+use Rattle.wsn_print.specs.ShownText.{quoted, text_part, is_printable, event_word, event_size, offset_of}
 use Rattle.wsn_print.specs.ShownObjects.{Position, truncated_field, text_fields, hex_fields, end_fields, body_fields, reason_field, close_fields, event_view_fields, unfinished_view_fields, line_field, side_word, time_key, time_value, event_fields, item_type, item_fields, item_object}
 use Rattle.wsn_print.specs.ShownObjects.Position.{InLine, AtEnd, InStream}
-use Rattle.wsn_print.proofs.TextFronts.{part_is_utf8}
+use Rattle.wsn_print.proofs.TextFronts.{part_is_utf8, whole_is_utf8}
 use Rattle.wsn_print_laws.specs.JsonText.{IsNumber, IsInteger, Value, Null, True, Number, String, Object, Members, End, Member, IsJsonLine}
 use Rattle.wsn_print_laws.specs.Answers.{IsInU64}
-use Rattle.wsn_print_laws.specs.ShownItems.{IsPositionInRange, IsItemInRange}
+use Rattle.wsn_print_laws.specs.ShownItems.{IsPositionInRange, IsCharacterInRange, IsItemInRange}
 use Rattle.wsn_print_laws.proofs.Strings.{are_unescaped}
 use Rattle.wsn_print_laws.proofs.Words.{plain_reason}
 use Rattle.wsn_print_laws.proofs.Fields.{number, optional_number, optional_written, plain_optional}
@@ -36,7 +38,7 @@ use Rattle.wsn_print_laws.proofs.Members.{boolean_json, boolean_is}
 use Rattle.wsn_print_laws.proofs.Verdicts.{code_fits}
 use Rattle.wsn_print_laws.proofs.Keys.{key_json, key_is, key_plain, plain_digits}
 use Rattle.wsn_print_laws.proofs.Heads.{plain_op, plain_form, plain_boolean}
-use Rattle.wsn_print_laws.proofs.Texts.{IsTextOf, AreTextsOf, none, member, same_text, last, null_text, true_text, number_text, word_text, plain_text, quoted_text, typed_line}
+use Rattle.wsn_print_laws.proofs.Texts.{IsTextOf, AreTextsOf, none, member, same_text, last, null_text, true_text, number_text, word_text, plain_text, quoted_text, object_text, typed_line}
 
 -- ---- views
 
@@ -49,8 +51,10 @@ text_json n text = Member (codes "text") (String (chars (take (text_part n text)
 abbrev pub hex_json : ℕ → List ℕ → Members
 hex_json n bytes = Member (codes "hex") (String (encode_lower (take (n / 2) bytes))) (truncated_json (n / 2) (length bytes))
 
-abbrev pub end_json : ℕ → List ℕ → Members
-end_json n bytes = Member (codes "hex") (String (encode_lower (drop (length bytes - n / 2) bytes))) (truncated_json (n / 2) (length bytes))
+-- Evidence, and the members after it.
+abbrev pub end_json : ℕ → List ℕ → Members → Members
+end_json n bytes others =
+    Member (codes "hex") (String (encode_lower (drop (length bytes - n / 2) bytes))) (if nat_lt (n / 2) (length bytes) then Member (codes "truncated") True others else others)
 
 abbrev pub body_json : ℕ → List ℕ → Members
 body_json n body = if is_printable body then text_json n body else hex_json n body
@@ -81,6 +85,19 @@ abbrev pub unfinished_view_json : ℕ → MeantEvent → Members
 unfinished_view_json n (Message kind payload) = message_json n kind payload
 unfinished_view_json n (Control op body) = hex_json n body
 
+-- ---- bad characters
+
+abbrev pub character_members : ℕ → List ℕ → BadCharacter → Members
+character_members n evidence character =
+    Member (codes "offset") (number character.offset) (Member (codes "in_payload") (number character.in_payload)
+    (Member (codes "hex") (String (encode_lower (shown_bytes n character)))
+    (Member (codes "before") (String (chars (text_before n evidence character)))
+    (if n == 0 || leaves_out n evidence character then Member (codes "truncated") True End else End))))
+
+abbrev pub character_json : ℕ → List ℕ → Option BadCharacter → Members
+character_json n evidence None = End
+character_json n evidence (Some character) = Member (codes "character") (Object (character_members n evidence character)) End
+
 -- ---- items, after the offset
 
 abbrev pub event_json : List ℕ → ℕ → ℕ → Members → Members
@@ -95,8 +112,9 @@ item_json n (Unfinished offset event frames lacks) =
     event_json (event_word event) (event_size event) frames (Member (codes "lacks") (optional_number lacks) (unfinished_view_json n event))
 item_json n (UnfinishedHead offset) =
     event_json (codes "head") 0 0 (Member (codes "lacks") Null (Member (codes "hex") (String (encode_lower [])) End))
-item_json n (RefusedFrame offset refusal evidence) =
-    Member (codes "place") (number refusal.place) (Member (codes "reason") (String (word_of refusal.reason)) (Member (codes "code") (number (code_of refusal.reason)) (end_json n evidence)))
+item_json n (RefusedFrame offset refusal evidence character) =
+    Member (codes "place") (number refusal.place) (Member (codes "reason") (String (word_of refusal.reason))
+    (Member (codes "code") (number (code_of refusal.reason)) (end_json n evidence (character_json n evidence character))))
 item_json n (Unread offset bytes) = Member (codes "bytes") (number (length bytes)) (hex_json n bytes)
 item_json n (Tail offset bytes) = Member (codes "bytes") (number (length bytes)) (hex_json n bytes)
 
@@ -147,9 +165,41 @@ hex_texts : (n : ℕ) (bytes : List ℕ) → IsBytes bytes → AreTextsOf (hex_j
 hex_texts n bytes are =
     member (codes "hex") refl (word_text (encode_lower (take (n / 2) bytes)) (plain_digits (take (n / 2) bytes) (take_bytes (n / 2) bytes are))) (truncated_texts (n / 2) (length bytes))
 
-end_texts : (n : ℕ) (bytes : List ℕ) → IsBytes bytes → AreTextsOf (end_json n bytes) (end_fields n bytes)
-end_texts n bytes are =
-    member (codes "hex") refl (word_text (encode_lower (drop (length bytes - n / 2) bytes)) (plain_digits (drop (length bytes - n / 2) bytes) (drop_bytes (length bytes - n / 2) bytes are))) (truncated_texts (n / 2) (length bytes))
+truncated_before : (t : Bool) (others : Members) (text : List ℕ) → AreTextsOf others text
+    → AreTextsOf (if t then Member (codes "truncated") True others else others) ((if t then codes ",\"truncated\":true" else []) ++ text)
+truncated_before true others text are = member (codes "truncated") refl true_text are
+truncated_before false others text are = are
+
+end_texts : (n : ℕ) (bytes : List ℕ) (others : Members) (text : List ℕ) → IsBytes bytes → AreTextsOf others text → AreTextsOf (end_json n bytes others) (end_fields n bytes ++ text)
+end_texts n bytes others text are after =
+    same_text (end_fields n bytes ++ text)
+    (member (codes "hex") refl (word_text (encode_lower (drop (length bytes - n / 2) bytes)) (plain_digits (drop (length bytes - n / 2) bytes) (drop_bytes (length bytes - n / 2) bytes are)))
+    (truncated_before (nat_lt (n / 2) (length bytes)) others text after))
+    (sym (append_assoc (string_field (codes "hex") (encode_lower (drop (length bytes - n / 2) bytes))) (truncated_field (n / 2) (length bytes)) text))
+
+shown_are_bytes : (none : Bool) (bytes : List ℕ) → IsBytes bytes → IsBytes (if none then [] else bytes)
+shown_are_bytes true bytes are = tt
+shown_are_bytes false bytes are = are
+
+character_whole : (offset place hex before truncated end : List ℕ) → offset ++ ((place ++ (hex ++ (before ++ truncated))) ++ end) ≡ offset ++ place ++ hex ++ before ++ truncated ++ end
+character_whole offset place hex before truncated end = simp append_assoc
+
+character_text : (n : ℕ) (evidence : List ℕ) (character : BadCharacter) → IsCharacterInRange character
+    → IsTextOf (Object (character_members n evidence character)) (character_object n evidence character)
+character_text n evidence character fits =
+    let text : List ℕ = text_before n evidence character in
+    object_text (codes "offset") (character_object n evidence character) refl (number_text character.offset fits.0)
+    (member (codes "in_payload") refl (number_text character.in_payload fits.1)
+    (member (codes "hex") refl (word_text (encode_lower (shown_bytes n character)) (plain_digits (shown_bytes n character) (shown_are_bytes (n == 0) character.bytes fits.2)))
+    (member (codes "before") refl (quoted_text text (whole_is_utf8 (from_character (bytes_before n evidence character))))
+    (truncated_by (n == 0 || leaves_out n evidence character)))))
+    (ap (λ (bytes : List ℕ). codes "{\"offset\":" ++ bytes)
+    (character_whole (decimal character.offset) (number_field (codes "in_payload") character.in_payload) (string_field (codes "hex") (encode_lower (shown_bytes n character))) (field (codes "before") (quoted text)) (truncated_text n evidence character) (codes "}")))
+
+character_texts : (n : ℕ) (evidence : List ℕ) (character : Option BadCharacter) → IfSome character IsCharacterInRange
+    → AreTextsOf (character_json n evidence character) (character_fields n evidence character)
+character_texts n evidence None fits = none
+character_texts n evidence (Some character) fits = last (codes "character") refl (character_text n evidence character fits)
 
 either : (t : Bool) (m other : Members) (text other_text : List ℕ) → AreTextsOf m text → AreTextsOf other other_text → AreTextsOf (if t then m else other) (if t then text else other_text)
 either true m other text other_text one two = one
@@ -221,6 +271,9 @@ fields_of n item = item_fields n item
 five : (a b c d e : List ℕ) → a ++ (b ++ (c ++ (d ++ e))) ≡ a ++ b ++ c ++ d ++ e
 five a b c d e = simp append_assoc
 
+refused_whole : (a b c d e : List ℕ) → a ++ (b ++ (c ++ (d ++ e))) ≡ (a ++ b ++ c) ++ d ++ e
+refused_whole a b c d e = simp append_assoc
+
 item_texts : (n : ℕ) (item : Item) → IsItemInRange item → ShowsTextReason item → AreTextsOf (item_json n item) (fields_of n item)
 item_texts n (Event offset event frames) fits reason =
     event_texts (event_word event) (event_size event) frames (event_view_json n event) (event_view_fields n event) (plain_event event) (size_fits event fits.2.0) fits.1 (view_texts n event fits.2.1 reason)
@@ -242,11 +295,12 @@ item_texts n (UnfinishedHead offset) fits reason =
     (event_texts (codes "head") 0 0 (Member (codes "lacks") Null (Member (codes "hex") (String (encode_lower [])) End)) (number_or_null_field (codes "lacks") None ++ string_field (codes "hex") (encode_lower []))
     refl (omega arith) (omega arith) (member (codes "lacks") refl null_text (last (codes "hex") refl (word_text (encode_lower []) (plain_digits [] tt)))))
     (sym (append_assoc (event_fields (codes "head") 0 0) (number_or_null_field (codes "lacks") None) (string_field (codes "hex") (encode_lower []))))
-item_texts n (RefusedFrame offset refusal evidence) fits reason =
-    same_text (item_fields n (RefusedFrame offset refusal evidence))
+item_texts n (RefusedFrame offset refusal evidence character) fits reason =
+    same_text (item_fields n (RefusedFrame offset refusal evidence character))
     (member (codes "place") refl (number_text refusal.place fits.1) (member (codes "reason") refl (word_text (word_of refusal.reason) (plain_reason refusal.reason))
-    (member (codes "code") refl (number_text (code_of refusal.reason) (code_fits refusal.reason)) (end_texts n evidence fits.2.1))))
-    (three (number_field (codes "place") refusal.place) (string_field (codes "reason") (word_of refusal.reason)) (number_field (codes "code") (code_of refusal.reason)) (end_fields n evidence))
+    (member (codes "code") refl (number_text (code_of refusal.reason) (code_fits refusal.reason))
+    (end_texts n evidence (character_json n evidence character) (character_fields n evidence character) fits.2.1 (character_texts n evidence character fits.3)))))
+    (refused_whole (number_field (codes "place") refusal.place) (string_field (codes "reason") (word_of refusal.reason)) (number_field (codes "code") (code_of refusal.reason)) (end_fields n evidence) (character_fields n evidence character))
 item_texts n (Unread offset bytes) fits reason = member (codes "bytes") refl (number_text (length bytes) fits.1.0) (hex_texts n bytes fits.1.1)
 item_texts n (Tail offset bytes) fits reason = member (codes "bytes") refl (number_text (length bytes) fits.1.0) (hex_texts n bytes fits.1.1)
 
@@ -317,7 +371,7 @@ offset_fits (Event offset event frames) fits = fits.0
 offset_fits (Head h) fits = fits.place
 offset_fits (Unfinished offset event frames lacks) fits = fits.0
 offset_fits (UnfinishedHead offset) fits = fits
-offset_fits (RefusedFrame offset refusal evidence) fits = fits.0
+offset_fits (RefusedFrame offset refusal evidence character) fits = fits.0
 offset_fits (Unread offset bytes) fits = fits.0
 offset_fits (Tail offset bytes) fits = fits.0
 
@@ -326,7 +380,7 @@ plain_type (Event offset event frames) = refl
 plain_type (Head h) = refl
 plain_type (Unfinished offset event frames lacks) = refl
 plain_type (UnfinishedHead offset) = refl
-plain_type (RefusedFrame offset refusal evidence) = refl
+plain_type (RefusedFrame offset refusal evidence character) = refl
 plain_type (Unread offset bytes) = refl
 plain_type (Tail offset bytes) = refl
 

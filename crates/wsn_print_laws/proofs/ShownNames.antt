@@ -7,19 +7,21 @@ use Rattle.wsn_wire.specs.declared.opcode.Kind.TheVariants as kinds
 use Rattle.wsn_wire.specs.declared.opcode.Op.TheVariants as ops
 use Rattle.hex.specs.Hex.{encode_lower}
 use Rattle.wsn_wire.specs.Refusal.{word_of, code_of}
+use Rattle.wsn_rules.specs.BadCharacter.{BadCharacter}
 use Rattle.wsn_rules.specs.Meaning.{MeantEvent, Message, Control}
 use Rattle.wsn_rules.specs.ShownStream.{Item}
 use Rattle.wsn_rules.specs.ShownStream.Item.{Event, Head, Unfinished, UnfinishedHead, RefusedFrame, Unread, Tail}
 use Rattle.wsn_print.specs.QuotedTexts.{ShowsTextReason}
+use Rattle.wsn_print.specs.CharacterText.{text_before, leaves_out, shown_bytes}
 use Rattle.wsn_print.specs.ShownText.{text_part, is_printable, event_word, event_size, offset_of}
 use Rattle.wsn_print.specs.ShownObjects.{Position, side_word, item_type, item_object}
 use Rattle.wsn_print.specs.ShownObjects.Position.{InLine, AtEnd, InStream}
-use Rattle.wsn_print_laws.specs.JsonText.{Value, Null, True, Number, String, Members, End, Member, IsNew, HasDistinctNames, AreDistinct, IsObjectLine}
+use Rattle.wsn_print_laws.specs.JsonText.{Value, Null, True, Number, String, Object, Members, End, Member, IsNew, HasDistinctNames, AreDistinct, IsObjectLine}
 use Rattle.wsn_print_laws.specs.ShownItems.{IsPositionInRange, IsItemInRange}
 use Rattle.wsn_print_laws.proofs.Fields.{number, optional_number, optional_distinct}
 use Rattle.wsn_print_laws.proofs.Distinct.{differ, distinct}
 use Rattle.wsn_print_laws.proofs.ObjectLines.{boolean_distinct, key_distinct}
-use Rattle.wsn_print_laws.proofs.ShownJson.{text_json, hex_json, body_json, reason_json, close_json, event_view_json, unfinished_view_json, event_json, item_json, placed_json, shown_json, shown_line}
+use Rattle.wsn_print_laws.proofs.ShownJson.{character_members, text_json, hex_json, body_json, reason_json, close_json, event_view_json, unfinished_view_json, event_json, item_json, placed_json, shown_json, shown_line}
 
 -- ---- names among some
 
@@ -97,7 +99,7 @@ unfinished_is n (Control op body) = hex_names n body
 abbrev pub item_names : List (List ℕ)
 item_names =
     codes "text" ∷ codes "hex" ∷ codes "truncated" ∷ codes "code" ∷ codes "reason" ∷ codes "event" ∷ codes "bytes" ∷ codes "frames" ∷ codes "lacks" ∷ codes "place"
-    ∷ codes "fin" ∷ codes "opcode" ∷ codes "key" ∷ codes "length" ∷ codes "form" ∷ []
+    ∷ codes "fin" ∷ codes "opcode" ∷ codes "key" ∷ codes "length" ∷ codes "form" ∷ codes "character" ∷ []
 
 -- The names of an item's members after the offset.
 pub record IsItem (m : Members) : Type 0 where
@@ -116,7 +118,7 @@ wider : (m : Members) → AreAmong view_names m → AreAmong item_names m
 wider End are = tt
 wider (Member name value others) are = (
   wider_by (bytes_eq name (codes "text")) (bytes_eq name (codes "hex")) (bytes_eq name (codes "truncated")) (bytes_eq name (codes "code")) (bytes_eq name (codes "reason"))
-      (is_among name (codes "event" ∷ codes "bytes" ∷ codes "frames" ∷ codes "lacks" ∷ codes "place" ∷ codes "fin" ∷ codes "opcode" ∷ codes "key" ∷ codes "length" ∷ codes "form" ∷ [])) are.0,
+      (is_among name (codes "event" ∷ codes "bytes" ∷ codes "frames" ∷ codes "lacks" ∷ codes "place" ∷ codes "fin" ∷ codes "opcode" ∷ codes "key" ∷ codes "length" ∷ codes "form" ∷ codes "character" ∷ [])) are.0,
   wider others are.1,
 )
 
@@ -160,15 +162,40 @@ lacking_names word bytes frames lacks m is view = record {
   );
 }
 
-refused_by : (t : Bool) (place code : ℕ) (word digits : List ℕ)
-    → IsItem (Member (codes "place") (number place) (Member (codes "reason") (String word) (Member (codes "code") (number code) (Member (codes "hex") (String digits) (if t then Member (codes "truncated") True End else End)))))
+character_by : (t : Bool) (offset place : ℕ) (digits characters : List ℕ)
+    → AreDistinct (Member (codes "offset") (number offset) (Member (codes "in_payload") (number place) (Member (codes "hex") (String digits) (Member (codes "before") (String characters) (if t then Member (codes "truncated") True End else End)))))
+character_by true offset place digits characters =
+    distinct (Member (codes "offset") (number offset) (Member (codes "in_payload") (number place) (Member (codes "hex") (String digits) (Member (codes "before") (String characters) (Member (codes "truncated") True End))))) refl (tt, (tt, (tt, (tt, (tt, tt)))))
+character_by false offset place digits characters =
+    distinct (Member (codes "offset") (number offset) (Member (codes "in_payload") (number place) (Member (codes "hex") (String digits) (Member (codes "before") (String characters) End)))) refl (tt, (tt, (tt, (tt, tt))))
+
+character_names : (n : ℕ) (evidence : List ℕ) (character : BadCharacter) → AreDistinct (character_members n evidence character)
+character_names n evidence character =
+    character_by (n == 0 || leaves_out n evidence character) character.offset character.in_payload (encode_lower (shown_bytes n character)) (chars (text_before n evidence character))
+
+abbrev refused_members : Bool → ℕ → ℕ → List ℕ → List ℕ → Members → Members
+refused_members t place code word digits others =
+    Member (codes "place") (number place) (Member (codes "reason") (String word) (Member (codes "code") (number code) (Member (codes "hex") (String digits) (if t then Member (codes "truncated") True others else others))))
+
+refused_by : (t : Bool) (place code : ℕ) (word digits : List ℕ) → IsItem (refused_members t place code word digits End)
 refused_by true place code word digits = record {
   names = (refl, (refl, (refl, (refl, (refl, tt)))));
-  are_distinct = distinct (Member (codes "place") (number place) (Member (codes "reason") (String word) (Member (codes "code") (number code) (Member (codes "hex") (String digits) (Member (codes "truncated") True End))))) refl (tt, (tt, (tt, (tt, (tt, tt)))));
+  are_distinct = distinct (refused_members true place code word digits End) refl (tt, (tt, (tt, (tt, (tt, tt)))));
 }
 refused_by false place code word digits = record {
   names = (refl, (refl, (refl, (refl, tt))));
-  are_distinct = distinct (Member (codes "place") (number place) (Member (codes "reason") (String word) (Member (codes "code") (number code) (Member (codes "hex") (String digits) End)))) refl (tt, (tt, (tt, (tt, tt))));
+  are_distinct = distinct (refused_members false place code word digits End) refl (tt, (tt, (tt, (tt, tt))));
+}
+
+refused_with : (t : Bool) (place code : ℕ) (word digits : List ℕ) (members : Members) → AreDistinct members
+    → IsItem (refused_members t place code word digits (Member (codes "character") (Object members) End))
+refused_with true place code word digits members are = record {
+  names = (refl, (refl, (refl, (refl, (refl, (refl, tt))))));
+  are_distinct = distinct (refused_members true place code word digits (Member (codes "character") (Object members) End)) refl (tt, (tt, (tt, (tt, (tt, (are, tt))))));
+}
+refused_with false place code word digits members are = record {
+  names = (refl, (refl, (refl, (refl, (refl, tt)))));
+  are_distinct = distinct (refused_members false place code word digits (Member (codes "character") (Object members) End)) refl (tt, (tt, (tt, (tt, (are, tt)))));
 }
 
 item_is : (n : ℕ) (item : Item) → IsItem (item_json n item)
@@ -183,8 +210,11 @@ item_is n (UnfinishedHead offset) = record {
   names = (refl, (refl, (refl, (refl, (refl, tt)))));
   are_distinct = distinct (item_json n (UnfinishedHead offset)) refl (tt, (tt, (tt, (tt, (tt, tt)))));
 }
-item_is n (RefusedFrame offset refusal evidence) =
+item_is n (RefusedFrame offset refusal evidence None) =
     refused_by (nat_lt (n / 2) (length evidence)) refusal.place (code_of refusal.reason) (word_of refusal.reason) (encode_lower (drop (length evidence - n / 2) evidence))
+item_is n (RefusedFrame offset refusal evidence (Some character)) =
+    refused_with (nat_lt (n / 2) (length evidence)) refusal.place (code_of refusal.reason) (word_of refusal.reason) (encode_lower (drop (length evidence - n / 2) evidence))
+    (character_members n evidence character) (character_names n evidence character)
 item_is n (Unread offset bytes) = before_view (codes "bytes") (number (length bytes)) (hex_json n bytes) refl refl tt (hex_names n bytes)
 item_is n (Tail offset bytes) = before_view (codes "bytes") (number (length bytes)) (hex_json n bytes) refl refl tt (hex_names n bytes)
 

@@ -1,6 +1,7 @@
 -- What the value of a shown item's object determines: where it is, and the item up to its view.
-use Rattle.std.proofs.Common.{◌≡◌, ℕ, ◌+◌, ◌*◌, ◌-◌, ◌/◌, ◌≤◌, ◌==◌, Bool, true, false, ◌&&◌, if◌then◌else◌, None, Some, List, [], ◌∷◌, ◌++◌, length, take, drop, codes, refl, sym, ap, ◌∙◌, subst, arith, eqb-true}
-use Rattle.std.specs.Prelude.{decimal, nat_lt, flat_map}
+use Rattle.std.proofs.Common.{◌≡◌, ℕ, ◌+◌, ◌*◌, ◌-◌, ◌/◌, ◌≤◌, ◌==◌, ◌≢◌, inl, inr, Bool, true, false, ◌&&◌, ◌||◌, if◌then◌else◌, Option, None, Some, List, [], ◌∷◌, ◌++◌, length, take, drop, codes, refl, sym, ap, ◌∙◌, subst, arith, eqb-true}
+use Rattle.std.specs.Prelude.{decimal, nat_lt, flat_map, IfSome}
+use Rattle.std.proofs.lemmas.Bool.{cases_Bool}
 use Rattle.std.specs.Str.{chars, bytes_eq}
 use Rattle.std.specs.Str.Lossy.{utf8_valid_len}
 use Rattle.std.proofs.lemmas.Str.{utf8_valid_len_le}
@@ -10,22 +11,26 @@ use Rattle.wsn_wire.specs.declared.endpoint.Role.TheVariants.{Client, Server}
 use Rattle.wsn_wire.specs.declared.opcode.Kind.TheVariants as kinds
 use Rattle.wsn_wire.specs.declared.opcode.Op.TheVariants as ops
 use Rattle.wsn_wire.specs.Refusal.{word_of}
+use Rattle.wsn_rules.specs.BadCharacter.{BadCharacter}
 use Rattle.wsn_rules.specs.Meaning.{MeantEvent, Message, Control}
 use Rattle.wsn_rules.specs.ShownStream.{Item}
 use Rattle.wsn_rules.specs.ShownStream.Item.{Event, Head, Unfinished, UnfinishedHead, RefusedFrame, Unread, Tail}
 use Rattle.wsn_print.specs.QuotedTexts.{payload_in, ShowsTextReason}
+use Rattle.wsn_print.specs.CharacterText.{text_before, leaves_out, shown_bytes, byte_escape, character_view}
 use Rattle.wsn_print.specs.ShownText.{quoted_character, text_part, text_view, hex_text, hex_view, end_view, is_printable, reason_text, close_view, event_view, unfinished_view, event_word, event_size, offset_of}
 use Rattle.wsn_print.specs.ShownObjects.{Position, side_word, item_type, item_object}
 use Rattle.wsn_print.specs.ShownObjects.Position.{InLine, AtEnd, InStream}
-use Rattle.wsn_print_laws.specs.JsonText.{Null, True, Number, String, Members, End, Member, IsJsonLine}
+use Rattle.wsn_print.proofs.HeldViews.{not_zero}
+use Rattle.wsn_print_laws.specs.JsonText.{Null, True, Number, String, Object, Members, End, Member, IsJsonLine}
 use Rattle.wsn_print_laws.specs.Answers.{IsInU64}
-use Rattle.wsn_print_laws.specs.ShownItems.{IsPositionInRange, AreBytesInRange, IsItemInRange, AreAlike, LookAlike}
+use Rattle.wsn_print_laws.specs.ShownItems.{IsPositionInRange, AreBytesInRange, IsCharacterInRange, IsItemInRange, AreAlike, HaveLikeCharacters, LookAlike}
 use Rattle.wsn_print_laws.proofs.Distinct.{differ}
 use Rattle.wsn_print_laws.proofs.Fields.{number, optional_number, one_number, one_optional, one_line}
+use Rattle.wsn_print_laws.proofs.Keys.{one_bytes}
 use Rattle.wsn_print_laws.proofs.Words.{one_reason}
 use Rattle.wsn_print_laws.proofs.Verdicts.{refusal_same}
 use Rattle.wsn_print_laws.proofs.Heads.{one_head}
-use Rattle.wsn_print_laws.proofs.ShownJson.{truncated_json, text_json, hex_json, end_json, reason_json, close_json, event_view_json, unfinished_view_json, event_json, item_json, placed_json, shown_json, shown_value, shown_line, offset_fits, size_fits}
+use Rattle.wsn_print_laws.proofs.ShownJson.{character_members, character_json, truncated_json, text_json, hex_json, end_json, reason_json, close_json, event_view_json, unfinished_view_json, event_json, item_json, placed_json, shown_json, shown_value, shown_line, offset_fits, size_fits}
 
 -- ---- a view, read from the members that show it
 
@@ -62,10 +67,20 @@ view_in n (Member name (String cs) others) =
 view_in n (Member name (Number code) others) = code ++ reason_in others
 view_in n _ = codes "-"
 
+abbrev is_truncated : Members → Bool
+is_truncated (Member name True others) = true
+is_truncated _ = false
+
 -- The view of a refusal's evidence.
 abbrev evidence_in : ℕ → Members → List ℕ
-evidence_in n (Member name (String digits) others) = end_in n digits (has_more others)
+evidence_in n (Member name (String digits) others) = end_in n digits (is_truncated others)
 evidence_in n _ = []
+
+-- The members after the evidence.
+abbrev after_evidence : Members → Members
+after_evidence (Member name value (Member other True others)) = others
+after_evidence (Member name value others) = others
+after_evidence End = End
 
 -- ---- it is the view
 
@@ -105,8 +120,24 @@ hex_is n bytes =
     ap (hex_in n (encode_lower (take (n / 2) bytes))) (more (n / 2) (length bytes))
     ∙ ap (λ (bs : List ℕ). if n == 0 then codes "-" else bs ++ dots (nat_lt (n / 2) (length bytes))) (dash_is (take (n / 2) bytes))
 
-end_is : (n : ℕ) (bytes : List ℕ) → evidence_in n (end_json n bytes) ≡ end_view n bytes
-end_is n bytes = ap (end_in n (encode_lower (drop (length bytes - n / 2) bytes))) (more (n / 2) (length bytes))
+truncated_by : (t : Bool) (n : ℕ) (evidence : List ℕ) (character : Option BadCharacter)
+    → is_truncated (if t then Member (codes "truncated") True (character_json n evidence character) else character_json n evidence character) ≡ t
+truncated_by true n evidence character = refl
+truncated_by false n evidence None = refl
+truncated_by false n evidence (Some character) = refl
+
+end_is : (n : ℕ) (evidence : List ℕ) (character : Option BadCharacter) → evidence_in n (end_json n evidence (character_json n evidence character)) ≡ end_view n evidence
+end_is n evidence character =
+    ap (end_in n (encode_lower (drop (length evidence - n / 2) evidence))) (truncated_by (nat_lt (n / 2) (length evidence)) n evidence character)
+
+after_by : (t : Bool) (digits : List ℕ) (n : ℕ) (evidence : List ℕ) (character : Option BadCharacter)
+    → after_evidence (Member (codes "hex") (String digits) (if t then Member (codes "truncated") True (character_json n evidence character) else character_json n evidence character)) ≡ character_json n evidence character
+after_by true digits n evidence character = refl
+after_by false digits n evidence None = refl
+after_by false digits n evidence (Some character) = refl
+
+character_is : (n : ℕ) (evidence : List ℕ) (character : Option BadCharacter) → after_evidence (end_json n evidence (character_json n evidence character)) ≡ character_json n evidence character
+character_is n evidence character = after_by (nat_lt (n / 2) (length evidence)) (encode_lower (drop (length evidence - n / 2) evidence)) n evidence character
 
 body_by : (n : ℕ) (t : Bool) (body : List ℕ) → view_in n (if t then text_json n body else hex_json n body) ≡ (if t then text_view n body else hex_view n body)
 body_by n true body = text_is n body
@@ -235,6 +266,67 @@ bytes_same n bytes other fits also same =
     let views : hex_json n bytes ≡ hex_json n other = ap after_first same in
     (one_number (length bytes) (length other) fits.0 also.0 sizes, sym (hex_is n bytes) ∙ ap (view_in n) views ∙ hex_is n other)
 
+-- ---- two bad characters with one object
+
+-- The view of a bad character, by its bytes, the characters before them, and whether some evidence is left out.
+abbrev view_by : List ℕ → List ℕ → Bool → List ℕ
+view_by bytes characters more =
+    encode_lower bytes ++ codes " " ++ ((if more then codes ".." else []) ++ (codes "\"" ++ flat_map quoted_character characters ++ flat_map byte_escape bytes ++ codes "\""))
+
+seen_view : (n : ℕ) (evidence : List ℕ) (character : BadCharacter) → (n == 0) ≡ false
+    → character_view n evidence character ≡ view_by character.bytes (chars (text_before n evidence character)) (leaves_out n evidence character)
+seen_view n evidence character some =
+    ap (λ (none : Bool). if none then codes "- -" else view_by character.bytes (chars (text_before n evidence character)) (leaves_out n evidence character)) some
+
+unseen_view : (n : ℕ) (evidence : List ℕ) (character : BadCharacter) → (n == 0) ≡ true → character_view n evidence character ≡ codes "- -"
+unseen_view n evidence character none =
+    ap (λ (t : Bool). if t then codes "- -" else view_by character.bytes (chars (text_before n evidence character)) (leaves_out n evidence character)) none
+
+left_out_is : (n : ℕ) (evidence : List ℕ) (character : BadCharacter) → (n == 0) ≡ false
+    → has_more (if n == 0 || leaves_out n evidence character then Member (codes "truncated") True End else End) ≡ leaves_out n evidence character
+left_out_is n evidence character some =
+    more_by (n == 0 || leaves_out n evidence character) ∙ ap (λ (none : Bool). none || leaves_out n evidence character) some
+
+one_character : (n : ℕ) (evidence other_evidence : List ℕ) (character other : BadCharacter) → IsCharacterInRange character → IsCharacterInRange other
+    → character_members n evidence character ≡ character_members n other_evidence other
+    → HaveLikeCharacters n evidence (Some character) other_evidence (Some other)
+one_character n evidence other_evidence character other fits also same =
+    let offsets : number character.offset ≡ number other.offset = cc in
+    let places : number character.in_payload ≡ number other.in_payload = cc in (
+      one_number character.offset other.offset fits.0 also.0 offsets,
+      one_number character.in_payload other.in_payload fits.1 also.1 places,
+      (λ some. one_shown_bytes (not_zero n some)),
+      elim (cases_Bool (n == 0)) [
+        | inl none ↦ unseen_view n evidence character none ∙ sym (unseen_view n other_evidence other none)
+        | inr some ↦ seen_view n evidence character some ∙ views some ∙ sym (seen_view n other_evidence other some)
+      ],
+    )
+  where
+    one_shown_bytes : (n == 0) ≡ false → character.bytes ≡ other.bytes
+    one_shown_bytes some =
+        let digits : encode_lower (shown_bytes n character) ≡ encode_lower (shown_bytes n other) = cc in
+        one_bytes character.bytes other.bytes fits.2 also.2
+        (sym (ap (λ (none : Bool). encode_lower (if none then [] else character.bytes)) some) ∙ digits ∙ ap (λ (none : Bool). encode_lower (if none then [] else other.bytes)) some)
+
+    views : (n == 0) ≡ false
+        → view_by character.bytes (chars (text_before n evidence character)) (leaves_out n evidence character)
+        ≡ view_by other.bytes (chars (text_before n other_evidence other)) (leaves_out n other_evidence other)
+    views some =
+        let texts : chars (text_before n evidence character) ≡ chars (text_before n other_evidence other) = cc in
+        let after = ap (λ (m : Members). has_more (after_first (after_first (after_first (after_first m))))) same in
+        ap (λ (bytes : List ℕ). view_by bytes (chars (text_before n evidence character)) (leaves_out n evidence character)) (one_shown_bytes some)
+        ∙ ap (λ (characters : List ℕ). view_by other.bytes characters (leaves_out n evidence character)) texts
+        ∙ ap (view_by other.bytes (chars (text_before n other_evidence other))) (sym (left_out_is n evidence character some) ∙ after ∙ left_out_is n other_evidence other some)
+
+characters_same : (n : ℕ) (evidence other_evidence : List ℕ) (character other : Option BadCharacter) → IfSome character IsCharacterInRange → IfSome other IsCharacterInRange
+    → character_json n evidence character ≡ character_json n other_evidence other → HaveLikeCharacters n evidence character other_evidence other
+characters_same n evidence other_evidence None None fits also same = tt
+characters_same n evidence other_evidence None (Some other) fits also same = absurd cc
+characters_same n evidence other_evidence (Some character) None fits also same = absurd cc
+characters_same n evidence other_evidence (Some character) (Some other) fits also same =
+    let members : character_members n evidence character ≡ character_members n other_evidence other = cc in
+    one_character n evidence other_evidence character other fits also members
+
 look_alike : (n : ℕ) (item other : Item) → IsItemInRange item → IsItemInRange other → item_type item ≡ item_type other → offset_of item ≡ offset_of other
     → item_json n item ≡ item_json n other → LookAlike n item other
 look_alike n (Event offset event frames) (Event another other more_frames) fits also types offsets same =
@@ -260,12 +352,14 @@ look_alike n (UnfinishedHead offset) (Unfinished another other more_frames lacki
 look_alike n (Unfinished offset event frames lacks) (UnfinishedHead another) fits also types offsets same =
     let words : codes "head" ≡ event_word event = cc in
     absurd (no_head event words)
-look_alike n (RefusedFrame offset refusal evidence) (RefusedFrame another other bytes) fits also types offsets same =
+look_alike n (RefusedFrame offset refusal evidence character) (RefusedFrame another other bytes second) fits also types offsets same =
     let places : number refusal.place ≡ number other.place = cc in
-    let words : word_of refusal.reason ≡ word_of other.reason = cc in (
+    let words : word_of refusal.reason ≡ word_of other.reason = cc in
+    let after = ap (λ (m : Members). after_first (after_first (after_first m))) same in (
       offsets,
       refusal_same refusal other (one_number refusal.place other.place fits.1 also.1 places) (one_reason refusal.reason other.reason words),
-      sym (end_is n evidence) ∙ ap (λ (m : Members). evidence_in n (after_first (after_first (after_first m)))) same ∙ end_is n bytes,
+      sym (end_is n evidence character) ∙ ap (evidence_in n) after ∙ end_is n bytes second,
+      characters_same n evidence bytes character second fits.3 also.3 (sym (character_is n evidence character) ∙ ap after_evidence after ∙ character_is n bytes second),
     )
 look_alike n (Unread offset bytes) (Unread another other) fits also types offsets same =
     let parts = bytes_same n bytes other fits.1 also.1 same in

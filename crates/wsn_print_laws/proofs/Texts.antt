@@ -53,6 +53,26 @@ last {v} {text} key plain value = same_text (field key text) (member key plain v
 
 -- ---- values
 
+-- An object's text: its first member, and the others.
+pub object_text : {v : Value} {text following : List ℕ} {others : Members} (key whole : List ℕ) → are_unescaped key ≡ true → IsTextOf v text → AreTextsOf others following
+    → 123 ∷ 34 ∷ (key ++ (34 ∷ 58 ∷ (text ++ (following ++ codes "}")))) ≡ whole → IsTextOf (Object (Member key v others)) whole
+object_text {v} {text} {following} {others} key whole plain value after same = record {
+  is =
+      subst (IsValue (Object (Member key v others))) same (
+        codes "{",
+        34 ∷ (key ++ (34 ∷ 58 ∷ (text ++ (following ++ codes "}")))),
+        refl,
+        refl,
+        (
+          34 ∷ (key ++ (34 ∷ [])),
+          58 ∷ (text ++ (following ++ codes "}")),
+          ap (λ (bs : List ℕ). 34 ∷ bs) (sym (append_assoc key (34 ∷ []) (58 ∷ (text ++ (following ++ codes "}"))))),
+          plain_string key plain,
+          (58 ∷ [], text ++ (following ++ codes "}"), refl, refl, (text, following ++ codes "}", refl, value.is, (following, codes "}", refl, after.are, refl))),
+        ),
+      );
+}
+
 pub null_text : IsTextOf Null (codes "null")
 null_text = record { is = refl }
 

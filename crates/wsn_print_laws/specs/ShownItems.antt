@@ -1,6 +1,7 @@
 -- Which shown items the laws are about, and which of them look alike.
-use Rattle.std.specs.Prelude.{◌≡◌, ℕ, IfSome, List, length, ⊤}
+use Rattle.std.specs.Prelude.{◌≡◌, ◌≢◌, ℕ, IfSome, Option, None, Some, List, length, ⊤}
 use Rattle.wsn_wire.specs.Frame.{IsBytes}
+use Rattle.wsn_rules.specs.BadCharacter.{BadCharacter}
 use Rattle.wsn_rules.specs.Meaning.{MeantEvent}
 use Rattle.wsn_rules.specs.ShownStream.{Item}
 use Rattle.wsn_rules.specs.ShownStream.Item.{Event, Head, Unfinished, UnfinishedHead, RefusedFrame, Unread, Tail}
@@ -9,6 +10,7 @@ use Rattle.wsn_print.specs.ShownObjects.{Position}
 use Rattle.wsn_print.specs.ShownObjects.Position.{InLine, AtEnd, InStream}
 use Rattle.wsn_print.specs.QuotedTexts.{payload_in}
 use Rattle.wsn_print.specs.ShownText.{event_word, event_size, event_view, unfinished_view, end_view, hex_view}
+use Rattle.wsn_print.specs.CharacterText.{character_view}
 use Rattle.wsn_print_laws.specs.Answers.{IsInU64, IsHeadInRange}
 
 -- ---- in range
@@ -23,15 +25,19 @@ IsPositionInRange InStream = ⊤
 abbrev pub AreBytesInRange : List ℕ → Type 0
 AreBytesInRange bytes = IsInU64 (length bytes) × IsBytes bytes
 
--- Each number of the item is in range, and so are its bytes.
+-- Each number of the bad character is in range, and its bytes are bytes.
+abbrev pub IsCharacterInRange : BadCharacter → Type 0
+IsCharacterInRange character = IsInU64 character.offset × IsInU64 character.in_payload × IsBytes character.bytes
+
+-- Each number of the item is in range, and so are its bytes and its bad character.
 abbrev pub IsItemInRange : Item → Type 0
 IsItemInRange (Event offset event frames) = IsInU64 offset × IsInU64 frames × AreBytesInRange (payload_in event)
 IsItemInRange (Head info) = IsHeadInRange info
 IsItemInRange (Unfinished offset event frames lacks) =
     IsInU64 offset × IsInU64 frames × AreBytesInRange (payload_in event) × IfSome lacks IsInU64
 IsItemInRange (UnfinishedHead offset) = IsInU64 offset
-IsItemInRange (RefusedFrame offset refusal evidence) =
-    IsInU64 offset × IsInU64 refusal.place × AreBytesInRange evidence
+IsItemInRange (RefusedFrame offset refusal evidence character) =
+    IsInU64 offset × IsInU64 refusal.place × AreBytesInRange evidence × IfSome character IsCharacterInRange
 IsItemInRange (Unread offset bytes) = IsInU64 offset × AreBytesInRange bytes
 IsItemInRange (Tail offset bytes) = IsInU64 offset × AreBytesInRange bytes
 
@@ -40,6 +46,16 @@ IsItemInRange (Tail offset bytes) = IsInU64 offset × AreBytesInRange bytes
 -- Both events have the same word, which says what they are, and the same number of bytes.
 abbrev pub AreAlike : MeantEvent → MeantEvent → Type 0
 AreAlike event other = (event_word event ≡ event_word other) × (event_size event ≡ event_size other)
+
+-- With views of at most n bytes, neither refusal has a bad character, or both have one in the same place and with the
+-- same view; if n isn't 0, both have the same bytes.
+abbrev pub HaveLikeCharacters : ℕ → List ℕ → Option BadCharacter → List ℕ → Option BadCharacter → Type 0
+HaveLikeCharacters n evidence None bytes None = ⊤
+HaveLikeCharacters n evidence (Some character) bytes (Some other) =
+    (character.offset ≡ other.offset) × (character.in_payload ≡ other.in_payload)
+    × (n ≢ 0 → character.bytes ≡ other.bytes)
+    × (character_view n evidence character ≡ character_view n bytes other)
+HaveLikeCharacters n evidence character bytes other = ⊥
 
 -- With views of at most n bytes, both items are the same up to the bytes that no view shows.
 abbrev pub LookAlike : ℕ → Item → Item → Type 0
@@ -50,8 +66,9 @@ LookAlike n (Unfinished offset event frames lacks) (Unfinished another other mor
     (offset ≡ another) × AreAlike event other × (frames ≡ more) × (lacks ≡ lacking)
     × (unfinished_view n event ≡ unfinished_view n other)
 LookAlike n (UnfinishedHead offset) (UnfinishedHead another) = offset ≡ another
-LookAlike n (RefusedFrame offset refusal evidence) (RefusedFrame another other bytes) =
+LookAlike n (RefusedFrame offset refusal evidence character) (RefusedFrame another other bytes second) =
     (offset ≡ another) × (refusal ≡ other) × (end_view n evidence ≡ end_view n bytes)
+    × HaveLikeCharacters n evidence character bytes second
 LookAlike n (Unread offset bytes) (Unread another other) =
     (offset ≡ another) × (length bytes ≡ length other) × (hex_view n bytes ≡ hex_view n other)
 LookAlike n (Tail offset bytes) (Tail another other) =

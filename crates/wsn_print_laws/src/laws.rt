@@ -2,6 +2,7 @@
 
 ghost use Rattle.std.specs.Prelude.{◌≡◌, ℕ, Option, List, [], ◌∷◌, ◌++◌, codes};
 ghost use Rattle.wsn_wire.specs.declared.endpoint.Role.{Role};
+ghost use Rattle.wsn_wire.specs.declared.refusal.Reason.TheVariants.{TextBad};
 ghost use Rattle.wsn_wire.specs.Frame.{Frame, IsBytes};
 ghost use Rattle.wsn_rules.specs.declared.compared.Compared.{Compared};
 ghost use Rattle.wsn_rules.specs.declared.head_info.HeadInfo.{HeadInfo};
@@ -10,6 +11,7 @@ ghost use Rattle.wsn_rules.specs.declared.verdict.Summary.{Summary};
 ghost use Rattle.wsn_rules.specs.declared.verdict.Verdict.{Verdict};
 ghost use Rattle.wsn_rules.specs.Limits.{Limits};
 ghost use Rattle.wsn_rules.specs.ShownStream.{Item};
+ghost use Rattle.wsn_rules.specs.ShownStream.Item.{RefusedFrame};
 ghost use Rattle.wsn_rules.specs.Verdict.{IsVerdict};
 ghost use Rattle.wsn_print.specs.Objects.{verdict_object, frame_object, report_object, comparison_object};
 ghost use Rattle.wsn_print.specs.QuotedTexts.{ShowsTextReason};
@@ -125,11 +127,17 @@ pub fn law_comment_objects()
 {}
 
 /// The object of a shown item says which endpoint sent it, in which line and at which time, and the item up to the bytes
-/// that its view leaves out.
+/// that its view leaves out. Of a refused text it says whether there is a bad character, where it is, and which bytes it
+/// has; the bytes only if the view isn't 0.
 pub fn law_item_objects()
-    ensures { (n : ℕ) (role other_role : Role) (position other_position : Position) (item other : Item) →
+    ensures shown { (n : ℕ) (role other_role : Role) (position other_position : Position) (item other : Item) →
         IsPositionInRange position → IsPositionInRange other_position → IsItemInRange item → IsItemInRange other →
         ShowsTextReason item → ShowsTextReason other →
         item_object n role position item ≡ item_object n other_role other_position other →
         (role ≡ other_role) × (position ≡ other_position) × LookAlike n item other }
+    ensures unseen { (role : Role) (position : Position) →
+        item_object 0 role position (RefusedFrame 0 (record { place = 2; reason = TextBad }) (0xfc ∷ [])
+        (Some (record { offset = 2; in_payload = 0; bytes = 0xfc ∷ [] })))
+        ≡ item_object 0 role position (RefusedFrame 0 (record { place = 2; reason = TextBad }) (0xff ∷ [])
+        (Some (record { offset = 2; in_payload = 0; bytes = 0xff ∷ [] }))) }
 {}

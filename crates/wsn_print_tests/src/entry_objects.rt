@@ -3,8 +3,8 @@
 use crate::reading::{expect_none, expect_object};
 use wsn_io::Output;
 use wsn_print::{
-    EntryFront, HeldBytes, Origin, Remainder, ShownEvent, ViewLimit, put_comment_object,
-    put_end_object, put_event_object, put_refused_object, put_remainder_object,
+    EntryFront, HeldBytes, Origin, Remainder, ShownCharacter, ShownEvent, ViewLimit,
+    put_comment_object, put_end_object, put_event_object, put_refused_object, put_remainder_object,
     put_shown_frame_object, put_unfinished_head_object, put_unfinished_object,
 };
 use wsn_rules::{HeadInfo, Refusal};
@@ -148,28 +148,66 @@ fn a_refusal(rt: HostRuntime) {
     let view = ViewLimit::new(4).expect(&rt, "a view");
     let mut line = Vec::new(rt.alloc());
     let refusal = Refusal {
-        place: 11,
-        reason: Reason::TextBad,
+        place: 3,
+        reason: Reason::ReservedBits,
     };
-    let evidence = whole(b"Gr\xfc");
+    let evidence = whole(b"\xc1");
     let put = put_refused_object(
         &mut Output::new(&mut line),
         view,
         &IN_LINE,
         &refusal,
         &evidence,
+        &None,
     );
     assert_eq!(rt; put, Ok(()));
     let members = [
         ("/type", "\"refused\""),
         ("/offset", "3"),
+        ("/place", "3"),
+        ("/reason", "\"reserved-bits\""),
+        ("/code", "1002"),
+        ("/hex", "\"c1\""),
+    ];
+    expect_object(&rt, rt.alloc(), line.as_slice(), 9, &members);
+    expect_none(&rt, rt.alloc(), line.as_slice(), "/character");
+}
+
+#[test]
+fn a_refusal_for_a_bad_character(rt: HostRuntime) {
+    let view = ViewLimit::new(4).expect(&rt, "a view");
+    let mut line = Vec::new(rt.alloc());
+    let refusal = Refusal {
+        place: 11,
+        reason: Reason::TextBad,
+    };
+    let character = ShownCharacter {
+        offset: 11,
+        in_payload: 2,
+        bytes: b"\xfc",
+    };
+    let put = put_refused_object(
+        &mut Output::new(&mut line),
+        view,
+        &IN_LINE,
+        &refusal,
+        &whole(b"Gr\xfc"),
+        &Some(character),
+    );
+    assert_eq!(rt; put, Ok(()));
+    let members = [
         ("/place", "11"),
         ("/reason", "\"text-bad\""),
         ("/code", "1007"),
         ("/hex", "\"72fc\""),
         ("/truncated", "true"),
+        ("/character/offset", "11"),
+        ("/character/in_payload", "2"),
+        ("/character/hex", "\"fc\""),
+        ("/character/before", "\"r\""),
+        ("/character/truncated", "true"),
     ];
-    expect_object(&rt, rt.alloc(), line.as_slice(), 10, &members);
+    expect_object(&rt, rt.alloc(), line.as_slice(), 11, &members);
 }
 
 #[test]

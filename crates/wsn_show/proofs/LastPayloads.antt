@@ -1,7 +1,8 @@
 -- The last payload bytes of the open message as its frames go on, and the character that they end with.
-use Rattle.std.proofs.Common.{◌≡◌, ℕ, ◌+◌, ◌-◌, ◌≤◌, true, false, not, List, [], ◌∷◌, ◌++◌, length, drop, inl, inr, sym, ap, ◌∙◌, subst, append-nil, append_assoc, length-drop, arith}
-use Rattle.std.proofs.lemmas.Bool.{cases_Bool, cond-true, cond-false}
-use Rattle.std.proofs.lemmas.List.{drop-drop, drop-map}
+use Rattle.std.proofs.Common.{◌≡◌, ℕ, suc, ◌+◌, ◌-◌, ◌<◌, ◌≤◌, true, false, not, List, [], ◌∷◌, ◌++◌, length, take, drop, get_or, inl, inr, sym, ap, ◌∙◌, subst, append-nil, append_assoc, take-append-drop, length-drop, arith}
+use Rattle.std.proofs.lemmas.Bool.{cases_Bool, cases_lt, cond-true, cond-false}
+use Rattle.std.proofs.lemmas.List.{drop-append-le, drop-drop, drop-map, map-append, length-map, length-take-le}
+use Rattle.std.proofs.Math.Seq.{take-suc}
 use Rattle.std.specs.Str.Lossy.{utf8_valid_len}
 use Rattle.wsn_wire.specs.Frame.{Frame, is_control, stream}
 use Rattle.wsn_rules.specs.declared.head_info.HeadInfo.{HeadInfo}
@@ -9,12 +10,13 @@ use Rattle.wsn_rules.specs.BadCharacter.{BadCharacter, payload_offset, placed_pa
 use Rattle.wsn_rules.specs.Group.{unfinished, payload_of}
 use Rattle.wsn_rules.specs.Heads.{info_of}
 use Rattle.wsn_rules.specs.PlacedByte.{PlacedByte, placed}
-use Rattle.wsn_rules.proofs.LastElements.{last_of_none}
+use Rattle.wsn_rules.proofs.LastElements.{last_of_none, last_of_long, last_of_push}
 use Rattle.wsn_rules.proofs.OpenPayloads.{open_after_control, open_after_final, open_after_fragment}
-use Rattle.wsn_rules.proofs.PlacedBytes.{placed-append}
+use Rattle.wsn_rules.proofs.PlacedBytes.{placed-append, bytes_of_placed}
 use Rattle.wsn_scan.specs.Positions.{Position, BetweenFrames, InFrame}
+use Rattle.wsn_show.specs.declared.last_payload.StreamByte.{StreamByte}
 use Rattle.wsn_show.specs.declared.last_payload.LastPayload.{LastPayload}
-use Rattle.wsn_show.specs.LastPayloads.{HasLastPayload, payload_at}
+use Rattle.wsn_show.specs.LastPayloads.{placed_bytes, HasLastPayload, payload_at}
 
 -- ---- the payload at a position
 
@@ -85,3 +87,49 @@ module _ (came : List PlacedByte) (len : ℕ) (is : utf8_valid_len (bytes_of cam
       let place : length came - len ≡ whole = omega (arith, is) in
       let bytes : drop (length held - len) (bytes_of held) ≡ bytes_of (drop whole came) = drop-map (λ (b : PlacedByte). b.byte) (length held - len) held ∙ ap bytes_of held_end in
       (λ i. record { offset = first_offset (held_end i); in_payload = place i; bytes = bytes i })
+
+-- ---- more bytes
+
+length-placed : (place : ℕ) (bytes : List ℕ) → length (placed place bytes) ≡ length bytes
+length-placed place bytes = sym (length-map (placed place bytes) (λ (b : PlacedByte). b.byte)) ∙ ap (λ (bs : List ℕ). length bs) (bytes_of_placed place bytes)
+
+-- One more byte of a piece, all but the first `skipped` bytes of which are taken.
+pub placed_push : (offset skipped i : ℕ) (bytes : List ℕ) (place byte : ℕ) → skipped ≤ i → i < length bytes → place ≡ offset + i → byte ≡ get_or bytes i 0
+    → placed (offset + skipped) (drop skipped (take (i + 1) bytes)) ≡ placed (offset + skipped) (drop skipped (take i bytes)) ++ placed place (byte ∷ [])
+placed_push offset skipped i bytes place byte from within place_is byte_is =
+    let before = take i bytes in
+    let size : length before ≡ i = length-take-le i bytes (omega (arith, within)) in
+    let next : i + 1 ≡ suc i = omega arith in
+    let one : take (i + 1) bytes ≡ before ++ byte ∷ [] = ap (λ (m : ℕ). take m bytes) next ∙ take-suc bytes i 0 within ∙ ap (λ (b : ℕ). take i bytes ++ b ∷ []) (sym byte_is) in
+    let left : length (drop skipped before) ≡ i - skipped = length-drop skipped before ∙ ap (λ (m : ℕ). m - skipped) size in
+    ap (λ (bs : List ℕ). placed (offset + skipped) (drop skipped bs)) one ∙ ap (λ (bs : List ℕ). placed (offset + skipped) bs) (drop-append-le skipped before (byte ∷ []) (omega (arith, size, from)))
+    ∙ placed-append (offset + skipped) (drop skipped before) (byte ∷ [])
+    ∙ ap (λ (m : ℕ). placed (offset + skipped) (drop skipped before) ++ placed m (byte ∷ [])) (omega (arith, left, place_is, from))
+
+-- The bytes that were skipped don't matter.
+pub skipping : (last : LastPayload) (came : List PlacedByte) (offset skipped : ℕ) (bytes : List ℕ) → skipped ≡ length bytes - 4 → HasLastPayload last (came ++ placed (offset + skipped) (drop skipped bytes)) → HasLastPayload last (came ++ placed offset bytes)
+skipping last came offset skipped bytes is has =
+    elim (cases_lt (length bytes) 4) [
+      | inl less ↦
+          let none : skipped ≡ 0 = omega (arith, is, less) in
+          let same : placed (offset + skipped) (drop skipped bytes) ≡ placed offset bytes = ap (λ (m : ℕ). placed (offset + m) (drop m bytes)) none ∙ ap (λ (m : ℕ). placed m bytes) (omega arith) in
+          subst (λ (ps : List PlacedByte). HasLastPayload last (came ++ ps)) same has
+      | inr many ↦
+          let later = placed (offset + skipped) (drop skipped bytes) in
+          let front = placed offset (take skipped bytes) in
+          let size : length later ≡ length bytes - skipped = length-placed (offset + skipped) (drop skipped bytes) ∙ length-drop skipped bytes in
+          let taken : length (take skipped bytes) ≡ skipped = length-take-le skipped bytes (omega (arith, is)) in
+          let parts : placed offset bytes ≡ front ++ later =
+          ap (λ (bs : List ℕ). placed offset bs) (sym (take-append-drop skipped bytes)) ∙ placed-append offset (take skipped bytes) (drop skipped bytes) ∙ ap (λ (m : ℕ). front ++ placed (offset + m) (drop skipped bytes)) taken in
+          let long : 4 ≤ length later = omega (arith, size, is, many) in
+          has ∙ last_of_long 4 came later long ∙ sym (last_of_long 4 (came ++ front) later long) ∙ ap (λ (ps : List PlacedByte). last_of 4 ps) (append_assoc came front later ∙ ap (λ (ps : List PlacedByte). came ++ ps) (sym parts))
+    ]
+
+-- One more byte.
+pub pushed : (held : List StreamByte) (came : List PlacedByte) (byte : StreamByte) (now : List StreamByte) → placed_bytes held ≡ last_of 4 came → now ≡ drop (length held - 3) held ++ byte ∷ []
+    → placed_bytes now ≡ last_of 4 (came ++ placed byte.place (byte.byte ∷ []))
+pushed held came byte now is now_is =
+    let size : length (placed_bytes held) ≡ length held = length-map held (λ (b : StreamByte). record { place = b.place; byte = b.byte }) in
+    ap placed_bytes now_is ∙ map-append (λ (b : StreamByte). record { place = b.place; byte = b.byte }) (drop (length held - 3) held) (byte ∷ [])
+    ∙ ap (λ (ps : List PlacedByte). ps ++ placed byte.place (byte.byte ∷ [])) (sym (drop-map (λ (b : StreamByte). record { place = b.place; byte = b.byte }) (length held - 3) held) ∙ ap (λ (m : ℕ). drop (m - 3) (placed_bytes held)) (sym size))
+    ∙ sym (last_of_push 3 came (placed_bytes held) (record { place = byte.place; byte = byte.byte }) is)

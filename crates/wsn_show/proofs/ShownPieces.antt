@@ -136,6 +136,7 @@ module _ (detail : Detail) (role : Role) (limits : Limits) (scan : Scan) (parts 
             first = subst (HasFirst first) (ap (λ (bs : List ℕ). held ++ bs) none ∙ append-nil held) (adds held (omega (arith, few_held detail role limits scan parts came shown frames, ap (λ (bs : List ℕ). length bs) none)) own.first);
             last = own.last;
           };
+          last = frames.keeps.last;
         };
         is = frames.is;
       } in

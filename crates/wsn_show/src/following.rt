@@ -194,6 +194,9 @@ impl StreamParts {
         }
         self.last.add(bytes, self.frame.end_so_far());
         let count = self.message.payload.count();
-        Some(self.last.bad_character(count.saturating_add(bytes.len() as u64)))
+        Some(
+            self.last
+                .bad_character(count.saturating_add(bytes.len() as u64)),
+        )
     }
 }

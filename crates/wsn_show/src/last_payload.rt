@@ -1,4 +1,4 @@
-ghost use Rattle.std.specs.Prelude.{◌≡◌, ℕ, ◌+◌, ◌<◌, ◌^◌, List, [], ◌∷◌, ◌++◌, length, drop};
+ghost use Rattle.std.specs.Prelude.{◌≡◌, ℕ, ◌+◌, ◌-◌, ◌<◌, ◌^◌, List, [], ◌∷◌, ◌++◌, length, drop};
 ghost use Rattle.wsn_text.specs.Utf8.{IsFirstBad};
 ghost use Rattle.wsn_rules.specs.BadCharacter.{first_offset, bytes_of, bad_character};
 ghost use Rattle.wsn_rules.specs.PlacedByte.{PlacedByte, placed};
@@ -63,10 +63,17 @@ impl LastPayload {
         ensures { (came : List PlacedByte) → HasLastPayload self.old came →
             HasLastPayload self.new (came ++ placed byte.place (byte.byte ∷ [])) }
     {
+        self.make_room();
+        self.held.push(byte);
+    }
+
+    /// Drops the first byte that is held if there is no room for another.
+    fn make_room(&mut self)
+        ensures { self.new.held.items ≡ drop (length self.old.held.items - 3) self.old.held.items }
+    {
         if self.held.is_full() {
             self.held.remove(0);
         }
-        self.held.push(byte);
     }
 
     /// The bad character of a message whose payload, of so many bytes, ends with its first bad byte.

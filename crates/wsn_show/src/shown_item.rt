@@ -11,10 +11,10 @@ use crate::entry_context::EntryContext;
 use std::io::Write;
 use wsn_io::{Output, Stop};
 use wsn_print::{
-    EntryFront, Format, Front, HeldBytes, Remainder, ShownCharacter, ShownEvent, ViewLimit, put_bad_character, put_event,
-    put_event_object, put_frame, put_refused, put_refused_object, put_remainder,
-    put_remainder_object, put_shown_frame_object, put_unfinished, put_unfinished_head,
-    put_unfinished_head_object, put_unfinished_object,
+    EntryFront, Format, Front, HeldBytes, Remainder, ShownCharacter, ShownEvent, ViewLimit,
+    put_bad_character, put_event, put_event_object, put_frame, put_refused, put_refused_object,
+    put_remainder, put_remainder_object, put_shown_frame_object, put_unfinished,
+    put_unfinished_head, put_unfinished_head_object, put_unfinished_object,
 };
 use wsn_rules::{Detail, HeadInfo, Refusal};
 

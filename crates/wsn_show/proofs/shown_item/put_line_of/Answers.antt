@@ -1,10 +1,11 @@
-use Rattle.std.proofs.Common.{sym, subst}
+use Rattle.std.proofs.Common.{ℕ, List, sym, subst}
 use Rattle.wsn_io.specs.Stops.{IsWrittenOrStops}
 use Rattle.wsn_rules.specs.ShownStream.{Item}
 use Rattle.wsn_show.specs.declared.shown_item.ShownItem.{ShownItem}
 use Rattle.wsn_show.specs.ShownItems.{IsItem}
 use Rattle.wsn_print.specs.CharacterText.{item_lines}
 use Rattle.wsn_print.specs.ShownParts.{time_of}
+use Rattle.wsn_show.proofs.HeldItems.{lines_of_remainder}
 use Rattle.wsn_show.proofs.shown_item.put_line_of.Goals as goal
 
 pub returns-in-Event : goal.returns-in-Event
@@ -40,5 +41,7 @@ returns-in-Refused g c shown is =
 pub returns-in-Remainder : goal.returns-in-Remainder
 returns-in-Remainder g c shown is =
     let item = subst (λ (i : ShownItem). IsItem c.args.view c.args.front.now.offset i shown) c.in-Remainder.is is in
+    let which = c.in-Remainder.which in
+    let line = lines_of_remainder c.args.view c.args.front.now.role (time_of c.args.front.now) which c.args.front.now.offset item.0 in
     subst (λ (i : Item). IsWrittenOrStops c.args.output.now c.put_remainder.new.to (item_lines c.args.view c.args.front.now.role (time_of c.args.front.now) i) c.put_remainder.result) (sym item.2)
-    (c.put_remainder.ensures item.0 item.1)
+    (subst (λ (t : List ℕ). IsWrittenOrStops c.args.output.now c.put_remainder.new.to t c.put_remainder.result) (sym line) (c.put_remainder.ensures item.0 item.1))

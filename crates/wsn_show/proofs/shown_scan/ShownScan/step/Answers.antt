@@ -6,7 +6,7 @@ use Rattle.wsn_scan.specs.Scans.{refusal_in}
 use Rattle.wsn_scan.specs.FollowedScans.{IsCall}
 use Rattle.wsn_show.specs.StreamParts.{Keeps, held_at}
 use Rattle.wsn_scan.proofs.FollowedScans.{lawful_done}
-use Rattle.wsn_show.proofs.ShownSteps.{more_step, closed_step, part_step, refused_step, small_evidence, consumes_some}
+use Rattle.wsn_show.proofs.ShownSteps.{more_step, closed_step, part_step, refused_step, goes_wrong, small_evidence, consumes_some}
 use Rattle.wsn_show.proofs.shown_scan.ShownScan.step.Goals as goal
 
 pub returns-in-More-clause-shows : goal.returns-in-More-clause-shows
@@ -86,5 +86,6 @@ returns-in-Some-clause-shows g c role limits came shown frames =
     let is : refusal_in new ≡ Some refusal = sym c.refusal.ensures ∙ c.in-Some.is in
     let small = small_evidence role limits old new piece after n part came shown c.args.self.now.parts c.refuse.new.self context c.args.output.now c.refuse.new.output frames refusal is call in
     let few : length (held_at frames.at frames.rest) + length (take n after) < 2 ^ 64 = omega (arith, small, length-take n after) in
+    let wrong = goes_wrong role limits old new piece after n part came shown c.args.self.now.parts c.refuse.new.self context c.args.output.now c.refuse.new.output frames refusal is call in
     refused_step role limits old new piece after n part came shown c.args.self.now.parts c.refuse.new.self context c.args.output.now c.refuse.new.output frames refusal is call c.refuse.ensures.first
-    (c.refuse.ensures.printed role limits frames.done frames.at frames.rest (lawful_done role limits old came frames.done frames.at frames.rest frames.followed) few frames.keeps)
+    (c.refuse.ensures.printed role limits frames.done frames.at frames.rest (lawful_done role limits old came frames.done frames.at frames.rest frames.followed) few wrong frames.keeps)
