@@ -3,11 +3,19 @@ use Rattle.std.proofs.Common.{◌≡◌, ◌≢◌, ◌≤◌, ℕ, Option, List
 use Rattle.std.proofs.Math.Seq.{take-append_seam}
 use Rattle.std.proofs.lemmas.List.{take-append-le}
 use Rattle.std.proofs.lemmas.List.Concat.{flat_map-append}
+use Rattle.hex.proofs.HexLemmas.{decode_of-ok}
 use Rattle.wsn_wire.specs.declared.endpoint.Role.{Role}
-use Rattle.wsn_rules.specs.Entries.{Entry, AreEntries}
+use Rattle.wsn_rules.specs.Entries.{Entry, IsHex, AreEntries}
 use Rattle.wsn_rules.specs.Sides.{bytes_in, sent}
 use Rattle.wsn_rules.specs.ShownCapture.{IsTimeAfter, IsTimeOfLast}
 use Rattle.wsn_rules.proofs.Prefixes.{nil-cons}
+
+-- Digits encode at least one byte.
+pub some_bytes : (digits bytes : List ℕ) → IsHex digits bytes → bytes ≢ []
+some_bytes [] bytes hex none = hex.0 refl
+some_bytes (digit ∷ digits) bytes hex none =
+    let decoded = decode_of-ok (digit ∷ digits) bytes hex.1 in
+    omega (arith, decoded.2, ap length none)
 
 pub one_each : (lines : List (List ℕ)) (entries : List Entry) → AreEntries lines entries → length lines ≡ length entries
 one_each [] [] are = refl

@@ -1,20 +1,11 @@
 -- The times of the last bytes, after one more line.
-use Rattle.std.proofs.Common.{◌≡◌, ◌≢◌, ℕ, Option, Ok, List, [], ◌∷◌, ◌++◌, length, refl, sym, ap, ◌∙◌, subst, arith}
-use Rattle.hex.proofs.HexLemmas.{decode_of-ok}
+use Rattle.std.proofs.Common.{◌≡◌, ℕ, Option, List, [], ◌∷◌, ◌++◌, sym, ◌∙◌}
 use Rattle.wsn_wire.specs.declared.endpoint.Role.{Role}
-use Rattle.wsn_wire.specs.declared.endpoint.Role.TheVariants.{Client, Server}
-use Rattle.wsn_rules.specs.Entries.{Entry, IsHex, IsEntry, AreEntries}
-use Rattle.wsn_rules.specs.Entries.Entry.{Nothing, Bytes, Mark}
+use Rattle.wsn_rules.specs.Entries.{Entry, IsEntry, AreEntries}
+use Rattle.wsn_rules.specs.Entries.Entry.{Bytes}
 use Rattle.wsn_rules.specs.Sides.{bytes_in}
 use Rattle.wsn_rules.specs.ShownCapture.{IsTimeAfter, IsTimeOfLast}
-use Rattle.wsn_rules.proofs.LastTimes.{one_each, same_last_time, new_last_time}
-
--- Digits encode at least one byte.
-some_bytes : (digits bytes : List ℕ) → IsHex digits bytes → bytes ≢ []
-some_bytes [] bytes hex none = hex.0 refl
-some_bytes (digit ∷ digits) bytes hex none =
-    let decoded = decode_of-ok (digit ∷ digits) bytes hex.1 in
-    omega (arith, decoded.2, ap length none)
+use Rattle.wsn_rules.proofs.LastTimes.{some_bytes, one_each, same_last_time, new_last_time}
 
 module _ (lines : List (List ℕ)) (entries : List Entry) (line : List ℕ) (are : AreEntries lines entries) where
   -- A line with bytes of this endpoint.
