@@ -35,8 +35,10 @@ impl LastTimes {
             HasNotedTimes self.new (lines ++ line ∷ []) (entries ++ held_entry entry held ∷ []) }
     {
         match entry {
-            LineEntry::Bytes(Role::Client, _) => self.client.copy_from(time),
-            LineEntry::Bytes(Role::Server, _) => self.server.copy_from(time),
+            LineEntry::Bytes(role, _) => match role {
+                Role::Client => self.client.copy_from(time),
+                Role::Server => self.server.copy_from(time),
+            },
             LineEntry::Nothing | LineEntry::Mark(_) => {}
         }
     }
