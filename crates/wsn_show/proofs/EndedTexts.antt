@@ -1,5 +1,5 @@
 -- The end of a text that is shown.
-use Rattle.std.proofs.Common.{◌≡◌, ℕ, true, false, Ok, Err, List, [], ◌∷◌, ◌++◌, flat_map, inl, inr, refl, sym, ap, ◌∙◌, subst, append-nil, append_assoc}
+use Rattle.std.proofs.Common.{◌≡◌, ℕ, true, false, Ok, Err, List, [], ◌∷◌, ◌++◌, flat_map, inl, inr, sym, ap, ◌∙◌, subst, append-nil, append_assoc}
 use Rattle.wsn_io.specs.Transfer.{Outgoing, IsWritten, IsPartlyWritten}
 use Rattle.wsn_io.proofs.PutTexts.{put_both, put_front, put_no_more}
 use Rattle.wsn_rules.specs.Limits.{Limits}

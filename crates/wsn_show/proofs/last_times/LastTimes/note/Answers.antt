@@ -1,7 +1,6 @@
-use Rattle.std.proofs.Common.{◌≡◌, ℕ, Option, List, [], ◌∷◌, ◌++◌, take, inl, inr, sym, ap, ◌∙◌, subst}
+use Rattle.std.proofs.Common.{◌≡◌, ℕ, Option, List, take, inl, inr, sym, ap, ◌∙◌, subst}
 use Rattle.wsn_wire.specs.declared.endpoint.Role.{Role}
 use Rattle.wsn_wire.specs.declared.endpoint.Role.TheVariants.{Client, Server}
-use Rattle.wsn_rules.specs.Entries.{Entry}
 use Rattle.wsn_rules.specs.Sides.{bytes_in}
 use Rattle.wsn_rules.specs.ShownCapture.{IsTimeAfter}
 use Rattle.wsn_capture.specs.declared.line_form.LineEntry.{LineEntry}
