@@ -36,7 +36,7 @@ function viewOf(session, row) {
 function refusedView(session, row) {
   const words = session.sentence(row.reason) || row.reason, place = field("place", "", String(row.place));
   const [before, after] = words.split("OFFSET"), bad = badCharacter(session, row);
-  const text = bad ? [make("span", "text", ...characterText(session, bad, ROW_BYTES, 1).parts), " "] : [];
+  const text = bad ? [make("span", "text", ...characterText(session, bad, ROW_BYTES, 0).parts), " "] : [];
   return [...text, ...(after === undefined ? ["byte ", place, ": ", words] : [before, "offset ", place, after])];
 }
 

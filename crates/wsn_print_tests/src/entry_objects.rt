@@ -1,10 +1,12 @@
 //! The objects of what is shown.
 
 use crate::reading::{expect_none, expect_object};
+use std::alloc::Global;
+use std::process::Abort;
 use wsn_io::Output;
 use wsn_print::{
-    EntryFront, HeldBytes, Origin, Remainder, ShownEvent, ViewLimit, put_comment_object,
-    put_end_object, put_event_object, put_refused_object, put_remainder_object,
+    EntryFront, HeldBytes, Origin, Remainder, ShownCharacter, ShownEvent, ViewLimit,
+    put_comment_object, put_end_object, put_event_object, put_refused_object, put_remainder_object,
     put_shown_frame_object, put_unfinished_head_object, put_unfinished_object,
 };
 use wsn_rules::{HeadInfo, Refusal};
@@ -146,28 +148,97 @@ fn a_refusal(rt: HostRuntime) {
     let view = ViewLimit::new(4).expect(&rt, "a view");
     let mut line = Vec::new(rt.alloc());
     let refusal = Refusal {
-        place: 11,
-        reason: Reason::TextBad,
+        place: 4,
+        reason: Reason::MaskPresent,
     };
-    let evidence = whole(b"Gr\xfc");
+    let evidence = whole(b"\x81\x80\xff");
     let put = put_refused_object(
         &mut Output::new(&mut line),
         view,
         &IN_LINE,
         &refusal,
         &evidence,
+        &None,
     );
     assert_eq!(rt; put, Ok(()));
     let members = [
         ("/type", "\"refused\""),
         ("/offset", "3"),
-        ("/place", "11"),
-        ("/reason", "\"text-bad\""),
-        ("/code", "1007"),
-        ("/hex", "\"72fc\""),
+        ("/place", "4"),
+        ("/reason", "\"mask-present\""),
+        ("/code", "1002"),
+        ("/hex", "\"80ff\""),
         ("/truncated", "true"),
     ];
     expect_object(&rt, rt.alloc(), line.as_slice(), 10, &members);
+    expect_none(&rt, rt.alloc(), line.as_slice(), "/character");
+}
+
+/// Fails unless the refusal of a text, the payload of a frame up to the offending byte, has these members at a view of
+/// so many bytes. Its bad character, two bytes, is at offset 18.
+fn expect_bad_character(
+    rt: &impl Abort,
+    alloc: Global,
+    bytes: u16,
+    count: usize,
+    members: &[(&str, &str)],
+) {
+    let view = ViewLimit::new(bytes).expect(rt, "a view");
+    let mut line = Vec::new(alloc);
+    let refusal = Refusal {
+        place: 19,
+        reason: Reason::TextBad,
+    };
+    let character = ShownCharacter {
+        offset: 18,
+        in_payload: 12,
+        bytes: b"\xe9 ",
+    };
+    let put = put_refused_object(
+        &mut Output::new(&mut line),
+        view,
+        &IN_STREAM,
+        &refusal,
+        &whole(b"{\"name\":\"Ren\xe9 "),
+        &Some(character),
+    );
+    assert_eq!(rt; put, Ok(()));
+    expect_object(rt, alloc, line.as_slice(), count, members);
+}
+
+#[test]
+fn a_refusal_for_a_bad_character(rt: HostRuntime) {
+    let members = [
+        ("/place", "19"),
+        ("/reason", "\"text-bad\""),
+        ("/hex", "\"7b226e616d65223a2252656ee920\""),
+        ("/character/offset", "18"),
+        ("/character/in_payload", "12"),
+        ("/character/hex", "\"e920\""),
+        ("/character/before", "\"{\\\"name\\\":\\\"Ren\""),
+    ];
+    expect_bad_character(&rt, rt.alloc(), 48, 8, &members);
+}
+
+#[test]
+fn a_refusal_of_whose_text_a_part_is_shown(rt: HostRuntime) {
+    let members = [
+        ("/hex", "\"52656ee920\""),
+        ("/truncated", "true"),
+        ("/character/hex", "\"e920\""),
+        ("/character/before", "\"Ren\""),
+        ("/character/truncated", "true"),
+    ];
+    expect_bad_character(&rt, rt.alloc(), 10, 9, &members);
+    let members = [
+        ("/hex", "\"\""),
+        ("/character/offset", "18"),
+        ("/character/in_payload", "12"),
+        ("/character/hex", "\"\""),
+        ("/character/before", "\"\""),
+        ("/character/truncated", "true"),
+    ];
+    expect_bad_character(&rt, rt.alloc(), 0, 9, &members);
 }
 
 #[test]
