@@ -117,7 +117,8 @@ function marksLegend(view) {
   if (view.frame?.keyBytes) legend.append(" ", make("span", "key", "key"));
   if (view.frame) legend.append(" ", make("span", "payload", "payload"));
   const isWrong = view.wrong?.some(offset => offset >= view.from && offset < view.to);
-  if (isWrong) legend.append(" ", make("span", "wrong", view.isCut ? "cut character" : "bad character"));
+  const last = !view.isCut && view.wrong?.length > 1 && view.bad !== undefined ? ", the offending byte last" : "";
+  if (isWrong) legend.append(" ", make("span", "wrong", `${view.isCut ? "cut" : "bad"} character${last}`));
   if (view.bad === undefined) return legend;
   if (!view.wrong?.includes(view.bad)) legend.append(" ", make("span", "bad", "offending byte"));
   legend.append(" ", make("span", "rest", "after it: not read"));

@@ -32,7 +32,7 @@ function viewOf(session, row) {
   }
 }
 
-/** A refused text around its bad character, and the program's first sentence on the reason, which may have an offset. */
+/** A refused text up to its bad character, and the program's first sentence on the reason, which may have an offset. */
 function refusedView(session, row) {
   const words = session.sentence(row.reason) || row.reason, place = field("place", "", String(row.place));
   const [before, after] = words.split("OFFSET"), bad = badCharacter(session, row);

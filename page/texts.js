@@ -1,5 +1,5 @@
-// A text that is refused: which bytes its bad character has and where, and what the text looks like. The program says it
-// of a text message. Of a Close's reason, and of a text that ends inside a character, the bytes up to the refused one do.
+// A text that is refused: which bytes its bad character has and where, and what the text looks like. The program says
+// it of a text message; of a Close's reason, and of a text that ends inside a character, the bytes that are read do.
 
 const TEXT_REASONS = new Set(["text-bad", "text-cut", "close-reason"]);
 const SEEN_BYTES = 32; // The bytes before a red one that are shown at first, and of the text behind it.
@@ -54,7 +54,7 @@ function fromCharacter(bytes) {
   return first > 0 && first < 4 ? bytes.slice(first) : bytes;
 }
 
-/** Where a bad character begins in the payload of frames, and its bytes, as the program says of a text. */
+/** Where a bad character begins in the payload of its message, and its size, as the program says of a text. */
 function toldCharacter({ in_payload: at, hex }) {
   return { at, size: hex.length / 2, isCut: false };
 }
@@ -72,8 +72,8 @@ function readCharacter(session, row, frames, start) {
 
 /**
  * What is known of a refused text, or of a Close's reason: `frames`, those of its message up to the refused one;
- * `start`, where the text begins in the message's payload; `at`, where the bad character begins there; `bytes`, those of
- * the character, the offending one last; `offsets`, where they are in what the side sent; `isCut`, whether bytes are
+ * `start`, where the text begins in the message's payload; `at`, where the bad character begins there; `bytes`, those
+ * of the character, the offending one last; `offsets`, where they are in what the side sent; `isCut`, whether bytes are
  * missing and none is wrong. Nothing if the refusal is for something else.
  */
 function badCharacter(session, row) {
