@@ -15,7 +15,7 @@ COUNTS = ("frames", "messages", "pings", "pongs")
 MEMBERS = {
     "event": (*ENTRY, "event", "bytes", "frames", *VIEWED),
     "unfinished": (*ENTRY, "event", "bytes", "frames", "lacks", *VIEWED),
-    "refused": (*ENTRY, "place", "reason", "code", "hex", "truncated"),
+    "refused": (*ENTRY, "place", "reason", "code", "hex", "truncated", "character"),
     "unread": (*ENTRY, "bytes", "hex", "truncated"),
     "tail": (*ENTRY, "bytes", "hex", "truncated"),
     "end": ENTRY,
@@ -28,7 +28,9 @@ MEMBERS = {
     "refused verdict": ("type", "verdict", "offset", "reason", "code"),
     "comparison": ("type", "answer", "event", "first", "second", "verdict"),
 }
-MAY_LACK = {"line", "side", "time", *VIEWED, "event", "verdict"}
+MAY_LACK = {"line", "side", "time", *VIEWED, "event", "verdict", "character"}
+# The members of a bad character, which a refusal has if its reason is text-bad.
+CHARACTER = ("offset", "in_payload", "hex", "before")
 # The events of two streams that differ: in a comparison's object only with --view.
 EVENTS = ("first", "second")
 
@@ -73,6 +75,9 @@ def expect_members(read):
     missing = {*MAY_LACK, *EVENTS} if compared else MAY_LACK
     assert list(read) == [it for it in members if it in read], read
     assert all(it in missing or it in read for it in members), read
+    assert ("character" in read) == (read["type"] == "refused" and read["reason"] == "text-bad"), read
+    if "character" in read:
+        assert list(read["character"]) in ([*CHARACTER], [*CHARACTER, "truncated"]), read
     for it in EVENTS if compared else ():
         if read.get(it) is not None:
             expect_members(read[it])
@@ -152,6 +157,15 @@ def entry_text(read, view):
     return f"{counted} {viewed(read, view)}"
 
 
+def character_text(read, view):
+    """A bad character's line after its offset."""
+    digits = read["hex"]
+    escapes = "".join(f"\\x{digits[at:at + 2]}" for at in range(0, len(digits), 2))
+    more = ".." if "truncated" in read else ""
+    before = show_model.quoted(read["before"].encode())[:-1]
+    return f"bad-character {read['in_payload']} " + ("- -" if view == 0 else f'{digits} {more}{before}{escapes}"')
+
+
 def lines_of(read, view=48):
     """The lines that an object stands for."""
     kind = read["type"]
@@ -170,7 +184,10 @@ def lines_of(read, view=48):
     front = f"{read['side'][0].upper()} {dashed(read.get('time'))} "
     if kind == "frame":
         return [front + frame_line(read)]
-    return [f"{front}{read['offset']} {entry_text(read, view)}"]
+    lines = [f"{front}{read['offset']} {entry_text(read, view)}"]
+    if "character" in read:
+        lines.append(f"{front}{read['character']['offset']} {character_text(read['character'], view)}")
+    return lines
 
 
 def counts_of(lines):

@@ -201,6 +201,11 @@ completes, as the lines come; then closing's report:
   SIDE TIME OFFSET refused PLACE REASON CODE SEEN
             a refused frame, with the offending byte, which is at offset PLACE
             and the last of SEEN
+  SIDE TIME OFFSET bad-character IN_PAYLOAD BYTES TEXT
+            the bad character of a text that is refused: it begins at OFFSET,
+            byte IN_PAYLOAD of the message's payload, from 0; its bytes, the
+            offending one last; the text with them at its end, as \\x and two
+            digits, after .. if some of the frame's payload is left out
   SIDE TIME OFFSET unfinished KIND BYTES FRAMES lacks N VIEW
             what has begun where the stream ends or where a Close or a refusal
             interrupts it: its bytes so far; its last frame lacks N bytes, or -
@@ -231,6 +236,8 @@ entry is of one; \"truncated\":true if bytes are left out:
   {\"type\":\"event\",\"line\":1,\"side\":\"client\",\"time\":0.001356,\"offset\":0,
   \"event\":\"text\",\"bytes\":5,\"frames\":1,\"text\":\"Hello\"}
 \"hex\" is in place of \"text\" for other bytes; a Close has \"code\" and \"reason\".
+A refused text has \"character\", its bad character, an object with offset,
+in_payload, hex and before, the text before it.
 The other types are refused, unfinished, unread, tail, end, comment, ended-by
 (with side and reset) and report, with --wire also frame.
 
