@@ -63,6 +63,12 @@ third_stops before m1 m2 after a b c rest text e result whole one two put is =
     subst (λ (t : List ℕ). IsWrittenOrStops before after t result) whole
     (put_more before m1 after a (b ++ (c ++ rest)) result one (put_more m1 m2 after b (c ++ rest) result two (stopped m2 after c rest e result put is)))
 
+pub fourth_stops : (before m1 m2 m3 after : Outgoing) (a b c d rest text : List ℕ) (e : Stop) (result : Result (Unit {0}) Stop) → a ++ (b ++ (c ++ (d ++ rest))) ≡ text
+    → IsWritten before m1 a → IsWritten m1 m2 b → IsWritten m2 m3 c → (e ≡ stop.Write) × IsPartlyWritten m3 after d → IsErrAnd result (λ other. other ≡ e) → IsWrittenOrStops before after text result
+fourth_stops before m1 m2 m3 after a b c d rest text e result whole one two three put is =
+    subst (λ (t : List ℕ). IsWrittenOrStops before after t result) whole
+    (put_more before m1 after a (b ++ (c ++ (d ++ rest))) result one (put_more m1 m2 after b (c ++ (d ++ rest)) result two (put_more m2 m3 after c (d ++ rest) result three (stopped m3 after d rest e result put is))))
+
 pub two_pieces : (before mid after : Outgoing) (a b text : List ℕ) (result : Result (Unit {0}) Stop) → a ++ b ≡ text
     → IsWritten before mid a → IsWrittenOrStops mid after b result → IsWrittenOrStops before after text result
 two_pieces before mid after a b text result whole one two =
@@ -79,6 +85,12 @@ pub four_pieces : (before m1 m2 m3 after : Outgoing) (a b c d text : List ℕ) (
 four_pieces before m1 m2 m3 after a b c d text result whole one two three four =
     subst (λ (t : List ℕ). IsWrittenOrStops before after t result) whole
     (put_more before m1 after a (b ++ (c ++ d)) result one (put_more m1 m2 after b (c ++ d) result two (put_more m2 m3 after c d result three four)))
+
+pub five_pieces : (before m1 m2 m3 m4 after : Outgoing) (a b c d z text : List ℕ) (result : Result (Unit {0}) Stop) → a ++ (b ++ (c ++ (d ++ z))) ≡ text
+    → IsWritten before m1 a → IsWritten m1 m2 b → IsWritten m2 m3 c → IsWritten m3 m4 d → IsWrittenOrStops m4 after z result → IsWrittenOrStops before after text result
+five_pieces before m1 m2 m3 m4 after a b c d z text result whole one two three four five =
+    subst (λ (t : List ℕ). IsWrittenOrStops before after t result) whole
+    (put_more before m1 after a (b ++ (c ++ (d ++ z))) result one (put_more m1 m2 after b (c ++ (d ++ z)) result two (put_more m2 m3 after c (d ++ z) result three (put_more m3 m4 after d z result four five))))
 
 -- A call that doesn't stop leaves an output that hasn't failed.
 pub unfailed : (before after : Outgoing) (text : List ℕ) (result : Result (Unit {0}) Stop) → IsWrittenOrStops before after text result → IfOk result (λ done. after.failed ≡ false)

@@ -160,7 +160,7 @@ fn put_reason_field<W: Write>(to: &mut Output<W>, reason: &[u8]) -> Result<(), S
 }
 
 /// Writes bytes in hexadecimal.
-fn put_hex_field<W: Write>(to: &mut Output<W>, bytes: &[u8]) -> Result<(), Stop>
+pub(crate) fn put_hex_field<W: Write>(to: &mut Output<W>, bytes: &[u8]) -> Result<(), Stop>
     requires { to.old.failed ≡ false }
     ensures { IsWrittenOrStops to.old to.new (hex_field bytes.now) result }
 {
@@ -170,7 +170,11 @@ fn put_hex_field<W: Write>(to: &mut Output<W>, bytes: &[u8]) -> Result<(), Stop>
 }
 
 /// Writes whether fewer bytes are shown than there are.
-fn put_truncated<W: Write>(to: &mut Output<W>, shown: usize, all: u64) -> Result<(), Stop>
+pub(crate) fn put_truncated<W: Write>(
+    to: &mut Output<W>,
+    shown: usize,
+    all: u64,
+) -> Result<(), Stop>
     requires { to.old.failed ≡ false }
     ensures { IsWrittenOrStops to.old to.new (truncated_field shown all) result }
 {
