@@ -46,6 +46,7 @@ mod object_views;
 mod objects;
 mod parts;
 mod payloads;
+pub mod printed_differences;
 pub mod printed_entries;
 pub mod printed_lines;
 pub mod printed_objects;
