@@ -1,5 +1,5 @@
 -- The bytes at the beginning that two payloads share, counted one after another.
-use Rattle.std.proofs.Common.{◌≡◌, ◌≢◌, ℕ, suc, ◌+◌, ◌<◌, ◌≤◌, min, Bool, true, false, ◌==◌, if◌then◌else◌, ◌||◌, nat_lt, Option, None, Some, List, [], ◌∷◌, length, drop, get_or, refl, sym, ap, ◌∙◌, drop-cons, arith, inl, inr}
+use Rattle.std.proofs.Common.{◌≡◌, ◌≢◌, ℕ, suc, ◌+◌, ◌<◌, ◌≤◌, min, Bool, true, false, ◌==◌, if◌then◌else◌, ◌||◌, nat_lt, Option, None, Some, List, [], ◌∷◌, length, drop, get_or, refl, sym, ap, ◌∙◌, subst, drop-cons, arith, inl, inr}
 use Rattle.std.proofs.lemmas.Bool.Decides.{nat_tests}
 use Rattle.std.proofs.lemmas.Bool.{cases_lt}
 use Rattle.std.proofs.lemmas.List.{drop_all}
@@ -27,10 +27,12 @@ heads xs ys k one two =
 
 -- One byte more that is the same in both.
 pub one_more : (xs ys : List ℕ) (k : ℕ) → k < length xs → k < length ys → get_or xs k 0 ≡ get_or ys k 0 → common_length xs ys ≡ k + common_length (drop k xs) (drop k ys)
-    → common_length xs ys ≡ suc k + common_length (drop (suc k) xs) (drop (suc k) ys)
+    → common_length xs ys ≡ (k + 1) + common_length (drop (k + 1) xs) (drop (k + 1) ys)
 one_more xs ys k one two is so_far =
+    let next : suc k ≡ k + 1 = omega arith in
     let step = heads xs ys k one two ∙ same_head (get_or xs k 0) (get_or ys k 0) (drop (suc k) xs) (drop (suc k) ys) is in
-    omega (arith, so_far, step)
+    let all : common_length xs ys ≡ suc k + common_length (drop (suc k) xs) (drop (suc k) ys) = omega (arith, so_far, step) in
+    subst (λ (m : ℕ). common_length xs ys ≡ m + common_length (drop m xs) (drop m ys)) next all
 
 -- One that isn't.
 pub differs_at : (xs ys : List ℕ) (k : ℕ) → k < length xs → k < length ys → get_or xs k 0 ≢ get_or ys k 0 → common_length xs ys ≡ k + common_length (drop k xs) (drop k ys) → k ≡ common_length xs ys

@@ -39,6 +39,7 @@ fn are_equal_blocks(bytes: &[u8], others: &[u8], at: usize) -> bool
 }
 
 /// The number of bytes at the beginning that are the same in both.
+#[tactic(none)]
 pub(crate) fn common_length(bytes: &[u8], others: &[u8]) -> usize
     ensures is { result ≡ common_length bytes.now others.now }
     ensures within { (result ≤ length bytes.now) × (result ≤ length others.now) }

@@ -34,6 +34,7 @@ impl Payload<'_> {
     }
 
     /// Whether it is a text message's.
+    #[tactic(none)]
     pub(crate) fn is_text(&self) -> bool
         ensures { result ≡ is_text (meant_payload self.now) }
     {

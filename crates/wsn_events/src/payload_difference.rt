@@ -60,6 +60,7 @@ impl PayloadDifference {
         }
     }
 
+    #[tactic(none)]
     fn of_both(one: &Payload<'_>, other: &Payload<'_>) -> Option<PayloadDifference>
         requires one { IsLawfulEvent (meant_payload one.now) }
         requires other { IsLawfulEvent (meant_payload other.now) }
@@ -76,6 +77,7 @@ impl PayloadDifference {
     }
 
     /// The payloads as they are printed, for each view.
+    #[tactic(none)]
     pub(crate) fn shown(&self) -> DifferingPayloads<'_>
         ensures { (n : ℕ) (place : Option ℕ) (one other : Option MeantEvent) → n ≤ 4096 →
             ArePartsKept (Option.Some self.now) place one other → StandsForPlace n (Option.Some result) place one other }
@@ -90,6 +92,7 @@ impl PayloadDifference {
 
 impl PayloadExcerpt {
     /// What is kept of a payload around this place.
+    #[tactic(none)]
     fn new(payload: &Payload<'_>, place: usize) -> PayloadExcerpt
         requires within { place ≤ length (payload_in (meant_payload payload.now)) }
         requires lawful { IsLawfulEvent (meant_payload payload.now) }
@@ -126,6 +129,7 @@ impl PayloadExcerpt {
 }
 
 /// The place of the first byte in which two payloads differ; `None` if they are the same.
+#[tactic(none)]
 fn place_between(bytes: &[u8], others: &[u8]) -> Option<usize>
     ensures is { result ≡ place_between bytes.now others.now }
     ensures within { IfSome result (λ place. (place ≤ length bytes.now) × (place ≤ length others.now)) }
@@ -141,6 +145,7 @@ fn place_between(bytes: &[u8], others: &[u8]) -> Option<usize>
 }
 
 /// Where a view of a payload around this place begins.
+#[tactic(none)]
 fn view_start(payload: &Payload<'_>, place: usize) -> usize
     requires within { place ≤ length (payload_in (meant_payload payload.now)) }
     requires lawful { IsLawfulEvent (meant_payload payload.now) }

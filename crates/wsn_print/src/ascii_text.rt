@@ -47,6 +47,7 @@ fn put_ascii_characters<W: Write>(to: &mut Output<W>, text: &str) -> Result<(), 
 }
 
 /// A character: as it is if it is printable, with a backslash before `"` and `\`, and otherwise by its number.
+#[tactic(none)]
 fn ascii_character(c: char) -> Line<CHARACTER_MAX>
     ensures { result ≡ ascii_character c }
 {
@@ -77,6 +78,7 @@ fn line_of_ascii(c: char) -> Line<CHARACTER_MAX>
 }
 
 /// A character by its number: below U+10000 in four digits, otherwise as two surrogates (RFC 8259 section 7).
+#[tactic(none)]
 fn ascii_escape(c: u32) -> Line<CHARACTER_MAX>
     requires { c < 0x110000 }
     ensures { result ≡ ascii_escape c }
@@ -93,6 +95,7 @@ fn ascii_escape(c: u32) -> Line<CHARACTER_MAX>
 }
 
 /// `\u` and four digits.
+#[tactic(none)]
 fn unit_escape(unit: u16) -> Line<UNIT_MAX>
     ensures { result ≡ unicode_escape unit }
 {

@@ -33,6 +33,7 @@ pub(crate) fn put_differ_line<W: Write>(
     }
 }
 
+#[tactic(none)]
 fn put_place_line<W: Write>(
     to: &mut Output<W>,
     view: ViewLimit,
@@ -75,6 +76,7 @@ fn put_next_view<W: Write>(
 }
 
 /// Writes what is shown of a payload around a place; a dash if the view is 0.
+#[tactic(none)]
 fn put_view_at<W: Write>(
     to: &mut Output<W>,
     view: ViewLimit,
@@ -93,6 +95,7 @@ fn put_view_at<W: Write>(
 }
 
 /// Writes `..` if a view doesn't begin with the payload.
+#[tactic(none)]
 fn put_left_out_before<W: Write>(to: &mut Output<W>, start: u64) -> Result<(), Stop>
     requires { to.old.failed ≡ false }
     ensures { IsWrittenOrStops to.old to.new (left_out_before start) result }
@@ -105,6 +108,7 @@ fn put_left_out_before<W: Write>(to: &mut Output<W>, start: u64) -> Result<(), S
 }
 
 /// Writes the bytes of a payload that are shown, and ` ..` if there are more.
+#[tactic(none)]
 fn put_part<W: Write>(
     to: &mut Output<W>,
     view: ViewLimit,

@@ -37,6 +37,7 @@ pub(crate) fn put_differ_field<W: Write>(
     }
 }
 
+#[tactic(none)]
 fn put_place_value<W: Write>(
     to: &mut Output<W>,
     view: ViewLimit,
@@ -85,6 +86,7 @@ fn put_next_value<W: Write>(
 }
 
 /// Writes what is shown of a payload around a place, and where that begins; null if the view is 0.
+#[tactic(none)]
 fn put_view_value<W: Write>(
     to: &mut Output<W>,
     view: ViewLimit,
@@ -104,6 +106,7 @@ fn put_view_value<W: Write>(
 }
 
 /// Writes the bytes of a payload that are shown, and whether there are more.
+#[tactic(none)]
 fn put_part_fields<W: Write>(
     to: &mut Output<W>,
     view: ViewLimit,

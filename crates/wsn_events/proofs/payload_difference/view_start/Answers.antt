@@ -1,4 +1,4 @@
-use Rattle.std.proofs.Common.{◌≡◌, ℕ, ◌-◌, ◌≤◌, true, false, List, length, take, sym, ap, ◌∙◌, subst, arith}
+use Rattle.std.proofs.Common.{rules, ◌≡◌, ℕ, ◌-◌, ◌≤◌, true, false, List, length, take, sym, ap, ◌∙◌, subst, arith}
 use Rattle.std.proofs.lemmas.List.{length-take, length-take-le}
 use Rattle.std.proofs.lemmas.Str.{utf8_valid_len_le}
 use Rattle.std.specs.Str.Lossy.{utf8_valid_len}
@@ -41,3 +41,9 @@ pub returns-else-is_text-clause-is : goal.returns-else-is_text-clause-is
 returns-else-is_text-clause-is c =
     let event = meant_payload c.args.payload.now in
     c.saturating_sub-start.ensures ∙ start_in_bytes event (sym c.is_text.ensures ∙ c.if-is_text.false) c.args.place
+
+pub slice_bounds-whole_characters-end : goal.slice_bounds-whole_characters-end
+slice_bounds-whole_characters-end c = search rules
+
+pub returns-else-is_text-clause-near : goal.returns-else-is_text-clause-near
+returns-else-is_text-clause-near c = search rules

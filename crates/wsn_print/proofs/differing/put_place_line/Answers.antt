@@ -1,4 +1,4 @@
-use Rattle.std.proofs.Common.{◌≡◌, ℕ, Some, List, ◌++◌, codes, decimal, ◌∙◌, subst}
+use Rattle.std.proofs.Common.{rules, ◌≡◌, ℕ, Some, List, ◌++◌, codes, decimal, ◌∙◌, subst}
 use Rattle.wsn_io.specs.Transfer.{IsWritten, IsPartlyWritten}
 use Rattle.wsn_io.specs.declared.stop.Stop.TheVariants as stop
 use Rattle.wsn_print.specs.DifferingPayloads.{view_at, place_line}
@@ -37,3 +37,18 @@ returns g c = λ event other is also.
     let second = view_at c.args.view place other in
     four_pieces c.args.to.now c.put_line.new.to c.put_next_view.new.to c.put_next_view-2.new.to c.put_line-2.new.to (codes "differ-at " ++ decimal place) (codes " " ++ first) (codes " " ++ second) (codes "\n") (place_line c.args.view (Some place) (Some event) (Some other)) c.put_line-2.result
     (line_parts (decimal place) first second) (subst (IsWritten c.args.to.now c.put_line.new.to) (c.bytes.ensures ∙ c.line_of_place.ensures) c.in_ok-put_line.ensures) (c.in_ok-put_next_view.ensures.text place event is) (c.in_ok-put_next_view-2.ensures.text place other also) c.put_line-2.ensures
+
+pub bytes-requires : goal.bytes-requires
+bytes-requires g c = search rules
+
+pub put_line-requires : goal.put_line-requires
+put_line-requires g c = search rules
+
+pub put_next_view-requires : goal.put_next_view-requires
+put_next_view-requires g c = search rules
+
+pub put_next_view-requires-2 : goal.put_next_view-requires-2
+put_next_view-requires-2 g c = search rules
+
+pub put_line-requires-2 : goal.put_line-requires-2
+put_line-requires-2 g c = search rules

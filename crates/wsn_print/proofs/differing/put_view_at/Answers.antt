@@ -1,4 +1,4 @@
-use Rattle.std.proofs.Common.{◌≡◌, ℕ, List, ◌++◌, length, codes, sym, ap, ◌∙◌, subst}
+use Rattle.std.proofs.Common.{rules, ◌≡◌, ℕ, List, ◌++◌, length, codes, sym, ap, ◌∙◌, subst}
 use Rattle.wsn_io.specs.Stops.{IsWrittenOrStops}
 use Rattle.wsn_io.specs.Transfer.{IsWritten, IsPartlyWritten}
 use Rattle.wsn_io.specs.declared.stop.Stop.TheVariants as stop
@@ -23,3 +23,21 @@ returns-clause-text g c = λ place event is.
     let n = c.args.view in
     two_pieces c.args.to.now c.put_left_out_before.new.to c.put_part.new.to (left_out_before (view_start place event)) (part_text event (part_at n place event) ++ left_out (part_length n place event) (length (payload_on place event))) (view_at n place event) c.put_part.result
     (view_is n place event (λ none. c.if-bytes-eq0.false (c.bytes.ensures.is ∙ none))) (subst (IsWritten c.args.to.now c.put_left_out_before.new.to) (ap left_out_before is.start) c.in_ok-put_left_out_before.ensures) (c.put_part.ensures.text place event is)
+
+pub put_line-requires : goal.put_line-requires
+put_line-requires g c = search rules
+
+pub returns-then-bytes-eq0-clause-unfailed : goal.returns-then-bytes-eq0-clause-unfailed
+returns-then-bytes-eq0-clause-unfailed g c = search rules
+
+pub put_left_out_before-requires : goal.put_left_out_before-requires
+put_left_out_before-requires g c = search rules
+
+pub returns-in_err-put_left_out_before-clause-unfailed : goal.returns-in_err-put_left_out_before-clause-unfailed
+returns-in_err-put_left_out_before-clause-unfailed g c = search rules
+
+pub put_part-requires : goal.put_part-requires
+put_part-requires g c = search rules
+
+pub returns-clause-unfailed : goal.returns-clause-unfailed
+returns-clause-unfailed g c = search rules

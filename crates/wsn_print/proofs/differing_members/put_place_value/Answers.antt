@@ -1,4 +1,4 @@
-use Rattle.std.proofs.Common.{◌≡◌, ℕ, Some, List, ◌++◌, codes, decimal, ◌∙◌, subst}
+use Rattle.std.proofs.Common.{rules, ◌≡◌, ℕ, Some, List, ◌++◌, codes, decimal, ◌∙◌, subst}
 use Rattle.wsn_io.specs.Transfer.{IsWritten, IsPartlyWritten}
 use Rattle.wsn_io.specs.declared.stop.Stop.TheVariants as stop
 use Rattle.wsn_print.specs.DifferingPayloads.{view_value, place_value}
@@ -37,3 +37,33 @@ returns-clause-text g c = λ event other is also.
     let second = view_value c.args.view place other in
     four_pieces c.args.to.now c.put_line.new.to c.put_next_value.new.to c.put_next_value-2.new.to c.put_line-2.new.to (codes "{\"in_payload\":" ++ decimal place) (codes ",\"first\":" ++ first) (codes ",\"second\":" ++ second) (codes "}") (place_value c.args.view (Some place) (Some event) (Some other)) c.put_line-2.result
     (member_parts (decimal place) first second) (subst (IsWritten c.args.to.now c.put_line.new.to) (c.bytes.ensures ∙ c.line_of_number.ensures) c.in_ok-put_line.ensures) (c.in_ok-put_next_value.ensures.text place event is) (c.in_ok-put_next_value-2.ensures.text place other also) c.put_line-2.ensures
+
+pub line_of_number-requires : goal.line_of_number-requires
+line_of_number-requires g c = search rules
+
+pub bytes-requires : goal.bytes-requires
+bytes-requires g c = search rules
+
+pub put_line-requires : goal.put_line-requires
+put_line-requires g c = search rules
+
+pub returns-in_err-put_line-clause-unfailed : goal.returns-in_err-put_line-clause-unfailed
+returns-in_err-put_line-clause-unfailed g c = search rules
+
+pub put_next_value-requires : goal.put_next_value-requires
+put_next_value-requires g c = search rules
+
+pub returns-in_err-put_next_value-clause-unfailed : goal.returns-in_err-put_next_value-clause-unfailed
+returns-in_err-put_next_value-clause-unfailed g c = search rules
+
+pub put_next_value-requires-2 : goal.put_next_value-requires-2
+put_next_value-requires-2 g c = search rules
+
+pub returns-in_err-put_next_value-2-clause-unfailed : goal.returns-in_err-put_next_value-2-clause-unfailed
+returns-in_err-put_next_value-2-clause-unfailed g c = search rules
+
+pub put_line-requires-2 : goal.put_line-requires-2
+put_line-requires-2 g c = search rules
+
+pub returns-clause-unfailed : goal.returns-clause-unfailed
+returns-clause-unfailed g c = search rules

@@ -1,4 +1,4 @@
-use Rattle.std.proofs.Common.{◌≡◌, ℕ, List, ◌++◌, length, codes, decimal, sym, ap, ◌∙◌, subst}
+use Rattle.std.proofs.Common.{rules, ◌≡◌, ℕ, List, ◌++◌, length, codes, decimal, sym, ap, ◌∙◌, subst}
 use Rattle.wsn_io.specs.Stops.{IsWrittenOrStops}
 use Rattle.wsn_io.specs.Transfer.{IsWritten, IsPartlyWritten}
 use Rattle.wsn_io.specs.declared.stop.Stop.TheVariants as stop
@@ -32,3 +32,33 @@ returns-clause-text g c = λ place event is.
     let start = c.bytes-2.ensures ∙ c.line_of_number.ensures ∙ ap (λ (k : ℕ). codes "{\"from\":" ++ decimal k) is.start in
     three_pieces c.args.to.now c.put_line-2.new.to c.put_part_fields.new.to c.put_line-3.new.to (codes "{\"from\":" ++ decimal (view_start place event)) (part_field event (part_at n place event) ++ truncated_field (part_length n place event) (length (payload_on place event))) (codes "}") (view_value n place event) c.put_line-3.result
     (value_is n place event (λ none. c.if-bytes-eq0.false (c.bytes.ensures.is ∙ none))) (subst (IsWritten c.args.to.now c.put_line-2.new.to) start c.in_ok-put_line.ensures) (c.in_ok-put_part_fields.ensures.text place event is) c.put_line-3.ensures
+
+pub put_line-requires : goal.put_line-requires
+put_line-requires g c = search rules
+
+pub returns-then-bytes-eq0-clause-unfailed : goal.returns-then-bytes-eq0-clause-unfailed
+returns-then-bytes-eq0-clause-unfailed g c = search rules
+
+pub line_of_number-requires : goal.line_of_number-requires
+line_of_number-requires g c = search rules
+
+pub bytes-requires-2 : goal.bytes-requires-2
+bytes-requires-2 g c = search rules
+
+pub put_line-requires-2 : goal.put_line-requires-2
+put_line-requires-2 g c = search rules
+
+pub returns-in_err-put_line-clause-unfailed : goal.returns-in_err-put_line-clause-unfailed
+returns-in_err-put_line-clause-unfailed g c = search rules
+
+pub put_part_fields-requires : goal.put_part_fields-requires
+put_part_fields-requires g c = search rules
+
+pub returns-in_err-put_part_fields-clause-unfailed : goal.returns-in_err-put_part_fields-clause-unfailed
+returns-in_err-put_part_fields-clause-unfailed g c = search rules
+
+pub put_line-requires-3 : goal.put_line-requires-3
+put_line-requires-3 g c = search rules
+
+pub returns-clause-unfailed : goal.returns-clause-unfailed
+returns-clause-unfailed g c = search rules

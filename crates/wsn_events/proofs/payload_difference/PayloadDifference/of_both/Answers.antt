@@ -1,4 +1,4 @@
-use Rattle.std.proofs.Common.{◌≡◌, ℕ, Option, None, Some, List, refl, sym, ap, ◌∙◌, subst}
+use Rattle.std.proofs.Common.{rules, ◌≡◌, ℕ, Option, None, Some, List, refl, sym, ap, ◌∙◌, subst}
 use Rattle.wsn_print.specs.DifferingPayloads.{place_between}
 use Rattle.wsn_print.specs.QuotedTexts.{payload_in}
 use Rattle.wsn_events.specs.PayloadExcerpts.{meant_payload, ArePartsKept}
@@ -19,3 +19,15 @@ returns-in-None c =
     let place : None ≡ place_between (payload_in event) (payload_in that) =
     sym c.in-None.is ∙ c.place_between.ensures.is ∙ ap (λ (bs : List ℕ). place_between bs c.bytes-2.result.now) c.bytes.ensures ∙ ap (λ (bs : List ℕ). place_between (payload_in event) bs) c.bytes-2.ensures in
     subst (λ (p : Option ℕ). ArePartsKept None p (Some event) (Some that)) place tt
+
+pub new-requires-clause-within : goal.new-requires-clause-within
+new-requires-clause-within c = search rules
+
+pub new-requires-clause-lawful : goal.new-requires-clause-lawful
+new-requires-clause-lawful c = search rules
+
+pub new-requires-in-Some-clause-within : goal.new-requires-in-Some-clause-within
+new-requires-in-Some-clause-within c = search rules
+
+pub new-requires-in-Some-clause-lawful : goal.new-requires-in-Some-clause-lawful
+new-requires-in-Some-clause-lawful c = search rules

@@ -1,4 +1,4 @@
-use Rattle.std.proofs.Common.{◌≡◌, ℕ, ◌-◌, List, [], length, take, drop, ap, ◌∙◌, arith}
+use Rattle.std.proofs.Common.{rules, ◌≡◌, ℕ, ◌-◌, List, [], length, take, drop, ap, ◌∙◌, arith}
 use Rattle.std.proofs.lemmas.List.{length-take}
 use Rattle.wsn_print.specs.DifferingPayloads.{payload_on}
 use Rattle.wsn_print.specs.QuotedTexts.{payload_in}
@@ -30,3 +30,33 @@ returns c =
           ∙ first_kept c.new-held.result.items rest c.min.result none few
           ∙ ap (take 4107) on;
     }
+
+pub view_start-from-requires-clause-within : goal.view_start-from-requires-clause-within
+view_start-from-requires-clause-within c = search rules
+
+pub view_start-from-requires-clause-lawful : goal.view_start-from-requires-clause-lawful
+view_start-from-requires-clause-lawful c = search rules
+
+pub slice_bounds-bytes-count : goal.slice_bounds-bytes-count
+slice_bounds-bytes-count c = search rules
+
+pub slice_bounds-bytes-start : goal.slice_bounds-bytes-start
+slice_bounds-bytes-start c = search rules
+
+pub slice_bounds-bytes-end : goal.slice_bounds-bytes-end
+slice_bounds-bytes-end c = search rules
+
+pub new-held-requires : goal.new-held-requires
+new-held-requires c = search rules
+
+pub slice_bounds-try_extend_from_slice-end : goal.slice_bounds-try_extend_from_slice-end
+slice_bounds-try_extend_from_slice-end c = search rules
+
+pub try_extend_from_slice-fits-requires : goal.try_extend_from_slice-fits-requires
+try_extend_from_slice-fits-requires c = search rules
+
+pub overflow_sub-result : goal.overflow_sub-result
+overflow_sub-result c = search rules
+
+pub overflow_cast-result : goal.overflow_cast-result
+overflow_cast-result c = search rules
