@@ -119,9 +119,9 @@ a message later is no difference. K then counts what is left.
                   event K
   differ-at PLACE VIEW VIEW
                   if both have one and their payloads differ: the first byte
-                  that does, from 0, and both payloads around it, from 8 bytes
-                  before it on: a text in ASCII, others as \\u and four digits,
-                  so that all differences show; all else in hexadecimal
+                  that does, from 0, and both payloads from 8 bytes before it
+                  on: a text in ASCII, with other characters as \\u and four
+                  digits; all else in hexadecimal; .. where bytes are left out
 With --json it prints an object: {\"type\":\"comparison\",\"answer\":\"equal\"}, or with
 \"answer\":\"different\" and \"event\":K, or with \"answer\":\"first\" or \"second\" and the
 verdict as \"verdict\" ('wsn help judge'). With --view the objects of both events,

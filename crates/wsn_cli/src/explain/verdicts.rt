@@ -108,7 +108,7 @@ differ-at PLACE VIEW VIEW: both streams have the event, and the byte at PLACE of
 its payload, from 0, is the first that differs. If one payload is the beginning
 of the other, PLACE is its length. Each VIEW is a payload from 8 bytes before
 PLACE on: text quoted, all else in hexadecimal; '..' where bytes are left out.
-Without this line the payloads are the same: only the kinds of event differ.
+Without this line only the kinds of event differ, or one stream has no event K.
 Usual causes: those of 'different'. Characters that look alike: \\u043e is a
 Cyrillic o. Invisible ones: \\u200b, or \\u0301 after a letter.
 Next: 'wsn payload --at OFFSET' writes the whole payload.
