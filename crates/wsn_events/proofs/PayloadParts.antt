@@ -1,18 +1,17 @@
 -- What is kept of a payload around a place is enough for each view.
-use Rattle.std.proofs.Common.{◌≡◌, ℕ, ◌+◌, ◌-◌, ◌≤◌, ◌<◌, min, Bool, true, false, true≢false, Option, None, Some, List, [], ◌++◌, length, take, drop, get_or, refl, sym, ap, ◌∙◌, subst, arith, inl, inr}
+use Rattle.std.proofs.Common.{◌≡◌, ℕ, ◌+◌, ◌-◌, ◌≤◌, ◌<◌, min, true, false, true≢false, Option, None, Some, List, [], ◌++◌, length, take, get_or, refl, sym, ap, ◌∙◌, arith, inl, inr}
 use Rattle.std.proofs.lemmas.Bool.{cases_lt}
 use Rattle.std.proofs.lemmas.List.{length-take, take_min}
-use Rattle.std.proofs.lemmas.Str.{utf8_valid_len_le}
 use Rattle.std.specs.Str.Lossy.{utf8_valid_len}
 use Rattle.wsn_wire.specs.declared.opcode.Kind.TheVariants as kinds
 use Rattle.wsn_text.specs.Utf8.{BeginsText}
 use Rattle.wsn_text.proofs.Prefixes.{begins_take, text_begins}
-use Rattle.wsn_text.proofs.WholeCharacters.{Leads, HasNoLead, whole, cut}
+use Rattle.wsn_text.proofs.WholeCharacters.{whole, cut}
 use Rattle.wsn_rules.specs.LawfulEvents.{IsLawfulEvent}
 use Rattle.wsn_rules.specs.Meaning.{MeantEvent, Message, Control}
 use Rattle.wsn_print.specs.declared.shown.DifferingPayloads.{DifferingPayloads}
 use Rattle.wsn_print.specs.declared.shown.PayloadPart.{PayloadPart}
-use Rattle.wsn_print.specs.DifferingPayloads.{is_text, view_start, payload_on, place_in, IsPartOf, StandsForPlace}
+use Rattle.wsn_print.specs.DifferingPayloads.{is_text, view_start, payload_on, IsPartOf, StandsForPlace}
 use Rattle.wsn_print.specs.QuotedTexts.{payload_in}
 use Rattle.wsn_print.specs.ShownParts.{HoldsFirst}
 use Rattle.wsn_events.specs.declared.payload_difference.PayloadDifference.{PayloadDifference}

@@ -3,7 +3,7 @@
 use Rattle.std.specs.Prelude.{◌≡◌, ℕ, ◌+◌, ◌-◌, ◌/◌, ◌%◌, ◌==◌, ◌||◌, nat_lt, Bool, true, false, if◌then◌else◌, Option, None, Some, List, [], ◌∷◌, ◌++◌, length, take, drop, flat_map, codes, decimal, ⊤}
 use Rattle.std.specs.Str.{chars}
 use Rattle.wsn_wire.specs.declared.opcode.Kind.TheVariants as kinds
-use Rattle.wsn_rules.specs.Meaning.{MeantEvent, Message, Control}
+use Rattle.wsn_rules.specs.Meaning.{MeantEvent, Message}
 use Rattle.wsn_rules.specs.ShownStream.{Item}
 use Rattle.wsn_rules.specs.ShownStream.Item.{Event}
 use Rattle.wsn_print.specs.declared.shown.DifferingPayloads.{DifferingPayloads}

@@ -1,9 +1,9 @@
-use Rattle.std.proofs.Common.{rules, ◌≡◌, ℕ, ◌-◌, ◌≤◌, true, false, List, length, take, sym, ap, ◌∙◌, subst, arith}
+use Rattle.std.proofs.Common.{rules, ◌≡◌, ℕ, ◌-◌, true, false, List, length, take, sym, ap, ◌∙◌, subst, arith}
 use Rattle.std.proofs.lemmas.List.{length-take, length-take-le}
 use Rattle.std.proofs.lemmas.Str.{utf8_valid_len_le}
 use Rattle.std.specs.Str.Lossy.{utf8_valid_len}
 use Rattle.wsn_text.specs.Utf8.{BeginsText}
-use Rattle.wsn_print.specs.DifferingPayloads.{is_text, view_start}
+use Rattle.wsn_print.specs.DifferingPayloads.{is_text}
 use Rattle.wsn_print.specs.QuotedTexts.{payload_in}
 use Rattle.wsn_events.specs.PayloadExcerpts.{meant_payload}
 use Rattle.wsn_events.proofs.PayloadParts.{few_left, text_is_begun, start_in_text, start_in_bytes}

@@ -1,4 +1,4 @@
-use Rattle.std.proofs.Common.{◌≡◌, ℕ, Option, None, Some, Ok, List, ap, subst}
+use Rattle.std.proofs.Common.{ℕ, Option, Ok, subst}
 use Rattle.std.proofs.KnownBytes.{Appends-nil}
 use Rattle.wsn_io.specs.Stops.{IsWrittenOrStops}
 use Rattle.wsn_rules.specs.Meaning.{MeantEvent}

@@ -1,4 +1,4 @@
-use Rattle.std.proofs.Common.{ℕ, List, ◌++◌, length, take, ◌∙◌}
+use Rattle.std.proofs.Common.{◌++◌, length, take}
 use Rattle.wsn_print.specs.DifferingPayloads.{ascii_quoted}
 use Rattle.wsn_print.specs.ShownText.{text_part, left_out}
 use Rattle.wsn_print.proofs.DifferingParts.{characters_are, text_is}

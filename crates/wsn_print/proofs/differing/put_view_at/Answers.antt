@@ -1,4 +1,4 @@
-use Rattle.std.proofs.Common.{rules, ◌≡◌, ℕ, List, ◌++◌, length, codes, sym, ap, ◌∙◌, subst}
+use Rattle.std.proofs.Common.{rules, ◌≡◌, ℕ, List, ◌++◌, length, sym, ap, ◌∙◌, subst}
 use Rattle.wsn_io.specs.Stops.{IsWrittenOrStops}
 use Rattle.wsn_io.specs.Transfer.{IsWritten, IsPartlyWritten}
 use Rattle.wsn_io.specs.declared.stop.Stop.TheVariants as stop

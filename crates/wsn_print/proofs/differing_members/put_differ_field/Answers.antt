@@ -1,4 +1,4 @@
-use Rattle.std.proofs.Common.{◌≡◌, ℕ, Option, None, Some, List, ◌++◌, codes, refl, subst}
+use Rattle.std.proofs.Common.{ℕ, Option, Some, ◌++◌, codes, refl, subst}
 use Rattle.wsn_io.specs.Stops.{IsWrittenOrStops}
 use Rattle.wsn_rules.specs.Meaning.{MeantEvent}
 use Rattle.wsn_print.specs.declared.shown.DifferingPayloads.{DifferingPayloads}

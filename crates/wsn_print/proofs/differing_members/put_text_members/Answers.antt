@@ -1,4 +1,4 @@
-use Rattle.std.proofs.Common.{◌≡◌, ℕ, List, ◌++◌, codes, length, take, ◌∙◌, subst}
+use Rattle.std.proofs.Common.{◌≡◌, ℕ, List, ◌++◌, codes, length, take}
 use Rattle.wsn_print.specs.DifferingPayloads.{ascii_quoted}
 use Rattle.wsn_print.specs.Json.{field}
 use Rattle.wsn_print.specs.ShownObjects.{truncated_field}
