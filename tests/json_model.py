@@ -4,6 +4,7 @@ objects(out) reads the lines as JSON, and fails unless each is written as it sho
 spaces, strings quoted as in the lines of `show`. line_of(read, view) gives the line or lines of an object.
 """
 import json
+import re
 
 import show_model
 
@@ -26,27 +27,38 @@ MEMBERS = {
     "accepted": ("type", "verdict", "used", "tail", "unfinished", *COUNTS, "close"),
     "cut": ("type", "verdict", "used", "unfinished", *COUNTS),
     "refused verdict": ("type", "verdict", "offset", "reason", "code"),
-    "comparison": ("type", "answer", "event", "first", "second", "verdict"),
+    "comparison": ("type", "answer", "event", "first", "second", "differ_at", "verdict"),
 }
 MAY_LACK = {"line", "side", "time", *VIEWED, "event", "verdict", "character"}
 # The members of a bad character, which a refusal has if its reason is text-bad.
 CHARACTER = ("offset", "in_payload", "hex", "before")
 # The events of two streams that differ: in a comparison's object only with --view.
 EVENTS = ("first", "second")
+# Where their payloads differ, and a view of one of them.
+DIFFERING = ("in_payload", *EVENTS)
+AROUND = ("from", "text", "hex", "truncated")
 
 
 class Number(str):
     """A number as it is written."""
 
 
-def compact(value):
-    """The value as JSON without spaces, strings quoted as in the lines of `show`."""
+def in_ascii(text):
+    """A text in quotation marks: each character but printable ASCII as its units of UTF-16, in four digits each."""
+    shown = text.replace("\\", "\\\\").replace('"', '\\"')
+    units = [(it, it.encode("utf-16-be").hex()) for it in shown]
+    return '"%s"' % "".join(it if " " <= it <= "~" else "\\u" + "\\u".join(re.findall("....", hex)) for it, hex in units)
+
+
+def compact(value, quoted=lambda text: show_model.quoted(text.encode())):
+    """The value as JSON without spaces, strings quoted as in the lines of `show`, around a difference in ASCII."""
     if isinstance(value, dict):
-        return "{%s}" % ",".join(f"{show_model.quoted(key.encode())}:{compact(it)}" for key, it in value.items())
+        written = ((it, compact(value[it], in_ascii if it == "differ_at" else quoted)) for it in value)
+        return "{%s}" % ",".join(f'"{key}":{text}' for key, text in written)
     if isinstance(value, Number):
         return value
     if isinstance(value, str):
-        return show_model.quoted(value.encode())
+        return quoted(value)
     return {None: "null", True: "true", False: "false"}[value]
 
 
@@ -72,7 +84,7 @@ def expect_members(read):
     """Fails unless the object has the members of its type, in their order, and so has each event in it."""
     members = MEMBERS[kind_of(read)]
     compared = read["type"] == "comparison"
-    missing = {*MAY_LACK, *EVENTS} if compared else MAY_LACK
+    missing = {*MAY_LACK, *EVENTS, "differ_at"} if compared else MAY_LACK
     assert list(read) == [it for it in members if it in read], read
     assert all(it in missing or it in read for it in members), read
     assert ("character" in read) == (read["type"] == "refused" and read["reason"] == "text-bad"), read
@@ -81,6 +93,12 @@ def expect_members(read):
     for it in EVENTS if compared else ():
         if read.get(it) is not None:
             expect_members(read[it])
+    differing = read.get("differ_at")
+    assert ("differ_at" in read) == ("first" in read), read
+    if differing is not None:
+        assert tuple(differing) == DIFFERING, differing
+        for part in (differing[it] for it in EVENTS if differing[it] is not None):
+            assert list(part) == [it for it in AROUND if it in part] and ("text" in part) != ("hex" in part), part
 
 
 def dashed(value):
@@ -138,7 +156,19 @@ def comparison_lines(read, view):
     if read["answer"] != "different":
         return [read["answer"]]
     events = [(it, "-" if read[it] is None else lines_of(read[it], view)[0]) for it in EVENTS if it in read]
-    return [f"different {read['event']}", *(f"{it} {line}" for it, line in events)]
+    lines = [f"different {read['event']}", *(f"{it} {line}" for it, line in events)]
+    differing = read.get("differ_at")
+    if differing is not None:
+        lines.append(f"differ-at {differing['in_payload']} {around(differing['first'])} {around(differing['second'])}")
+    return lines
+
+
+def around(part):
+    """The view of a payload around the first byte that differs."""
+    if part is None:
+        return "-"
+    shown = in_ascii(part["text"]) if "text" in part else part["hex"] or "-"
+    return (".." if part["from"] != "0" else "") + shown + (" .." if "truncated" in part else "")
 
 
 def entry_text(read, view):

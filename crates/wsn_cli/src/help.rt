@@ -113,14 +113,22 @@ line:
 Either FIRST or SECOND may be -, which is standard input; ./- is a file named -.
 --without ping,pong leaves pings and pongs out of both: so a keepalive that came
 a message later is no difference. K then counts what is left.
---view BYTES shows what differs. Two lines follow 'different K':
+--view BYTES shows what differs. Lines follow 'different K':
   first EVENT     event K of the first stream, as 'wsn show --role' prints it
   second EVENT    that of the second; - in place of EVENT where a stream has no
                   event K
+  differ-at PLACE VIEW VIEW
+                  if both have one and their payloads differ: the first byte
+                  that does, from 0, and both payloads from 8 bytes before it
+                  on: a text in ASCII, with other characters as \\u and four
+                  digits; all else in hexadecimal; .. where bytes are left out
 With --json it prints an object: {\"type\":\"comparison\",\"answer\":\"equal\"}, or with
 \"answer\":\"different\" and \"event\":K, or with \"answer\":\"first\" or \"second\" and the
 verdict as \"verdict\" ('wsn help judge'). With --view the objects of both events,
-or null, follow K as \"first\" and \"second\" ('wsn help show').
+or null, follow K as \"first\" and \"second\" ('wsn help show'), and then
+\"differ_at\": null, or PLACE as \"in_payload\" and the views as \"first\" and
+\"second\", each with \"from\", the place where it begins, \"text\" or \"hex\", and
+\"truncated\":true if bytes follow (null if BYTES is 0).
 
 Example: one frame, and the same message in two
   $ printf '\\201\\002Hi' > one; printf '\\001\\001H\\200\\001i' > two

@@ -17,3 +17,4 @@ pub mod PutParts
 pub mod MaskedLanes
 pub mod RunTexts
 pub mod RunCharacters
+pub mod DifferingParts
