@@ -36,6 +36,16 @@ function byteEscape(byte) {
   return `\\x${digits(byte)}`;
 }
 
+/** Bytes of a comment that isn't UTF-8, as parts: each that isn't printable ASCII as an escape. */
+function byteParts(bytes) {
+  return Array.from(bytes, byte => isPlain([byte]) ? String.fromCharCode(byte) : make("i", "escape", byteEscape(byte)));
+}
+
+/** The same as a text. */
+function escapedBytes(bytes) {
+  return make("span", "", ...byteParts(bytes)).textContent;
+}
+
 /** Bytes that needn't be a text, as parts: what is a text, and each other byte as an escape. */
 function looseText(bytes) {
   const parts = [];

@@ -21,7 +21,7 @@ MEMBERS = {
     "tail": (*ENTRY, "bytes", "hex", "truncated"),
     "end": ENTRY,
     "frame": (*ENTRY, *FRAME),
-    "comment": ("type", "line", "text"),
+    "comment": ("type", "line", "text", "hex"),
     "ended-by": ("type", "side", "reset"),
     "report": ("type", "client", "server", "first", "echo", "client_sees", "server_sees", "outcome"),
     "accepted": ("type", "verdict", "used", "tail", "unfinished", *COUNTS, "close"),
@@ -208,7 +208,7 @@ def lines_of(read, view=48):
     if kind == "ended-by":
         return [f"ended-by {read['side']}" + (" reset" if read["reset"] else "")]
     if kind == "comment":
-        return [f"#{show_model.escaped(read['text'])}"]
+        return [show_model.comment(b"#" + (read["text"].encode() if "text" in read else bytes.fromhex(read["hex"])))]
     if "side" not in read:
         return [frame_line(read)]
     front = f"{read['side'][0].upper()} {dashed(read.get('time'))} "

@@ -54,10 +54,17 @@ def payload_fields(entry):
     return found
 
 
+def comment_text(entry):
+    """A comment as the page writes it: of one that isn't UTF-8, each byte that isn't printable ASCII as an escape."""
+    if "text" in entry:
+        return visible(entry["text"])
+    return "".join(chr(byte) if 0x20 <= byte <= 0x7E else f"\\x{byte:02x}" for byte in bytes.fromhex(entry["hex"]))
+
+
 def fields(entry):
     """The fields that an entry's row shows."""
     if entry["type"] == "comment":
-        return {"line": str(entry["line"]), "text": visible(entry["text"])}
+        return {"line": str(entry["line"]), "text": comment_text(entry)}
     found = {key: str(entry[key]) for key in ("line", "time", "offset") if entry.get(key) is not None}
     found |= {
         key: f"{entry[key]:,}" if key == "lacks" else str(entry[key]) for key in NAMED if entry.get(key) is not None
@@ -140,7 +147,7 @@ def outcome(report):
 def broke(shown):
     """The begin of an abnormal session's headline: whose end mark is the first, and whether a comment says that it reset."""
     side = next(entry["side"] for entry in shown if entry["type"] == "end")
-    resets = [entry for entry in shown if entry["type"] == "comment" and entry["text"] == f" reset by the {side}"]
+    resets = [entry for entry in shown if entry["type"] == "comment" and entry.get("text") == f" reset by the {side}"]
     return f"The {side} {'reset' if resets else 'ended'} the connection"
 
 

@@ -192,10 +192,12 @@ def shown_stream(letter, data, lines, view, wire=False):
 
 
 def comment(line):
+    """A comment as it is printed, given its bytes: escapes, and each backslash of its own doubled."""
+    doubled = line.replace(b"\\", b"\\\\")
     try:
-        return escaped(line.decode())
+        return escaped(doubled.decode())
     except UnicodeDecodeError:
-        return "".join(chr(byte) if 0x20 <= byte <= 0x7e else f"\\x{byte:02x}" for byte in line)
+        return "".join(chr(byte) if 0x20 <= byte <= 0x7e else f"\\x{byte:02x}" for byte in doubled)
 
 
 def shown(text, view, frames_of, wire=False):

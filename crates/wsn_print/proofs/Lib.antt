@@ -8,6 +8,7 @@ pub mod JsonTexts
 pub mod VisibleTexts
 pub mod TextFronts
 pub mod VisibleLines
+pub mod CommentLines
 pub mod Appended
 pub mod ObjectPieces
 pub mod FrameObjects

@@ -264,14 +264,16 @@ fn an_end_mark_and_a_comment(rt: HostRuntime) {
     assert_eq!(rt; put, Ok(()));
     let members = [("/type", "\"end\""), ("/offset", "3")];
     expect_object(&rt, rt.alloc(), line.as_slice(), 5, &members);
-    for (text, shown) in [
-        (b"# \"reset\"".as_slice(), "\" \\\"reset\\\"\""),
-        (b"#\xe9\\".as_slice(), "\"\\\\xe9\\\\\""),
+    for (text, key, shown) in [
+        (b"# \"reset\"".as_slice(), "/text", "\" \\\"reset\\\"\""),
+        (b"#\\xe9".as_slice(), "/text", "\"\\\\xe9\""),
+        (b"#\xe9\\".as_slice(), "/hex", "\"e95c\""),
+        (b"# \xfe".as_slice(), "/hex", "\"20fe\""),
     ] {
         let mut line = Vec::new(rt.alloc());
         let put = put_comment_object(&mut Output::new(&mut line), 2, text);
         assert_eq!(rt; put, Ok(()));
-        let members = [("/type", "\"comment\""), ("/line", "2"), ("/text", shown)];
+        let members = [("/type", "\"comment\""), ("/line", "2"), (key, shown)];
         expect_object(&rt, rt.alloc(), line.as_slice(), 3, &members);
     }
 }

@@ -713,15 +713,15 @@ pub static COMMENTS: [Row; 7] = [
         report: OPEN,
     },
     Row {
-        text: b"# \xffA\x1b\n",
+        text: b"# \xffA\x1b\\\n# \\xffA\n",
         view: 48,
-        shown: "# \\xffA\\x1b\n",
+        shown: "# \\xffA\\x1b\\\\\n# \\\\xffA\n",
         report: OPEN,
     },
     Row {
         text: b"# \"a\\b\" \xc3\xa9\x1b\xe2\x80\xae\n",
         view: 48,
-        shown: "# \"a\\b\" é\\u001b\\u202e\n",
+        shown: "# \"a\\\\b\" é\\u001b\\u202e\n",
         report: OPEN,
     },
     Row {

@@ -1,5 +1,5 @@
 use Rattle.std.proofs.Common.{rules}
-use Rattle.wsn_print.proofs.quoted.shown_byte.Goals as goal
+use Rattle.wsn_print.proofs.quoted.comment_byte.Goals as goal
 
 pub new-line-requires : goal.new-line-requires
 new-line-requires c = search rules
@@ -10,14 +10,20 @@ push_byte-requires c = search rules
 pub push-requires : goal.push-requires
 push-requires c = search rules
 
+pub push-requires-in_default : goal.push-requires-in_default
+push-requires-in_default c = search rules
+
 pub slice_bounds-push_hex-end : goal.slice_bounds-push_hex-end
 slice_bounds-push_hex-end c = search rules
 
 pub push_hex-requires : goal.push_hex-requires
 push_hex-requires c = search rules
 
-pub returns-then-matches : goal.returns-then-matches
-returns-then-matches c = search rules
+pub returns-in-92 : goal.returns-in-92
+returns-in-92 c = search rules
 
-pub returns-else-matches : goal.returns-else-matches
-returns-else-matches c = search rules
+pub returns-in-32-to-126 : goal.returns-in-32-to-126
+returns-in-32-to-126 c = search rules
+
+pub returns-in_default : goal.returns-in_default
+returns-in_default c = search rules
