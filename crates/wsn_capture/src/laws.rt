@@ -3,7 +3,7 @@
 ghost use Rattle.std.specs.Prelude.{◌≡◌, ℕ, ◌+◌, ◌≤◌, ◌⊎◌, ◌↔◌, List, [], ◌∷◌, ◌++◌, length, Result, Ok, Err};
 ghost use Rattle.std.specs.List.{AllByRecursion};
 ghost use Rattle.wsn_rules.specs.declared.detail.Detail.{Detail};
-ghost use Rattle.wsn_rules.specs.ShownCapture.{LineItem, ShownLine, IsShownCapture};
+ghost use Rattle.wsn_rules.specs.ShownCapture.{ShownLine, LeftAtEnd, IsShownCapture};
 ghost use Rattle.wsn_rules.specs.TextLines.{IsLine, ended, AreLines, lines_of};
 ghost use Rattle.wsn_capture.specs.CaptureAnswers.{IsFaulty};
 ghost use Rattle.wsn_capture.specs.LineFaults.{AreAcceptedLines, IsFaultAfter};
@@ -46,8 +46,8 @@ pub fn law_any_lines()
 pub fn law_every_capture_is_shown()
     ensures { (detail : Detail) (limits : Limits) (lines : List (List ℕ)) (entries : List Entry) →
         InRange limits → AreEntries lines entries →
-        (shown : List ShownLine) × (last : List LineItem) × (report : Report)
-        × IsShownCapture detail limits lines shown last report }
+        (shown : List ShownLine) × (client server : LeftAtEnd) × (report : Report)
+        × IsShownCapture detail limits lines shown client server report }
 {}
 
 /// A text has exactly one correct answer: the report of its lines, or its first line that isn't accepted with that

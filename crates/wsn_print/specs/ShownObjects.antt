@@ -82,15 +82,16 @@ unfinished_view_fields n (Control op body) = hex_fields n body
 pub data Position : Type 0 where
   -- In a line of a capture: its number, from 1, and the time that holds for it.
   InLine : ℕ → Option (List ℕ) → Position
-  -- At the end of a capture.
-  AtEnd : Position
+  -- At the end of a capture: the time that held when the endpoint's last bytes came.
+  AtEnd : Option (List ℕ) → Position
   -- In a stream without a capture.
   InStream : Position
 
--- The time that holds at a position; none at a capture's end and in a stream.
+-- The time that is given for a position; none in a stream.
 abbrev pub time_at : Position → Option (List ℕ)
 time_at (InLine number time) = time
-time_at position = None
+time_at (AtEnd time) = time
+time_at InStream = None
 
 -- The number of the line, from 1; 0 outside of lines.
 abbrev pub number_at : Position → ℕ
@@ -115,6 +116,7 @@ time_key position = codes ",\"time\":"
 -- The time as the capture gives it, which is a number; null if there is none.
 abbrev pub time_value : Position → List ℕ
 time_value (InLine number (Some seconds)) = seconds
+time_value (AtEnd (Some seconds)) = seconds
 time_value InStream = []
 time_value position = codes "null"
 

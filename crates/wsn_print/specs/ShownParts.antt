@@ -28,7 +28,7 @@ time_of front = option_copied front.time
 -- Where an entry is.
 abbrev pub position_of : Origin → Position
 position_of (origins.Line number time) = InLine number (option_copied time)
-position_of origins.End = AtEnd
+position_of (origins.End time) = AtEnd (option_copied time)
 position_of origins.Stream = InStream
 
 -- The first bytes are held: all, or at least `least` of them.

@@ -10,6 +10,9 @@ ghost use Rattle.wsn_wire.specs.declared.refusal.Reason.TheVariants.{ReservedBit
 ghost use Rattle.wsn_rules.specs.Meaning.{Message, Control};
 ghost use Rattle.wsn_rules.specs.ShownStream.Item.{Event, Head, Unfinished, UnfinishedHead, RefusedFrame, Unread, Tail};
 ghost use Rattle.wsn_print.specs.CharacterText.{character_line, item_lines};
+ghost use Rattle.wsn_print.specs.declared.format.Format.TheVariants as format;
+ghost use Rattle.wsn_print.specs.Formats.{item_entry};
+ghost use Rattle.wsn_print.specs.ShownObjects.Position.{AtEnd};
 ghost use Rattle.wsn_print.specs.ShownText.{item_line, text_view, hex_view, body_view, quoted, comment_line, end_line};
 
 /// The lines of complete events: their offset is that of the first frame.
@@ -110,6 +113,8 @@ pub fn of_unfinished()
     ensures close { item_line 48 Server None (Unfinished 3 (Control Close ((0x03 ∷ []))) 1 (Some 4)) ≡ codes "S - 3 unfinished close 1 1 lacks 4 03\n" }
     ensures nothing_yet { item_line 48 Server None (Unfinished 3 (Control Ping []) 1 (Some 4)) ≡ codes "S - 3 unfinished ping 0 1 lacks 4 -\n" }
     ensures head { item_line 48 Client (Some (codes "1.5")) (UnfinishedHead 9) ≡ codes "C 1.5 9 unfinished head 0 0 lacks - -\n" }
+    ensures at_the_end { item_entry format.Text 48 Server (AtEnd (Some (codes "1.5"))) (Unfinished 17 (Message kind.Binary (0x00 ∷ 0xff ∷ [])) 1 (Some 144)) ≡ codes "S 1.5 17 unfinished binary 2 1 lacks 144 00ff\n" }
+    ensures at_the_end_without_a_time { item_entry format.Text 48 Server (AtEnd None) (UnfinishedHead 9) ≡ codes "S - 9 unfinished head 0 0 lacks - -\n" }
 {}
 
 /// The lines of refusals and of the bytes behind them, of tails and of end marks.

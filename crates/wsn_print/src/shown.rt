@@ -69,7 +69,10 @@ pub enum Origin<'a> {
         time: Option<&'a [u8]>,
     },
     /// At the end of a capture.
-    End,
+    End {
+        /// The time that held when the endpoint's last bytes came, in seconds; `None` if the capture gives none.
+        time: Option<&'a [u8]>,
+    },
     /// In a stream without a capture.
     Stream,
 }
@@ -97,8 +100,8 @@ impl<'a> EntryFront<'a> {
         ensures offset { result.offset ≡ self.now.offset }
     {
         let time = match self.origin {
-            Origin::Line { time, .. } => time,
-            Origin::End | Origin::Stream => None,
+            Origin::Line { time, .. } | Origin::End { time } => time,
+            Origin::Stream => None,
         };
         Front {
             role: self.role,

@@ -253,7 +253,7 @@ fn push_line_number(line: &mut Line<FRONT_MAX>, origin: &Origin<'_>)
 {
     match origin {
         Origin::Line { number, .. } => push_number_field(line, "line", u64::from(*number)),
-        Origin::End | Origin::Stream => {}
+        Origin::End { .. } | Origin::Stream => {}
     }
 }
 
@@ -272,7 +272,7 @@ fn time_key(origin: &Origin<'_>) -> &'static str
     ensures short { length result.now ≤ 8 }
 {
     match origin {
-        Origin::Line { .. } | Origin::End => ",\"time\":",
+        Origin::Line { .. } | Origin::End { .. } => ",\"time\":",
         Origin::Stream => "",
     }
 }
@@ -281,11 +281,7 @@ fn seconds_of<'a>(origin: &Origin<'a>) -> &'a [u8]
     ensures { result.now ≡ time_value (position_of origin.now) }
 {
     match origin {
-        Origin::Line {
-            time: Some(seconds),
-            ..
-        } => seconds,
-        Origin::Line { time: None, .. } | Origin::End => b"null",
+        Origin::Line { time, .. } | Origin::End { time } => time.unwrap_or(b"null"),
         Origin::Stream => b"",
     }
 }

@@ -22,10 +22,12 @@ const IN_LINE: EntryFront<'static> = EntryFront {
     offset: 3,
 };
 
-/// At the end of a capture.
+/// At the end of a capture, with a time.
 const AT_END: EntryFront<'static> = EntryFront {
     role: Role::Server,
-    origin: Origin::End,
+    origin: Origin::End {
+        time: Some(b"0.001356"),
+    },
     offset: 17,
 };
 
@@ -117,7 +119,7 @@ fn an_unfinished_message(rt: HostRuntime) {
     assert_eq!(rt; put, Ok(()));
     let members = [
         ("/type", "\"unfinished\""),
-        ("/time", "null"),
+        ("/time", "0.001356"),
         ("/event", "\"binary\""),
         ("/lacks", "144"),
         ("/hex", "\"00ff\""),

@@ -33,6 +33,7 @@ pub mod OpenOffsets
 pub mod ShownStreams
 pub mod ShownLines
 pub mod ShownEvents
+pub mod LastTimes
 pub mod OneShownCapture
 pub mod BegunHeads
 pub mod PlacedBytes

@@ -1,5 +1,5 @@
 -- What is left over of a stream is one list, and what is shown of a capture is one list of lines.
-use Rattle.std.proofs.Common.{◌≡◌, ℕ, Option, None, Some, List, [], ◌∷◌, ◌++◌, ◌⊎◌, length, drop, refl, sym, ap, ◌∙◌, subst, inl, inr, true≢false, codes}
+use Rattle.std.proofs.Common.{◌≡◌, ℕ, Option, None, Some, List, [], ◌∷◌, ◌++◌, ◌⊎◌, ◌≢◌, length, take, drop, refl, sym, ap, ◌∙◌, subst, inl, inr, true≢false, codes, append-nil}
 use Rattle.std.specs.List.{AllByRecursion}
 use Rattle.wsn_wire.specs.declared.endpoint.Role.{Role}
 use Rattle.wsn_wire.specs.declared.endpoint.Role.TheVariants.{Client, Server}
@@ -13,11 +13,11 @@ use Rattle.wsn_rules.specs.Limits.{Limits}
 use Rattle.wsn_rules.specs.Entries.{Entry, without_cr}
 use Rattle.wsn_rules.specs.Entries.Entry.{Nothing, Bytes, Mark}
 use Rattle.wsn_rules.specs.Reports.{IsReportOf}
-use Rattle.wsn_rules.specs.Sides.{sent}
-use Rattle.wsn_rules.specs.ShownCapture.{GivesTime, IsTime, IsNoTime, IsTimeAfter, LineItem, of_stream, beyond, IsShownNothing, IsShownOfEntry, ShownLine, AreShownAfter, IsLeftAtEnd, IsShownCapture}
+use Rattle.wsn_rules.specs.Sides.{bytes_in, sent}
+use Rattle.wsn_rules.specs.ShownCapture.{GivesTime, IsTime, IsNoTime, IsTimeAfter, LineItem, of_stream, beyond, IsShownNothing, IsShownOfEntry, ShownLine, AreShownAfter, IsTimeOfLast, LeftAtEnd, AreLeftAtEnd, IsLeftAtEnd, IsShownCapture}
 use Rattle.wsn_rules.specs.ShownCapture.LineItem.{End}
 use Rattle.wsn_rules.specs.ShownStream.{Item, Shown, items_of_part, IsLeftOfRest, IsLeftOf, IsLeftOver}
-use Rattle.wsn_rules.proofs.Prefixes.{append_cancel, head_same, tail_same, GoesOn, two_fronts}
+use Rattle.wsn_rules.proofs.Prefixes.{append_cancel, head_same, tail_same, nil-parts, GoesOn, two_fronts}
 use Rattle.wsn_rules.proofs.OneVerdict.{one_verdict}
 use Rattle.wsn_rules.proofs.OneHead.{one_begun, one_following}
 use Rattle.wsn_rules.proofs.OneEntry.{same_entries}
@@ -84,6 +84,37 @@ one_time lines (Some seconds) None is also = absurd (no_time_in is.0 is.2 is.1 l
 one_time lines (Some seconds) (Some other) is also =
     ap Some (same_last is.0 also.0 is.2 also.2 is.1 also.1 seconds other (sym is.3 ∙ also.3) is.4 also.4 is.5 also.5)
 
+-- ---- the time of the last bytes
+
+-- An endpoint whose entry has bytes sent some.
+sent_some : (role : Role) (before : List Entry) (last : Entry) (after : List Entry) → bytes_in role last ≢ [] → sent role (before ++ last ∷ after) ≡ [] → ⊥
+sent_some role [] last after some none = some (nil-parts (bytes_in role last) (sent role after) (sym none)).0
+sent_some role (entry ∷ before) last after some none = sent_some role before last after some (nil-parts (bytes_in role entry) (sent role (before ++ last ∷ after)) (sym none)).1
+
+-- Two entries with bytes, after which no more was sent, are the same.
+same_before : (role : Role) (before others : List Entry) (last other : Entry) (after rest : List Entry) → before ++ last ∷ after ≡ others ++ other ∷ rest → bytes_in role last ≢ [] → bytes_in role other ≢ [] → sent role after ≡ [] → sent role rest ≡ [] → before ≡ others
+same_before role before others last other after rest is some more none nothing = by (two_fronts before others (last ∷ after) (other ∷ rest) is)
+  where
+    first : (between : List Entry) → others ≡ before ++ between → last ∷ after ≡ between ++ other ∷ rest → before ≡ others
+    first [] e f = sym (append-nil before) ∙ sym e
+    first (entry ∷ between) e f = absurd (sent_some role between other rest more (ap (λ (es : List Entry). sent role es) (sym (tail_same last entry after (between ++ other ∷ rest) f)) ∙ none))
+
+    second : (between : List Entry) → before ≡ others ++ between → other ∷ rest ≡ between ++ last ∷ after → before ≡ others
+    second [] e f = e ∙ append-nil others
+    second (entry ∷ between) e f = absurd (sent_some role between last after some (ap (λ (es : List Entry). sent role es) (sym (tail_same other entry rest (between ++ last ∷ after) f)) ∙ nothing))
+
+    by : GoesOn before (last ∷ after) others (other ∷ rest) ⊎ GoesOn others (other ∷ rest) before (last ∷ after) → before ≡ others
+    by (inl p) = first p.0 p.1 p.2
+    by (inr p) = second p.0 p.1 p.2
+
+pub one_last_time : (role : Role) (lines : List (List ℕ)) (entries : List Entry) (time other : Option (List ℕ)) → IsTimeOfLast role lines entries time → IsTimeOfLast role lines entries other → time ≡ other
+one_last_time role lines entries time other (inl p) (inl q) =
+    let same = same_before role p.before q.before p.last q.last p.after q.after (sym p.are ∙ q.are) p.some q.some p.no_more q.no_more in
+    one_time (take (length q.before) lines) time other (subst (λ (es : List Entry). IsTimeAfter (take (length es) lines) time) same p.held) q.held
+one_last_time role lines entries time other (inl p) (inr q) = absurd (sent_some role p.before p.last p.after p.some (subst (λ (es : List Entry). sent role es ≡ []) p.are q.0))
+one_last_time role lines entries time other (inr p) (inl q) = absurd (sent_some role q.before q.last q.after q.some (subst (λ (es : List Entry). sent role es ≡ []) q.are p.0))
+one_last_time role lines entries time other (inr p) (inr q) = p.1 ∙ sym q.1
+
 -- ---- lines
 
 one_nothing : (text : List ℕ) (items others : List LineItem) → IsShownNothing text items → IsShownNothing text others → items ≡ others
@@ -119,20 +150,24 @@ module _ (detail : Detail) (limits : Limits) where
       let rest = one_shown_after (before ++ line ∷ []) (given ++ entry ∷ []) lines entries shown others p.3 q.3 in
       cc (first, rest)
 
-  one_at_end : (role : Role) (entries : List Entry) (items others : List Item) → IsLeftAtEnd role limits entries items → IsLeftAtEnd role limits entries others → items ≡ others
-  one_at_end role entries items others (inl p) (inl q) = p.1 ∙ sym q.1
-  one_at_end role entries items others (inl p) (inr q) = absurd (true≢false (sym p.0 ∙ q.0))
-  one_at_end role entries items others (inr p) (inl q) = absurd (true≢false (sym q.0 ∙ p.0))
-  one_at_end role entries items others (inr p) (inr q) = one_left role limits (sent role entries) items others p.1 q.1
+  one_items_left : (role : Role) (entries : List Entry) (items others : List Item) → AreLeftAtEnd role limits entries items → AreLeftAtEnd role limits entries others → items ≡ others
+  one_items_left role entries items others (inl p) (inl q) = p.1 ∙ sym q.1
+  one_items_left role entries items others (inl p) (inr q) = absurd (true≢false (sym p.0 ∙ q.0))
+  one_items_left role entries items others (inr p) (inl q) = absurd (true≢false (sym q.0 ∙ p.0))
+  one_items_left role entries items others (inr p) (inr q) = one_left role limits (sent role entries) items others p.1 q.1
 
-  pub one_shown_capture : (lines : List (List ℕ)) (shown others : List ShownLine) (last rest : List LineItem) (report other : Report) → IsShownCapture detail limits lines shown last report → IsShownCapture detail limits lines others rest other
-      → (shown ≡ others) × (last ≡ rest) × (report ≡ other)
-  one_shown_capture lines shown others last rest report other p q =
-      let same = same_entries lines p.entries q.entries p.given q.given in
-      let each = subst (λ (es : List Entry). AreShownAfter detail limits [] [] lines es shown) same p.each in
-      let client = one_at_end Client q.entries p.client_left q.client_left (subst (λ (es : List Entry). IsLeftAtEnd Client limits es p.client_left) same p.of_client) q.of_client in
-      let server = one_at_end Server q.entries p.server_left q.server_left (subst (λ (es : List Entry). IsLeftAtEnd Server limits es p.server_left) same p.of_server) q.of_server in (
-        one_shown_after [] [] lines q.entries shown others each q.each,
-        p.left_over ∙ ap (λ (is : List Item). of_stream Client is ++ of_stream Server p.server_left) client ∙ ap (λ (is : List Item). of_stream Client q.client_left ++ of_stream Server is) server ∙ sym q.left_over,
+  one_at_end : (role : Role) (lines : List (List ℕ)) (entries : List Entry) (left other : LeftAtEnd) → IsLeftAtEnd role limits lines entries left → IsLeftAtEnd role limits lines entries other → left ≡ other
+  one_at_end role lines entries left other p q =
+      let time = one_last_time role lines entries left.time other.time p.time q.time in
+      let items = one_items_left role entries left.items other.items p.items q.items in
+      λ i. record { time = time i; items = items i }
+
+  pub one_shown_capture : (lines : List (List ℕ)) (shown others : List ShownLine) (client server other_client other_server : LeftAtEnd) (report other : Report) → IsShownCapture detail limits lines shown client server report
+      → IsShownCapture detail limits lines others other_client other_server other → (shown ≡ others) × (client ≡ other_client) × (server ≡ other_server) × (report ≡ other)
+  one_shown_capture lines shown others client server other_client other_server report other p q =
+      let same = same_entries lines p.entries q.entries p.given q.given in (
+        one_shown_after [] [] lines q.entries shown others (subst (λ (es : List Entry). AreShownAfter detail limits [] [] lines es shown) same p.each) q.each,
+        one_at_end Client lines q.entries client other_client (subst (λ (es : List Entry). IsLeftAtEnd Client limits lines es client) same p.of_client) q.of_client,
+        one_at_end Server lines q.entries server other_server (subst (λ (es : List Entry). IsLeftAtEnd Server limits lines es server) same p.of_server) q.of_server,
         one_report_of limits q.entries other report q.is_report (subst (λ (es : List Entry). IsReportOf limits es report) same p.is_report),
       )

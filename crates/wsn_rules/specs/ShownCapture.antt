@@ -1,6 +1,6 @@
 -- What is shown of a capture: with each of its lines, in order, what the line completes; then what is left over of both
--- streams; then the report.
-use Rattle.std.specs.Prelude.{◌≡◌, ◌≢◌, ℕ, ◌+◌, ◌≤◌, ◌⊎◌, true, false, nat_lt, Option, None, Some, List, [], ◌∷◌, ◌++◌, length, filter, map, codes}
+-- streams, each with the time of its last bytes; then the report.
+use Rattle.std.specs.Prelude.{◌≡◌, ◌≢◌, ℕ, ◌+◌, ◌≤◌, ◌⊎◌, true, false, nat_lt, Option, None, Some, List, [], ◌∷◌, ◌++◌, length, take, filter, map, codes}
 use Rattle.std.specs.List.{AllByRecursion, flat_map}
 use Rattle.wsn_wire.specs.declared.endpoint.Role.{Role}
 use Rattle.wsn_wire.specs.declared.endpoint.Role.TheVariants.{Client, Server}
@@ -8,7 +8,7 @@ use Rattle.wsn_rules.specs.declared.detail.Detail.{Detail}
 use Rattle.wsn_rules.specs.Limits.{Limits}
 use Rattle.wsn_rules.specs.Entries.{Entry, without_cr, AreEntries}
 use Rattle.wsn_rules.specs.Entries.Entry.{Nothing, Bytes, Mark}
-use Rattle.wsn_rules.specs.Sides.{sent, has_ended}
+use Rattle.wsn_rules.specs.Sides.{bytes_in, sent, has_ended}
 use Rattle.wsn_rules.specs.Reports.{IsReportOf}
 use Rattle.wsn_rules.specs.declared.report.Report.{Report}
 use Rattle.wsn_rules.specs.ShownStream.{Item, Shown, IsShownStream, IsLeftOver}
@@ -116,23 +116,50 @@ items_with_bytes role (Bytes _ bytes ∷ entries) (s ∷ shown) =
 items_with_bytes role (entry ∷ entries) (s ∷ shown) = items_with_bytes role entries shown
 items_with_bytes role entries shown = []
 
--- ---- the whole capture
+-- ---- the end of a capture
 
--- What is left over of an endpoint's stream at the end of the capture; nothing after its end mark.
-abbrev pub IsLeftAtEnd : Role → Limits → List Entry → List Item → Type 0
-IsLeftAtEnd role limits entries items =
+-- The last entry with bytes of this endpoint, and the time that holds after the lines before it.
+pub record IsTimeOfLastBytes (role : Role) (lines : List (List ℕ)) (entries : List Entry) (time : Option (List ℕ))
+    : Type 0 where
+  pub before : List Entry
+  pub last : Entry
+  pub after : List Entry
+  pub are : entries ≡ before ++ last ∷ after
+  pub some : bytes_in role last ≢ []
+  pub no_more : sent role after ≡ []
+  pub held : IsTimeAfter (take (length before) lines) time
+
+-- The time that held when the last bytes of this endpoint came; none if there are no bytes of it.
+abbrev pub IsTimeOfLast : Role → List (List ℕ) → List Entry → Option (List ℕ) → Type 0
+IsTimeOfLast role lines entries time =
+    IsTimeOfLastBytes role lines entries time ⊎ ((sent role entries ≡ []) × (time ≡ None))
+
+-- What is left over of an endpoint's stream at the end of the capture, and the time that held when its last bytes came.
+pub record LeftAtEnd : Type 0 where
+  pub time : Option (List ℕ)
+  pub items : List Item
+
+-- Nothing is left over after the endpoint's end mark.
+abbrev pub AreLeftAtEnd : Role → Limits → List Entry → List Item → Type 0
+AreLeftAtEnd role limits entries items =
     ((has_ended role entries ≡ true) × (items ≡ []))
     ⊎ ((has_ended role entries ≡ false) × IsLeftOver role limits (sent role entries) items)
 
--- What is shown of a capture with these lines: of each line; of what is left over, the client's first; and the report.
+-- This is left over of an endpoint's stream at the end of a capture with these lines and entries.
+pub record IsLeftAtEnd (role : Role) (limits : Limits) (lines : List (List ℕ)) (entries : List Entry) (left : LeftAtEnd)
+    : Type 0 where
+  pub time : IsTimeOfLast role lines entries left.time
+  pub items : AreLeftAtEnd role limits entries left.items
+
+-- ---- the whole capture
+
+-- What is shown of a capture with these lines: of each line; of what is left over of the client's stream and of the
+-- server's; and the report.
 pub record IsShownCapture (detail : Detail) (limits : Limits) (lines : List (List ℕ)) (shown : List ShownLine)
-    (last : List LineItem) (report : Report) : Type 0 where
+    (client server : LeftAtEnd) (report : Report) : Type 0 where
   pub entries : List Entry
   pub given : AreEntries lines entries
   pub each : AreShownAfter detail limits [] [] lines entries shown
-  pub client_left : List Item
-  pub server_left : List Item
-  pub of_client : IsLeftAtEnd Client limits entries client_left
-  pub of_server : IsLeftAtEnd Server limits entries server_left
-  pub left_over : last ≡ of_stream Client client_left ++ of_stream Server server_left
+  pub of_client : IsLeftAtEnd Client limits lines entries client
+  pub of_server : IsLeftAtEnd Server limits lines entries server
   pub is_report : IsReportOf limits entries report

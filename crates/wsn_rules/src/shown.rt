@@ -17,7 +17,7 @@ ghost use Rattle.wsn_rules.specs.ShownBytes.{AreSharedOut};
 ghost use Rattle.wsn_rules.specs.ShownPlaces.{AreInPlace, AreHeadsInPlace};
 ghost use Rattle.wsn_rules.specs.ShownEvents.{IsShownAt, ShowsEvent};
 ghost use Rattle.wsn_rules.specs.declared.report.Report.{Report};
-ghost use Rattle.wsn_rules.specs.ShownCapture.{beyond, LineItem, ShownLine, IsTimeAfter, AreShownAfter, items_with_bytes, IsShownCapture};
+ghost use Rattle.wsn_rules.specs.ShownCapture.{beyond, ShownLine, IsTimeAfter, AreShownAfter, items_with_bytes, IsTimeOfLast, LeftAtEnd, IsShownCapture};
 
 /// One list of items is shown of a stream in each detail. Its events are the meaning of the stream's frames, in order;
 /// its heads are those that are reported of the stream, in order.
@@ -84,21 +84,24 @@ pub fn law_shown_lines()
         × (items_with_bytes role entries shown ≡ map (λ s. s.item) all) }
 {}
 
-/// At most one list is left over of a stream, at most one time holds after lines, and at most one list of lines, with
-/// what is left over after them and a report, is shown of a capture.
+/// At most one list is left over of a stream, at most one time holds after lines, and at most one held when an endpoint's
+/// last bytes came. At most one list of lines, with what is left over of both streams and a report, is shown of a capture.
 pub fn law_one_shown_capture()
     ensures left { (role : Role) (limits : Limits) (bytes : List ℕ) (items others : List Item) →
         IsLeftOver role limits bytes items → IsLeftOver role limits bytes others → items ≡ others }
     ensures time { (lines : List (List ℕ)) (time other : Option (List ℕ)) →
         IsTimeAfter lines time → IsTimeAfter lines other → time ≡ other }
+    ensures last_time { (role : Role) (lines : List (List ℕ)) (entries : List Entry) (time other : Option (List ℕ)) →
+        IsTimeOfLast role lines entries time → IsTimeOfLast role lines entries other → time ≡ other }
     ensures lines { (detail : Detail) (limits : Limits) (before : List (List ℕ)) (given : List Entry)
         (lines : List (List ℕ)) (entries : List Entry) (shown others : List ShownLine) →
         AreShownAfter detail limits before given lines entries shown →
         AreShownAfter detail limits before given lines entries others → shown ≡ others }
     ensures capture { (detail : Detail) (limits : Limits) (lines : List (List ℕ)) (shown others : List ShownLine)
-        (last rest : List LineItem) (report other : Report) →
-        IsShownCapture detail limits lines shown last report →
-        IsShownCapture detail limits lines others rest other → (shown ≡ others) × (last ≡ rest) × (report ≡ other) }
+        (client server other_client other_server : LeftAtEnd) (report other : Report) →
+        IsShownCapture detail limits lines shown client server report →
+        IsShownCapture detail limits lines others other_client other_server other →
+        (shown ≡ others) × (client ≡ other_client) × (server ≡ other_server) × (report ≡ other) }
 {}
 
 /// Every stream of bytes has a list of items in each detail, and one that is left over, if the limits are in range. So
@@ -111,5 +114,6 @@ pub fn law_every_stream_is_shown()
     ensures capture { (detail : Detail) (limits : Limits) (lines : List (List ℕ)) (entries : List Entry)
         (report : Report) → InRange limits →
         AreEntries lines entries → ((role : Role) → IsBytes (sent role entries)) → IsReportOf limits entries report →
-        (shown : List ShownLine) × (last : List LineItem) × IsShownCapture detail limits lines shown last report }
+        (shown : List ShownLine) × (client server : LeftAtEnd)
+        × IsShownCapture detail limits lines shown client server report }
 {}

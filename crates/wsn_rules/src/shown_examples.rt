@@ -1,13 +1,16 @@
-//! Examples of what is shown of frames, computed from the definitions in `specs/`.
+//! Examples of what is shown of frames, and of the times at a capture's end, computed from the definitions in `specs/`.
 
 ghost use Rattle.std.specs.Prelude.{◌≡◌, true, false, None, Some, [], ◌∷◌, codes, map};
+ghost use Rattle.wsn_wire.specs.declared.endpoint.Role.TheVariants.{Client, Server};
 ghost use Rattle.wsn_wire.specs.declared.opcode.Kind.TheVariants as kind;
 ghost use Rattle.wsn_wire.specs.declared.opcode.Op.TheVariants.{Continue, Text, Binary, Close, Ping};
 ghost use Rattle.wsn_wire.specs.declared.length_forms.Form.TheVariants.{Shortest, Two};
 ghost use Rattle.wsn_rules.specs.Meaning.{Message, Control};
+ghost use Rattle.wsn_rules.specs.Entries.{Nothing, Bytes, Mark};
 ghost use Rattle.wsn_rules.specs.Heads.{heads_of};
 ghost use Rattle.wsn_rules.specs.ShownStream.{shown_of, shown_head, items_of_part, items_of_head, items_of_bytes};
 ghost use Rattle.wsn_rules.specs.ShownStream.Item.{Event, Head, Unfinished, UnfinishedHead, Tail};
+ghost use Rattle.wsn_rules.specs.ShownCapture.{IsTimeOfLast};
 ghost use Rattle.wsn_rules.specs.ShownExamples.{server_frame};
 
 /// What frames show: each event with its last byte, at the offset of its first frame.
@@ -74,4 +77,24 @@ pub fn left_over()
         ≡ UnfinishedHead 3 ∷ [] }
     ensures tail { items_of_bytes Tail 2 (129 ∷ 0 ∷ []) ≡ Tail 2 (129 ∷ 0 ∷ []) ∷ [] }
     ensures no_tail { items_of_bytes Tail 2 [] ≡ [] }
+{}
+
+/// The time that held when an endpoint's last bytes came: not a later one, and not that of the other endpoint.
+pub fn last_times()
+    ensures server { IsTimeOfLast Server
+        (codes "# 1.5" ∷ codes "S 81" ∷ codes "# 2.5" ∷ codes "C 81" ∷ codes "# 3.5" ∷ [])
+        (Nothing ∷ Bytes Server (0x81 ∷ []) ∷ Nothing ∷ Bytes Client (0x81 ∷ []) ∷ Nothing ∷ [])
+        (Some (codes "1.5")) }
+    ensures client { IsTimeOfLast Client
+        (codes "# 1.5" ∷ codes "S 81" ∷ codes "# 2.5" ∷ codes "C 81" ∷ codes "# 3.5" ∷ [])
+        (Nothing ∷ Bytes Server (0x81 ∷ []) ∷ Nothing ∷ Bytes Client (0x81 ∷ []) ∷ Nothing ∷ [])
+        (Some (codes "2.5")) }
+    ensures last_of_two { IsTimeOfLast Server
+        (codes "# 1.5" ∷ codes "S 81" ∷ codes "# 2.5" ∷ codes "S 05" ∷ codes "C." ∷ [])
+        (Nothing ∷ Bytes Server (0x81 ∷ []) ∷ Nothing ∷ Bytes Server (0x05 ∷ []) ∷ Mark Client ∷ [])
+        (Some (codes "2.5")) }
+    ensures before_a_time { IsTimeOfLast Server (codes "S 81" ∷ codes "# 2.5" ∷ [])
+        (Bytes Server (0x81 ∷ []) ∷ Nothing ∷ []) None }
+    ensures no_bytes { IsTimeOfLast Client (codes "# 1.5" ∷ codes "S 81" ∷ [])
+        (Nothing ∷ Bytes Server (0x81 ∷ []) ∷ []) None }
 {}

@@ -14,6 +14,8 @@ use Rattle.wsn_print.specs.declared.style.Style.{Style}
 use Rattle.wsn_show.specs.declared.capture_view.CaptureView.{CaptureView}
 use Rattle.wsn_show.specs.declared.end_notes.EndNotes.{EndNotes}
 use Rattle.wsn_show.specs.EndNotes.{HasNotedEnd}
+use Rattle.wsn_show.specs.declared.last_times.LastTimes.{LastTimes}
+use Rattle.wsn_show.specs.LastTimes.{HasNotedTimes}
 use Rattle.wsn_show.specs.CaptureViews.{HasShownLines, IsAcceptedText, CanShow, IsTimeNext, ShowsText, ShowsLine}
 
 -- ---- the last of the accepted lines
@@ -47,11 +49,11 @@ time_pushed lines line time next holds (inr (none, is)) =
 -- ---- a line
 
 module _ (limits : Limits) (style : Style) (view : CaptureView) (lines : List (List ℕ)) (entries : List Entry)
-    (has : HasShownLines limits style view lines entries) (new : CaptureLines) (ends : EndNotes) (line : List ℕ) (entry : Entry) (taken : HasAccepted limits new (lines ++ line ∷ []) (entries ++ entry ∷ [])) where
+    (has : HasShownLines limits style view lines entries) (new : CaptureLines) (ends : EndNotes) (times : LastTimes) (line : List ℕ) (entry : Entry) (taken : HasAccepted limits new (lines ++ line ∷ []) (entries ++ entry ∷ [])) where
   pub line_accepted : IsAcceptedText limits entries (without_cr line) entry
   line_accepted = let is = last_line limits [] lines entries line entry has.accepted.taken taken.taken in record { gives = is.gives; none = is.none }
 
-  pub can_show : CanShow (record view { lines = new; ends = ends }) (without_cr line)
+  pub can_show : CanShow (record view { lines = new; ends = ends; last_times = times }) (without_cr line)
   can_show = record {
     limits = limits;
     style = style;
@@ -67,10 +69,10 @@ module _ (limits : Limits) (style : Style) (view : CaptureView) (lines : List (L
       omega (arith, long)
 
   pub line_shown : (after : CaptureView) (written put : Outgoing) → HasAccepted limits after.lines (lines ++ line ∷ []) (entries ++ entry ∷ []) → HasNotedCloses limits after.lines (entries ++ entry ∷ [])
-      → HasNotedEnd after.ends (lines ++ line ∷ []) (entries ++ entry ∷ []) → ShowsText limits style (record view { lines = new; ends = ends }) after entries (without_cr line) entry written put → ShowsLine limits style after lines entries line written put
-  line_shown after written put accepted noted ended shows = record {
+      → HasNotedEnd after.ends (lines ++ line ∷ []) (entries ++ entry ∷ []) → HasNotedTimes after.last_times (lines ++ line ∷ []) (entries ++ entry ∷ []) → ShowsText limits style (record view { lines = new; ends = ends; last_times = times }) after entries (without_cr line) entry written put → ShowsLine limits style after lines entries line written put
+  line_shown after written put accepted noted ended timed shows = record {
     entry = entry;
-    has_shown = record { accepted = accepted; noted = noted; viewed = shows.viewed; time = time_pushed lines line view.time after.time has.time shows.time; ends = ended };
+    has_shown = record { accepted = accepted; noted = noted; viewed = shows.viewed; time = time_pushed lines line view.time after.time has.time shows.time; ends = ended; times = timed };
     shown = record { number = count_of new; time = view.time; items = shows.items };
     numbered = accepted_count limits new (lines ++ line ∷ []) (entries ++ entry ∷ []) taken ∙ length-append lines (line ∷ []);
     at = has.time;

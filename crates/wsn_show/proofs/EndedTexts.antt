@@ -7,10 +7,8 @@ use Rattle.wsn_rules.specs.TextLines.{ended, AreLines}
 use Rattle.wsn_rules.proofs.TextLines.{lines_at_end}
 use Rattle.wsn_rules.specs.declared.report.Report.{Report}
 use Rattle.wsn_wire.specs.declared.endpoint.Role.TheVariants.{Client, Server}
-use Rattle.wsn_rules.specs.ShownCapture.{LineItem, of_stream}
 use Rattle.wsn_print.specs.declared.style.Style.{Style}
-use Rattle.wsn_show.specs.Styles.{styled_line_item, styled_line, styled_ended_by, styled_capture, styled_report}
-use Rattle.wsn_print.specs.ShownObjects.Position.{AtEnd}
+use Rattle.wsn_show.specs.Styles.{styled_line, styled_left, styled_ended_by, styled_capture, styled_report}
 use Rattle.wsn_capture.specs.declared.capture_stop.CaptureStop.TheVariants as capture
 use Rattle.wsn_capture.proofs.SplitLines.{unfaulted, faulty_last}
 use Rattle.wsn_capture.proofs.AcceptedTexts.{taken_given}
@@ -27,22 +25,22 @@ use Rattle.wsn_show.proofs.PassedPieces.{text_so_far, text_with_line, partly_wit
 module _ (limits : Limits) (style : Style) (first : Outgoing) (came : List ℕ) (lines : List (List ℕ)) (are_lines : AreLines came lines)
     (view : CaptureView) (now : Outgoing) (has : HasPrintedLines limits style first view lines now) (after : Outgoing) (report : Report)
     (finishes : Finishes limits style lines has.entries now after report) where
-  abbrev last : List LineItem
-  last = of_stream Client finishes.client_left ++ of_stream Server finishes.server_left
-
   abbrev lines_text : List ℕ
   lines_text = flat_map (styled_line style) has.shown
 
   -- what is left over, and who ended the connection
   abbrev last_text : List ℕ
-  last_text = flat_map (styled_line_item style AtEnd) last ++ styled_ended_by style finishes.ended_by
+  last_text = styled_left style Client finishes.client ++ styled_left style Server finishes.server ++ styled_ended_by style finishes.ended_by
 
   -- the order in which it is written
   is_styled : lines_text ++ last_text ++ styled_report style report
-      ≡ styled_capture style has.shown last finishes.ended_by report
+      ≡ styled_capture style has.shown finishes.client finishes.server finishes.ended_by report
   is_styled =
+      let client = styled_left style Client finishes.client in
+      let server = styled_left style Server finishes.server in
+      let ended = styled_ended_by style finishes.ended_by in
       ap (λ (bs : List ℕ). bs ++ styled_report style report)
-      (sym (append_assoc lines_text (flat_map (styled_line_item style AtEnd) last) (styled_ended_by style finishes.ended_by)))
+      (sym (append_assoc lines_text (client ++ server) ended) ∙ ap (λ (bs : List ℕ). bs ++ ended) (sym (append_assoc lines_text client server)))
 
   pub whole_text : IsWholeText limits style came report (lines_text ++ last_text ++ styled_report style report)
   whole_text =
@@ -52,16 +50,14 @@ module _ (limits : Limits) (style : Style) (first : Outgoing) (came : List ℕ) 
         entries = has.entries;
         taken = has.has_shown.accepted.taken;
         shown = has.shown;
-        last = last;
+        client = finishes.client;
+        server = finishes.server;
         is_shown = record {
           entries = has.entries;
           given = taken_given limits [] lines has.entries has.has_shown.accepted.taken;
           each = has.are;
-          client_left = finishes.client_left;
-          server_left = finishes.server_left;
           of_client = finishes.of_client;
           of_server = finishes.of_server;
-          left_over = refl;
           is_report = finishes.is_report;
         };
         ended_by = finishes.ended_by;

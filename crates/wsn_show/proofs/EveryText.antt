@@ -69,15 +69,16 @@ some_text limits style came lines entries range are taken =
     let is = report.1 in
     let shown = some_shown_capture style.detail limits range lines is.entries report.0 is.given (λ role. sent_bytes role lines is.entries is.given) is.is in
     let ended = some_ended_by limits lines is.entries report.0 is.is in
-    let whole : IsWholeText limits style came report.0 (styled_capture style shown.0 shown.1 ended.0 report.0) = record {
+    let whole : IsWholeText limits style came report.0 (styled_capture style shown.0 shown.1 shown.2 ended.0 report.0) = record {
       lines = lines;
       are_lines = are;
       entries = is.entries;
       taken = subst (AreAcceptedLines limits lines) (same_entries lines entries is.entries given is.given) taken;
       shown = shown.0;
-      last = shown.1;
-      is_shown = shown.2;
+      client = shown.1;
+      server = shown.2;
+      is_shown = shown.3;
       ended_by = ended.0;
       is_ended_by = ended.1;
       is = refl;
-    } in (report.0, styled_capture style shown.0 shown.1 ended.0 report.0, whole)
+    } in (report.0, styled_capture style shown.0 shown.1 shown.2 ended.0 report.0, whole)

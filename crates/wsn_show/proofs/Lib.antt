@@ -15,6 +15,7 @@ pub mod ViewedStreams
 pub mod Points
 pub mod ShownEntries
 pub mod EndNotes
+pub mod LastTimes
 pub mod AcceptedLines
 pub mod PassedPieces
 pub mod EndedTexts

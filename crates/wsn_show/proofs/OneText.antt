@@ -4,7 +4,7 @@ use Rattle.wsn_wire.specs.declared.endpoint.Role.{Role}
 use Rattle.wsn_rules.specs.Limits.{Limits}
 use Rattle.wsn_rules.specs.Entries.{Entry, AreEntries}
 use Rattle.wsn_rules.specs.declared.report.Report.{Report}
-use Rattle.wsn_rules.specs.ShownCapture.{LineItem, ShownLine, IsShownCapture}
+use Rattle.wsn_rules.specs.ShownCapture.{ShownLine, LeftAtEnd, IsShownCapture}
 use Rattle.wsn_rules.proofs.OneEntry.{same_entries}
 use Rattle.wsn_rules.proofs.OneShownCapture.{one_shown_capture}
 use Rattle.wsn_rules.proofs.TextLines.{same_lines}
@@ -42,17 +42,18 @@ module _ (limits : Limits) (style : Style) (came : List ℕ) where
       let entries : is.entries ≡ also.entries =
       same_entries is.lines is.entries also.entries (taken_given limits [] is.lines is.entries is.taken)
       (subst (λ (ls : List (List ℕ)). AreEntries ls also.entries) (sym lines) (taken_given limits [] also.lines also.entries also.taken)) in
-      let same = one_shown_capture style.detail limits is.lines is.shown also.shown is.last also.last report other is.is_shown
-      (subst (λ (ls : List (List ℕ)). IsShownCapture style.detail limits ls also.shown also.last other) (sym lines) also.is_shown) in
+      let same = one_shown_capture style.detail limits is.lines is.shown also.shown is.client is.server also.client also.server report other is.is_shown
+      (subst (λ (ls : List (List ℕ)). IsShownCapture style.detail limits ls also.shown also.client also.server other) (sym lines) also.is_shown) in
       let ended = one_ended_by is.lines is.entries report is.ended_by also.ended_by is.is_ended_by
-      (subst (λ (r : Report). IsEndedBy is.lines is.entries r also.ended_by) (sym same.2)
+      (subst (λ (r : Report). IsEndedBy is.lines is.entries r also.ended_by) (sym same.3)
       (subst (λ (es : List Entry). IsEndedBy is.lines es other also.ended_by) (sym entries)
       (subst (λ (ls : List (List ℕ)). IsEndedBy ls also.entries other also.ended_by) (sym lines) also.is_ended_by))) in (
-        same.2,
+        same.3,
         is.is
-            ∙ ap (λ (shown : List ShownLine). styled_capture style shown is.last is.ended_by report) same.0
-            ∙ ap (λ (last : List LineItem). styled_capture style also.shown last is.ended_by report) same.1
-            ∙ ap (λ (by : Option EndedBy). styled_capture style also.shown also.last by report) ended
-            ∙ ap (λ (r : Report). styled_capture style also.shown also.last also.ended_by r) same.2
+            ∙ ap (λ (shown : List ShownLine). styled_capture style shown is.client is.server is.ended_by report) same.0
+            ∙ ap (λ (left : LeftAtEnd). styled_capture style also.shown left is.server is.ended_by report) same.1
+            ∙ ap (λ (left : LeftAtEnd). styled_capture style also.shown also.client left is.ended_by report) same.2
+            ∙ ap (λ (by : Option EndedBy). styled_capture style also.shown also.client also.server by report) ended
+            ∙ ap (λ (r : Report). styled_capture style also.shown also.client also.server also.ended_by r) same.3
             ∙ sym also.is,
       )

@@ -207,12 +207,3 @@ marks role limits style given position before after left is_left printed = recor
   shows = (left, is_left, refl);
   printed = subst (IsWrittenUpToFailure before after) (sym (with_end_text style role position left (length (sent role given)))) printed;
 }
-
--- ---- both streams
-
-pub both_streams_text : (style : Style) (position : Position) (client server : List Item) →
-    flat_map (styled_line_item style position) (of_stream Client client ++ of_stream Server server) ≡ styled_items style Client position client ++ styled_items style Server position server
-both_streams_text style position client server =
-    flat_map-append (styled_line_item style position) (of_stream Client client) (of_stream Server server)
-    ∙ ap (λ (bs : List ℕ). bs ++ flat_map (styled_line_item style position) (of_stream Server server)) (of_stream_text style Client position client)
-    ∙ ap (λ (bs : List ℕ). styled_items style Client position client ++ bs) (of_stream_text style Server position server)

@@ -7,20 +7,20 @@ use Rattle.wsn_rules.specs.Limits.{Limits}
 use Rattle.wsn_rules.specs.Entries.{Entry, GivesEntry, without_cr, end_mark}
 use Rattle.wsn_rules.specs.Entries.Entry.{Mark}
 use Rattle.wsn_rules.specs.Sides.{sent}
-use Rattle.wsn_rules.specs.ShownStream.{Item}
 use Rattle.wsn_rules.specs.declared.report.Report.{Report}
 use Rattle.wsn_rules.specs.Reports.{IsReportOf}
-use Rattle.wsn_rules.specs.ShownCapture.{LineItem, ShownLine, GivesTime, GivesNoTime, of_stream, IsTimeAfter, IsShownOfEntry, IsLeftAtEnd}
+use Rattle.wsn_rules.specs.ShownCapture.{LineItem, ShownLine, GivesTime, GivesNoTime, IsTimeAfter, IsShownOfEntry, LeftAtEnd, IsLeftAtEnd}
 use Rattle.wsn_print.specs.declared.style.Style.{Style}
 use Rattle.wsn_show.specs.declared.ended_by.EndedBy.{EndedBy}
 use Rattle.wsn_show.specs.EndedBy.{IsEndedBy}
 use Rattle.wsn_show.specs.EndNotes.{HasNotedEnd}
-use Rattle.wsn_show.specs.Styles.{styled_items, styled_line_item, styled_line, styled_ended_by}
+use Rattle.wsn_show.specs.LastTimes.{HasNotedTimes}
+use Rattle.wsn_show.specs.Styles.{styled_line_item, styled_line, styled_left, styled_ended_by}
 use Rattle.wsn_capture.specs.declared.line_fault.LineFault.{LineFault}
 use Rattle.wsn_capture.specs.LineFaults.{HasFault}
 use Rattle.wsn_capture.specs.CaptureLines.{HasAccepted, HasNotedCloses, count_of}
 use Rattle.wsn_print.specs.ShownObjects.{Position}
-use Rattle.wsn_print.specs.ShownObjects.Position.{InLine, AtEnd}
+use Rattle.wsn_print.specs.ShownObjects.Position.{InLine}
 use Rattle.wsn_show.specs.StreamViews.{HasViewed}
 use Rattle.wsn_show.specs.declared.capture_view.CaptureView.{CaptureView}
 
@@ -38,6 +38,7 @@ pub record HasShownLines (limits : Limits) (style : Style) (view : CaptureView) 
   pub noted : HasNotedCloses limits view.lines entries
   pub viewed : AreViewed limits style view entries
   pub time : IsTimeAfter lines view.time
+  pub times : HasNotedTimes view.last_times lines entries
   pub ends : HasNotedEnd view.ends lines entries
 
 -- The view has shown some lines, or none.
@@ -109,12 +110,12 @@ pub record ShowsLine (limits : Limits) (style : Style) (new : CaptureView) (line
 -- ---- the end
 
 -- What is left over of an endpoint's stream at the end of the capture was printed after what was printed before.
-pub record LeavesAtEnd (role : Role) (limits : Limits) (style : Style) (entries : List Entry) (old new : Outgoing)
-    : Type 0 where
-  pub left : List Item
-  pub is_left : IsLeftAtEnd role limits entries left
+pub record LeavesAtEnd (role : Role) (limits : Limits) (style : Style) (lines : List (List ℕ)) (entries : List Entry)
+    (old new : Outgoing) : Type 0 where
+  pub left : LeftAtEnd
+  pub is_left : IsLeftAtEnd role limits lines entries left
   pub printed : (before : Outgoing) (text : List ℕ) → IsWrittenUpToFailure before old text →
-      IsWrittenUpToFailure before new (text ++ styled_items style role AtEnd left)
+      IsWrittenUpToFailure before new (text ++ styled_left style role left)
 
 -- Who ended the connection was printed after what was printed before.
 pub record SaysWhoEnded (style : Style) (lines : List (List ℕ)) (entries : List Entry) (report : Report)
@@ -127,13 +128,13 @@ pub record SaysWhoEnded (style : Style) (lines : List (List ℕ)) (entries : Lis
 -- What is left over of both streams and who ended the connection was printed, and this is the report.
 pub record Finishes (limits : Limits) (style : Style) (lines : List (List ℕ)) (entries : List Entry)
     (before after : Outgoing) (report : Report) : Type 0 where
-  pub client_left : List Item
-  pub server_left : List Item
-  pub of_client : IsLeftAtEnd Client limits entries client_left
-  pub of_server : IsLeftAtEnd Server limits entries server_left
+  pub client : LeftAtEnd
+  pub server : LeftAtEnd
+  pub of_client : IsLeftAtEnd Client limits lines entries client
+  pub of_server : IsLeftAtEnd Server limits lines entries server
   pub is_report : IsReportOf limits entries report
   pub ended_by : Option EndedBy
   pub is_ended_by : IsEndedBy lines entries report ended_by
   pub printed :
-      IsWrittenUpToFailure before after (flat_map (styled_line_item style AtEnd)
-      (of_stream Client client_left ++ of_stream Server server_left) ++ styled_ended_by style ended_by)
+      IsWrittenUpToFailure before after (styled_left style Client client ++ styled_left style Server server
+      ++ styled_ended_by style ended_by)

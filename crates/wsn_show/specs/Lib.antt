@@ -10,6 +10,7 @@ pub mod StreamViews
 pub mod Times
 pub mod EndedBy
 pub mod EndNotes
+pub mod LastTimes
 pub mod CaptureViews
 pub mod Showing
 pub mod PassedLines

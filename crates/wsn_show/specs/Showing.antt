@@ -7,7 +7,7 @@ use Rattle.wsn_rules.specs.Limits.{Limits}
 use Rattle.wsn_rules.specs.declared.report.Report.{Report}
 use Rattle.wsn_rules.specs.Entries.{Entry}
 use Rattle.wsn_rules.specs.TextLines.{IsLine, ended, AreLines}
-use Rattle.wsn_rules.specs.ShownCapture.{LineItem, ShownLine, AreShownAfter, IsShownCapture}
+use Rattle.wsn_rules.specs.ShownCapture.{ShownLine, AreShownAfter, LeftAtEnd, IsShownCapture}
 use Rattle.wsn_print.specs.declared.style.Style.{Style}
 use Rattle.wsn_show.specs.declared.ended_by.EndedBy.{EndedBy}
 use Rattle.wsn_show.specs.EndedBy.{IsEndedBy}
@@ -42,11 +42,12 @@ pub record IsWholeText (limits : Limits) (style : Style) (came : List ℕ) (repo
   pub entries : List Entry
   pub taken : AreAcceptedLines limits lines entries
   pub shown : List ShownLine
-  pub last : List LineItem
-  pub is_shown : IsShownCapture style.detail limits lines shown last report
+  pub client : LeftAtEnd
+  pub server : LeftAtEnd
+  pub is_shown : IsShownCapture style.detail limits lines shown client server report
   pub ended_by : Option EndedBy
   pub is_ended_by : IsEndedBy lines entries report ended_by
-  pub is : text ≡ styled_capture style shown last ended_by report
+  pub is : text ≡ styled_capture style shown client server ended_by report
 
 -- ---- the answer
 

@@ -1,10 +1,11 @@
 -- What is printed of items in a style.
 use Rattle.std.specs.Prelude.{ℕ, Option, List, ◌++◌, flat_map}
 use Rattle.wsn_wire.specs.declared.endpoint.Role.{Role}
+use Rattle.wsn_wire.specs.declared.endpoint.Role.TheVariants.{Client, Server}
 use Rattle.wsn_rules.specs.declared.report.Report.{Report}
 use Rattle.wsn_rules.specs.declared.verdict.Verdict.{Verdict}
 use Rattle.wsn_rules.specs.ShownStream.{Item}
-use Rattle.wsn_rules.specs.ShownCapture.{LineItem, ShownLine}
+use Rattle.wsn_rules.specs.ShownCapture.{LineItem, ShownLine, LeftAtEnd}
 use Rattle.wsn_print.specs.ShownObjects.{Position}
 use Rattle.wsn_print.specs.ShownObjects.Position.{AtEnd}
 use Rattle.wsn_print.specs.Formats.{item_entry, line_item_entry, line_entries, report_text, verdict_text}
@@ -28,6 +29,10 @@ styled_line_item style = line_item_entry style.format style.view
 abbrev pub styled_line : Style → ShownLine → List ℕ
 styled_line style = line_entries style.format style.view
 
+-- What is left over of an endpoint's stream at the end of a capture.
+abbrev pub styled_left : Style → Role → LeftAtEnd → List ℕ
+styled_left style role left = styled_items style role (AtEnd left.time) left.items
+
 -- A report.
 abbrev pub styled_report : Style → Report → List ℕ
 styled_report style = report_text style.format
@@ -40,8 +45,9 @@ styled_verdict style = verdict_text style.format
 abbrev pub styled_ended_by : Style → Option EndedBy → List ℕ
 styled_ended_by style = ended_by_text style.format
 
--- What is printed of a capture: of each line, of what is left over at its end, who ended the connection, and the report.
-abbrev pub styled_capture : Style → List ShownLine → List LineItem → Option EndedBy → Report → List ℕ
-styled_capture style lines last ended_by report =
-    flat_map (styled_line style) lines ++ flat_map (styled_line_item style AtEnd) last ++ styled_ended_by style ended_by
-    ++ styled_report style report
+-- What is printed of a capture: of each line, of what is left over of the client's stream and of the server's, who ended
+-- the connection, and the report.
+abbrev pub styled_capture : Style → List ShownLine → LeftAtEnd → LeftAtEnd → Option EndedBy → Report → List ℕ
+styled_capture style lines client server ended_by report =
+    flat_map (styled_line style) lines ++ styled_left style Client client ++ styled_left style Server server
+    ++ styled_ended_by style ended_by ++ styled_report style report

@@ -11,6 +11,7 @@ ghost use Rattle.wsn_show.specs.CaptureViews.{ShowsMark};
 
 use crate::end_notes::EndNotes;
 use crate::ended_by::text_of;
+use crate::last_times::LastTimes;
 use crate::stream_view::StreamView;
 use crate::times::{CurrentTime, LINE_MAX};
 use std::io::Write;
@@ -27,6 +28,7 @@ pub struct CaptureView {
     client: StreamView,
     server: StreamView,
     time: CurrentTime,
+    last_times: LastTimes,
     ends: EndNotes,
 }
 
@@ -51,6 +53,7 @@ impl CaptureView {
             client: StreamView::new(Role::Client, limits, of_client),
             server: StreamView::new(Role::Server, limits, style),
             time: CurrentTime::new(),
+            last_times: LastTimes::new(),
             ends: EndNotes::new(),
         }
     }
@@ -81,6 +84,7 @@ impl CaptureView {
         let text = strip_cr(line);
         let entry = self.lines.accept(line, bytes)?;
         self.ends.note(text, entry);
+        self.last_times.note(entry, &self.time);
         match entry {
             LineEntry::Nothing => self.show_nothing(text, output),
             LineEntry::Bytes(role, count) => self.show_bytes(role, &mut bytes[..count], output),
@@ -133,18 +137,22 @@ impl CaptureView {
         }
     }
 
-    /// Prints what is left over of an endpoint's stream at the end of the capture: nothing after its end mark.
+    /// Prints what is left over of an endpoint's stream at the end of the capture, with the time of its last bytes:
+    /// nothing after its end mark.
     fn put_left_at_end<W: Write>(&self, role: Role, output: &mut Output<W>)
         ensures { (limits : Limits) (style : Style) (lines : List (List ℕ)) (entries : List Entry) →
             HasShownLines limits style self.now lines entries →
-            LeavesAtEnd role limits style entries output.old output.new }
+            LeavesAtEnd role limits style lines entries output.old output.new }
     {
         if self.lines.has_ended(role) {
             return;
         }
+        let origin = Origin::End {
+            time: self.last_times.of(role),
+        };
         match role {
-            Role::Client => self.client.put_left_over(Origin::End, output),
-            Role::Server => self.server.put_left_over(Origin::End, output),
+            Role::Client => self.client.put_left_over(origin, output),
+            Role::Server => self.server.put_left_over(origin, output),
         }
     }
 
@@ -156,6 +164,7 @@ impl CaptureView {
         ensures shows { Shows self.old self.new text.now output.old output.new }
         ensures lines { self.new.lines ≡ self.old.lines }
         ensures ends { self.new.ends ≡ self.old.ends }
+        ensures times { self.new.last_times ≡ self.old.last_times }
     {
         if text.is_empty() {
             return;
@@ -183,6 +192,7 @@ impl CaptureView {
             HasNotedCloses limits self.new.lines (given ++ Bytes role bytes.old ∷ []) }
         ensures count { count_of self.new.lines ≡ count_of self.old.lines }
         ensures ends { self.new.ends ≡ self.old.ends }
+        ensures times { self.new.last_times ≡ self.old.last_times }
     {
         let origin = origin_of(&self.lines, &self.time);
         match role {
@@ -203,6 +213,7 @@ impl CaptureView {
         ensures shows { Shows self.old self.new (end_mark role) output.old output.new }
         ensures lines { self.new.lines ≡ self.old.lines }
         ensures ends { self.new.ends ≡ self.old.ends }
+        ensures times { self.new.last_times ≡ self.old.last_times }
     {
         let origin = origin_of(&self.lines, &self.time);
         match role {

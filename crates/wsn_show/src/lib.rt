@@ -25,6 +25,7 @@ mod following;
 mod frame_so_far;
 mod last_bytes;
 mod last_payload;
+mod last_times;
 pub mod laws;
 mod message_so_far;
 mod printing;

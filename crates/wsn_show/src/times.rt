@@ -93,6 +93,18 @@ impl CurrentTime {
         Some(self.text.as_slice())
     }
 
+    /// Takes over the time of another.
+    #[tactic(none)]
+    pub fn copy_from(&mut self, other: &CurrentTime)
+        ensures { self.new ≡ other.now }
+    {
+        self.given = other.given;
+        if other.given {
+            self.text.clear();
+            self.text.add(other.text.as_slice());
+        }
+    }
+
     /// Takes a line without its CR, and returns whether it gives a time, which holds from then on.
     pub fn take(&mut self, line: &[u8]) -> bool
         requires { length line.now ≤ LINE_MAX }

@@ -7,4 +7,4 @@ returns c detail limits lines entries range are =
     let report = has_report limits lines entries range are in
     let is = report.1 in
     let shown = some_shown_capture detail limits range lines is.entries report.0 is.given (λ role. sent_bytes role lines is.entries is.given) is.is in
-    (shown.0, shown.1, report.0, shown.2)
+    (shown.0, shown.1, shown.2, report.0, shown.3)

@@ -33,3 +33,11 @@ returns-clause-nothing_yet c = refl
 pub returns-clause-head : goal.returns-clause-head
 unfolding digits encode_with utf8_valid_len is_utf8 chars encode_utf8
 returns-clause-head c = refl
+
+pub returns-clause-at_the_end : goal.returns-clause-at_the_end
+unfolding digits encode_with utf8_valid_len is_utf8 chars encode_utf8
+returns-clause-at_the_end c = refl
+
+pub returns-clause-at_the_end_without_a_time : goal.returns-clause-at_the_end_without_a_time
+unfolding digits encode_with utf8_valid_len is_utf8 chars encode_utf8
+returns-clause-at_the_end_without_a_time c = refl

@@ -45,3 +45,7 @@ returns-clause-end_mark c = refl
 pub returns-clause-frame : goal.returns-clause-frame
 unfolding digits encode_with utf8_valid_len is_utf8 chars encode_utf8
 returns-clause-frame c = refl
+
+pub returns-clause-unread_with_a_time : goal.returns-clause-unread_with_a_time
+unfolding digits encode_with utf8_valid_len is_utf8 chars encode_utf8
+returns-clause-unread_with_a_time c = refl

@@ -1,11 +1,8 @@
-use Rattle.std.proofs.Common.{[], sym, subst}
+use Rattle.std.proofs.Common.{[]}
 use Rattle.wsn_wire.specs.declared.endpoint.Role.TheVariants.{Client, Server}
 use Rattle.wsn_rules.specs.Sides.{sent}
-use Rattle.wsn_io.specs.Transfer.{IsWrittenUpToFailure}
 use Rattle.wsn_io.proofs.PutTexts.{prints_nothing}
-use Rattle.wsn_print.specs.ShownObjects.Position.{AtEnd}
-use Rattle.wsn_show.specs.Styles.{styled_items}
-use Rattle.wsn_show.proofs.ShownEntries.{both_streams_text}
+use Rattle.wsn_show.specs.Styles.{styled_left}
 use Rattle.wsn_show.proofs.capture_view.CaptureView.finish.Goals as goal
 
 pub returns : goal.returns
@@ -16,15 +13,14 @@ returns g c limits style lines entries has =
     (c.verdict.ensures Client limits style (sent Client entries) has.viewed.client) (c.verdict-2.ensures Server limits style (sent Server entries) has.viewed.server) in
     let says = c.put_who_ended.ensures limits style lines entries has is_report in
     record {
-      client_left = client.left;
-      server_left = server.left;
+      client = client.left;
+      server = server.left;
       of_client = client.is_left;
       of_server = server.is_left;
       is_report = is_report;
       ended_by = says.ended_by;
       is_ended_by = says.is_ended_by;
       printed = says.printed c.args.output.now _
-          (subst (IsWrittenUpToFailure c.args.output.now c.put_left_at_end-2.new.output) (sym (both_streams_text style AtEnd client.left server.left))
-          (server.printed c.args.output.now (styled_items style Client AtEnd client.left)
-          (client.printed c.args.output.now [] (prints_nothing c.args.output.now c.requires))));
+          (server.printed c.args.output.now (styled_left style Client client.left)
+          (client.printed c.args.output.now [] (prints_nothing c.args.output.now c.requires)));
     }
