@@ -13,7 +13,7 @@ function markAt(view, offset) {
   return offset < frame.keyAt ? "head" : offset < frame.payloadAt ? "key" : "payload";
 }
 
-/** Whether the offending byte may be right, since it only shows that the bytes before it are no character. */
+/** Whether the offending byte is no part of the cut character: it only shows that the text ends there. */
 function isInnocent({ wrong, bad }) {
   return Boolean(wrong?.length) && !wrong.includes(bad);
 }
@@ -71,7 +71,7 @@ function byteLines(session, view, from, to, width) {
 /**
  * A view of a side's bytes. `view` has side, from, to; the frame that they belong to, if it is listed; without a frame,
  * payloadAt, before which bytes count as a head; bad, the offset of the offending byte; wrong, those of the bytes of a
- * bad character; start, the offset of the first byte that is drawn at first.
+ * bad character, and isCut, whether that is cut; start, the offset of the first byte that is drawn at first.
  */
 function byteView(session, view) {
   const width = matchMedia("(max-width: 760px)").matches ? 8 : 16, start = view.start ?? view.from;
@@ -117,7 +117,8 @@ function marksLegend(view) {
   if (view.frame?.keyBytes) legend.append(" ", make("span", "key", "key"));
   if (view.frame) legend.append(" ", make("span", "payload", "payload"));
   const isWrong = view.wrong?.some(offset => offset >= view.from && offset < view.to);
-  if (isWrong) legend.append(" ", make("span", "wrong", "bad character"));
+  const last = !view.isCut && view.wrong?.length > 1 && view.bad !== undefined ? ", the offending byte last" : "";
+  if (isWrong) legend.append(" ", make("span", "wrong", `${view.isCut ? "cut" : "bad"} character${last}`));
   if (view.bad === undefined) return legend;
   if (!view.wrong?.includes(view.bad)) legend.append(" ", make("span", "bad", "offending byte"));
   legend.append(" ", make("span", "rest", "after it: not read"));

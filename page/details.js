@@ -97,7 +97,8 @@ function eventDetails(session, row) {
 function refusedViews(session, row, frame, bad) {
   const side = row.side, to = Math.min(row.place + 1 + AFTER, session.sent[side].length);
   const wrong = bad?.offsets ?? [], views = [];
-  const add = (view, red) => views.push({ side, wrong, red, ...view, start: Math.max(view.from, red - SEEN_BYTES) });
+  const isCut = bad?.isCut, start = (from, red) => Math.max(from, red - SEEN_BYTES);
+  const add = (view, red) => views.push({ side, wrong, isCut, red, ...view, start: start(view.from, red) });
   const parts = bad ? bad.frames.filter(each => each.offset < row.offset) : [];
   for (const each of parts) {
     const red = wrong.find(offset => offset >= each.offset && offset < each.end);

@@ -32,11 +32,11 @@ function viewOf(session, row) {
   }
 }
 
-/** A refused text around its bad character, and the program's first sentence on the reason, which may have an offset. */
+/** A refused text up to its bad character, and the program's first sentence on the reason, which may have an offset. */
 function refusedView(session, row) {
   const words = session.sentence(row.reason) || row.reason, place = field("place", "", String(row.place));
   const [before, after] = words.split("OFFSET"), bad = badCharacter(session, row);
-  const text = bad ? [make("span", "text", ...characterText(session, bad, ROW_BYTES, 1).parts), " "] : [];
+  const text = bad ? [make("span", "text", ...characterText(session, bad, ROW_BYTES, 0).parts), " "] : [];
   return [...text, ...(after === undefined ? ["byte ", place, ": ", words] : [before, "offset ", place, after])];
 }
 
@@ -82,7 +82,7 @@ const LABELS = {
   tail: row => [make("span", "kind", "tail"), " ", ...bytesWords("bytes", row.bytes), " after the Close"],
   end: row => [`the ${row.side}'s direction ended`],
   silence: row => [`${row.seconds.toFixed(1)} s of silence`],
-  comment: row => [field("text", "text", ...visible(row.text))],
+  comment: row => [field("text", "text", ...row.hex === undefined ? visible(row.text) : byteParts(bytesOf(row.hex)))],
 };
 
 /** The words on an arrow. */

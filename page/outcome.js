@@ -127,8 +127,8 @@ function refusalSentence(session, side, go) {
 function characterWords(session, row) {
   const bad = row && badCharacter(session, row);
   if (!bad) return [];
-  const bytes = make("code", "", pairs(Array.from(bad.bytes, digits).join("")));
-  return [" The bad character, ", bytes, `, begins at offset ${bad.offsets[0]}.`];
+  const bytes = make("code", "", bytePairs(bad.bytes));
+  return [` The ${characterName(bad)}, `, bytes, `, begins at offset ${bad.offsets[0]}.`];
 }
 
 /** What undoes compression, if a side is refused for it: by a comment of the capture, or by the look of it. */

@@ -177,9 +177,11 @@ function globalKeys(filter, ladder, signal) {
 let laidOut = null; // Ends what listens for the session that is laid out.
 
 function footerOf(session) {
-  const made = `Made by ${session.version}: frames, refusals, the seven facts and the outcome are what its `;
-  const more = " says. Where a bad character begins, what looks compressed or exchanged, who broke off, and the "
-    + "handshake are read from the bytes and comments by this page. It holds the capture, and fetches nothing.";
+  const made = `Made by ${session.version}: frames, refusals, the bad characters of texts, the seven facts and the `
+    + "outcome are what its ";
+  const more = " says. Where a Close's reason goes wrong, where a cut text's last character begins, what looks "
+    + "compressed or exchanged, and the handshake are read from the bytes and comments by this page. It holds the "
+    + "capture, and fetches nothing.";
   return make("footer", "", made, make("code", "", "wsn show --json"), more);
 }
 

@@ -1,5 +1,5 @@
-// A text that is refused: which bytes its bad character has and where, and what the text looks like. The offset of the
-// offending byte is the program's; the character begins at most three bytes before it.
+// A text that is refused: which bytes its bad character has and where, and what the text looks like. The program says
+// it of a text message; of a Close's reason, and of a text that ends inside a character, the bytes that are read do.
 
 const TEXT_REASONS = new Set(["text-bad", "text-cut", "close-reason"]);
 const SEEN_BYTES = 32; // The bytes before a red one that are shown at first, and of the text behind it.
@@ -36,6 +36,16 @@ function byteEscape(byte) {
   return `\\x${digits(byte)}`;
 }
 
+/** Bytes of a comment that isn't UTF-8, as parts: each that isn't printable ASCII as an escape. */
+function byteParts(bytes) {
+  return Array.from(bytes, byte => isPlain([byte]) ? String.fromCharCode(byte) : make("i", "escape", byteEscape(byte)));
+}
+
+/** The same as a text. */
+function escapedBytes(bytes) {
+  return make("span", "", ...byteParts(bytes)).textContent;
+}
+
 /** Bytes that needn't be a text, as parts: what is a text, and each other byte as an escape. */
 function looseText(bytes) {
   const parts = [];
@@ -54,11 +64,27 @@ function fromCharacter(bytes) {
   return first > 0 && first < 4 ? bytes.slice(first) : bytes;
 }
 
+/** Where a bad character begins in the payload of its message, and its size, as the program says of a text. */
+function toldCharacter({ in_payload: at, hex }) {
+  return { at, size: hex.length / 2, isCut: false };
+}
+
+/** The same of a Close's reason or a text that is cut, by the last bytes that are read of the payload. */
+function readCharacter(session, row, frames, start) {
+  const last = frames[frames.length - 1], isLast = last.offset === row.offset;
+  const unread = isLast ? last.end - Math.max(row.place + 1, last.payloadAt) : 0;
+  const read = frames.reduce((sum, each) => sum + each.length, 0) - unread;
+  const bytes = session.unmasked(frames, Math.max(start, read - 4), read), some = incomplete(bytes.slice(0, -1));
+  const isCut = row.reason === "text-cut" || isTextSoFar(bytes.slice(-1 - some));
+  const size = isCut ? incomplete(bytes) : some + 1;
+  return { at: read - size, size, isCut };
+}
+
 /**
- * What is known of a refused text, or of a Close's reason: `frames`, those of its message up to the refused one; `at`,
- * the place in the message's payload where the bad character begins; `bytes`, those of the character; `offsets`, where
- * they are in what the side sent; `next`, the byte that can't follow; without it the character is cut. Nothing if the
- * refusal is for something else.
+ * What is known of a refused text, or of a Close's reason: `frames`, those of its message up to the refused one;
+ * `start`, where the text begins in the message's payload; `at`, where the bad character begins there; `bytes`, those
+ * of the character, the offending one last; `offsets`, where they are in what the side sent; `isCut`, whether bytes are
+ * missing and none is wrong. Nothing if the refusal is for something else.
  */
 function badCharacter(session, row) {
   if (!TEXT_REASONS.has(row.reason)) return null;
@@ -66,30 +92,35 @@ function badCharacter(session, row) {
   const frame = listed ?? session.frames[row.side].findLast(each => DATA.has(each.opcode) && each.offset < row.offset);
   if (!frame) return null;
   const frames = session.messageUpTo(frame), start = frame.opcode === "close" ? 2 : 0;
-  const after = listed ? frame.end - Math.max(row.place + 1, frame.payloadAt) : 0; // What isn't read of its payload.
-  const read = frames.reduce((sum, each) => sum + each.length, 0) - after;
-  const last = session.unmasked(frames, Math.max(start, read - 4), read), some = incomplete(last.slice(0, -1));
-  const isCut = row.reason === "text-cut" || (row.reason === "close-reason" && isTextSoFar(last.slice(-1 - some)));
-  const size = isCut ? incomplete(last) : Math.max(1, some), at = isCut ? read - size : read - 1 - some;
-  const bytes = session.unmasked(frames, at, at + size);
+  const found = row.character ? toldCharacter(row.character) : readCharacter(session, row, frames, start);
+  const { at, size, isCut } = found, bytes = session.unmasked(frames, at, at + size);
   const offsets = Array.from(bytes, (_, place) => session.offsetOf(frames, at + place));
-  const next = isCut || !some ? undefined : last[last.length - 1];
-  return { frames, start, read, at, bytes, offsets, next, isCut };
+  return { frames, start, at, bytes, offsets, isCut };
+}
+
+/** What a bad character is called. */
+function characterName({ isCut }) {
+  return isCut ? "cut character" : "bad character";
+}
+
+/** Bytes as digits. */
+function bytePairs(bytes) {
+  return pairs(Array.from(bytes, digits).join(""));
 }
 
 /** Where a bad character begins, which bytes it has, and what is wrong with it. */
 function characterSentence(side, bad) {
-  const has = pairs(Array.from(bad.bytes, digits).join("")), what = bad.start ? "the Close" : "the message";
-  const place = `offset ${bad.offsets[0]} of what the ${side} sent, offset ${bad.at} in ${what}'s payload`;
-  const bytes = `${bad.bytes.length === 1 ? "byte" : "bytes"} `, code = text => make("span", "mono", text);
-  const parts = [`The bad character begins at ${place}, and has the ${bytes}`, code(has)];
-  const least = bad.bytes.length ? sizeBy(bad.bytes[0]) - bad.bytes.length : 0;
-  if (bad.isCut) return [...parts, `; ${what} ends there, and ${missing(least, " of the character")}.`];
-  return bad.next === undefined ? [...parts, ", with which no character begins."]
-    : [...parts, ", which ", code(digits(bad.next)), " can't follow."];
+  const { bytes, isCut, offsets, at } = bad, what = bad.start ? "the Close" : "the message";
+  const place = `offset ${offsets[0]} of what the ${side} sent, offset ${at} in ${what}'s payload`;
+  const code = some => make("span", "mono", bytePairs(some)), word = bytes.length === 1 ? "byte" : "bytes";
+  const parts = [`The ${characterName(bad)} begins at ${place}, and has the ${word} `, code(bytes)];
+  const least = bytes.length ? sizeBy(bytes[0]) - bytes.length : 0;
+  if (isCut) return [...parts, `; ${what} ends there, and ${missing(least, " of the character")}.`];
+  return bytes.length === 1 ? [...parts, ", with which no character begins."]
+    : [...parts, ": ", code(bytes.slice(-1)), " can't follow ", code(bytes.slice(0, -1)), "."];
 }
 
-/** A refused text around its bad character, which is marked: bytes before it, and bytes after it, which aren't read. */
+/** A refused text around its bad character, which is marked: what is before it, and after it what isn't read. */
 function characterText(session, bad, before, after) {
   const { frames, start, at, bytes } = bad, from = Math.max(start, at - before);
   const end = at + bytes.length, sum = frames.reduce((all, frame) => all + frame.length, 0);
@@ -114,7 +145,7 @@ function refusedWords(session, row) {
 function characterBlock(session, bad) {
   const draw = before => characterText(session, bad, before, SEEN_BYTES);
   const { parts, hidden } = draw(SEEN_BYTES), block = make("pre", "payload", ...parts);
-  const title = heading(`${bad.start ? "Reason" : "Text"} around the bad character`);
+  const title = heading(`${bad.start ? "Reason" : "Text"} around the ${characterName(bad)}`);
   if (!hidden) return [title, block];
   block.tabIndex = -1;
   const more = button(`Show the ${count(Math.min(hidden, WHOLE_TEXT), "byte")} before`, () => {

@@ -76,6 +76,11 @@ function visible(text, keepLines = false) {
   return parts.filter(part => part !== "");
 }
 
+/** The bytes that digits stand for. */
+function bytesOf(hex) {
+  return Uint8Array.from(hex.match(/../g) ?? [], pair => parseInt(pair, 16));
+}
+
 /** Whether bytes are shown as a text: those of printable ASCII. */
 function isPlain(bytes) {
   return bytes.every(byte => byte >= 0x20 && byte <= 0x7e);

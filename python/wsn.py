@@ -21,8 +21,9 @@ import os
 from typing import Any, Callable, Collection, Dict, List, Optional, Tuple, TypeVar
 
 __all__ = [
-    "Close", "Comparison", "EndedBy", "Entry", "Fault", "FaultyCapture", "Frame", "Frames", "NotAccepted", "Report",
-    "Session", "Side", "Stopped", "Verdict", "closing", "frames", "judge", "normal", "plan", "recut", "same", "sent", "show",
+    "BadCharacter", "Close", "Comparison", "EndedBy", "Entry", "Fault", "FaultyCapture", "Frame", "Frames", "NotAccepted",
+    "Report", "Session", "Side", "Stopped", "Verdict", "closing", "frames", "judge", "normal", "plan", "recut", "same", "sent",
+    "show",
 ]
 
 __version__ = "0.1.0"  # That of wsn.h and of wsn --version.
@@ -156,13 +157,30 @@ class Report:
 
 
 @dataclasses.dataclass(frozen=True)
+class BadCharacter:
+    """The character with which a refused text goes wrong.
+
+    offset: of its first byte in that side's stream; an earlier frame of the message may have it. in_payload: the place of
+    that byte in the message's payload, from 0. hex: its bytes up to the offending one, one to four. before: the text before
+    it in the refused frame, at most what the view has. truncated: whether some of that frame's payload is left out.
+    """
+
+    offset: int
+    in_payload: int
+    hex: str
+    before: str
+    truncated: bool = False
+
+
+@dataclasses.dataclass(frozen=True)
 class Entry:
     """What `show` prints in one line. type: "event", "frame", "refused", "unfinished", "unread", "tail", "end", "comment".
 
     line: the capture's line in which it is, from 1. side: "client" or "server". time: seconds, from the capture's
     comments. offset: in that side's stream; of a refused frame that of its first byte, and place that of the offending one.
     event: "text", "binary", "ping", "pong" or "close". bytes: of the payload. text or hex: its first bytes, and truncated if
-    there are more; a Close has code and reason. The other fields are those of the type (`wsn help show`); None elsewhere.
+    there are more; a Close has code and reason. character: of a text refused as "text-bad". The other fields are those of
+    the type (`wsn help show`); None elsewhere.
     """
 
     type: str
@@ -180,6 +198,7 @@ class Entry:
     code: Optional[int] = None
     reason: Optional[str] = None
     place: Optional[int] = None
+    character: Optional[BadCharacter] = None
     fin: Optional[bool] = None
     opcode: Optional[str] = None
     key: Optional[str] = None
@@ -379,6 +398,11 @@ def _report(fields: Dict[str, Any]) -> Report:
     return _made(Report, {**fields, "client": Side(**fields["client"]), "server": Side(**fields["server"])})
 
 
+def _entry(fields: Dict[str, Any]) -> Entry:
+    character = fields.get("character")
+    return _made(Entry, {**fields, "character": None if character is None else BadCharacter(**character)})
+
+
 def _told(message: str) -> Exception:
     """The exception for the message of a status 2."""
     words = message.strip().split(" ")
@@ -442,7 +466,7 @@ def show(data: Any, role: Optional[str] = None, *, view: int = 48, wire: bool = 
     with _Lent(data) as given:
         *entries, last = _asked("wsn_show_stream" if role else "wsn_show", options, given)
     ends = [_made(EndedBy, entries.pop())] if entries and entries[-1]["type"] == "ended-by" else [None]
-    shown = [_made(Entry, entry) for entry in entries]
+    shown = [_entry(entry) for entry in entries]
     return Session(shown, verdict=_verdict(last)) if role else Session(shown, report=_report(last), ended_by=ends[0])
 
 

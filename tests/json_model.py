@@ -4,6 +4,7 @@ objects(out) reads the lines as JSON, and fails unless each is written as it sho
 spaces, strings quoted as in the lines of `show`. line_of(read, view) gives the line or lines of an object.
 """
 import json
+import re
 
 import show_model
 
@@ -15,36 +16,49 @@ COUNTS = ("frames", "messages", "pings", "pongs")
 MEMBERS = {
     "event": (*ENTRY, "event", "bytes", "frames", *VIEWED),
     "unfinished": (*ENTRY, "event", "bytes", "frames", "lacks", *VIEWED),
-    "refused": (*ENTRY, "place", "reason", "code", "hex", "truncated"),
+    "refused": (*ENTRY, "place", "reason", "code", "hex", "truncated", "character"),
     "unread": (*ENTRY, "bytes", "hex", "truncated"),
     "tail": (*ENTRY, "bytes", "hex", "truncated"),
     "end": ENTRY,
     "frame": (*ENTRY, *FRAME),
-    "comment": ("type", "line", "text"),
+    "comment": ("type", "line", "text", "hex"),
     "ended-by": ("type", "side", "reset"),
     "report": ("type", "client", "server", "first", "echo", "client_sees", "server_sees", "outcome"),
     "accepted": ("type", "verdict", "used", "tail", "unfinished", *COUNTS, "close"),
     "cut": ("type", "verdict", "used", "unfinished", *COUNTS),
     "refused verdict": ("type", "verdict", "offset", "reason", "code"),
-    "comparison": ("type", "answer", "event", "first", "second", "verdict"),
+    "comparison": ("type", "answer", "event", "first", "second", "differ_at", "verdict"),
 }
-MAY_LACK = {"line", "side", "time", *VIEWED, "event", "verdict"}
+MAY_LACK = {"line", "side", "time", *VIEWED, "event", "verdict", "character"}
+# The members of a bad character, which a refusal has if its reason is text-bad.
+CHARACTER = ("offset", "in_payload", "hex", "before")
 # The events of two streams that differ: in a comparison's object only with --view.
 EVENTS = ("first", "second")
+# Where their payloads differ, and a view of one of them.
+DIFFERING = ("in_payload", *EVENTS)
+AROUND = ("from", "text", "hex", "truncated")
 
 
 class Number(str):
     """A number as it is written."""
 
 
-def compact(value):
-    """The value as JSON without spaces, strings quoted as in the lines of `show`."""
+def in_ascii(text):
+    """A text in quotation marks: each character but printable ASCII as its units of UTF-16, in four digits each."""
+    shown = text.replace("\\", "\\\\").replace('"', '\\"')
+    units = [(it, it.encode("utf-16-be").hex()) for it in shown]
+    return '"%s"' % "".join(it if " " <= it <= "~" else "\\u" + "\\u".join(re.findall("....", hex)) for it, hex in units)
+
+
+def compact(value, quoted=lambda text: show_model.quoted(text.encode())):
+    """The value as JSON without spaces, strings quoted as in the lines of `show`, around a difference in ASCII."""
     if isinstance(value, dict):
-        return "{%s}" % ",".join(f"{show_model.quoted(key.encode())}:{compact(it)}" for key, it in value.items())
+        written = ((it, compact(value[it], in_ascii if it == "differ_at" else quoted)) for it in value)
+        return "{%s}" % ",".join(f'"{key}":{text}' for key, text in written)
     if isinstance(value, Number):
         return value
     if isinstance(value, str):
-        return show_model.quoted(value.encode())
+        return quoted(value)
     return {None: "null", True: "true", False: "false"}[value]
 
 
@@ -70,12 +84,21 @@ def expect_members(read):
     """Fails unless the object has the members of its type, in their order, and so has each event in it."""
     members = MEMBERS[kind_of(read)]
     compared = read["type"] == "comparison"
-    missing = {*MAY_LACK, *EVENTS} if compared else MAY_LACK
+    missing = {*MAY_LACK, *EVENTS, "differ_at"} if compared else MAY_LACK
     assert list(read) == [it for it in members if it in read], read
     assert all(it in missing or it in read for it in members), read
+    assert ("character" in read) == (read["type"] == "refused" and read["reason"] == "text-bad"), read
+    if "character" in read:
+        assert list(read["character"]) in ([*CHARACTER], [*CHARACTER, "truncated"]), read
     for it in EVENTS if compared else ():
         if read.get(it) is not None:
             expect_members(read[it])
+    differing = read.get("differ_at")
+    assert ("differ_at" in read) == ("first" in read), read
+    if differing is not None:
+        assert tuple(differing) == DIFFERING, differing
+        for part in (differing[it] for it in EVENTS if differing[it] is not None):
+            assert list(part) == [it for it in AROUND if it in part] and ("text" in part) != ("hex" in part), part
 
 
 def dashed(value):
@@ -133,7 +156,19 @@ def comparison_lines(read, view):
     if read["answer"] != "different":
         return [read["answer"]]
     events = [(it, "-" if read[it] is None else lines_of(read[it], view)[0]) for it in EVENTS if it in read]
-    return [f"different {read['event']}", *(f"{it} {line}" for it, line in events)]
+    lines = [f"different {read['event']}", *(f"{it} {line}" for it, line in events)]
+    differing = read.get("differ_at")
+    if differing is not None:
+        lines.append(f"differ-at {differing['in_payload']} {around(differing['first'])} {around(differing['second'])}")
+    return lines
+
+
+def around(part):
+    """The view of a payload around the first byte that differs."""
+    if part is None:
+        return "-"
+    shown = in_ascii(part["text"]) if "text" in part else part["hex"] or "-"
+    return (".." if part["from"] != "0" else "") + shown + (" .." if "truncated" in part else "")
 
 
 def entry_text(read, view):
@@ -152,6 +187,15 @@ def entry_text(read, view):
     return f"{counted} {viewed(read, view)}"
 
 
+def character_text(read, view):
+    """A bad character's line after its offset."""
+    digits = read["hex"]
+    escapes = "".join(f"\\x{digits[at:at + 2]}" for at in range(0, len(digits), 2))
+    more = ".." if "truncated" in read else ""
+    before = show_model.quoted(read["before"].encode())[:-1]
+    return f"bad-character {read['in_payload']} " + ("- -" if view == 0 else f'{digits} {more}{before}{escapes}"')
+
+
 def lines_of(read, view=48):
     """The lines that an object stands for."""
     kind = read["type"]
@@ -164,13 +208,16 @@ def lines_of(read, view=48):
     if kind == "ended-by":
         return [f"ended-by {read['side']}" + (" reset" if read["reset"] else "")]
     if kind == "comment":
-        return [f"#{show_model.escaped(read['text'])}"]
+        return [show_model.comment(b"#" + (read["text"].encode() if "text" in read else bytes.fromhex(read["hex"])))]
     if "side" not in read:
         return [frame_line(read)]
     front = f"{read['side'][0].upper()} {dashed(read.get('time'))} "
     if kind == "frame":
         return [front + frame_line(read)]
-    return [f"{front}{read['offset']} {entry_text(read, view)}"]
+    lines = [f"{front}{read['offset']} {entry_text(read, view)}"]
+    if "character" in read:
+        lines.append(f"{front}{read['character']['offset']} {character_text(read['character'], view)}")
+    return lines
 
 
 def counts_of(lines):

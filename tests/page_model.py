@@ -54,10 +54,17 @@ def payload_fields(entry):
     return found
 
 
+def comment_text(entry):
+    """A comment as the page writes it: of one that isn't UTF-8, each byte that isn't printable ASCII as an escape."""
+    if "text" in entry:
+        return visible(entry["text"])
+    return "".join(chr(byte) if 0x20 <= byte <= 0x7E else f"\\x{byte:02x}" for byte in bytes.fromhex(entry["hex"]))
+
+
 def fields(entry):
     """The fields that an entry's row shows."""
     if entry["type"] == "comment":
-        return {"line": str(entry["line"]), "text": visible(entry["text"])}
+        return {"line": str(entry["line"]), "text": comment_text(entry)}
     found = {key: str(entry[key]) for key in ("line", "time", "offset") if entry.get(key) is not None}
     found |= {
         key: f"{entry[key]:,}" if key == "lacks" else str(entry[key]) for key in NAMED if entry.get(key) is not None
@@ -140,12 +147,13 @@ def outcome(report):
 def broke(shown):
     """The begin of an abnormal session's headline: whose end mark is the first, and whether a comment says that it reset."""
     side = next(entry["side"] for entry in shown if entry["type"] == "end")
-    resets = [entry for entry in shown if entry["type"] == "comment" and entry["text"] == f" reset by the {side}"]
+    resets = [entry for entry in shown if entry["type"] == "comment" and entry.get("text") == f" reset by the {side}"]
     return f"The {side} {'reset' if resets else 'ended'} the connection"
 
 
 def bad_character(entry, wire, stream):
-    """The bytes of a refused text's bad character, and the offset of the first; nothing of what is refused for something else."""
+    """The bytes of a refused text's bad character up to the offending one, and the offset of the first; nothing of what is
+    refused for something else. What the program says of it must be what the bytes say."""
     if entry["type"] != "refused" or entry["reason"] not in ("text-bad", "text-cut", "close-reason"):
         return None
     found = []
@@ -160,7 +168,11 @@ def bad_character(entry, wire, stream):
     try:
         bytes(byte for byte, _ in read).decode()
     except UnicodeDecodeError as error:
-        return bytes(byte for byte, _ in read[error.start : error.end]).hex(" "), read[error.start][1]
+        digits, begin = bytes(byte for byte, _ in read[error.start :]).hex(), read[error.start][1]
+        told = entry.get("character")
+        if entry["reason"] == "text-bad" and (told["offset"], told["in_payload"], told["hex"]) != (begin, error.start, digits):
+            raise ValueError(f"{entry} has the bad character {digits} at {begin}")
+        return bytes.fromhex(digits).hex(" "), begin
     raise ValueError(f"{entry} is refused, and is a text")
 
 
@@ -198,6 +210,7 @@ FAULTS = [
     b"\x81\x06Ren\xe9 D",
     b"\x01\x03a\xf0\x9f\x89\x00\x00\x01\x98\x80\x03\x28ok",
     b"\x01\x02a\xe2\x80\x01\x82",
+    b"\x01\x01a\x80\x01\xe2",
     b"\x88\x05\x03\xe8\xed\xa0\x80",
     b"\x88\x01",
     b"\x88\x02\x03\xec",

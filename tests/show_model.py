@@ -65,6 +65,12 @@ class Open:
 
     def __init__(self, kind, offset):
         self.kind, self.offset, self.data, self.frames = kind, offset, b"", 0
+        self.places = []  # The offset of each byte.
+
+    def add(self, frame):
+        self.data += frame.data
+        self.frames += 1
+        self.places += range(frame.payload_at, frame.payload_at + len(frame.data))
 
     def line(self, lacks, view):
         shown = unfinished_view(self.kind, self.data, view)
@@ -106,8 +112,7 @@ def stream_items(data, lines, view, wire):
         if frame.kind in DATA:
             if frame.kind != "cont":
                 message = Open(frame.kind, frame.offset)
-            message.data += frame.data
-            message.frames += 1
+            message.add(frame)
             if frame.final:
                 shown = event_view(message.kind, message.data, view)
                 items.append((at, f"{message.offset} {message.kind} {len(message.data)} {message.frames} {shown}"))
@@ -129,10 +134,33 @@ def stream_items(data, lines, view, wire):
         count = min(view // 2, len(seen))
         shown = "-" if view == 0 else (".." if count < len(seen) else "") + seen[len(seen) - count:].hex()
         items.append((refused_at + 1, f"{at} {' '.join(verdict)} {shown}"))
+        if verdict[2] == "text-bad":
+            items.append((refused_at + 1, bad_character(message if part.kind == "cont" else None, part, seen, view)))
         return items, bytes_left("unread", refused_at + 1, data, view)
     if verdict[0] == "accepted":
         return items, bytes_left("tail", at, data, view)
     return items, part_left(message, part, at, data, view)
+
+
+def bad_character(message, part, seen, view):
+    """The bad character of a text whose last frame is refused after these bytes: what follows its whole characters."""
+    data, places = (message.data, message.places) if message else (b"", [])
+    data, places = data + seen, [*places, *range(part.payload_at, part.payload_at + len(seen))]
+    count = whole_characters(data)
+    bad = data[count:]
+    return f"{places[count]} bad-character {count} {character_view(bad, seen, view)}"
+
+
+def character_view(bad, seen, view):
+    """The bytes of a bad character, and the end of what the frame has before it, from the first byte of a character on."""
+    if view == 0:
+        return "- -"
+    before = seen[max(0, len(seen) - view // 2):max(0, len(seen) - len(bad))]
+    while before and 0x80 <= before[0] <= 0xbf:
+        before = before[1:]
+    before = before[:whole_characters(before)]
+    more = ".." if len(before) + len(bad) < len(seen) else ""
+    return f"{bad.hex()} {more}{quoted(before)[:-1]}" + "".join(f"\\x{byte:02x}" for byte in bad) + '"'
 
 
 def bytes_left(word, at, data, view):
@@ -142,8 +170,7 @@ def bytes_left(word, at, data, view):
 def part_left(message, part, at, data, view):
     if part and part.kind in DATA:
         message = message if part.kind == "cont" else Open(part.kind, part.offset)
-        message.data += part.data
-        message.frames += 1
+        message.add(part)
         return [message.line(part.length - len(part.data), view)]
     left = []
     if message:
@@ -165,10 +192,12 @@ def shown_stream(letter, data, lines, view, wire=False):
 
 
 def comment(line):
+    """A comment as it is printed, given its bytes: escapes, and each backslash of its own doubled."""
+    doubled = line.replace(b"\\", b"\\\\")
     try:
-        return escaped(line.decode())
+        return escaped(doubled.decode())
     except UnicodeDecodeError:
-        return "".join(chr(byte) if 0x20 <= byte <= 0x7e else f"\\x{byte:02x}" for byte in line)
+        return "".join(chr(byte) if 0x20 <= byte <= 0x7e else f"\\x{byte:02x}" for byte in doubled)
 
 
 def shown(text, view, frames_of, wire=False):

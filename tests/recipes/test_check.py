@@ -47,7 +47,8 @@ def check_of_a_difference(folder):
     (hint,) = said.splitlines()
     words = shlex.split(hint.removeprefix("hint: wsn "))
     shown = run(WSN, *words, status=1)[0].decode()
-    same(shown, 'different 0\nfirst S - 0 text 3 1 "one"\nsecond S - 0 text 3 1 "onf"\n', f"{hint!r}")
+    wanted = 'different 0\nfirst S - 0 text 3 1 "one"\nsecond S - 0 text 3 1 "onf"\ndiffer-at 2 "one" "onf"\n'
+    same(shown, wanted, f"{hint!r}")
     lines, said = check("--pings", SAMPLES / "basic.capture", SAMPLES / "abort.capture", status=1)
     files = f"{SAMPLES}/basic.capture {SAMPLES}/abort.capture"
     hints = [f"hint: wsn same --role {role} --view 48 --capture {files}" for role in ("client", "server")]

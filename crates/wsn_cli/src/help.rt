@@ -113,14 +113,22 @@ line:
 Either FIRST or SECOND may be -, which is standard input; ./- is a file named -.
 --without ping,pong leaves pings and pongs out of both: so a keepalive that came
 a message later is no difference. K then counts what is left.
---view BYTES shows what differs. Two lines follow 'different K':
+--view BYTES shows what differs. Lines follow 'different K':
   first EVENT     event K of the first stream, as 'wsn show --role' prints it
   second EVENT    that of the second; - in place of EVENT where a stream has no
                   event K
+  differ-at PLACE VIEW VIEW
+                  if both have one and their payloads differ: the first byte
+                  that does, from 0, and both payloads from 8 bytes before it
+                  on: a text in ASCII, with other characters as \\u and four
+                  digits; all else in hexadecimal; .. where bytes are left out
 With --json it prints an object: {\"type\":\"comparison\",\"answer\":\"equal\"}, or with
 \"answer\":\"different\" and \"event\":K, or with \"answer\":\"first\" or \"second\" and the
 verdict as \"verdict\" ('wsn help judge'). With --view the objects of both events,
-or null, follow K as \"first\" and \"second\" ('wsn help show').
+or null, follow K as \"first\" and \"second\" ('wsn help show'), and then
+\"differ_at\": null, or PLACE as \"in_payload\" and the views as \"first\" and
+\"second\", each with \"from\", the place where it begins, \"text\" or \"hex\", and
+\"truncated\":true if bytes follow (null if BYTES is 0).
 
 Example: one frame, and the same message in two
   $ printf '\\201\\002Hi' > one; printf '\\001\\001H\\200\\001i' > two
@@ -201,6 +209,11 @@ completes, as the lines come; then closing's report:
   SIDE TIME OFFSET refused PLACE REASON CODE SEEN
             a refused frame, with the offending byte, which is at offset PLACE
             and the last of SEEN
+  SIDE TIME OFFSET bad-character IN_PAYLOAD BYTES TEXT
+            the bad character of a text that is refused: it begins at OFFSET,
+            byte IN_PAYLOAD of the message's payload, from 0; its bytes, the
+            offending one last; the text with them at its end, as \\x and two
+            digits, after .. if some of the frame's payload is left out
   SIDE TIME OFFSET unfinished KIND BYTES FRAMES lacks N VIEW
             what has begun where the stream ends or where a Close or a refusal
             interrupts it: its bytes so far; its last frame lacks N bytes, or -
@@ -231,6 +244,8 @@ entry is of one; \"truncated\":true if bytes are left out:
   {\"type\":\"event\",\"line\":1,\"side\":\"client\",\"time\":0.001356,\"offset\":0,
   \"event\":\"text\",\"bytes\":5,\"frames\":1,\"text\":\"Hello\"}
 \"hex\" is in place of \"text\" for other bytes; a Close has \"code\" and \"reason\".
+A refused text has \"character\", its bad character, an object with offset,
+in_payload, hex and before, the text before it.
 The other types are refused, unfinished, unread, tail, end, comment, ended-by
 (with side and reset) and report, with --wire also frame.
 

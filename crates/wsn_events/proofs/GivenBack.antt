@@ -31,9 +31,11 @@ module _ {A : Type 0} (old new : EventReader A) (same : IsAsBefore old new) wher
     ];
   }
 
-  stands_back : (without : Without) (role : Role) (limits : Limits) (came : List ℕ) (events : List MeantEvent) (k : ℕ) (excerpt : Option Excerpt) → Stands without role limits old came events k excerpt → Stands without role limits new came events k excerpt
-  stands_back without role limits came events k (Some excerpt) stands = stands
-  stands_back without role limits came events k None stands = ((stands.0.0, same.answer ∙ stands.0.1), stands.1)
+  stands_back : (without : Without) (role : Role) (limits : Limits) (came : List ℕ) (events : List MeantEvent) (k : ℕ) (excerpt : Option Excerpt) (event : Option MeantEvent) → Stands without role limits old came events k excerpt event → Stands without role limits new came events k excerpt event
+  stands_back without role limits came events k (Some excerpt) (Some event) stands = stands
+  stands_back without role limits came events k None None stands = ((stands.0.0, same.answer ∙ stands.0.1), stands.1)
+  stands_back without role limits came events k (Some excerpt) None stands = absurd stands
+  stands_back without role limits came events k None (Some event) stands = absurd stands
 
 -- ---- both sources
 
@@ -46,4 +48,4 @@ module _ {A : Type 0} (old new other_old other_new : EventReader A) (same : IsAs
       → AreKept without role limits old came events other_old other_came others difference → AreKept without role limits new came events other_new other_came others difference
   kept_back without role limits came events other_came others None kept = tt
   kept_back without role limits came events other_came others (Some d) kept =
-      (stands_back old new same without role limits came events d.index d.first kept.0, stands_back other_old other_new other_same without role limits other_came others d.index d.second kept.1)
+      (kept.0, kept.1, stands_back old new same without role limits came events d.index d.first kept.0 kept.2, stands_back other_old other_new other_same without role limits other_came others d.index d.second kept.1 kept.3, kept.4)

@@ -14,6 +14,7 @@ use Rattle.wsn_rules.specs.declared.without.Without.{Without}
 use Rattle.wsn_rules.specs.Limits.{Limits}
 use Rattle.wsn_rules.specs.LeftOut.{events_without}
 use Rattle.wsn_rules.specs.Meaning.{MeantEvent}
+use Rattle.wsn_print.specs.DifferingPayloads.{event_in}
 use Rattle.wsn_events.specs.declared.comparing.Round.{Round}
 use Rattle.wsn_events.specs.declared.comparing.Round.TheVariants.{Alike, Unlike, Over}
 use Rattle.wsn_events.specs.declared.event_reader.EventReader.{EventReader}
@@ -24,7 +25,8 @@ use Rattle.wsn_events.specs.EventReaders.{offset_of, frames_of}
 use Rattle.wsn_events.specs.Sources.{IsLast}
 use Rattle.wsn_events.specs.Comparing.{IsRoundOf, IsAnAccepted, IsComparedBy}
 use Rattle.wsn_events.specs.Excerpts.{IsKeptOf, HasKept, KeepsFirst, KeepsOf, index_in, AreExcerptsAt, HasExcerpts, answer_in, IsContrasted}
-use Rattle.wsn_events.proofs.StandingEvents.{StandsAt, Stands, stands_longer, excerpt_at}
+use Rattle.wsn_events.specs.PayloadExcerpts.{event_given, ArePayloadsKept}
+use Rattle.wsn_events.proofs.StandingEvents.{StandsAt, Stands, stands_longer, excerpt_at, event_shown}
 use Rattle.wsn_events.proofs.ComparedSources.{HasGivenNext}
 use Rattle.wsn_events.proofs.ComparedRounds.{IsDifferenceSoFar, pending, on_alike, on_unlike}
 use Rattle.wsn_events.proofs.Comparisons.{Compares, answers}
@@ -33,7 +35,9 @@ use Rattle.wsn_events.proofs.Comparisons.{Compares, answers}
 abbrev pub AreKept : {A : Type 0} → Without → Role → Limits → EventReader A → List ℕ → List MeantEvent → EventReader A → List ℕ → List MeantEvent → Option FirstDifference → Type 0
 AreKept without role limits reading came events other other_came others None = Unit {0}
 AreKept without role limits reading came events other other_came others (Some d) =
-    Stands without role limits reading came events d.index d.first × Stands without role limits other other_came others d.index d.second
+    (event : Option MeantEvent) × (that : Option MeantEvent)
+    × Stands without role limits reading came events d.index d.first event × Stands without role limits other other_came others d.index d.second that
+    × ArePayloadsKept d.payloads event that
 
 accepted_last : (role : Role) (limits : Limits) (new : Incoming) (came : List ℕ) (events : List MeantEvent) (v : Verdict) → IsAnAccepted v → IsLast role limits new came events (Ok v) → (summary : Summary) × IsLast role limits new came events (Ok (Accepted summary))
 accepted_last role limits new came events (Accepted summary) is last = (summary, last)
@@ -43,22 +47,23 @@ accepted_last role limits new came events (Refused refusal) is last = absurd is
 module _ {A : Type 0} (without : Without) (role : Role) (limits : Limits) where
   -- ---- of one source, with one result more
 
-  stands_on : (old new : Incoming) (before reading : EventReader A) (was : List ℕ) (given : List MeantEvent) (turn : MeantTurn) (one : HasGivenNext without role limits old new before reading was given turn) (k : ℕ) (excerpt : Option Excerpt)
-      → Stands without role limits before was given k excerpt → Stands without role limits reading one.came one.events k excerpt
-  stands_on old new before reading was given turn one k (Some excerpt) s = (
+  stands_on : (old new : Incoming) (before reading : EventReader A) (was : List ℕ) (given : List MeantEvent) (turn : MeantTurn) (one : HasGivenNext without role limits old new before reading was given turn) (k : ℕ) (excerpt : Option Excerpt) (event : Option MeantEvent)
+      → Stands without role limits before was given k excerpt event → Stands without role limits reading one.came one.events k excerpt event
+  stands_on old new before reading was given turn one k (Some excerpt) (Some event) s = (
     s.0,
     s.1,
     s.2,
-    s.3,
-    subst (λ (bs : List ℕ). StandsAt without role limits bs k s.0 s.1 s.2) (sym one.longer) (stands_longer without role limits was one.more k s.0 s.1 s.2 s.4),
+    subst (λ (bs : List ℕ). StandsAt without role limits bs k s.0 event s.1) (sym one.longer) (stands_longer without role limits was one.more k s.0 event s.1 s.3),
   )
-  stands_on old new before reading was given (OfEvent event) one k None s = let both : Some (Ok s.0.0) ≡ None = sym s.0.1 ∙ one.gives.1 in absurd cc
-  stands_on old new before reading was given (OfVerdict verdict) one k None s = ((verdict, one.gives.1), subst (λ (es : List MeantEvent). length es ≤ k) (sym one.gives.0) s.1)
+  stands_on old new before reading was given (OfEvent next) one k None None s = let both : Some (Ok s.0.0) ≡ None = sym s.0.1 ∙ one.gives.1 in absurd cc
+  stands_on old new before reading was given (OfVerdict verdict) one k None None s = ((verdict, one.gives.1), subst (λ (es : List MeantEvent). length es ≤ k) (sym one.gives.0) s.1)
+  stands_on old new before reading was given turn one k (Some excerpt) None s = absurd s
+  stands_on old new before reading was given turn one k None (Some event) s = absurd s
 
   stands_first : (old new : Incoming) (before reading : EventReader A) (was : List ℕ) (given : List MeantEvent) (turn : MeantTurn) (one : HasGivenNext without role limits old new before reading was given turn) (k : ℕ)
-      → k ≡ length (events_without without given) → (excerpt : Option Excerpt) → IsKeptOf reading turn excerpt → Stands without role limits reading one.came one.events k excerpt
+      → k ≡ length (events_without without given) → (excerpt : Option Excerpt) → IsKeptOf reading turn excerpt → Stands without role limits reading one.came one.events k excerpt (event_given turn)
   stands_first old new before reading was given (OfEvent event) one k index (Some excerpt) is =
-      (offset_of reading, event, frames_of reading, is, subst (λ (n : ℕ). StandsAt without role limits one.came n (offset_of reading) event (frames_of reading)) (sym index) one.stands)
+      (offset_of reading, frames_of reading, is, subst (λ (n : ℕ). StandsAt without role limits one.came n (offset_of reading) event (frames_of reading)) (sym index) one.stands)
   stands_first old new before reading was given (OfEvent event) one k index None is = absurd is
   stands_first old new before reading was given (OfVerdict verdict) one k index (Some excerpt) is = absurd is
   stands_first old new before reading was given (OfVerdict verdict) one k index None is = ((verdict, one.gives.1), let sizes = ap (λ (es : List MeantEvent). length es) one.gives.0 in omega (arith, sizes, index))
@@ -69,14 +74,23 @@ module _ {A : Type 0} (without : Without) (role : Role) (limits : Limits) where
       (one : HasGivenNext without role limits old new before reading was_came given turn) (two : HasGivenNext without role limits other_old other_new other_before other other_was other_given other_turn) where
     kept_on : (difference : Option FirstDifference) → AreKept without role limits before was_came given other_before other_was other_given difference → AreKept without role limits reading one.came one.events other two.came two.events difference
     kept_on None kept = tt
-    kept_on (Some d) kept = (stands_on old new before reading was_came given turn one d.index d.first kept.0, stands_on other_old other_new other_before other other_was other_given other_turn two d.index d.second kept.1)
+    kept_on (Some d) kept = (
+      kept.0,
+      kept.1,
+      stands_on old new before reading was_came given turn one d.index d.first kept.0 kept.2,
+      stands_on other_old other_new other_before other other_was other_given other_turn two d.index d.second kept.1 kept.3,
+      kept.4,
+    )
 
     kept_first : (index : ℕ) (now : Option FirstDifference) → index ≡ length (events_without without given) → index ≡ length (events_without without other_given) → HasKept index reading turn other other_turn now
         → AreKept without role limits reading one.came one.events other two.came two.events now
     kept_first index None at other_at has = absurd has
     kept_first index (Some d) at other_at has = (
+      event_given turn,
+      event_given other_turn,
       stands_first old new before reading was_came given turn one d.index (has.index_is ∙ at) d.first has.first,
       stands_first other_old other_new other_before other other_was other_given other_turn two d.index (has.index_is ∙ other_at) d.second has.second,
+      has.payloads,
     )
 
     kept_unlike : (index : ℕ) (was now : Option FirstDifference) → KeepsFirst index reading turn other other_turn was now
@@ -143,15 +157,22 @@ module _ {A : Type 0} (without : Without) (role : Role) (limits : Limits) where
   }
     where
       at_index : (k : ℕ) (d : FirstDifference) → (index_in (Some d) ≡ Some k) × IsAnAccepted verdict × IsAnAccepted other_verdict
-          → Stands without role limits reading one.came one.events d.index d.first × Stands without role limits other two.came two.events d.index d.second → AreExcerptsAt without role limits one.came two.came k d
+          → AreKept without role limits reading one.came one.events other two.came two.events (Some d) → AreExcerptsAt without role limits one.came two.came k d
       at_index k d found stand =
           let same : d.index ≡ k = cc in
           let last = accepted_last role limits new one.came one.events v (subst (λ (x : Verdict). IsAnAccepted x) is.0 found.1) one.last in
           let other_last = accepted_last role limits other_new two.came two.events w (subst (λ (x : Verdict). IsAnAccepted x) is.1 found.2) two.last in
+          let stands = subst (λ (n : ℕ). Stands without role limits reading one.came one.events n d.first stand.0) same stand.2 in
+          let other_stands = subst (λ (n : ℕ). Stands without role limits other two.came two.events n d.second stand.1) same stand.3 in
+          let first = excerpt_at without role limits reading new one.came one.events last.0 k d.first stand.0 last.1 stands in
+          let second = excerpt_at without role limits other other_new two.came two.events other_last.0 k d.second stand.1 other_last.1 other_stands in
           record {
             index_is = same;
-            first = excerpt_at without role limits reading new one.came one.events last.0 k d.first last.1 (subst (λ (n : ℕ). Stands without role limits reading one.came one.events n d.first) same stand.0);
-            second = excerpt_at without role limits other other_new two.came two.events other_last.0 k d.second other_last.1 (subst (λ (n : ℕ). Stands without role limits other two.came two.events n d.second) same stand.1);
+            first = first;
+            second = second;
+            payloads =
+                subst (λ (e : Option MeantEvent). ArePayloadsKept d.payloads e (event_in second.0)) (event_shown without role limits reading new one.came one.events last.0 k d.first stand.0 last.1 stands)
+                (subst (λ (e : Option MeantEvent). ArePayloadsKept d.payloads stand.0 e) (event_shown without role limits other other_new two.came two.events other_last.0 k d.second stand.1 other_last.1 other_stands) stand.4);
           }
 
       by_result : (r : Compared) (d : Option FirstDifference) → ((k : ℕ) → r ≡ Different k → (index_in d ≡ Some k) × IsAnAccepted verdict × IsAnAccepted other_verdict)
@@ -179,6 +200,6 @@ keeps_first index reading turn other other_turn (Some d) some = refl
 
 -- or these are kept
 pub keeps_new : {A : Type 0} (index : ℕ) (reading : EventReader A) (turn : MeantTurn) (other : EventReader A) (other_turn : MeantTurn) (was : Option FirstDifference) (d : FirstDifference) → is_some was ≡ false
-    → d.index ≡ index → IsKeptOf reading turn d.first → IsKeptOf other other_turn d.second → KeepsFirst index reading turn other other_turn was (Some d)
-keeps_new index reading turn other other_turn None d none index_is first second = record { index_is = index_is; first = first; second = second }
-keeps_new index reading turn other other_turn (Some before) d none index_is first second = cc
+    → d.index ≡ index → IsKeptOf reading turn d.first → IsKeptOf other other_turn d.second → ArePayloadsKept d.payloads (event_given turn) (event_given other_turn) → KeepsFirst index reading turn other other_turn was (Some d)
+keeps_new index reading turn other other_turn None d none index_is first second payloads = record { index_is = index_is; first = first; second = second; payloads = payloads }
+keeps_new index reading turn other other_turn (Some before) d none index_is first second payloads = cc

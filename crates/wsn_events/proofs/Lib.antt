@@ -8,6 +8,8 @@ pub mod StandingEvents
 pub mod ComparedSources
 pub mod ComparedRounds
 pub mod Comparisons
+pub mod CommonBytes
+pub mod PayloadParts
 pub mod KeptExcerpts
 pub mod GivenBack
 pub mod WholeComparisons

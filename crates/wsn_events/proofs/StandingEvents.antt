@@ -1,5 +1,5 @@
 -- Where an event stands in a stream, as more bytes come and where the stream is accepted.
-use Rattle.std.proofs.Common.{◌≡◌, ℕ, ◌≤◌, Bool, true, false, cond, Option, None, Some, Ok, List, [], ◌∷◌, ◌++◌, length, sym, ap, ◌∙◌, subst, append_assoc, length-append, arith}
+use Rattle.std.proofs.Common.{◌≡◌, ℕ, ◌≤◌, Bool, true, false, cond, Option, None, Some, Ok, List, [], ◌∷◌, ◌++◌, length, refl, sym, ap, ◌∙◌, subst, append_assoc, length-append, arith}
 use Rattle.wsn_wire.specs.declared.endpoint.Role.{Role}
 use Rattle.wsn_wire.specs.Frame.{Frame, stream}
 use Rattle.wsn_io.specs.Transfer.{Incoming}
@@ -16,6 +16,7 @@ use Rattle.wsn_rules.specs.ShownStream.Item.{Event}
 use Rattle.wsn_rules.proofs.Groups.{meaning_push}
 use Rattle.wsn_rules.proofs.Prefixes.{same_front}
 use Rattle.wsn_rules.proofs.ShownEvents.{shown_in_accepted, none_in_accepted}
+use Rattle.wsn_print.specs.DifferingPayloads.{event_in}
 use Rattle.wsn_events.specs.declared.event.Event as code
 use Rattle.wsn_events.specs.declared.event_reader.EventReader.{EventReader}
 use Rattle.wsn_events.specs.declared.excerpt.Excerpt.{Excerpt}
@@ -40,12 +41,13 @@ pub record StandsAt (without : Without) (role : Role) (limits : Limits) (came : 
   pub offset_is : offset ≡ event_offset before frame
   pub count_is : count ≡ event_frames before frame
 
--- What is kept of the event with the index k: where it stands; or nothing, since the source has ended before.
-abbrev pub Stands : {A : Type 0} → Without → Role → Limits → EventReader A → List ℕ → List MeantEvent → ℕ → Option Excerpt → Type 0
-Stands without role limits reading came events k (Some excerpt) =
-    (offset : ℕ) × (event : MeantEvent) × (count : ℕ) × IsExcerptOf excerpt offset event count × StandsAt without role limits came k offset event count
-Stands without role limits reading came events k None =
+-- What is kept of the event with the index k: where this event stands; or nothing, since the source has ended before.
+abbrev pub Stands : {A : Type 0} → Without → Role → Limits → EventReader A → List ℕ → List MeantEvent → ℕ → Option Excerpt → Option MeantEvent → Type 0
+Stands without role limits reading came events k (Some excerpt) (Some event) =
+    (offset : ℕ) × (count : ℕ) × IsExcerptOf excerpt offset event count × StandsAt without role limits came k offset event count
+Stands without role limits reading came events k None None =
     ((verdict : Verdict) × (answered reading ≡ Some (Ok verdict))) × (length (events_without without events) ≤ k)
+Stands without role limits reading came events k excerpt event = ⊥
 
 module _ (without : Without) (role : Role) (limits : Limits) where
   pub stands_longer : (came more : List ℕ) (k offset : ℕ) (event : MeantEvent) (count : ℕ) → StandsAt without role limits came k offset event count → StandsAt without role limits (came ++ more) k offset event count
@@ -95,20 +97,31 @@ module _ (without : Without) (role : Role) (limits : Limits) where
 
   -- ---- of an accepted stream
 
-  pub excerpt_at : {A : Type 0} (reading : EventReader A) (new : Incoming) (came : List ℕ) (events : List MeantEvent) (summary : Summary) (k : ℕ) (excerpt : Option Excerpt)
-      → IsLast role limits new came events (Ok (Accepted summary)) → Stands without role limits reading came events k excerpt → IsExcerptAt without role limits came k excerpt
-  excerpt_at reading new came events summary k (Some excerpt) last s =
-      let at = s.4 in
+  pub excerpt_at : {A : Type 0} (reading : EventReader A) (new : Incoming) (came : List ℕ) (events : List MeantEvent) (summary : Summary) (k : ℕ) (excerpt : Option Excerpt) (event : Option MeantEvent)
+      → IsLast role limits new came events (Ok (Accepted summary)) → Stands without role limits reading came events k excerpt event → IsExcerptAt without role limits came k excerpt
+  excerpt_at reading new came events summary k (Some excerpt) (Some event) last s =
+      let at = s.3 in
       let own = last.1 in
-      let event_is : s.1 ≡ event_at at.before at.frame = at.is in (
+      let event_is : event ≡ event_at at.before at.frame = at.is in (
         Some (Event (event_offset at.before at.frame) (event_at at.before at.frame) (event_frames at.before at.frame)),
         shown_in_accepted without role limits came own.0 summary own.1 at.before at.frame at.rest k at.lawful at.whole at.final (subst (λ (e : MeantEvent). is_left_out without e ≡ false) event_is at.kept) at.index,
         subst (λ (n : ℕ). IsExcerptOf excerpt n (event_at at.before at.frame) (event_frames at.before at.frame)) at.offset_is
-            (subst (λ (e : MeantEvent). IsExcerptOf excerpt s.0 e (event_frames at.before at.frame)) event_is (subst (λ (n : ℕ). IsExcerptOf excerpt s.0 s.1 n) at.count_is s.3)),
+            (subst (λ (e : MeantEvent). IsExcerptOf excerpt s.0 e (event_frames at.before at.frame)) event_is (subst (λ (n : ℕ). IsExcerptOf excerpt s.0 event n) at.count_is s.2)),
       )
-  excerpt_at reading new came events summary k None last s =
+  excerpt_at reading new came events summary k None None last s =
       let own = last.1 in (
         None,
         none_in_accepted without role limits came own.0 summary own.1 k (subst (λ (es : List MeantEvent). length (events_without without es) ≤ k) own.2 s.1),
         tt,
       )
+  excerpt_at reading new came events summary k (Some excerpt) None last s = absurd s
+  excerpt_at reading new came events summary k None (Some event) last s = absurd s
+
+  -- the event of the item that is shown there
+  pub event_shown : {A : Type 0} (reading : EventReader A) (new : Incoming) (came : List ℕ) (events : List MeantEvent) (summary : Summary) (k : ℕ) (excerpt : Option Excerpt) (event : Option MeantEvent)
+      (last : IsLast role limits new came events (Ok (Accepted summary))) (s : Stands without role limits reading came events k excerpt event) → event ≡ event_in (excerpt_at reading new came events summary k excerpt event last s).0
+  unfolding excerpt_at
+  event_shown reading new came events summary k (Some excerpt) (Some event) last s = ap Some s.3.is
+  event_shown reading new came events summary k None None last s = refl
+  event_shown reading new came events summary k (Some excerpt) None last s = absurd s
+  event_shown reading new came events summary k None (Some event) last s = absurd s

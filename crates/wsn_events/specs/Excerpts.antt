@@ -14,6 +14,7 @@ use Rattle.wsn_rules.specs.Meaning.{MeantEvent}
 use Rattle.wsn_rules.specs.ShownStream.{Item}
 use Rattle.wsn_rules.specs.ShownStream.Item.{Event}
 use Rattle.wsn_rules.specs.ShownEvents.{IsShownAt}
+use Rattle.wsn_print.specs.DifferingPayloads.{event_in}
 use Rattle.wsn_print.specs.ShownParts.{event_of}
 use Rattle.wsn_events.specs.declared.comparing.Round.{Round}
 use Rattle.wsn_events.specs.declared.comparing.Round.TheVariants.{Unlike}
@@ -22,6 +23,7 @@ use Rattle.wsn_events.specs.declared.excerpt.Excerpt.{Excerpt}
 use Rattle.wsn_events.specs.declared.first_difference.FirstDifference.{FirstDifference}
 use Rattle.wsn_events.specs.EventReaders.{offset_of, frames_of}
 use Rattle.wsn_events.specs.Comparing.{IsComparedBy}
+use Rattle.wsn_events.specs.PayloadExcerpts.{event_given, ArePayloadsKept}
 use Rattle.wsn_events.specs.Turns.{MeantTurn, OfEvent, OfVerdict}
 
 -- ---- of one event
@@ -63,6 +65,7 @@ pub record IsKeptOfBoth {A : Type 0} (index : ℕ) (reading : EventReader A) (tu
   pub index_is : difference.index ≡ index
   pub first : IsKeptOf reading turn difference.first
   pub second : IsKeptOf other other_turn difference.second
+  pub payloads : ArePayloadsKept difference.payloads (event_given turn) (event_given other_turn)
 
 -- There is a difference, and this is kept of it.
 abbrev pub HasKept : {A : Type 0} → ℕ → EventReader A → MeantTurn → EventReader A → MeantTurn → Option FirstDifference →
@@ -105,6 +108,7 @@ pub record AreExcerptsAt (without : Without) (role : Role) (limits : Limits) (by
   pub index_is : difference.index ≡ k
   pub first : IsExcerptAt without role limits bytes k difference.first
   pub second : IsExcerptAt without role limits others k difference.second
+  pub payloads : ArePayloadsKept difference.payloads (event_in first.0) (event_in second.0)
 
 -- If the answer is that the streams differ, there is a difference, and this is kept of it.
 abbrev pub HasExcerpts : Without → Role → Limits → List ℕ → List ℕ → Result (Compared × Option FirstDifference) Stop →

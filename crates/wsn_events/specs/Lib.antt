@@ -8,6 +8,7 @@ pub mod LentMessages
 pub mod Turns
 pub mod LeavingOut
 pub mod Comparing
+pub mod PayloadExcerpts
 pub mod Excerpts
 pub mod Normalised
 -- for the clauses in src/

@@ -13,6 +13,8 @@ use crate::equal_bytes::are_equal;
 use crate::event::{is_message, is_same};
 use crate::first_difference::{FirstDifference, excerpt_of};
 use crate::leaving_out::turn_without;
+use crate::payload::payload_of;
+use crate::payload_difference::PayloadDifference;
 use crate::source::{Next, Source};
 use crate::turn::{Turn, give_back};
 use std::alloc::Allocator;
@@ -153,10 +155,15 @@ fn keep_first<A: Allocator + Copy>(
     if difference.is_some() {
         return;
     }
+    let payloads = PayloadDifference::between(
+        &payload_of(events, turn),
+        &payload_of(others, other),
+    );
     *difference = Some(FirstDifference {
         index,
         first: excerpt_of(events, turn),
         second: excerpt_of(others, other),
+        payloads,
     });
 }
 

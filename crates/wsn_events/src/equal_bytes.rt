@@ -1,4 +1,5 @@
 ghost use Rattle.std.specs.Prelude.{◌≡◌, ◌+◌, ◌≤◌, ◌↔◌, length, take, drop, IsTrue};
+ghost use Rattle.wsn_print.specs.DifferingPayloads.{common_length};
 
 use std::simd::prelude::*;
 
@@ -35,4 +36,21 @@ fn are_equal_blocks(bytes: &[u8], others: &[u8], at: usize) -> bool
     let block = u8x64::from_slice(&bytes[at..]);
     let other = u8x64::from_slice(&others[at..]);
     block.simd_ne(other).to_bitmask() == 0
+}
+
+/// The number of bytes at the beginning that are the same in both.
+#[tactic(none)]
+pub(crate) fn common_length(bytes: &[u8], others: &[u8]) -> usize
+    ensures is { result ≡ common_length bytes.now others.now }
+    ensures within { (result ≤ length bytes.now) × (result ≤ length others.now) }
+{
+    let shorter = bytes.len().min(others.len());
+    let mut at = 0;
+    while at < shorter {
+        if bytes[at] != others[at] {
+            return at;
+        }
+        at += 1;
+    }
+    at
 }

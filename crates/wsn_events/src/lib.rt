@@ -10,7 +10,8 @@
 //! `specs/EventsMeant.antt` defines what an [`Event`] means, `specs/Sources.antt` which events a source gives,
 //! `specs/LentMessages.antt` which message it lends, `specs/Turns.antt` what comes next of it, lent or not,
 //! `specs/Normalised.antt` what normalising writes, `specs/Comparing.antt` what a comparison answers, and
-//! `specs/Excerpts.antt` what is kept of the events that differ. Lawful events and the normal form are defined in
+//! `specs/Excerpts.antt` what is kept of the events that differ, and `specs/PayloadExcerpts.antt` of their payloads where
+//! they differ. Lawful events and the normal form are defined in
 //! `wsn_rules` (`specs/LawfulEvents.antt`, `specs/NormalForm.antt`). [`laws`] has the laws about them.
 #![tactic(auto)]
 
@@ -24,6 +25,8 @@ mod framing;
 pub mod laws;
 mod leaving_out;
 mod normal;
+mod payload;
+mod payload_difference;
 mod putting;
 mod reassembly;
 mod source;
@@ -35,6 +38,7 @@ pub use excerpt::Excerpt;
 pub use first_difference::FirstDifference;
 pub use framing::put_frame;
 pub use normal::normalise;
+pub use payload_difference::PayloadDifference;
 pub use putting::{control_of, put_event};
 pub use source::{Next, Source};
 pub use turn::Turn;

@@ -7,6 +7,8 @@ use Rattle.wsn_io.specs.declared.stop.Stop.TheVariants as stop
 use Rattle.wsn_rules.specs.declared.compared.Compared.{Compared}
 use Rattle.wsn_rules.specs.declared.compared.Compared.TheVariants.{Equal, Different, NotAccepted}
 use Rattle.wsn_rules.specs.ShownStream.{Item}
+use Rattle.wsn_print.specs.DifferingPayloads.{event_in, StandsForPayloads}
+use Rattle.wsn_events.specs.PayloadExcerpts.{ArePayloadsKept}
 use Rattle.wsn_print.specs.declared.shown.Difference.{Difference}
 use Rattle.wsn_print.specs.DifferenceText.{difference_text}
 use Rattle.wsn_print.specs.Formats.{comparison_text}
@@ -48,9 +50,10 @@ module _ (comparison : Comparison) (bytes others : List ℕ) (before after : Out
       → HasExcerpts comparison.without comparison.role comparison.limits bytes others (Ok (compared, difference))
       → shown.index ≡ d.index → ((m : ℕ) (item : Option Item) → m ≤ 4096 → IsExcerptIn d.first item → StandsFor m shown.first item)
       → ((m : ℕ) (item : Option Item) → m ≤ 4096 → IsExcerptIn d.second item → StandsFor m shown.second item)
-      → ((one other : Option Item) → StandsFor n shown.first one → StandsFor n shown.second other → IsWrittenOrStops before after (difference_text comparison.format n comparison.role shown.index one other) result)
+      → ((m : ℕ) (one other : Option Item) → m ≤ 4096 → ArePayloadsKept d.payloads (event_in one) (event_in other) → StandsForPayloads m shown.payloads one other)
+      → ((one other : Option Item) → StandsFor n shown.first one → StandsFor n shown.second other → StandsForPayloads n shown.payloads one other → IsWrittenOrStops before after (difference_text comparison.format n comparison.role shown.index one other) result)
       → PutsAnswer comparison bytes others compared before after result
-  puts_seen compared k n difference d shown is seen few some has index first second puts =
+  puts_seen compared k n difference d shown is seen few some has index first second payloads puts =
       let at =
       subst (λ (x : Compared). HasExcerpts comparison.without comparison.role comparison.limits bytes others (Ok (x, Some d))) is
       (subst (λ (x : Option FirstDifference). HasExcerpts comparison.without comparison.role comparison.limits bytes others (Ok (compared, x))) some has) in
@@ -63,7 +66,7 @@ module _ (comparison : Comparison) (bytes others : List ℕ) (before after : Out
         text,
         printed,
         subst (λ (i : ℕ). IsWrittenOrStops before after (difference_text comparison.format n comparison.role i one other) result) (index ∙ at.index_is)
-            (puts one other (first n one few at.first.2) (second n other few at.second.2)),
+            (puts one other (first n one few at.first.2) (second n other few at.second.2) (payloads n one other few at.payloads)),
       )
 
 -- a stop of the comparison, before which nothing was printed

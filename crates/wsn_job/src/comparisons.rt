@@ -20,8 +20,9 @@ use wsn_wire::{Input, Output};
 /// In words, the answer is the line `equal`, with status 0; `different K`, with status 1, where K is the index, from 0, of
 /// the first event that differs; or, for a stream that isn't accepted, `first ` or `second ` and its verdict's line, with
 /// status 1. With a view, the lines `first ` and `second ` follow `different K`, each with the stream's event as `show`
-/// prints it, or a dash if the stream has no such event. A stop gives status 2 and one line on `errors`; what can't be
-/// written there is dropped.
+/// prints it, or a dash if the stream has no such event. If both have one and the payloads differ, the line
+/// `differ-at PLACE VIEW VIEW` says where, with a view of both around that place. A stop gives status 2 and one line on
+/// `errors`; what can't be written there is dropped.
 #[tactic(none)]
 pub fn run_same<A: Allocator + Copy, R: Read, S: Read, W: Write, E: Write>(
     alloc: A,

@@ -72,7 +72,7 @@ plain_first c bytes rest more plain same =
     let front : 92 ∷ more ≡ encode_utf8 c ++ rest = sym same ∙ ap (λ (bs : List ℕ). bs ++ rest) plain.3 in
     plain.2 (char_from_byte (92 ∷ more) rest c front (omega arith) (omega arith))
 
-split : (xs ys r t : List ℕ) → length xs ≡ length ys → xs ++ r ≡ ys ++ t → (xs ≡ ys) × (r ≡ t)
+pub split : (xs ys r t : List ℕ) → length xs ≡ length ys → xs ++ r ≡ ys ++ t → (xs ≡ ys) × (r ≡ t)
 split xs ys r t size same = (
   sym (take-append_seam xs r) ∙ ap (take (length xs)) same ∙ ap (λ (n : ℕ). take n (ys ++ t)) size ∙ take-append_seam ys t,
   sym (drop-append_seam xs r) ∙ ap (drop (length xs)) same ∙ ap (λ (n : ℕ). drop n (ys ++ t)) size ∙ drop-append_seam ys t,

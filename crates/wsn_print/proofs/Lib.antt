@@ -8,6 +8,7 @@ pub mod JsonTexts
 pub mod VisibleTexts
 pub mod TextFronts
 pub mod VisibleLines
+pub mod CommentLines
 pub mod Appended
 pub mod ObjectPieces
 pub mod FrameObjects
@@ -17,3 +18,4 @@ pub mod PutParts
 pub mod MaskedLanes
 pub mod RunTexts
 pub mod RunCharacters
+pub mod DifferingParts

@@ -2,8 +2,6 @@
 use Rattle.std.proofs.Common.{◌≡◌, ℕ, ◌^◌, ◌%◌, Bool, true, false, cond, ◌||◌, List, [], ◌∷◌, map, length, refl, ap, ap₂, ◌∙◌, arith}
 use Rattle.std.specs.Prelude.{replicate, suc}
 use Rattle.std.proofs.lemmas.Simd.{zip2_splat, mask_l-mod}
-use Rattle.wsn_print.specs.declared.escapes.Escapes.TheVariants.{Hidden}
-use Rattle.wsn_print.specs.Runs.{takes_backslash}
 use lib.Lanes.{zip2, mask_l, top}
 
 -- the lane of a byte
@@ -68,8 +66,3 @@ same_six false false true d e f = refl
 same_six false false false true e f = refl
 same_six false false false false true f = refl
 same_six false false false false false f = refl
-
--- No byte takes a backslash in a comment.
-pub no_marks : (xs : List ℕ) → 0 ≡ mask_l (map (takes_backslash Hidden) xs)
-no_marks [] = refl
-no_marks (x ∷ xs) = omega (arith, no_marks xs)

@@ -8,6 +8,7 @@ use Rattle.wsn_rules.specs.ShownStream.Item.{Event, Head, Unfinished, Unfinished
 use Rattle.wsn_print.specs.declared.shown.PlacedEvent.{PlacedEvent}
 use Rattle.wsn_print.specs.ComparisonText.{comparison_line}
 use Rattle.wsn_print.specs.DifferenceText.{event_line, difference_lines, event_value, difference_object}
+use Rattle.wsn_print.specs.DifferingPayloads.{differ_line, differ_field}
 use Rattle.wsn_print.specs.Json.{string_field, number_field}
 use Rattle.wsn_print.specs.ShownParts.{IsPlaced, StandsFor}
 
@@ -30,17 +31,20 @@ of_none n (Some item) stands P holds = absurd stands
 
 -- ---- the pieces of a difference
 
+of_four : (a b d z : List ℕ) → a ++ (b ++ (d ++ z)) ≡ a ++ b ++ d ++ z
+of_four a b d z = simp append_assoc
+
+of_five : (a b d e z : List ℕ) → a ++ (b ++ (d ++ (e ++ z))) ≡ a ++ b ++ d ++ e ++ z
+of_five a b d e z = simp append_assoc
+
 pub lines_are : (n : ℕ) (role : Role) (k : ℕ) (one other : Option Item)
-    → comparison_line (Different k) ++ ((codes "first " ++ event_line n role one) ++ (codes "second " ++ event_line n role other)) ≡ difference_lines n role k one other
-lines_are n role k one other = simp append_assoc
+    → comparison_line (Different k) ++ ((codes "first " ++ event_line n role one) ++ ((codes "second " ++ event_line n role other) ++ differ_line n one other)) ≡ difference_lines n role k one other
+lines_are n role k one other = of_four (comparison_line (Different k)) (codes "first " ++ event_line n role one) (codes "second " ++ event_line n role other) (differ_line n one other)
 
 -- The type, the answer and the index.
 abbrev pub answer_members : ℕ → List ℕ
 answer_members k = codes "{\"type\":\"comparison\"" ++ string_field (codes "answer") (codes "different") ++ number_field (codes "event") k
 
 pub object_is : (n : ℕ) (role : Role) (k : ℕ) (one other : Option Item)
-    → answer_members k ++ ((codes ",\"first\":" ++ event_value n role one) ++ ((codes ",\"second\":" ++ event_value n role other) ++ codes "}\n")) ≡ difference_object n role k one other
-object_is n role k one other = of_four (answer_members k) (codes ",\"first\":" ++ event_value n role one) (codes ",\"second\":" ++ event_value n role other) (codes "}\n")
-  where
-    of_four : (a b d z : List ℕ) → a ++ (b ++ (d ++ z)) ≡ a ++ b ++ d ++ z
-    of_four a b d z = simp append_assoc
+    → answer_members k ++ ((codes ",\"first\":" ++ event_value n role one) ++ ((codes ",\"second\":" ++ event_value n role other) ++ (differ_field n one other ++ codes "}\n"))) ≡ difference_object n role k one other
+object_is n role k one other = of_five (answer_members k) (codes ",\"first\":" ++ event_value n role one) (codes ",\"second\":" ++ event_value n role other) (differ_field n one other) (codes "}\n")

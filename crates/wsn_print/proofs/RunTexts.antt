@@ -11,7 +11,7 @@ use Rattle.wsn_print.proofs.RunCharacters.{hidden_in, in_one_byte, in_two_bytes,
 use Rattle.std.specs.Str.{IsUtf8, chars, encode_utf8_all}
 use Rattle.hex.specs.Hex.{encode_with, encode_lower}
 use Rattle.wsn_print.specs.declared.escapes.Escapes.{Escapes}
-use Rattle.wsn_print.specs.declared.escapes.Escapes.TheVariants.{Hidden, Quoted}
+use Rattle.wsn_print.specs.declared.escapes.Escapes.TheVariants.{Comment, Quoted}
 use Rattle.wsn_print.specs.ShownText.{is_from, is_hidden, unicode_escape, shown_character}
 use Rattle.wsn_print.specs.Runs.{escaped, escaped_after, escaped_character, is_plain, begins_hidden, takes_backslash, hidden_of, hidden_at, written_of, more_of, escaped_byte}
 
@@ -231,35 +231,36 @@ hidden_or_not escapes c b more conts rest false is passed copied =
     ∙ sym (append_assoc (escaped_byte escapes b) conts (escaped escapes rest))
 
 continues : (escapes : Escapes) (b : ℕ) → 128 ≤ b → b < 192 → is_copied escapes b ≡ true
-continues Hidden b low high = grind (arith, nat_tests, low, high)
+continues Comment b low high = grind (arith, nat_tests, low, high)
 continues Quoted b low high = grind (arith, nat_tests, low, high)
 
 high_alone : (escapes : Escapes) (b : ℕ) → 128 ≤ b → escaped_byte escapes b ≡ b ∷ []
-high_alone Hidden b low = refl
+high_alone Comment b low = grind (arith, nat_tests, low)
 high_alone Quoted b low = grind (arith, nat_tests, low)
 
 -- a character beyond ASCII
 beyond_ascii : (escapes : Escapes) (c : ℕ) → 128 ≤ c
     → escaped_character escapes c ≡ (if is_hidden c then unicode_escape c else encode_utf8 c)
-beyond_ascii Hidden c low = refl
+beyond_ascii Comment c low = grind (arith, nat_tests, low)
 beyond_ascii Quoted c low = grind (arith, nat_tests, low)
 
 shown_ascii : (c : ℕ) → c < 128 → shown_character c ≡ (if is_hidden c then unicode_escape c else c ∷ [])
 shown_ascii c low = ap (λ (bs : List ℕ). if is_hidden c then unicode_escape c else bs) (encode_ascii c low)
 
-marked : (c : ℕ) → c == 34 || c == 92 ≡ true → is_hidden c ≡ false
-marked c is = grind (arith, nat_tests, is)
+marked : (escapes : Escapes) (c : ℕ) → takes_backslash escapes c ≡ true → is_hidden c ≡ false
+marked Comment c is = grind (arith, nat_tests, is)
+marked Quoted c is = grind (arith, nat_tests, is)
 
-quoted_ascii : (c : ℕ) (mark : Bool) → c == 34 || c == 92 ≡ mark → c < 128
+ascii_by : (c : ℕ) (mark : Bool) → (mark ≡ true → is_hidden c ≡ false) → c < 128
     → (if mark then 92 ∷ c ∷ [] else shown_character c)
     ≡ (if is_hidden c then unicode_escape c else (if mark then 92 ∷ c ∷ [] else c ∷ []) ++ [])
-quoted_ascii c true is low = sym (ap (λ (yes : Bool). if yes then unicode_escape c else 92 ∷ c ∷ []) (marked c is))
-quoted_ascii c false is low = shown_ascii c low
+ascii_by c true visible low = sym (ap (λ (yes : Bool). if yes then unicode_escape c else 92 ∷ c ∷ []) (visible refl))
+ascii_by c false visible low = shown_ascii c low
 
 ascii_character : (escapes : Escapes) (c : ℕ) → c < 128
     → escaped_character escapes c ≡ (if is_hidden c then unicode_escape c else escaped_byte escapes c ++ [])
-ascii_character Hidden c low = shown_ascii c low
-ascii_character Quoted c low = quoted_ascii c (c == 34 || c == 92) refl low
+ascii_character Comment c low = ascii_by c (c == 92) (marked Comment c) low
+ascii_character Quoted c low = ascii_by c (c == 34 || c == 92) (marked Quoted c) low
 
 of_one_byte : (escapes : Escapes) (c : ℕ) (rest : List ℕ) → c < 128
     → escaped escapes (c ∷ rest) ≡ escaped_character escapes c ++ escaped escapes rest

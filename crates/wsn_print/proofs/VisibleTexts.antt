@@ -1,5 +1,5 @@
 -- Nothing of a quoted text or of a comment is hidden.
-use Rattle.std.proofs.Common.{◌≡◌, ℕ, zero, suc, ◌/◌, ◌%◌, ◌<◌, ◌≤◌, inl, inr, Bool, true, false, ◌==◌, ◌&&◌, ◌||◌, if◌then◌else◌, List, [], ◌∷◌, ◌++◌, length, take, slice_index, codes, refl, sym, ap, ◌∙◌, subst, arith}
+use Rattle.std.proofs.Common.{◌≡◌, ℕ, zero, suc, ◌/◌, ◌%◌, ◌<◌, ◌≤◌, inl, inr, Bool, true, false, ◌==◌, ◌&&◌, ◌||◌, if◌then◌else◌, List, [], ◌∷◌, ◌++◌, length, take, slice_index, codes, refl, sym, ap, ◌∙◌, subst, arith, eqb-true}
 use Rattle.std.specs.Prelude.{flat_map}
 use Rattle.std.proofs.Math.Seq.{take-length}
 use Rattle.std.proofs.lemmas.Bool.{cases_Bool, and_parts, or_cases, cases_lt}
@@ -13,7 +13,7 @@ use Rattle.std.specs.Str.{chars, IsAscii, IsUtf8, all_scalars, is_utf8}
 use Rattle.std.specs.Str.Lossy.{utf8_valid_len, valid_len_up_to}
 use Rattle.hex.specs.Hex.{encode_with, encode_lower, lower_digits}
 use Rattle.wsn_wire.specs.Frame.{IsBytes}
-use Rattle.wsn_print.specs.ShownText.{is_from, is_hidden, unicode_escape, shown_character, quoted_character, quoted, shown_byte, comment_text}
+use Rattle.wsn_print.specs.ShownText.{is_from, is_hidden, unicode_escape, shown_character, comment_character, quoted_character, quoted, comment_byte, comment_text}
 use Rattle.wsn_print.specs.QuotedTexts.{IsAllVisible}
 use Rattle.wsn_print.proofs.JsonTexts.{hidden_fits}
 
@@ -148,8 +148,17 @@ quoted_text_visible text utf8 =
 
 -- ---- comments
 
-byte_visible : (b : ℕ) → b < 256 → IsAllVisible (shown_byte b)
-byte_visible b fits = elim (cases_Bool (is_from 0x20 0x7e b)) [
+character_by : (c : ℕ) (mark : Bool) → (mark ≡ true → c ≡ 92) → IsScalar c → IsAllVisible (if mark then 92 ∷ c ∷ [] else shown_character c)
+character_by c true is scalar =
+    let backslash = is refl in
+    visible_ascii (92 ∷ c ∷ []) ((omega arith, omega arith), ((omega (arith, backslash), omega (arith, backslash)), tt))
+character_by c false is scalar = shown_visible c scalar
+
+comment_character_visible : (c : ℕ) → IsScalar c → IsAllVisible (comment_character c)
+comment_character_visible c scalar = character_by c (c == 92) (eqb-true c 92) scalar
+
+byte_shown : (b : ℕ) → b < 256 → IsAllVisible (if is_from 0x20 0x7e b then b ∷ [] else codes "\\x" ++ encode_lower (b ∷ []))
+byte_shown b fits = elim (cases_Bool (is_from 0x20 0x7e b)) [
   | inl printable ↦
       subst IsAllVisible (sym (ap (λ (p : Bool). if p then b ∷ [] else codes "\\x" ++ encode_lower (b ∷ [])) printable)) (visible_ascii (b ∷ []) (from_test b printable, tt))
   | inr other ↦
@@ -157,7 +166,17 @@ byte_visible b fits = elim (cases_Bool (is_from 0x20 0x7e b)) [
       (visible_append (codes "\\x") (encode_lower (b ∷ [])) (visible_ascii (codes "\\x") ((omega arith, omega arith), ((omega arith, omega arith), tt))) (visible_ascii (encode_lower (b ∷ [])) (digits_printable (b ∷ []) (fits, tt))))
 ]
 
-bytes_visible : (bytes : List ℕ) → IsBytes bytes → AllByRecursion (λ b. IsAllVisible (shown_byte b)) bytes
+byte_by : (b : ℕ) (mark : Bool) → (mark ≡ true → b ≡ 92) → b < 256
+    → IsAllVisible (if mark then 92 ∷ b ∷ [] else if is_from 0x20 0x7e b then b ∷ [] else codes "\\x" ++ encode_lower (b ∷ []))
+byte_by b true is fits =
+    let backslash = is refl in
+    visible_ascii (92 ∷ b ∷ []) ((omega arith, omega arith), ((omega (arith, backslash), omega (arith, backslash)), tt))
+byte_by b false is fits = byte_shown b fits
+
+byte_visible : (b : ℕ) → b < 256 → IsAllVisible (comment_byte b)
+byte_visible b fits = byte_by b (b == 92) (eqb-true b 92) fits
+
+bytes_visible : (bytes : List ℕ) → IsBytes bytes → AllByRecursion (λ b. IsAllVisible (comment_byte b)) bytes
 bytes_visible [] fits = tt
 bytes_visible (b ∷ bytes) fits = (byte_visible b fits.0, bytes_visible bytes fits.1)
 
@@ -168,7 +187,7 @@ front_is_utf8 bytes (suc n) = elim (cases_Bool (is_utf8 (take (suc n) bytes))) [
   | inr other ↦ rw other (front_is_utf8 bytes n)
 ]
 
-utf8_if_all : (text : List ℕ) → (utf8_valid_len text == length text) ≡ true → IsUtf8 text
+pub utf8_if_all : (text : List ℕ) → (utf8_valid_len text == length text) ≡ true → IsUtf8 text
 unfolding utf8_valid_len
 utf8_if_all text test =
     let all : valid_len_up_to text (length text) ≡ length text = grind (arith, nat_tests) in
@@ -177,9 +196,9 @@ utf8_if_all text test =
 pub comment_visible : (text : List ℕ) → IsBytes text → IsAllVisible (comment_text text)
 comment_visible text fits = elim (cases_Bool (utf8_valid_len text == length text)) [
   | inl whole ↦
-      subst IsAllVisible (sym (ap (λ (b : Bool). if b then flat_map shown_character (chars text) else flat_map shown_byte text) whole))
-      (characters_visible shown_character shown_visible text (utf8_if_all text whole))
+      subst IsAllVisible (sym (ap (λ (b : Bool). if b then flat_map comment_character (chars text) else flat_map comment_byte text) whole))
+      (characters_visible comment_character comment_character_visible text (utf8_if_all text whole))
   | inr other ↦
-      subst IsAllVisible (sym (ap (λ (b : Bool). if b then flat_map shown_character (chars text) else flat_map shown_byte text) other))
-      (visible_each shown_byte text (bytes_visible text fits))
+      subst IsAllVisible (sym (ap (λ (b : Bool). if b then flat_map comment_character (chars text) else flat_map comment_byte text) other))
+      (visible_each comment_byte text (bytes_visible text fits))
 ]

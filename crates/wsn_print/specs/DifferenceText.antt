@@ -7,6 +7,7 @@ use Rattle.wsn_rules.specs.ShownStream.{Item}
 use Rattle.wsn_print.specs.declared.format.Format.{Format}
 use Rattle.wsn_print.specs.declared.format.Format.TheVariants.{Text, Json}
 use Rattle.wsn_print.specs.ComparisonText.{comparison_line}
+use Rattle.wsn_print.specs.DifferingPayloads.{differ_line, differ_field}
 use Rattle.wsn_print.specs.Json.{field, string_field, number_field}
 use Rattle.wsn_print.specs.ShownText.{offset_of, item_line}
 use Rattle.wsn_print.specs.ShownObjects.{object_front, item_type, item_fields}
@@ -17,11 +18,11 @@ abbrev pub event_line : ℕ → Role → Option Item → List ℕ
 event_line n role None = codes "-\n"
 event_line n role (Some item) = item_line n role None item
 
--- The answer's line, and a line for each stream's event.
+-- The answer's line, a line for each stream's event, and where the payloads differ.
 abbrev pub difference_lines : ℕ → Role → ℕ → Option Item → Option Item → List ℕ
 difference_lines n role k one other =
     comparison_line (Different k) ++ (codes "first " ++ event_line n role one)
-    ++ (codes "second " ++ event_line n role other)
+    ++ (codes "second " ++ event_line n role other) ++ differ_line n one other
 
 -- The object of an event of one of the streams, without its LF; null if it has no more events.
 abbrev pub event_value : ℕ → Role → Option Item → List ℕ
@@ -30,13 +31,13 @@ event_value n role (Some item) =
     (object_front (item_type item) role InStream ++ number_field (codes "offset") (offset_of item) ++ item_fields n item)
     ++ codes "}"
 
--- The answer's members, and one for each stream's event.
+-- The answer's members, one for each stream's event, and where the payloads differ.
 abbrev pub difference_object : ℕ → Role → ℕ → Option Item → Option Item → List ℕ
 difference_object n role k one other =
     (codes "{\"type\":\"comparison\"" ++ string_field (codes "answer") (codes "different")
     ++ number_field (codes "event") k)
     ++ field (codes "first") (event_value n role one) ++ field (codes "second") (event_value n role other)
-    ++ codes "}\n"
+    ++ differ_field n one other ++ codes "}\n"
 
 -- In a format.
 abbrev pub difference_text : Format → ℕ → Role → ℕ → Option Item → Option Item → List ℕ

@@ -15,8 +15,9 @@ pub mod CharacterText
 pub mod ShownObjects
 pub mod ShownParts
 pub mod Formats
-pub mod DifferenceText
 pub mod QuotedTexts
+pub mod DifferingPayloads
+pub mod DifferenceText
 pub mod HeldTexts
 pub mod Runs
 -- for the examples

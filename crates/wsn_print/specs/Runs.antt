@@ -1,17 +1,17 @@
 -- Texts of which most bytes are copied as they are, and a few characters are escaped.
-use Rattle.std.specs.Prelude.{ℕ, zero, suc, ◌+◌, ◌-◌, ◌==◌, ◌&&◌, ◌||◌, nat_lt, Bool, false, not, if◌then◌else◌, Option, None, Some, List, [], ◌∷◌, ◌++◌, get_or}
+use Rattle.std.specs.Prelude.{ℕ, zero, suc, ◌+◌, ◌-◌, ◌==◌, ◌&&◌, ◌||◌, nat_lt, Bool, not, if◌then◌else◌, Option, None, Some, List, [], ◌∷◌, ◌++◌, get_or}
 use Rattle.wsn_print.specs.declared.escapes.Escapes.{Escapes}
-use Rattle.wsn_print.specs.declared.escapes.Escapes.TheVariants.{Hidden, Quoted}
-use Rattle.wsn_print.specs.ShownText.{is_from, unicode_escape, shown_character, quoted_character}
+use Rattle.wsn_print.specs.declared.escapes.Escapes.TheVariants.{Comment, Quoted}
+use Rattle.wsn_print.specs.ShownText.{is_from, unicode_escape, comment_character, quoted_character}
 
 -- A character as it is written.
 abbrev pub escaped_character : Escapes → ℕ → List ℕ
-escaped_character Hidden c = shown_character c
+escaped_character Comment c = comment_character c
 escaped_character Quoted c = quoted_character c
 
 -- The byte is a character that is escaped by a backslash before it.
 abbrev pub takes_backslash : Escapes → ℕ → Bool
-takes_backslash Hidden b = false
+takes_backslash Comment b = b == 92
 takes_backslash Quoted b = b == 34 || b == 92
 
 -- The byte is the first one of some hidden character.

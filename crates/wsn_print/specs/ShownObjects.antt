@@ -1,6 +1,5 @@
 -- The JSON objects of `show`, one a line, each with its LF: entries of what both sides sent, and comments.
-use Rattle.std.specs.Prelude.{ℕ, ◌+◌, ◌*◌, ◌-◌, ◌/◌, ◌==◌, nat_lt, if◌then◌else◌, Option, None, Some, List, [], ◌∷◌, ◌++◌, length, take, drop, flat_map, codes}
-use Rattle.std.specs.Str.{chars}
+use Rattle.std.specs.Prelude.{ℕ, ◌+◌, ◌*◌, ◌-◌, ◌/◌, ◌==◌, nat_lt, if◌then◌else◌, Option, None, Some, List, [], ◌∷◌, ◌++◌, length, take, drop, codes}
 use Rattle.std.specs.Str.Lossy.{utf8_valid_len}
 use Rattle.hex.specs.Hex.{encode_lower}
 use Rattle.wsn_wire.specs.declared.endpoint.Role.{Role}
@@ -16,7 +15,7 @@ use Rattle.wsn_rules.specs.ShownStream.Item.{Event, Head, Unfinished, Unfinished
 use Rattle.wsn_print.specs.Json.{field, string_field, number_field, number_or_null_field}
 use Rattle.wsn_print.specs.Objects.{refusal_fields, head_fields}
 use Rattle.wsn_print.specs.CharacterText.{character_fields}
-use Rattle.wsn_print.specs.ShownText.{is_from, quoted_character, quoted, text_part, is_printable, event_word, event_size, offset_of}
+use Rattle.wsn_print.specs.ShownText.{quoted, text_part, is_printable, event_word, event_size, offset_of}
 
 -- ---- views
 
@@ -175,17 +174,12 @@ end_object role position sent =
 
 -- ---- comments
 
--- A byte of a comment that isn't UTF-8: `\x` and two digits unless it is printable, as in the line of the comment.
-abbrev pub quoted_byte : ℕ → List ℕ
-quoted_byte b = if is_from 0x20 0x7e b then quoted_character b else codes "\\\\x" ++ encode_lower (b ∷ [])
-
--- The characters of a comment between quotation marks.
-abbrev pub comment_characters : List ℕ → List ℕ
-comment_characters text =
-    if utf8_valid_len text == length text then flat_map quoted_character (chars text) else flat_map quoted_byte text
+-- A comment's text; of one that isn't UTF-8, its bytes in hexadecimal.
+abbrev pub comment_field : List ℕ → List ℕ
+comment_field text =
+    if utf8_valid_len text == length text then field (codes "text") (quoted text) else hex_field text
 
 -- A comment in the line with this number, from 1: what follows its first byte, which is `#`.
 abbrev pub comment_object : ℕ → List ℕ → List ℕ
 comment_object number text =
-    codes "{\"type\":\"comment\"" ++ number_field (codes "line") number ++ codes ",\"text\":\""
-    ++ comment_characters (drop 1 text) ++ codes "\"}\n"
+    codes "{\"type\":\"comment\"" ++ number_field (codes "line") number ++ comment_field (drop 1 text) ++ codes "}\n"

@@ -32,9 +32,13 @@ is_hidden c =
 abbrev pub unicode_escape : ℕ → List ℕ
 unicode_escape c = codes "\\u" ++ encode_lower (c / 256 ∷ c % 256 ∷ [])
 
--- A character in a comment.
+-- A character, escaped if it is hidden.
 abbrev pub shown_character : ℕ → List ℕ
 shown_character c = if is_hidden c then unicode_escape c else encode_utf8 c
+
+-- A character in a comment: a backslash is doubled, since an escape begins with one.
+abbrev pub comment_character : ℕ → List ℕ
+comment_character c = if c == 92 then 92 ∷ c ∷ [] else shown_character c
 
 -- A character in a quoted text.
 abbrev pub quoted_character : ℕ → List ℕ
@@ -186,14 +190,15 @@ item_line n role time item = front_text role time (offset_of item) ++ item_text 
 
 -- ---- comments and end marks
 
--- A byte of a comment that isn't UTF-8.
-abbrev pub shown_byte : ℕ → List ℕ
-shown_byte b = if is_from 0x20 0x7e b then b ∷ [] else codes "\\x" ++ encode_lower (b ∷ [])
+-- A byte of a comment that isn't UTF-8: `\x` and two digits, unless it is printable. A backslash is doubled.
+abbrev pub comment_byte : ℕ → List ℕ
+comment_byte b =
+    if b == 92 then 92 ∷ b ∷ [] else if is_from 0x20 0x7e b then b ∷ [] else codes "\\x" ++ encode_lower (b ∷ [])
 
--- A comment as it is, with its hidden characters escaped.
+-- A comment as it is, with its hidden characters escaped, or its bytes if it isn't UTF-8, and each backslash doubled.
 abbrev pub comment_text : List ℕ → List ℕ
 comment_text text =
-    if utf8_valid_len text == length text then flat_map shown_character (chars text) else flat_map shown_byte text
+    if utf8_valid_len text == length text then flat_map comment_character (chars text) else flat_map comment_byte text
 
 -- The line of a comment.
 abbrev pub comment_line : List ℕ → List ℕ

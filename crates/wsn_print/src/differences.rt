@@ -4,10 +4,13 @@ ghost use Rattle.wsn_rules.specs.Meaning.{MeantEvent};
 ghost use Rattle.wsn_rules.specs.ShownStream.{Item};
 ghost use Rattle.wsn_rules.specs.ShownStream.Item.{Event};
 ghost use Rattle.wsn_print.specs.DifferenceText.{event_line, difference_lines, event_value, difference_object, difference_text};
+ghost use Rattle.wsn_print.specs.DifferingPayloads.{StandsForPayloads};
 ghost use Rattle.wsn_print.specs.Json.{string_field, number_field};
 ghost use Rattle.wsn_print.specs.ShownParts.{IsPlaced, StandsFor};
 
 use crate::comparisons::line_of_difference;
+use crate::differing::put_differ_line;
+use crate::differing_members::put_differ_field;
 use crate::entries::put_event;
 use crate::format::Format;
 use crate::json::{push_number_field, push_string_field};
@@ -22,7 +25,8 @@ use wsn_wire::Role;
 const ANSWER_MAX: usize = 110;
 
 /// Writes in a format that two streams of this role differ, and each stream's event: the answer's line and the lines
-/// `first EVENT` and `second EVENT`, with a dash for no event; or a JSON object in one line, with null for no event.
+/// `first EVENT` and `second EVENT`, with a dash for no event; or a JSON object in one line, with null for no event. If
+/// both have an event and their payloads differ, the line `differ-at PLACE VIEW VIEW` follows, or the member says where.
 /// `Stop::Write` if the writer fails: a prefix of the text was written.
 pub fn put_difference_as<W: Write>(
     to: &mut Output<W>,
@@ -33,7 +37,7 @@ pub fn put_difference_as<W: Write>(
 ) -> Result<(), Stop>
     requires { to.old.failed ≡ false }
     ensures { (one other : Option Item) → StandsFor view difference.now.first one →
-        StandsFor view difference.now.second other →
+        StandsFor view difference.now.second other → StandsForPayloads view difference.now.payloads one other →
         IsWrittenOrStops to.old to.new (difference_text format view role difference.now.index one other) result }
 {
     match format {
@@ -50,12 +54,13 @@ fn put_difference<W: Write>(
 ) -> Result<(), Stop>
     requires { to.old.failed ≡ false }
     ensures { (one other : Option Item) → StandsFor view difference.now.first one →
-        StandsFor view difference.now.second other →
+        StandsFor view difference.now.second other → StandsForPayloads view difference.now.payloads one other →
         IsWrittenOrStops to.old to.new (difference_lines view role difference.now.index one other) result }
 {
     put_line(to, line_of_difference(difference.index).bytes())?;
     put_event_line(to, "first ", view, role, &difference.first)?;
-    put_event_line(to, "second ", view, role, &difference.second)
+    put_event_line(to, "second ", view, role, &difference.second)?;
+    put_differ_line(to, view, &difference.payloads)
 }
 
 /// Writes which stream's event comes, and its line.
@@ -105,12 +110,13 @@ fn put_difference_object<W: Write>(
 ) -> Result<(), Stop>
     requires { to.old.failed ≡ false }
     ensures { (one other : Option Item) → StandsFor view difference.now.first one →
-        StandsFor view difference.now.second other →
+        StandsFor view difference.now.second other → StandsForPayloads view difference.now.payloads one other →
         IsWrittenOrStops to.old to.new (difference_object view role difference.now.index one other) result }
 {
     put_line(to, line_of_answer(difference.index).bytes())?;
     put_event_field(to, ",\"first\":", view, role, &difference.first)?;
     put_event_field(to, ",\"second\":", view, role, &difference.second)?;
+    put_differ_field(to, view, &difference.payloads)?;
     put_line(to, b"}\n")
 }
 

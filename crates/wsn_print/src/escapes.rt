@@ -9,9 +9,9 @@ use std::simd::prelude::*;
 /// Which characters of a text are escaped.
 #[derive(Clone, Copy)]
 pub(crate) enum Escapes {
-    /// The hidden ones, as in a comment.
-    Hidden,
-    /// These, and quotation marks and backslashes, as in a quoted text.
+    /// The hidden ones and backslashes, as in a comment.
+    Comment,
+    /// These and quotation marks, as in a quoted text.
     Quoted,
 }
 
@@ -50,7 +50,7 @@ pub(crate) fn marks(escapes: Escapes, block: u8x16) -> u64
     ensures { result ≡ mask_l (map (takes_backslash escapes) block) }
 {
     match escapes {
-        Escapes::Hidden => 0,
+        Escapes::Comment => block.simd_eq(u8x16::splat(b'\\')).to_bitmask(),
         Escapes::Quoted => {
             (block.simd_eq(u8x16::splat(b'"')) | block.simd_eq(u8x16::splat(b'\\'))).to_bitmask()
         }
@@ -63,7 +63,7 @@ pub(crate) fn takes_backslash(escapes: Escapes, byte: u8) -> bool
     ensures { result ≡ takes_backslash escapes byte }
 {
     match escapes {
-        Escapes::Hidden => false,
+        Escapes::Comment => byte == b'\\',
         Escapes::Quoted => byte == b'"' || byte == b'\\',
     }
 }

@@ -17,16 +17,20 @@
 //! where an entry is. [`put_difference_as`] writes a difference with the events that differ.
 //!
 //! `specs/Fields.antt` defines the fields of lines; `VerdictText`, `HeadText`, `ReportText`, `ComparisonText`,
-//! `FaultText`, `StopText`, `PayloadText`, `ShownText` and `CharacterText` define the lines, `Json`, `Objects` and `ShownObjects` the objects, `Formats`
-//! the texts in each format, `DifferenceText` a difference with its events, and `Statuses` the exit statuses. `ShownParts` says what the arguments of the functions
-//! that show an entry stand for, `QuotedTexts` what a quoted text is ([`quoted_laws`]).
+//! `FaultText`, `StopText`, `PayloadText`, `ShownText` and `CharacterText` define the lines, `Json`, `Objects` and
+//! `ShownObjects` the objects, `Formats` the texts in each format, `DifferenceText` a difference with its events,
+//! `DifferingPayloads` where their payloads differ, and `Statuses` the exit statuses. `ShownParts` says what the
+//! arguments of the functions that show an entry stand for, `QuotedTexts` what a quoted text is ([`quoted_laws`]).
 //! [`printed_lines`], [`printed_entries`] and [`printed_objects`] have examples of printed lines, computed from the
 //! definitions.
 #![tactic(auto)]
 
+mod ascii_text;
 mod characters;
 mod comparisons;
 mod differences;
+mod differing;
+mod differing_members;
 mod entries;
 mod escapes;
 mod faults;
@@ -43,6 +47,7 @@ mod object_views;
 mod objects;
 mod parts;
 mod payloads;
+pub mod printed_differences;
 pub mod printed_entries;
 pub mod printed_lines;
 pub mod printed_objects;
@@ -76,8 +81,8 @@ pub use payloads::{line_of_inside, line_of_nothing};
 pub use quoted::put_comment;
 pub use reports::put_report;
 pub use shown::{
-    Difference, EntryFront, Front, HeldBytes, Origin, PlacedEvent, Remainder, ShownCharacter,
-    ShownEvent, VIEW_MAX, ViewLimit,
+    Difference, DifferingPayloads, EntryFront, Front, HeldBytes, Origin, PayloadPart, PlacedEvent,
+    Remainder, ShownCharacter, ShownEvent, VIEW_MAX, ViewLimit,
 };
 pub use shown_objects::{
     put_comment_object, put_end_object, put_event_object, put_refused_object, put_remainder_object,

@@ -3,7 +3,8 @@ ghost use Rattle.std.specs.Str.{IsUtf8};
 ghost use Rattle.wsn_io.specs.Stops.{IsWrittenOrStops};
 ghost use Rattle.wsn_text.specs.Utf8.{BeginsText};
 ghost use Rattle.wsn_rules.specs.Meaning.{MeantEvent};
-ghost use Rattle.wsn_print.specs.Json.{number_field};
+ghost use Rattle.wsn_print.specs.Json.{field, number_field};
+ghost use Rattle.wsn_print.specs.ShownText.{quoted};
 ghost use Rattle.wsn_print.specs.ShownParts.{Represents, HasText, HasTextPayload, IsFrontOf, IsEndOf};
 ghost use Rattle.wsn_print.specs.ShownObjects.{truncated_field, text_fields, hex_field, hex_fields, end_fields, body_fields, reason_field, close_fields, event_view_fields, unfinished_view_fields};
 
@@ -157,6 +158,16 @@ fn put_reason_field<W: Write>(to: &mut Output<W>, reason: &[u8]) -> Result<(), S
     }
     put_line(to, b",\"reason\":")?;
     put_quoted(to, reason)
+}
+
+/// Writes a text in UTF-8, quoted.
+pub(crate) fn put_text_field<W: Write>(to: &mut Output<W>, text: &[u8]) -> Result<(), Stop>
+    requires { to.old.failed ≡ false }
+    ensures text { IsUtf8 text.now → IsWrittenOrStops to.old to.new (field (codes "text") (quoted text.now)) result }
+    ensures unfailed { IfOk result (λ done. to.new.failed ≡ false) }
+{
+    put_line(to, b",\"text\":")?;
+    put_quoted(to, text)
 }
 
 /// Writes bytes in hexadecimal.

@@ -150,13 +150,17 @@ pub fn of_bad_characters()
     ensures without_one { item_lines 48 Server None (RefusedFrame 7 (record { place = 7; reason = ReservedBits }) (0xc1 ∷ []) None) ≡ codes "S - 7 refused 7 reserved-bits 1002 c1\n" }
 {}
 
-/// The lines of comments: hidden characters are escaped; of what is not UTF-8, all bytes that are not printable ASCII.
+/// The lines of comments: hidden characters are escaped; of what is not UTF-8, all bytes that are not printable ASCII. A
+/// backslash is doubled.
 pub fn of_comments()
-    ensures as_it_is { comment_line (codes "# reset by \"the\" server \\") ≡ codes "# reset by \"the\" server \\\n" }
+    ensures as_it_is { comment_line (codes "# reset by \"the\" server") ≡ codes "# reset by \"the\" server\n" }
+    ensures backslash { comment_line (codes "#C:\\x") ≡ codes "#C:\\\\x\n" }
     ensures not_ascii { comment_line (codes "#" ++ (0xc3 ∷ 0xa9 ∷ [])) ≡ codes "#" ++ (0xc3 ∷ 0xa9 ∷ []) ++ codes "\n" }
     ensures tab { comment_line (0x23 ∷ 0x09 ∷ []) ≡ codes "#\\u0009\n" }
     ensures u_009b { comment_line (0x23 ∷ 0xc2 ∷ 0x9b ∷ []) ≡ codes "#\\u009b\n" }
     ensures u_202e { comment_line (0x23 ∷ 0xe2 ∷ 0x80 ∷ 0xae ∷ []) ≡ codes "#\\u202e\n" }
     ensures not_utf_8 { comment_line (0x23 ∷ 0xe9 ∷ 0x09 ∷ []) ≡ codes "#\\xe9\\x09\n" }
+    ensures written_out { comment_line (codes "#\\xe9\\u202e") ≡ codes "#\\\\xe9\\\\u202e\n" }
+    ensures backslash_not_utf_8 { comment_line (0x23 ∷ 0x5c ∷ 0xe9 ∷ []) ≡ codes "#\\\\\\xe9\n" }
     ensures partly_utf_8 { comment_line (0x23 ∷ 0xc3 ∷ 0xa9 ∷ 0xe9 ∷ []) ≡ codes "#\\xc3\\xa9\\xe9\n" }
 {}

@@ -203,9 +203,11 @@ pub fn of_bad_characters()
     ensures of_two_frames { item_object 48 Server InStream (RefusedFrame 4 (record { place = 6; reason = TextBad }) (0x20 ∷ []) (Some (record { offset = 2; in_payload = 0; bytes = 0xe2 ∷ 0x82 ∷ 0x20 ∷ [] }))) ≡ codes "{\"type\":\"refused\",\"side\":\"server\",\"offset\":4,\"place\":6,\"reason\":\"text-bad\",\"code\":1007,\"hex\":\"20\",\"character\":{\"offset\":2,\"in_payload\":0,\"hex\":\"e28220\",\"before\":\"\"}}\n" }
 {}
 
-/// The objects of comments: what follows the `#`.
+/// The objects of comments: what follows the `#`, as a text, or in hexadecimal if it is not UTF-8.
 pub fn of_comments()
     ensures as_it_is { comment_object 2 (codes "# reset by the server") ≡ codes "{\"type\":\"comment\",\"line\":2,\"text\":\" reset by the server\"}\n" }
     ensures escaped { comment_object 2 (codes "#\"\t\\") ≡ codes "{\"type\":\"comment\",\"line\":2,\"text\":\"\\\"\\u0009\\\\\"}\n" }
-    ensures not_utf_8 { comment_object 2 (0x23 ∷ 0xe9 ∷ 0x5c ∷ 0x41 ∷ []) ≡ codes "{\"type\":\"comment\",\"line\":2,\"text\":\"\\\\xe9\\\\A\"}\n" }
+    ensures not_utf_8 { comment_object 2 (0x23 ∷ 0xe9 ∷ 0x5c ∷ 0x41 ∷ []) ≡ codes "{\"type\":\"comment\",\"line\":2,\"hex\":\"e95c41\"}\n" }
+    ensures partly_utf_8 { comment_object 2 (0x23 ∷ 0x20 ∷ 0xfe ∷ []) ≡ codes "{\"type\":\"comment\",\"line\":2,\"hex\":\"20fe\"}\n" }
+    ensures written_out { comment_object 2 (codes "#\\xfe") ≡ codes "{\"type\":\"comment\",\"line\":2,\"text\":\"\\\\xfe\"}\n" }
 {}

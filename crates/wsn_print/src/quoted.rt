@@ -3,13 +3,12 @@ ghost use Rattle.hex.specs.Hex.{encode_lower};
 ghost use Rattle.std.specs.Str.{chars, IsUtf8};
 ghost use Rattle.std.specs.Str.Lossy.{utf8_valid_len};
 ghost use Rattle.wsn_io.specs.Stops.{IsWrittenOrStops};
-ghost use Rattle.wsn_print.specs.ShownText.{is_hidden, unicode_escape, shown_character, quoted_character, quoted, shown_byte, comment_text, comment_line};
-ghost use Rattle.wsn_print.specs.ShownObjects.{quoted_byte, comment_characters};
+ghost use Rattle.wsn_print.specs.ShownText.{is_hidden, unicode_escape, comment_character, quoted_character, quoted, comment_byte, comment_text, comment_line};
 ghost use Rattle.wsn_print.specs.Runs.{escaped};
 ghost use Rattle.wsn_print.specs.HeldTexts.{IsHeldOrStops};
 
 use crate::escapes::Escapes;
-use crate::held_text::{CHARACTER_MAX, HeldText, TURN_MAX};
+use crate::held_text::{HeldText, TURN_MAX};
 use crate::line::Line;
 use std::io::Write;
 use std::str;
@@ -19,8 +18,8 @@ use wsn_io::{Output, Stop, put_line};
 const BYTE_MAX: usize = 4;
 
 /// Writes a comment of a capture in one line, with its hidden characters escaped as `\u` and four digits. Of a comment
-/// that isn't UTF-8, each byte that isn't printable ASCII is escaped as `\x` and two digits. `Stop::Write` if the writer
-/// fails: a prefix of the line was written.
+/// that isn't UTF-8, each byte that isn't printable ASCII is escaped as `\x` and two digits. A backslash of the comment is
+/// doubled, so no two comments have the same line. `Stop::Write` if the writer fails: a prefix of the line was written.
 #[tactic(none)]
 pub fn put_comment<W: Write>(to: &mut Output<W>, text: &[u8]) -> Result<(), Stop>
     requires { to.old.failed ≡ false }
@@ -35,8 +34,8 @@ fn put_comment_text<W: Write>(to: &mut Output<W>, text: &[u8]) -> Result<(), Sto
     ensures { IsWrittenOrStops to.old to.new (comment_text text.now) result }
 {
     match str::from_utf8(text) {
-        Ok(characters) => put_shown(to, characters),
-        Err(_) => put_shown_bytes(to, text),
+        Ok(characters) => put_comment_characters(to, characters),
+        Err(_) => put_comment_bytes(to, text),
     }
 }
 
@@ -55,18 +54,6 @@ pub(crate) fn put_quoted<W: Write>(to: &mut Output<W>, text: &[u8]) -> Result<()
     put_line(to, held.as_slice())
 }
 
-/// Writes the characters of a comment that is quoted. Of a comment that isn't UTF-8, each byte that isn't printable ASCII
-/// is written as a quoted `\x` and two digits.
-pub(crate) fn put_comment_characters<W: Write>(to: &mut Output<W>, text: &[u8]) -> Result<(), Stop>
-    requires { to.old.failed ≡ false }
-    ensures { IsWrittenOrStops to.old to.new (comment_characters text.now) result }
-{
-    match str::from_utf8(text) {
-        Ok(characters) => put_quoted_characters(to, characters),
-        Err(_) => put_quoted_bytes(to, text),
-    }
-}
-
 /// Writes the characters of a text that is quoted.
 #[inline(never)]
 pub(crate) fn put_quoted_characters<W: Write>(to: &mut Output<W>, text: &str) -> Result<(), Stop>
@@ -78,11 +65,11 @@ pub(crate) fn put_quoted_characters<W: Write>(to: &mut Output<W>, text: &str) ->
 
 /// Writes the characters of a comment.
 #[inline(never)]
-fn put_shown<W: Write>(to: &mut Output<W>, text: &str) -> Result<(), Stop>
+fn put_comment_characters<W: Write>(to: &mut Output<W>, text: &str) -> Result<(), Stop>
     requires { to.old.failed ≡ false }
-    ensures { IsWrittenOrStops to.old to.new (flat_map shown_character (chars text.now)) result }
+    ensures { IsWrittenOrStops to.old to.new (flat_map comment_character (chars text.now)) result }
 {
-    put_escaped(to, Escapes::Hidden, text.as_bytes())
+    put_escaped(to, Escapes::Comment, text.as_bytes())
 }
 
 /// Writes a text in UTF-8 with some characters escaped.
@@ -118,76 +105,28 @@ fn hold_escaped<W: Write>(
 
 #[inline(never)]
 #[tactic(none)]
-fn put_shown_bytes<W: Write>(to: &mut Output<W>, bytes: &[u8]) -> Result<(), Stop>
+fn put_comment_bytes<W: Write>(to: &mut Output<W>, bytes: &[u8]) -> Result<(), Stop>
     requires { to.old.failed ≡ false }
-    ensures { IsWrittenOrStops to.old to.new (flat_map shown_byte bytes.now) result }
+    ensures { IsWrittenOrStops to.old to.new (flat_map comment_byte bytes.now) result }
 {
     for b in bytes {
-        put_line(to, shown_byte(*b).bytes())?;
+        put_line(to, comment_byte(*b).bytes())?;
     }
     Ok(())
 }
 
-#[inline(never)]
 #[tactic(none)]
-fn put_quoted_bytes<W: Write>(to: &mut Output<W>, bytes: &[u8]) -> Result<(), Stop>
-    requires { to.old.failed ≡ false }
-    ensures { IsWrittenOrStops to.old to.new (flat_map quoted_byte bytes.now) result }
+fn comment_byte(b: u8) -> Line<BYTE_MAX>
+    ensures { result ≡ comment_byte b }
 {
-    for b in bytes {
-        put_line(to, quoted_byte(*b).bytes())?;
-    }
-    Ok(())
-}
-
-fn quoted_byte(b: u8) -> Line<CHARACTER_MAX>
-    ensures { result ≡ quoted_byte b }
-{
+    let mut line = Line::new();
     match b {
-        b'"' => line_of("\\\""),
-        b'\\' => line_of("\\\\"),
-        b' '..=b'~' => line_of_byte(b),
-        _ => quoted_escape(b),
-    }
-}
-
-/// A quoted `\x`, and two digits.
-fn quoted_escape(b: u8) -> Line<CHARACTER_MAX>
-    ensures { result ≡ codes "\\\\x" ++ encode_lower (b ∷ []) }
-{
-    let mut line = Line::new();
-    line.push("\\\\x");
-    line.push_hex(&[b]);
-    line
-}
-
-fn line_of(text: &str) -> Line<CHARACTER_MAX>
-    requires { length text.now ≤ 6 }
-    ensures { result ≡ text.now }
-{
-    let mut line = Line::new();
-    line.push(text);
-    line
-}
-
-fn line_of_byte(b: u8) -> Line<CHARACTER_MAX>
-    ensures { result ≡ b ∷ [] }
-{
-    let mut line = Line::new();
-    line.push_byte(b);
-    line
-}
-
-#[tactic(none)]
-fn shown_byte(b: u8) -> Line<BYTE_MAX>
-    ensures { result ≡ shown_byte b }
-{
-    let mut line = Line::new();
-    if matches!(b, b' '..=b'~') {
-        line.push_byte(b);
-    } else {
-        line.push("\\x");
-        line.push_hex(&[b]);
+        b'\\' => line.push("\\\\"),
+        b' '..=b'~' => line.push_byte(b),
+        _ => {
+            line.push("\\x");
+            line.push_hex(&[b]);
+        }
     }
     line
 }

@@ -37,3 +37,9 @@ pub fn law_lines_are_visible()
         IsVisibleLine (end_line role time sent) }
     ensures comment { (text : List ℕ) → IsBytes text → IsVisibleLine (comment_line text) }
 {}
+
+/// Two different comments never have the same line: a hidden character or a byte that isn't printable is escaped, and a
+/// backslash of the comment is doubled.
+pub fn law_comment_lines()
+    ensures { (text other : List ℕ) → IsBytes text → IsBytes other → comment_line text ≡ comment_line other → text ≡ other }
+{}

@@ -134,6 +134,31 @@ pub struct PlacedEvent<'a> {
     pub event: ShownEvent<'a>,
 }
 
+/// An event's payload, from a little before a place in it on.
+#[derive(Clone, Copy)]
+pub struct PayloadPart<'a> {
+    /// Whether the event is a text message.
+    pub is_text: bool,
+    /// The number of the payload's bytes in front of this part.
+    pub from: u64,
+    /// The number of the part's bytes before the place: at most 11.
+    pub before: u8,
+    /// The part's bytes.
+    pub bytes: HeldBytes<'a>,
+}
+
+/// Where the payloads of two events differ.
+#[derive(Clone, Copy)]
+pub struct DifferingPayloads<'a> {
+    /// The place of the first byte in which they differ, from 0: the length of the shorter if it is the beginning of the
+    /// other.
+    pub place: u64,
+    /// The payload of the first stream's event around that place.
+    pub first: PayloadPart<'a>,
+    /// The payload of the second stream's event around that place.
+    pub second: PayloadPart<'a>,
+}
+
 /// Where two streams differ first.
 #[derive(Clone, Copy)]
 pub struct Difference<'a> {
@@ -143,6 +168,8 @@ pub struct Difference<'a> {
     pub first: Option<PlacedEvent<'a>>,
     /// The second stream's event; `None` if it has no more events.
     pub second: Option<PlacedEvent<'a>>,
+    /// Where their payloads differ; `None` if they are the same, or if a stream has no more events.
+    pub payloads: Option<DifferingPayloads<'a>>,
 }
 
 /// Bytes of which only the first or only the last are held.

@@ -5,7 +5,7 @@ ghost use Rattle.wsn_rules.specs.ShownStream.Item.{Event, Unfinished, Unfinished
 ghost use Rattle.wsn_print.specs.Fields.{op_word};
 ghost use Rattle.wsn_print.specs.Json.{number_field, number_or_null_field, string_field};
 ghost use Rattle.wsn_print.specs.Objects.{head_fields, refusal_fields};
-ghost use Rattle.wsn_print.specs.ShownObjects.{item_object, item_fields, shown_frame_object, end_object, comment_object, object_front, event_fields, line_field, side_word, time_key, time_value};
+ghost use Rattle.wsn_print.specs.ShownObjects.{item_object, item_fields, shown_frame_object, end_object, comment_field, comment_object, object_front, event_fields, line_field, side_word, time_key, time_value};
 ghost use Rattle.wsn_print.specs.ShownParts.{position_of, Represents, HasText, HasTextPayload, IsFrontOf, IsEndOf, item_of_remainder, remainder_word, character_in};
 
 use crate::characters::put_character_fields;
@@ -14,14 +14,15 @@ use crate::heads::op_word;
 use crate::json::{push_number_field, push_number_or_null_field, push_string_field};
 use crate::line::Line;
 use crate::object_views::{
-    put_end_fields, put_event_view_fields, put_hex_fields, put_unfinished_view_fields,
+    put_end_fields, put_event_view_fields, put_hex_field, put_hex_fields, put_text_field,
+    put_unfinished_view_fields,
 };
 use crate::objects::push_refusal;
-use crate::quoted::put_comment_characters;
 use crate::shown::{
     EntryFront, HeldBytes, Origin, Remainder, ShownCharacter, ShownEvent, ViewLimit,
 };
 use std::io::Write;
+use std::str;
 use wsn_io::{Output, Stop, put_line};
 use wsn_rules::{HeadInfo, Refusal};
 use wsn_wire::Role;
@@ -187,8 +188,8 @@ pub fn put_shown_frame_object<W: Write>(
 }
 
 /// Writes a comment of a capture as a JSON object in one line: the number of its line, from 1, and what follows the `#`
-/// that it begins with. Of a comment that isn't UTF-8, each byte that isn't printable ASCII is shown as `\x` and two
-/// digits. `Stop::Write` if the writer fails: a prefix of the line was written.
+/// that it begins with, as a text, or in hexadecimal if it isn't UTF-8. `Stop::Write` if the writer fails: a prefix of the
+/// line was written.
 pub fn put_comment_object<W: Write>(
     to: &mut Output<W>,
     number: u32,
@@ -198,8 +199,20 @@ pub fn put_comment_object<W: Write>(
     ensures { IsWrittenOrStops to.old to.new (comment_object number text.now) result }
 {
     put_line(to, line_of_comment(number).bytes())?;
-    put_comment_characters(to, after_first(text))?;
-    put_line(to, b"\"}\n")
+    put_comment_field(to, after_first(text))?;
+    put_line(to, b"}\n")
+}
+
+/// Writes a comment's text; of one that isn't UTF-8, its bytes in hexadecimal.
+#[tactic(none)]
+fn put_comment_field<W: Write>(to: &mut Output<W>, text: &[u8]) -> Result<(), Stop>
+    requires { to.old.failed ≡ false }
+    ensures { IsWrittenOrStops to.old to.new (comment_field text.now) result }
+{
+    match str::from_utf8(text) {
+        Ok(_) => put_text_field(to, text),
+        Err(_) => put_hex_field(to, text),
+    }
 }
 
 /// Writes what is in front of an entry.
@@ -343,12 +356,11 @@ fn line_of_head(head: &HeadInfo) -> Line<FRAME_MAX>
 }
 
 fn line_of_comment(number: u32) -> Line<REMAINDER_MAX>
-    ensures { result ≡ codes "{\"type\":\"comment\"" ++ number_field (codes "line") number ++ codes ",\"text\":\"" }
+    ensures { result ≡ codes "{\"type\":\"comment\"" ++ number_field (codes "line") number }
 {
     let mut line = Line::new();
     line.push("{\"type\":\"comment\"");
     push_number_field(&mut line, "line", u64::from(number));
-    line.push(",\"text\":\"");
     line
 }
 

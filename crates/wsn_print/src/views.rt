@@ -231,7 +231,7 @@ pub(crate) fn end_of(bytes: &[u8], most: usize) -> &[u8]
 }
 
 /// Writes ` ..` if fewer bytes are shown than there are.
-fn put_left_out<W: Write>(to: &mut Output<W>, shown: usize, all: u64) -> Result<(), Stop>
+pub(crate) fn put_left_out<W: Write>(to: &mut Output<W>, shown: usize, all: u64) -> Result<(), Stop>
     requires { to.old.failed ≡ false }
     ensures { IsWrittenOrStops to.old to.new (left_out shown all) result }
 {
@@ -259,7 +259,7 @@ pub(crate) fn put_left_out_before<W: Write>(
 }
 
 /// Writes bytes in hexadecimal; a dash for none.
-fn put_hex_text<W: Write>(to: &mut Output<W>, bytes: &[u8]) -> Result<(), Stop>
+pub(crate) fn put_hex_text<W: Write>(to: &mut Output<W>, bytes: &[u8]) -> Result<(), Stop>
     requires { to.old.failed ≡ false }
     ensures { IsWrittenOrStops to.old to.new (hex_text bytes.now) result }
 {

@@ -120,10 +120,12 @@ pub fn law_ended_by_objects()
     ensures { (by other : EndedBy) → ended_by_object by ≡ ended_by_object other → by ≡ other }
 {}
 
-/// The object of a comment doesn't say which bytes the comment has: a byte that isn't UTF-8 is shown as an escape, which
-/// may also be the text of a comment.
+/// The object of a comment says in which line it is, and all of its bytes: it begins with `#`, and what follows is there as
+/// a text, or in hexadecimal if it isn't UTF-8.
 pub fn law_comment_objects()
-    ensures { (line : ℕ) → comment_object line (codes "#\\xfe") ≡ comment_object line (35 ∷ 254 ∷ []) }
+    ensures { (line other_line : ℕ) (text other : List ℕ) → IsInU64 line → IsInU64 other_line → IsBytes text →
+        IsBytes other → comment_object line (codes "#" ++ text) ≡ comment_object other_line (codes "#" ++ other) →
+        (line ≡ other_line) × (text ≡ other) }
 {}
 
 /// The object of a shown item says which endpoint sent it, in which line and at which time, and the item up to the bytes

@@ -6,9 +6,8 @@
 //! ([`laws::law_frame_objects`]), a report of `closing` ([`laws::law_report_objects`]) or a comparison
 //! ([`laws::law_comparison_objects`]). `specs/Answers.antt` says which answers the laws are about. The object of a shown
 //! item says all of the item that its view shows ([`laws::law_item_objects`], `specs/ShownItems.antt`), that of an end
-//! mark all of it ([`laws::law_end_objects`]), and that of who ended a connection, too
-//! ([`laws::law_ended_by_objects`]). That of a comment doesn't say which bytes the comment has
-//! ([`laws::law_comment_objects`]).
+//! mark all of it ([`laws::law_end_objects`]), and so do that of a comment ([`laws::law_comment_objects`]) and that of
+//! who ended a connection ([`laws::law_ended_by_objects`]).
 //!
 //! Each of these objects is JSON with distinct names ([`laws::law_objects_are_json`]). `specs/JsonText.antt` says which
 //! bytes are JSON, and of which value, by the grammar of RFC 8259. No bytes are a text of two values

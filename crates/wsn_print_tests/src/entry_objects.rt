@@ -1,6 +1,8 @@
 //! The objects of what is shown.
 
 use crate::reading::{expect_none, expect_object};
+use std::alloc::Global;
+use std::process::Abort;
 use wsn_io::Output;
 use wsn_print::{
     EntryFront, HeldBytes, Origin, Remainder, ShownCharacter, ShownEvent, ViewLimit,
@@ -148,10 +150,10 @@ fn a_refusal(rt: HostRuntime) {
     let view = ViewLimit::new(4).expect(&rt, "a view");
     let mut line = Vec::new(rt.alloc());
     let refusal = Refusal {
-        place: 3,
-        reason: Reason::ReservedBits,
+        place: 4,
+        reason: Reason::MaskPresent,
     };
-    let evidence = whole(b"\xc1");
+    let evidence = whole(b"\x81\x80\xff");
     let put = put_refused_object(
         &mut Output::new(&mut line),
         view,
@@ -164,50 +166,81 @@ fn a_refusal(rt: HostRuntime) {
     let members = [
         ("/type", "\"refused\""),
         ("/offset", "3"),
-        ("/place", "3"),
-        ("/reason", "\"reserved-bits\""),
+        ("/place", "4"),
+        ("/reason", "\"mask-present\""),
         ("/code", "1002"),
-        ("/hex", "\"c1\""),
+        ("/hex", "\"80ff\""),
+        ("/truncated", "true"),
     ];
-    expect_object(&rt, rt.alloc(), line.as_slice(), 9, &members);
+    expect_object(&rt, rt.alloc(), line.as_slice(), 10, &members);
     expect_none(&rt, rt.alloc(), line.as_slice(), "/character");
 }
 
-#[test]
-fn a_refusal_for_a_bad_character(rt: HostRuntime) {
-    let view = ViewLimit::new(4).expect(&rt, "a view");
-    let mut line = Vec::new(rt.alloc());
+/// Fails unless the refusal of a text, the payload of a frame up to the offending byte, has these members at a view of
+/// so many bytes. Its bad character, two bytes, is at offset 18.
+fn expect_bad_character(
+    rt: &impl Abort,
+    alloc: Global,
+    bytes: u16,
+    count: usize,
+    members: &[(&str, &str)],
+) {
+    let view = ViewLimit::new(bytes).expect(rt, "a view");
+    let mut line = Vec::new(alloc);
     let refusal = Refusal {
-        place: 11,
+        place: 19,
         reason: Reason::TextBad,
     };
     let character = ShownCharacter {
-        offset: 11,
-        in_payload: 2,
-        bytes: b"\xfc",
+        offset: 18,
+        in_payload: 12,
+        bytes: b"\xe9 ",
     };
     let put = put_refused_object(
         &mut Output::new(&mut line),
         view,
-        &IN_LINE,
+        &IN_STREAM,
         &refusal,
-        &whole(b"Gr\xfc"),
+        &whole(b"{\"name\":\"Ren\xe9 "),
         &Some(character),
     );
     assert_eq!(rt; put, Ok(()));
+    expect_object(rt, alloc, line.as_slice(), count, members);
+}
+
+#[test]
+fn a_refusal_for_a_bad_character(rt: HostRuntime) {
     let members = [
-        ("/place", "11"),
+        ("/place", "19"),
         ("/reason", "\"text-bad\""),
-        ("/code", "1007"),
-        ("/hex", "\"72fc\""),
+        ("/hex", "\"7b226e616d65223a2252656ee920\""),
+        ("/character/offset", "18"),
+        ("/character/in_payload", "12"),
+        ("/character/hex", "\"e920\""),
+        ("/character/before", "\"{\\\"name\\\":\\\"Ren\""),
+    ];
+    expect_bad_character(&rt, rt.alloc(), 48, 8, &members);
+}
+
+#[test]
+fn a_refusal_of_whose_text_a_part_is_shown(rt: HostRuntime) {
+    let members = [
+        ("/hex", "\"52656ee920\""),
         ("/truncated", "true"),
-        ("/character/offset", "11"),
-        ("/character/in_payload", "2"),
-        ("/character/hex", "\"fc\""),
-        ("/character/before", "\"r\""),
+        ("/character/hex", "\"e920\""),
+        ("/character/before", "\"Ren\""),
         ("/character/truncated", "true"),
     ];
-    expect_object(&rt, rt.alloc(), line.as_slice(), 11, &members);
+    expect_bad_character(&rt, rt.alloc(), 10, 9, &members);
+    let members = [
+        ("/hex", "\"\""),
+        ("/character/offset", "18"),
+        ("/character/in_payload", "12"),
+        ("/character/hex", "\"\""),
+        ("/character/before", "\"\""),
+        ("/character/truncated", "true"),
+    ];
+    expect_bad_character(&rt, rt.alloc(), 0, 9, &members);
 }
 
 #[test]
@@ -233,14 +266,16 @@ fn an_end_mark_and_a_comment(rt: HostRuntime) {
     assert_eq!(rt; put, Ok(()));
     let members = [("/type", "\"end\""), ("/offset", "3")];
     expect_object(&rt, rt.alloc(), line.as_slice(), 5, &members);
-    for (text, shown) in [
-        (b"# \"reset\"".as_slice(), "\" \\\"reset\\\"\""),
-        (b"#\xe9\\".as_slice(), "\"\\\\xe9\\\\\""),
+    for (text, key, shown) in [
+        (b"# \"reset\"".as_slice(), "/text", "\" \\\"reset\\\"\""),
+        (b"#\\xe9".as_slice(), "/text", "\"\\\\xe9\""),
+        (b"#\xe9\\".as_slice(), "/hex", "\"e95c\""),
+        (b"# \xfe".as_slice(), "/hex", "\"20fe\""),
     ] {
         let mut line = Vec::new(rt.alloc());
         let put = put_comment_object(&mut Output::new(&mut line), 2, text);
         assert_eq!(rt; put, Ok(()));
-        let members = [("/type", "\"comment\""), ("/line", "2"), ("/text", shown)];
+        let members = [("/type", "\"comment\""), ("/line", "2"), (key, shown)];
         expect_object(&rt, rt.alloc(), line.as_slice(), 3, &members);
     }
 }

@@ -62,10 +62,10 @@ const CHARACTERS: [char; 48] = [
     '\u{10ffff}',
 ];
 
-/// Adds a character as it is written: a hidden one as `\u` and four digits, and a quotation mark or backslash of a quoted
-/// text after a backslash.
+/// Adds a character as it is written: a hidden one as `\u` and four digits, and a backslash, or a quotation mark of a
+/// quoted text, after a backslash.
 fn add(out: &mut Vec<u8>, c: char, is_quoted: bool) -> Result<(), AllocError> {
-    if is_quoted && (c == '"' || c == '\\') {
+    if c == '\\' || is_quoted && c == '"' {
         out.push(b'\\')?;
     }
     let code = u32::from(c);

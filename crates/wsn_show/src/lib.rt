@@ -5,13 +5,14 @@
 //! [`show`] reads a capture and prints what each of its lines completes, and then the report. A [`CaptureView`] does so
 //! line by line. [`show_stream`] shows the stream of one endpoint, a [`StreamView`] its bytes as they come. A [`Style`]
 //! says whether events or frames are shown, and how much of a payload. Nothing is allocated: at most one line is held,
-//! and of each stream the first bytes of its open message and of the frame that has begun.
+//! and of each stream the first bytes of its open message and of the frame that has begun, and the last four bytes of the
+//! message's payload, which may belong to a bad character.
 //!
 //! `wsn_rules/specs/ShownStream.antt` defines what is shown of a stream and what is left over, `ShownCapture.antt` what
 //! is shown of a capture, and `wsn_print/specs/ShownText.antt` how it is printed. Here, `specs/Showing.antt` defines
 //! what was printed at each answer, `specs/CaptureViews.antt` and `specs/StreamViews.antt` how a view's state is related
-//! to the lines or bytes that came, and `specs/StreamParts.antt` what is kept of the open message and of the frame that
-//! has begun. `specs/EndedBy.antt` defines who ended a connection, and its line; [`laws`] says that a capture has one
+//! to the lines or bytes that came, `specs/StreamParts.antt` what is kept of the open message and of the frame that has
+//! begun, and `specs/LastPayloads.antt` what is kept of the message's last bytes. `specs/EndedBy.antt` defines who ended a connection, and its line; [`laws`] says that a capture has one
 //! text.
 #![tactic(auto)]
 

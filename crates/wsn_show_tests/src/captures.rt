@@ -1,7 +1,9 @@
 //! `show` of captures.
 
 use crate::expecting::{Expected, events_of, expect_job, expect_run, style_of};
-use crate::rows::{COMMENTS, ENDS, EVENTS, FRAMES, HIDDEN, LEFT_OVER, REFUSALS, Row, VIEWS};
+use crate::rows::{
+    BAD_CHARACTERS, COMMENTS, ENDS, EVENTS, FRAMES, HIDDEN, LEFT_OVER, REFUSALS, Row, VIEWS,
+};
 use std::alloc::Global;
 use std::process::Abort;
 use wsn_doubles::command_runs::run_on;
@@ -41,6 +43,11 @@ fn what_is_left_over_is_shown(rt: HostRuntime) {
 #[test]
 fn a_refused_stream_shows_its_evidence_and_what_is_unread(rt: HostRuntime) {
     expect_rows(&rt, rt.alloc(), &REFUSALS, Detail::Events);
+}
+
+#[test]
+fn a_bad_character_has_a_line(rt: HostRuntime) {
+    expect_rows(&rt, rt.alloc(), &BAD_CHARACTERS, Detail::Events);
 }
 
 #[test]

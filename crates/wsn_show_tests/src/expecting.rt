@@ -28,21 +28,21 @@ pub fn events_of(rt: &impl Abort, bytes: u16) -> Style {
 
 /// Events or frames, with at most this many bytes of each payload.
 pub fn style_of(rt: &impl Abort, bytes: u16, detail: Detail) -> Style {
-    let view = ViewLimit::new(bytes).expect(rt, "a view of at most 4096 bytes");
-    Style {
-        view,
-        detail,
-        format: Format::Text,
-    }
+    formatted(rt, bytes, detail, Format::Text)
 }
 
 /// Events or frames as JSON objects, with at most 48 bytes of each payload.
 pub fn objects_of(rt: &impl Abort, detail: Detail) -> Style {
-    let view = ViewLimit::new(48).expect(rt, "a view of at most 4096 bytes");
+    formatted(rt, 48, detail, Format::Json)
+}
+
+/// Events or frames in a format, with at most this many bytes of each payload.
+pub fn formatted(rt: &impl Abort, bytes: u16, detail: Detail, format: Format) -> Style {
+    let view = ViewLimit::new(bytes).expect(rt, "a view of at most 4096 bytes");
     Style {
         view,
         detail,
-        format: Format::Json,
+        format,
     }
 }
 

@@ -38,6 +38,29 @@ fn a_capture_is_shown(rt: HostRuntime) {
     }
 }
 
+/// The bad character, which begins in line 2, is in the object of the refusal, which is of line 3.
+#[test]
+fn a_bad_character_is_shown(rt: HostRuntime) {
+    let alloc = rt.alloc();
+    let job = Job::Show(greatest(), objects_of(&rt, Detail::Events));
+    let expected = Expected {
+        status: 1,
+        shown: "{\"type\":\"refused\",\"line\":3,\"side\":\"server\",\"time\":1.5,\"offset\":0,\"place\":4,\"reason\":\"text-bad\",\"code\":1007,\"hex\":\"61e920\",\"character\":{\"offset\":3,\"in_payload\":1,\"hex\":\"e920\",\"before\":\"a\"}}\n",
+        last: "{\"type\":\"report\",\"client\":{\"state\":\"running\"},\"server\":{\"state\":\"refused\",\"offset\":4,\"reason\":\"text-bad\",\"code\":1007},\"first\":null,\"echo\":null,\"client_sees\":1006,\"server_sees\":null,\"outcome\":\"failed\"}\n",
+        line: "",
+    };
+    for at_most in READS {
+        expect_job(
+            &rt,
+            alloc,
+            &job,
+            b"# 1.5\nS 810361e9\nS 20\n",
+            at_most,
+            expected,
+        );
+    }
+}
+
 #[test]
 fn what_is_left_over_has_no_line(rt: HostRuntime) {
     let alloc = rt.alloc();

@@ -70,9 +70,49 @@ server-sees 1006
 outcome failed
 ";
 
+const BAD_AT_5: &str = "\
+client running
+server refused 5 text-bad 1007
+first -
+echo -
+client-sees 1006
+server-sees -
+outcome failed
+";
+
 const BAD_AT_6: &str = "\
 client running
 server refused 6 text-bad 1007
+first -
+echo -
+client-sees 1006
+server-sees -
+outcome failed
+";
+
+const CLIENT_BAD_AT_19: &str = "\
+client refused 19 text-bad 1007
+server running
+first -
+echo -
+client-sees -
+server-sees 1006
+outcome failed
+";
+
+const BAD_AT_8: &str = "\
+client running
+server refused 8 text-bad 1007
+first -
+echo -
+client-sees 1006
+server-sees -
+outcome failed
+";
+
+const BAD_AT_9: &str = "\
+client running
+server refused 9 text-bad 1007
 first -
 echo -
 client-sees 1006
@@ -308,26 +348,87 @@ pub static REFUSALS: [Row; 6] = [
     Row {
         text: b"S 810561626364ff\n",
         view: 4,
-        shown: "S - 0 refused 6 text-bad 1007 ..64ff\n",
+        shown: "S - 0 refused 6 text-bad 1007 ..64ff\nS - 6 bad-character 4 ff ..\"d\\xff\"\n",
         report: BAD_AT_6,
     },
     Row {
         text: b"S 810561626364ff\n",
         view: 10,
-        shown: "S - 0 refused 6 text-bad 1007 61626364ff\n",
+        shown: "S - 0 refused 6 text-bad 1007 61626364ff\nS - 6 bad-character 4 ff \"abcd\\xff\"\n",
         report: BAD_AT_6,
     },
     Row {
         text: b"S 810561626364ff\n",
         view: 1,
-        shown: "S - 0 refused 6 text-bad 1007 ..\n",
+        shown: "S - 0 refused 6 text-bad 1007 ..\nS - 6 bad-character 4 ff ..\"\\xff\"\n",
         report: BAD_AT_6,
     },
     Row {
         text: b"S 810561626364ff00\n",
         view: 0,
-        shown: "S - 0 refused 6 text-bad 1007 -\nS - 7 unread 1 -\n",
+        shown: "S - 0 refused 6 text-bad 1007 -\nS - 6 bad-character 4 - -\nS - 7 unread 1 -\n",
         report: BAD_AT_6,
+    },
+];
+
+/// Texts that are refused for a bad character, which has a line of its own. In order: `{"name":"René Dupont"}` in
+/// Latin-1, under a key of zeros and under another; a character in two fragments with a ping between, in lines with
+/// times; views that cut the text before a bad character; views that cut the character, which is shown whole, or not at
+/// all at 0.
+pub static BAD_CHARACTERS: [Row; 9] = [
+    Row {
+        text: b"C 8196000000007b226e616d65223a2252656ee9204475706f6e74227d\n",
+        view: 48,
+        shown: "C - 0 refused 19 text-bad 1007 7b226e616d65223a2252656ee920\nC - 18 bad-character 12 e920 \"{\\\"name\\\":\\\"Ren\\xe9\\x20\"\nC - 20 unread 8 4475706f6e74227d\n",
+        report: CLIENT_BAD_AT_19,
+    },
+    Row {
+        text: b"C 819637fa213d4cd84f5c5a9f030715a84453deda\n",
+        view: 14,
+        shown: "C - 0 refused 19 text-bad 1007 ..3a2252656ee920\nC - 18 bad-character 12 e920 ..\":\\\"Ren\\xe9\\x20\"\n",
+        report: CLIENT_BAD_AT_19,
+    },
+    Row {
+        text: b"# 0.5\nS 010361e282\n# 1.5\nS 8900\n# 2.5\nS 800120\nS ff\n",
+        view: 48,
+        shown: "S 1.5 5 ping 0 1 \"\"\nS 2.5 0 unfinished text 3 1 lacks 0 \"a\" ..\nS 2.5 7 refused 9 text-bad 1007 20\nS 2.5 3 bad-character 1 e28220 \"\\xe2\\x82\\x20\"\nS - 10 unread 1 ff\n",
+        report: BAD_AT_9,
+    },
+    Row {
+        text: b"S 810861c3a9e282acff00\n",
+        view: 10,
+        shown: "S - 0 refused 8 text-bad 1007 ..a9e282acff\nS - 8 bad-character 6 ff ..\"€\\xff\"\nS - 9 unread 1 00\n",
+        report: BAD_AT_8,
+    },
+    Row {
+        text: b"S 810861c3a9e282acff00\n",
+        view: 12,
+        shown: "S - 0 refused 8 text-bad 1007 ..c3a9e282acff\nS - 8 bad-character 6 ff ..\"é€\\xff\"\nS - 9 unread 1 00\n",
+        report: BAD_AT_8,
+    },
+    Row {
+        text: b"S 810861c3a9e282acff00\n",
+        view: 14,
+        shown: "S - 0 refused 8 text-bad 1007 61c3a9e282acff\nS - 8 bad-character 6 ff \"aé€\\xff\"\nS - 9 unread 1 00\n",
+        report: BAD_AT_8,
+    },
+    Row {
+        text: b"S 810561f09f9820\n",
+        view: 4,
+        shown: "S - 0 refused 6 text-bad 1007 ..9820\nS - 3 bad-character 1 f09f9820 ..\"\\xf0\\x9f\\x98\\x20\"\n",
+        report: BAD_AT_6,
+    },
+    Row {
+        text: b"S 810561f09f9820\n",
+        view: 0,
+        shown: "S - 0 refused 6 text-bad 1007 -\nS - 3 bad-character 1 - -\n",
+        report: BAD_AT_6,
+    },
+    Row {
+        text: b"S 8105f09f982000\n",
+        view: 2,
+        shown: "S - 0 refused 5 text-bad 1007 ..20\nS - 2 bad-character 0 f09f9820 \"\\xf0\\x9f\\x98\\x20\"\nS - 6 unread 1 00\n",
+        report: BAD_AT_5,
     },
 ];
 
@@ -612,15 +713,15 @@ pub static COMMENTS: [Row; 7] = [
         report: OPEN,
     },
     Row {
-        text: b"# \xffA\x1b\n",
+        text: b"# \xffA\x1b\\\n# \\xffA\n",
         view: 48,
-        shown: "# \\xffA\\x1b\n",
+        shown: "# \\xffA\\x1b\\\\\n# \\\\xffA\n",
         report: OPEN,
     },
     Row {
         text: b"# \"a\\b\" \xc3\xa9\x1b\xe2\x80\xae\n",
         view: 48,
-        shown: "# \"a\\b\" é\\u001b\\u202e\n",
+        shown: "# \"a\\\\b\" é\\u001b\\u202e\n",
         report: OPEN,
     },
     Row {
@@ -638,7 +739,7 @@ pub static COMMENTS: [Row; 7] = [
 ];
 
 /// Frames in place of events.
-pub static FRAMES: [Row; 6] = [
+pub static FRAMES: [Row; 7] = [
     Row {
         text: b"S 0103\n# a\nS 48656c89\n# b\nS 0080026c6f\n",
         view: 48,
@@ -672,7 +773,13 @@ pub static FRAMES: [Row; 6] = [
     Row {
         text: b"S 810561626364ff\n",
         view: 48,
-        shown: "S - 0 fin text - 5\nS - 0 refused 6 text-bad 1007 61626364ff\n",
+        shown: "S - 0 fin text - 5\nS - 0 refused 6 text-bad 1007 61626364ff\nS - 6 bad-character 4 ff \"abcd\\xff\"\n",
         report: BAD_AT_6,
+    },
+    Row {
+        text: b"S 010361e282\nS 8900800120\n",
+        view: 48,
+        shown: "S - 0 more text - 3\nS - 5 fin ping - 0\nS - 7 fin cont - 1\nS - 7 refused 9 text-bad 1007 20\nS - 3 bad-character 1 e28220 \"\\xe2\\x82\\x20\"\n",
+        report: BAD_AT_9,
     },
 ];

@@ -70,7 +70,7 @@ static ROWS: [Row; 8] = [
     Row {
         role: Role::Server,
         bytes: b"\x81\x01H\x81\x05Grr\xfc\xdfe\x88\x02\x03\xef",
-        shown: "S - 0 text 1 1 \"H\"\nS - 3 refused 8 text-bad 1007 477272fc\n",
+        shown: "S - 0 text 1 1 \"H\"\nS - 3 refused 8 text-bad 1007 477272fc\nS - 8 bad-character 3 fc \"Grr\\xfc\"\n",
         verdict: "refused 8 text-bad 1007\n",
         status: 1,
     },

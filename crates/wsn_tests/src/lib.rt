@@ -6,7 +6,8 @@
 //! `side_commands` the commands on it.
 //!
 //! `every_way` reads each vector in every way, and `conformance` gives some of them short names. Each command has a
-//! file: `judge_command`, `frames_command`, `normal_command`, `same_command`, `closing_command`. `scanner`, `source`,
+//! file: `judge_command`, `frames_command`, `normal_command`, `same_command` (with a view: `same_view`),
+//! `closing_command`. `scanner`, `source`,
 //! `events` and `limit_ranges` test what these are made of.
 //!
 //! Hostile use: streams without an end in `stream_endings`; failing readers and writers in `stops`, `failed_writes`,
@@ -67,6 +68,8 @@ mod normal_command;
 mod refusal_reasons;
 #[cfg(test)]
 mod same_command;
+#[cfg(test)]
+mod same_view;
 #[cfg(test)]
 mod scanner;
 #[cfg(test)]

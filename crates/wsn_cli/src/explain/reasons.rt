@@ -210,14 +210,14 @@ shorten it between two characters. A short reason in ASCII is the safest.
         words: &["text-bad"],
         text: "\
 text-bad, code 1007: the byte at OFFSET is the first that can't follow what came
-before in UTF-8, so the cause may stand in front of it: e9, e-acute in Latin-1,
-begins a character of three bytes in UTF-8, and the letter after it is refused.
+before in UTF-8. It is the last byte of the bad character, and may be innocent:
+in Latin-1, \"Ren\\xe9 \" is refused at the space; the bad character is e9 20.
 RFC 6455, 5.6: the payload of a text message is UTF-8; 8.1: if it isn't, the
 receiver must fail the connection.
 Usual causes: text in Latin-1 or Windows-1252 (92 is an apostrophe); binary data
 sent as text (gzip: 1f 8b); surrogates one by one (ed a0 ..); c0 80, from Java.
-Next: 'wsn payload' writes the text up to that byte, unmasked; 'wsn show' prints
-its end in hex. Convert it where it is made, or send it as binary.
+Next: the line 'bad-character' of 'wsn show' has it, with the text before it:
+'wsn explain bad-character'. Convert it where it is made, or send it as binary.
 9 of 36 implementations accept it (gorilla, libwebsockets): see docs/PEERS.md.
 ",
     },

@@ -74,7 +74,7 @@ Next: 'wsn show CAPTURE' prints what came of the message, before the Close.
     },
 ];
 
-static COMPARISONS: [Entry; 3] = [
+static COMPARISONS: [Entry; 4] = [
     Entry {
         words: &["equal"],
         text: "\
@@ -97,8 +97,21 @@ Usual causes: a keepalive that came earlier or later in one run (--without
 ping,pong leaves these out, and K counts the rest); a timestamp or an identifier
 in a message; another close code or reason.
 Next: run it again with --view 48: it shows event K of both, with the offset of
-its first frame. To see all differences, run diff on what 'wsn show --role R'
-prints of each stream.
+its first frame, and where they differ ('wsn explain differ-at'). To see all
+differences, run diff on what 'wsn show --role R' prints of each stream.
+",
+    },
+    Entry {
+        words: &["differ-at"],
+        text: "\
+differ-at PLACE VIEW VIEW: both streams have the event, and the byte at PLACE of
+its payload, from 0, is the first that differs. If one payload is the beginning
+of the other, PLACE is its length. Each VIEW is a payload from 8 bytes before
+PLACE on: text quoted, all else in hexadecimal; '..' where bytes are left out.
+Without this line only the kinds of event differ, or one stream has no event K.
+Usual causes: those of 'different'. Characters that look alike: \\u043e is a
+Cyrillic o. Invisible ones: \\u200b, or \\u0301 after a letter.
+Next: 'wsn payload --at OFFSET' writes the whole payload.
 ",
     },
     Entry {

@@ -17,3 +17,11 @@ returns-clause-escaped c = refl
 pub returns-clause-not_utf_8 : goal.returns-clause-not_utf_8
 unfolding digits encode_with utf8_valid_len is_utf8 chars encode_utf8
 returns-clause-not_utf_8 c = refl
+
+pub returns-clause-partly_utf_8 : goal.returns-clause-partly_utf_8
+unfolding digits encode_with utf8_valid_len is_utf8 chars encode_utf8
+returns-clause-partly_utf_8 c = refl
+
+pub returns-clause-written_out : goal.returns-clause-written_out
+unfolding digits encode_with utf8_valid_len is_utf8 chars encode_utf8
+returns-clause-written_out c = refl

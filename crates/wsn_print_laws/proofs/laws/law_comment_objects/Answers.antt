@@ -1,5 +1,5 @@
-use Rattle.wsn_print_laws.proofs.Comments.{alike}
+use Rattle.wsn_print_laws.proofs.Comments.{one_comment}
 use Rattle.wsn_print_laws.proofs.laws.law_comment_objects.Goals as goal
 
 pub returns : goal.returns
-returns c = alike
+returns c = one_comment
