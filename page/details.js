@@ -11,8 +11,8 @@ function heading(text, ...more) {
 
 /** Where and when an entry was complete. */
 function placeWords(row) {
-  const line = row.line === undefined ? "the capture's end" : `line ${number(row.line)} of the capture`;
-  return `${line}${row.time ? `, at ${row.time} s` : ""}`;
+  if (row.line === undefined) return "the capture's end";
+  return `line ${number(row.line)} of the capture${row.time ? `, at ${row.time} s` : ""}`;
 }
 
 /** What `wsn explain` says of words, whole. */

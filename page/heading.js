@@ -41,7 +41,7 @@ function sideCard(session, side) {
 
 function closingCard(session) {
   const { report } = session, echo = report.echo === null ? "-" : report.echo ? "yes" : "no";
-  const last = session.entries.findLast(entry => entry.time);
+  const last = session.entries.findLast(entry => entry.line && entry.time);
   const times = make("p", "dim", last ? `last time in the capture: ${last.time} s` : "no times in this capture");
   const facts = make("dl", "", fact("first", "closed first", report.first),
     fact("echo", "same code back", echo, report.echo === null ? "not both closed" : ""),

@@ -83,11 +83,11 @@ function withSilence(rows) {
   const out = [];
   let last = null;
   for (const row of rows) {
-    const passed = last !== null && row.time ? Number(row.time) - Number(last.time) : 0;
+    const passed = last !== null && row.line && row.time ? Number(row.time) - Number(last.time) : 0;
     const bars = row.bars.filter(([, part]) => part !== "first").map(([side]) => [side, "through"]);
     if (passed >= SILENCE) out.push({ type: "silence", seconds: passed, ended: row.ended, bars });
     out.push(row);
-    if (row.time) last = row;
+    if (row.line && row.time) last = row;
   }
   return out;
 }

@@ -209,6 +209,7 @@ def shown(text, view, frames_of, wire=False):
         listed = frames_of(role, data)
         sides[letter] = (data, *stream_items(data, listed, view, wire), listed)
     out, time, came, ended = [], "-", {"C": 0, "S": 0}, set()
+    last = {"C": "-", "S": "-"}  # The time of the last bytes.
     for line in lines:
         letter = line[:1].decode("latin-1")
         if line.startswith(b"#"):
@@ -221,9 +222,10 @@ def shown(text, view, frames_of, wire=False):
             ended.add(letter)
         elif line:
             before, came[letter] = came[letter], came[letter] + (len(line) - 2) // 2
+            last[letter] = time
             out += [f"{letter} {time} {entry}" for after, entry in sides[letter][1] if before < after <= came[letter]]
     for letter in ("C", "S"):
-        out += [f"{letter} - {entry}" for entry in sides[letter][2] if letter not in ended]
+        out += [f"{letter} {last[letter]} {entry}" for entry in sides[letter][2] if letter not in ended]
     return out + ended_by(lines, [letter for letter in "CS" if letter in ended and is_unclosed(sides[letter][3])])
 
 

@@ -230,8 +230,8 @@ completes, as the lines come; then closing's report:
             or server, ended first; then reset, if a comment '# reset by the V'
             says so
     SIDE    C for the client, S for the server
-    TIME    of the last comment '# SECONDS' before, such as # 0.001356; -
-            without one, and for what is left over at the end
+    TIME    of the last comment '# SECONDS' before, such as # 0.001356, or -
+            without one; at the capture's end, before the last bytes of SIDE
     OFFSET  in the stream of that side, from 0
     VIEW    the first bytes of the payload: a quoted text, or hexadecimal
             digits; of a Close its code and reason; - if there is nothing;

@@ -123,12 +123,13 @@ item_json n (Tail offset bytes) = Member (codes "bytes") (number (length bytes))
 abbrev pub time_json : Position → Members → Members
 time_json (InLine number (Some seconds)) others = Member (codes "time") (Number seconds) others
 time_json (InLine number None) others = Member (codes "time") Null others
-time_json AtEnd others = Member (codes "time") Null others
+time_json (AtEnd (Some seconds)) others = Member (codes "time") (Number seconds) others
+time_json (AtEnd None) others = Member (codes "time") Null others
 time_json InStream others = others
 
 abbrev pub line_json : Position → Members → Members
 line_json (InLine line time) others = Member (codes "line") (number line) others
-line_json AtEnd others = others
+line_json (AtEnd time) others = others
 line_json InStream others = others
 
 abbrev pub placed_json : Role → Position → ℕ → Members → Members
@@ -353,13 +354,14 @@ pub time_texts : (position : Position) (others : Members) (text : List ℕ) → 
     → AreTextsOf (time_json position others) ((time_key position ++ time_value position) ++ text)
 time_texts (InLine line (Some seconds)) others text fits are = member (codes "time") refl (record { is = (refl, seconds_number seconds fits.1) }) are
 time_texts (InLine line None) others text fits are = member (codes "time") refl null_text are
-time_texts AtEnd others text fits are = member (codes "time") refl null_text are
+time_texts (AtEnd (Some seconds)) others text fits are = member (codes "time") refl (record { is = (refl, seconds_number seconds fits) }) are
+time_texts (AtEnd None) others text fits are = member (codes "time") refl null_text are
 time_texts InStream others text fits are = are
 
 pub line_texts : (position : Position) (others : Members) (text : List ℕ) → IsPositionInRange position → AreTextsOf others text
     → AreTextsOf (line_json position others) (line_field position ++ text)
 line_texts (InLine line time) others text fits are = member (codes "line") refl (number_text line fits.0) are
-line_texts AtEnd others text fits are = are
+line_texts (AtEnd time) others text fits are = are
 line_texts InStream others text fits are = are
 
 pub plain_side : (role : Role) → are_unescaped (side_word role) ≡ true

@@ -255,10 +255,15 @@ placed_distinct role (InLine line (Some seconds)) offset kind m is = (
     timed_distinct role (Number seconds) offset m tt is,
   ),
 )
-placed_distinct role AtEnd offset kind m is = (
+placed_distinct role (AtEnd None) offset kind m is = (
   (differ (codes "type") (codes "side") refl, (differ (codes "type") (codes "time") refl, (differ (codes "type") (codes "offset") refl, new_to item_names (codes "type") refl m is.names))),
   tt,
   timed_distinct role Null offset m tt is,
+)
+placed_distinct role (AtEnd (Some seconds)) offset kind m is = (
+  (differ (codes "type") (codes "side") refl, (differ (codes "type") (codes "time") refl, (differ (codes "type") (codes "offset") refl, new_to item_names (codes "type") refl m is.names))),
+  tt,
+  timed_distinct role (Number seconds) offset m tt is,
 )
 placed_distinct role InStream offset kind m is = (
   (differ (codes "type") (codes "side") refl, (differ (codes "type") (codes "offset") refl, new_to item_names (codes "type") refl m is.names)),

@@ -204,11 +204,17 @@ one_place role other (InLine k (Some seconds)) (InLine j (Some other_seconds)) o
     let offsets : number offset ≡ number other_offset = cc in
     let rests : rest ≡ other_rest = cc in
     (one_role role other sides, ap (λ (n : ℕ). InLine n (Some seconds)) (one_number k j fits.0 also.0 lines) ∙ ap (λ (s : List ℕ). InLine j (Some s)) times, offsets, rests)
-one_place role other AtEnd AtEnd offset other_offset rest other_rest fits also same =
+one_place role other (AtEnd None) (AtEnd None) offset other_offset rest other_rest fits also same =
     let sides : side_word role ≡ side_word other = cc in
     let offsets : number offset ≡ number other_offset = cc in
     let rests : rest ≡ other_rest = cc in
     (one_role role other sides, refl, offsets, rests)
+one_place role other (AtEnd (Some seconds)) (AtEnd (Some other_seconds)) offset other_offset rest other_rest fits also same =
+    let sides : side_word role ≡ side_word other = cc in
+    let times : seconds ≡ other_seconds = cc in
+    let offsets : number offset ≡ number other_offset = cc in
+    let rests : rest ≡ other_rest = cc in
+    (one_role role other sides, ap (λ (s : List ℕ). AtEnd (Some s)) times, offsets, rests)
 one_place role other InStream InStream offset other_offset rest other_rest fits also same =
     let sides : side_word role ≡ side_word other = cc in
     let offsets : number offset ≡ number other_offset = cc in
@@ -220,17 +226,27 @@ one_place role other (InLine k None) (InLine j (Some seconds)) offset other_offs
 one_place role other (InLine k (Some seconds)) (InLine j None) offset other_offset rest other_rest fits also same =
     let times : Number seconds ≡ Null = cc in
     absurd cc
-one_place role other (InLine k time) AtEnd offset other_offset rest other_rest fits also same =
+one_place role other (AtEnd None) (AtEnd (Some seconds)) offset other_offset rest other_rest fits also same =
+    let times : Null ≡ Number seconds = cc in
+    absurd cc
+one_place role other (AtEnd (Some seconds)) (AtEnd None) offset other_offset rest other_rest fits also same =
+    let times : Number seconds ≡ Null = cc in
+    absurd cc
+one_place role other (InLine k time) (AtEnd end) offset other_offset rest other_rest fits also same =
     absurd (differ (codes "line") (codes "side") refl (ap name_of same))
 one_place role other (InLine k time) InStream offset other_offset rest other_rest fits also same =
     absurd (differ (codes "line") (codes "side") refl (ap name_of same))
-one_place role other AtEnd (InLine j time) offset other_offset rest other_rest fits also same =
+one_place role other (AtEnd end) (InLine j time) offset other_offset rest other_rest fits also same =
     absurd (differ (codes "side") (codes "line") refl (ap name_of same))
 one_place role other InStream (InLine j time) offset other_offset rest other_rest fits also same =
     absurd (differ (codes "side") (codes "line") refl (ap name_of same))
-one_place role other AtEnd InStream offset other_offset rest other_rest fits also same =
+one_place role other (AtEnd None) InStream offset other_offset rest other_rest fits also same =
     absurd (differ (codes "time") (codes "offset") refl (ap (λ (m : Members). name_of (after_first m)) same))
-one_place role other InStream AtEnd offset other_offset rest other_rest fits also same =
+one_place role other (AtEnd (Some seconds)) InStream offset other_offset rest other_rest fits also same =
+    absurd (differ (codes "time") (codes "offset") refl (ap (λ (m : Members). name_of (after_first m)) same))
+one_place role other InStream (AtEnd None) offset other_offset rest other_rest fits also same =
+    absurd (differ (codes "offset") (codes "time") refl (ap (λ (m : Members). name_of (after_first m)) same))
+one_place role other InStream (AtEnd (Some seconds)) offset other_offset rest other_rest fits also same =
     absurd (differ (codes "offset") (codes "time") refl (ap (λ (m : Members). name_of (after_first m)) same))
 
 -- ---- two items with one object

@@ -18,7 +18,7 @@ use Rattle.wsn_print_laws.specs.Answers.{IsInU64, IsHeadInRange}
 -- The number of a line is in range, and its time is in seconds.
 abbrev pub IsPositionInRange : Position → Type 0
 IsPositionInRange (InLine number time) = IsInU64 number × IfSome time IsSeconds
-IsPositionInRange AtEnd = ⊤
+IsPositionInRange (AtEnd time) = IfSome time IsSeconds
 IsPositionInRange InStream = ⊤
 
 -- The bytes are bytes, and their number is in range.

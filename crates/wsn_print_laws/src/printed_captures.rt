@@ -18,11 +18,12 @@ ghost use Rattle.wsn_show.specs.Styles.{styled_capture};
 pub fn of_words()
     ensures { (few : 48 ≤ 4096) → styled_capture
         (record { view = 48; detail = Events; format = format.Text; in_range = few })
-        ((record { number = 1; time = None; items = OfStream Server (Event 0 (Message kind.Text (codes "Hello")) 1) ∷ OfStream Server (RefusedFrame 7 (record { place = 11; reason = TextBad }) (codes "Gr" ++ (0xfc ∷ [])) (Some (record { offset = 11; in_payload = 2; bytes = 0xfc ∷ [] }))) ∷ [] })
-        ∷ (record { number = 3; time = Some (codes "0.5"); items = OfStream Client (Event 0 (Control Close ((0x03 ∷ 0xef ∷ []))) 1) ∷ [] })
-        ∷ (record { number = 4; time = Some (codes "0.5"); items = End Client 8 ∷ [] })
-        ∷ (record { number = 5; time = None; items = Comment (codes "# reset") ∷ [] }) ∷ [])
-        (OfStream Server (Unread 12 ((0xdf ∷ []))) ∷ [])
+        ((record { number = 2; time = Some (codes "0.25"); items = OfStream Server (Event 0 (Message kind.Text (codes "Hello")) 1) ∷ OfStream Server (RefusedFrame 7 (record { place = 11; reason = TextBad }) (codes "Gr" ++ (0xfc ∷ [])) (Some (record { offset = 11; in_payload = 2; bytes = 0xfc ∷ [] }))) ∷ [] })
+        ∷ (record { number = 4; time = Some (codes "0.5"); items = OfStream Client (Event 0 (Control Close ((0x03 ∷ 0xef ∷ []))) 1) ∷ [] })
+        ∷ (record { number = 5; time = Some (codes "0.5"); items = End Client 8 ∷ [] })
+        ∷ (record { number = 6; time = Some (codes "0.5"); items = Comment (codes "# reset") ∷ [] }) ∷ [])
+        (record { time = Some (codes "0.5"); items = [] })
+        (record { time = Some (codes "0.25"); items = Unread 12 (0xdf ∷ []) ∷ [] })
         None
         (record {
           client = side.Closed (Some 1007);
@@ -32,7 +33,7 @@ pub fn of_words()
           client_sees = Some 1006;
           server_sees = Some 1007;
           outcome = Failed;
-        }) ≡ codes "S - 0 text 5 1 \"Hello\"\nS - 7 refused 11 text-bad 1007 4772fc\nS - 11 bad-character 2 fc \"Gr\\xfc\"\nC 0.5 0 close 2 1 1007\nC 0.5 8 end\n# reset\nS - 12 unread 1 df\nclient closed 1007\nserver refused 11 text-bad 1007\nfirst client\necho -\nclient-sees 1006\nserver-sees 1007\noutcome failed\n" }
+        }) ≡ codes "S 0.25 0 text 5 1 \"Hello\"\nS 0.25 7 refused 11 text-bad 1007 4772fc\nS 0.25 11 bad-character 2 fc \"Gr\\xfc\"\nC 0.5 0 close 2 1 1007\nC 0.5 8 end\n# reset\nS 0.25 12 unread 1 df\nclient closed 1007\nserver refused 11 text-bad 1007\nfirst client\necho -\nclient-sees 1006\nserver-sees 1007\noutcome failed\n" }
 {}
 
 /// The objects of a capture that the client ended: its lines by number, what is left over at its end, who ended the
@@ -43,7 +44,8 @@ pub fn of_objects()
         ((record { number = 1; time = None; items = OfStream Server (Event 0 (Message kind.Text (codes "Hello")) 1) ∷ [] })
         ∷ (record { number = 3; time = Some (codes "0.5"); items = End Client 8 ∷ [] })
         ∷ (record { number = 4; time = Some (codes "0.5"); items = Comment (codes "# reset") ∷ [] }) ∷ [])
-        (OfStream Server (Unread 12 ((0xdf ∷ []))) ∷ [])
+        (record { time = Some (codes "0.5"); items = [] })
+        (record { time = None; items = Unread 12 (0xdf ∷ []) ∷ [] })
         (Some (record { role = Client; reset = false }))
         (record {
           client = side.Closed (Some 1007);

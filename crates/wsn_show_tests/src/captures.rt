@@ -2,7 +2,8 @@
 
 use crate::expecting::{Expected, events_of, expect_job, expect_run, style_of};
 use crate::rows::{
-    BAD_CHARACTERS, COMMENTS, ENDS, EVENTS, FRAMES, HIDDEN, LEFT_OVER, REFUSALS, Row, VIEWS,
+    BAD_CHARACTERS, COMMENTS, ENDS, EVENTS, FRAMES, HIDDEN, LEFT_OVER, REFUSALS, Row,
+    TIMES_AT_THE_END, VIEWS,
 };
 use std::alloc::Global;
 use std::process::Abort;
@@ -63,6 +64,11 @@ fn hidden_characters_are_escaped(rt: HostRuntime) {
 #[test]
 fn comments_are_shown_and_times_hold(rt: HostRuntime) {
     expect_rows(&rt, rt.alloc(), &COMMENTS, Detail::Events);
+}
+
+#[test]
+fn what_is_left_at_the_end_has_the_time_of_the_last_bytes(rt: HostRuntime) {
+    expect_rows(&rt, rt.alloc(), &TIMES_AT_THE_END, Detail::Events);
 }
 
 #[test]

@@ -62,18 +62,25 @@ fn a_bad_character_is_shown(rt: HostRuntime) {
 }
 
 #[test]
-fn what_is_left_over_has_no_line(rt: HostRuntime) {
+fn what_is_left_over_has_a_time_and_no_line(rt: HostRuntime) {
     let alloc = rt.alloc();
     let job = Job::Show(greatest(), objects_of(&rt, Detail::Frames));
     let expected = Expected {
         status: 1,
-        shown: "{\"type\":\"frame\",\"line\":1,\"side\":\"server\",\"time\":null,\"offset\":0,\"fin\":true,\"opcode\":\"binary\",\"key\":null,\"length\":3,\"form\":\"shortest\"}\n\
-{\"type\":\"unfinished\",\"side\":\"server\",\"time\":null,\"offset\":0,\"event\":\"binary\",\"bytes\":2,\"frames\":1,\"lacks\":1,\"hex\":\"00ff\"}\n",
+        shown: "{\"type\":\"frame\",\"line\":2,\"side\":\"server\",\"time\":1.5,\"offset\":0,\"fin\":true,\"opcode\":\"binary\",\"key\":null,\"length\":3,\"form\":\"shortest\"}\n\
+{\"type\":\"unfinished\",\"side\":\"server\",\"time\":1.5,\"offset\":0,\"event\":\"binary\",\"bytes\":2,\"frames\":1,\"lacks\":1,\"hex\":\"00ff\"}\n",
         last: "{\"type\":\"report\",\"client\":{\"state\":\"running\"},\"server\":{\"state\":\"running\"},\"first\":null,\"echo\":null,\"client_sees\":null,\"server_sees\":null,\"outcome\":\"open\"}\n",
         line: "",
     };
     for at_most in READS {
-        expect_job(&rt, alloc, &job, b"S 820300ff", at_most, expected);
+        expect_job(
+            &rt,
+            alloc,
+            &job,
+            b"# 1.5\nS 820300ff\n# 2.5\n",
+            at_most,
+            expected,
+        );
     }
 }
 

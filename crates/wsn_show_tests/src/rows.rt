@@ -164,6 +164,27 @@ server-sees 1005
 outcome abnormal
 ";
 
+const CUT_BY_SERVER: &str = "\
+ended-by server
+client running
+server cut
+first -
+echo -
+client-sees 1006
+server-sees -
+outcome abnormal
+";
+
+const REFUSED_AND_CLOSED: &str = "\
+client refused 0 reserved-bits 1002
+server closed -
+first server
+echo -
+client-sees 1005
+server-sees 1006
+outcome failed
+";
+
 const CUT_AND_ENDED: &str = "\
 ended-by server
 client ended
@@ -391,7 +412,7 @@ pub static BAD_CHARACTERS: [Row; 9] = [
     Row {
         text: b"# 0.5\nS 010361e282\n# 1.5\nS 8900\n# 2.5\nS 800120\nS ff\n",
         view: 48,
-        shown: "S 1.5 5 ping 0 1 \"\"\nS 2.5 0 unfinished text 3 1 lacks 0 \"a\" ..\nS 2.5 7 refused 9 text-bad 1007 20\nS 2.5 3 bad-character 1 e28220 \"\\xe2\\x82\\x20\"\nS - 10 unread 1 ff\n",
+        shown: "S 1.5 5 ping 0 1 \"\"\nS 2.5 0 unfinished text 3 1 lacks 0 \"a\" ..\nS 2.5 7 refused 9 text-bad 1007 20\nS 2.5 3 bad-character 1 e28220 \"\\xe2\\x82\\x20\"\nS 2.5 10 unread 1 ff\n",
         report: BAD_AT_9,
     },
     Row {
@@ -735,6 +756,40 @@ pub static COMMENTS: [Row; 7] = [
         view: 48,
         shown: "S 1.5 0 unfinished head 0 0 lacks - -\nS 1.5 1 end\nC 1.5 0 end\n",
         report: CUT_AND_ENDED,
+    },
+];
+
+/// What is left over at the end, with the time of each endpoint's last bytes.
+pub static TIMES_AT_THE_END: [Row; 5] = [
+    Row {
+        text: b"# 0.5\nS 8105616263\n# 1.5\nC 8180377f0b2d\n# 2.5\n",
+        view: 48,
+        shown: "C 1.5 0 text 0 1 \"\"\nS 0.5 0 unfinished text 3 1 lacks 2 \"abc\"\n",
+        report: OPEN,
+    },
+    Row {
+        text: b"# 0.5\nC 81\n# 1.5\nS 81\n# 2.5\nS 05\n# 3.5\n",
+        view: 48,
+        shown: "C 0.5 0 unfinished head 0 0 lacks - -\nS 2.5 0 unfinished text 0 1 lacks 5 \"\"\n",
+        report: OPEN,
+    },
+    Row {
+        text: b"S 81\n# 1.5\nC 8180377f0b2d\n",
+        view: 48,
+        shown: "C 1.5 0 text 0 1 \"\"\nS - 0 unfinished head 0 0 lacks - -\n",
+        report: OPEN,
+    },
+    Row {
+        text: b"# 0.5\nS 81\n# 1.5\nS.\nC 81\n# 2.5\n",
+        view: 48,
+        shown: "S 1.5 0 unfinished head 0 0 lacks - -\nS 1.5 1 end\nC 1.5 0 unfinished head 0 0 lacks - -\n",
+        report: CUT_BY_SERVER,
+    },
+    Row {
+        text: b"# 0.5\nS 880003\n# 1.5\nC c1ff\n",
+        view: 48,
+        shown: "S 0.5 0 close 0 1 -\nC 1.5 0 refused 0 reserved-bits 1002 c1\nC 1.5 1 unread 1 ff\nS 0.5 2 tail 1 03\n",
+        report: REFUSED_AND_CLOSED,
     },
 ];
 
