@@ -179,8 +179,8 @@ class Entry:
     line: the capture's line in which it is, from 1. side: "client" or "server". time: seconds, from the capture's
     comments. offset: in that side's stream; of a refused frame that of its first byte, and place that of the offending one.
     event: "text", "binary", "ping", "pong" or "close". bytes: of the payload. text or hex: its first bytes, and truncated if
-    there are more; a Close has code and reason. character: of a text refused as "text-bad". The other fields are those of
-    the type (`wsn help show`); None elsewhere.
+    there are more; a comment's is whole. A Close has code and reason. character: of a text refused as "text-bad". The other
+    fields are those of the type (`wsn help show`); None elsewhere.
     """
 
     type: str

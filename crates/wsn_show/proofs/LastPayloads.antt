@@ -6,14 +6,14 @@ use Rattle.std.proofs.Math.Seq.{take-suc}
 use Rattle.std.specs.Str.Lossy.{utf8_valid_len}
 use Rattle.wsn_wire.specs.Frame.{Frame, is_control, stream}
 use Rattle.wsn_rules.specs.declared.head_info.HeadInfo.{HeadInfo}
-use Rattle.wsn_rules.specs.BadCharacter.{BadCharacter, payload_offset, placed_payloads, last_of, open_payload, message_payload, first_offset, bytes_of, bad_character}
+use Rattle.wsn_rules.specs.BadCharacter.{payload_offset, placed_payloads, last_of, open_payload, message_payload, first_offset, bytes_of, bad_character}
 use Rattle.wsn_rules.specs.Group.{unfinished, payload_of}
 use Rattle.wsn_rules.specs.Heads.{info_of}
 use Rattle.wsn_rules.specs.PlacedByte.{PlacedByte, placed}
 use Rattle.wsn_rules.proofs.LastElements.{last_of_none, last_of_long, last_of_push}
 use Rattle.wsn_rules.proofs.OpenPayloads.{open_after_control, open_after_final, open_after_fragment}
 use Rattle.wsn_rules.proofs.PlacedBytes.{placed-append, bytes_of_placed}
-use Rattle.wsn_scan.specs.Positions.{Position, BetweenFrames, InFrame}
+use Rattle.wsn_scan.specs.Positions.{InFrame}
 use Rattle.wsn_show.specs.declared.last_payload.StreamByte.{StreamByte}
 use Rattle.wsn_show.specs.declared.last_payload.LastPayload.{LastPayload}
 use Rattle.wsn_show.specs.LastPayloads.{placed_bytes, HasLastPayload, payload_at}

@@ -146,6 +146,7 @@ impl StreamParts {
 
     /// Prints the refusal of the frame at the last of these bytes, which are unmasked if they are payload. From now on the
     /// bytes aren't read.
+    #[tactic(none)]
     pub fn refuse<W: Write>(
         &mut self,
         refusal: &Refusal,
@@ -168,6 +169,7 @@ impl StreamParts {
     }
 
     /// The bad character, if a frame's text is refused for one at the last of these bytes.
+    #[tactic(none)]
     fn bad_character(&mut self, reason: Reason, bytes: &[u8]) -> Option<HeldCharacter>
         ensures character { (fs : List Frame) (at : Position) (rest : List ℕ) →
             GoesWrongAt reason fs at rest bytes.now → Keeps self.old fs at rest →
@@ -182,6 +184,7 @@ impl StreamParts {
     }
 
     /// The bad character, if a frame has begun, whose text goes wrong with the last of these bytes.
+    #[tactic(none)]
     fn character_in_frame(&mut self, bytes: &[u8]) -> Option<HeldCharacter>
         ensures character { (fs : List Frame) (at : Position) (rest : List ℕ) →
             GoesWrongAt TextBad fs at rest bytes.now → Keeps self.old fs at rest →

@@ -67,6 +67,7 @@ impl FrameSoFar {
     }
 
     /// The offset after its bytes so far.
+    #[tactic(none)]
     pub fn end_so_far(&self) -> u64
         ensures { self.now.offset + self.now.size < 2 ^ 64 → result ≡ self.now.offset + self.now.size }
     {

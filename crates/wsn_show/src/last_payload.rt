@@ -37,6 +37,7 @@ impl LastPayload {
     }
 
     /// Forgets the bytes that came.
+    #[tactic(none)]
     pub fn clear(&mut self)
         ensures { HasLastPayload self.new [] }
     {
@@ -44,6 +45,7 @@ impl LastPayload {
     }
 
     /// More bytes come, the first of them at this offset.
+    #[tactic(none)]
     pub fn add(&mut self, bytes: &[u8], offset: u64)
         ensures { (came : List PlacedByte) → offset + length bytes.now < 2 ^ 64 → HasLastPayload self.old came →
             HasLastPayload self.new (came ++ placed offset bytes.now) }
@@ -59,6 +61,7 @@ impl LastPayload {
     }
 
     /// One more byte comes.
+    #[tactic(none)]
     fn push(&mut self, byte: StreamByte)
         ensures { (came : List PlacedByte) → HasLastPayload self.old came →
             HasLastPayload self.new (came ++ placed byte.place (byte.byte ∷ [])) }
@@ -68,6 +71,7 @@ impl LastPayload {
     }
 
     /// Drops the first byte that is held if there is no room for another.
+    #[tactic(none)]
     fn make_room(&mut self)
         ensures { self.new.held.items ≡ drop (length self.old.held.items - 3) self.old.held.items }
     {
@@ -77,6 +81,7 @@ impl LastPayload {
     }
 
     /// The bad character of a message whose payload, of so many bytes, ends with its first bad byte.
+    #[tactic(none)]
     pub fn bad_character(&self, count: u64) -> HeldCharacter
         ensures { (came : List PlacedByte) (i : ℕ) → HasLastPayload self.now came → length came ≡ count →
             IsFirstBad (bytes_of came) i → i + 1 ≡ length came → character_held result ≡ bad_character came }
@@ -93,6 +98,7 @@ impl LastPayload {
     }
 
     /// The bytes that are held.
+    #[tactic(none)]
     fn bytes(&self) -> KeptBytes<CHARACTER_MAX>
         ensures { result ≡ bytes_of (placed_bytes self.now.held.items) }
     {
@@ -104,6 +110,7 @@ impl LastPayload {
     }
 
     /// The offset of the byte with this index among those that are held; 0 if there is none.
+    #[tactic(none)]
     fn place_at(&self, index: usize) -> u64
         ensures { result ≡ first_offset (drop index (placed_bytes self.now.held.items)) }
     {
@@ -126,6 +133,7 @@ pub struct HeldCharacter {
 }
 
 /// As it is printed, if there is one.
+#[tactic(none)]
 pub fn shown_in(character: &Option<HeldCharacter>) -> Option<ShownCharacter<'_>>
     ensures { character_in result ≡ character_held_in character.now }
 {
@@ -137,6 +145,7 @@ pub fn shown_in(character: &Option<HeldCharacter>) -> Option<ShownCharacter<'_>>
 
 impl HeldCharacter {
     /// As it is printed.
+    #[tactic(none)]
     pub fn shown(&self) -> ShownCharacter<'_>
         ensures { character_of result ≡ character_held self.now }
     {

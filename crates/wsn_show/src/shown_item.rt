@@ -86,6 +86,7 @@ fn put_line_of<W: Write>(
 }
 
 /// Prints the line of a refusal, and that of the bad character if there is one.
+#[tactic(none)]
 fn put_refusal_of<W: Write>(
     output: &mut Output<W>,
     view: ViewLimit,

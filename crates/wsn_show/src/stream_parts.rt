@@ -54,6 +54,7 @@ impl StreamParts {
     }
 
     /// More of the frame's payload comes, unmasked, with `size` more bytes.
+    #[tactic(none)]
     pub fn add_payload(&mut self, payload: &[u8], size: usize)
         ensures { (fs : List Frame) (head : _) (part rest share : List ℕ) → length share ≡ size →
             length (stream fs) + (length rest + size) < 2 ^ 64 →
@@ -72,6 +73,7 @@ impl StreamParts {
     }
 
     /// The frame ends.
+    #[tactic(none)]
     pub fn end(&mut self, final_frame: bool)
         ensures { (fs : List Frame) (f : Frame) (rest : List ℕ) → f.fin ≡ final_frame →
             length (stream (fs ++ f ∷ [])) ≡ length (stream fs) + length rest →

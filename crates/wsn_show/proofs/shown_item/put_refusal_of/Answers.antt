@@ -1,7 +1,6 @@
-use Rattle.std.proofs.Common.{Option, None, Some, List, ℕ, ◌++◌, refl, sym, ap, ◌∙◌, subst, append-nil}
+use Rattle.std.proofs.Common.{rules, Option, None, Some, refl, sym, subst, append-nil}
 use Rattle.wsn_io.specs.Transfer.{IsWritten}
 use Rattle.wsn_io.specs.Stops.{IsWrittenOrStops}
-use Rattle.wsn_rules.specs.BadCharacter.{BadCharacter}
 use Rattle.wsn_rules.specs.ShownStream.{Item}
 use Rattle.wsn_rules.specs.ShownStream.Item.{RefusedFrame}
 use Rattle.wsn_print.specs.CharacterText.{item_lines, character_line, character_lines}
@@ -35,3 +34,9 @@ returns-in-None g c all is =
     let item : Option ShownCharacter → Item = λ o. RefusedFrame front.offset c.args.refusal.now all (character_in o) in
     subst (λ (o : Option ShownCharacter). IsWritten c.args.output.now c.put_refused.new.to (item_lines c.args.view front.role (time_of front) (item o))) (sym c.in-None.is)
     (subst (IsWritten c.args.output.now c.put_refused.new.to) (sym (append-nil (item_line c.args.view front.role (time_of front) (item None)))) (c.in_ok-put_refused.ensures.text all None is))
+
+pub put_refused-requires : goal.put_refused-requires
+put_refused-requires g c = search rules
+
+pub put_bad_character-requires : goal.put_bad_character-requires
+put_bad_character-requires g c = search rules

@@ -1,4 +1,5 @@
-use Rattle.std.proofs.Common.{◌≡◌, ℕ, ◌+◌, ◌≤◌, List, ◌∷◌, [], ◌++◌, length, take, drop, get_or, refl, sym, ap, ◌∙◌, subst, append_assoc, arith}
+use Rattle.std.proofs.Common.{rules, ◌≡◌, ℕ, ◌+◌, List, ◌∷◌, [], ◌++◌, take, drop, get_or, refl, sym, ap, ◌∙◌, subst, append_assoc, arith}
+use Rattle.std.proofs.lemmas.Grind.{common_steps}
 use Rattle.std.proofs.lemmas.List.{take_all}
 use Rattle.wsn_rules.specs.PlacedByte.{PlacedByte, placed}
 use Rattle.wsn_show.specs.LastPayloads.{HasLastPayload}
@@ -32,3 +33,9 @@ returns c came small has =
     let all : take i bytes ≡ bytes = take_all i bytes (omega (arith, past)) in
     skipping c.loop-index.self came offset skipped bytes c.saturating_sub-skipped.ensures
     (subst (λ (bs : List ℕ). HasLastPayload c.loop-index.self (came ++ placed (offset + skipped) (drop skipped bs))) all (c.loop-index.invariant.1 came small has))
+
+pub loop-index-init : goal.loop-index-init
+loop-index-init c = grind (arith, common_steps)
+
+pub bounds-bytes-index : goal.bounds-bytes-index
+bounds-bytes-index c = search rules

@@ -1,7 +1,7 @@
-use Rattle.std.proofs.Common.{◌≡◌, ℕ, ◌+◌, ◌-◌, ◌≤◌, List, length, drop, sym, ap, ◌∙◌, arith}
+use Rattle.std.proofs.Common.{rules, ◌≡◌, ℕ, ◌+◌, ◌-◌, ◌≤◌, List, length, drop, sym, ap, ◌∙◌, arith}
 use Rattle.std.specs.Str.Lossy.{utf8_valid_len}
 use Rattle.std.proofs.lemmas.List.{length-map}
-use Rattle.wsn_rules.specs.BadCharacter.{first_offset, last_of, bytes_of}
+use Rattle.wsn_rules.specs.BadCharacter.{first_offset, bytes_of}
 use Rattle.wsn_rules.specs.PlacedByte.{PlacedByte}
 use Rattle.wsn_rules.proofs.LastElements.{bytes_of_last}
 use Rattle.wsn_show.specs.LastPayloads.{placed_bytes}
@@ -30,3 +30,15 @@ returns c came i has size bad last =
     let place : c.saturating_sub.result ≡ length came - len = omega (arith, less, size) in
     let left : c.drop_front.new.self ≡ drop (length held - len) (bytes_of held) = c.drop_front.ensures ∙ (λ j. drop (first j) (bytes_is j)) in
     (λ j. record { offset = offset j; in_payload = place j; bytes = left j }) ∙ character_is came len whole held few has
+
+pub as_slice-requires : goal.as_slice-requires
+as_slice-requires c = search rules
+
+pub len-requires : goal.len-requires
+len-requires c = search rules
+
+pub overflow_sub-first : goal.overflow_sub-first
+overflow_sub-first c = search rules
+
+pub drop_front-requires : goal.drop_front-requires
+drop_front-requires c = search rules

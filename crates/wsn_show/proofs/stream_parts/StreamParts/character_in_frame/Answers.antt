@@ -1,10 +1,8 @@
-use Rattle.std.proofs.Common.{◌≡◌, ℕ, ◌+◌, ◌-◌, ◌<◌, ◌^◌, Bool, true, false, not, Option, None, Some, List, ◌++◌, length, refl, sym, ap, ◌∙◌, subst, length-append, arith}
+use Rattle.std.proofs.Common.{rules, ◌≡◌, ℕ, ◌+◌, ◌<◌, ◌^◌, Bool, true, false, not, Option, None, Some, List, ◌++◌, length, sym, ap, ◌∙◌, subst, length-append, arith}
 use Rattle.std.specs.Prelude.{is_some}
 use Rattle.std.proofs.lemmas.List.{length-map}
-use Rattle.wsn_wire.specs.Frame.{Frame, stream}
 use Rattle.wsn_wire.specs.declared.refusal.Reason.TheVariants.{TextBad}
-use Rattle.wsn_rules.specs.declared.head_info.HeadInfo.{HeadInfo}
-use Rattle.wsn_rules.specs.BadCharacter.{payload_offset, message_payload, bytes_of}
+use Rattle.wsn_rules.specs.BadCharacter.{payload_offset, message_payload}
 use Rattle.wsn_rules.specs.Group.{unfinished, payload_of}
 use Rattle.wsn_rules.specs.PlacedByte.{PlacedByte, placed}
 use Rattle.wsn_rules.proofs.OpenPayloads.{payload_so_far}
@@ -51,3 +49,18 @@ returns-clause-character c fs at rest wrong keeps = by at wrong keeps
         let ends = bad.1 in
         ap Some (c.bad_character.ensures all bad.0 (subst (HasLastPayload c.add.new.self) is_all added) (omega (arith, text_size, parts, own, front, counted, sum, few))
         (subst (λ (bs : List ℕ). IsFirstBad bs bad.0) (sym text) bad.2) (omega (arith, ends, text_size)))
+
+pub returns-then-is_none-clause-character : goal.returns-then-is_none-clause-character
+returns-then-is_none-clause-character c = search rules
+
+pub returns-then-is_none-clause-message : goal.returns-then-is_none-clause-message
+returns-then-is_none-clause-message c = search rules
+
+pub returns-then-is_none-clause-frame : goal.returns-then-is_none-clause-frame
+returns-then-is_none-clause-frame c = search rules
+
+pub returns-clause-message : goal.returns-clause-message
+returns-clause-message c = search rules
+
+pub returns-clause-frame : goal.returns-clause-frame
+returns-clause-frame c = search rules

@@ -1,4 +1,4 @@
-use Rattle.std.proofs.Common.{ℕ, [], ◌∷◌, length, sym, ap}
+use Rattle.std.proofs.Common.{[], ◌∷◌, length, sym}
 use Rattle.wsn_wire.specs.Frame.{stream}
 use Rattle.wsn_rules.specs.ShownStream.{interrupted}
 use Rattle.wsn_rules.specs.ShownStream.Item.{RefusedFrame}
