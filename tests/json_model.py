@@ -94,7 +94,7 @@ def expect_members(read):
         if read.get(it) is not None:
             expect_members(read[it])
     differing = read.get("differ_at")
-    assert ("differ_at" in read) == ("first" in read), read
+    assert ("differ_at" in read) == (compared and "first" in read), read
     if differing is not None:
         assert tuple(differing) == DIFFERING, differing
         for part in (differing[it] for it in EVENTS if differing[it] is not None):
