@@ -55,21 +55,3 @@ ends_at xs ys k is so_far =
     ]
 
 -- ---- the place
-
--- It is in the first of them.
-pub within_first : (xs ys : List ℕ) (k : ℕ) → k ≡ common_length xs ys → k < length xs → Some k ≡ place_between xs ys
-within_first xs ys k is less =
-    let is_so : (nat_lt (common_length xs ys) (length xs) || nat_lt (common_length xs ys) (length ys)) ≡ true = grind (arith, nat_tests, is, less) in
-    ap (λ (n : ℕ). Some n) is ∙ sym (ap (λ (t : Bool). if t then Some (common_length xs ys) else None) is_so)
-
--- In the second.
-pub within_second : (xs ys : List ℕ) (k : ℕ) → k ≡ common_length xs ys → k < length ys → Some k ≡ place_between xs ys
-within_second xs ys k is less =
-    let is_so : (nat_lt (common_length xs ys) (length xs) || nat_lt (common_length xs ys) (length ys)) ≡ true = grind (arith, nat_tests, is, less) in
-    ap (λ (n : ℕ). Some n) is ∙ sym (ap (λ (t : Bool). if t then Some (common_length xs ys) else None) is_so)
-
--- In neither.
-pub within_neither : (xs ys : List ℕ) (k : ℕ) → k ≡ common_length xs ys → length xs ≤ k → length ys ≤ k → None ≡ place_between xs ys
-within_neither xs ys k is one two =
-    let is_not : (nat_lt (common_length xs ys) (length xs) || nat_lt (common_length xs ys) (length ys)) ≡ false = grind (arith, nat_tests, is, one, two) in
-    sym (ap (λ (t : Bool). if t then Some (common_length xs ys) else None) is_not)

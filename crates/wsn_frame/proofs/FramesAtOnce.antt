@@ -1,12 +1,11 @@
 -- A frame that is read at once, from one piece.
-use Rattle.std.proofs.Common.{◌≡◌, ◌↔◌, ℕ, ◌+◌, ◌-◌, ◌<◌, ◌≤◌, true, Option, Ok, Result, List, [], ◌++◌, length, take, drop, refl, sym, ap, ◌∙◌, subst, arith}
+use Rattle.std.proofs.Common.{◌≡◌, ℕ, ◌+◌, ◌-◌, ◌<◌, ◌≤◌, Option, Ok, List, [], ◌++◌, length, take, drop, sym, ap, ◌∙◌, subst, arith}
 use Rattle.std.proofs.lemmas.Slice.{between-put_mid}
 use Rattle.std.proofs.Math.Seq.{take-add}
 use borrow.Rule.Slice.PartMut.{mid_of, put_mid, post_of, mid_len, put_same, take_put, drop_put, Post-is}
 use Rattle.wsn_wire.specs.declared.endpoint.Role.{Role}
 use Rattle.wsn_wire.specs.Frame.{Frame, IsBytes, first_byte}
 use Rattle.wsn_frame.specs.declared.partial_head.Head.{Head}
-use Rattle.wsn_frame.specs.declared.payload_check.BadByte.{BadByte}
 use Rattle.wsn_frame.specs.declared.payload_check.PayloadCheck.{PayloadCheck}
 use Rattle.wsn_rules.specs.Limits.{Limits}
 use Rattle.wsn_frame.specs.PartialHeads.{IsHead}
@@ -48,15 +47,6 @@ pub head_and_payload : (start end : ℕ) (piece : List ℕ) → start ≤ end �
 head_and_payload start end piece ordered =
     let sum : end ≡ start + (end - start) = omega arith in
     ap (λ (n : ℕ). take n piece) sum ∙ take-add start (end - start) piece
-
--- The result of checking a whole payload, unmasked in place.
-pub fed_at_once : (group : List Frame) (first total : ℕ) (key : Option (List ℕ)) (wire fed : List ℕ) (result : Result PayloadCheck BadByte) → fed ≡ unmasked_by key 0 wire → length wire ≡ total
-    → ((true ≡ true ↔ (0 + length fed ≡ total)) → 0 + length fed ≤ total → IsChecked group first total [] fed result)
-    → IsChecked group first total [] (unmasked_by key 0 wire) result
-fed_at_once group first total key wire fed result is size found =
-    let size_fed : length fed ≡ total = ap (λ (bs : List ℕ). length bs) is ∙ length-unmasked_by key 0 wire ∙ size in
-    let count : 0 + length fed ≡ total = omega (arith, size_fed) in
-    subst (λ (bs : List ℕ). IsChecked group first total [] bs result) is (found ((λ yes. count), (λ all. refl)) (omega (arith, count)))
 
 -- All of the payload was checked and is evidence for no refusal.
 pub holds_at_once : (role : Role) (limits : Limits) (group : List Frame) (head : Head) (check next : PayloadCheck) (head_bytes wire rest : List ℕ) → rest ≡ head_bytes ++ wire → IsBytes wire

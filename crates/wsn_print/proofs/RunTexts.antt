@@ -173,11 +173,6 @@ passed_over zero escapes text = refl
 passed_over (suc n) escapes [] = refl
 passed_over (suc n) escapes (b ∷ text) = passed_over n escapes text
 
--- The first character of a text, once it is written.
-pub first_written : (escapes : Escapes) (b : ℕ) (rest : List ℕ)
-    → escaped escapes (b ∷ rest) ≡ written_of escapes (hidden_at b rest) b ++ escaped escapes (drop (more_of (hidden_at b rest)) rest)
-first_written escapes b rest = ap (λ (bs : List ℕ). written_of escapes (hidden_at b rest) b ++ bs) (passed_over (more_of (hidden_at b rest)) escapes rest)
-
 -- A text begins with a hidden character.
 pub hidden_first : (escapes : Escapes) (text : List ℕ) (c more : ℕ) → 0 < length text
     → hidden_of (get_or text 0 0) (get_or text 1 0) (get_or text 2 0) ≡ Some (c, more)

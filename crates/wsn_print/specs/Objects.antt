@@ -82,10 +82,6 @@ head_fields h = number_field (codes "offset") h.place ++ head_members h
 abbrev pub frame_object : HeadInfo → List ℕ
 frame_object h = codes "{\"type\":\"frame\"" ++ head_fields h ++ codes "}\n"
 
--- The objects of frames, in order.
-abbrev pub frame_objects : List HeadInfo → List ℕ
-frame_objects heads = flat_map frame_object heads
-
 -- ---- reports
 
 -- What became of the stream that an endpoint sent.

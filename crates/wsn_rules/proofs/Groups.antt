@@ -74,16 +74,6 @@ unfinished_final fs f kept final = ap (after_last is_final) (filter_push_yes fs 
 pub unfinished_more : (fs : List Frame) (f : Frame) → is_data f ≡ true → f.fin ≡ false → unfinished (fs ++ f ∷ []) ≡ unfinished fs ++ f ∷ []
 unfinished_more fs f kept more = ap (after_last is_final) (filter_push_yes fs f kept) ∙ after_last_push_no is_final (filter is_data fs) f more
 
-pub unfinished_push : (fs : List Frame) (f : Frame) → unfinished (fs ++ f ∷ []) ≡ (if is_data f then (if f.fin then [] else unfinished fs ++ f ∷ []) else unfinished fs)
-unfinished_push fs f =
-    elim (cases_Bool (is_data f)) [
-      | inl data_frame ↦ elim (cases_Bool f.fin) [
-        | inl final ↦ unfinished_final fs f data_frame final ∙ sym (cond-true (is_data f) (cond f.fin [] (unfinished fs ++ f ∷ [])) (unfinished fs) data_frame ∙ cond-true f.fin [] (unfinished fs ++ f ∷ []) final)
-        | inr more ↦ unfinished_more fs f data_frame more ∙ sym (cond-true (is_data f) (cond f.fin [] (unfinished fs ++ f ∷ [])) (unfinished fs) data_frame ∙ cond-false f.fin [] (unfinished fs ++ f ∷ []) more)
-      ]
-      | inr control ↦ unfinished_control fs f control ∙ sym (cond-false (is_data f) (cond f.fin [] (unfinished fs ++ f ∷ [])) (unfinished fs) control)
-    ]
-
 -- ---- the meaning of a list that continues
 
 pub events-append : (before fs gs : List Frame) → events_after before (fs ++ gs) ≡ events_after before fs ++ events_after (before ++ fs) gs

@@ -51,9 +51,6 @@ encoded_by_itself role lengths f owed =
 -- ---- no row
 
 module _ (role : Role) (limits : Limits) (before : List Frame) (f : Frame) (law : LawAt role limits before f) {bytes : List ℕ} (l : HasLayout bytes) (encoded : IsSpelledBy role limits.lengths l f) (shows : HeadHasNoEvidence role limits.lengths l.first l.second l.len) where
-  group_text : List ℕ
-  group_text = payload_of (unfinished before)
-
   op_is : (n : ℕ) → opcode_field l.first ≡ n → opcode f.op ≡ n
   op_is n e = encoded.opcode_is ∙ e
 

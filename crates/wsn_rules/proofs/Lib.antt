@@ -1,3 +1,4 @@
+pub mod AllOfList
 pub mod Prefixes
 pub mod LawfulLists
 pub mod Groups

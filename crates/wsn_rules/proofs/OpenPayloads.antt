@@ -12,6 +12,7 @@ use Rattle.wsn_rules.specs.Heads.{info_of}
 use Rattle.wsn_rules.specs.Summary.{ends_message}
 use Rattle.wsn_rules.specs.PlacedByte.{PlacedByte, placed}
 use Rattle.wsn_rules.specs.BadCharacter.{IsPayloadByte, payload_offset, placed_payloads, last_of, open_payload, message_payload, first_offset, bytes_of}
+use Rattle.wsn_rules.proofs.AllOfList.{all_push, all_front}
 use Rattle.wsn_rules.proofs.Prefixes.{head_same, tail_same, two_fronts}
 use Rattle.wsn_rules.proofs.Groups.{unfinished_control, unfinished_final, unfinished_more}
 use Rattle.wsn_rules.proofs.MessageText.{text_of_push}
@@ -159,10 +160,6 @@ pub first_in_front : (n : ℕ) (xs ys : List PlacedByte) → n < length xs → f
 first_in_front n xs ys less =
     ap first_offset (drop-append-le n xs ys (omega (arith, less))) ∙ first_of_front (drop n xs) ys (omega (arith, less, length-drop n xs))
 
-all_push : (P : Frame → Type 0) (fs : List Frame) (f : Frame) → AllByRecursion P fs → P f → AllByRecursion P (fs ++ f ∷ [])
-all_push P [] f all one = (one, tt)
-all_push P (g ∷ fs) f all one = (all.0, all_push P fs f all.1 one)
-
 -- It stays a byte of the open message if no frame ends it.
 byte_stays : (fs : List Frame) (f : Frame) (index offset : ℕ) → ends_message f ≡ false → IsPayloadByte fs index offset → IsPayloadByte (fs ++ f ∷ []) index offset
 byte_stays fs f index offset goes_on p = record {
@@ -255,10 +252,6 @@ size_grows fs (f ∷ gs) all =
       | inl kept ↦ let more = size_after_data fs f kept all.0 in omega (arith, later, moved, more)
       | inr left_out ↦ let same : size_of (fs ++ f ∷ []) ≡ size_of fs = ap (λ (group : List Frame). length (payload_of group)) (unfinished_control fs f left_out) in omega (arith, later, moved, same)
     ]
-
-all_front : (P : Frame → Type 0) (fs gs : List Frame) → AllByRecursion P (fs ++ gs) → AllByRecursion P fs
-all_front P [] gs all = tt
-all_front P (f ∷ fs) gs all = (all.0, all_front P fs gs all.1)
 
 -- A byte of a frame comes before those of the data frames after it.
 module _ (fs : List Frame) (index offset other : ℕ) (p : IsPayloadByte fs index offset) (q : IsPayloadByte fs index other) where

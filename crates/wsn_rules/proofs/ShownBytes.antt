@@ -15,6 +15,7 @@ use Rattle.wsn_rules.specs.PlacedByte.{PlacedByte, placed}
 use Rattle.wsn_rules.specs.ShownPlaces.{PlacedFrame, frames_in, placed_frames, IsPartOfHead, HasBegun, IsOpenPile, IsPileOf, ArePlaced}
 use Rattle.wsn_rules.specs.ShownStream.{Item, Shown, shown_after, frame_so_far, IsLeftOver, IsShownStream}
 use Rattle.wsn_rules.specs.ShownStream.Item.{Event, Head, Unfinished, UnfinishedHead, RefusedFrame, Unread, Tail}
+use Rattle.wsn_rules.specs.BadCharacter.{bytes_of}
 use Rattle.wsn_rules.proofs.Walk.{stream_push}
 use Rattle.wsn_rules.proofs.PlacedBytes.{bytes_of_placed}
 use Rattle.wsn_rules.proofs.ShownPlaces.{all_in_place}
@@ -37,9 +38,6 @@ module _ {A B : Type 0} (f : A → B) where
   )
 
 -- ---- the bytes of an item
-
-abbrev bytes_of : List PlacedByte → List ℕ
-bytes_of = map (λ (b : PlacedByte). b.byte)
 
 bytes_of_frames : (fs : List PlacedFrame) → bytes_of (placed_frames fs) ≡ stream (frames_in fs)
 bytes_of_frames [] = refl

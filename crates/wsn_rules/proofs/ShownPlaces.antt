@@ -28,6 +28,7 @@ use Rattle.wsn_rules.specs.PlacedByte.{PlacedByte, placed}
 use Rattle.wsn_rules.specs.ShownPlaces.{BeginsAt, end_of, PlacedFrame, frames_in, placed_frames, IsFragment, IsLastFrame, IsControlFrame, BeginOnce, IsMessageOf, IsEncodableHead, IsPartOfHead, HasBegun, IsPlaced, is_open_message, Interrupts, IsShownWithNext, AreInPlace}
 use Rattle.wsn_rules.specs.ShownStream.{Item, Shown, shown_after, open_offset, open_item, open_items, event_offset, event_frames, items_of_final, shown_at, shown_of, items_of_bytes, frame_so_far, items_of_part, items_of_head, IsLeftOfRest, IsLeftOf, IsLeftOver, IsShownEvidence, IsShownVerdict, IsShownStream}
 use Rattle.wsn_rules.specs.ShownStream.Item.{Event, Unfinished, UnfinishedHead, RefusedFrame, Unread, Tail}
+use Rattle.wsn_rules.proofs.AllOfList.{all_push}
 use Rattle.wsn_rules.proofs.Prefixes.{nil-push, push-append}
 use Rattle.wsn_rules.proofs.LawfulLists.{no_close_before, lawful_after}
 use Rattle.wsn_rules.proofs.Groups.{unfinished_control, unfinished_final, unfinished_more}
@@ -54,10 +55,6 @@ nil_of_map (f ∷ held) none = cc
 all_data : (fs : List Frame) → AllByRecursion IsFragment fs → AllByRecursion (λ (f : Frame). is_data f ≡ true) fs
 all_data [] all = tt
 all_data (f ∷ fs) all = (all.0.data_frame, all_data fs all.1)
-
-all_push : (P : Frame → Type 0) (fs : List Frame) (f : Frame) → AllByRecursion P fs → P f → AllByRecursion P (fs ++ f ∷ [])
-all_push P [] f all one = (one, tt)
-all_push P (g ∷ fs) f all one = (all.0, all_push P fs f all.1 one)
 
 -- A message begins once: another frame continues it exactly if there are frames before it.
 once_push : (fs : List Frame) (f : Frame) → BeginOnce fs → (f.op ≡ Continue) ↔ (fs ≢ []) → BeginOnce (fs ++ f ∷ [])

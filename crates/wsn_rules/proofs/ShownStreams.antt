@@ -25,19 +25,13 @@ use Rattle.wsn_rules.specs.ShownStream.{Item, Shown, shown_after, open_items, it
 use Rattle.wsn_rules.specs.ShownStream.Item.{RefusedFrame}
 use Rattle.wsn_rules.specs.ShownCapture.{beyond}
 use Rattle.wsn_rules.specs.BadCharacter.{BadCharacter, character_of}
+use Rattle.wsn_rules.proofs.AllOfList.{all_append}
 use Rattle.wsn_rules.proofs.Prefixes.{push-append, append_cancel, GoesOn, two_fronts}
 use Rattle.wsn_rules.proofs.Walk.{stream-append}
 use Rattle.wsn_rules.proofs.OneVerdict.{AreAll, all_of_verdict, all_go_on, one_verdict}
 use Rattle.wsn_rules.proofs.StaysRefused.{place_within, refused_alike, stays_refused}
 use Rattle.wsn_rules.proofs.OneHead.{one_begun, one_following}
 use Rattle.wsn_rules.proofs.HeadsGoOn.{end_of, one_heads, heads_stay, heads_in_bytes, heads_go_on}
-
--- ---- lists
-
-module _ {A : Type 0} (P : A → Type 0) where
-  pub all-append : (xs ys : List A) → AllByRecursion P xs → AllByRecursion P ys → AllByRecursion P (xs ++ ys)
-  all-append [] ys p q = q
-  all-append (x ∷ xs) ys p q = (p.0, all-append xs ys p.1 q)
 
 -- ---- frames that follow others
 
@@ -74,7 +68,7 @@ shown_within before [] n within = tt
 shown_within before (f ∷ fs) n within =
     let rest : length (stream ((before ++ f ∷ []) ++ fs)) ≤ n = subst (λ (hs : List Frame). length (stream hs) ≤ n) (sym (push-append before f fs)) within in
     let grows = stream_grows (before ++ f ∷ []) fs in
-    all-append (λ (s : Shown). s.after ≤ n) (shown_at before f) (shown_of (before ++ f ∷ []) fs)
+    all_append (λ (s : Shown). s.after ≤ n) (shown_at before f) (shown_of (before ++ f ∷ []) fs)
     (all_at (λ k. k ≤ n) before f (omega arith))
     (shown_within (before ++ f ∷ []) fs n rest)
 
@@ -83,7 +77,7 @@ shown_beyond : (before fs : List Frame) (n : ℕ) → ((f : Frame) (gs : List Fr
 shown_beyond before [] n first = tt
 shown_beyond before (f ∷ fs) n first =
     let past = first f fs refl in
-    all-append (λ (s : Shown). n < s.after) (shown_at before f) (shown_of (before ++ f ∷ []) fs)
+    all_append (λ (s : Shown). n < s.after) (shown_at before f) (shown_of (before ++ f ∷ []) fs)
     (all_at (λ k. n < k) before f past)
     (shown_beyond (before ++ f ∷ []) fs n (λ g gs e. let grows = stream_grows (before ++ f ∷ []) (g ∷ []) in omega (arith, past)))
 
@@ -330,7 +324,7 @@ module _ (role : Role) (limits : Limits) where
               q.all ∙ ap (λ (ss : List Shown). ss ++ q.of_verdict) f.all ∙ append_assoc p.of_frames f.extra q.of_verdict
               ∙ ap (λ (ss : List Shown). ss ++ (f.extra ++ q.of_verdict)) (sym mine);
           within = subst (λ (ss : List Shown). AllByRecursion (λ (s : Shown). s.after ≤ length bytes) ss) (sym mine) f.within;
-          past = all-append (λ (s : Shown). length bytes < s.after) f.extra q.of_verdict f.past (of_verdict_beyond q.verdict q.is_verdict q.is_of_verdict);
+          past = all_append (λ (s : Shown). length bytes < s.after) f.extra q.of_verdict f.past (of_verdict_beyond q.verdict q.is_verdict q.is_of_verdict);
         }
       where
         of_verdict_beyond : (w : Verdict) → IsVerdict role limits (bytes ++ more) q.frames w → IsShownVerdict detail role limits (bytes ++ more) q.frames w q.of_verdict → AllByRecursion (λ (s : Shown). length bytes < s.after) q.of_verdict
@@ -373,7 +367,7 @@ module _ (role : Role) (limits : Limits) where
           all = one ∙ sym (append-nil shown);
           within =
               subst (λ (ss : List Shown). AllByRecursion (λ (s : Shown). s.after ≤ length bytes) ss) (sym p.all)
-              (all-append (λ (s : Shown). s.after ≤ length bytes) p.of_frames p.of_verdict
+              (all_append (λ (s : Shown). s.after ≤ length bytes) p.of_frames p.of_verdict
               (items_within detail bytes fs p.of_frames before of_frames)
               (subst (λ (ss : List Shown). AllByRecursion (λ (s : Shown). s.after ≤ length bytes) ss) (sym moved.is) (all_after (λ n. n ≤ length bytes) (r.place + 1) _ place)));
           past = tt;

@@ -7,7 +7,7 @@ use Rattle.wsn_wire.specs.Frame.{Frame}
 use Rattle.wsn_wire.specs.Layout.{len_form_at, length_count, encoded_length, key_count}
 use Rattle.wsn_wire.specs.EvidenceInHeads.{EvidentInSecond}
 use Rattle.wsn_rules.specs.Limits.{Limits}
-use Rattle.wsn_rules.specs.Evidence.{Evidence, EvidentByFirst, EvidentByLength, EvidentByPayload, unmasked}
+use Rattle.wsn_rules.specs.Evidence.{Evidence, EvidentByLength, EvidentByPayload, unmasked}
 use Rattle.wsn_rules.specs.Evidence.Evidence.{ByFirst, BySecond, ByLength, ByPayload}
 use Rattle.wsn_rules.proofs.Prefixes.{head_same, tail_same, nil-cons, same_front}
 
@@ -17,14 +17,6 @@ module _ (role : Role) (limits : Limits) (group : List Frame) (reason : Reason) 
   no_bytes (BySecond first second is row) = nil-cons first (second ∷ []) is
   no_bytes (ByLength first second len is count row) = nil-cons first (second ∷ len) is
   no_bytes (ByPayload p row) = nil-cons p.first (p.second ∷ (p.len ++ (p.key ++ p.wire))) p.whole
-
-  -- The first byte.
-  pub first_byte_shows : (first : ℕ) → Evidence role limits group reason (first ∷ []) → EvidentByFirst limits group reason first
-  first_byte_shows first (ByFirst b is row) = subst (λ (n : ℕ). EvidentByFirst limits group reason n) (sym (head_same first b [] [] is)) row
-  first_byte_shows first (BySecond b c is row) = absurd (nil-cons c [] (tail_same first b [] (c ∷ []) is))
-  first_byte_shows first (ByLength b c len is count row) = absurd (nil-cons c len (tail_same first b [] (c ∷ len) is))
-  first_byte_shows first (ByPayload p row) =
-      absurd (nil-cons p.second (p.len ++ (p.key ++ p.wire)) (tail_same first p.first [] (p.second ∷ (p.len ++ (p.key ++ p.wire))) p.whole))
 
   -- The bytes after the second byte, if the head is complete.
   pub record PayloadBehind (first second : ℕ) (following : List ℕ) : Type 0 where
@@ -73,48 +65,6 @@ module _ (role : Role) (limits : Limits) (group : List Frame) (reason : Reason) 
             subst (λ (n : ℕ). EvidentByPayload group reason n (encoded_length (len_form_at second) p.len) (unmasked second p.key p.wire)) (sym (head_same first p.first (second ∷ following) (p.second ∷ theirs) p.whole))
             (subst (λ (n : ℕ). EvidentByPayload group reason p.first (encoded_length (len_form_at n) p.len) (unmasked n p.key p.wire)) (sym seconds) row);
       }))
-
-  length_after : (first second : ℕ) (following : List ℕ) (p : PayloadBehind first second following) → length following ≡ length_count (len_form_at second) + (key_count second + length p.wire)
-  length_after first second following p =
-      let all = ap (λ (bs : List ℕ). length bs) p.whole ∙ length-append p.len (p.key ++ p.wire) in
-      let inner = length-append p.key p.wire in
-      let lens : length p.len ≡ length_count (len_form_at second) = p.len_count in
-      let keys : length p.key ≡ key_count second = p.key_counted in
-      omega arith
-
-  -- No evidence ends between the second byte and the last length byte.
-  pub within_length : (first second : ℕ) (part : List ℕ) → 0 < length part → length part < length_count (len_form_at second) → Evidence role limits group reason (first ∷ second ∷ part) → ⊥
-  within_length first second part some short e =
-      elim (evident_after first second part e) [
-        | inl p ↦ omega (arith, ap (λ (bs : List ℕ). length bs) p.0)
-        | inr q ↦ elim q [
-          | inl p ↦ omega (arith, p.0)
-          | inr p ↦ omega (arith, length_after first second part p)
-        ]
-      ]
-
-  -- No evidence ends between the last length byte and the last byte of the key.
-  pub within_key : (first second : ℕ) (len part : List ℕ) → length len ≡ length_count (len_form_at second) → 0 < length part → length part < key_count second → Evidence role limits group reason (first ∷ second ∷ (len ++ part)) → ⊥
-  within_key first second len part count some short e =
-      let all = length-append len part in
-      elim (evident_after first second (len ++ part) e) [
-        | inl p ↦ omega (arith, ap (λ (bs : List ℕ). length bs) p.0)
-        | inr q ↦ elim q [
-          | inl p ↦ omega (arith, p.0)
-          | inr p ↦ omega (arith, length_after first second (len ++ part) p)
-        ]
-      ]
-
-  -- The last length byte, if there are length bytes.
-  pub last_length_byte_shows : (first second : ℕ) (len : List ℕ) → length len ≡ length_count (len_form_at second) → 0 < length len → 0 < key_count second → Evidence role limits group reason (first ∷ second ∷ len) → EvidentByLength limits group reason first second len
-  last_length_byte_shows first second len count some keyed e =
-      elim (evident_after first second len e) [
-        | inl p ↦ absurd (omega (arith, ap (λ (bs : List ℕ). length bs) p.0))
-        | inr q ↦ elim q [
-          | inl p ↦ p.1
-          | inr p ↦ absurd (omega (arith, length_after first second len p))
-        ]
-      ]
 
   -- After the length, only the payload so far.
   pub payload_shows : (first second : ℕ) (len key wire : List ℕ) → length len ≡ length_count (len_form_at second) → length key ≡ key_count second → 0 < length key + length wire →

@@ -154,10 +154,6 @@ pub each_join : (xs ys : List (List ℕ)) → AllByRecursion IsLine xs → AllBy
 each_join [] ys are also = also
 each_join (x ∷ xs) ys are also = (are.0, each_join xs ys are.1 also)
 
-pub line_push : (line : List ℕ) (b : ℕ) → IsLine line → b ≢ 10 → IsLine (line ++ b ∷ [])
-line_push [] b is other = (other, tt)
-line_push (c ∷ line) b is other = (is.0, line_push line b is.1 other)
-
 -- Lines with LF before a text.
 pub lines_in_front : (xs : List (List ℕ)) (text : List ℕ) (lines : List (List ℕ)) → AllByRecursion IsLine xs → AreLines text lines → AreLines (ended xs ++ text) (xs ++ lines)
 lines_in_front xs text lines each are = record {

@@ -1,7 +1,7 @@
 -- Prefixes of bytes that begin text, and the first bad byte of bytes that don't.
 use Rattle.std.proofs.Common.{◌≡◌, ℕ, zero, suc, ◌+◌, ◌<◌, ◌≤◌, ◌⊎◌, List, [], ◌∷◌, ◌++◌, length, take, drop, inl, inr, sym, subst, append_assoc, append-nil, add-one, arith}
 use Rattle.std.proofs.Math.Seq.{take-length}
-use Rattle.std.proofs.lemmas.Bool.{cases_lt, cases_eq}
+use Rattle.std.proofs.lemmas.Bool.{cases_lt}
 use Rattle.std.proofs.lemmas.List.{take-append-drop, take-append-le, take-take, length-append}
 use Rattle.std.specs.List.{AllByRecursion, concat}
 use Rattle.wsn_text.specs.Utf8.{IsCharacter, IsText, BeginsText, IsFirstBad}
@@ -79,20 +79,3 @@ begins_or_bad bytes (suc n) le =
 unfoldable pub begins_or_first_bad : (bytes : List ℕ) → BeginsText bytes ⊎ ((i : ℕ) × IsFirstBad bytes i)
 begins_or_first_bad bytes =
     elim (begins_or_bad bytes (length bytes) (omega arith)) [ inl begins ↦ inl (subst BeginsText (take-length bytes) begins) | inr bad ↦ inr (bad.0, bad.2) ]
-
-pub begins_without_bad : (bytes : List ℕ) → ((i : ℕ) → ¬ (IsFirstBad bytes i)) → BeginsText bytes
-begins_without_bad bytes none = elim (begins_or_first_bad bytes) [ inl begins ↦ begins | inr bad ↦ absurd (none bad.0 bad.1) ]
-
--- A prefix that doesn't begin text contains the first bad byte.
-pub first_bad_within : (bytes : List ℕ) (n : ℕ) → n ≤ length bytes → ¬ (BeginsText (take n bytes)) → (i : ℕ) × (i < n) × IsFirstBad bytes i
-first_bad_within bytes n le ends = elim (begins_or_bad bytes n le) [ inl begins ↦ absurd (ends begins) | inr bad ↦ bad ]
-
-pub first_bad_decided : (bytes : List ℕ) (i : ℕ) → IsFirstBad bytes i ⊎ (IsFirstBad bytes i → ⊥)
-first_bad_decided bytes i =
-    elim (begins_or_first_bad bytes) [
-      | inl begins ↦ inr (λ bad. bad_ends bytes i bad begins)
-      | inr bad ↦ elim (cases_eq bad.0 i) [
-        | inl same ↦ inl (subst (IsFirstBad bytes) same bad.1)
-        | inr other ↦ inr (λ first. other (first_bad_unique bytes bad.0 i bad.1 first))
-      ]
-    ]

@@ -1,14 +1,11 @@
 -- The fields of a head as bits of a byte under a mask.
-use Rattle.std.proofs.Common.{◌≡◌, ℕ, ◌<◌, refl, bit_and, nat_eq, not, sym, ◌∙◌, arith, inl, inr, ◌%◌}
+use Rattle.std.proofs.Common.{◌≡◌, ℕ, ◌<◌, refl, bit_and, nat_eq, not, sym, ◌∙◌, arith, inl, inr}
 use Rattle.std.proofs.lemmas.Bool.{agree_below_at, eq-eqb, eqb-true, cases_eq}
 use Rattle.std.proofs.lemmas.Nat.{and_mask}
 use Rattle.wsn_wire.specs.Layout.{fin_bit, reserved_bits, opcode_field}
 
 pub opcode_mask : (byte : ℕ) → bit_and byte 15 ≡ opcode_field byte
 opcode_mask byte = and_mask byte 4
-
-pub length_mask : (byte : ℕ) → bit_and byte 127 ≡ byte % 128
-length_mask byte = and_mask byte 7
 
 -- The highest bit is FIN, or MASK.
 pub top_mask : (byte : ℕ) → byte < 256 → not (nat_eq (bit_and byte 128) 0) ≡ fin_bit byte

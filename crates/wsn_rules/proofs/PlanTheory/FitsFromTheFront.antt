@@ -228,9 +228,6 @@ module _ (role : Role) (limits : Limits) (events : List MeantEvent) where
 
   -- ---- from the start
 
-  pub begins_iff : (plan : List Step) → BeginsToFit role limits plan events ↔ BeginsToFitFrom role limits [] events plan
-  begins_iff plan = (λ begins. begins_from [] plan begins, λ following. begins_after [] plan begins_nil following)
-
   pub fits_iff : (plan : List Step) → Fits role limits plan events ↔ (BeginsToFitFrom role limits [] events plan × (left_following events plan ≡ []))
   fits_iff plan = (
     λ fits. (begins_from [] plan fits.begins, sym (events_left_are plan events) ∙ fits.all),
