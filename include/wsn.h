@@ -67,7 +67,7 @@ enum { WSN_EVENTS = 0, WSN_FRAMES = 1 };
 
 typedef struct wsn_options {
     uint8_t role;            /* WSN_CLIENT */
-    uint8_t format;          /* WSN_TEXT; normal, plan and recut have no other */
+    uint8_t format;          /* WSN_TEXT; bytes and plans have no other */
     uint8_t lengths;         /* WSN_SHORTEST */
     uint8_t detail;          /* WSN_EVENTS */
     uint8_t without_pings;   /* 0; 1 to compare without pings */
@@ -86,12 +86,14 @@ typedef struct wsn_answer {
 
 /*
  * Statuses. 0: accepted; there is a plan; the recut is done; the streams mean
- * the same; the connection closed clean or complete. 1: any other answer; it is
- * in `output`, but that of wsn_normal, wsn_plan and both recuts in `message`.
- * 2: no answer; `message` says why: "usage" if an option or argument is out of
- * range, "input limit" (more than 2^40 bytes), "out of memory", "write failed"
- * if memory for the text was refused, or the first faulty line of a capture or
- * plan, such as "line 3: bad-hex". `output` may have what was printed before.
+ * the same; the connection closed clean or complete; the payload is whole. 1:
+ * any other answer; it is in `output`, but that of wsn_payload, wsn_normal,
+ * wsn_plan and both recuts in `message`. 2: no answer; `message` says why:
+ * "usage" if an option or argument is out of range, "input limit" (more than
+ * 2^40 bytes), "out of memory", "write failed" if memory for the text was
+ * refused, the first faulty line of a capture or plan, such as "line 3:
+ * bad-hex", or that no event begins at an offset. `output` may have what was
+ * printed before.
  */
 
 /* The default options: the values in the comments of wsn_options. */
@@ -139,6 +141,20 @@ wsn_answer wsn_same(const wsn_options *options,
                     const void *second, size_t second_size,
                     void *output, size_t output_size,
                     void *message, size_t message_size);
+
+/*
+ * Writes the payload of one message, ping, pong or Close: unmasked, joined from
+ * its frames. `at`: where its first frame begins, the offset in the stream, in
+ * bytes from 0, that wsn_show and wsn_frames print. Status 0: it is complete.
+ * 1: it isn't; `output` has what came of its payload, up to the offending byte
+ * if it is refused, and `message` the verdict. 2: none begins there; `output`
+ * is empty, and `message` says what is there, such as "nothing begins at 5; it
+ * is in the text at 0". Or 2 for the other reasons above.
+ */
+wsn_answer wsn_payload(const wsn_options *options,
+                       const void *stream, size_t stream_size, uint64_t at,
+                       void *output, size_t output_size,
+                       void *message, size_t message_size);
 
 /* Writes a stream's normal form: one frame a message, under a key of zeros. */
 wsn_answer wsn_normal(const wsn_options *options,

@@ -9,8 +9,8 @@ is copied) instead of files, by the proved library `libwsn.so`. It is looked for
 `WSN_LIBRARY` says, else beside this module, where ./install and pip put it, and where the system looks for libraries. If it
 isn't found, each call is an `OSError` that says how it is built: `./library FOLDER`.
 
-Wrong arguments are a `ValueError`, and so are `FaultyCapture` and `Fault`; `NotAccepted` and `Stopped` aren't. Calls in
-several threads don't disturb each other. Nothing is printed.
+Wrong arguments are a `ValueError`, and so are `FaultyCapture` and `Fault`; `NotAccepted`, `Unfinished` and `Stopped`
+aren't. Calls in several threads don't disturb each other. Nothing is printed.
 """
 
 import ctypes
@@ -22,8 +22,8 @@ from typing import Any, Callable, Collection, Dict, List, Optional, Tuple, TypeV
 
 __all__ = [
     "BadCharacter", "Close", "Comparison", "EndedBy", "Entry", "Fault", "FaultyCapture", "Frame", "Frames", "NotAccepted",
-    "Report", "Session", "Side", "Stopped", "Verdict", "closing", "frames", "judge", "normal", "plan", "recut", "same", "sent",
-    "show",
+    "Report", "Session", "Side", "Stopped", "Unfinished", "Verdict", "closing", "frames", "judge", "normal", "payload", "plan",
+    "recut", "same", "sent", "show",
 ]
 
 __version__ = "0.1.0"  # That of wsn.h and of wsn --version.
@@ -33,6 +33,7 @@ LENGTHS = ("shortest", "any")
 CONTROLS = ("ping", "pong", "close")
 MESSAGE_MAX = 16_777_216
 FRAMES_MAX = 4_294_967_295
+OFFSET_MAX = 18_446_744_073_709_551_615
 VIEW_MAX = 4_096
 
 
@@ -55,7 +56,10 @@ class FaultyCapture(ValueError):
 
 
 class Fault(ValueError):
-    """A plan is faulty or doesn't fit the stream, or a stream has no plan. The text is the line that `wsn` prints."""
+    """A plan is faulty or doesn't fit the stream, a stream has no plan, or no event begins at an offset of it.
+
+    The text is the line that `wsn` prints.
+    """
 
 
 @dataclasses.dataclass(frozen=True)
@@ -100,6 +104,18 @@ class NotAccepted(Exception):
     def __init__(self, verdict: str):
         super().__init__(verdict)
         self.verdict = verdict
+
+
+class Unfinished(Exception):
+    """An event isn't complete: the stream ends or is refused inside it, or a Close interrupts it.
+
+    verdict: the stream's line, as the program prints it. payload: what came of the event's payload, up to the offending byte
+    if it is refused.
+    """
+
+    def __init__(self, verdict: str, payload: bytes):
+        super().__init__(verdict)
+        self.verdict, self.payload = verdict, payload
 
 
 @dataclasses.dataclass(frozen=True)
@@ -408,7 +424,7 @@ def _told(message: str) -> Exception:
     words = message.strip().split(" ")
     if words[0] == "line" and len(words) == 3:
         return FaultyCapture(int(words[1].rstrip(":")), words[2])
-    if words[0] == "plan":
+    if words[0] in ("plan", "nothing"):
         return Fault(message.strip())
     if words == ["usage"]:
         return ValueError("an argument is out of range")
@@ -495,6 +511,24 @@ def same(first: Any, second: Any, role: str, *, without: Collection[str] = (), *
         fields = _asked("wsn_same", options, one, other)[0]
     verdict = fields.get("verdict")
     return _made(Comparison, {**fields, "verdict": None if verdict is None else _verdict(verdict)})
+
+
+def payload(data: Any, role: str, *, at: int, **limits: Any) -> bytes:
+    """Returns the payload of one message, ping, pong or Close of a stream: unmasked, joined from its frames.
+
+    at: where its first frame begins, the offset in bytes from 0 that `show` and `frames` give; for a capture, in what `sent`
+    returns. `Unfinished` if it isn't complete, with what came of its payload; `Fault` if none begins there, such as "nothing
+    begins at 5; it is in the text at 0". The limits are those of `judge`; what follows the event isn't judged.
+    """
+    options = _options(role, json_lines=False, **limits)
+    offset = ctypes.c_uint64(_number("at", at, 0, OFFSET_MAX))
+    with _Lent(data) as stream:
+        status, output, message = _run("wsn_payload", options, stream, offset)
+    if status == 2:
+        raise _told(message)
+    if status == 1:
+        raise Unfinished(message.strip(), output)
+    return output
 
 
 def normal(data: Any, role: str, **limits: Any) -> bytes:

@@ -57,6 +57,7 @@ static struct bytes read_file(const char *name)
 /* The arguments of a call but for its options and rooms. */
 struct arguments {
     struct bytes first, second;
+    uint64_t at;
     uint32_t size;
     uint8_t weave;
     struct bytes key;
@@ -78,6 +79,8 @@ static wsn_answer call(const char *command, const wsn_options *options, const st
         return wsn_closing(options, in->at, in->size, output.at, output.size, message.at, message.size);
     if (strcmp(command, "sent") == 0)
         return wsn_sent(options, in->at, in->size, output.at, output.size, message.at, message.size);
+    if (strcmp(command, "payload") == 0)
+        return wsn_payload(options, in->at, in->size, with->at, output.at, output.size, message.at, message.size);
     if (strcmp(command, "normal") == 0)
         return wsn_normal(options, in->at, in->size, output.at, output.size, message.at, message.size);
     if (strcmp(command, "plan") == 0)
@@ -99,7 +102,7 @@ static int set(wsn_options *options, struct arguments *with, const char *word)
 {
     const char *number = strchr(word, '=');
     size_t name = number == NULL ? 0 : (size_t)(number - word);
-    unsigned long value = number == NULL ? 0 : strtoul(number + 1, NULL, 0);
+    unsigned long long value = number == NULL ? 0 : strtoull(number + 1, NULL, 0);
 #define IS(text) (name == strlen(text) && memcmp(word, text, name) == 0)
     if (number == NULL)
         return 0;
@@ -123,6 +126,8 @@ static int set(wsn_options *options, struct arguments *with, const char *word)
         options->limit = (uint32_t)value;
     else if (IS("frames"))
         options->frames = (uint32_t)value;
+    else if (IS("at"))
+        with->at = value;
     else if (IS("size"))
         with->size = (uint32_t)value;
     else if (IS("weave"))
@@ -164,7 +169,7 @@ static wsn_answer call_until_all(const char *command, size_t size, const wsn_opt
 int main(int count, char **words)
 {
     wsn_options options = wsn_defaults();
-    struct arguments with = {{NULL, 0}, {NULL, 0}, 0, 0, {NULL, 0}};
+    struct arguments with = {{NULL, 0}, {NULL, 0}, 0, 0, 0, {NULL, 0}};
     struct bytes output, message;
     wsn_answer answer;
     int at;

@@ -1,4 +1,4 @@
-ghost use Rattle.wsn_command.specs.declared.job.Job.TheVariants.{Judge, Frames, Normal, Plan, ShowStream};
+ghost use Rattle.wsn_command.specs.declared.job.Job.TheVariants.{Judge, Frames, Payload, Normal, Plan, ShowStream};
 ghost use Rattle.wsn_c.specs.Calls.{IsCalled, call};
 
 use crate::answer::Answer;
@@ -43,6 +43,33 @@ pub extern "C" fn wsn_frames(
     match options.asked() {
         Some(asked) => {
             let job = Job::Frames(asked.role, asked.limits, asked.style.format);
+            run_over(alloc, &job, stream, output, message)
+        }
+        None => give_usage(output, message),
+    }
+}
+
+/// Writes the payload of one message, ping, pong or Close of the stream, as `wsn payload` does: unmasked, joined from its
+/// frames. `at` is where its first frame begins: the offset in the stream, in bytes from 0.
+///
+/// Status 0: it is complete, and the text is its payload. 1: it isn't complete; the text is what came of its payload, up
+/// to the offending byte if it is refused, and the message is the verdict's line. 2: the message says that none begins at
+/// this offset, without a text; or why the work stopped, after what was written before.
+#[unsafe(no_mangle)]
+pub extern "C" fn wsn_payload(
+    alloc: Global,
+    options: &Options,
+    stream: &[u8],
+    at: u64,
+    output: &mut [u8],
+    message: &mut [u8],
+) -> Answer
+    ensures { IsCalled options.now (λ asked. Payload asked.role asked.limits at) stream.now
+        (call output.old output.new message.old message.new result) }
+{
+    match options.asked() {
+        Some(asked) => {
+            let job = Job::Payload(asked.role, asked.limits, at);
             run_over(alloc, &job, stream, output, message)
         }
         None => give_usage(output, message),
