@@ -1,5 +1,5 @@
 -- What the calls answer.
-use Rattle.std.specs.Prelude.{◌≡◌, ◌++◌, ℕ, Bool, false, Result, List, [], None, Some, length, take, drop, codes}
+use Rattle.std.specs.Prelude.{◌≡◌, ◌++◌, ℕ, Bool, true, false, Result, List, [], None, Some, length, take, drop, codes}
 use Rattle.std.specs.declared.alloc.Global.{Global}
 use Rattle.wsn_io.specs.Transfer.{Incoming, Outgoing}
 use Rattle.wsn_command.specs.declared.job.Job.{Job}
@@ -50,9 +50,9 @@ pub record Gives (done : Call) (text said : List ℕ) (exit : ℕ) : Type 0 wher
 
 -- ---- runs
 
--- an input of these bytes, none of which has come
+-- an input of these bytes, which are in memory; none has come
 abbrev pub input_of : List ℕ → Incoming
-input_of bytes = record { remaining = Some bytes; count = 0; failed = false }
+input_of bytes = record { remaining = Some bytes; count = 0; failed = false; lent = true }
 
 -- an output that holds these bytes
 abbrev pub output_of : List ℕ → Bool → Outgoing

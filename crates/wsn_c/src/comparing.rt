@@ -50,8 +50,8 @@ fn compare(
     let mut said = Output::new(Text::new(alloc));
     let status = run_same(
         alloc,
-        &mut Input::new(first),
-        &mut Input::new(second),
+        &mut Input::lent(first),
+        &mut Input::lent(second),
         comparison,
         &mut printed,
         &mut said,

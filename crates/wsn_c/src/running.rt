@@ -21,7 +21,7 @@ pub(crate) fn run_over(
 {
     let mut printed = Output::new(Text::new(alloc));
     let mut said = Output::new(Text::new(alloc));
-    let status = run(alloc, job, &mut Input::new(bytes), &mut printed, &mut said);
+    let status = run(alloc, job, &mut Input::lent(bytes), &mut printed, &mut said);
     give(
         status,
         printed.into_writer().as_slice(),

@@ -3,3 +3,4 @@ pub mod Transfer
 pub mod Stops
 pub mod Blocks
 pub mod FirstReads
+pub mod ByteSources

@@ -2,12 +2,13 @@
 use Rattle.std.specs.Prelude.{◌≡◌, ℕ, ◌+◌, ◌≤◌, ◌⊎◌, Bool, true, false, List, Option, length, take}
 use Rattle.std.specs.Io.KnownBytes.{Appends, Consumes, Keeps}
 
--- An input: the bytes that its reader will give, if they are known; how many bytes have come from the reader; and
--- whether a read has failed.
+-- An input: the bytes that are to come, if they are known; how many have come; whether a read has failed; and whether
+-- its bytes are lent, in memory, so that no read fails.
 pub record Incoming : Type 0 where
   pub remaining : Option (List ℕ)
   pub count : ℕ
   pub failed : Bool
+  pub lent : Bool
 
 -- An output: the bytes that its writer holds, if they are known, and whether a write has failed.
 pub record Outgoing : Type 0 where
@@ -16,20 +17,28 @@ pub record Outgoing : Type 0 where
 
 -- ---- received bytes
 
+-- No read of lent bytes fails.
+abbrev pub StaysReadable : Incoming → Incoming → Type 0
+StaysReadable old new = old.lent ≡ true → (new.lent ≡ true) × (new.failed ≡ old.failed)
+
 -- These bytes came from the input. Whether its reader's bytes are known or not, it has counted them.
 pub record IsConsumed (old new : Incoming) (came : List ℕ) : Type 0 where
   pub consumed : Consumes old.remaining new.remaining came
   pub counted : new.count ≡ old.count + length came
+  pub readable : StaysReadable old new
 
 -- No byte came from the input.
-abbrev pub IsKept : Incoming → Incoming → Type 0
-IsKept old new = Keeps old.remaining new.remaining × (new.count ≡ old.count)
+pub record IsKept (old new : Incoming) : Type 0 where
+  pub kept : Keeps old.remaining new.remaining
+  pub counted : new.count ≡ old.count
+  pub readable : StaysReadable old new
 
 -- These bytes came from the input, at most `most` of them.
 pub record IsReceived (most : ℕ) (old new : Incoming) (came : List ℕ) : Type 0 where
   pub consumed : Consumes old.remaining new.remaining came
   pub counted : new.count ≡ old.count + length came
   pub few : length came ≤ most
+  pub readable : StaysReadable old new
 
 -- ---- written bytes
 

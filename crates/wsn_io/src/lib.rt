@@ -10,6 +10,7 @@
 #![tactic(auto)]
 
 mod blocks;
+mod byte_source;
 mod first_bytes;
 mod input;
 mod output;

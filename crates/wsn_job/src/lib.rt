@@ -11,6 +11,7 @@ mod closings;
 mod comparisons;
 mod diagnostics;
 mod done;
+pub mod laws;
 mod payloads;
 mod plans;
 mod recuts;

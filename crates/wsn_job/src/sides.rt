@@ -127,7 +127,10 @@ fn faulty_line<R: Read>(side: &Input<SideReader<R>>) -> Option<FaultyLine>
     if !side.failed() {
         return None;
     }
-    match side.reader().stop() {
+    let Some(reader) = side.reader() else {
+        return None;
+    };
+    match reader.stop() {
         Some(CaptureStop::Line { number, fault }) => Some(FaultyLine { number, fault }),
         Some(CaptureStop::Read) | None => None,
     }

@@ -24,7 +24,7 @@ pub extern "C" fn wsn_page_show(
 {
     let mut printed = Output::new(Room::new(scratch));
     let done = show(
-        &mut Input::new(capture),
+        &mut Input::lent(capture),
         &mut printed,
         settings.limits(),
         settings.style(),
@@ -48,7 +48,7 @@ pub extern "C" fn wsn_page_show_stream(
 {
     let mut printed = Output::new(Room::new(scratch));
     let done = show_stream(
-        &mut Input::new(stream),
+        &mut Input::lent(stream),
         &mut printed,
         settings.role(),
         settings.limits(),

@@ -3,12 +3,14 @@
 use crate::expecting::expect_of;
 use std::alloc::Global;
 use std::process::Abort;
+use wsn_canon::normalise;
 use wsn_doubles::answer_lines::listing;
 use wsn_doubles::engines::{listed, normalised};
 use wsn_doubles::readers::Chopped;
 use wsn_doubles::vectors::{Stream, filled, stream_named, streams};
 use wsn_doubles::writers::{FULL, Full, Narrow};
 use wsn_scan::{Stop, Verdict};
+use wsn_wire::{Input, Output};
 
 /// Fails unless an engine reported that its writer failed, and the writer holds this prefix.
 fn expect_full(
@@ -116,4 +118,23 @@ fn normalise_reports_a_failed_write_after_each_byte(rt: HostRuntime) {
             &bytes[..room],
         );
     }
+}
+
+/// The write of the first event fails, which is in the first of three blocks. No other block is read.
+#[test]
+fn normalise_reads_no_more_after_a_failed_write(rt: HostRuntime) {
+    let alloc = rt.alloc();
+    let stream = of_several_blocks(&rt, alloc);
+    let mut left = stream.bytes.as_slice();
+    let answer = normalise(
+        alloc,
+        &mut Input::new(&mut left),
+        &mut Output::new(Narrow::new(alloc, usize::MAX, 0, Full::Fails)),
+        stream.role,
+        stream.limits,
+    );
+    let is_failed = matches!(answer, Err(Stop::Write));
+    expect_of(&rt, is_failed, &"a failed write");
+    let came = stream.bytes.len() - left.len();
+    expect_of(&rt, came == 4_096, &("bytes that came", came));
 }

@@ -28,9 +28,9 @@ impl Read for FailsOnce {
 }
 
 /// Fails unless this is the answer of a read, and whether a read has failed by then.
-fn expect_read(
+fn expect_read<R: Read>(
     rt: &impl Abort,
-    input: &mut Input<&mut FailsOnce>,
+    input: &mut Input<R>,
     into: &mut [u8; 4],
     expected: Option<usize>,
     failed: bool,
@@ -49,6 +49,18 @@ fn an_input_calls_its_reader_once(rt: HostRuntime) {
     expect_read(&rt, &mut input, &mut into, None, true);
     expect_read(&rt, &mut input, &mut into, Some(0), true);
     expect(&rt, reader.calls == 3);
+}
+
+#[test]
+fn an_input_of_bytes_in_memory_never_fails(rt: HostRuntime) {
+    let mut input = Input::lent(b"Hello".as_slice());
+    let mut into = [0; 4];
+    expect_read(&rt, &mut input, &mut into, Some(4), false);
+    expect_bytes(&rt, &into, b"Hell");
+    expect_read(&rt, &mut input, &mut into, Some(1), false);
+    expect_bytes(&rt, &into[..1], b"o");
+    expect_read(&rt, &mut input, &mut into, Some(0), false);
+    expect(&rt, input.reader().is_none());
 }
 
 /// Accepts at most three bytes per call, and fails at the call `bad`.

@@ -12,7 +12,7 @@ returns c =
       c.run_same-status.result,
       compares_over _ c.args.first.now c.args.second.now c.into_writer.result
           c.into_writer-2.result done.0 c.run_same-status.result
-          c.new-3.result c.run_same-status.new.first c.new-4.result c.run_same-status.new.second
+          c.lent.result c.run_same-status.new.first c.lent-2.result c.run_same-status.new.second
           c.new-printed.result c.run_same-status.new.output c.new-said.result c.run_same-status.new.errors
           (search rules) (search rules) (search rules) (search rules) (search rules) (search rules)
           done.1 done.2 done.3,

@@ -15,7 +15,7 @@ returns-in_default-clause-judged g c =
 pub returns-then-count-eq0-clause-judged : goal.returns-then-count-eq0-clause-judged
 returns-then-count-eq0-clause-judged g c =
     let read = c.loop-count.invariant.read in
-    let came = consumed_read c.loop-count.input c.read.new.self c.read.new.into c.in-Some.count c.in-Some.ensures.within c.in-Some.ensures.bytes c.in-Some.ensures.counted in
+    let came = consumed_read c.loop-count.input c.read.new.self c.read.new.into c.in-Some.count c.in-Some.ensures.within c.in-Some.ensures.bytes c.in-Some.ensures.counted c.in-Some.ensures.readable in
     let nothing = subst (λ (n : ℕ). IsConsumed c.loop-count.input c.read.new.self (take n c.read.new.into)) c.if-count-eq0.true came in
     ended c.args.limits c.args.input.now c.loop-count.input c.read.new.self c.loop-count.lines read c.loop-count.invariant.few c.finish.result nothing
     (c.in-Some.ensures.end c.if-count-eq0.true) (c.in-Some.ensures.some ∙ c.loop-count.invariant.unfailed) (c.finish.ensures c.args.limits read.came read.split)
@@ -32,7 +32,7 @@ loop-count-preserved g c =
     let read = c.loop-count.invariant.read in
     record {
       read = goes_on c.args.limits c.args.input.now c.loop-count.input c.read.new.self c.loop-count.lines read c.loop-count.invariant.few (take c.in-Some.count c.read.new.into) c.take.new.self
-          (consumed_read c.loop-count.input c.read.new.self c.read.new.into c.in-Some.count c.in-Some.ensures.within c.in-Some.ensures.bytes c.in-Some.ensures.counted) (c.in_ok-take.ensures.split c.args.limits read.came read.split);
+          (consumed_read c.loop-count.input c.read.new.self c.read.new.into c.in-Some.count c.in-Some.ensures.within c.in-Some.ensures.bytes c.in-Some.ensures.counted c.in-Some.ensures.readable) (c.in_ok-take.ensures.split c.args.limits read.came read.split);
       unfailed = c.in-Some.ensures.some ∙ c.loop-count.invariant.unfailed;
       few = c.in_ok-take.ensures.few;
       short = c.in_ok-take.ensures.short;
@@ -47,7 +47,7 @@ returns-in_err-take-clause-judged g c =
     let size : length (take c.in-Some.count c.read.new.into) ≤ 4096 = omega (arith, length-take-le c.in-Some.count c.read.new.into c.in-Some.ensures.within, c.in-Some.ensures.within, c.read.auto.into) in
     subst (λ (r : Result Report CaptureStop). IsCaptureJudged c.args.limits c.args.input.now c.read.new.self r) (sym is)
     (faulty c.args.limits c.args.input.now c.loop-count.input c.read.new.self c.loop-count.lines read c.loop-count.invariant.few (take c.in-Some.count c.read.new.into) c.in_err-take.field-0.0
-    (consumed_read c.loop-count.input c.read.new.self c.read.new.into c.in-Some.count c.in-Some.ensures.within c.in-Some.ensures.bytes c.in-Some.ensures.counted) size (c.in-Some.ensures.some ∙ c.loop-count.invariant.unfailed) (c.in_err-take.ensures.stop c.args.limits read.came read.split))
+    (consumed_read c.loop-count.input c.read.new.self c.read.new.into c.in-Some.count c.in-Some.ensures.within c.in-Some.ensures.bytes c.in-Some.ensures.counted c.in-Some.ensures.readable) size (c.in-Some.ensures.some ∙ c.loop-count.invariant.unfailed) (c.in_err-take.ensures.stop c.args.limits read.came read.split))
 
 pub returns-in_err-take-clause-whole : goal.returns-in_err-take-clause-whole
 returns-in_err-take-clause-whole g c all known unfailed =

@@ -9,10 +9,10 @@ use Rattle.wsn_page.proofs.calls.wsn_page_show_stream.Goals as goal
 pub returns : goal.returns
 returns c =
     let limits : Limits = limits_asked c.args.settings.now in
-    let limited = subst (λ (limits : Limits). IsStreamShown c.role.result limits c.style.result c.new-2.result
+    let limited = subst (λ (limits : Limits). IsStreamShown c.role.result limits c.style.result c.lent.result
     c.show_stream-done.new.input c.new-printed.result c.show_stream-done.new.output c.show_stream-done.result)
     c.limits.ensures c.show_stream-done.ensures in
-    let shown = subst (λ (role : Role). IsStreamShown role limits c.style.result c.new-2.result
+    let shown = subst (λ (role : Role). IsStreamShown role limits c.style.result c.lent.result
     c.show_stream-done.new.input c.new-printed.result c.show_stream-done.new.output c.show_stream-done.result)
     c.role.ensures limited in (
       c.style.result,
@@ -21,7 +21,7 @@ returns c =
         c.text.result.now,
         _,
         _,
-        shows_stream_over _ _ c.style.result c.args.stream.now c.text.result.now c.show_stream-done.new.input c.new-2.result
+        shows_stream_over _ _ c.style.result c.args.stream.now c.text.result.now c.show_stream-done.new.input c.lent.result
             c.new-printed.result c.show_stream-done.new.output c.show_stream-done.result (search rules) (search rules)
             (search rules) shown,
         c.give_stream.ensures,

@@ -16,7 +16,7 @@ returns-in_err-extend_from_slice-clause-fault g c =
     length-take-le c.min-wanted.result c.loop-piece.piece (omega arith) in
     rw is (no_memory c.args.file.now c.loop-piece.file c.read.new.self c.loop-piece.text.items c.read.new.into
     c.in-Some.count c.loop-piece.invariant.consumed
-    (consumed_read c.loop-piece.file c.read.new.self c.read.new.into c.in-Some.count c.in-Some.ensures.within c.in-Some.ensures.bytes c.in-Some.ensures.counted)
+    (consumed_read c.loop-piece.file c.read.new.self c.read.new.into c.in-Some.count c.in-Some.ensures.within c.in-Some.ensures.bytes c.in-Some.ensures.counted c.in-Some.ensures.readable)
     c.in-Some.ensures.within
     (omega (arith, c.in-Some.ensures.within, c.read.auto.into)) (omega arith) (search rules))
 
@@ -65,7 +65,7 @@ loop-piece-smaller g c = search rules
 pub loop-piece-preserved : goal.loop-piece-preserved
 loop-piece-preserved g c =
     let piece = take c.in-Some.count c.read.new.into in
-    let came = consumed_read c.loop-piece.file c.read.new.self c.read.new.into c.in-Some.count c.in-Some.ensures.within c.in-Some.ensures.bytes c.in-Some.ensures.counted in
+    let came = consumed_read c.loop-piece.file c.read.new.self c.read.new.into c.in-Some.count c.in-Some.ensures.within c.in-Some.ensures.bytes c.in-Some.ensures.counted c.in-Some.ensures.readable in
     let all : c.extend_from_slice.new.self.items ≡ c.loop-piece.text.items ++ piece = grind (arith, common_steps) in
     record {
       consumed = subst (λ (bs : List ℕ). IsConsumed c.args.file.now c.read.new.self bs) (sym all)

@@ -20,7 +20,7 @@ returns-in_default g c = (refl, c.in_default.ensures.none.0, c.in_default.ensure
 pub returns-then-count-eq0 : goal.returns-then-count-eq0
 returns-then-count-eq0 g c = (
   subst (λ (n : ℕ). IsConsumed c.args.input.now c.read.new.self (take n c.read.new.into)) c.if-count-eq0.true
-      (consumed_read c.args.input.now c.read.new.self c.read.new.into c.in-Some.count c.in-Some.ensures.within c.in-Some.ensures.bytes c.in-Some.ensures.counted),
+      (consumed_read c.args.input.now c.read.new.self c.read.new.into c.in-Some.count c.in-Some.ensures.within c.in-Some.ensures.bytes c.in-Some.ensures.counted c.in-Some.ensures.readable),
   c.in-Some.ensures.end c.if-count-eq0.true,
   c.in-Some.ensures.some,
 )
@@ -32,4 +32,4 @@ returns g c =
     chunk_read c.args.input.now c.read.new.self c.args.room c.read.new.into (drop c.min-wanted.result c.args.buffer.now) c.min-len.result n
     (omega (arith, c.if-count-eq0.false)) c.in-Some.ensures.within (omega (arith, c.in-Some.ensures.within, c.read.auto.into, length-take-le c.min-wanted.result c.args.buffer.now (omega (arith, c.min-wanted.ensures)), c.min-wanted.ensures, c.saturating_add.ensures))
     (λ less. omega (arith, c.min-len.ensures)) (λ more. omega (arith, c.min-len.ensures))
-    (consumed_read c.args.input.now c.read.new.self c.read.new.into n c.in-Some.ensures.within c.in-Some.ensures.bytes c.in-Some.ensures.counted) in_bytes c.in-Some.ensures.some
+    (consumed_read c.args.input.now c.read.new.self c.read.new.into n c.in-Some.ensures.within c.in-Some.ensures.bytes c.in-Some.ensures.counted c.in-Some.ensures.readable) in_bytes c.in-Some.ensures.some

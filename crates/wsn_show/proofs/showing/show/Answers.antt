@@ -48,7 +48,7 @@ end-requires-clause-writable g c = c.loop-count.invariant.writable
 pub returns-then-count-eq0 : goal.returns-then-count-eq0
 returns-then-count-eq0 g c =
     let inv = c.loop-count.invariant in
-    let came = consumed_read c.loop-count.input c.read.new.self c.read.new.into c.in-Some.count c.in-Some.ensures.within c.in-Some.ensures.bytes c.in-Some.ensures.counted in
+    let came = consumed_read c.loop-count.input c.read.new.self c.read.new.into c.in-Some.count c.in-Some.ensures.within c.in-Some.ensures.bytes c.in-Some.ensures.counted c.in-Some.ensures.readable in
     let nothing = subst (λ (n : ℕ). IsConsumed c.loop-count.input c.read.new.self (take n c.read.new.into)) c.if-count-eq0.true came in
     let printed = subst (λ (bs : List ℕ). HasPrinted c.args.limits c.args.style c.args.output.now c.loop-count.capture bs c.loop-count.output inv.read.came) (sym c.line.ensures) inv.read.printed in
     ended c.args.limits c.args.style c.args.input.now c.loop-count.input c.read.new.self c.args.output.now c.loop-count.capture c.loop-count.lines c.loop-count.output
@@ -84,7 +84,7 @@ loop-count-preserved g c =
     record {
       read = goes_on c.args.limits c.args.style c.args.input.now c.loop-count.input c.read.new.self c.args.output.now c.loop-count.capture c.loop-count.lines c.loop-count.output
           inv.read inv.few (take c.in-Some.count c.read.new.into) c.show_piece.new.view c.show_piece.new.lines c.show_piece.new.output
-          (consumed_read c.loop-count.input c.read.new.self c.read.new.into c.in-Some.count c.in-Some.ensures.within c.in-Some.ensures.bytes c.in-Some.ensures.counted)
+          (consumed_read c.loop-count.input c.read.new.self c.read.new.into c.in-Some.count c.in-Some.ensures.within c.in-Some.ensures.bytes c.in-Some.ensures.counted c.in-Some.ensures.readable)
           (c.in_ok-show_piece.ensures.printed c.args.limits c.args.style c.args.output.now inv.read.came inv.read.printed);
       unfailed = c.in-Some.ensures.some ∙ inv.unfailed;
       writable = c.in_ok-show_piece.ensures.writable;
@@ -102,5 +102,5 @@ returns-in_err-show_piece g c =
     subst (λ (r : Result Report ShowStop). IsShown c.args.limits c.args.style c.args.input.now c.read.new.self c.args.output.now c.show_piece.new.output r) (sym is)
     (stops_here c.args.limits c.args.style c.args.input.now c.loop-count.input c.read.new.self c.args.output.now c.loop-count.capture c.loop-count.lines c.loop-count.output
     inv.read inv.few (take c.in-Some.count c.read.new.into) c.in_err-show_piece.field-0.0 c.show_piece.new.output
-    (consumed_read c.loop-count.input c.read.new.self c.read.new.into c.in-Some.count c.in-Some.ensures.within c.in-Some.ensures.bytes c.in-Some.ensures.counted) size (c.in-Some.ensures.some ∙ inv.unfailed)
+    (consumed_read c.loop-count.input c.read.new.self c.read.new.into c.in-Some.count c.in-Some.ensures.within c.in-Some.ensures.bytes c.in-Some.ensures.counted c.in-Some.ensures.readable) size (c.in-Some.ensures.some ∙ inv.unfailed)
     (c.in_err-show_piece.ensures.stop c.args.limits c.args.style c.args.output.now inv.read.came inv.read.printed))

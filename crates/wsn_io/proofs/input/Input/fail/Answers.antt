@@ -1,8 +1,0 @@
-use Rattle.std.proofs.Common.{rules}
-use Rattle.wsn_io.proofs.input.Input.fail.Goals as goal
-
-pub returns-clause-failed : goal.returns-clause-failed
-returns-clause-failed g c = search rules
-
-pub returns-clause-kept : goal.returns-clause-kept
-returns-clause-kept g c = search rules

@@ -1,0 +1,78 @@
+-- No read of lent bytes fails in a run.
+use Rattle.std.proofs.Common.{◌≡◌, ℕ, List, Result, Ok, Err, true, false, ◌∙◌}
+use Rattle.wsn_wire.specs.declared.endpoint.Role.{Role}
+use Rattle.wsn_io.specs.Transfer.{Incoming, Outgoing, IsReceived}
+use Rattle.wsn_io.specs.declared.stop.Stop.{Stop}
+use Rattle.wsn_io.specs.declared.stop.Stop.TheVariants as stop
+use Rattle.wsn_rules.specs.Limits.{Limits}
+use Rattle.wsn_rules.specs.declared.compared.Compared.{Compared}
+use Rattle.wsn_rules.specs.declared.report.Report.{Report}
+use Rattle.wsn_rules.specs.declared.verdict.Verdict.{Verdict}
+use Rattle.wsn_print.specs.declared.format.Format.{Format}
+use Rattle.wsn_show.specs.declared.showing.ShowStop.{ShowStop}
+use Rattle.wsn_show.specs.declared.showing.ShowStop.TheVariants.{Capture, Write}
+use Rattle.wsn_plan.specs.declared.planning.PlanAnswer.{PlanAnswer}
+use Rattle.wsn_plan.specs.declared.planning.PlanAnswer.TheVariants as planning
+use Rattle.wsn_command.specs.declared.comparison.Comparison.{Comparison}
+use Rattle.wsn_command.specs.declared.job.Job.{Job}
+use Rattle.wsn_command.specs.declared.job.Job.TheVariants.{Judge, Frames, Normal, Plan, Recut, Payload, ShowStream, Closing, Show}
+use Rattle.wsn_job.specs.Channels.{Channels, ComparedChannels}
+use Rattle.wsn_job.specs.Closings.{IsReportPrinted}
+use Rattle.wsn_job.specs.Comparisons.{IsComparisonPrinted}
+use Rattle.wsn_job.specs.Jobs.{IsRun}
+use Rattle.wsn_job.specs.Plans.{IsPlanPrinted}
+use Rattle.wsn_job.specs.Verdicts.{IsVerdictPrinted}
+
+-- No read of this input failed.
+abbrev IsRead : Incoming → Incoming → Type 0
+IsRead old new = old.lent ≡ true → old.failed ≡ false → new.failed ≡ false
+
+received_is_read : (most : ℕ) (old new : Incoming) (came : List ℕ) → IsReceived most old new came → IsRead old new
+received_is_read most old new came received lent unfailed = (received.readable lent).1 ∙ unfailed
+
+verdict_is_read : (format : Format) (role : Role) (limits : Limits) (old new : Incoming) (before after : Outgoing) (done : Result Verdict Stop)
+    → IsVerdictPrinted format role limits old new before after done → IsRead old new
+verdict_is_read format role limits old new before after (Ok verdict) printed = received_is_read _ old new _ printed.0.1.received
+verdict_is_read format role limits old new before after (Err stop.Write) printed = received_is_read _ old new _ printed.1.1.received
+verdict_is_read format role limits old new before after (Err stop.Read) printed = received_is_read _ old new _ printed.0.1.received
+verdict_is_read format role limits old new before after (Err stop.Memory) printed = received_is_read _ old new _ printed.0.1.received
+verdict_is_read format role limits old new before after (Err stop.InputLimit) printed = received_is_read _ old new _ printed.0.1.received
+
+plan_is_read : {A : Type 0} (role : Role) (limits : Limits) (old new : Incoming) (before after : Outgoing) (done : Result (PlanAnswer A) Stop)
+    → IsPlanPrinted role limits old new before after done → IsRead old new
+plan_is_read role limits old new before after (Ok (planning.Plan plan)) printed = received_is_read _ old new _ printed.0.received
+plan_is_read role limits old new before after (Ok (planning.NotAccepted verdict)) printed = received_is_read _ old new _ printed.0.received
+plan_is_read role limits old new before after (Ok planning.Unfinished) printed = received_is_read _ old new _ printed.0.received
+plan_is_read role limits old new before after (Err stop.Write) printed = received_is_read _ old new _ printed.1.received
+plan_is_read role limits old new before after (Err stop.Read) printed = received_is_read _ old new _ printed.0.received
+plan_is_read role limits old new before after (Err stop.Memory) printed = received_is_read _ old new _ printed.0.received
+plan_is_read role limits old new before after (Err stop.InputLimit) printed = received_is_read _ old new _ printed.0.received
+
+report_is_read : (format : Format) (limits : Limits) (old new : Incoming) (before after : Outgoing) (done : Result Report ShowStop)
+    → IsReportPrinted format limits old new before after done → IsRead old new
+report_is_read format limits old new before after (Ok report) printed = received_is_read _ old new _ printed.0.received
+report_is_read format limits old new before after (Err (Capture stopped)) printed = received_is_read _ old new _ printed.0.received
+report_is_read format limits old new before after (Err Write) printed = received_is_read _ old new _ printed.1.received
+
+pub run_is_read : {A : Type 0} (job : Job A) (before after : Channels) (status : ℕ) → IsRun job before after status → IsRead before.input after.input
+run_is_read (Judge role limits format) before after status run = verdict_is_read format role limits _ _ _ _ run.0 run.1
+run_is_read (Frames role limits format) before after status run = received_is_read _ _ _ _ run.1.received
+run_is_read (Normal role limits) before after status run = received_is_read _ _ _ _ run.1.received
+run_is_read (Plan role limits) before after status run = plan_is_read role limits _ _ _ _ run.0 run.1
+run_is_read (Recut role limits how) before after status run = received_is_read _ _ _ _ run.1.received
+run_is_read (Payload role limits at) before after status run = received_is_read _ _ _ _ run.1.received
+run_is_read (ShowStream role limits style) before after status run = received_is_read _ _ _ _ run.1.received
+run_is_read (Closing limits format) before after status run = report_is_read format limits _ _ _ _ run.0 run.1
+run_is_read (Show limits style) before after status run = received_is_read _ _ _ _ run.1.received
+
+-- No read of either failed.
+abbrev AreRead : ComparedChannels → ComparedChannels → Type 0
+AreRead before after = IsRead before.first after.first × IsRead before.second after.second
+
+pub comparison_is_read : (comparison : Comparison) (before after : ComparedChannels) (answer : Result Compared Stop)
+    → IsComparisonPrinted comparison before after answer → AreRead before after
+comparison_is_read comparison before after (Ok compared) printed = (received_is_read _ _ _ _ printed.0.received, received_is_read _ _ _ _ printed.0.other_received)
+comparison_is_read comparison before after (Err stop.Write) printed = (received_is_read _ _ _ _ printed.1.received, received_is_read _ _ _ _ printed.1.other_received)
+comparison_is_read comparison before after (Err stop.Read) printed = (received_is_read _ _ _ _ printed.0.received, received_is_read _ _ _ _ printed.0.other_received)
+comparison_is_read comparison before after (Err stop.Memory) printed = (received_is_read _ _ _ _ printed.0.received, received_is_read _ _ _ _ printed.0.other_received)
+comparison_is_read comparison before after (Err stop.InputLimit) printed = (received_is_read _ _ _ _ printed.0.received, received_is_read _ _ _ _ printed.0.other_received)
