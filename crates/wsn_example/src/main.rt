@@ -31,7 +31,7 @@ fn main(rt: HostRuntime) -> io::Result<ExitCode> {
             }
             Ok(_) => {}
             Err(stop) => {
-                match side.reader().stop() {
+                match side.reader().and_then(SideReader::stop) {
                     Some(why) => eprintln!(rt; "{why}")?,
                     None => eprintln!(rt; "{stop}")?,
                 }
