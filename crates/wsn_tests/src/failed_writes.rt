@@ -135,6 +135,6 @@ fn normalise_reads_no_more_after_a_failed_write(rt: HostRuntime) {
     );
     let is_failed = matches!(answer, Err(Stop::Write));
     expect_of(&rt, is_failed, &"a failed write");
-    let came = stream.bytes.len() - left.len();
+    let came = stream.bytes.len().saturating_sub(left.len());
     expect_of(&rt, came == 4_096, &("bytes that came", came));
 }
