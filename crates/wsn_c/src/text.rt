@@ -74,6 +74,7 @@ impl<A: Allocator> Write for Text<A> {
 
     fn flush(&mut self) -> io::Result<()>
         ensures bytes { Keeps (Some self.old) (Some self.new) }
+        ensures done { IsOk result }
     {
         Ok(())
     }

@@ -1,14 +1,15 @@
 -- The events given so far are a prefix of the meaning of the bytes that came.
-use Rattle.std.proofs.Common.{◌≡◌, ◌≢◌, ℕ, ◌<◌, false, List, [], ◌∷◌, ◌++◌, length, take, drop, refl, sym, ap, ◌∙◌, subst, arith, append_assoc, take-append-drop}
+use Rattle.std.proofs.Common.{◌≡◌, ◌≢◌, ℕ, ◌<◌, Bool, true, false, cond, List, [], ◌∷◌, ◌++◌, length, take, drop, refl, sym, ap, ◌∙◌, subst, arith, append_assoc, length-append, take-append-drop}
 use Rattle.wsn_wire.specs.declared.endpoint.Role.{Role}
 use Rattle.wsn_wire.specs.Frame.{Frame, IsBytes, is_control, stream}
 use Rattle.wsn_wire.proofs.FrameLemmas.{IsBytes-left}
 use Rattle.wsn_rules.specs.declared.head_info.HeadInfo.{HeadInfo}
 use Rattle.wsn_rules.specs.Limits.{Limits}
-use Rattle.wsn_rules.specs.Meaning.{MeantEvent, events_after, meaning}
+use Rattle.wsn_rules.specs.Meaning.{MeantEvent, event_at, events_after, meaning}
 use Rattle.wsn_rules.proofs.EveryInput.{has_verdict}
-use Rattle.wsn_rules.proofs.Groups.{meaning-append}
+use Rattle.wsn_rules.proofs.Groups.{meaning-append, meaning_push}
 use Rattle.wsn_rules.proofs.OneVerdict.{all_of_verdict, all_go_on}
+use Rattle.wsn_rules.proofs.Prefixes.{same_front}
 use Rattle.wsn_scan.specs.Positions.{Position, InFrame, IsBegunBy, IsTakenOf}
 use Rattle.wsn_scan.proofs.ReaderReports.{payload_within}
 use Rattle.wsn_events.specs.declared.event_reader.EventReader.{EventReader}
@@ -56,3 +57,13 @@ module _ (role : Role) (limits : Limits) (came : List ℕ) (fs : List Frame) (at
 
 pub begun_sound : {A : Type 0} (role : Role) (limits : Limits) (reading : EventReader A) (came : List ℕ) (given : List MeantEvent) → HasGiven role limits reading came given → IsAtWork reading
 begun_sound role limits reading came given h = record { role = role; limits = limits; came = came; given = given; has = h }
+
+-- the events before the one that a source gives
+pub before_given : (events : List MeantEvent) (event : MeantEvent) (before : List Frame) (frame : Frame) → frame.fin ≡ true → events ++ event ∷ [] ≡ meaning (before ++ frame ∷ []) → events ≡ meaning before
+before_given events event before frame final is =
+    let both : events ++ event ∷ [] ≡ meaning before ++ event_at before frame ∷ [] =
+    is ∙ meaning_push before frame ∙ ap (λ (b : Bool). meaning before ++ cond b (event_at before frame ∷ []) []) final in
+    let sizes = ap (λ (es : List MeantEvent). length es) both in
+    let one = length-append events (event ∷ []) in
+    let other = length-append (meaning before) (event_at before frame ∷ []) in
+    (same_front events (meaning before) (event ∷ []) (event_at before frame ∷ []) (omega (arith, sizes, one, other)) both).0

@@ -1,6 +1,6 @@
 -- A message that a source lends: the frame that its reader has taken, after frames that leave no message open.
-use Rattle.std.specs.Prelude.{◌↔◌}
-use Rattle.std.proofs.Common.{◌≡◌, ◌≢◌, ℕ, Bool, true, false, cond, not, None, Some, Ok, Err, List, [], ◌∷◌, ◌++◌, length, drop, refl, sym, ap, ◌∙◌, subst, append-nil, arith}
+use Rattle.std.specs.Prelude.{◌↔◌, ◌+◌, ◌≤◌}
+use Rattle.std.proofs.Common.{◌≡◌, ◌≢◌, ℕ, Bool, true, false, cond, not, None, Some, Ok, Err, List, [], ◌∷◌, ◌++◌, length, drop, refl, sym, ap, ◌∙◌, subst, append-nil, length-append, arith}
 use Rattle.std.proofs.lemmas.Bool.{cond-false}
 use Rattle.wsn_wire.specs.declared.endpoint.Role.{Role}
 use Rattle.wsn_wire.specs.declared.opcode.Kind.{Kind}
@@ -27,6 +27,7 @@ use Rattle.wsn_scan.specs.declared.part.Part.{Part}
 use Rattle.wsn_scan.specs.FrameReaders.{HasTaken, held_payload}
 use Rattle.wsn_scan.specs.Positions.{Position, BetweenFrames, IsTakenOf}
 use Rattle.wsn_scan.specs.ReadParts.{TakesPart}
+use Rattle.wsn_scan.specs.Refill.{chunk_size}
 use Rattle.wsn_scan.proofs.ReaderReports.{reported_of}
 use Rattle.wsn_scan.proofs.FollowedScans.{begins_at}
 use Rattle.wsn_events.specs.declared.event.Event.{Event}
@@ -42,10 +43,15 @@ use Rattle.wsn_events.proofs.GivenSoFar.{all_came, given_first}
 use Rattle.wsn_events.proofs.ReassembledFrames.{message_ended, reassembled_alike}
 use Rattle.wsn_events.proofs.TakenParts.{ended_by, data_of_frame, before_frame}
 
+-- At most a chunk came after the frames.
+soon_after : (came : List ℕ) (fs : List Frame) (rest : List ℕ) → came ≡ stream fs ++ rest → length came ≤ length (stream fs) + chunk_size → length rest ≤ chunk_size
+soon_after came fs rest whole soon = let sizes = ap (λ (bs : List ℕ). length bs) whole in let parts = length-append (stream fs) rest in omega (arith, soon, sizes, parts)
+
 -- The source gives the event of this frame.
 pub given_event : {A : Type 0} (role : Role) (limits : Limits) (reading : EventReader A) (came : List ℕ) (given : List MeantEvent) (event : Event A) (fs : List Frame) (frame : Frame) → IsTakenOf role limits came (fs ++ frame ∷ []) BetweenFrames
-    → frame.fin ≡ true → meant event ≡ event_at fs frame → given ++ meant event ∷ [] ≡ meaning (fs ++ frame ∷ []) → IsBetweenFrames reading.reassembly (fs ++ frame ∷ []) → IsPlacedAt reading.reassembly fs frame → IsGiven role limits reading came given event
-given_event role limits reading came given event fs frame taken final ended means between placed =
+    → frame.fin ≡ true → meant event ≡ event_at fs frame → given ++ meant event ∷ [] ≡ meaning (fs ++ frame ∷ []) → IsBetweenFrames reading.reassembly (fs ++ frame ∷ []) → IsPlacedAt reading.reassembly fs frame
+    → length came ≤ length (stream (fs ++ frame ∷ [])) + chunk_size → IsGiven role limits reading came given event
+given_event role limits reading came given event fs frame taken final ended means between placed soon =
     let held : held_of reading ≡ length (payload_of (unfinished (fs ++ frame ∷ []))) = ap (λ (bs : List ℕ). length bs) between.message in
     record {
       lawful = subst IsLawfulEvent (sym ended) (lawful_event role limits fs frame taken.in_range taken.lawful final);
@@ -53,6 +59,7 @@ given_event role limits reading came given event fs frame taken final ended mean
       are_lawful = taken.lawful;
       rest = taken.rest ++ drop limits.input came;
       whole = all_came role limits came (fs ++ frame ∷ []) BetweenFrames taken;
+      soon = soon_after came (fs ++ frame ∷ []) (taken.rest ++ drop limits.input came) (all_came role limits came (fs ++ frame ∷ []) BetweenFrames taken) soon;
       ends = record { before = fs; frame = frame; last = refl; final = final; ended = ended };
       offset = placed.offset;
       count = placed.count;
@@ -76,7 +83,8 @@ none_open fs op continues other = by (unfinished fs) refl
 
 module _ {A : Type 0} (role : Role) (limits : Limits) (reading : EventReader A) (reader : FrameReader) (g : Reassembly A) (kind : Kind) (came : List ℕ) (given : List MeantEvent) (fs : List Frame) (frame : Frame)
     (events : given ≡ meaning fs) (going : reading.answer ≡ None) (has_taken : HasTaken role limits reader came (fs ++ frame ∷ []) BetweenFrames) (taken : IsTakenOf role limits came (fs ++ frame ∷ []) BetweenFrames)
-    (final : frame.fin ≡ true) (op_is : frame.op ≡ op_of kind) (within : IsInFrame g fs frame.op []) (payload_is : held_payload reader ≡ frame.payload) where
+    (final : frame.fin ≡ true) (op_is : frame.op ≡ op_of kind) (within : IsInFrame g fs frame.op []) (payload_is : held_payload reader ≡ frame.payload)
+    (soon : length came ≤ length (stream (fs ++ frame ∷ [])) + chunk_size) where
   abbrev new : EventReader A
   new = record { reader = reader; reassembly = g; answer = reading.answer }
 
@@ -135,6 +143,7 @@ module _ {A : Type 0} (role : Role) (limits : Limits) (reading : EventReader A) 
     are_lawful = taken.lawful;
     rest = taken.rest ++ drop limits.input came;
     whole = all_came role limits came (fs ++ frame ∷ []) BetweenFrames taken;
+    soon = soon_after came (fs ++ frame ∷ []) (taken.rest ++ drop limits.input came) (all_came role limits came (fs ++ frame ∷ []) BetweenFrames taken) soon;
     final = final;
     first = events;
     ended = event_is;
@@ -160,6 +169,7 @@ lends_part role limits reading reader part now came given has takes taken g kind
     (sym (ap (λ (h : HeadInfo). h.fin) e.head_is) ∙ whole.final) (sym op ∙ whole.op)
     (subst (λ (bs : List ℕ). IsInFrame g fs e.frame.op bs) none (subst (λ (o : Op). IsInFrame g fs o takes.is_part.before) op within))
     (sym (e.payload_is ∙ ap (λ (bs : List ℕ). bs ++ payload) none))
+    (subst (λ (gs : List Frame). length now ≤ length (stream gs) + chunk_size) e.frames_are (takes.soon whole.ends))
 
 -- ---- a message that is lent becomes an event of its own
 
@@ -210,7 +220,8 @@ module _ {A : Type 0} (role : Role) (limits : Limits) (new : Incoming) (reading 
           has,
           given_event role limits after came given event lends.before lends.frame all_taken lends.final (means ∙ lends.ended) (sym given_now ∙ lends.has.events ∙ ap meaning lends.last)
               (reassembled_alike reading.reassembly g same held all_frames BetweenFrames was_between)
-              (record { offset = ap offset_given same ∙ lends.offset; count = ap frames_given same ∙ lends.count }),
+              (record { offset = ap offset_given same ∙ lends.offset; count = ap frames_given same ∙ lends.count })
+              (let sizes = ap (λ (bs : List ℕ). length bs) lends.whole in let parts = length-append (stream all_frames) lends.rest in omega (arith, lends.soon, sizes, parts)),
           unfailed,
         )
 

@@ -1,17 +1,17 @@
 -- A stream's events, written one after the other: what was written at each answer.
-use Rattle.std.proofs.Common.{◌≡◌, ℕ, ◌+◌, Result, Ok, Err, false, List, [], ◌∷◌, ◌++◌, length, take, sym, ap, ◌∙◌, subst}
+use Rattle.std.proofs.Common.{◌≡◌, ℕ, ◌+◌, Result, Ok, Err, false, List, [], ◌∷◌, ◌++◌, take, sym, ap, ◌∙◌, subst, append_assoc, append-nil}
 use Rattle.std.proofs.KnownBytes.{Appends-nil, Appends-trans}
 use Rattle.wsn_io.proofs.Received.{received_none, received_on}
-use Rattle.std.proofs.Math.Seq.{take-append-add}
 use Rattle.std.specs.Io.KnownBytes.{Appends}
 use Rattle.wsn_wire.specs.declared.endpoint.Role.{Role}
-use Rattle.wsn_wire.specs.Frame.{frame_bytes}
+use Rattle.wsn_wire.specs.Frame.{Frame, frame_bytes, stream}
 use Rattle.wsn_io.specs.Transfer.{Incoming, Outgoing, IsReceived, IsWritten, IsPartlyWritten}
 use Rattle.wsn_rules.specs.declared.verdict.Verdict.{Verdict}
 use Rattle.wsn_io.specs.declared.stop.Stop.{Stop}
 use Rattle.wsn_io.specs.declared.stop.Stop.TheVariants as stop
+use Rattle.wsn_rules.specs.Lawful.{IsLawful}
 use Rattle.wsn_rules.specs.Limits.{Limits}
-use Rattle.wsn_rules.specs.Meaning.{MeantEvent}
+use Rattle.wsn_rules.specs.Meaning.{MeantEvent, meaning}
 use Rattle.wsn_io.proofs.PutTexts.{front_of_more}
 use Rattle.wsn_events.specs.declared.event.Event.{Event}
 use Rattle.wsn_events.specs.declared.event_reader.EventReader.{EventReader}
@@ -22,8 +22,9 @@ use Rattle.wsn_events.specs.EventsMeant.{meant}
 use Rattle.wsn_rules.specs.NormalForm.{normal_frame, normal_form}
 use Rattle.wsn_scan.proofs.EventRuns.{normal_form-append, normal_form_push}
 use Rattle.wsn_events.specs.Normalised.{IsNormalised, IsNormalFormWritten}
-use Rattle.wsn_events.specs.EventReaders.{HasGiven, GoesOn}
-use Rattle.wsn_events.specs.Sources.{AreFirstOf, IsLast}
+use Rattle.wsn_events.specs.EventReaders.{HasGiven, GoesOn, IsGiven}
+use Rattle.wsn_events.specs.Sources.{AreFirstOf, IsLast, IsMeaningOf}
+use Rattle.wsn_events.proofs.GivenSoFar.{before_given}
 
 -- The source has read all that came, and the normal form of the events that it gave was written.
 pub record HasWritten {A : Type 0} (role : Role) (limits : Limits) (old new : Incoming) (before after : Outgoing) (source : EventReader A) : Type 0 where
@@ -55,7 +56,7 @@ module _ {A : Type 0} (role : Role) (limits : Limits) (old : Incoming) (before :
 
   -- the source's next answer
   module _ (mid new : Incoming) (after : Outgoing) (source next : EventReader A) (written : HasWritten role limits old mid before after source) where
-    received : (result : Result (Next A) Stop) (on : GoesOn role limits mid new next written.came written.given result) → IsReceived (limits.input + 1) old new (written.came ++ on.more)
+    pub received : (result : Result (Next A) Stop) (on : GoesOn role limits mid new next written.came written.given result) → IsReceived (limits.input + 1) old new (written.came ++ on.more)
     received result on = received_on (limits.input + 1) old mid new written.came on.more written.received on.consumed on.few
 
     -- the verdict
@@ -85,13 +86,13 @@ module _ {A : Type 0} (role : Role) (limits : Limits) (old : Incoming) (before :
 
     -- an event, which is written
     module _ (answer : Next A) (event : Event A) (is : answer ≡ nexts.Event event) (goes : GoesOn role limits mid new next written.came written.given (Ok answer)) where
-      on : GoesOn role limits mid new next written.came written.given (Ok (nexts.Event event))
+      abbrev on : GoesOn role limits mid new next written.came written.given (Ok (nexts.Event event))
       on = subst (λ (n : Next A). GoesOn role limits mid new next written.came written.given (Ok n)) is goes
 
       pub is_lawful_event : IsLawfulEvent (meant event)
       is_lawful_event = on.next.1.lawful
 
-      pub goes_on : (last : Outgoing) → IsWritten after last (frame_bytes (normal_frame role (meant event))) → HasWritten role limits old new before last next
+      unfoldable pub goes_on : (last : Outgoing) → IsWritten after last (frame_bytes (normal_frame role (meant event))) → HasWritten role limits old new before last next
       goes_on last (writable, out) = record {
         came = written.came ++ on.more;
         given = written.given ++ meant event ∷ [];
@@ -103,36 +104,56 @@ module _ {A : Type 0} (role : Role) (limits : Limits) (old : Incoming) (before :
         writable = writable;
       }
 
-      -- or the write failed
-      pub write_failed : (last : Outgoing) → IsPartlyWritten after last (frame_bytes (normal_frame role (meant event)))
-          → IsNormalised role limits old new before last (Err stop.Write)
-      write_failed last (failed, (k, out)) = record {
+      -- or a write failed in the normal form of the event and of those after it
+      pub is_failed : (last : Outgoing) (events : List MeantEvent) → AreFirstOf role limits (take limits.input (written.came ++ on.more)) ((written.given ++ meant event ∷ []) ++ events)
+          → IsPartlyWritten after last (normal_form role (meant event ∷ events)) → IsNormalised role limits old new before last (Err stop.Write)
+      is_failed last events first (failed, (k, out)) = record {
         came = written.came ++ on.more;
         received = received (Ok (nexts.Event event)) on;
-        written = (on.next.2, (first.0, (written.given ++ meant event ∷ []) ++ first.1, first.2, (failed, (front.0, subst (λ (bs : List ℕ). Appends before.written last.written bs) same went))));
+        written = (
+          on.next.2,
+          record {
+            frames = gives.ends.before;
+            frame = gives.ends.frame;
+            lawful = subst (λ (fs : List Frame). IsLawful role limits fs) gives.ends.last gives.are_lawful;
+            final = gives.ends.final;
+            rest = gives.rest;
+            whole = gives.whole ∙ ap (λ (fs : List Frame). stream fs ++ gives.rest) gives.ends.last;
+            soon = gives.soon;
+            between = after;
+            written = (written.writable, subst (λ (es : List MeantEvent). Appends before.written after.written (normal_form role es)) given_is written.out);
+            verdict = first.0;
+            later = (meant event ∷ events) ++ first.1;
+            means = subst (λ (es : List MeantEvent). IsMeaningOf role limits (take limits.input (written.came ++ on.more)) first.0 es) all_are first.2;
+            partly = (
+              failed,
+              (
+                front.0,
+                subst (λ (bs : List ℕ). Appends after.written last.written bs)
+                    (sym front.1 ∙ ap (λ (bs : List ℕ). take front.0 bs) (sym (normal_form-append role (meant event ∷ events) first.1))) out,
+              ),
+            );
+          },
+        );
       }
         where
-          first : AreFirstOf role limits (take limits.input (written.came ++ on.more)) (written.given ++ meant event ∷ [])
-          first = on.next.1.first
+          gives : IsGiven role limits next (written.came ++ on.more) written.given event
+          gives = on.next.1
 
-          frame : List ℕ
-          frame = frame_bytes (normal_frame role (meant event))
+          given_is : written.given ≡ meaning gives.ends.before
+          given_is = before_given written.given (meant event) gives.ends.before gives.ends.frame gives.ends.final (gives.last ∙ ap meaning gives.ends.last)
 
-          form : List ℕ
-          form = normal_form role written.given
+          all_are : ((written.given ++ meant event ∷ []) ++ events) ++ first.1 ≡ meaning gives.ends.before ++ ((meant event ∷ events) ++ first.1)
+          all_are =
+              ap (λ (es : List MeantEvent). es ++ first.1) (append_assoc written.given (meant event ∷ []) events) ∙ append_assoc written.given (meant event ∷ events) first.1
+              ∙ ap (λ (es : List MeantEvent). es ++ ((meant event ∷ events) ++ first.1)) given_is
 
-          with_event : List ℕ
-          with_event = normal_form role (written.given ++ meant event ∷ [])
+          front : (j : ℕ) × (take j (normal_form role (meant event ∷ events) ++ normal_form role first.1) ≡ take k (normal_form role (meant event ∷ events)))
+          front = front_of_more k (normal_form role (meant event ∷ events)) (normal_form role first.1)
 
-          went : Appends before.written last.written (form ++ take k frame)
-          went = Appends-trans before.written after.written last.written form (take k frame) written.out out
-
-          front : (j : ℕ) × (take j (with_event ++ normal_form role first.1) ≡ take (length form + k) with_event)
-          front = front_of_more (length form + k) with_event (normal_form role first.1)
-
-          same : form ++ take k frame ≡ take front.0 (normal_form role ((written.given ++ meant event ∷ []) ++ first.1))
-          same =
-              sym (take-append-add form frame k)
-              ∙ ap (λ (bs : List ℕ). take (length form + k) bs) (sym (normal_form_push role written.given (meant event)))
-              ∙ sym front.1
-              ∙ ap (λ (bs : List ℕ). take front.0 bs) (sym (normal_form-append role (written.given ++ meant event ∷ []) first.1))
+      -- in that of the event alone
+      pub write_failed : (last : Outgoing) → IsPartlyWritten after last (frame_bytes (normal_frame role (meant event)))
+          → IsNormalised role limits old new before last (Err stop.Write)
+      write_failed last part =
+          is_failed last [] (subst (λ (es : List MeantEvent). AreFirstOf role limits (take limits.input (written.came ++ on.more)) es) (sym (append-nil (written.given ++ meant event ∷ []))) on.next.1.first)
+          (subst (λ (bs : List ℕ). IsPartlyWritten after last bs) (sym (append-nil (frame_bytes (normal_frame role (meant event))))) part)

@@ -23,6 +23,7 @@ use Rattle.wsn_scan.specs.Positions.{Position, BetweenFrames, InFrame, IsTakenOf
 use Rattle.wsn_scan.specs.FrameReaders.{HasTaken, IsReading, held_payload}
 use Rattle.wsn_scan.specs.Parts.{IsPartAt}
 use Rattle.wsn_scan.specs.ReadParts.{ReadsOn, TakesPart, IsHaltedAt, IsNextPart}
+use Rattle.wsn_scan.specs.Refill.{chunk_size}
 use Rattle.wsn_scan.proofs.FrameEnds.{unfinished_few}
 use Rattle.wsn_scan.proofs.ReaderReports.{reported_of}
 use Rattle.wsn_events.specs.declared.event.Event.{Event}
@@ -197,11 +198,12 @@ module _ {A : Type 0} (role : Role) (limits : Limits) (old : Incoming) (came : L
               gives e some =
                   let of : (frame.fin ≡ true) × (meant e ≡ event_at fs frame) = subst (λ (o : Option (Event A)). IsEventOf fs frame o) some ends_it.0 in
                   let has_taken = subst (λ (at : Position). HasTaken role limits reader now (fs ++ frame ∷ []) at) ended.position_is (subst (λ (gs : List Frame). HasTaken role limits reader now gs takes.position) ended.frames_are takes.has_taken) in
+                  let soon = subst (λ (gs : List Frame). length now ≤ length (stream gs) + chunk_size) ended.frames_are (takes.soon ends) in
                   let means : given ++ meant e ∷ [] ≡ meaning (fs ++ frame ∷ []) =
                   ap (λ (es : List MeantEvent). es ++ meant e ∷ []) read.has.events ∙ ap (λ (m : MeantEvent). meaning fs ++ m ∷ []) of.1
                   ∙ ap (λ (b : Bool). meaning fs ++ cond b (event_at fs frame ∷ []) []) (sym of.0) ∙ sym (meaning_push fs frame) in
                   let has : HasGiven role limits (moved g) now (given ++ meant e ∷ []) = record { frames = fs ++ frame ∷ []; position = BetweenFrames; has_taken = has_taken; reassembly = ends_it.1; events = means; going = read.has.going } in
-                  answers (moved g) (Ok (Own (nexts.Event e))) (has, given_event role limits (moved g) now given e fs frame ended.taken of.0 of.1 means ends_it.1 ends_it.2, unfailed)
+                  answers (moved g) (Ok (Own (nexts.Event e))) (has, given_event role limits (moved g) now given e fs frame ended.taken of.0 of.1 means ends_it.1 ends_it.2 soon, unfailed)
 
 -- after an event the source has not ended
 pub begun_after : {A : Type 0} (role : Role) (limits : Limits) (old new : Incoming) (reading : EventReader A) (came : List ℕ) (given : List MeantEvent) (result : Result (Turn A) Stop)

@@ -24,6 +24,7 @@ use Rattle.wsn_events.specs.EventsMeant.{meant}
 use Rattle.wsn_events.specs.EventReaders.{IsGiven, answered, offset_of, frames_of}
 use Rattle.wsn_events.specs.Excerpts.{IsExcerptOf, IsExcerptAt}
 use Rattle.wsn_events.specs.Sources.{IsLast}
+use Rattle.wsn_events.proofs.GivenSoFar.{before_given}
 use Rattle.wsn_events.proofs.LeftOut.{passed_over}
 
 -- Among the events that aren't left out this one has the index k. It is not left out; its first frame is at this offset,
@@ -64,16 +65,6 @@ module _ (without : Without) (role : Role) (limits : Limits) where
     offset_is = s.offset_is;
     count_is = s.count_is;
   }
-
-  -- the events before the one that a source gives
-  before_given : (events : List MeantEvent) (event : MeantEvent) (before : List Frame) (frame : Frame) → frame.fin ≡ true → events ++ event ∷ [] ≡ meaning (before ++ frame ∷ []) → events ≡ meaning before
-  before_given events event before frame final is =
-      let both : events ++ event ∷ [] ≡ meaning before ++ event_at before frame ∷ [] =
-      is ∙ meaning_push before frame ∙ ap (λ (b : Bool). meaning before ++ cond b (event_at before frame ∷ []) []) final in
-      let sizes = ap (λ (es : List MeantEvent). length es) both in
-      let one = length-append events (event ∷ []) in
-      let other = length-append (meaning before) (event_at before frame ∷ []) in
-      (same_front events (meaning before) (event ∷ []) (event_at before frame ∷ []) (omega (arith, sizes, one, other)) both).0
 
   -- the event that a source gives, after those that were passed over
   pub given_stands : {A : Type 0} (reading : EventReader A) (came : List ℕ) (given passed : List MeantEvent) (event : code.Event A) → IsGiven role limits reading came (given ++ passed) event

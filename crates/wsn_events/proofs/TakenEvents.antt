@@ -4,27 +4,30 @@ use Rattle.std.proofs.KnownBytes.{Appends-nil, Appends-trans}
 use Rattle.std.proofs.Math.Seq.{take-append-add}
 use Rattle.std.specs.Io.KnownBytes.{Appends}
 use Rattle.wsn_wire.specs.declared.endpoint.Role.{Role}
-use Rattle.wsn_io.specs.Transfer.{Incoming, Outgoing}
+use Rattle.wsn_wire.specs.Frame.{frame_bytes}
+use Rattle.wsn_io.specs.Transfer.{Incoming, Outgoing, IsWritten}
 use Rattle.wsn_io.specs.declared.stop.Stop.{Stop}
 use Rattle.wsn_io.specs.declared.stop.Stop.TheVariants as stop
-use Rattle.wsn_io.proofs.PutTexts.{front_of_more}
 use Rattle.wsn_rules.specs.Limits.{Limits}
 use Rattle.wsn_rules.specs.Group.{payload_of}
 use Rattle.wsn_rules.specs.Meaning.{MeantEvent}
-use Rattle.wsn_rules.specs.NormalForm.{normal_form}
+use Rattle.wsn_rules.specs.NormalForm.{normal_form, normal_frame}
 use Rattle.wsn_scan.specs.declared.frame_reader.FrameReader.{FrameReader}
 use Rattle.wsn_scan.specs.Positions.{BetweenFrames}
 use Rattle.wsn_scan.specs.FrameReaders.{TakesRun}
 use Rattle.wsn_scan.proofs.EventRuns.{normal_form-append}
 use Rattle.wsn_scan.proofs.ReaderReports.{reported_of}
+use Rattle.wsn_events.specs.declared.event.Event.{Event}
 use Rattle.wsn_events.specs.declared.event_reader.EventReader.{EventReader}
-use Rattle.wsn_events.specs.EventReaders.{HasGiven, IsAtWork}
+use Rattle.wsn_events.specs.declared.source.Next.{Next}
+use Rattle.wsn_events.specs.declared.source.Next.TheVariants as nexts
+use Rattle.wsn_events.specs.EventsMeant.{meant}
+use Rattle.wsn_events.specs.EventReaders.{HasGiven, GoesOn, IsAtWork}
 use Rattle.wsn_events.specs.Normalised.{IsNormalised}
 use Rattle.wsn_events.specs.Reassembly.{IsReassembled, IsBetweenFrames}
-use Rattle.wsn_events.specs.Sources.{AreFirstOf}
 use Rattle.wsn_events.specs.TakenEvents.{TakesEventsAfter, PutsTaken}
 use Rattle.wsn_events.proofs.GivenSoFar.{begun_sound, given_first}
-use Rattle.wsn_events.proofs.Normalising.{HasWritten}
+use Rattle.wsn_events.proofs.Normalising.{HasWritten, goes_on, is_failed}
 
 -- the source with its reader after the call
 abbrev pub read_on : {A : Type 0} → EventReader A → FrameReader → EventReader A
@@ -82,35 +85,29 @@ module _ {A : Type 0} (role : Role) (limits : Limits) (old mid : Incoming) (befo
     writable = puts.written.0;
   }
 
-  -- or the write failed
-  pub taken_failed : (last : Outgoing) (stopped : Stop) → PutsTaken role limits next written.came written.given after last (Err stopped) → IsNormalised role limits old mid before last (Err stop.Write)
-  taken_failed last stopped puts = record {
-    came = written.came;
-    received = written.received;
-    written = (written.readable, (first.0, events ++ first.1, first.2, (puts.written.1.0, (front.0, subst (λ (bs : List ℕ). Appends before.written last.written bs) same went))));
-  }
-    where
-      events : List MeantEvent
-      events = written.given ++ puts.events
+-- A write failed in the normal form of the events taken, after that of the event before them.
+pub taken_failed : {A : Type 0} (role : Role) (limits : Limits) (old : Incoming) (before : Outgoing) (mid new : Incoming) (after : Outgoing) (source next : EventReader A) (written : HasWritten role limits old mid before after source)
+    (answer : Next A) (event : Event A) (is : answer ≡ nexts.Event event) (goes : GoesOn role limits mid new next written.came written.given (Ok answer)) (put : Outgoing)
+    (wrote : IsWritten after put (frame_bytes (normal_frame role (meant event)))) (last : Outgoing) (taken : EventReader A) (stopped : Stop)
+    → PutsTaken role limits taken (goes_on role limits old before mid new after source next written answer event is goes put wrote).came (goes_on role limits old before mid new after source next written answer event is goes put wrote).given put last (Err stopped)
+    → IsNormalised role limits old new before last (Err stop.Write)
+unfolding goes_on
+taken_failed role limits old before mid new after source next written answer event is goes put wrote last taken stopped puts =
+    is_failed role limits old before mid new after source next written answer event is goes last puts.events
+    (given_first role limits now.came puts.has.frames puts.has.position (reported_of role limits taken.reader now.came puts.has.frames puts.has.position puts.has.has_taken) (now.given ++ puts.events) puts.has.events) (
+      puts.written.1.0,
+      (
+        length frame + k,
+        subst (λ (bs : List ℕ). Appends after.written last.written bs) (sym (take-append-add frame (normal_form role puts.events) k))
+            (Appends-trans after.written put.written last.written frame (take k (normal_form role puts.events)) wrote.1 puts.written.1.1.1),
+      ),
+    )
+  where
+    now : HasWritten role limits old new before put next
+    now = goes_on role limits old before mid new after source next written answer event is goes put wrote
 
-      first : AreFirstOf role limits (take limits.input written.came) events
-      first = given_first role limits written.came puts.has.frames puts.has.position (reported_of role limits next.reader written.came puts.has.frames puts.has.position puts.has.has_taken) events puts.has.events
+    frame : List ℕ
+    frame = frame_bytes (normal_frame role (meant event))
 
-      form : List ℕ
-      form = normal_form role written.given
-
-      k : ℕ
-      k = puts.written.1.1.0
-
-      went : Appends before.written last.written (form ++ take k (normal_form role puts.events))
-      went = Appends-trans before.written after.written last.written form (take k (normal_form role puts.events)) written.out puts.written.1.1.1
-
-      front : (j : ℕ) × (take j (normal_form role events ++ normal_form role first.1) ≡ take (length form + k) (normal_form role events))
-      front = front_of_more (length form + k) (normal_form role events) (normal_form role first.1)
-
-      same : form ++ take k (normal_form role puts.events) ≡ take front.0 (normal_form role (events ++ first.1))
-      same =
-          sym (take-append-add form (normal_form role puts.events) k)
-          ∙ ap (λ (bs : List ℕ). take (length form + k) bs) (sym (normal_form-append role written.given puts.events))
-          ∙ sym front.1
-          ∙ ap (λ (bs : List ℕ). take front.0 bs) (sym (normal_form-append role events first.1))
+    k : ℕ
+    k = puts.written.1.1.0

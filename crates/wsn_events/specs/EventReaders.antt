@@ -13,6 +13,7 @@ use Rattle.wsn_rules.specs.ShownStream.{event_offset, event_frames}
 use Rattle.wsn_io.specs.declared.stop.Stop.{Stop}
 use Rattle.wsn_scan.specs.Positions.{Position}
 use Rattle.wsn_scan.specs.FrameReaders.{HasTaken, parts_left}
+use Rattle.wsn_scan.specs.Refill.{chunk_size}
 use Rattle.wsn_events.specs.declared.event.Event.{Event}
 use Rattle.wsn_events.specs.declared.event_reader.EventReader.{EventReader}
 use Rattle.wsn_events.specs.declared.source.Next.{Next}
@@ -88,9 +89,9 @@ pub record EndsEvent (frames : List Frame) (event : MeantEvent) : Type 0 where
   pub final : frame.fin ≡ true
   pub ended : event ≡ event_at before frame
 
--- The event is lawful, is the next of the meaning after those given, and comes at the frame that ends it. The source has
--- its offset and the number of its frames. Of a message that is open after that frame the source holds all that came,
--- which is within the limit.
+-- The event is lawful, is the next of the meaning after those given, and comes at the frame that ends it, after which at
+-- most `chunk_size` bytes came. The source has its offset and the number of its frames. Of a message that is open after
+-- that frame the source holds all that came, which is within the limit.
 pub record IsGiven {A : Type 0} (role : Role) (limits : Limits) (reading : EventReader A) (came : List ℕ)
     (given : List MeantEvent) (event : Event A) : Type 0 where
   pub lawful : IsLawfulEvent (meant event)
@@ -98,6 +99,7 @@ pub record IsGiven {A : Type 0} (role : Role) (limits : Limits) (reading : Event
   pub are_lawful : IsLawful role limits frames
   pub rest : List ℕ
   pub whole : came ≡ stream frames ++ rest
+  pub soon : length rest ≤ chunk_size
   pub ends : EndsEvent frames (meant event)
   pub offset : offset_of reading ≡ event_offset ends.before ends.frame
   pub count : frames_of reading ≡ event_frames ends.before ends.frame

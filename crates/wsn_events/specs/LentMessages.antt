@@ -1,5 +1,5 @@
 -- A message that an event source lends: one whole frame, whose payload the source's reader holds.
-use Rattle.std.specs.Prelude.{◌≡◌, ℕ, true, List, [], ◌∷◌, ◌++◌}
+use Rattle.std.specs.Prelude.{◌≡◌, ℕ, ◌≤◌, true, List, [], ◌∷◌, ◌++◌, length}
 use Rattle.wsn_wire.specs.declared.endpoint.Role.{Role}
 use Rattle.wsn_wire.specs.declared.opcode.Kind.{Kind}
 use Rattle.wsn_wire.specs.Frame.{Frame, stream}
@@ -11,6 +11,7 @@ use Rattle.wsn_rules.specs.NormalForm.{op_of}
 use Rattle.wsn_rules.specs.ShownStream.{event_offset, event_frames}
 use Rattle.wsn_scan.specs.declared.part.Part.{Part}
 use Rattle.wsn_scan.specs.Positions.{BetweenFrames}
+use Rattle.wsn_scan.specs.Refill.{chunk_size}
 use Rattle.wsn_events.specs.declared.event_reader.EventReader.{EventReader}
 use Rattle.wsn_events.specs.EventReaders.{HasGiven, offset_of, frames_of}
 use Rattle.wsn_events.specs.TakenEvents.{held_bytes}
@@ -27,8 +28,8 @@ abbrev pub lent_message : {A : Type 0} → EventReader A → Kind → MeantEvent
 lent_message reading kind = Message kind (held_bytes reading)
 
 -- After the events given the source has given one more, which it lends: a message of this kind. It is lawful, and is the
--- next event of the bytes that came, at the frame that ends it, which is the last that the source has taken. The source
--- has its offset and the number of its frames.
+-- next event of the bytes that came, at the frame that ends it, which is the last that the source has taken; at most
+-- `chunk_size` bytes came after it. The source has its offset and the number of its frames.
 pub record LendsMessage {A : Type 0} (role : Role) (limits : Limits) (reading : EventReader A) (came : List ℕ)
     (given : List MeantEvent) (kind : Kind) : Type 0 where
   pub has : HasGiven role limits reading came (given ++ lent_message reading kind ∷ [])
@@ -38,6 +39,7 @@ pub record LendsMessage {A : Type 0} (role : Role) (limits : Limits) (reading : 
   pub are_lawful : IsLawful role limits (before ++ frame ∷ [])
   pub rest : List ℕ
   pub whole : came ≡ stream (before ++ frame ∷ []) ++ rest
+  pub soon : length rest ≤ chunk_size
   pub final : frame.fin ≡ true
   pub first : given ≡ meaning before
   pub ended : lent_message reading kind ≡ event_at before frame

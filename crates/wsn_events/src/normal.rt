@@ -17,7 +17,7 @@ use wsn_wire::{Input, Output, Role};
 ///
 /// Errors: `Read` if the reader fails, and `InputLimit` if a byte past the input limit comes. With either, the events
 /// that end in the bytes within the limit are written. `Memory` if an allocation for a message fails: some first events
-/// are written. `Write` if the writer fails: a prefix of the normal form is written.
+/// are written. `Write` if the writer fails: a prefix of the normal form is written, and nothing is read after it.
 #[tactic(none)]
 pub fn normalise<A: Allocator + Copy, R: Read, W: Write>(
     alloc: A,

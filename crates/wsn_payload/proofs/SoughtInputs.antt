@@ -30,9 +30,9 @@ use Rattle.wsn_payload.specs.declared.answer.Payload.TheVariants.{Whole, Unfinis
 use Rattle.wsn_payload.specs.declared.event_at.EventAt.{EventAt}
 use Rattle.wsn_payload.specs.EventsAt.{IsWholeAt, IsRestAt, judged_bytes, AreApart, IsUnfinishedAt, EndsBefore, IsInsideAt}
 use Rattle.wsn_payload.specs.Following.{HasBegunAt, Keeps, HasSought, IsRefusedHere, IsAnsweredAt, SeeksThrough}
-use Rattle.wsn_payload.specs.Payloads.{IsPartAt, IsPayloadInFront, IsPayloadAnswer, IsPayloadTaken, IsPayloadOfAll}
+use Rattle.wsn_payload.specs.Payloads.{IsPartAt, IsPayloadInFront, IsPayloadAnswer, IsPayloadTaken, IsPayloadOfAll, IsWrittenBut}
 use Rattle.wsn_scan.proofs.FollowedScans.{room_within, unrefused_so_far, judged_so_far}
-use Rattle.wsn_payload.proofs.SoughtSteps.{apart}
+use Rattle.wsn_payload.proofs.SoughtSteps.{apart, part_of}
 
 -- ---- more bytes
 
@@ -97,15 +97,6 @@ module _ (role : Role) (limits : Limits) (at : ℕ) where
     unfailed = unfailed;
   }
 
-  -- ---- what has come
-
-  part_of : (scan : Scan) (kept : EventAt) (came : List ℕ) (first now : Outgoing) (h : HasSought role limits at scan kept came first now) (v : Verdict) → IsVerdict role limits came h.frames v → IsPartAt role limits came v at h.payload
-  part_of scan kept came first now h v is = by kept.begun h.keeps.begun
-    where
-      by : (b : Bool) → HasBegunAt b h.frames h.position at h.payload → IsPartAt role limits came v at h.payload
-      by true has = inl (record { frames = h.frames; position = h.position; are_apart = apart role limits scan came h.frames h.position h.rest h.followed v is; is_begun = has })
-      by false has = inr (record { frames = h.frames; position = h.position; are_apart = apart role limits scan came h.frames h.position h.rest h.followed v is; end = has.0 }, has.1)
-
   module _ (old mid : Incoming) (first now : Outgoing) (scan : Scan) (kept : EventAt) (came : List ℕ) (read : HasSoughtInput old mid first now scan kept came) where
     abbrev h : HasSought role limits at scan kept came first now
     h = read.sought
@@ -117,13 +108,14 @@ module _ (role : Role) (limits : Limits) (at : ℕ) where
     none_refused = unrefused_so_far role limits scan came h.frames h.position h.rest h.followed
 
     some_part : (verdict : Verdict) × IsPartAt role limits came verdict at h.payload
-    some_part = let v = judged_so_far role limits scan came h.frames h.position h.rest h.followed in (v.0, part_of scan kept came first now h v.0 v.1)
+    some_part = let v = judged_so_far role limits scan came h.frames h.position h.rest h.followed in (v.0, part_of role limits at scan kept came first now h v.0 v.1)
 
     -- a read failed
     pub stopped : (new : Incoming) → IsKept mid new → new.failed ≡ true → IsPayloadTaken role limits at old new first now (Err stop.Read)
     stopped new keeps failed = record {
       came = came;
       received = received_of (limits.input + 1) old new came (consumed_kept old mid new came read.consumed keeps) (omega (arith, fits));
+      at_once = λ is. cc;
       answer = (h.payload, (some_part.0, subst (λ (bs : List ℕ). IsPartAt role limits bs some_part.0 at h.payload) (sym (take_all limits.input came fits)) some_part.1), h.written, (failed, fits, none_refused));
     }
 
@@ -139,6 +131,7 @@ module _ (role : Role) (limits : Limits) (at : ℕ) where
         came = came;
         received = received_of (limits.input + 1) old new came (consumed_end old mid new came read.consumed nothing) (omega (arith, fits));
         answer = by kept.begun refl h.keeps.begun;
+        at_once = λ is. cc;
       }
         where
           by : (b : Bool) → kept.begun ≡ b → HasBegunAt b h.frames h.position at h.payload → IsPayloadAnswer role limits at new came first now (Ok answer)
@@ -204,10 +197,11 @@ module _ (role : Role) (limits : Limits) (at : ℕ) where
             received = received_all;
             answer = (
               sought.payload,
-              (v.0, subst (λ (bs : List ℕ). IsPartAt role limits bs v.0 at sought.payload) (sym within_is) (part_of next next_kept (came ++ piece) first after sought v.0 v.1)),
+              (v.0, subst (λ (bs : List ℕ). IsPartAt role limits bs v.0 at sought.payload) (sym within_is) (part_of role limits at next next_kept (came ++ piece) first after sought v.0 v.1)),
               sought.written,
               (omega (arith, length_all, room, got.past past, one_past chunk past), subst (λ (bs : List ℕ). IsUnrefused role limits bs) (sym within_is) none, unfailed_now),
             );
+            at_once = λ is. cc;
           }
 
       pub write_failed : (stopped : Stop) → SeeksThrough role limits at next next_kept came piece first after (Err stopped) → IsPayloadTaken role limits at old new first after (Err stopped)
@@ -222,7 +216,27 @@ module _ (role : Role) (limits : Limits) (at : ℕ) where
               given.1.2,
               unfailed_now,
             );
+            at_once = λ is. at_once;
           })
+        where
+          but : IsWrittenBut (length piece) role limits at (came ++ piece) first after
+          but = given.2
+
+          beyond : List ℕ
+          beyond = drop chunk.len (take (count_of chunk) buffer)
+
+          at_once : IsWrittenBut chunk_size role limits at all_came first after
+          at_once = record {
+            done = but.done;
+            last = but.last ++ beyond;
+            whole = after_piece ∙ ap (λ (bs : List ℕ). bs ++ beyond) but.whole ∙ append_assoc but.done but.last beyond;
+            short =
+                let most = but.short in
+                let sizes = length-append but.last beyond in
+                let chunk_is = ap (λ (bs : List ℕ). length bs) whole_chunk ∙ length-append piece beyond in
+                omega (arith, most, sizes, chunk_is, length-take-le (count_of chunk) buffer got.in_buffer, got.in_buffer, size);
+            written = but.written;
+          }
 
       -- the verdict is a refusal in the piece
       refused_reached : (n : ℕ) (v : Verdict) → length (came ++ take n piece) ≤ limits.input → IsRefusedHere role limits (came ++ take n piece) v → IsReached role limits new all_came v
@@ -241,7 +255,7 @@ module _ (role : Role) (limits : Limits) (at : ℕ) where
           )
 
       pub answered : (answer : Payload) → SeeksThrough role limits at next next_kept came piece first after (Ok (Some answer)) → IsPayloadTaken role limits at old new first after (Ok answer)
-      answered answer given = record { came = all_came; received = received_all; answer = by answer given.2.1 }
+      answered answer given = record { came = all_came; received = received_all; answer = by answer given.2.1; at_once = λ is. cc }
         where
           n : ℕ
           n = given.0

@@ -30,7 +30,18 @@ module _ (role : Role) (limits : Limits) (at : ℕ) (scan : Scan) (kept : EventA
   )
 
   pub fails : (stopped : Stop) → SeeksOn role limits at scan kept (came ++ take i piece) share first now (Err stopped) → SeeksThrough role limits at scan kept came piece first now (Err stopped)
-  fails stopped given = (given.0, (given.1.0, subst (λ (bs : List ℕ). IsPayloadInFront role limits bs at given.1.0) whole given.1.1, given.1.2))
+  fails stopped given =
+      let but = given.2 in (
+        given.0,
+        (given.1.0, subst (λ (bs : List ℕ). IsPayloadInFront role limits bs at given.1.0) whole given.1.1, given.1.2),
+        record {
+          done = but.done;
+          last = but.last;
+          whole = sym whole ∙ but.whole;
+          short = let most = but.short in let size = ap (λ (bs : List ℕ). length bs) is in omega (arith, most, size, length-drop i piece, within);
+          written = but.written;
+        },
+      )
 
 -- nothing has come of a piece
 pub none_of : (role : Role) (limits : Limits) (at : ℕ) (scan : Scan) (kept : EventAt) (came piece : List ℕ) (first now : Outgoing) → HasSought role limits at scan kept came first now → HasSought role limits at scan kept (came ++ take 0 piece) first now

@@ -1,5 +1,6 @@
 -- What one call of the scan says of the event that begins at an offset.
 use Rattle.std.proofs.Common.{◌≡◌, ℕ, ◌+◌, ◌≤◌, ◌^◌, ◌⊎◌, Bool, true, false, not, Option, None, Some, Result, Ok, Err, List, [], ◌∷◌, ◌++◌, length, take, drop, if◌then◌else◌, inl, inr, refl, sym, ap, ◌∙◌, subst, append-nil, append_assoc, arith, length-append, take-append-drop, ◌-◌}
+use Rattle.std.proofs.KnownBytes.{Appends-trans}
 use Rattle.std.proofs.lemmas.Bool.{cases_Bool, cond-true, cond-false}
 use Rattle.std.proofs.lemmas.List.{take_all, take-append-le, drop_at}
 use Rattle.wsn_io.specs.Transfer.{Outgoing, IsWritten, IsPartlyWritten}
@@ -38,7 +39,7 @@ use Rattle.wsn_payload.specs.declared.event_at.EventAt.{EventAt}
 use Rattle.wsn_payload.specs.EventsAt.{IsWholeAt, IsRestAt, IsBegunAt, judged_bytes, AreApart, IsInsideAt}
 use Rattle.wsn_scan.specs.FollowedScans.{HasFollowed, IsCall}
 use Rattle.wsn_payload.specs.Following.{HasBegunAt, Keeps, MayBegin, EndsEvent, TakesPart, own_part, HasSought, IsRefusedHere, IsStepOf, SeeksOn}
-use Rattle.wsn_payload.specs.Payloads.{IsPayloadInFront}
+use Rattle.wsn_payload.specs.Payloads.{IsPartAt, IsPayloadInFront, IsWrittenBut}
 use Rattle.wsn_scan.proofs.FollowedScans.{wire_payload_is, few, lawful_done, whole_is, rest_few, room_within, unrefused_so_far, judged_so_far, in_frame, between, reached, same_follows, reach, part_follows, refused_there, refused_begun}
 use Rattle.wsn_scan.proofs.FoundHeads.{heads_after}
 use Rattle.wsn_payload.proofs.KeptEvents.{goes_on}
@@ -84,6 +85,29 @@ module _ (role : Role) (limits : Limits) (scan : Scan) (came : List ℕ) (done :
         size = b.size;
         key = b.key;
       }
+
+-- ---- what has come
+
+pub part_of : (role : Role) (limits : Limits) (at : ℕ) (scan : Scan) (kept : EventAt) (came : List ℕ) (first now : Outgoing) (h : HasSought role limits at scan kept came first now) (v : Verdict) → IsVerdict role limits came h.frames v
+    → IsPartAt role limits came v at h.payload
+part_of role limits at scan kept came first now h v is = by kept.begun h.keeps.begun
+  where
+    by : (b : Bool) → HasBegunAt b h.frames h.position at h.payload → IsPartAt role limits came v at h.payload
+    by true has = inl (record { frames = h.frames; position = h.position; are_apart = apart role limits scan came h.frames h.position h.rest h.followed v is; is_begun = has })
+    by false has = inr (record { frames = h.frames; position = h.position; are_apart = apart role limits scan came h.frames h.position h.rest h.followed v is; end = has.0 }, has.1)
+
+-- it was written, and then a prefix of more
+before_piece : (role : Role) (limits : Limits) (at : ℕ) (scan : Scan) (kept : EventAt) (came piece : List ℕ) (first now after : Outgoing) (h : HasSought role limits at scan kept came first now) (more : List ℕ) → IsPartlyWritten now after more
+    → IsWrittenBut (length piece) role limits at (came ++ piece) first after
+before_piece role limits at scan kept came piece first now after h more (failed, (k, put)) =
+    let v = judged_so_far role limits scan came h.frames h.position h.rest h.followed in
+    record {
+      done = came;
+      last = piece;
+      whole = refl;
+      short = omega arith;
+      written = (v.0, h.payload, take k more, part_of role limits at scan kept came first now h v.0 v.1, Appends-trans first.written now.written after.written h.payload (take k more) h.written.1 put);
+    }
 
 -- a whole lawful frame may begin there
 pub whole_may : (role : Role) (limits : Limits) (done : List Frame) (f : Frame) → IsLawful role limits (done ++ f ∷ []) → length (stream done) ≤ 2 ^ 40 → MayBegin done (info_of (length (stream done)) f)
@@ -251,8 +275,11 @@ module _ (role : Role) (limits : Limits) (at : ℕ) (old new : Scan) (piece afte
     part_step kept_after out (Ok (Some (Unfinished v))) t given is = absurd t
     part_step kept_after out (Ok (Some (Nothing v))) t given is = absurd t
     part_step kept_after out (Err stopped) t given is =
-        subst (SeeksOn role limits at new kept_after came piece first out) (sym is)
-        (t.0, (h.payload ++ t.1.0, in_front (h.payload ++ t.1.0) t.1.2, put_front first now out h.payload t.1.0 h.written t.1.1))
+        subst (SeeksOn role limits at new kept_after came piece first out) (sym is) (
+          t.0,
+          (h.payload ++ t.1.0, in_front (h.payload ++ t.1.0) t.1.2, put_front first now out h.payload t.1.0 h.written t.1.1),
+          before_piece role limits at old kept came piece first now out h t.1.0 t.1.1,
+        )
 
   -- ---- a refusal
 
@@ -339,8 +366,12 @@ module _ (role : Role) (limits : Limits) (at : ℕ) (old new : Scan) (piece afte
             subst (λ (a : Payload). SeeksOn role limits at new kept came piece first out (Ok (n, Some a))) (sym it)
             (most_refused, (here_refused, (λ later. record { frames = done; position = with_evidence h.position evidence; are_apart = refused_apart later; end = has.0 }), subst (IsWritten first out) has.1 all))
 
-    pub refused_failed : (out : Outgoing) → kept.own ≡ true → IsPartlyWritten now out (own_part kept evidence) → (payload : List ℕ) × IsPayloadInFront role limits (came ++ piece) at payload × IsPartlyWritten first out payload
-    refused_failed out own partly = (text, in_refused, put_front first now out h.payload (own_part kept evidence) h.written partly)
+    pub refused_failed : (out : Outgoing) → kept.own ≡ true → IsPartlyWritten now out (own_part kept evidence)
+        → ((payload : List ℕ) × IsPayloadInFront role limits (came ++ piece) at payload × IsPartlyWritten first out payload) × IsWrittenBut (length piece) role limits at (came ++ piece) first out
+    refused_failed out own partly = (
+      (text, in_refused, put_front first now out h.payload (own_part kept evidence) h.written partly),
+      before_piece role limits at old kept came piece first now out h (own_part kept evidence) partly,
+    )
       where
         has_begun : (p : Position) → with_evidence h.position evidence ≡ p → Keeps kept at done p text → IsBegunAt done p at text
         has_begun BetweenFrames here k = let both : true ≡ false = sym own ∙ k.frame.1 in absurd cc

@@ -23,7 +23,7 @@ use Rattle.wsn_payload.specs.declared.answer.Payload.{Payload}
 use Rattle.wsn_payload.specs.declared.answer.Payload.TheVariants.{Whole, Unfinished, Inside, Nothing}
 use Rattle.wsn_payload.specs.declared.event_at.EventAt.{EventAt}
 use Rattle.wsn_payload.specs.EventsAt.{content, IsWholeAt, IsBegunAt, end_of, EndBefore, IsUnfinishedAt, EndsBefore, IsStartOf, IsInsideAt}
-use Rattle.wsn_payload.specs.Payloads.{IsPayloadInFront}
+use Rattle.wsn_payload.specs.Payloads.{IsPayloadInFront, IsWrittenBut}
 
 -- The opcode and the offset of the first frame of the open message are kept, if one is open.
 abbrev pub KeepsOpen : EventAt → List Frame → Type 0
@@ -161,7 +161,7 @@ IsStepOf n (Ok answer) given = given ≡ Ok (n, answer)
 IsStepOf n (Err stopped) given = given ≡ Err stopped
 
 -- Of the bytes and then the first n of this piece, an answer; or what is kept. After a failed write, a prefix of the
--- payload in some of them was written.
+-- payload in some of them was written, and all that came before the piece.
 abbrev pub SeeksOn : Role → Limits → ℕ → Scan → EventAt → List ℕ → List ℕ → Outgoing → Outgoing →
     Result (ℕ × Option Payload) Stop → Type 0
 SeeksOn role limits at scan kept came piece first now (Ok (n, None)) =
@@ -172,6 +172,7 @@ SeeksOn role limits at scan kept came piece first now (Ok (n, Some answer)) =
 SeeksOn role limits at scan kept came piece first now (Err stopped) =
     (stopped ≡ stop.Write)
     × ((payload : List ℕ) × IsPayloadInFront role limits (came ++ piece) at payload × IsPartlyWritten first now payload)
+    × IsWrittenBut (length piece) role limits at (came ++ piece) first now
 
 -- The same of a whole piece, or of its bytes up to the answer.
 abbrev pub SeeksThrough : Role → Limits → ℕ → Scan → EventAt → List ℕ → List ℕ → Outgoing → Outgoing →

@@ -1,5 +1,6 @@
 -- What taking a payload out of a stream answers, what the answer says of the bytes that came, and what was written.
 use Rattle.std.specs.Prelude.{◌≡◌, ℕ, ◌+◌, ◌<◌, ◌≤◌, ◌⊎◌, ⊤, false, Result, Ok, Err, List, [], ◌++◌, length, take}
+use Rattle.std.specs.Io.KnownBytes.{Appends}
 use Rattle.wsn_io.specs.Transfer.{Incoming, Outgoing, IsReceived, IsWritten, IsPartlyWritten}
 use Rattle.wsn_io.specs.declared.stop.Stop.{Stop}
 use Rattle.wsn_io.specs.declared.stop.Stop.TheVariants as stop
@@ -7,6 +8,7 @@ use Rattle.wsn_wire.specs.declared.endpoint.Role.{Role}
 use Rattle.wsn_rules.specs.declared.verdict.Verdict.{Verdict}
 use Rattle.wsn_rules.specs.Limits.{Limits}
 use Rattle.wsn_scan.specs.Judging.{IsReached, IsStopped, IsUnrefused, IsWithinLimit}
+use Rattle.wsn_scan.specs.Refill.{chunk_size}
 use Rattle.wsn_payload.specs.declared.answer.Payload.{Payload}
 use Rattle.wsn_payload.specs.declared.answer.Payload.TheVariants.{Whole, Unfinished, Inside, Nothing}
 use Rattle.wsn_payload.specs.EventsAt.{IsWholeAt, IsUnfinishedAt, EndsBefore, IsInsideAt}
@@ -28,6 +30,20 @@ pub record IsPayloadInFront (role : Role) (limits : Limits) (bytes : List ℕ) (
   pub is : IsWholeAt role limits front at payload
       ⊎ ((verdict : Verdict) × IsUnfinishedAt role limits front verdict at payload)
 
+-- What has come in these bytes of the payload was written, and perhaps more.
+abbrev pub IsWrittenAtLeast : Role → Limits → ℕ → List ℕ → Outgoing → Outgoing → Type 0
+IsWrittenAtLeast role limits at bytes before after = (verdict : Verdict) × (payload more : List ℕ)
+    × IsPartAt role limits bytes verdict at payload × Appends before.written after.written (payload ++ more)
+
+-- The same of all but the last bytes, at most this many.
+pub record IsWrittenBut (most : ℕ) (role : Role) (limits : Limits) (at : ℕ) (came : List ℕ) (before after : Outgoing)
+    : Type 0 where
+  pub done : List ℕ
+  pub last : List ℕ
+  pub whole : came ≡ done ++ last
+  pub short : length last ≤ most
+  pub written : IsWrittenAtLeast role limits at done before after
+
 -- The answer is right for the bytes that came, and this was written. The event is complete: all of its payload. It isn't,
 -- at the verdict: what has come of it. The offset is inside an event, or after all frames: nothing. After a failed write:
 -- a prefix of its payload in some of the bytes. At any other stop: what has come of it within the limit.
@@ -48,12 +64,14 @@ IsPayloadAnswer role limits at new came before after (Err stopped) =
     (payload : List ℕ) × ((verdict : Verdict) × IsPartAt role limits (take limits.input came) verdict at payload)
     × IsWritten before after payload × IsStopped role limits new came stopped
 
--- These bytes came from the input, at most one past its limit; the answer is right for them, and this was written.
+-- These bytes came from the input, at most one past its limit; the answer is right for them, and this was written. After
+-- a failed write nothing more was read.
 pub record IsPayloadTaken (role : Role) (limits : Limits) (at : ℕ) (old new : Incoming) (before after : Outgoing)
     (result : Result Payload Stop) : Type 0 where
   pub came : List ℕ
   pub received : IsReceived (limits.input + 1) old new came
   pub answer : IsPayloadAnswer role limits at new came before after result
+  pub at_once : result ≡ Err stop.Write → IsWrittenBut chunk_size role limits at came before after
 
 -- ---- an input whose bytes are known
 

@@ -21,7 +21,8 @@ use wsn_wire::Role;
 /// sent the stream, and `at` counts its bytes from 0. It reads up to the answer.
 ///
 /// Errors: `Read` if a read fails, and `InputLimit` if a byte past the input limit comes. With either, what came of the
-/// payload within the limit is written. `Write` if the writer fails: a prefix of the payload is written.
+/// payload within the limit is written. `Write` if the writer fails: a prefix of the payload is written, and nothing is
+/// read after it.
 pub fn payload<R: Read, W: Write>(
     input: &mut Input<R>,
     output: &mut Output<W>,

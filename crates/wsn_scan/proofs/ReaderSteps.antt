@@ -1,7 +1,7 @@
 -- What one call of the scan means for a reader of frames.
 use Rattle.std.specs.Prelude.{◌↔◌, IsSome}
 use Rattle.std.specs.List.{slice_range}
-use Rattle.std.proofs.Common.{◌≡◌, ℕ, ◌+◌, ◌-◌, ◌≤◌, Bool, Option, None, Some, List, [], ◌++◌, length, take, drop, refl, sym, ap, ◌∙◌, subst, arith, append_assoc, append-nil, length-append, take-append-drop}
+use Rattle.std.proofs.Common.{◌≡◌, ℕ, ◌+◌, ◌-◌, ◌≤◌, Bool, true, Option, None, Some, List, [], ◌++◌, length, take, drop, refl, sym, ap, ◌∙◌, subst, arith, append_assoc, append-nil, length-append, take-append-drop}
 use Rattle.std.proofs.lemmas.List.{take-take, drop-take, drop-drop, length-take-le}
 use Rattle.wsn_wire.specs.declared.endpoint.Role.{Role}
 use Rattle.wsn_wire.specs.Frame.{Frame, IsBytes}
@@ -20,7 +20,7 @@ use Rattle.wsn_scan.specs.Positions.{Position, begun_at}
 use Rattle.wsn_scan.specs.FrameReaders.{HasTaken, IsBuffered, unread, held_payload}
 use Rattle.wsn_scan.specs.Refill.{chunk_size, count_past}
 use Rattle.wsn_scan.specs.ReaderSteps.{StepsOn, IsUsed, HasRefused}
-use Rattle.wsn_scan.specs.Scans.{HasScanned, AdvancesFrom, IsReachedBy, IsRefusedThere, room_of, refusal_in}
+use Rattle.wsn_scan.specs.Scans.{HasScanned, HasNoRest, AdvancesFrom, IsReachedBy, IsRefusedThere, room_of, refusal_in}
 use Rattle.wsn_scan.proofs.ReaderBuffers.{range_after, length_unread, length_came}
 use Rattle.wsn_scan.proofs.Unrefused.{unrefused, refused, place_after}
 
@@ -36,6 +36,7 @@ pub record IsCall (old new : FrameReader) (part : Part) (n : ℕ) (found : Taken
   pub at_is : new.at ≡ old.at + n
   pub end_is : new.end ≡ old.end
   pub past_is : new.past ≡ old.past
+  pub whole : found ≡ taken.Part → part.ends ≡ true → HasNoRest new.scan
 
 -- a scan that a call finds no refusal in has not refused
 unrefused_by : (found : Taken) (refusal : Option Refusal) → IsSome refusal ↔ (found ≡ taken.Refused) → (found ≡ taken.Refused → ⊥) → refusal ≡ None
@@ -159,6 +160,10 @@ module _ (role : Role) (limits : Limits) (old new : FrameReader) (part : Part) (
         position = there.position;
         is_part = subst (λ (payload : List ℕ). IsPart fs at part payload there.frames there.position) (payload_is taken.Part call refl) there.found;
         has_taken = taken_to taken.Part call (λ is. cc) there.frames there.since there.position there.has_scanned;
+        soon = λ ends.
+            let consumed = there.has_scanned.has_consumed in
+            let came_is = length_came limits new came (h.scanned ++ share) (buffered taken.Part call) in
+            omega (arith, call.whole refl ends, consumed.used, consumed.room, ap (λ (l : Limits). l.input) consumed.under, came_is, (buffered taken.Part call).small);
       }
   steps taken.More call =
       let there = reached taken.More call in

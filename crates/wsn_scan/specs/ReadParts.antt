@@ -1,7 +1,7 @@
 -- What a reader of frames returns, and what that says of the bytes that came.
-use Rattle.std.specs.Prelude.{◌≡◌, ℕ, ◌+◌, ◌≤◌, false, Option, None, Some, Result, Ok, Err, List, ◌++◌, length, take}
+use Rattle.std.specs.Prelude.{◌≡◌, ℕ, ◌+◌, ◌≤◌, true, false, Option, None, Some, Result, Ok, Err, List, ◌++◌, length, take}
 use Rattle.wsn_wire.specs.declared.endpoint.Role.{Role}
-use Rattle.wsn_wire.specs.Frame.{Frame}
+use Rattle.wsn_wire.specs.Frame.{Frame, stream}
 use Rattle.wsn_io.specs.Transfer.{Incoming, IsConsumed}
 use Rattle.wsn_io.specs.declared.stop.Stop.{Stop}
 use Rattle.wsn_rules.specs.declared.verdict.Verdict.{Verdict}
@@ -14,14 +14,17 @@ use Rattle.wsn_scan.specs.Judging.{IsReached, IsStopped}
 use Rattle.wsn_scan.specs.Positions.{Position, begun_at}
 use Rattle.wsn_scan.specs.Parts.{IsPart}
 use Rattle.wsn_scan.specs.FrameReaders.{HasTaken, held_payload}
+use Rattle.wsn_scan.specs.Refill.{chunk_size}
 
--- It takes this part of a frame, whose payload it holds.
+-- It takes this part of a frame, whose payload it holds. At most `chunk_size` bytes came after the frame's end, if the
+-- part ends it.
 pub record TakesPart (role : Role) (limits : Limits) (reader : FrameReader) (part : Part) (came : List ℕ)
     (fs : List Frame) (at : Position) : Type 0 where
   pub frames : List Frame
   pub position : Position
   pub is_part : IsPart fs at part (held_payload reader) frames position
   pub has_taken : HasTaken role limits reader came frames position
+  pub soon : part.ends ≡ true → length came ≤ length (stream frames) + chunk_size
 
 -- All of these bytes are taken: each whole frame to its end, and each head.
 abbrev pub AllTaken : Role → Limits → List ℕ → List Frame → Position → Type 0

@@ -2,7 +2,7 @@ ghost use Rattle.std.specs.Prelude.{◌≡◌, ℕ, ◌+◌, ◌<◌, ◌≤◌,
 ghost use Rattle.std.specs.List.{slice_range};
 ghost use Rattle.wsn_wire.specs.Frame.{Frame, IsBytes};
 ghost use Rattle.wsn_scan.specs.Refill.{chunk_size};
-ghost use Rattle.wsn_scan.specs.Scans.{IsAdvance, room_of, refusal_in};
+ghost use Rattle.wsn_scan.specs.Scans.{HasNoRest, IsAdvance, room_of, refusal_in};
 ghost use Rattle.wsn_scan.specs.EventFrames.{TakesEvents, IsIdle};
 
 use crate::part::{Part, Taken};
@@ -185,6 +185,7 @@ fn part_in(
     ensures kept { slice_range buffer.new (at + result.0) end ≡ slice_range buffer.old (at + result.0) end }
     ensures room { room_of scan.new + result.0 ≡ room_of scan.old }
     ensures reported { IsSome (refusal_in scan.new) ↔ (result.1 ≡ Taken.Refused) }
+    ensures whole { result.1 ≡ Taken.Part → part.new.ends ≡ true → HasNoRest scan.new }
 {
     scan.next(&mut buffer[at..end], part)
 }

@@ -1,5 +1,7 @@
 -- The end of a text that is shown.
-use Rattle.std.proofs.Common.{◌≡◌, ℕ, true, false, Ok, Err, List, [], ◌∷◌, ◌++◌, flat_map, inl, inr, sym, ap, ◌∙◌, subst, append-nil, append_assoc}
+use Rattle.std.proofs.Common.{◌≡◌, ℕ, true, false, Ok, Err, List, [], ◌∷◌, ◌++◌, flat_map, take, inl, inr, refl, sym, ap, ◌∙◌, subst, append-nil, append_assoc}
+use Rattle.std.proofs.KnownBytes.{Appends-trans}
+use Rattle.std.specs.Io.KnownBytes.{Appends}
 use Rattle.wsn_io.specs.Transfer.{Outgoing, IsWritten, IsPartlyWritten}
 use Rattle.wsn_io.proofs.PutTexts.{put_both, put_front, put_no_more}
 use Rattle.wsn_rules.specs.Limits.{Limits}
@@ -16,9 +18,9 @@ use Rattle.wsn_show.specs.declared.capture_view.CaptureView.{CaptureView}
 use Rattle.wsn_show.specs.declared.showing.ShowStop.{ShowStop}
 use Rattle.wsn_show.specs.declared.showing.ShowStop.TheVariants as stop
 use Rattle.wsn_show.specs.CaptureViews.{ShowsLine, Finishes}
-use Rattle.wsn_show.specs.Showing.{IsWholeText}
+use Rattle.wsn_show.specs.Showing.{IsTextOfLines, IsWholeText}
 use Rattle.wsn_show.specs.PassedLines.{HasPrinted, HasPrintedLines, StopsAtLine, EndsShowing}
-use Rattle.wsn_show.proofs.PassedPieces.{text_so_far, text_with_line, partly_with_line, printed_with_line, one_more, failed_part, whole_part}
+use Rattle.wsn_show.proofs.PassedPieces.{text_so_far, text_with_line, partly_with_line, printed_with_line, one_more, failed_part, more_after, at_least, whole_part}
 
 -- ---- the report
 
@@ -65,14 +67,21 @@ module _ (limits : Limits) (style : Style) (first : Outgoing) (came : List ℕ) 
         is = is_styled;
       }
 
+  lines_are : IsTextOfLines limits style lines lines_text
+  lines_are = record { entries = has.entries; taken = has.has_shown.accepted.taken; shown = has.shown; are = has.are; is = refl }
+
   -- a write failed before the report
   pub stopped_before : after.failed ≡ true → EndsShowing limits style first after came (Err stop.Write)
-  stopped_before failed = (
-    lines_text ++ last_text ++ styled_report style report,
-    inr (report, whole_text),
-    put_no_more first after (lines_text ++ last_text) (styled_report style report)
-        (put_front first now after lines_text last_text has.printed (failed_part now after last_text failed finishes.printed)),
-  )
+  stopped_before failed =
+      let rest = more_after first now after lines_text last_text has.printed finishes.printed in (
+        (
+          lines_text ++ last_text ++ styled_report style report,
+          inr (report, whole_text),
+          put_no_more first after (lines_text ++ last_text) (styled_report style report)
+              (put_front first now after lines_text last_text has.printed (failed_part now after last_text failed finishes.printed)),
+        ),
+        (lines, lines_text, rest.0, inr are_lines, lines_are, rest.1),
+      )
 
   module _ (out : Outgoing) (works : after.failed ≡ false) where
     all_before : IsWritten first after (lines_text ++ last_text)
@@ -82,11 +91,23 @@ module _ (limits : Limits) (style : Style) (first : Outgoing) (came : List ℕ) 
     reported written = (lines_text ++ last_text ++ styled_report style report, whole_text, put_both first after out (lines_text ++ last_text) (styled_report style report) all_before written)
 
     pub stopped_in : IsPartlyWritten after out (styled_report style report) → EndsShowing limits style first out came (Err stop.Write)
-    stopped_in partly = (
-      lines_text ++ last_text ++ styled_report style report,
-      inr (report, whole_text),
-      put_front first after out (lines_text ++ last_text) (styled_report style report) all_before partly,
-    )
+    stopped_in partly =
+        let put = take partly.1.0 (styled_report style report) in (
+          (
+            lines_text ++ last_text ++ styled_report style report,
+            inr (report, whole_text),
+            put_front first after out (lines_text ++ last_text) (styled_report style report) all_before partly,
+          ),
+          (
+            lines,
+            lines_text,
+            last_text ++ put,
+            inr are_lines,
+            lines_are,
+            subst (λ (bs : List ℕ). Appends first.written out.written bs) (append_assoc lines_text last_text put)
+                (Appends-trans first.written after.written out.written (lines_text ++ last_text) put all_before.1 partly.1.1),
+          ),
+        )
 
 -- ---- the last line
 
@@ -136,7 +157,10 @@ module _ (limits : Limits) (style : Style) (first : Outgoing) (view : CaptureVie
     )
     last_stops (stop.Capture capture.Read) stops = absurd stops
     last_stops stop.Write stops = (
-      flat_map (styled_line style) has.shown ++ styled_line style stops.0.shown,
-      inl (has.lines ++ begun ∷ [], inr with_last, text_with_line limits style first view begun now came has new begun after stops.0),
-      partly_with_line limits style first view begun now came has new begun after stops.0 (failed_part now after (styled_line style stops.0.shown) stops.1 stops.0.printed),
+      (
+        flat_map (styled_line style) has.shown ++ styled_line style stops.0.shown,
+        inl (has.lines ++ begun ∷ [], inr with_last, text_with_line limits style first view begun now came has new begun after stops.0),
+        partly_with_line limits style first view begun now came has new begun after stops.0 (failed_part now after (styled_line style stops.0.shown) stops.1 stops.0.printed),
+      ),
+      at_least limits style first view begun now came has after (styled_line style stops.0.shown) stops.0.printed,
     )

@@ -1,7 +1,9 @@
 -- A piece of a text and the lines that it ends.
-use Rattle.std.proofs.Common.{◌≡◌, ℕ, ◌+◌, ◌-◌, ◌<◌, true, false, List, [], ◌∷◌, ◌++◌, length, take, drop, flat_map, inl, inr, refl, sym, ap, ◌∙◌, subst, append_assoc, append-nil, length-append, arith}
+use Rattle.std.proofs.Common.{◌≡◌, ℕ, ◌+◌, ◌-◌, ◌<◌, true, false, List, [], ◌∷◌, ◌++◌, length, take, drop, flat_map, inl, inr, refl, sym, ap, ◌∙◌, subst, append_assoc, append-nil, length-append, length-drop, arith}
+use Rattle.std.proofs.KnownBytes.{Appends-trans}
 use Rattle.std.proofs.lemmas.List.{take-append-drop}
 use Rattle.std.proofs.lemmas.List.Concat.{flat_map-append}
+use Rattle.std.specs.Io.KnownBytes.{Appends}
 use Rattle.wsn_io.specs.Transfer.{Outgoing, IsWritten, IsPartlyWritten, IsWrittenUpToFailure}
 use Rattle.wsn_io.proofs.PutTexts.{put_both, put_front}
 use Rattle.wsn_rules.specs.declared.detail.Detail.{Detail}
@@ -22,7 +24,7 @@ use Rattle.wsn_show.specs.declared.capture_view.CaptureView.{CaptureView}
 use Rattle.wsn_show.specs.declared.showing.ShowStop.{ShowStop}
 use Rattle.wsn_show.specs.declared.showing.ShowStop.TheVariants as stop
 use Rattle.wsn_show.specs.CaptureViews.{ShowsLine}
-use Rattle.wsn_show.specs.Showing.{IsTextOfLines, BeginWithLines, IsTextOf}
+use Rattle.wsn_show.specs.Showing.{IsTextOfLines, BeginWithLines, IsPrintedAtLeast, IsTextOf}
 use Rattle.wsn_capture.specs.SplitLines.{GoesOn, EndsLine}
 use Rattle.wsn_show.specs.PassedLines.{HasPrinted, StopsAtLine, StopsWithin}
 
@@ -114,6 +116,18 @@ module _ (limits : Limits) (style : Style) (first : Outgoing) (view : CaptureVie
 
 -- ---- stops
 
+-- what was written after a text
+pub more_after : (first now after : Outgoing) (text more : List ℕ) → IsWritten first now text → IsWrittenUpToFailure now after more → (rest : List ℕ) × Appends first.written after.written (text ++ rest)
+more_after first now after text more wrote (inl went) = (more, Appends-trans first.written now.written after.written text more wrote.1 went.1)
+more_after first now after text more wrote (inr part) = (take part.1.0 more, Appends-trans first.written now.written after.written text (take part.1.0 more) wrote.1 part.1.1)
+
+-- what the lines so far show was printed, and then more
+pub at_least : (limits : Limits) (style : Style) (first : Outgoing) (view : CaptureView) (begun : List ℕ) (now : Outgoing) (came : List ℕ) (has : HasPrinted limits style first view begun now came) (after : Outgoing) (more : List ℕ)
+    → IsWrittenUpToFailure now after more → IsPrintedAtLeast limits style came first after
+at_least limits style first view begun now came has after more went =
+    let rest = more_after first now after (flat_map (styled_line style) has.shown) more has.printed went in
+    (has.lines, flat_map (styled_line style) has.shown, rest.0, inl (has.passed.each, (begun, has.passed.in_line, has.passed.whole)), text_so_far limits style first view begun now came has, rest.1)
+
 pub failed_part : (before after : Outgoing) (text : List ℕ) → after.failed ≡ true → IsWrittenUpToFailure before after text → IsPartlyWritten before after text
 failed_part before after text failed (inl written) = let both : true ≡ false = sym failed ∙ written.0 in cc
 failed_part before after text failed (inr partly) = partly
@@ -158,9 +172,12 @@ module _ (limits : Limits) (style : Style) (first : Outgoing) (view : CaptureVie
       )
   stops_lf ahead (stop.Capture capture.Read) short stops = absurd stops
   stops_lf ahead stop.Write short stops = (
-    flat_map (styled_line style) has.shown ++ styled_line style stops.0.shown,
-    inl (has.lines ++ line ∷ [], begins_with ahead, text_with_line limits style first view begun now came has new line after stops.0),
-    partly_with_line limits style first view begun now came has new line after stops.0 (failed_part now after (styled_line style stops.0.shown) stops.1 stops.0.printed),
+    (
+      flat_map (styled_line style) has.shown ++ styled_line style stops.0.shown,
+      inl (has.lines ++ line ∷ [], begins_with ahead, text_with_line limits style first view begun now came has new line after stops.0),
+      partly_with_line limits style first view begun now came has new line after stops.0 (failed_part now after (styled_line style stops.0.shown) stops.1 stops.0.printed),
+    ),
+    record { done = came; last = bytes ++ 10 ∷ ahead; whole = refl; short = omega arith; printed = at_least limits style first view begun now came has after (styled_line style stops.0.shown) stops.0.printed },
   )
 
   -- a line that is too long isn't shown
@@ -229,5 +246,13 @@ stops_in_rest limits style first now came piece at (stop.Capture (capture.Line n
   (lines, text, subst (λ (bs : List ℕ). BeginWithLines bs lines) (rest_whole came piece at) begins, at_line, is, written),
 )
 stops_in_rest limits style first now came piece at (stop.Capture capture.Read) stops = absurd stops
-stops_in_rest limits style first now came piece at stop.Write (text, is, partly) =
-    (text, subst (λ (bs : List ℕ). IsTextOf limits style bs text) (rest_whole came piece at) is, partly)
+stops_in_rest limits style first now came piece at stop.Write ((text, is, partly), but) = (
+  (text, subst (λ (bs : List ℕ). IsTextOf limits style bs text) (rest_whole came piece at) is, partly),
+  record {
+    done = but.done;
+    last = but.last;
+    whole = sym (rest_whole came piece at) ∙ but.whole;
+    short = let size = ap (λ (bs : List ℕ). length bs) (rest_is at piece) ∙ length-drop at piece in let most = but.short in omega (arith, size, most);
+    printed = but.printed;
+  },
+)

@@ -1,11 +1,12 @@
 -- An input whose capture is shown: the answer fits the bytes that came.
-use Rattle.std.proofs.Common.{◌≡◌, ℕ, ◌+◌, ◌*◌, ◌≤◌, false, true, Result, Ok, Err, List, [], ◌∷◌, ◌++◌, flat_map, length, inl, inr, refl, sym, ap, ◌∙◌, subst, append_assoc, length-append, arith}
+use Rattle.std.proofs.Common.{◌≡◌, ℕ, ◌+◌, ◌*◌, ◌≤◌, false, true, Result, Ok, Err, List, [], ◌∷◌, ◌++◌, flat_map, length, inl, inr, refl, sym, ap, ◌∙◌, subst, append_assoc, append-nil, length-append, arith}
 use Rattle.std.specs.Io.KnownBytes.{IsAtEnd}
 use Rattle.wsn_io.specs.Transfer.{Incoming, Outgoing, IsConsumed, IsKept}
 use Rattle.wsn_io.proofs.Received.{consumed_none, consumed_on, consumed_end, consumed_kept, received_of}
 use Rattle.wsn_io.proofs.PutTexts.{prints_nothing}
 use Rattle.wsn_rules.specs.Limits.{Limits}
 use Rattle.wsn_rules.specs.declared.report.Report.{Report}
+use Rattle.wsn_scan.specs.Refill.{chunk_size}
 use Rattle.wsn_print.specs.declared.style.Style.{Style}
 use Rattle.wsn_show.specs.Styles.{styled_line}
 use Rattle.wsn_capture.specs.declared.line_fault.LineFault.{LineFault}
@@ -19,7 +20,7 @@ use Rattle.wsn_show.specs.declared.capture_view.CaptureView.{CaptureView}
 use Rattle.wsn_show.specs.declared.showing.ShowStop.{ShowStop}
 use Rattle.wsn_show.specs.declared.showing.ShowStop.TheVariants as stop
 use Rattle.wsn_show.specs.CaptureViews.{HasShownLines}
-use Rattle.wsn_show.specs.Showing.{IsShowAnswer, IsShown}
+use Rattle.wsn_show.specs.Showing.{IsPrintedBut, IsShowAnswer, IsShown}
 use Rattle.wsn_show.specs.PassedLines.{HasPrinted, StopsWithin, EndsShowing}
 use Rattle.wsn_show.proofs.PassedPieces.{text_so_far, whole_part}
 
@@ -81,6 +82,7 @@ module _ (limits : Limits) (style : Style) (old mid new : Incoming) (first : Out
         read.printed.printed,
       ),
     );
+    at_once = λ is. cc;
   }
 
   at_end : (result : Result Report ShowStop) (after : Outgoing) → IsAtEnd new.remaining → new.failed ≡ false
@@ -89,7 +91,13 @@ module _ (limits : Limits) (style : Style) (old mid new : Incoming) (first : Out
   at_end (Err (stop.Capture (capture.Line number fault))) after ends unfailed (faulty, unfaulted_there, printed) =
       (inr (faulty, unfaulted_there, ends), unfailed, printed)
   at_end (Err (stop.Capture capture.Read)) after ends unfailed is = absurd is
-  at_end (Err stop.Write) after ends unfailed is = (unfailed, is)
+  at_end (Err stop.Write) after ends unfailed is = (unfailed, is.0)
+
+  all_at_end : (result : Result Report ShowStop) (after : Outgoing) → EndsShowing limits style first after read.came result → result ≡ Err stop.Write
+      → IsPrintedBut chunk_size limits style read.came first after
+  all_at_end result after ends is =
+      let at_end = subst (λ (r : Result Report ShowStop). EndsShowing limits style first after read.came r) is ends in
+      record { done = read.came; last = []; whole = sym (append-nil read.came); short = omega arith; printed = at_end.1 }
 
   -- the input ended
   pub ended : (result : Result Report ShowStop) (after : Outgoing) → IsConsumed mid new [] → IsAtEnd new.remaining → new.failed ≡ false
@@ -98,6 +106,7 @@ module _ (limits : Limits) (style : Style) (old mid new : Incoming) (first : Out
     came = read.came;
     received = received_of (1000001 * 8196 + 4095) old new read.came (consumed_end old mid new read.came read.consumed nothing) (omega (arith, bounded));
     answer = at_end result after ends unfailed is;
+    at_once = all_at_end result after is;
   }
 
   -- a chunk was shown
@@ -130,7 +139,14 @@ module _ (limits : Limits) (style : Style) (old mid new : Incoming) (first : Out
   within_piece piece (stop.Capture (capture.Line number fault)) after size unfailed stops =
       (inl (prompt piece number fault size stops.0), unfailed, stops.1)
   within_piece piece (stop.Capture capture.Read) after size unfailed stops = absurd stops
-  within_piece piece stop.Write after size unfailed stops = (unfailed, stops)
+  within_piece piece stop.Write after size unfailed stops = (unfailed, stops.0)
+
+  all_but_piece : (piece : List ℕ) (s : ShowStop) (after : Outgoing) → length piece ≤ 4096 → StopsWithin limits style first after read.came piece s
+      → (let answer : Result Report ShowStop = Err s in answer) ≡ Err stop.Write → IsPrintedBut chunk_size limits style (read.came ++ piece) first after
+  all_but_piece piece (stop.Capture capture) after size stops is = cc
+  all_but_piece piece stop.Write after size stops is =
+      let but = stops.1 in
+      record { done = but.done; last = but.last; whole = but.whole; short = let most = but.short in omega (arith, most, size); printed = but.printed }
 
   -- the stop is within a chunk
   pub stops_here : (piece : List ℕ) (s : ShowStop) (after : Outgoing) → IsConsumed mid new piece → length piece ≤ 4096 → new.failed ≡ false
@@ -139,4 +155,5 @@ module _ (limits : Limits) (style : Style) (old mid new : Incoming) (first : Out
     came = read.came ++ piece;
     received = received_of (1000001 * 8196 + 4095) old new (read.came ++ piece) (consumed_on old mid new read.came piece read.consumed consumes) (omega (arith, bounded, size, length-append read.came piece));
     answer = within_piece piece s after size unfailed stops;
+    at_once = all_but_piece piece s after size stops;
   }

@@ -1,9 +1,9 @@
 -- An input whose stream is shown: the answer fits the bytes that came.
 use Rattle.std.proofs.Common.{◌≡◌, ◌≢◌, ℕ, ◌+◌, ◌<◌, ◌≤◌, false, true, Result, Ok, Err, List, [], ◌++◌, length, take, drop, inl, inr, refl, sym, ap, ◌∙◌, subst, append_assoc, append-nil, length-append, arith}
-use Rattle.std.proofs.KnownBytes.{Appends-nil}
+use Rattle.std.proofs.KnownBytes.{Appends-nil, Appends-trans}
 use Rattle.std.proofs.lemmas.List.{length-take-le, take_all, take-append-drop, map-append}
 use Rattle.std.proofs.lemmas.List.Concat.{flat_map-append}
-use Rattle.std.specs.Io.KnownBytes.{IsAtEnd}
+use Rattle.std.specs.Io.KnownBytes.{Appends, IsAtEnd}
 use Rattle.wsn_io.specs.Transfer.{Incoming, Outgoing, IsConsumed, IsKept, IsReceived, IsWritten, IsPartlyWritten, IsWrittenUpToFailure}
 use Rattle.wsn_io.specs.declared.stop.Stop.{Stop}
 use Rattle.wsn_io.specs.declared.stop.Stop.TheVariants as stop
@@ -33,7 +33,7 @@ use Rattle.wsn_print.specs.declared.style.Style.{Style}
 use Rattle.wsn_show.specs.Styles.{styled_item, styled_items, styled_verdict}
 use Rattle.wsn_show.specs.ShownSoFar.{items_in}
 use Rattle.wsn_show.specs.StreamViews.{Viewed, HasViewed}
-use Rattle.wsn_show.specs.StreamShows.{IsItemText, IsLeftWith, IsStreamText, IsPrintedText, EndsStream, IsStreamShown}
+use Rattle.wsn_show.specs.StreamShows.{IsItemText, IsLeftWith, IsStreamText, IsPrintedText, IsShownAtLeast, EndsStream, IsStreamShown}
 
 module _ (role : Role) (limits : Limits) (style : Style) where
   -- All bytes that came aren't refused, and what is shown of them was printed.
@@ -62,6 +62,11 @@ module _ (role : Role) (limits : Limits) (style : Style) where
     unfailed = unfailed;
   }
 
+  -- what follows a text that was written, up to a failed write
+  at_least : (first now after : Outgoing) (bytes text more : List ℕ) → IsItemText role limits style bytes text → IsWritten first now text → IsWrittenUpToFailure now after more → IsShownAtLeast role limits style bytes first after
+  at_least first now after bytes text more is_text wrote (inl went) = (text, more, is_text, Appends-trans first.written now.written after.written text more wrote.1 went.1)
+  at_least first now after bytes text more is_text wrote (inr part) = (text, take part.1.0 more, is_text, Appends-trans first.written now.written after.written text (take part.1.0 more) wrote.1 part.1.1)
+
   -- ---- the end of the stream
 
   left_with : (came : List ℕ) (fs : List Frame) (verdict : Verdict) (left : List Item) → IsUnrefused role limits came → IsVerdict role limits came fs verdict → IsLeftOver role limits came left → IsLeftWith role limits came verdict left
@@ -84,14 +89,14 @@ module _ (role : Role) (limits : Limits) (style : Style) where
     }
 
     -- what is left over couldn't be written
-    pub left_unwritten : mid.failed ≡ true → EndsStream role limits style came first mid (Err stop.Write)
-    left_unwritten failed =
+    pub left_unwritten : mid.failed ≡ true → IsWrittenUpToFailure now mid (styled_items style role InStream left) → EndsStream role limits style came first mid (Err stop.Write)
+    left_unwritten failed after_text =
         let verdict = is_text.is_shown.verdict in
         let lines = text ++ styled_items style role InStream left in
         let whole = prints_no_more first mid lines (styled_verdict style verdict) failed printed in
         let partly : IsPartlyWritten first mid (lines ++ styled_verdict style verdict) =
         elim whole [ inl went ↦ (let both : false ≡ true = sym went.0 ∙ failed in absurd cc) | inr part ↦ part ] in
-        (refl, (lines ++ styled_verdict style verdict, inr (verdict, all_lines is_text.is_shown.frames verdict is_text.is_shown.is_verdict), partly))
+        (refl, (lines ++ styled_verdict style verdict, inr (verdict, all_lines is_text.is_shown.frames verdict is_text.is_shown.is_verdict), partly), at_least first now mid came text (styled_items style role InStream left) is_text written after_text)
 
     pub ends : mid.failed ≡ false → (fs : List Frame) (verdict : Verdict) → IsVerdict role limits came fs verdict → (result : Result Verdict Stop) → IsEnded style.format mid after verdict result →
         EndsStream role limits style came first after result
@@ -106,8 +111,17 @@ module _ (role : Role) (limits : Limits) (style : Style) where
     ends works fs verdict is (Err stopped) ended =
         let lines = text ++ styled_items style role InStream left in
         let all : IsWritten first mid lines =
-        elim printed [ inl went ↦ went | inr part ↦ (let both : true ≡ false = sym part.0 ∙ works in absurd cc) ] in
-        (ended.0, (lines ++ styled_verdict style verdict, inr (verdict, all_lines fs verdict is), put_front first mid after lines (styled_verdict style verdict) all ended.1))
+        elim printed [ inl went ↦ went | inr part ↦ (let both : true ≡ false = sym part.0 ∙ works in absurd cc) ] in (
+          ended.0,
+          (lines ++ styled_verdict style verdict, inr (verdict, all_lines fs verdict is), put_front first mid after lines (styled_verdict style verdict) all ended.1),
+          (
+            text,
+            styled_items style role InStream left ++ take ended.1.1.0 (styled_verdict style verdict),
+            is_text,
+            subst (λ (bs : List ℕ). Appends first.written after.written bs) (append_assoc text (styled_items style role InStream left) (take ended.1.1.0 (styled_verdict style verdict)))
+                (Appends-trans first.written mid.written after.written lines (take ended.1.1.0 (styled_verdict style verdict)) all.1 ended.1.1.1),
+          ),
+        )
 
   module _ (old mid : Incoming) (first now : Outgoing) (view : Viewed) (came : List ℕ) (read : HasShownInput old mid first now view came) where
     few : length came ≤ limits.input
@@ -123,6 +137,7 @@ module _ (role : Role) (limits : Limits) (style : Style) where
       received = received_of (limits.input + 1) old new came (consumed_kept old mid new came read.consumed keeps) (omega (arith, few));
       answer = (failed, few, read.unrefused);
       printed = (read.text, subst (λ (bs : List ℕ). IsItemText role limits style bs read.text) (sym within_all) read.is_text, read.written);
+      at_once = λ is. cc;
     }
 
     -- the input ended
@@ -141,12 +156,14 @@ module _ (role : Role) (limits : Limits) (style : Style) where
         received = received_all;
         answer = reached e.1.frames verdict e.1.is_verdict;
         printed = (e.0, subst (λ (bs : List ℕ). IsStreamText role limits style bs verdict e.0) (sym within_all) e.1, e.2);
+        at_once = λ is. cc;
       }
       ended (Err stop.Write) e = record {
         came = came;
         received = received_all;
         answer = (kept ∙ read.unfailed, λ fs place reason refused. absurd (read.unrefused fs place reason refused));
         printed = (e.1.0, subst (λ (bs : List ℕ). IsPrintedText role limits style bs e.1.0) (sym within_all) e.1.1, e.1.2);
+        at_once = λ is. record { done = came; last = []; whole = sym (append-nil came); short = omega arith; shown = e.2 };
       }
       ended (Err stop.Read) e = let h : stop.Read ≡ stop.Write = e.0 in absurd cc
       ended (Err stop.InputLimit) e = let h : stop.InputLimit ≡ stop.Write = e.0 in absurd cc
@@ -200,6 +217,9 @@ module _ (role : Role) (limits : Limits) (style : Style) where
       written_now : IsWrittenUpToFailure first after (read.text ++ styled_items style role InStream (beyond (length came) shows.0))
       written_now = prints_on first now after read.text (styled_items style role InStream (beyond (length came) shows.0)) read.written.0 (inl read.written) shows.2
 
+      short_chunk : length (take (count_of chunk) buffer) ≤ chunk_size
+      short_chunk = omega (arith, length-take-le (count_of chunk) buffer got.in_buffer, got.in_buffer, size)
+
       unfailed_now : new.failed ≡ false
       unfailed_now = got.unfailed ∙ read.unfailed
 
@@ -218,6 +238,7 @@ module _ (role : Role) (limits : Limits) (style : Style) where
           inl (subst (λ (bs : List ℕ). IsItemText role limits style bs (read.text ++ styled_items style role InStream (beyond (length came) shows.0))) (sym within_is) text_now),
           elim written_now [ inl went ↦ (let both : false ≡ true = sym went.0 ∙ failed in absurd cc) | inr part ↦ part ],
         );
+        at_once = λ is. record { done = came; last = take (count_of chunk) buffer; whole = refl; short = short_chunk; shown = at_least first now after came read.text (styled_items style role InStream (beyond (length came) shows.0)) read.is_text read.written shows.2 };
       }
 
       module _ (works : after.failed ≡ false) where
@@ -255,6 +276,15 @@ module _ (role : Role) (limits : Limits) (style : Style) where
           soon : length all_came ≤ refusal.place + chunk_size
           soon = up_to_refusal fs refusal.place refusal.reason (subst (λ (bs : List ℕ). IsRefused role limits bs fs refusal.place refusal.reason) (append-nil all_came) (refused_all []))
 
+          shown_before : (verdict : List ℕ) → Appends after.written last.written verdict → IsShownAtLeast role limits style came first last
+          shown_before verdict put =
+              let items = styled_items style role InStream (beyond (length came) shows.0) in (
+                read.text,
+                items ++ verdict,
+                read.is_text,
+                subst (λ (bs : List ℕ). Appends first.written last.written bs) (append_assoc read.text items verdict) (Appends-trans first.written after.written last.written lines verdict wrote.1 put),
+              )
+
           pub refuses : (result : Result Verdict Stop) → IsEnded style.format after last (Refused refusal) result → IsStreamShown role limits style old new first last result
           refuses (Ok verdict) e = record {
             came = all_came;
@@ -266,6 +296,7 @@ module _ (role : Role) (limits : Limits) (style : Style) where
                   (subst (λ (bs : List ℕ). IsStreamText role limits style bs (Refused refusal) (lines ++ styled_verdict style (Refused refusal))) (sym within_is) whole_text),
               put_both first after last lines (styled_verdict style (Refused refusal)) wrote e.1,
             );
+            at_once = λ is. cc;
           }
           refuses (Err stop.Write) e = record {
             came = all_came;
@@ -276,6 +307,7 @@ module _ (role : Role) (limits : Limits) (style : Style) where
               inr (Refused refusal, subst (λ (bs : List ℕ). IsStreamText role limits style bs (Refused refusal) (lines ++ styled_verdict style (Refused refusal))) (sym within_is) whole_text),
               put_front first after last lines (styled_verdict style (Refused refusal)) wrote e.1,
             );
+            at_once = λ is. record { done = came; last = take (count_of chunk) buffer; whole = refl; short = short_chunk; shown = shown_before (take e.1.1.0 (styled_verdict style (Refused refusal))) e.1.1.1 };
           }
           refuses (Err stop.Read) e = let h : stop.Read ≡ stop.Write = e.0 in absurd cc
           refuses (Err stop.InputLimit) e = let h : stop.InputLimit ≡ stop.Write = e.0 in absurd cc
@@ -301,6 +333,7 @@ module _ (role : Role) (limits : Limits) (style : Style) where
               subst (λ (bs : List ℕ). IsItemText role limits style bs (read.text ++ styled_items style role InStream (beyond (length came) shows.0))) (sym within_is) text_now,
               wrote,
             );
+            at_once = λ is. cc;
           }
 
           pub goes_on : chunk.past_limit ≡ false → HasShownInput old new first after next (came ++ piece)

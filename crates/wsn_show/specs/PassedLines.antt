@@ -16,7 +16,7 @@ use Rattle.wsn_show.specs.declared.capture_view.CaptureView.{CaptureView}
 use Rattle.wsn_show.specs.declared.showing.ShowStop.{ShowStop}
 use Rattle.wsn_show.specs.declared.showing.ShowStop.TheVariants.{Capture, Write}
 use Rattle.wsn_show.specs.CaptureViews.{HasShownLines, ShowsLine}
-use Rattle.wsn_show.specs.Showing.{IsTextOfLines, BeginWithLines, IsTextOf, IsWholeText, IsPrintedBefore}
+use Rattle.wsn_show.specs.Showing.{IsTextOfLines, BeginWithLines, IsTextOf, IsWholeText, IsPrintedAtLeast, IsPrintedBefore, IsPrintedBut}
 
 -- These bytes came: whole lines, which the view has shown, and a line that has begun. What the lines show was printed.
 pub record HasPrinted (limits : Limits) (style : Style) (first : Outgoing) (view : CaptureView) (begun : List ℕ)
@@ -54,7 +54,8 @@ StopsWithin limits style first now came piece (Capture (capture.Line number faul
     × IsTextOfLines limits style lines text × IsWritten first now text)
 StopsWithin limits style first now came piece (Capture capture.Read) = ⊥
 StopsWithin limits style first now came piece Write =
-    (text : List ℕ) × IsTextOf limits style (came ++ piece) text × IsPartlyWritten first now text
+    ((text : List ℕ) × IsTextOf limits style (came ++ piece) text × IsPartlyWritten first now text)
+    × IsPrintedBut (length piece) limits style (came ++ piece) first now
 
 -- the number of bytes that may still come
 abbrev pub bytes_ahead : CaptureView → List ℕ → ℕ
@@ -79,4 +80,5 @@ EndsShowing limits style first now came (Err (Capture (capture.Line number fault
     IsFaulty limits came number fault × IsUnfaulted limits came × IsPrintedBefore limits style came number first now
 EndsShowing limits style first now came (Err (Capture capture.Read)) = ⊥
 EndsShowing limits style first now came (Err Write) =
-    (text : List ℕ) × IsTextOf limits style came text × IsPartlyWritten first now text
+    ((text : List ℕ) × IsTextOf limits style came text × IsPartlyWritten first now text)
+    × IsPrintedAtLeast limits style came first now

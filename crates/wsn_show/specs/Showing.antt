@@ -1,13 +1,14 @@
 -- What is printed of a capture's text.
-use Rattle.std.specs.Prelude.{◌≡◌, ℕ, ◌+◌, ◌*◌, ◌⊎◌, true, false, Option, Result, Ok, Err, List, [], ◌++◌, flat_map, length}
+use Rattle.std.specs.Prelude.{◌≡◌, ℕ, ◌+◌, ◌*◌, ◌≤◌, ◌⊎◌, true, false, Option, Result, Ok, Err, List, [], ◌++◌, flat_map, length}
 use Rattle.std.specs.List.{AllByRecursion}
-use Rattle.std.specs.Io.KnownBytes.{IsAtEnd}
+use Rattle.std.specs.Io.KnownBytes.{Appends, IsAtEnd}
 use Rattle.wsn_io.specs.Transfer.{Incoming, Outgoing, IsReceived, IsWritten, IsPartlyWritten}
 use Rattle.wsn_rules.specs.Limits.{Limits}
 use Rattle.wsn_rules.specs.declared.report.Report.{Report}
 use Rattle.wsn_rules.specs.Entries.{Entry}
 use Rattle.wsn_rules.specs.TextLines.{IsLine, ended, AreLines}
 use Rattle.wsn_rules.specs.ShownCapture.{ShownLine, AreShownAfter, LeftAtEnd, IsShownCapture}
+use Rattle.wsn_scan.specs.Refill.{chunk_size}
 use Rattle.wsn_print.specs.declared.style.Style.{Style}
 use Rattle.wsn_show.specs.declared.ended_by.EndedBy.{EndedBy}
 use Rattle.wsn_show.specs.EndedBy.{IsEndedBy}
@@ -49,6 +50,26 @@ pub record IsWholeText (limits : Limits) (style : Style) (came : List ℕ) (repo
   pub is_ended_by : IsEndedBy lines entries report ended_by
   pub is : text ≡ styled_capture style shown client server ended_by report
 
+-- ---- after a failed write
+
+-- The lines are those of the bytes that have ended; or all of them, if the text ends here.
+abbrev pub AreLinesSoFar : List ℕ → List (List ℕ) → Type 0
+AreLinesSoFar came lines =
+    (AllByRecursion IsLine lines × ((begun : List ℕ) × IsLine begun × (came ≡ ended lines ++ begun))) ⊎ AreLines came lines
+
+-- What these lines of the bytes show was printed, and perhaps more.
+abbrev pub IsPrintedAtLeast : Limits → Style → List ℕ → Outgoing → Outgoing → Type 0
+IsPrintedAtLeast limits style came before after = (lines : List (List ℕ)) × (text more : List ℕ) × AreLinesSoFar came lines
+    × IsTextOfLines limits style lines text × Appends before.written after.written (text ++ more)
+
+-- The same of all but the last bytes, at most this many.
+pub record IsPrintedBut (most : ℕ) (limits : Limits) (style : Style) (came : List ℕ) (before after : Outgoing) : Type 0 where
+  pub done : List ℕ
+  pub last : List ℕ
+  pub whole : came ≡ done ++ last
+  pub short : length last ≤ most
+  pub printed : IsPrintedAtLeast limits style done before after
+
 -- ---- the answer
 
 -- What was printed of the lines before the faulty one.
@@ -82,9 +103,11 @@ IsShowAnswer limits style new came before after (Err (Capture capture.Read)) =
 IsShowAnswer limits style new came before after (Err Write) =
     (new.failed ≡ false) × ((text : List ℕ) × IsTextOf limits style came text × IsPartlyWritten before after text)
 
--- These bytes came from the input, and the answer is right for them.
+-- These bytes came from the input, and the answer is right for them. After a failed write nothing more was read: all but
+-- at most the last chunk was shown.
 pub record IsShown (limits : Limits) (style : Style) (old new : Incoming) (before after : Outgoing)
     (result : Result Report ShowStop) : Type 0 where
   pub came : List ℕ
   pub received : IsReceived (1000001 * begun_most + 4095) old new came
   pub answer : IsShowAnswer limits style new came before after result
+  pub at_once : result ≡ Err Write → IsPrintedBut chunk_size limits style came before after

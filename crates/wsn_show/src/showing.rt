@@ -33,7 +33,7 @@ pub enum ShowStop {
 /// The error `Line` is the first line that isn't accepted; what the lines before it show is printed. It is returned once
 /// the line has ended or is too long whatever follows, with at most 4,095 bytes read after that byte. `Read` is a read
 /// that failed; what every line shows that was complete by then is printed. `Write` is a write that failed: a prefix is
-/// printed of what would have been.
+/// printed of what would have been, and nothing is read after it.
 #[tactic(none)]
 pub fn show<R: Read, W: Write>(
     input: &mut Input<R>,

@@ -22,7 +22,7 @@ use wsn_wire::Role;
 ///
 /// Errors: `Read` if a read fails, and `InputLimit` if a byte past the input limit comes. With either, what is shown of
 /// the bytes that came within the limit is printed, and no verdict. `Write` if the writer fails: a prefix of the lines is
-/// written.
+/// written, and nothing is read after it.
 #[tactic(none)]
 pub fn show_stream<R: Read, W: Write>(
     input: &mut Input<R>,

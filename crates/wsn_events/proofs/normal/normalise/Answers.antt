@@ -57,8 +57,9 @@ returns-in_err-put_taken-in-Event g c =
     let out = err_from_is_err_and c.from_residual-in_err-put_taken-in-Event.result c.from_residual-in_err-put_taken-in-Event.ensures.1 in
     let reported : c.from_residual-in_err-put_taken-in-Event.result ≡ Err c.in_err-put_taken-in-Event.field-0.0 = out.1 ∙ ap Err out.2 in
     let is : c.from_residual-in_err-put_taken-in-Event.result ≡ Err stop.Write = rw reported (rw failed.written.0 refl) in
-    let fails = taken_failed c.args.role c.args.limits c.args.input.now c.next.new.input c.args.output.now c.put_event.new.to c.next.new.self c.put_taken.new.source with_event c.put_taken.new.output
-    c.in_err-put_taken-in-Event.field-0.0 failed in
+    let fails = taken_failed c.args.role c.args.limits c.args.input.now c.args.output.now c.loop-source.input c.next.new.input c.loop-source.output c.loop-source.source c.next.new.self written
+    c.in_ok-event.field-0 c.in-Event.event c.in-Event.is (c.in_ok-event.ensures.next c.args.role c.args.limits written.came written.given written.has)
+    c.put_event.new.to c.in_ok-put_event-in-Event.ensures c.put_taken.new.output c.put_taken.new.source c.in_err-put_taken-in-Event.field-0.0 failed in
     rw is (record { normalised = fails; whole = λ all known. tt })
 
 pub loop-source-preserved : goal.loop-source-preserved

@@ -66,8 +66,9 @@ returns-in_err-put-in-Refused-clause-seeks g c role limits at came first h =
     let failed = c.in_err-put-in-Refused.ensures.written in
     let out = err_from_is_err_and c.from_residual-in_err-put-in-Refused.result c.from_residual-in_err-put-in-Refused.ensures.1 in
     let is : c.from_residual-in_err-put-in-Refused.result ≡ Err c.in_err-put-in-Refused.field-0.0 = out.1 ∙ ap Err out.2 in
+    let fails = refused_failed role limits at old new piece after n part came first c.args.output.now c.args.event.now h refusal.0 refusal.1 call c.put.new.output c.in_err-put-in-Refused.ensures.own failed.1 in
     subst (SeeksOn role limits at new c.args.event.now came piece first c.put.new.output) (sym is)
-    (failed.0, refused_failed role limits at old new piece after n part came first c.args.output.now c.args.event.now h refusal.0 refusal.1 call c.put.new.output c.in_err-put-in-Refused.ensures.own failed.1)
+    (failed.0, fails.0, fails.1)
 
 pub returns-in_ok-put-in-Refused-clause-seeks : goal.returns-in_ok-put-in-Refused-clause-seeks
 returns-in_ok-put-in-Refused-clause-seeks g c role limits at came first h =
