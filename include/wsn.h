@@ -73,7 +73,7 @@ typedef struct wsn_options {
     uint8_t without_pings;   /* 0; 1 to compare without pings */
     uint8_t without_pongs;   /* 0 */
     uint8_t without_closes;  /* 0 */
-    uint16_t view;           /* 48, to 4,096: bytes of a payload in show */
+    uint16_t view;           /* 48, to 4,096: bytes of a payload shown */
     uint32_t limit;          /* 16,777,216, the maximum: bytes of a message */
     uint32_t frames;         /* 0: no maximum; else that of a message */
 } wsn_options;
@@ -141,6 +141,16 @@ wsn_answer wsn_same(const wsn_options *options,
                     const void *second, size_t second_size,
                     void *output, size_t output_size,
                     void *message, size_t message_size);
+
+/*
+ * Compares them, and where they differ also shows the first event of each that
+ * does, and the place in their payloads; of a payload at most `view` bytes.
+ */
+wsn_answer wsn_same_view(const wsn_options *options,
+                         const void *first, size_t first_size,
+                         const void *second, size_t second_size,
+                         void *output, size_t output_size,
+                         void *message, size_t message_size);
 
 /*
  * Writes the payload of one message, ping, pong or Close: unmasked, joined from

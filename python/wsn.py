@@ -21,9 +21,9 @@ import os
 from typing import Any, Callable, Collection, Dict, List, Optional, Tuple, TypeVar
 
 __all__ = [
-    "BadCharacter", "Close", "Comparison", "EndedBy", "Entry", "Fault", "FaultyCapture", "Frame", "Frames", "NotAccepted",
-    "Report", "Session", "Side", "Stopped", "Unfinished", "Verdict", "closing", "frames", "judge", "normal", "payload", "plan",
-    "recut", "same", "sent", "show",
+    "BadCharacter", "Close", "Comparison", "DifferAt", "EndedBy", "Entry", "Fault", "FaultyCapture", "Frame", "Frames",
+    "NotAccepted", "PayloadView", "Report", "Session", "Side", "Stopped", "Unfinished", "Verdict", "closing", "frames",
+    "judge", "normal", "payload", "plan", "recut", "same", "sent", "show",
 ]
 
 __version__ = "0.1.0"  # That of wsn.h and of wsn --version.
@@ -244,16 +244,45 @@ class Session:
 
 
 @dataclasses.dataclass(frozen=True)
+class PayloadView:
+    """A payload around the first byte that differs: from the byte with this number on, from 0.
+
+    text or hex: the bytes, as a text or in hexadecimal. truncated: whether some that follow are left out.
+    """
+
+    start: int
+    text: Optional[str] = None
+    hex: Optional[str] = None
+    truncated: bool = False
+
+
+@dataclasses.dataclass(frozen=True)
+class DifferAt:
+    """Where the payloads of two events differ. in_payload: the place of the first byte that does, from 0.
+
+    first, second: both payloads around it; None if the view is 0.
+    """
+
+    in_payload: int
+    first: Optional[PayloadView]
+    second: Optional[PayloadView]
+
+
+@dataclasses.dataclass(frozen=True)
 class Comparison:
     """What a comparison answers.
 
     answer: "equal"; "different", where event is the number, from 0, of the first event that differs; or "first" or
     "second", where that stream isn't accepted and verdict says why.
+    first, second: with a view, that event of each stream; None if it has no more. differ_at: where their payloads differ.
     """
 
     answer: str
     event: Optional[int] = None
     verdict: Optional[Verdict] = None
+    first: Optional[Entry] = None
+    second: Optional[Entry] = None
+    differ_at: Optional[DifferAt] = None
 
     @property
     def equal(self) -> bool:
@@ -414,6 +443,20 @@ def _report(fields: Dict[str, Any]) -> Report:
     return _made(Report, {**fields, "client": Side(**fields["client"]), "server": Side(**fields["server"])})
 
 
+def _comparison(fields: Dict[str, Any]) -> Comparison:
+    kinds = {"verdict": _verdict, "first": _entry, "second": _entry, "differ_at": _differ_at}
+    made = {name: kinds[name](value) for name, value in fields.items() if name in kinds and value is not None}
+    return _made(Comparison, {**fields, **made})
+
+
+def _differ_at(fields: Dict[str, Any]) -> DifferAt:
+    return DifferAt(fields["in_payload"], *(_payload_view(fields[stream]) for stream in ("first", "second")))
+
+
+def _payload_view(fields: Optional[Dict[str, Any]]) -> Optional[PayloadView]:
+    return None if fields is None else PayloadView(**{"start" if name == "from" else name: value for name, value in fields.items()})
+
+
 def _entry(fields: Dict[str, Any]) -> Entry:
     character = fields.get("character")
     return _made(Entry, {**fields, "character": None if character is None else BadCharacter(**character)})
@@ -500,17 +543,18 @@ def sent(capture: Any, role: str) -> bytes:
         return _written("wsn_sent", options, given)
 
 
-def same(first: Any, second: Any, role: str, *, without: Collection[str] = (), **limits: Any) -> Comparison:
+def same(
+    first: Any, second: Any, role: str, *, without: Collection[str] = (), view: Optional[int] = None, **limits: Any
+) -> Comparison:
     """Compares what two streams mean, however they are framed and masked.
 
     without: any of "ping", "pong", "close"; events of these kinds are left out of both. The limits are those of `judge`.
-    It doesn't show the events that differ: `show` each stream with its role, and compare the entries.
+    view: if given, the first events that differ are in the answer, each with at most so many bytes of its payload.
     """
-    options = _options(role, without=without, **limits)
+    options = _options(role, without=without, **limits, **({} if view is None else {"view": view}))
     with _Lent(first) as one, _Lent(second) as other:
-        fields = _asked("wsn_same", options, one, other)[0]
-    verdict = fields.get("verdict")
-    return _made(Comparison, {**fields, "verdict": None if verdict is None else _verdict(verdict)})
+        fields = _asked("wsn_same" if view is None else "wsn_same_view", options, one, other)[0]
+    return _comparison(fields)
 
 
 def payload(data: Any, role: str, *, at: int, **limits: Any) -> bytes:

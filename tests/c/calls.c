@@ -88,6 +88,9 @@ static wsn_answer call(const char *command, const wsn_options *options, const st
     if (strcmp(command, "same") == 0)
         return wsn_same(options, in->at, in->size, with->second.at, with->second.size,
                         output.at, output.size, message.at, message.size);
+    if (strcmp(command, "same-view") == 0)
+        return wsn_same_view(options, in->at, in->size, with->second.at, with->second.size,
+                             output.at, output.size, message.at, message.size);
     if (strcmp(command, "recut") == 0)
         return wsn_recut(options, in->at, in->size, with->second.at, with->second.size,
                          output.at, output.size, message.at, message.size);

@@ -1,5 +1,5 @@
 -- What the calls answer.
-use Rattle.std.specs.Prelude.{◌≡◌, ◌++◌, ℕ, Bool, true, false, Result, List, [], None, Some, length, take, drop, codes}
+use Rattle.std.specs.Prelude.{◌≡◌, ◌++◌, ℕ, Bool, true, false, Option, Result, List, [], None, Some, length, take, drop, codes}
 use Rattle.std.specs.declared.alloc.Global.{Global}
 use Rattle.wsn_io.specs.Transfer.{Incoming, Outgoing}
 use Rattle.wsn_command.specs.declared.job.Job.{Job}
@@ -88,17 +88,24 @@ pub record IsComparedOver (comparison : Comparison) (first second text said : Li
   pub status : exit ≡ comparison_status answer
   pub diagnosed : IsStopDiagnosed answer (output_of [] false) (output_of said saying_failed)
 
--- The comparison that is asked for.
-pub record IsComparisonAsked (asked : Asked) (comparison : Comparison) : Type 0 where
+-- The view of events that differ: that of the options, or none, where no event is shown.
+abbrev pub view_shown : Asked → Option ℕ
+view_shown asked = Some asked.style.view
+
+abbrev pub view_unshown : Asked → Option ℕ
+view_unshown asked = None
+
+-- The comparison that is asked for, with this view of events that differ.
+pub record IsComparisonAsked (asked : Asked) (wanted : Option ℕ) (comparison : Comparison) : Type 0 where
   pub role : comparison.role ≡ asked.role
   pub limits : comparison.limits ≡ asked.limits
   pub without : comparison.without ≡ asked.without
   pub format : comparison.format ≡ asked.style.format
-  pub view : comparison.view ≡ None
+  pub view : comparison.view ≡ wanted
 
 -- The call gives what the comparison of these bytes prints that is asked for.
-abbrev pub GivesComparison : Asked → List ℕ → List ℕ → Call → Type 0
-GivesComparison asked first second done = (comparison : Comparison) × IsComparisonAsked asked comparison
+abbrev pub GivesComparison : Asked → Option ℕ → List ℕ → List ℕ → Call → Type 0
+GivesComparison asked view first second done = (comparison : Comparison) × IsComparisonAsked asked view comparison
     × (text : List ℕ) × (said : List ℕ) × (exit : ℕ) × IsComparedOver comparison first second text said exit
     × Gives done text said exit
 
@@ -108,8 +115,9 @@ pub record IsCalled (options : Options) (job : Asked → Job Global) (bytes : Li
   pub run : AreInRange options → (asked : Asked) × IsAsked options asked × GivesRun (job asked) bytes done
   pub usage : ¬ AreInRange options → GivesUsage done
 
--- The call compares for its options as the program does. Options out of range are told.
-pub record IsCompared (options : Options) (first second : List ℕ) (done : Call) : Type 0 where
+-- The call compares for its options as the program does, with this view of events that differ. Options out of range are
+-- told.
+pub record IsCompared (options : Options) (view : Asked → Option ℕ) (first second : List ℕ) (done : Call) : Type 0 where
   pub run : AreInRange options → (asked : Asked) × IsAsked options asked
-      × GivesComparison asked first second done
+      × GivesComparison asked (view asked) first second done
   pub usage : ¬ AreInRange options → GivesUsage done

@@ -1,4 +1,4 @@
-ghost use Rattle.wsn_c.specs.Calls.{IsCompared, GivesComparison, call};
+ghost use Rattle.wsn_c.specs.Calls.{IsCompared, GivesComparison, call, view_shown, view_unshown};
 
 use crate::answer::Answer;
 use crate::options::{Asked, Options};
@@ -7,8 +7,10 @@ use crate::text::Text;
 use std::alloc::Global;
 use wsn_io::{Input, Output};
 use wsn_job::{Comparison, run_same};
+use wsn_print::ViewLimit;
 
-/// Compares what two streams mean, as `wsn same` does. Both were sent by endpoints of the role that the options name.
+/// Compares what two streams mean, as `wsn same` does. Both were sent by endpoints of the role that the options name. It
+/// shows no events.
 #[unsafe(no_mangle)]
 pub extern "C" fn wsn_same(
     alloc: Global,
@@ -18,25 +20,57 @@ pub extern "C" fn wsn_same(
     output: &mut [u8],
     message: &mut [u8],
 ) -> Answer
-    ensures { IsCompared options.now first.now second.now
+    ensures { IsCompared options.now view_unshown first.now second.now
         (call output.old output.new message.old message.new result) }
 {
     match options.asked() {
-        Some(asked) => compare(alloc, &asked, first, second, output, message),
+        Some(asked) => compare(alloc, &asked, None, first, second, output, message),
         None => give_usage(output, message),
     }
 }
 
-/// Compares what two streams mean.
-fn compare(
+/// Compares them as `wsn same --view` does: where they differ, it also shows the first event of each that does, and where
+/// their payloads differ. The most bytes of a payload that it shows are the options' view.
+#[unsafe(no_mangle)]
+pub extern "C" fn wsn_same_view(
     alloc: Global,
-    asked: &Asked,
+    options: &Options,
     first: &[u8],
     second: &[u8],
     output: &mut [u8],
     message: &mut [u8],
 ) -> Answer
-    ensures { GivesComparison asked.now first.now second.now
+    ensures { IsCompared options.now view_shown first.now second.now
+        (call output.old output.new message.old message.new result) }
+{
+    match options.asked() {
+        Some(asked) => {
+            let style = asked.style;
+            compare(
+                alloc,
+                &asked,
+                Some(style.view),
+                first,
+                second,
+                output,
+                message,
+            )
+        }
+        None => give_usage(output, message),
+    }
+}
+
+/// Compares what two streams mean, and shows events that differ if there is a view.
+fn compare(
+    alloc: Global,
+    asked: &Asked,
+    view: Option<ViewLimit>,
+    first: &[u8],
+    second: &[u8],
+    output: &mut [u8],
+    message: &mut [u8],
+) -> Answer
+    ensures { GivesComparison asked.now view first.now second.now
         (call output.old output.new message.old message.new result) }
 {
     let comparison = Comparison {
@@ -44,7 +78,7 @@ fn compare(
         limits: asked.limits,
         without: asked.without,
         format: asked.style.format,
-        view: None,
+        view,
     };
     let mut printed = Output::new(Text::new(alloc));
     let mut said = Output::new(Text::new(alloc));

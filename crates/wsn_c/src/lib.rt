@@ -20,7 +20,7 @@ mod tests;
 mod text;
 
 pub use answer::Answer;
-pub use comparing::wsn_same;
+pub use comparing::{wsn_same, wsn_same_view};
 pub use defaults::wsn_defaults;
 pub use options::{Asked, Options};
 pub use over_captures::{wsn_closing, wsn_show};

@@ -51,7 +51,7 @@ impl<A: Allocator> Text<A> {
 }
 
 impl<A: Allocator> Write for Text<A> {
-    ghost use Rattle.std.specs.Prelude.{Some};
+    ghost use Rattle.std.specs.Prelude.{IsOk, Some};
     ghost use Rattle.std.specs.Io.{WritesAtMost};
     ghost use Rattle.std.specs.Io.KnownBytes.{Keeps, WriteAppends};
 
