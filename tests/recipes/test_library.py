@@ -18,11 +18,12 @@ def repository(folder):
     top, tools = folder / "a repository", folder / "tool chain"
     for made in top / "crates/wsn_c", top / "include", tools / "bin", tools / "c":
         made.mkdir(parents=True)
-    shutil.copy(TOP / "library", top)
+    for name in "library", "build":
+        shutil.copy(TOP / name, top)
+    (top / "crates.txt").write_text("wsn_c staticlib:\n")
     (top / "include/wsn.h").write_text("int judged(void);\n")
-    for path, text in (top / "wsn", "#!/bin/sh\n"), (tools / "bin/rt", RT):
-        path.write_text(text)
-        path.chmod(0o755)
+    (tools / "bin/rt").write_text(RT)
+    (tools / "bin/rt").chmod(0o755)
     (tools / "c/heap.c").write_text("int heap(void) { return 6; }\n")
     run("cc", "-fPIC", "-c", "-o", "heap.o", "heap.c", cwd=tools / "c")
     run("ar", "rc", "liblibc_c.a", "heap.o", cwd=tools / "c")
@@ -58,5 +59,5 @@ def library_that_fails_leaves_nothing(folder):
     run(top / "library", folder / "made", status=1, env={**environment, "CC": "false"})
     (top / "wrong").write_text("")
     said = run(top / "library", folder / "made", status=2, env=environment)[1]
-    same(said, b"no proof\nlibrary: the build failed: wsn_c\n", "what is said")
+    same(said.splitlines()[1:], [b"no proof", b"wsn: the build failed: wsn_c"], "what is said")
     same(list((folder / "made").iterdir()), [], "the files")
