@@ -5,12 +5,14 @@ use Rattle.wsn_wire.specs.declared.endpoint.Role.{Role}
 use Rattle.wsn_wire.specs.Frame.{Frame, is_control, frame_bytes, stream}
 use Rattle.wsn_rules.specs.declared.head_info.HeadInfo.{HeadInfo}
 use Rattle.wsn_rules.specs.Limits.{Limits}
+use Rattle.wsn_rules.specs.Accepted.{HasNoClose}
 use Rattle.wsn_rules.specs.Group.{IsOpen}
 use Rattle.wsn_rules.specs.Heads.{info_of, heads_from, heads_of, BeginsWithHead, IsBegun, AreHeads}
 use Rattle.wsn_rules.specs.Lawful.{IsLawful}
 use Rattle.wsn_rules.specs.ShownStream.{open_offset, event_offset, frame_so_far}
 use Rattle.wsn_rules.proofs.Groups.{unfinished_control, unfinished_final}
 use Rattle.wsn_rules.proofs.HeadsGoOn.{begins_longer}
+use Rattle.wsn_rules.proofs.LawfulLists.{lawful_front, no_close_before}
 use Rattle.wsn_rules.proofs.OneHead.{one_begun}
 use Rattle.wsn_rules.proofs.OpenOffsets.{offset_after_control, offset_after_fragment}
 use Rattle.wsn_rules.proofs.Prefixes.{push-append, append_cancel}
@@ -22,7 +24,7 @@ use Rattle.wsn_payload.proofs.OpenMessages.{open_before, offset_of_data, frame_e
 use Rattle.wsn_payload.proofs.OneEvent.{ArePast, past_differs, past_more, past_within, split}
 
 -- After a frame that has the offset and whose event begins elsewhere, no event begins at the offset.
-past_elsewhere : (fs : List Frame) (f : Frame) (at : ℕ) → length (stream fs) ≤ at → at < length (stream (fs ++ f ∷ [])) → event_offset fs f ≢ at → ArePast (fs ++ f ∷ []) at
+pub past_elsewhere : (fs : List Frame) (f : Frame) (at : ℕ) → length (stream fs) ≤ at → at < length (stream (fs ++ f ∷ [])) → event_offset fs f ≢ at → ArePast (fs ++ f ∷ []) at
 past_elsewhere fs f at from to differs = record { over = to; other = by (cases_Bool (is_control f.op)) (cases_Bool f.fin) }
   where
     by : (is_control f.op ≡ true) ⊎ (is_control f.op ≡ false) → (f.fin ≡ true) ⊎ (f.fin ≡ false) → IsOpen (fs ++ f ∷ []) → open_offset (fs ++ f ∷ []) ≢ at
@@ -73,50 +75,71 @@ next_head front g gs begun info same =
     let tails : info ∷ [] ≡ own ∷ (r.0 ++ begun) = append_cancel (heads_of front) (info ∷ []) (own ∷ (r.0 ++ begun)) (same ∙ all) in
     cc
 
-module _ (role : Role) (limits : Limits) (bytes : List ℕ) (fs before later : List Frame) (f : Frame) (parts : fs ≡ before ++ f ∷ later) (final : f.fin ≡ true) (lawful : IsLawful role limits fs) (after : List ℕ) (whole : bytes ≡ stream fs ++ after) where
-  abbrev place : ℕ
-  place = event_offset before f
+module _ (role : Role) (limits : Limits) (bytes : List ℕ) where
+  -- After these lawful frames the bytes begin with this head.
+  pub record IsHeadAfter (fs : List Frame) (info : HeadInfo) : Type 0 where
+    pub rest : List ℕ
+    pub lawful : IsLawful role limits fs
+    pub no_close : HasNoClose fs
+    pub whole : bytes ≡ stream fs ++ rest
+    pub head : BeginsWithHead role limits fs rest info
 
-  begun_head : (rest : List ℕ) (front : List Frame) (begun : List HeadInfo) (info : HeadInfo) → IsBegun role limits front rest begun → begun ≡ info ∷ [] → BeginsWithHead role limits front rest info
-  begun_head rest front begun info (inl closed) is = let both : [] ≡ info ∷ [] = sym closed.0 ∙ is in absurd cc
-  begun_head rest front begun info (inr (inl none)) is = let both : [] ≡ info ∷ [] = sym none.0 ∙ is in absurd cc
-  begun_head rest front begun info (inr (inr some)) is =
+  begun_head : (rest : List ℕ) (fs : List Frame) (begun : List HeadInfo) (info : HeadInfo) → IsBegun role limits fs rest begun → begun ≡ info ∷ [] → HasNoClose fs × BeginsWithHead role limits fs rest info
+  begun_head rest fs begun info (inl closed) is = let both : [] ≡ info ∷ [] = sym closed.0 ∙ is in absurd cc
+  begun_head rest fs begun info (inr (inl none)) is = let both : [] ≡ info ∷ [] = sym none.0 ∙ is in absurd cc
+  begun_head rest fs begun info (inr (inr some)) is =
       let both : some.1.0 ∷ [] ≡ info ∷ [] = sym some.1.1 ∙ is in
       let same : some.1.0 ≡ info = cc in
-      subst (BeginsWithHead role limits front rest) same some.1.2
+      (some.0, subst (BeginsWithHead role limits fs rest) same some.1.2)
 
-  pub never_inside : (start : EventStart) (w : IsInsideAt role limits bytes place start) (extra : List Frame) → fs ≡ (w.before ++ w.last) ++ extra → ⊥
-  never_inside start w extra goes = by w.last extra w.are_heads goes
+  stream_parts : (fs : List Frame) (x : Frame) (xs : List Frame) (after : List ℕ) → stream (fs ++ x ∷ xs) ++ after ≡ stream fs ++ (frame_bytes x ++ (stream xs ++ after))
+  stream_parts fs x xs after =
+      ap (λ (bs : List ℕ). bs ++ after) (stream-append fs (x ∷ xs)) ∙ append_assoc (stream fs) (stream (x ∷ xs)) after ∙ ap (λ (bs : List ℕ). stream fs ++ bs) (append_assoc (frame_bytes x) (stream xs) after)
+
+  -- The frame in which the offset is begins after frames of the stream.
+  pub head_of_inside : (at : ℕ) (start : EventStart) (w : IsInsideAt role limits bytes at start) → IsHeadAfter w.before w.info
+  head_of_inside at start w = by w.last w.are_heads
     where
-      front : List Frame
-      front = w.before
+      by : (last : List Frame) → AreHeads role limits w.front (w.before ++ last) (heads_of w.before ++ w.info ∷ []) → IsHeadAfter w.before w.info
+      by [] are =
+          let heads = subst (λ (hs : List Frame). AreHeads role limits w.front hs (heads_of w.before ++ w.info ∷ [])) (append-nil w.before) are in
+          let some = begun_head heads.rest w.before heads.begun w.info heads.is_begun (sym (append_cancel (heads_of w.before) (w.info ∷ []) heads.begun heads.all)) in
+          record {
+            rest = heads.rest ++ w.later;
+            lawful = heads.lawful;
+            no_close = some.0;
+            whole = w.whole ∙ ap (λ (bs : List ℕ). bs ++ w.later) heads.whole ∙ append_assoc (stream w.before) heads.rest w.later;
+            head = begins_longer role limits w.before heads.rest w.later w.info some.1;
+          }
+      by (g ∷ gs) are =
+          let after : List ℕ = are.rest ++ w.later in
+          record {
+            rest = frame_bytes g ++ (stream gs ++ after);
+            lawful = lawful_front role limits w.before (g ∷ gs) are.lawful;
+            no_close = no_close_before role limits w.before g gs are.lawful;
+            whole = w.whole ∙ ap (λ (bs : List ℕ). bs ++ w.later) are.whole ∙ append_assoc (stream (w.before ++ g ∷ gs)) are.rest w.later ∙ stream_parts w.before g gs after;
+            head = subst (BeginsWithHead role limits w.before (frame_bytes g ++ (stream gs ++ after))) (sym (next_head w.before g gs are.begun w.info are.all)) (frame_begins role limits w.before g gs (stream gs ++ after) are.lawful);
+          }
 
-      differs : event_offset front (frame_so_far w.info []) ≢ place
-      differs same = w.elsewhere (w.is_start.offset ∙ same)
+  -- If a lawful frame follows the frames, the head is that frame's.
+  pub head_of_next : (fs : List Frame) (info : HeadInfo) → IsHeadAfter fs info → (x : Frame) (xs : List Frame) (after : List ℕ) → IsLawful role limits (fs ++ x ∷ xs) → bytes ≡ stream (fs ++ x ∷ xs) ++ after → info ≡ info_of (length (stream fs)) x
+  head_of_next fs info h x xs after lawful whole =
+      let following : List ℕ = stream xs ++ after in
+      let rest_is : h.rest ≡ frame_bytes x ++ following = append_cancel (stream fs) h.rest (frame_bytes x ++ following) (sym h.whole ∙ whole ∙ stream_parts fs x xs after) in
+      one_begun role limits fs (frame_bytes x ++ following) info (info_of (length (stream fs)) x) (subst (λ (bs : List ℕ). BeginsWithHead role limits fs bs info) rest_is h.head) (frame_begins role limits fs x xs following lawful)
 
-      by : (last more : List Frame) → AreHeads role limits w.front (front ++ last) (heads_of front ++ w.info ∷ []) → fs ≡ (front ++ last) ++ more → ⊥
-      by (g ∷ gs) more are go =
-          elsewhere before later front (gs ++ more) f g w.info (sym parts ∙ go ∙ append_assoc front (g ∷ gs) more) final (next_head front g gs are.begun w.info are.all) w.from w.to differs
-      by [] more are go = of_more more (go ∙ ap (λ (hs : List Frame). hs ++ more) (append-nil front))
-        where
-          heads : AreHeads role limits w.front front (heads_of front ++ w.info ∷ [])
-          heads = subst (λ (hs : List Frame). AreHeads role limits w.front hs (heads_of front ++ w.info ∷ [])) (append-nil front) are
+  -- ---- the offset of an event
 
-          head : BeginsWithHead role limits front heads.rest w.info
-          head = begun_head heads.rest front heads.begun w.info heads.is_begun (sym (append_cancel (heads_of front) (w.info ∷ []) heads.begun heads.all))
+  module _ (fs before later : List Frame) (f : Frame) (parts : fs ≡ before ++ f ∷ later) (final : f.fin ≡ true) (lawful : IsLawful role limits fs) (after : List ℕ) (whole : bytes ≡ stream fs ++ after) where
+    abbrev place : ℕ
+    place = event_offset before f
 
-          of_more : (more : List Frame) → fs ≡ front ++ more → ⊥
-          of_more [] go_on =
-              let past = (subst (λ (hs : List Frame). ArePast hs place) (sym parts ∙ go_on ∙ append-nil front) (past_within before later f place final refl)).over in
-              let from = w.from in
-              let there = head.place in
-              omega (arith, past, from, there)
-          of_more (x ∷ rest) go_on =
-              let bytes_on : stream front ++ (heads.rest ++ w.later) ≡ stream front ++ (frame_bytes x ++ (stream rest ++ after)) =
-              sym (append_assoc (stream front) heads.rest w.later) ∙ ap (λ (bs : List ℕ). bs ++ w.later) (sym heads.whole) ∙ sym w.whole ∙ whole ∙ ap (λ (hs : List Frame). stream hs ++ after) go_on
-              ∙ ap (λ (bs : List ℕ). bs ++ after) (stream-append front (x ∷ rest)) ∙ append_assoc (stream front) (stream (x ∷ rest)) after
-              ∙ ap (λ (bs : List ℕ). stream front ++ bs) (append_assoc (frame_bytes x) (stream rest) after) in
-              let rest_is : heads.rest ++ w.later ≡ frame_bytes x ++ (stream rest ++ after) = append_cancel (stream front) _ _ bytes_on in
-              let longer = subst (λ (bs : List ℕ). BeginsWithHead role limits front bs w.info) rest_is (begins_longer role limits front heads.rest w.later w.info head) in
-              let own = frame_begins role limits front x rest (stream rest ++ after) (subst (IsLawful role limits) go_on lawful) in
-              elsewhere before later front rest f x w.info (sym parts ∙ go_on) final (one_begun role limits front (frame_bytes x ++ (stream rest ++ after)) w.info (info_of (length (stream front)) x) longer own) w.from w.to differs
+    pub never_inside : (start : EventStart) (w : IsInsideAt role limits bytes place start) (extra : List Frame) → fs ≡ w.before ++ extra → ⊥
+    never_inside start w [] goes =
+        let past = (subst (λ (hs : List Frame). ArePast hs place) (sym parts ∙ goes ∙ append-nil w.before) (past_within before later f place final refl)).over in
+        let from = w.from in
+        let there = (head_of_inside place start w).head.place in
+        omega (arith, past, from, there)
+    never_inside start w (x ∷ rest) goes =
+        let is = head_of_next w.before w.info (head_of_inside place start w) x rest after (subst (IsLawful role limits) goes lawful) (whole ∙ ap (λ (hs : List Frame). stream hs ++ after) goes) in
+        elsewhere before later w.before rest f x w.info (sym parts ∙ goes) final is w.from w.to (λ same. w.elsewhere (w.is_start.offset ∙ same))

@@ -6,3 +6,4 @@ pub mod SoughtPieces
 pub mod SoughtInputs
 pub mod OneEvent
 pub mod ElsewhereBegun
+pub mod OnePayload

@@ -102,6 +102,11 @@ not_before fs (InFrame info part) at past place ends = let over = past.over in l
 
 -- ---- of a stream
 
+-- A frame that has begun begins where the whole frames end.
+pub place_of : (role : Role) (limits : Limits) (bytes : List ℕ) (verdict : Verdict) (fs : List Frame) (position : Position) → AreApart role limits bytes verdict fs position → (info : HeadInfo) (part : List ℕ) → position ≡ InFrame info part → info.place ≡ length (stream fs)
+place_of role limits bytes verdict fs BetweenFrames a info part is_at = let both : BetweenFrames ≡ InFrame info part = is_at in cc
+place_of role limits bytes verdict fs (InFrame own taken) a info part is_at = let own_is : own ≡ info = cc in ap (λ (i : HeadInfo). i.place) (sym own_is) ∙ a.is_rest.1.0.place
+
 module _ (role : Role) (limits : Limits) (bytes : List ℕ) (fs before later : List Frame) (f : Frame) (verdict : Verdict) (is : IsVerdict role limits bytes fs verdict) (parts : fs ≡ before ++ f ∷ later) (final : f.fin ≡ true)
     (lawful : IsLawful role limits fs) where
   abbrev at : ℕ
@@ -147,8 +152,4 @@ module _ (role : Role) (limits : Limits) (bytes : List ℕ) (fs before later : L
   pub never_before : (other : Verdict) → EndsBefore role limits bytes other at → ⊥
   never_before other u =
       let same = (one_verdict role limits bytes fs u.frames verdict other is u.are_apart.is_verdict).0 in
-      not_before u.frames u.position at (subst (λ (hs : List Frame). ArePast hs at) same past_all) (place_of u.position u.are_apart) u.end
-    where
-      place_of : (position : Position) → AreApart role limits bytes other u.frames position → (info : HeadInfo) (part : List ℕ) → position ≡ InFrame info part → info.place ≡ length (stream u.frames)
-      place_of BetweenFrames a info part is_at = let both : BetweenFrames ≡ InFrame info part = is_at in cc
-      place_of (InFrame own taken) a info part is_at = let own_is : own ≡ info = cc in ap (λ (i : HeadInfo). i.place) (sym own_is) ∙ a.is_rest.1.0.place
+      not_before u.frames u.position at (subst (λ (hs : List Frame). ArePast hs at) same past_all) (place_of role limits bytes other u.frames u.position u.are_apart) u.end

@@ -54,3 +54,14 @@ pub fn law_whole_payload()
         IsPayloadOfAll role limits (event_offset before f) all first after result →
         (result ≡ Ok Whole) × IsWritten first after (content (event_at before f)) }
 {}
+
+/// What [`payload`](crate::payload) answers for an input's bytes and an offset, and what it writes, is one thing, in whatever
+/// chunks the input comes, unless a read or a write fails.
+pub fn law_one_payload()
+    ensures { (role : Role) (limits : Limits) (at : ℕ) (all : List ℕ)
+        (before after other_before other_after : Outgoing) (result other : Result Payload Stop) →
+        HasNoFailure result → HasNoFailure other → IsPayloadOfAll role limits at all before after result →
+        IsPayloadOfAll role limits at all other_before other_after other →
+        (result ≡ other)
+        × ((payload : List ℕ) × IsWritten before after payload × IsWritten other_before other_after payload) }
+{}

@@ -1,8 +1,8 @@
-use Rattle.std.proofs.Common.{ℕ, [], ◌∷◌, ◌++◌, ◌∙◌, List, ap, append_assoc}
-use Rattle.wsn_wire.specs.Frame.{stream}
+use Rattle.std.proofs.Common.{[], ◌∷◌, ◌++◌}
+use Rattle.wsn_rules.specs.ShownStream.{event_offset}
 use Rattle.wsn_rules.proofs.OneVerdict.{all_go_on, all_of_verdict}
 use Rattle.wsn_payload.proofs.OneEvent.{some_whole, one_whole, never_unfinished, never_before}
-use Rattle.wsn_payload.proofs.ElsewhereBegun.{never_inside}
+use Rattle.wsn_payload.proofs.ElsewhereBegun.{head_of_inside, never_inside}
 use Rattle.wsn_payload.proofs.laws.law_payload_of_event.Goals as goal
 
 pub returns-clause-some : goal.returns-clause-some
@@ -27,7 +27,6 @@ returns-clause-reached c = λ role limits bytes fs before later f verdict other 
 pub returns-clause-own : goal.returns-clause-own
 returns-clause-own c = λ role limits bytes fs before later f verdict start is parts final w.
     let all = all_of_verdict role limits bytes fs verdict is in
-    let heads = w.are_heads in
-    let goes = all_go_on role limits bytes (w.before ++ w.last) fs (heads.rest ++ w.later) heads.lawful
-    (w.whole ∙ ap (λ (bs : List ℕ). bs ++ w.later) heads.whole ∙ append_assoc (stream (w.before ++ w.last)) heads.rest w.later) all in
+    let head = head_of_inside role limits bytes (event_offset before f) start w in
+    let goes = all_go_on role limits bytes w.before fs head.rest head.lawful head.whole all in
     never_inside role limits bytes fs before later f parts final all.lawful all.rest all.whole start w goes.0 goes.1

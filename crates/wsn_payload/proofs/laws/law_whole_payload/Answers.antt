@@ -18,7 +18,7 @@ use Rattle.wsn_payload.specs.declared.answer.Payload.TheVariants.{Whole, Unfinis
 use Rattle.wsn_payload.specs.EventsAt.{content}
 use Rattle.wsn_payload.specs.Payloads.{IsPayloadOfAll}
 use Rattle.wsn_payload.proofs.OneEvent.{first_lawful, first_whole, one_whole, never_unfinished, never_before}
-use Rattle.wsn_payload.proofs.ElsewhereBegun.{never_inside}
+use Rattle.wsn_payload.proofs.ElsewhereBegun.{head_of_inside, never_inside}
 use Rattle.wsn_payload.proofs.laws.law_whole_payload.Goals as goal
 
 module _ (role : Role) (limits : Limits) (all : List ℕ) (fs before later : List Frame) (f : Frame) (verdict : Verdict) (first after : Outgoing) (is : IsVerdict role limits all fs verdict) (parts : fs ≡ before ++ f ∷ later) (final : f.fin ≡ true)
@@ -50,11 +50,9 @@ module _ (role : Role) (limits : Limits) (all : List ℕ) (fs before later : Lis
       (refl, subst (IsWritten first after) (one_whole role limits all fs before later f verdict is parts final of_all.lawful w.0 w.1 goes.0 goes.1) w.2)
   by (Ok (Unfinished v)) works w = absurd (never_unfinished role limits all fs before later f verdict is parts final of_all.lawful v w.0 w.1)
   by (Ok (Inside start)) works w =
-      let i = w.0 in
-      let heads = i.are_heads in
-      let goes = all_go_on role limits all (i.before ++ i.last) fs (heads.rest ++ i.later) heads.lawful
-      (i.whole ∙ ap (λ (bs : List ℕ). bs ++ i.later) heads.whole ∙ append_assoc (stream (i.before ++ i.last)) heads.rest i.later) of_all in
-      absurd (never_inside role limits all fs before later f parts final of_all.lawful of_all.rest of_all.whole start i goes.0 goes.1)
+      let head = head_of_inside role limits all (event_offset before f) start w.0 in
+      let goes = all_go_on role limits all w.0.before fs head.rest head.lawful head.whole of_all in
+      absurd (never_inside role limits all fs before later f parts final of_all.lawful of_all.rest of_all.whole start w.0 goes.0 goes.1)
   by (Ok (Nothing v)) works w = absurd (never_before role limits all fs before later f verdict is parts final of_all.lawful v w.0)
   by (Err stop.InputLimit) works w =
       elim w.1.1 [
