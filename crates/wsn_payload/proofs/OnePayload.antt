@@ -1,11 +1,11 @@
--- What the bytes of an input say of the event at an offset is one thing: its payload, what has come of it, where the offset is, or that all frames end before it.
+-- An input has one answer for an offset, and one payload is written.
 use Rattle.std.specs.Prelude.{if◌then◌else◌}
-use Rattle.std.proofs.Common.{◌≡◌, ◌≢◌, ℕ, ◌+◌, ◌-◌, ◌<◌, ◌≤◌, ◌⊎◌, true, false, Result, Ok, Err, List, [], ◌∷◌, ◌++◌, length, take, drop, inl, inr, refl, sym, ap, ◌∙◌, subst, append-nil, append_assoc, length-append, arith}
+use Rattle.std.proofs.Common.{◌≡◌, ◌≢◌, ℕ, ◌+◌, ◌-◌, ◌<◌, ◌≤◌, ◌⊎◌, Result, Ok, Err, List, [], ◌∷◌, ◌++◌, length, take, drop, inl, inr, refl, sym, ap, ◌∙◌, subst, append-nil, append_assoc, length-append, arith}
 use Rattle.std.proofs.Math.Seq.{take-append-add}
 use Rattle.std.proofs.lemmas.List.{take_at, drop_at}
 use Rattle.wsn_wire.specs.declared.endpoint.Role.{Role}
 use Rattle.wsn_wire.specs.declared.opcode.Op.{Op}
-use Rattle.wsn_wire.specs.Frame.{Frame, is_control, head_bytes, wire_payload, stream}
+use Rattle.wsn_wire.specs.Frame.{Frame, is_control, wire_payload, stream}
 use Rattle.wsn_io.specs.Stops.{HasNoFailure}
 use Rattle.wsn_io.specs.Transfer.{Outgoing, IsWritten}
 use Rattle.wsn_io.specs.declared.stop.Stop.{Stop}
@@ -18,19 +18,18 @@ use Rattle.wsn_rules.specs.Group.{unfinished, first_op}
 use Rattle.wsn_rules.specs.Heads.{info_of, BeginsWithHead}
 use Rattle.wsn_rules.specs.Lawful.{IsLawful}
 use Rattle.wsn_rules.specs.Meaning.{event_at}
-use Rattle.wsn_rules.specs.ShownStream.{open_offset, event_offset, frame_so_far}
+use Rattle.wsn_rules.specs.ShownStream.{event_offset, frame_so_far}
 use Rattle.wsn_rules.specs.Verdict.{IsVerdict}
 use Rattle.wsn_rules.proofs.OneHead.{one_begun, one_following}
 use Rattle.wsn_rules.proofs.OneVerdict.{AreAll, all_go_on, all_of_verdict, one_verdict}
 use Rattle.wsn_rules.proofs.Prefixes.{push-append, append_cancel, two_fronts}
 use Rattle.wsn_rules.proofs.Walk.{walk, spellable_of_lawful}
-use Rattle.wsn_scan.specs.Judging.{IsWithinLimit, IsUnrefused}
 use Rattle.wsn_scan.specs.Positions.{Position, BetweenFrames, InFrame}
 use Rattle.wsn_scan.proofs.WholeInputs.{not_past}
 use Rattle.wsn_payload.specs.declared.answer.EventStart.{EventStart}
 use Rattle.wsn_payload.specs.declared.answer.Payload.{Payload}
 use Rattle.wsn_payload.specs.declared.answer.Payload.TheVariants.{Whole, Unfinished, Inside, Nothing}
-use Rattle.wsn_payload.specs.EventsAt.{content, end_of, judged_bytes, IsWholeAt, IsRestAt, IsBegunAt, EndBefore, AreApart, IsUnfinishedAt, EndsBefore, IsStartOf, IsInsideAt}
+use Rattle.wsn_payload.specs.EventsAt.{content, end_of, judged_bytes, IsWholeAt, IsRestAt, IsBegunAt, EndBefore, AreApart, IsUnfinishedAt, EndsBefore, IsInsideAt}
 use Rattle.wsn_payload.specs.Payloads.{IsPartAt, IsPayloadOfAll}
 use Rattle.wsn_payload.proofs.OpenMessages.{open_before, offset_within, apart_from_control, frame_end}
 use Rattle.wsn_payload.proofs.OneEvent.{ArePast, past_more, past_within, one_event, not_begun, not_before, place_of}
@@ -45,7 +44,7 @@ module _ (role : Role) (limits : Limits) (bytes : List ℕ) where
         | inr p ↦ inr (p.0, p.1)
       ]
 
-  -- ---- one that is not complete
+  -- ---- an event that isn't complete
 
   -- After whole frames, one position fits the bytes that are left.
   one_position : (fs : List Frame) (rest : List ℕ) (p q : Position) → IsRestAt role limits fs rest p → IsRestAt role limits fs rest q → p ≡ q
@@ -78,7 +77,7 @@ module _ (role : Role) (limits : Limits) (bytes : List ℕ) where
   begun_not_before fs (InFrame info part) at payload place (inl is) ends = omega (arith, open_before fs is.1.some, is.1.begins, ends, after_place info, place info part refl)
   begun_not_before fs (InFrame info part) at payload place (inr is) ends = omega (arith, offset_within fs (frame_so_far info part), is.0, ends, after_place info, place info part refl)
 
-  -- The bytes are parted in one way.
+  -- One verdict, one list of frames and one position fit the bytes.
   one_apart : (v w : Verdict) (fs gs : List Frame) (p q : Position) → AreApart role limits bytes v fs p → AreApart role limits bytes w gs q → (v ≡ w) × (fs ≡ gs) × (p ≡ q)
   one_apart v w fs gs p q a b =
       let same = one_verdict role limits bytes fs gs v w a.is_verdict b.is_verdict in
@@ -87,6 +86,7 @@ module _ (role : Role) (limits : Limits) (bytes : List ℕ) where
       (same.1, same.0, one_position fs (drop (length (stream fs)) (judged_bytes v bytes)) p q a.is_rest rest)
 
   module _ (at : ℕ) where
+    -- An event that is not complete has one payload so far, and the stream one verdict.
     pub one_unfinished : (v w : Verdict) (payload other : List ℕ) → IsUnfinishedAt role limits bytes v at payload → IsUnfinishedAt role limits bytes w at other → (v ≡ w) × (payload ≡ other)
     one_unfinished v w payload other a b =
         let same = one_apart v w a.frames b.frames a.position b.position a.are_apart b.are_apart in (
@@ -95,16 +95,18 @@ module _ (role : Role) (limits : Limits) (bytes : List ℕ) where
               (subst (λ (hs : List Frame). IsBegunAt hs a.position at other) (sym same.1) (subst (λ (q : Position). IsBegunAt b.frames q at other) (sym same.2) b.is_begun)),
         )
 
+    -- With no event at the offset, the stream has one verdict.
     pub one_before : (v w : Verdict) → EndsBefore role limits bytes v at → EndsBefore role limits bytes w at → v ≡ w
     one_before v w a b = (one_apart v w a.frames b.frames a.position b.position a.are_apart b.are_apart).0
 
+    -- If the event has begun, not all frames end before the offset.
     pub unfinished_not_before : (v w : Verdict) (payload : List ℕ) → IsUnfinishedAt role limits bytes v at payload → EndsBefore role limits bytes w at → ⊥
     unfinished_not_before v w payload a b =
         let same = one_apart v w a.frames b.frames a.position b.position a.are_apart b.are_apart in
         begun_not_before a.frames a.position at payload (place_of role limits bytes v a.frames a.position a.are_apart) a.is_begun
         (subst (λ (hs : List Frame). EndBefore hs a.position at) (sym same.1) (subst (λ (q : Position). EndBefore b.frames q at) (sym same.2) b.end))
 
-    -- What has come of the payload is one thing.
+    -- What has come of the payload is the same with both verdicts.
     pub one_part : (v w : Verdict) (payload other : List ℕ) → IsPartAt role limits bytes v at payload → IsPartAt role limits bytes w at other → payload ≡ other
     one_part v w payload other (inl a) (inl b) = (one_unfinished v w payload other a b).1
     one_part v w payload other (inl a) (inr b) = absurd (unfinished_not_before v w payload a b.0)
@@ -118,8 +120,9 @@ module _ (role : Role) (limits : Limits) (bytes : List ℕ) where
         let apart = u.0.are_apart in
         not_before u.0.frames u.0.position at (past u.0.frames apart.is_verdict) (place_of role limits bytes v u.0.frames u.0.position apart) u.0.end
 
-    -- ---- a whole one
+    -- ---- a complete event
 
+    -- A complete event has one payload.
     pub one_whole : (payload other : List ℕ) → IsWholeAt role limits bytes at payload → IsWholeAt role limits bytes at other → payload ≡ other
     one_whole payload other a b = a.payload_is ∙ ap content same ∙ sym b.payload_is
       where
@@ -130,6 +133,7 @@ module _ (role : Role) (limits : Limits) (bytes : List ℕ) where
               | inr p ↦ one_event a.before b.before [] p.0 a.last b.last at (p.1 ∙ push-append b.before b.last p.0) a.final b.final a.begins b.begins
             ]
 
+    -- A complete event is not unfinished, and not all frames end before it.
     pub whole_not_part : (v : Verdict) (payload part : List ℕ) → IsWholeAt role limits bytes at payload → IsPartAt role limits bytes v at part → ⊥
     whole_not_part v payload part w is = past_is_no_part v part past is
       where
@@ -138,6 +142,7 @@ module _ (role : Role) (limits : Limits) (bytes : List ℕ) where
             let goes = all_go_on role limits bytes (w.before ++ w.last ∷ []) fs w.later w.lawful w.whole (all_of_verdict role limits bytes fs v verdict) in
             subst (λ (hs : List Frame). ArePast hs at) (sym (goes.1 ∙ push-append w.before w.last goes.0)) (past_within w.before goes.0 w.last at w.final w.begins)
 
+    -- Its offset is in no frame of another event.
     pub whole_not_inside : (payload : List ℕ) (start : EventStart) → IsWholeAt role limits bytes at payload → IsInsideAt role limits bytes at start → ⊥
     whole_not_inside payload start w is =
         elim (one_goes_on (w.before ++ w.last ∷ []) i.before w.later head.rest w.lawful head.lawful w.whole head.whole) [
@@ -168,7 +173,7 @@ module _ (role : Role) (limits : Limits) (bytes : List ℕ) where
         to : at < length (stream (w.before ++ x ∷ []))
         to = let there = subst (λ (i : HeadInfo). at < end_of i) is w.to in omega (arith, there, frame_end w.before x)
 
-    -- The offset is in one frame.
+    -- If the offset is in two frames, they are the same.
     one_inside_after : (start other : EventStart) (w : IsInsideAt role limits bytes at start) (v : IsInsideAt role limits bytes at other) (more : List Frame) → v.before ≡ w.before ++ more → start ≡ other
     one_inside_after start other w v [] goes = λ i. record { op = op i; offset = offset i }
       where
@@ -203,6 +208,7 @@ module _ (role : Role) (limits : Limits) (bytes : List ℕ) where
         let from = v.from in
         absurd (omega (arith, over, place, from))
 
+    -- The offset is inside one event.
     pub one_inside : (start other : EventStart) → IsInsideAt role limits bytes at start → IsInsideAt role limits bytes at other → start ≡ other
     one_inside start other w v =
         let h = head_of_inside role limits bytes at start w in
@@ -212,7 +218,7 @@ module _ (role : Role) (limits : Limits) (bytes : List ℕ) where
           | inr p ↦ sym (one_inside_after other start v w p.0 p.1)
         ]
 
-    -- ---- inside another event, or a part
+    -- ---- inside another event nothing is unfinished
 
     -- A head after the frames that is valid so far comes before the offending byte.
     head_judged : (v : Verdict) (fs : List Frame) (info : HeadInfo) → IsVerdict role limits bytes fs v → IsHeadAfter role limits bytes fs info → BeginsWithHead role limits fs (drop (length (stream fs)) (judged_bytes v bytes)) info
@@ -247,7 +253,7 @@ module _ (role : Role) (limits : Limits) (bytes : List ℕ) where
               | inr p ↦ record { head = b.head; following = p.0; whole = p.1; place = b.place; encoded = b.encoded; key = b.key; form = b.form; size = b.size; has_no_evidence = b.has_no_evidence }
             ]
 
-    -- So the position is in that frame.
+    -- After these frames the position is in the frame with this head.
     in_frame : (v : Verdict) (fs : List Frame) (position : Position) (info : HeadInfo) → AreApart role limits bytes v fs position → IsHeadAfter role limits bytes fs info → (part : List ℕ) × (position ≡ InFrame info part)
     in_frame v fs position info a h = by position a.is_rest
       where
@@ -277,7 +283,7 @@ module _ (role : Role) (limits : Limits) (bytes : List ℕ) where
       from : length (stream w.before) ≤ at
       from = let place = head.head.place in let first = w.from in omega (arith, place, first)
 
-      -- No more frames are whole, and what is there is this.
+      -- If the frame in which the offset is isn't whole, the event hasn't begun, and that frame doesn't end before the offset.
       there_is_no_part : (v : Verdict) (fs : List Frame) (position : Position) (payload : List ℕ) → AreApart role limits bytes v fs position → fs ≡ w.before → IsBegunAt fs position at payload ⊎ EndBefore fs position at → ⊥
       there_is_no_part v fs position payload a same is = by (subst (λ (p : Position). IsBegunAt fs p at payload ⊎ EndBefore fs p at) place.1 is)
         where
@@ -288,6 +294,7 @@ module _ (role : Role) (limits : Limits) (bytes : List ℕ) where
           by (inl begun) = begun_elsewhere w.before w.info place.0 payload from differs (subst (λ (hs : List Frame). IsBegunAt hs (InFrame w.info place.0) at payload) same begun)
           by (inr ends) = let to = w.to in omega (arith, ends, to)
 
+      -- The same, whether that frame is whole or not.
       no_part_after : (v : Verdict) (fs : List Frame) (position : Position) (payload : List ℕ) → AreApart role limits bytes v fs position → (more : List Frame) → fs ≡ w.before ++ more → IsBegunAt fs position at payload ⊎ EndBefore fs position at → ⊥
       no_part_after v fs position payload a [] goes is = there_is_no_part v fs position payload a (goes ∙ append-nil w.before) is
       no_part_after v fs position payload a (x ∷ xs) goes is = by is
@@ -302,26 +309,31 @@ module _ (role : Role) (limits : Limits) (bytes : List ℕ) where
           by (inl begun) = not_begun fs position at payload past begun
           by (inr ends) = not_before fs position at past (place_of role limits bytes v fs position a) ends
 
+      -- The same for the frames of any verdict.
       no_part : (v : Verdict) (fs : List Frame) (position : Position) (payload : List ℕ) → AreApart role limits bytes v fs position → IsBegunAt fs position at payload ⊎ EndBefore fs position at → ⊥
       no_part v fs position payload a is =
           let goes = all_go_on role limits bytes w.before fs head.rest head.lawful head.whole (all_of_verdict role limits bytes fs v a.is_verdict) in
           no_part_after v fs position payload a goes.0 goes.1 is
 
+      -- Inside another event no event begins, and not all frames end before the offset.
       pub inside_not_part : (v : Verdict) (payload : List ℕ) → IsPartAt role limits bytes v at payload → ⊥
       inside_not_part v payload (inl u) = no_part v u.frames u.position payload u.are_apart (inl u.is_begun)
       inside_not_part v payload (inr u) = no_part v u.0.frames u.0.position payload u.0.are_apart (inr u.0.end)
 
 -- ---- within the input limit
 
+-- The first bytes of a list, if there are no more than n, begin its first n bytes.
 take_front : (front later : List ℕ) (n : ℕ) → length front ≤ n → take n (front ++ later) ≡ front ++ take (n - length front) later
 take_front front later n within =
     let size : n ≡ length front + (n - length front) = omega (arith, within) in
     ap (λ (m : ℕ). take m (front ++ later)) size ∙ take-append-add front later (n - length front)
 
 module _ (role : Role) (limits : Limits) (at : ℕ) (all : List ℕ) where
+  -- The bytes within the limit.
   abbrev within : List ℕ
   within = take limits.input all
 
+  -- An event that is complete within the limit is so in them.
   whole_within : (payload : List ℕ) → IsWholeAt role limits all at payload → IsWholeAt role limits within at payload
   whole_within payload w = record {
     before = w.before;
@@ -335,6 +347,7 @@ module _ (role : Role) (limits : Limits) (at : ℕ) (all : List ℕ) where
     payload_is = w.payload_is;
   }
 
+  -- So is a frame of another event.
   inside_within : (start : EventStart) → IsInsideAt role limits all at start → IsInsideAt role limits within at start
   inside_within start w = record {
     front = w.front;
@@ -353,43 +366,57 @@ module _ (role : Role) (limits : Limits) (at : ℕ) (all : List ℕ) where
 
   -- ---- one answer
 
+  -- One answer is one result.
+  answer_alike : (answer other : Payload) → answer ≡ other → (let result : Result Payload Stop = Ok answer in result) ≡ Ok other
+  answer_alike answer other same = ap (λ (a : Payload). let result : Result Payload Stop = Ok a in result) same
+
+  -- Both calls wrote the same payload.
   abbrev AreAlike : Outgoing → Outgoing → Outgoing → Outgoing → Type 0
   AreAlike before after other_before other_after = (payload : List ℕ) × IsWritten before after payload × IsWritten other_before other_after payload
 
+  -- An event that is complete within the limit is answered as such, and its payload written.
+  pub whole_payload : (payload : List ℕ) → IsWholeAt role limits all at payload → (before after : Outgoing) (result : Result Payload Stop) → HasNoFailure result → IsPayloadOfAll role limits at all before after result → (result ≡ Ok Whole) × IsWritten before after payload
+  whole_payload payload w before after (Ok Whole) says is = (refl, subst (IsWritten before after) (one_whole role limits all at is.0 payload is.1 w) is.2)
+  whole_payload payload w before after (Ok (Unfinished v)) says is = absurd (whole_not_part role limits all at v payload is.0 w (inl is.1))
+  whole_payload payload w before after (Ok (Inside start)) says is = absurd (whole_not_inside role limits all at payload start w is.0)
+  whole_payload payload w before after (Ok (Nothing v)) says is = absurd (whole_not_part role limits all at v payload [] w (inr (is.0, refl)))
+  whole_payload payload w before after (Err stop.InputLimit) says is = absurd (whole_not_part role limits within at is.1.0 payload is.0 (whole_within payload w) is.1.1)
+  whole_payload payload w before after (Err stop.Read) says is = absurd says
+  whole_payload payload w before after (Err stop.Memory) says is = absurd says
+  whole_payload payload w before after (Err stop.Write) says is = absurd says
+
+  -- An offset inside an event that begins elsewhere is answered as such, and nothing written.
+  pub inside_payload : (start : EventStart) → IsInsideAt role limits all at start → (before after : Outgoing) (result : Result Payload Stop) → HasNoFailure result → IsPayloadOfAll role limits at all before after result → (result ≡ Ok (Inside start)) × IsWritten before after []
+  inside_payload start w before after (Ok Whole) says is = absurd (whole_not_inside role limits all at is.0 start is.1 w)
+  inside_payload start w before after (Ok (Unfinished v)) says is = absurd (inside_not_part role limits all at start w v is.0 (inl is.1))
+  inside_payload start w before after (Ok (Inside other)) says is = (answer_alike (Inside other) (Inside start) (ap Inside (one_inside role limits all at other start is.0 w)), is.1)
+  inside_payload start w before after (Ok (Nothing v)) says is = absurd (inside_not_part role limits all at start w v [] (inr (is.0, refl)))
+  inside_payload start w before after (Err stop.InputLimit) says is = absurd (inside_not_part role limits within at start (inside_within start w) is.1.0 is.0 is.1.1)
+  inside_payload start w before after (Err stop.Read) says is = absurd says
+  inside_payload start w before after (Err stop.Memory) says is = absurd says
+  inside_payload start w before after (Err stop.Write) says is = absurd says
+
   module _ (before after other_before other_after : Outgoing) where
+    -- One payload that both wrote.
     alike : (payload other : List ℕ) → payload ≡ other → IsWritten before after payload → IsWritten other_before other_after other → AreAlike before after other_before other_after
     alike payload other same one two = (payload, one, subst (IsWritten other_before other_after) (sym same) two)
 
-    answer_alike : (answer other : Payload) → answer ≡ other → (let result : Result Payload Stop = Ok answer in result) ≡ Ok other
-    answer_alike answer other same = ap (λ (a : Payload). let result : Result Payload Stop = Ok a in result) same
-
+    -- Two calls answer alike and write alike.
     pub one_payload : (result other : Result Payload Stop) → HasNoFailure result → HasNoFailure other → IsPayloadOfAll role limits at all before after result → IsPayloadOfAll role limits at all other_before other_after other
         → (result ≡ other) × AreAlike before after other_before other_after
-    one_payload (Ok Whole) (Ok Whole) says also one two = (refl, alike one.0 two.0 (one_whole role limits all at one.0 two.0 one.1 two.1) one.2 two.2)
-    one_payload (Ok Whole) (Ok (Unfinished w)) says also one two = absurd (whole_not_part role limits all at w one.0 two.0 one.1 (inl two.1))
-    one_payload (Ok Whole) (Ok (Inside start)) says also one two = absurd (whole_not_inside role limits all at one.0 start one.1 two.0)
-    one_payload (Ok Whole) (Ok (Nothing w)) says also one two = absurd (whole_not_part role limits all at w one.0 [] one.1 (inr (two.0, refl)))
-    one_payload (Ok Whole) (Err stop.InputLimit) says also one two = absurd (whole_not_part role limits within at two.1.0 one.0 two.0 (whole_within one.0 one.1) two.1.1)
-    one_payload (Ok (Unfinished v)) (Ok Whole) says also one two = absurd (whole_not_part role limits all at v two.0 one.0 two.1 (inl one.1))
+    one_payload (Ok Whole) other says also one two = let same = whole_payload one.0 one.1 other_before other_after other also two in (sym same.0, (one.0, one.2, same.1))
+    one_payload result (Ok Whole) says also one two = let same = whole_payload two.0 two.1 before after result says one in (same.0, (two.0, same.1, two.2))
+    one_payload (Ok (Inside start)) other says also one two = let same = inside_payload start one.0 other_before other_after other also two in (sym same.0, ([], one.1, same.1))
+    one_payload result (Ok (Inside start)) says also one two = let same = inside_payload start two.0 before after result says one in (same.0, ([], same.1, two.1))
     one_payload (Ok (Unfinished v)) (Ok (Unfinished w)) says also one two =
         let same = one_unfinished role limits all at v w one.0 two.0 one.1 two.1 in
         (answer_alike (Unfinished v) (Unfinished w) (ap Unfinished same.0), alike one.0 two.0 same.1 one.2 two.2)
-    one_payload (Ok (Unfinished v)) (Ok (Inside start)) says also one two = absurd (inside_not_part role limits all at start two.0 v one.0 (inl one.1))
     one_payload (Ok (Unfinished v)) (Ok (Nothing w)) says also one two = absurd (unfinished_not_before role limits all at v w one.0 one.1 two.0)
     one_payload (Ok (Unfinished v)) (Err stop.InputLimit) says also one two = absurd (not_past role limits all one.1.frames v one.1.are_apart.is_verdict one.3 two.3 two.4)
-    one_payload (Ok (Inside start)) (Ok Whole) says also one two = absurd (whole_not_inside role limits all at two.0 start two.1 one.0)
-    one_payload (Ok (Inside start)) (Ok (Unfinished w)) says also one two = absurd (inside_not_part role limits all at start one.0 w two.0 (inl two.1))
-    one_payload (Ok (Inside start)) (Ok (Inside other)) says also one two = (answer_alike (Inside start) (Inside other) (ap Inside (one_inside role limits all at start other one.0 two.0)), alike [] [] refl one.1 two.1)
-    one_payload (Ok (Inside start)) (Ok (Nothing w)) says also one two = absurd (inside_not_part role limits all at start one.0 w [] (inr (two.0, refl)))
-    one_payload (Ok (Inside start)) (Err stop.InputLimit) says also one two = absurd (inside_not_part role limits within at start (inside_within start one.0) two.1.0 two.0 two.1.1)
-    one_payload (Ok (Nothing v)) (Ok Whole) says also one two = absurd (whole_not_part role limits all at v two.0 [] two.1 (inr (one.0, refl)))
     one_payload (Ok (Nothing v)) (Ok (Unfinished w)) says also one two = absurd (unfinished_not_before role limits all at w v two.0 two.1 one.0)
-    one_payload (Ok (Nothing v)) (Ok (Inside start)) says also one two = absurd (inside_not_part role limits all at start two.0 v [] (inr (one.0, refl)))
     one_payload (Ok (Nothing v)) (Ok (Nothing w)) says also one two = (answer_alike (Nothing v) (Nothing w) (ap Nothing (one_before role limits all at v w one.0 two.0)), alike [] [] refl one.1 two.1)
     one_payload (Ok (Nothing v)) (Err stop.InputLimit) says also one two = absurd (not_past role limits all one.0.frames v one.0.are_apart.is_verdict one.2 two.3 two.4)
-    one_payload (Err stop.InputLimit) (Ok Whole) says also one two = absurd (whole_not_part role limits within at one.1.0 two.0 one.0 (whole_within two.0 two.1) one.1.1)
     one_payload (Err stop.InputLimit) (Ok (Unfinished w)) says also one two = absurd (not_past role limits all two.1.frames w two.1.are_apart.is_verdict two.3 one.3 one.4)
-    one_payload (Err stop.InputLimit) (Ok (Inside start)) says also one two = absurd (inside_not_part role limits within at start (inside_within start two.0) one.1.0 one.0 one.1.1)
     one_payload (Err stop.InputLimit) (Ok (Nothing w)) says also one two = absurd (not_past role limits all two.0.frames w two.0.are_apart.is_verdict two.2 one.3 one.4)
     one_payload (Err stop.InputLimit) (Err stop.InputLimit) says also one two = (refl, alike one.0 two.0 (one_part role limits within at one.1.0 two.1.0 one.0 two.0 one.1.1 two.1.1) one.2 two.2)
     one_payload (Err stop.Read) other says also one two = absurd says

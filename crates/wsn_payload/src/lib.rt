@@ -2,7 +2,8 @@
 //! 6455 sections 5.3 to 5.6).
 //!
 //! [`payload`] writes it as its bytes come and holds none of it. `specs/EventsAt.antt` defines the event that begins at
-//! an offset, and what has come of it; `specs/Payloads.antt` what is answered and written.
+//! an offset, and what has come of it; `specs/Payloads.antt` what is answered and written. [`laws`] has what follows: an
+//! input's bytes and an offset have one answer, and one payload is written ([`laws::law_one_payload`]).
 #![tactic(auto)]
 
 mod answer;
