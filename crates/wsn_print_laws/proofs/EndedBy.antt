@@ -1,5 +1,5 @@
 -- The object that says who ended a connection is JSON with distinct names, and determines who and whether by a reset.
-use Rattle.std.proofs.Common.{◌≡◌, ℕ, Bool, true, false, List, ◌++◌, codes, refl, sym, ap, ◌∙◌, subst, append_assoc}
+use Rattle.std.proofs.Common.{◌≡◌, ℕ, Bool, true, false, List, ◌++◌, codes, refl, ap, ◌∙◌, subst, append_assoc}
 use Rattle.wsn_wire.specs.declared.endpoint.Role.{Role}
 use Rattle.wsn_print.specs.Json.{string_field, field, boolean}
 use Rattle.wsn_print.specs.ShownObjects.{side_word}

@@ -1,4 +1,5 @@
 pub mod Strings
+pub mod Escapes
 pub mod Numbers
 pub mod OneValue
 pub mod Written

@@ -1,11 +1,14 @@
 -- Texts that are no value's.
 use Rattle.std.proofs.Common.{◌≡◌, ◌≢◌, ℕ, ◌≤◌, inl, inr, Bool, true, false, if◌then◌else◌, List, [], ◌∷◌, ◌++◌, drop, codes, refl, sym, ap, ◌∙◌, subst, arith, append_assoc, append-nil}
-use Rattle.std.specs.Char.{encode_utf8}
+use Rattle.std.specs.Char.{IsScalar, encode_utf8}
+use Rattle.std.specs.List.{AllByRecursion}
 use Rattle.std.proofs.lemmas.Fmt.{decimal_digit}
 use Rattle.std.proofs.lemmas.Str.{char_from_byte}
-use Rattle.wsn_print.specs.QuotedTexts.{IsJsonCharacter, AreJsonCharacters}
-use Rattle.wsn_print_laws.specs.JsonText.{Are, ◌and_then◌, IsString, IsNumber, Value, Null, True, False, Number, String, Object, Members, End, Member, IsValue, AreOthers}
-use Rattle.wsn_print_laws.proofs.Strings.{are_unescaped, plain_string, one_string}
+use Rattle.hex.specs.Hex.{encode_with}
+use Rattle.wsn_print.specs.QuotedTexts.{IsUnicodeEscape, IsJsonCharacter}
+use Rattle.wsn_print_laws.specs.JsonText.{Are, ◌and_then◌, IsCharacter, AreCharacters, IsString, IsNumber, Value, Null, True, False, Number, String, Object, Members, End, Member, IsValue, AreOthers}
+use Rattle.wsn_print_laws.proofs.Strings.{are_unescaped, plain_string, one_string, pair_bytes, no_surrogate, one_character, no_quote_first, string_bytes}
+use Rattle.wsn_print_laws.proofs.Escapes.{escape_is}
 use Rattle.wsn_print_laws.proofs.Numbers.{is_numeric, AreNumeric, Stops, number_characters, one_number}
 use Rattle.wsn_print_laws.proofs.OneValue.{Begins, kind, begins, one_class, rest_stops, same_kind, one_value, StopsAfter, stops_after}
 use Rattle.wsn_print_laws.proofs.Words.{decimal_number}
@@ -216,12 +219,12 @@ pub no_digits : (v : Value) (b : ℕ) (digits : List ℕ) → is_numeric b ≡ t
 no_digits v b digits first are refused is = no_number (b ∷ digits) refused (number_in v b digits first are is)
 
 -- {"a":"LF"}, with an LF as it is.
-no_line_feed : (cs inner y x : List ℕ) → AreJsonCharacters cs inner → inner ++ (34 ∷ y) ≡ 10 ∷ x → ⊥
+no_line_feed : (cs inner y x : List ℕ) → AreCharacters cs inner → inner ++ (34 ∷ y) ≡ 10 ∷ x → ⊥
 no_line_feed [] inner y x are same =
     let whole : 34 ∷ y ≡ 10 ∷ x = ap (λ (bs : List ℕ). bs ++ (34 ∷ y)) (sym are) ∙ same in
     cc
 no_line_feed (c ∷ cs) inner y x are same =
-    character c are.0 (are.1 ++ (34 ∷ y)) x are.3 (sym (append_assoc are.0 are.1 (34 ∷ y)) ∙ ap (λ (bs : List ℕ). bs ++ (34 ∷ y)) (sym are.2) ∙ same)
+    any_character c are.0 (are.1 ++ (34 ∷ y)) x are.3 (sym (append_assoc are.0 are.1 (34 ∷ y)) ∙ ap (λ (bs : List ℕ). bs ++ (34 ∷ y)) (sym are.2) ∙ same)
   where
     backslash : (xs ys : List ℕ) → 92 ∷ xs ≡ 10 ∷ ys → ⊥
     backslash xs ys same = cc
@@ -235,6 +238,11 @@ no_line_feed (c ∷ cs) inner y x are same =
         low c plain.0 (char_from_byte (10 ∷ x) rest c front (omega arith) (omega arith))
     character c bytes rest x (inr (inl short)) same = backslash (short.0 ∷ rest) x (ap (λ (bs : List ℕ). bs ++ rest) (sym short.2) ∙ same)
     character c bytes rest x (inr (inr unicode)) same = backslash (117 ∷ (unicode.2 ++ rest)) x (ap (λ (bs : List ℕ). bs ++ rest) (sym unicode.5) ∙ same)
+
+    any_character : (c : ℕ) (bytes rest x : List ℕ) → IsCharacter c bytes → bytes ++ rest ≡ 10 ∷ x → ⊥
+    any_character c bytes rest x (inl one) same = character c bytes rest x one same
+    any_character c bytes rest x (inr pair) same =
+        character pair.0 pair.3.0 (pair.3.1 ++ rest) x (inr (inr pair.3.3)) (sym (pair_bytes c bytes rest pair) ∙ same)
 
 string_at : (v : Value) (p : List ℕ) → kind v ≡ 34 → IsValue v p → (cs : List ℕ) × IsString cs p
 string_at Null p same is = absurd (omega arith)
@@ -256,3 +264,31 @@ no_raw_line_feed v is =
     let whole : codes "\"\n\"}" ≡ 34 ∷ (inner.0 ++ (34 ∷ x.1)) =
     x.2 ∙ ap (λ (bs : List ℕ). bs ++ x.1) string ∙ ap (λ (bs : List ℕ). 34 ∷ bs) (append_assoc inner.0 (34 ∷ []) x.1) in
     no_line_feed text.0 inner.0 x.1 (codes "\"}") inner.3 (sym (ap (drop 1) whole))
+
+-- "\ud83d", a lone surrogate.
+lone_escape : IsUnicodeEscape 0xd83d (codes "\\ud83d")
+unfolding encode_with
+lone_escape = escape_is 0xd83d (omega arith)
+
+lone_in : (cs inner : List ℕ) → AllByRecursion IsScalar cs → AreCharacters cs inner → inner ++ (34 ∷ []) ≡ codes "\\ud83d\"" → ⊥
+lone_in [] inner scalar are same =
+    let whole : 34 ∷ [] ≡ codes "\\ud83d\"" = ap (λ (bs : List ℕ). bs ++ (34 ∷ [])) (sym are) ∙ same in
+    cc
+lone_in (c ∷ cs) inner scalar are same =
+    one c are.0 (are.1 ++ (34 ∷ [])) scalar.0 are.3 (sym (append_assoc are.0 are.1 (34 ∷ [])) ∙ ap (λ (bs : List ℕ). bs ++ (34 ∷ [])) (sym are.2) ∙ same)
+  where
+    one : (c : ℕ) (bytes rest : List ℕ) → IsScalar c → IsCharacter c bytes → bytes ++ rest ≡ codes "\\ud83d\"" → ⊥
+    one c bytes rest scalar (inl is) same =
+        let first : c ≡ 0xd83d = (one_character c 0xd83d bytes (codes "\\ud83d") rest (codes "\"") is (inr (inr lone_escape)) same).0 in
+        no_surrogate c scalar (omega arith) (omega arith)
+    one c bytes rest scalar (inr pair) same =
+        let following : pair.3.1 ++ rest ≡ codes "\"" =
+        (one_character pair.0 0xd83d pair.3.0 (codes "\\ud83d") (pair.3.1 ++ rest) (codes "\"") (inr (inr pair.3.3)) (inr (inr lone_escape)) (sym (pair_bytes c bytes rest pair) ∙ same)).1 in
+        no_quote_first pair.1 pair.3.1 rest [] (inr (inr pair.3.4)) following
+
+pub no_lone_surrogate : (v : Value) → IsValue v (codes "\"\\ud83d\"") → ⊥
+no_lone_surrogate v is =
+    let quote : Begins 34 (codes "\"\\ud83d\"") = (34, codes "\\ud83d\"", refl, refl) in
+    let text = string_at v (codes "\"\\ud83d\"") (one_class (kind v) 34 (codes "\"\\ud83d\"") (begins v (codes "\"\\ud83d\"") [] is) quote) is in
+    let whole = string_bytes text.0 (codes "\"\\ud83d\"") [] text.1 in
+    lone_in text.0 text.1.1.4.0 text.1.0 text.1.1.4.3 (sym (ap (drop 1) whole))

@@ -1,5 +1,5 @@
 -- What the value of a shown item's object determines: where it is, and the item up to its view.
-use Rattle.std.proofs.Common.{◌≡◌, ℕ, ◌+◌, ◌*◌, ◌-◌, ◌/◌, ◌≤◌, ◌==◌, ◌≢◌, inl, inr, Bool, true, false, ◌&&◌, ◌||◌, if◌then◌else◌, Option, None, Some, List, [], ◌∷◌, ◌++◌, length, take, drop, codes, refl, sym, ap, ◌∙◌, subst, arith, eqb-true}
+use Rattle.std.proofs.Common.{◌≡◌, ℕ, ◌+◌, ◌*◌, ◌-◌, ◌/◌, ◌≤◌, ◌==◌, inl, inr, Bool, true, false, ◌&&◌, ◌||◌, if◌then◌else◌, Option, None, Some, List, [], ◌∷◌, ◌++◌, length, take, drop, codes, refl, sym, ap, ◌∙◌, subst, arith, eqb-true}
 use Rattle.std.specs.Prelude.{decimal, nat_lt, flat_map, IfSome}
 use Rattle.std.proofs.lemmas.Bool.{cases_Bool}
 use Rattle.std.specs.Str.{chars, bytes_eq}
@@ -21,7 +21,7 @@ use Rattle.wsn_print.specs.ShownText.{quoted_character, text_part, text_view, he
 use Rattle.wsn_print.specs.ShownObjects.{Position, side_word, item_type, item_object}
 use Rattle.wsn_print.specs.ShownObjects.Position.{InLine, AtEnd, InStream}
 use Rattle.wsn_print.proofs.HeldViews.{not_zero}
-use Rattle.wsn_print_laws.specs.JsonText.{Null, True, Number, String, Object, Members, End, Member, IsJsonLine}
+use Rattle.wsn_print_laws.specs.JsonText.{Null, True, Number, String, Members, End, Member, IsJsonLine}
 use Rattle.wsn_print_laws.specs.Answers.{IsInU64}
 use Rattle.wsn_print_laws.specs.ShownItems.{IsPositionInRange, AreBytesInRange, IsCharacterInRange, IsItemInRange, AreAlike, HaveLikeCharacters, LookAlike}
 use Rattle.wsn_print_laws.proofs.Distinct.{differ}

@@ -10,9 +10,9 @@ use Rattle.hex.specs.Hex.{decode_of}
 use Rattle.hex.proofs.HexLemmas.{decode_of-ok}
 use Rattle.wsn_print.specs.ShownText.{is_from}
 use Rattle.wsn_print.specs.QuotedTexts.{unescaped, IsPlain, IsJsonCharacter, AreJsonCharacters}
-use Rattle.wsn_print_laws.specs.JsonText.{IsString}
+use Rattle.wsn_print_laws.specs.JsonText.{IsSurrogatePair, IsCharacter, AreCharacters, IsString}
 
--- ---- one character
+-- ---- one character that isn't two surrogates
 
 -- A character as it is doesn't begin with a backslash.
 plain_first : (c : ℕ) (bytes rest more : List ℕ) → IsPlain c bytes → bytes ++ rest ≡ 92 ∷ more → ⊥
@@ -51,7 +51,7 @@ both_unicode c d high low h l one two r t reads_one reads_two is_c is_d same =
     let same_low : low ≡ l = cc in
     (omega (arith, is_c, is_d, same_high, same_low), parts.1)
 
-one_character : (c d : ℕ) (p q r t : List ℕ) → IsJsonCharacter c p → IsJsonCharacter d q → p ++ r ≡ q ++ t → (c ≡ d) × (r ≡ t)
+pub one_character : (c d : ℕ) (p q r t : List ℕ) → IsJsonCharacter c p → IsJsonCharacter d q → p ++ r ≡ q ++ t → (c ≡ d) × (r ≡ t)
 one_character c d p q r t (inl a) (inl b) same =
     encode_same c d r t (ap (λ (bs : List ℕ). bs ++ r) (sym a.3) ∙ same ∙ ap (λ (bs : List ℕ). bs ++ t) b.3)
 one_character c d p q r t (inl a) (inr (inl b)) same =
@@ -71,7 +71,7 @@ one_character c d p q r t (inr (inr a)) (inr (inl b)) same =
 one_character c d p q r t (inr (inr a)) (inr (inr b)) same =
     both_unicode c d a.0 a.1 b.0 b.1 a.2 b.2 r t a.3 b.3 a.4 b.4 (ap (λ (bs : List ℕ). bs ++ r) (sym a.5) ∙ same ∙ ap (λ (bs : List ℕ). bs ++ t) b.5)
 
--- No character begins with a quotation mark.
+-- It doesn't begin with a quotation mark.
 no_quote_plain : (c : ℕ) (bytes rest more : List ℕ) → IsPlain c bytes → bytes ++ rest ≡ 34 ∷ more → ⊥
 no_quote_plain c bytes rest more plain same =
     let front : 34 ∷ more ≡ encode_utf8 c ++ rest = sym same ∙ ap (λ (bs : List ℕ). bs ++ rest) plain.3 in
@@ -80,26 +80,64 @@ no_quote_plain c bytes rest more plain same =
 backslash_or_quote : (xs ys : List ℕ) → 92 ∷ xs ≡ 34 ∷ ys → ⊥
 backslash_or_quote xs ys same = cc
 
-no_quote_first : (c : ℕ) (bytes rest more : List ℕ) → IsJsonCharacter c bytes → bytes ++ rest ≡ 34 ∷ more → ⊥
+pub no_quote_first : (c : ℕ) (bytes rest more : List ℕ) → IsJsonCharacter c bytes → bytes ++ rest ≡ 34 ∷ more → ⊥
 no_quote_first c bytes rest more (inl plain) same = no_quote_plain c bytes rest more plain same
 no_quote_first c bytes rest more (inr (inl short)) same =
     backslash_or_quote (short.0 ∷ rest) more (ap (λ (bs : List ℕ). bs ++ rest) (sym short.2) ∙ same)
 no_quote_first c bytes rest more (inr (inr unicode)) same =
     backslash_or_quote (117 ∷ (unicode.2 ++ rest)) more (ap (λ (bs : List ℕ). bs ++ rest) (sym unicode.5) ∙ same)
 
+-- ---- one character
+
+-- The escapes of two surrogates, with what follows them.
+pub pair_bytes : (c : ℕ) (p r : List ℕ) (is : IsSurrogatePair c p) → p ++ r ≡ is.3.0 ++ (is.3.1 ++ r)
+pair_bytes c p r is = ap (λ (bs : List ℕ). bs ++ r) is.3.2 ∙ append_assoc is.3.0 is.3.1 r
+
+pub no_surrogate : (c : ℕ) → IsScalar c → 0xd800 ≤ c → c ≤ 0xdfff → ⊥
+no_surrogate c is high low = grind (arith, nat_tests)
+
+-- Where a character begins that isn't two surrogates, no two surrogates do.
+one_or_two : (c d : ℕ) (p q r t : List ℕ) → IsScalar c → IsJsonCharacter c p → IsSurrogatePair d q → p ++ r ≡ q ++ t → ⊥
+one_or_two c d p q r t scalar is pair same =
+    let first : c ≡ pair.0 = (one_character c pair.0 p pair.3.0 r (pair.3.1 ++ t) is (inr (inr pair.3.3)) (same ∙ pair_bytes d q t pair)).0 in
+    no_surrogate c scalar (omega (arith, first, pair.2.0)) (omega (arith, first, pair.2.1))
+
+both_pairs : (c d : ℕ) (p q r t : List ℕ) → IsSurrogatePair c p → IsSurrogatePair d q → p ++ r ≡ q ++ t → (c ≡ d) × (r ≡ t)
+both_pairs c d p q r t a b same =
+    let high = one_character a.0 b.0 a.3.0 b.3.0 (a.3.1 ++ r) (b.3.1 ++ t) (inr (inr a.3.3)) (inr (inr b.3.3)) (sym (pair_bytes c p r a) ∙ same ∙ pair_bytes d q t b) in
+    let low = one_character a.1 b.1 a.3.1 b.3.1 r t (inr (inr a.3.4)) (inr (inr b.3.4)) high.1 in
+    (omega (arith, a.2.4, b.2.4, high.0, low.0), low.1)
+
+one_of_any : (c d : ℕ) (p q r t : List ℕ) → IsScalar c → IsScalar d → IsCharacter c p → IsCharacter d q → p ++ r ≡ q ++ t → (c ≡ d) × (r ≡ t)
+one_of_any c d p q r t scalar also (inl a) (inl b) same = one_character c d p q r t a b same
+one_of_any c d p q r t scalar also (inl a) (inr b) same = absurd (one_or_two c d p q r t scalar a b same)
+one_of_any c d p q r t scalar also (inr a) (inl b) same = absurd (one_or_two d c q p t r also b a (sym same))
+one_of_any c d p q r t scalar also (inr a) (inr b) same = both_pairs c d p q r t a b same
+
+-- No character begins with a quotation mark.
+no_quote_before : (c : ℕ) (bytes rest more : List ℕ) → IsCharacter c bytes → bytes ++ rest ≡ 34 ∷ more → ⊥
+no_quote_before c bytes rest more (inl one) same = no_quote_first c bytes rest more one same
+no_quote_before c bytes rest more (inr pair) same =
+    no_quote_first pair.0 pair.3.0 (pair.3.1 ++ rest) more (inr (inr pair.3.3)) (sym (pair_bytes c bytes rest pair) ∙ same)
+
+-- Characters without surrogates.
+pub without_surrogates : (cs bytes : List ℕ) → AreJsonCharacters cs bytes → AreCharacters cs bytes
+without_surrogates [] bytes are = are
+without_surrogates (c ∷ cs) bytes are = (are.0, are.1, are.2, inl are.3, without_surrogates cs are.1 are.4)
+
 -- ---- characters up to a quotation mark
 
-one_run : (cs ds a b r t : List ℕ) → AreJsonCharacters cs a → AreJsonCharacters ds b → a ++ (34 ∷ r) ≡ b ++ (34 ∷ t) → (cs ≡ ds) × (r ≡ t)
-one_run [] [] a b r t is_a is_b same =
+one_run : (cs ds a b r t : List ℕ) → AllByRecursion IsScalar cs → AllByRecursion IsScalar ds → AreCharacters cs a → AreCharacters ds b → a ++ (34 ∷ r) ≡ b ++ (34 ∷ t) → (cs ≡ ds) × (r ≡ t)
+one_run [] [] a b r t scalar also is_a is_b same =
     let ends : 34 ∷ r ≡ 34 ∷ t = ap (λ (bs : List ℕ). bs ++ (34 ∷ r)) (sym is_a) ∙ same ∙ ap (λ (bs : List ℕ). bs ++ (34 ∷ t)) is_b in
     (refl, cc)
-one_run [] (d ∷ ds) a b r t is_a is_b same =
-    absurd (no_quote_first d is_b.0 (is_b.1 ++ (34 ∷ t)) r is_b.3 (sym (append_assoc is_b.0 is_b.1 (34 ∷ t)) ∙ ap (λ (bs : List ℕ). bs ++ (34 ∷ t)) (sym is_b.2) ∙ sym same ∙ ap (λ (bs : List ℕ). bs ++ (34 ∷ r)) is_a))
-one_run (c ∷ cs) [] a b r t is_a is_b same =
-    absurd (no_quote_first c is_a.0 (is_a.1 ++ (34 ∷ r)) t is_a.3 (sym (append_assoc is_a.0 is_a.1 (34 ∷ r)) ∙ ap (λ (bs : List ℕ). bs ++ (34 ∷ r)) (sym is_a.2) ∙ same ∙ ap (λ (bs : List ℕ). bs ++ (34 ∷ t)) is_b))
-one_run (c ∷ cs) (d ∷ ds) a b r t is_a is_b same =
-    let first = one_character c d is_a.0 is_b.0 (is_a.1 ++ (34 ∷ r)) (is_b.1 ++ (34 ∷ t)) is_a.3 is_b.3 (sym (append_assoc is_a.0 is_a.1 (34 ∷ r)) ∙ ap (λ (bs : List ℕ). bs ++ (34 ∷ r)) (sym is_a.2) ∙ same ∙ ap (λ (bs : List ℕ). bs ++ (34 ∷ t)) is_b.2 ∙ append_assoc is_b.0 is_b.1 (34 ∷ t)) in
-    let others = one_run cs ds is_a.1 is_b.1 r t is_a.4 is_b.4 first.1 in
+one_run [] (d ∷ ds) a b r t scalar also is_a is_b same =
+    absurd (no_quote_before d is_b.0 (is_b.1 ++ (34 ∷ t)) r is_b.3 (sym (append_assoc is_b.0 is_b.1 (34 ∷ t)) ∙ ap (λ (bs : List ℕ). bs ++ (34 ∷ t)) (sym is_b.2) ∙ sym same ∙ ap (λ (bs : List ℕ). bs ++ (34 ∷ r)) is_a))
+one_run (c ∷ cs) [] a b r t scalar also is_a is_b same =
+    absurd (no_quote_before c is_a.0 (is_a.1 ++ (34 ∷ r)) t is_a.3 (sym (append_assoc is_a.0 is_a.1 (34 ∷ r)) ∙ ap (λ (bs : List ℕ). bs ++ (34 ∷ r)) (sym is_a.2) ∙ same ∙ ap (λ (bs : List ℕ). bs ++ (34 ∷ t)) is_b))
+one_run (c ∷ cs) (d ∷ ds) a b r t scalar also is_a is_b same =
+    let first = one_of_any c d is_a.0 is_b.0 (is_a.1 ++ (34 ∷ r)) (is_b.1 ++ (34 ∷ t)) scalar.0 also.0 is_a.3 is_b.3 (sym (append_assoc is_a.0 is_a.1 (34 ∷ r)) ∙ ap (λ (bs : List ℕ). bs ++ (34 ∷ r)) (sym is_a.2) ∙ same ∙ ap (λ (bs : List ℕ). bs ++ (34 ∷ t)) is_b.2 ∙ append_assoc is_b.0 is_b.1 (34 ∷ t)) in
+    let others = one_run cs ds is_a.1 is_b.1 r t scalar.1 also.1 is_a.4 is_b.4 first.1 in
     let heads : c ≡ d = first.0 in
     let tails : cs ≡ ds = others.0 in
     (cc, others.1)
@@ -107,7 +145,7 @@ one_run (c ∷ cs) (d ∷ ds) a b r t is_a is_b same =
 -- ---- a string
 
 -- A string's bytes, with those after it.
-string_bytes : (cs p r : List ℕ) (is : IsString cs p) → p ++ r ≡ 34 ∷ (is.1.4.0 ++ (34 ∷ r))
+pub string_bytes : (cs p r : List ℕ) (is : IsString cs p) → p ++ r ≡ 34 ∷ (is.1.4.0 ++ (34 ∷ r))
 string_bytes cs p r is =
     let text = is.1 in
     let inner = text.4.0 in
@@ -118,7 +156,7 @@ string_bytes cs p r is =
 pub one_string : (cs ds p q r t : List ℕ) → IsString cs p → IsString ds q → p ++ r ≡ q ++ t → (cs ≡ ds) × (r ≡ t)
 one_string cs ds p q r t a b same =
     let whole : 34 ∷ (a.1.4.0 ++ (34 ∷ r)) ≡ 34 ∷ (b.1.4.0 ++ (34 ∷ t)) = sym (string_bytes cs p r a) ∙ same ∙ string_bytes ds q t b in
-    one_run cs ds a.1.4.0 b.1.4.0 r t a.1.4.3 b.1.4.3 (ap (drop 1) whole)
+    one_run cs ds a.1.4.0 b.1.4.0 r t a.0 b.0 a.1.4.3 b.1.4.3 (ap (drop 1) whole)
 
 -- ---- a string of characters that need no escape
 
@@ -146,11 +184,11 @@ no_backslash c is backslash = grind (arith, nat_tests)
 pub ascii_is_scalar : (c : ℕ) → c < 128 → IsScalar c
 ascii_is_scalar c small = grind (arith, nat_tests)
 
-pub plain_characters : (cs : List ℕ) → are_unescaped cs ≡ true → AreJsonCharacters cs cs
+pub plain_characters : (cs : List ℕ) → are_unescaped cs ≡ true → AreCharacters cs cs
 plain_characters [] are = refl
 plain_characters (c ∷ cs) are =
     let parts = and_parts (is_unescaped c) (are_unescaped cs) are in
-    (c ∷ [], cs, refl, inl (from_space c parts.0, no_quote c parts.0, no_backslash c parts.0, sym (encode_ascii c (below_delete c parts.0))), plain_characters cs parts.1)
+    (c ∷ [], cs, refl, inl (inl (from_space c parts.0, no_quote c parts.0, no_backslash c parts.0, sym (encode_ascii c (below_delete c parts.0)))), plain_characters cs parts.1)
 
 pub scalars : (cs : List ℕ) → are_unescaped cs ≡ true → AllByRecursion IsScalar cs
 scalars [] are = tt

@@ -1,6 +1,6 @@
 -- Members, by their texts.
 use Rattle.std.proofs.Common.{◌≡◌, ℕ, true, List, [], ◌∷◌, ◌++◌, codes, refl, sym, ap, ◌∙◌, subst, append_assoc, append-nil}
-use Rattle.std.specs.Prelude.{decimal}
+use Rattle.std.specs.Prelude.{decimal, flat_map}
 use Rattle.std.specs.Char.{IsScalar}
 use Rattle.std.specs.List.{AllByRecursion}
 use Rattle.std.specs.Str.{chars, IsUtf8, all_scalars}
@@ -8,10 +8,12 @@ use Rattle.std.proofs.lemmas.Bool.{and_parts}
 use Rattle.std.proofs.lemmas.Str.{scalars-chars}
 use Rattle.wsn_print.specs.Json.{string_of, field}
 use Rattle.wsn_print.specs.ShownText.{quoted}
+use Rattle.wsn_print.specs.DifferingPayloads.{ascii_character, ascii_quoted}
 use Rattle.wsn_print.proofs.JsonTexts.{quoted_is_json}
 use Rattle.wsn_print_laws.specs.JsonText.{Value, Null, True, Number, String, Object, Members, End, Member, IsValue, AreOthers, IsJsonLine}
 use Rattle.wsn_print_laws.specs.Answers.{IsInU64}
-use Rattle.wsn_print_laws.proofs.Strings.{are_unescaped, plain_string}
+use Rattle.wsn_print_laws.proofs.Strings.{are_unescaped, without_surrogates, plain_string}
+use Rattle.wsn_print_laws.proofs.Escapes.{ascii_characters}
 use Rattle.wsn_print_laws.proofs.Written.{write, IsPlainValue, text_of}
 use Rattle.wsn_print_laws.proofs.Words.{decimal_number}
 use Rattle.wsn_print_laws.proofs.Fields.{value_member}
@@ -101,7 +103,13 @@ each_scalar (c ∷ cs) all =
 pub quoted_text : (text : List ℕ) → IsUtf8 text → IsTextOf (String (chars text)) (quoted text)
 quoted_text text utf8 =
     let json = quoted_is_json text in
-    record { is = (each_scalar (chars text) (scalars-chars text utf8), (34 ∷ [], json.inner ++ (34 ∷ []), json.between, refl, (json.inner, 34 ∷ [], refl, json.characters, refl))) }
+    record { is = (each_scalar (chars text) (scalars-chars text utf8), (34 ∷ [], json.inner ++ (34 ∷ []), json.between, refl, (json.inner, 34 ∷ [], refl, without_surrogates (chars text) json.inner json.characters, refl))) }
+
+pub ascii_text : (text : List ℕ) → IsUtf8 text → IsTextOf (String (chars text)) (ascii_quoted text)
+ascii_text text utf8 =
+    let each = each_scalar (chars text) (scalars-chars text utf8) in
+    let inner = flat_map ascii_character (chars text) in
+    record { is = (each, (34 ∷ [], inner ++ (34 ∷ []), refl, refl, (inner, 34 ∷ [], refl, ascii_characters (chars text) each, refl))) }
 
 -- ---- a line
 

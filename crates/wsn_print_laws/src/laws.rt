@@ -28,7 +28,8 @@ pub fn law_one_value()
 {}
 
 /// The grammar refuses what isn't JSON. An object's text is no text if bytes follow it, or if its last bytes are missing.
-/// No value has any of these texts, and two members with one name don't have distinct names.
+/// No value has any of these texts, the last of which has one surrogate alone, and two members with one name don't have
+/// distinct names.
 pub fn law_what_is_not_json()
     ensures object_ends { (members : Members) (other : Value) (text more : List ℕ) →
         IsValue (Object members) text → IsValue other (text ++ more) → more ≡ [] }
@@ -47,6 +48,7 @@ pub fn law_what_is_not_json()
     ensures same_name { (name : List ℕ) (value other : Value) (others : Members) →
         ¬ (HasDistinctNames (Object (Member name value (Member name other others)))) }
     ensures line_feed { (value : Value) → ¬ (IsValue value (codes "{\"a\":\"\n\"}")) }
+    ensures lone_surrogate { (value : Value) → ¬ (IsValue value (codes "\"\\ud83d\"")) }
 {}
 
 /// The objects of answers, shown items, end marks, comments and ends are JSON: one object and an LF. No name occurs twice in

@@ -1,5 +1,5 @@
 use Rattle.std.proofs.Common.{[], ◌∷◌, refl}
-use Rattle.wsn_print_laws.proofs.RefusedTexts.{object_ends, object_not_cut, no_empty, no_bare_name, no_colon, no_value, no_last_comma, no_digits, no_raw_line_feed}
+use Rattle.wsn_print_laws.proofs.RefusedTexts.{object_ends, object_not_cut, no_empty, no_bare_name, no_colon, no_value, no_last_comma, no_digits, no_raw_line_feed, no_lone_surrogate}
 use Rattle.wsn_print_laws.proofs.laws.law_what_is_not_json.Goals as goal
 
 pub returns-clause-object_ends : goal.returns-clause-object_ends
@@ -37,6 +37,9 @@ returns-clause-bare_exponent c = λ value. no_digits value 49 (101 ∷ []) refl 
 
 pub returns-clause-line_feed : goal.returns-clause-line_feed
 returns-clause-line_feed c = no_raw_line_feed
+
+pub returns-clause-lone_surrogate : goal.returns-clause-lone_surrogate
+returns-clause-lone_surrogate c = no_lone_surrogate
 
 pub returns-clause-same_name : goal.returns-clause-same_name
 returns-clause-same_name c = λ name value other others distinct. distinct.0.0 refl

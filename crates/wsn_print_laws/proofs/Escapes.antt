@@ -1,0 +1,89 @@
+-- A text in printable ASCII characters is a string: its other characters are escaped, those beyond U+FFFF as two
+-- surrogates.
+use Rattle.std.proofs.Common.{◌≡◌, ℕ, zero, suc, ◌+◌, ◌-◌, ◌/◌, ◌%◌, ◌<◌, ◌≤◌, ◌==◌, ◌||◌, inl, inr, Bool, true, false, if◌then◌else◌, Some, List, [], ◌∷◌, ◌++◌, refl, sym, arith}
+use Rattle.std.specs.Prelude.{nat_lt, flat_map}
+use Rattle.std.specs.Char.{IsScalar}
+use Rattle.std.specs.List.{AllByRecursion}
+use Rattle.std.proofs.lemmas.Bool.{or_parts}
+use Rattle.std.proofs.lemmas.Bool.Decides.{nat_tests}
+use Rattle.std.proofs.lemmas.Str.{encode_ascii}
+use Rattle.hex.specs.Hex.{IsBytes, encode_lower}
+use Rattle.hex.proofs.HexLemmas.{decode_of-encode_lower}
+use Rattle.wsn_print.specs.ShownText.{is_from, unicode_escape}
+use Rattle.wsn_print.specs.QuotedTexts.{unescaped, IsUnicodeEscape}
+use Rattle.wsn_print.specs.DifferingPayloads.{ascii_escape, ascii_character}
+use Rattle.wsn_print_laws.specs.JsonText.{IsSurrogatePair, IsCharacter, AreCharacters}
+
+-- ---- escapes
+
+two_bytes : (a b : ℕ) → a < 256 → b < 256 → IsBytes (a ∷ b ∷ [])
+two_bytes a b fits also zero = fits
+two_bytes a b fits also (suc zero) = also
+two_bytes a b fits also (suc (suc i)) = omega arith
+
+pub escape_is : (c : ℕ) → c < 65536 → IsUnicodeEscape c (unicode_escape c)
+escape_is c fits =
+    (c / 256, c % 256, encode_lower (c / 256 ∷ c % 256 ∷ []), decode_of-encode_lower (c / 256 ∷ c % 256 ∷ []) (two_bytes (c / 256) (c % 256) (omega arith) (omega arith)), omega arith, refl)
+
+scalar_most : (c : ℕ) → IsScalar c → c < 0x110000
+scalar_most c is = grind (arith, nat_tests)
+
+pair_is : (c : ℕ) → IsScalar c → 0x10000 ≤ c → IsSurrogatePair c (unicode_escape (0xd800 + (c - 0x10000) / 0x400) ++ unicode_escape (0xdc00 + (c - 0x10000) % 0x400))
+pair_is c is high =
+    let most : c < 0x110000 = scalar_most c is in (
+      0xd800 + (c - 0x10000) / 0x400,
+      0xdc00 + (c - 0x10000) % 0x400,
+      (omega arith, omega arith, omega arith, omega arith, omega arith),
+      (
+        unicode_escape (0xd800 + (c - 0x10000) / 0x400),
+        unicode_escape (0xdc00 + (c - 0x10000) % 0x400),
+        refl,
+        escape_is (0xd800 + (c - 0x10000) / 0x400) (omega arith),
+        escape_is (0xdc00 + (c - 0x10000) % 0x400) (omega arith),
+      ),
+    )
+
+at_least : (c : ℕ) → nat_lt c 0x10000 ≡ false → 0x10000 ≤ c
+at_least c test = grind (arith, nat_tests)
+
+below : (c : ℕ) → nat_lt c 0x10000 ≡ true → c < 0x10000
+below c test = grind (arith, nat_tests)
+
+escape_by : (c : ℕ) (few : Bool) → nat_lt c 0x10000 ≡ few → IsScalar c
+    → IsCharacter c (if few then unicode_escape c else unicode_escape (0xd800 + (c - 0x10000) / 0x400) ++ unicode_escape (0xdc00 + (c - 0x10000) % 0x400))
+escape_by c true test is = inl (inr (inr (escape_is c (below c test))))
+escape_by c false test is = inr (pair_is c is (at_least c test))
+
+-- ---- characters
+
+for_itself : (c : ℕ) → (c == 34 || c == 92) ≡ true → unescaped c ≡ Some c
+for_itself c test = rw test refl
+
+from_space : (c : ℕ) → is_from 0x20 0x7e c ≡ true → 0x20 ≤ c
+from_space c test = grind (arith, nat_tests)
+
+to_tilde : (c : ℕ) → is_from 0x20 0x7e c ≡ true → c < 128
+to_tilde c test = grind (arith, nat_tests)
+
+no_quote : (c : ℕ) → (c == 34) ≡ false → c ≡ 34 → ⊥
+no_quote c test quote = grind (arith, nat_tests)
+
+no_backslash : (c : ℕ) → (c == 92) ≡ false → c ≡ 92 → ⊥
+no_backslash c test backslash = grind (arith, nat_tests)
+
+printable_by : (c : ℕ) (printable : Bool) → is_from 0x20 0x7e c ≡ printable → (c == 34 || c == 92) ≡ false → IsScalar c
+    → IsCharacter c (if printable then c ∷ [] else ascii_escape c)
+printable_by c true test plain is =
+    let parts = or_parts (c == 34) (c == 92) plain in
+    inl (inl (from_space c test, no_quote c parts.0, no_backslash c parts.1, sym (encode_ascii c (to_tilde c test))))
+printable_by c false test plain is = escape_by c (nat_lt c 0x10000) refl is
+
+character_by : (c : ℕ) (escaped : Bool) → (c == 34 || c == 92) ≡ escaped → IsScalar c
+    → IsCharacter c (if escaped then 92 ∷ c ∷ [] else (if is_from 0x20 0x7e c then c ∷ [] else ascii_escape c))
+character_by c true test is = inl (inr (inl (c, for_itself c test, refl)))
+character_by c false test is = printable_by c (is_from 0x20 0x7e c) refl test is
+
+pub ascii_characters : (cs : List ℕ) → AllByRecursion IsScalar cs → AreCharacters cs (flat_map ascii_character cs)
+ascii_characters [] are = refl
+ascii_characters (c ∷ cs) are =
+    (ascii_character c, flat_map ascii_character cs, refl, character_by c (c == 34 || c == 92) refl are.0, ascii_characters cs are.1)
