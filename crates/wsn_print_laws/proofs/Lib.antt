@@ -20,6 +20,7 @@ pub mod Texts
 pub mod ShownJson
 pub mod ShownReader
 pub mod ShownNames
+pub mod Differences
 pub mod EndMarks
 pub mod Comments
 pub mod EndedBy

@@ -145,19 +145,19 @@ truncated_by : (t : Bool) → AreTextsOf (if t then Member (codes "truncated") T
 truncated_by true = last (codes "truncated") refl true_text
 truncated_by false = none
 
-truncated_texts : (shown all : ℕ) → AreTextsOf (truncated_json shown all) (truncated_field shown all)
+pub truncated_texts : (shown all : ℕ) → AreTextsOf (truncated_json shown all) (truncated_field shown all)
 truncated_texts shown all = truncated_by (nat_lt shown all)
 
 text_texts : (n : ℕ) (text : List ℕ) → AreTextsOf (text_json n text) (text_fields n text)
 text_texts n text =
     member (codes "text") refl (quoted_text (take (text_part n text) text) (part_is_utf8 n text)) (truncated_texts (text_part n text) (length text))
 
-take_bytes : (n : ℕ) (bytes : List ℕ) → IsBytes bytes → IsBytes (take n bytes)
+pub take_bytes : (n : ℕ) (bytes : List ℕ) → IsBytes bytes → IsBytes (take n bytes)
 take_bytes zero bytes are = tt
 take_bytes (suc n) [] are = tt
 take_bytes (suc n) (b ∷ bytes) are = (are.0, take_bytes n bytes are.1)
 
-drop_bytes : (n : ℕ) (bytes : List ℕ) → IsBytes bytes → IsBytes (drop n bytes)
+pub drop_bytes : (n : ℕ) (bytes : List ℕ) → IsBytes bytes → IsBytes (drop n bytes)
 drop_bytes zero bytes are = are
 drop_bytes (suc n) [] are = tt
 drop_bytes (suc n) (b ∷ bytes) are = drop_bytes n bytes are.1
@@ -275,7 +275,7 @@ five a b c d e = simp append_assoc
 refused_whole : (a b c d e : List ℕ) → a ++ (b ++ (c ++ (d ++ e))) ≡ (a ++ b ++ c) ++ d ++ e
 refused_whole a b c d e = simp append_assoc
 
-item_texts : (n : ℕ) (item : Item) → IsItemInRange item → ShowsTextReason item → AreTextsOf (item_json n item) (fields_of n item)
+pub item_texts : (n : ℕ) (item : Item) → IsItemInRange item → ShowsTextReason item → AreTextsOf (item_json n item) (fields_of n item)
 item_texts n (Event offset event frames) fits reason =
     event_texts (event_word event) (event_size event) frames (event_view_json n event) (event_view_fields n event) (plain_event event) (size_fits event fits.2.0) fits.1 (view_texts n event fits.2.1 reason)
 item_texts n (Head h) fits reason =
@@ -377,7 +377,7 @@ offset_fits (RefusedFrame offset refusal evidence character) fits = fits.0
 offset_fits (Unread offset bytes) fits = fits.0
 offset_fits (Tail offset bytes) fits = fits.0
 
-plain_type : (item : Item) → are_unescaped (item_type item) ≡ true
+pub plain_type : (item : Item) → are_unescaped (item_type item) ≡ true
 plain_type (Event offset event frames) = refl
 plain_type (Head h) = refl
 plain_type (Unfinished offset event frames lacks) = refl

@@ -198,7 +198,7 @@ refused_with false place code word digits members are = record {
   are_distinct = distinct (refused_members false place code word digits (Member (codes "character") (Object members) End)) refl (tt, (tt, (tt, (tt, (are, tt)))));
 }
 
-item_is : (n : ℕ) (item : Item) → IsItem (item_json n item)
+pub item_is : (n : ℕ) (item : Item) → IsItem (item_json n item)
 item_is n (Event offset event frames) = event_names (event_word event) (event_size event) frames (event_view_json n event) (view_is n event)
 item_is n (Head h) = record {
   names = (refl, (refl, (refl, (refl, (refl, tt)))));

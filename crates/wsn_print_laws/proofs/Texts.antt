@@ -87,6 +87,13 @@ number_text n fits = record { is = (refl, decimal_number n fits) }
 pub word_text : (word : List ℕ) → are_unescaped word ≡ true → IsTextOf (String word) (string_of word)
 word_text word plain = record { is = plain_string word plain }
 
+-- An object whose first member is its type.
+pub typed_text : (kind text : List ℕ) (others : Members) → are_unescaped kind ≡ true → AreTextsOf others text
+    → IsTextOf (Object (Member (codes "type") (String kind) others)) (codes "{\"type\":\"" ++ (kind ++ (codes "\"" ++ (text ++ codes "}"))))
+typed_text kind text others plain are =
+    object_text (codes "type") (codes "{\"type\":\"" ++ (kind ++ (codes "\"" ++ (text ++ codes "}")))) refl (word_text kind plain) are
+    (ap (λ (bs : List ℕ). codes "{\"type\":\"" ++ bs) (append_assoc kind (34 ∷ []) (text ++ codes "}")))
+
 -- A plain value that is written as this text.
 pub plain_text : (v : Value) (text : List ℕ) → IsPlainValue v → ((rest : List ℕ) → write v rest ≡ text ++ rest) → IsTextOf v text
 plain_text v text plain is =

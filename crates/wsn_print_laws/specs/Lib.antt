@@ -2,3 +2,4 @@
 pub mod JsonText
 pub mod Answers
 pub mod ShownItems
+pub mod ShownDifferences

@@ -14,12 +14,14 @@ ghost use Rattle.wsn_rules.specs.ShownStream.{Item};
 ghost use Rattle.wsn_rules.specs.ShownStream.Item.{RefusedFrame};
 ghost use Rattle.wsn_rules.specs.Verdict.{IsVerdict};
 ghost use Rattle.wsn_print.specs.Objects.{verdict_object, frame_object, report_object, comparison_object};
+ghost use Rattle.wsn_print.specs.DifferenceText.{difference_object};
 ghost use Rattle.wsn_print.specs.QuotedTexts.{ShowsTextReason};
 ghost use Rattle.wsn_print.specs.ShownObjects.{Position, item_object, end_object, comment_object};
 ghost use Rattle.wsn_show.specs.declared.ended_by.EndedBy.{EndedBy};
 ghost use Rattle.wsn_show.specs.EndedBy.{ended_by_object};
 ghost use Rattle.wsn_print_laws.specs.JsonText.{Value, Object, Members, Member, IsValue, HasDistinctNames, IsJsonLine, IsObjectLine};
 ghost use Rattle.wsn_print_laws.specs.ShownItems.{IsPositionInRange, IsItemInRange, LookAlike};
+ghost use Rattle.wsn_print_laws.specs.ShownDifferences.{IsDifferenceInRange};
 ghost use Rattle.wsn_print_laws.specs.Answers.{IsInU64, IsVerdictInRange, IsPrintedWhole, IsHeadInRange, IsReportInRange, IsComparisonInRange, IsComparisonPrintedWhole, Answer, answer_object, IsAnswerInRange, IsAnswerPrintedWhole};
 
 /// A line is the JSON text of one value at most, so whoever reads it by the grammar reads what was written.
@@ -51,14 +53,16 @@ pub fn law_what_is_not_json()
     ensures lone_surrogate { (value : Value) → ¬ (IsValue value (codes "\"\\ud83d\"")) }
 {}
 
-/// The objects of answers, shown items, end marks, comments and ends are JSON: one object and an LF. No name occurs twice in
-/// it, nor in an object inside it.
+/// The objects of answers, of two streams that differ, of shown items, end marks, comments and ends are JSON: one object
+/// and an LF. No name occurs twice in it, nor in an object inside it.
 pub fn law_objects_are_json()
     ensures verdict { (verdict : Verdict) → IsVerdictInRange verdict → IsObjectLine (verdict_object verdict) }
     ensures frame { (head : HeadInfo) → IsHeadInRange head → IsObjectLine (frame_object head) }
     ensures report { (report : Report) → IsReportInRange report → IsObjectLine (report_object report) }
     ensures comparison { (compared : Compared) → IsComparisonInRange compared →
         IsObjectLine (comparison_object compared) }
+    ensures difference { (n : ℕ) (role : Role) (k : ℕ) (one other : Option Item) → IsDifferenceInRange k one other →
+        IsObjectLine (difference_object n role k one other) }
     ensures item { (n : ℕ) (role : Role) (position : Position) (item : Item) →
         IsPositionInRange position → IsItemInRange item → ShowsTextReason item →
         IsObjectLine (item_object n role position item) }

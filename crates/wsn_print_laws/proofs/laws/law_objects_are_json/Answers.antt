@@ -1,4 +1,5 @@
 use Rattle.wsn_print_laws.proofs.Comments.{comment_line}
+use Rattle.wsn_print_laws.proofs.Differences.{difference_line}
 use Rattle.wsn_print_laws.proofs.EndedBy.{ended_by_line}
 use Rattle.wsn_print_laws.proofs.EndMarks.{end_line}
 use Rattle.wsn_print_laws.proofs.ShownNames.{item_line}
@@ -16,6 +17,9 @@ returns-clause-report c = report_line
 
 pub returns-clause-comparison : goal.returns-clause-comparison
 returns-clause-comparison c = comparison_line
+
+pub returns-clause-difference : goal.returns-clause-difference
+returns-clause-difference c = difference_line
 
 pub returns-clause-item : goal.returns-clause-item
 returns-clause-item c = item_line
