@@ -21,6 +21,7 @@ pub mod ShownJson
 pub mod ShownReader
 pub mod ShownNames
 pub mod Differences
+pub mod DifferenceReader
 pub mod EndMarks
 pub mod Comments
 pub mod EndedBy

@@ -34,20 +34,20 @@ use Rattle.wsn_print_laws.proofs.ShownJson.{character_members, character_json, t
 
 -- ---- a view, read from the members that show it
 
-abbrev has_more : Members → Bool
+abbrev pub has_more : Members → Bool
 has_more End = false
 has_more (Member name value others) = true
 
 abbrev quoted_in : List ℕ → List ℕ
 quoted_in cs = codes "\"" ++ flat_map quoted_character cs ++ codes "\""
 
-abbrev dots : Bool → List ℕ
+abbrev pub dots : Bool → List ℕ
 dots more = if more then codes " .." else []
 
 abbrev text_in : ℕ → List ℕ → Bool → List ℕ
 text_in n cs more = if n == 0 && more then codes "-" else quoted_in cs ++ dots more
 
-abbrev dash_for_none : List ℕ → List ℕ
+abbrev pub dash_for_none : List ℕ → List ℕ
 dash_for_none [] = codes "-"
 dash_for_none (d ∷ digits) = d ∷ digits
 
@@ -88,7 +88,7 @@ more_by : (t : Bool) → has_more (if t then Member (codes "truncated") True End
 more_by true = refl
 more_by false = refl
 
-more : (shown all : ℕ) → has_more (truncated_json shown all) ≡ nat_lt shown all
+pub more : (shown all : ℕ) → has_more (truncated_json shown all) ≡ nat_lt shown all
 more shown all = more_by (nat_lt shown all)
 
 -- With n 0, no byte of a text is shown.
@@ -110,7 +110,7 @@ text_is n text =
     ap (text_in n (chars (take (text_part n text) text))) (more (text_part n text) (length text))
     ∙ ap (λ (t : Bool). if t then codes "-" else quoted_in (chars (take (text_part n text) text)) ++ dots (nat_lt (text_part n text) (length text))) (same_test n text)
 
-dash_is : (bytes : List ℕ) → dash_for_none (encode_lower bytes) ≡ hex_text bytes
+pub dash_is : (bytes : List ℕ) → dash_for_none (encode_lower bytes) ≡ hex_text bytes
 unfolding encode_with
 dash_is [] = refl
 dash_is (b ∷ bytes) = refl
@@ -181,7 +181,7 @@ abbrev name_of : Members → List ℕ
 name_of End = []
 name_of (Member name value others) = name
 
-abbrev after_first : Members → Members
+abbrev pub after_first : Members → Members
 after_first End = End
 after_first (Member name value others) = others
 
@@ -343,7 +343,7 @@ characters_same n evidence other_evidence (Some character) (Some other) fits als
     let members : character_members n evidence character ≡ character_members n other_evidence other = cc in
     one_character n evidence other_evidence character other fits also members
 
-look_alike : (n : ℕ) (item other : Item) → IsItemInRange item → IsItemInRange other → item_type item ≡ item_type other → offset_of item ≡ offset_of other
+pub look_alike : (n : ℕ) (item other : Item) → IsItemInRange item → IsItemInRange other → item_type item ≡ item_type other → offset_of item ≡ offset_of other
     → item_json n item ≡ item_json n other → LookAlike n item other
 look_alike n (Event offset event frames) (Event another other more_frames) fits also types offsets same =
     let parts = event_same event other frames more_frames (event_view_json n event) (event_view_json n other) fits.2 also.2 fits.1 also.1 same in
