@@ -1,18 +1,18 @@
 -- A text in printable ASCII characters is a string: its other characters are escaped, those beyond U+FFFF as two
 -- surrogates.
-use Rattle.std.proofs.Common.{◌≡◌, ℕ, zero, suc, ◌+◌, ◌-◌, ◌/◌, ◌%◌, ◌<◌, ◌≤◌, ◌==◌, ◌||◌, inl, inr, Bool, true, false, if◌then◌else◌, Some, List, [], ◌∷◌, ◌++◌, refl, sym, arith}
+use Rattle.std.proofs.Common.{◌≡◌, ℕ, zero, suc, ◌+◌, ◌-◌, ◌/◌, ◌%◌, ◌<◌, ◌≤◌, ◌==◌, ◌||◌, inl, inr, Bool, true, false, if◌then◌else◌, Some, List, [], ◌∷◌, ◌++◌, refl, sym, arith, codes}
 use Rattle.std.specs.Prelude.{nat_lt, flat_map}
 use Rattle.std.specs.Char.{IsScalar}
 use Rattle.std.specs.List.{AllByRecursion}
 use Rattle.std.proofs.lemmas.Bool.{or_parts}
 use Rattle.std.proofs.lemmas.Bool.Decides.{nat_tests}
 use Rattle.std.proofs.lemmas.Str.{encode_ascii}
-use Rattle.hex.specs.Hex.{IsBytes, encode_lower}
-use Rattle.hex.proofs.HexLemmas.{decode_of-encode_lower}
+use Rattle.hex.specs.Hex.{IsBytes, encode_with, encode_lower, encode_upper}
+use Rattle.hex.proofs.HexLemmas.{decode_of-encode_lower, decode_of-encode_upper}
 use Rattle.wsn_print.specs.ShownText.{is_from, unicode_escape}
 use Rattle.wsn_print.specs.QuotedTexts.{unescaped, IsUnicodeEscape}
 use Rattle.wsn_print.specs.DifferingPayloads.{ascii_escape, ascii_character}
-use Rattle.wsn_print_laws.specs.JsonText.{IsSurrogatePair, IsCharacter, AreCharacters}
+use Rattle.wsn_print_laws.specs.JsonText.{IsSurrogatePair, IsCharacter, AreCharacters, String, IsValue}
 
 -- ---- escapes
 
@@ -87,3 +87,44 @@ pub ascii_characters : (cs : List ℕ) → AllByRecursion IsScalar cs → AreCha
 ascii_characters [] are = refl
 ascii_characters (c ∷ cs) are =
     (ascii_character c, flat_map ascii_character cs, refl, character_by c (c == 34 || c == 92) refl are.0, ascii_characters cs are.1)
+
+-- ---- the G clef
+
+upper_is : (c : ℕ) → c < 65536 → IsUnicodeEscape c (codes "\\u" ++ encode_upper (c / 256 ∷ c % 256 ∷ []))
+upper_is c fits =
+    (c / 256, c % 256, encode_upper (c / 256 ∷ c % 256 ∷ []), decode_of-encode_upper (c / 256 ∷ c % 256 ∷ []) (two_bytes (c / 256) (c % 256) (omega arith) (omega arith)), omega arith, refl)
+
+clef_high : IsUnicodeEscape 0xd834 (codes "\\uD834")
+unfolding encode_with
+clef_high = upper_is 0xd834 (omega arith)
+
+clef_low : IsUnicodeEscape 0xdd1e (codes "\\uDD1E")
+unfolding encode_with
+clef_low = upper_is 0xdd1e (omega arith)
+
+clef_scalar : IsScalar 0x1d11e
+clef_scalar = grind (arith, nat_tests)
+
+pub clef : IsValue (String (0x1d11e ∷ [])) (codes "\"\\uD834\\uDD1E\"")
+clef = (
+  (clef_scalar, tt),
+  (
+    codes "\"",
+    codes "\\uD834\\uDD1E\"",
+    refl,
+    refl,
+    (
+      codes "\\uD834\\uDD1E",
+      codes "\"",
+      refl,
+      (
+        codes "\\uD834\\uDD1E",
+        [],
+        refl,
+        inr (0xd834, 0xdd1e, (omega arith, omega arith, omega arith, omega arith, omega arith), (codes "\\uD834", codes "\\uDD1E", refl, clef_high, clef_low)),
+        refl,
+      ),
+      refl,
+    ),
+  ),
+)

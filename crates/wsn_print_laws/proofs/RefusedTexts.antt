@@ -265,30 +265,63 @@ no_raw_line_feed v is =
     x.2 ∙ ap (λ (bs : List ℕ). bs ++ x.1) string ∙ ap (λ (bs : List ℕ). 34 ∷ bs) (append_assoc inner.0 (34 ∷ []) x.1) in
     no_line_feed text.0 inner.0 x.1 (codes "\"}") inner.3 (sym (ap (drop 1) whole))
 
--- "\ud83d", a lone surrogate.
-lone_escape : IsUnicodeEscape 0xd83d (codes "\\ud83d")
-unfolding encode_with
-lone_escape = escape_is 0xd83d (omega arith)
+-- ---- a surrogate without its partner
 
-lone_in : (cs inner : List ℕ) → AllByRecursion IsScalar cs → AreCharacters cs inner → inner ++ (34 ∷ []) ≡ codes "\\ud83d\"" → ⊥
-lone_in [] inner scalar are same =
-    let whole : 34 ∷ [] ≡ codes "\\ud83d\"" = ap (λ (bs : List ℕ). bs ++ (34 ∷ [])) (sym are) ∙ same in
+-- What follows an escape isn't the escape of a low surrogate.
+abbrev IsNoPartner : ℕ → List ℕ → Type 0
+IsNoPartner x more = (low : ℕ) (bytes rest : List ℕ) → IsUnicodeEscape low bytes → bytes ++ rest ≡ more → x ≤ 0xdbff → 0xdc00 ≤ low → ⊥
+
+alone_in : (x : ℕ) (escape more cs inner : List ℕ) → IsUnicodeEscape x escape → 0xd800 ≤ x → x ≤ 0xdfff → IsNoPartner x more
+    → AllByRecursion IsScalar cs → AreCharacters cs inner → inner ++ (34 ∷ []) ≡ escape ++ more → ⊥
+alone_in x escape more [] inner is from to none scalar are same =
+    let whole : 34 ∷ [] ≡ 92 ∷ 117 ∷ (is.2 ++ more) = ap (λ (bs : List ℕ). bs ++ (34 ∷ [])) (sym are) ∙ same ∙ ap (λ (bs : List ℕ). bs ++ more) is.5 in
     cc
-lone_in (c ∷ cs) inner scalar are same =
-    one c are.0 (are.1 ++ (34 ∷ [])) scalar.0 are.3 (sym (append_assoc are.0 are.1 (34 ∷ [])) ∙ ap (λ (bs : List ℕ). bs ++ (34 ∷ [])) (sym are.2) ∙ same)
+alone_in x escape more (c ∷ cs) inner is from to none scalar are same =
+    first c are.0 (are.1 ++ (34 ∷ [])) scalar.0 are.3 (sym (append_assoc are.0 are.1 (34 ∷ [])) ∙ ap (λ (bs : List ℕ). bs ++ (34 ∷ [])) (sym are.2) ∙ same)
   where
-    one : (c : ℕ) (bytes rest : List ℕ) → IsScalar c → IsCharacter c bytes → bytes ++ rest ≡ codes "\\ud83d\"" → ⊥
-    one c bytes rest scalar (inl is) same =
-        let first : c ≡ 0xd83d = (one_character c 0xd83d bytes (codes "\\ud83d") rest (codes "\"") is (inr (inr lone_escape)) same).0 in
-        no_surrogate c scalar (omega arith) (omega arith)
-    one c bytes rest scalar (inr pair) same =
-        let following : pair.3.1 ++ rest ≡ codes "\"" =
-        (one_character pair.0 0xd83d pair.3.0 (codes "\\ud83d") (pair.3.1 ++ rest) (codes "\"") (inr (inr pair.3.3)) (inr (inr lone_escape)) (sym (pair_bytes c bytes rest pair) ∙ same)).1 in
-        no_quote_first pair.1 pair.3.1 rest [] (inr (inr pair.3.4)) following
+    first : (c : ℕ) (bytes rest : List ℕ) → IsScalar c → IsCharacter c bytes → bytes ++ rest ≡ escape ++ more → ⊥
+    first c bytes rest scalar (inl one) same =
+        let is_x : c ≡ x = (one_character c x bytes escape rest more one (inr (inr is)) same).0 in
+        no_surrogate c scalar (omega (arith, is_x, from)) (omega (arith, is_x, to))
+    first c bytes rest scalar (inr pair) same =
+        let parts = one_character pair.0 x pair.3.0 escape (pair.3.1 ++ rest) more (inr (inr pair.3.3)) (inr (inr is)) (sym (pair_bytes c bytes rest pair) ∙ same) in
+        none pair.1 pair.3.1 rest pair.3.4 parts.1 (omega (arith, parts.0, pair.2.1)) pair.2.2
+
+alone : (v : Value) (x : ℕ) (escape more : List ℕ) → IsUnicodeEscape x escape → 0xd800 ≤ x → x ≤ 0xdfff → IsNoPartner x more → IsValue v (34 ∷ (escape ++ more)) → ⊥
+alone v x escape more is from to none value =
+    let quote : Begins 34 ((34 ∷ (escape ++ more)) ++ []) = (34, (escape ++ more) ++ [], refl, refl) in
+    let text = string_at v (34 ∷ (escape ++ more)) (one_class (kind v) 34 ((34 ∷ (escape ++ more)) ++ []) (begins v (34 ∷ (escape ++ more)) [] value) quote) value in
+    let whole = string_bytes text.0 (34 ∷ (escape ++ more)) [] text.1 in
+    alone_in x escape more text.0 text.1.1.4.0 is from to none text.1.0 text.1.1.4.3 (sym (ap (drop 1) whole) ∙ append-nil (escape ++ more))
+
+high_escape : IsUnicodeEscape 0xd83d (codes "\\ud83d")
+unfolding encode_with
+high_escape = escape_is 0xd83d (omega arith)
+
+low_escape : IsUnicodeEscape 0xde00 (codes "\\ude00")
+unfolding encode_with
+low_escape = escape_is 0xde00 (omega arith)
+
+letter_escape : IsUnicodeEscape 0x41 (codes "\\u0041")
+unfolding encode_with
+letter_escape = escape_is 0x41 (omega arith)
 
 pub no_lone_surrogate : (v : Value) → IsValue v (codes "\"\\ud83d\"") → ⊥
-no_lone_surrogate v is =
-    let quote : Begins 34 (codes "\"\\ud83d\"") = (34, codes "\\ud83d\"", refl, refl) in
-    let text = string_at v (codes "\"\\ud83d\"") (one_class (kind v) 34 (codes "\"\\ud83d\"") (begins v (codes "\"\\ud83d\"") [] is) quote) is in
-    let whole = string_bytes text.0 (codes "\"\\ud83d\"") [] text.1 in
-    lone_in text.0 text.1.1.4.0 text.1.0 text.1.1.4.3 (sym (ap (drop 1) whole))
+no_lone_surrogate v = alone v 0xd83d (codes "\\ud83d") (codes "\"") high_escape (omega arith) (omega arith) none
+  where
+    none : IsNoPartner 0xd83d (codes "\"")
+    none low bytes rest is same high from = no_quote_first low bytes rest [] (inr (inr is)) same
+
+pub no_turned_surrogates : (v : Value) → IsValue v (codes "\"\\ude00\\ud83d\"") → ⊥
+no_turned_surrogates v = alone v 0xde00 (codes "\\ude00") (codes "\\ud83d\"") low_escape (omega arith) (omega arith) none
+  where
+    none : IsNoPartner 0xde00 (codes "\\ud83d\"")
+    none low bytes rest is same high from = absurd (omega arith)
+
+pub no_surrogate_and_letter : (v : Value) → IsValue v (codes "\"\\ud83d\\u0041\"") → ⊥
+no_surrogate_and_letter v = alone v 0xd83d (codes "\\ud83d") (codes "\\u0041\"") high_escape (omega arith) (omega arith) none
+  where
+    none : IsNoPartner 0xd83d (codes "\\u0041\"")
+    none low bytes rest is same high from =
+        let letter : low ≡ 0x41 = (one_character low 0x41 bytes (codes "\\u0041") rest (codes "\"") (inr (inr is)) (inr (inr letter_escape)) same).0 in
+        absurd (omega (arith, letter, from))

@@ -19,7 +19,7 @@ ghost use Rattle.wsn_print.specs.QuotedTexts.{ShowsTextReason};
 ghost use Rattle.wsn_print.specs.ShownObjects.{Position, item_object, end_object, comment_object};
 ghost use Rattle.wsn_show.specs.declared.ended_by.EndedBy.{EndedBy};
 ghost use Rattle.wsn_show.specs.EndedBy.{ended_by_object};
-ghost use Rattle.wsn_print_laws.specs.JsonText.{Value, Object, Members, Member, IsValue, HasDistinctNames, IsJsonLine, IsObjectLine};
+ghost use Rattle.wsn_print_laws.specs.JsonText.{Value, String, Object, Members, Member, IsValue, HasDistinctNames, IsJsonLine, IsObjectLine};
 ghost use Rattle.wsn_print_laws.specs.ShownItems.{IsPositionInRange, IsItemInRange, LookAlike};
 ghost use Rattle.wsn_print_laws.specs.ShownDifferences.{IsDifferenceInRange, AreNoFrames, DifferAlike};
 ghost use Rattle.wsn_print_laws.specs.Answers.{IsInU64, IsVerdictInRange, IsPrintedWhole, IsHeadInRange, IsReportInRange, IsComparisonInRange, IsComparisonPrintedWhole, Answer, answer_object, IsAnswerInRange, IsAnswerPrintedWhole};
@@ -29,9 +29,14 @@ pub fn law_one_value()
     ensures { (value other : Value) (line : List ℕ) → IsJsonLine value line → IsJsonLine other line → value ≡ other }
 {}
 
+/// Two escaped surrogates are one character, as in the example of RFC 8259, section 7: the G clef, U+1D11E.
+pub fn law_surrogates_are_a_character()
+    ensures { IsValue (String (0x1d11e ∷ [])) (codes "\"\\uD834\\uDD1E\"") }
+{}
+
 /// The grammar refuses what isn't JSON. An object's text is no text if bytes follow it, or if its last bytes are missing.
-/// No value has any of these texts, the last of which has one surrogate alone, and two members with one name don't have
-/// distinct names.
+/// No value has any of these texts, the last of which escape a surrogate without its partner, and two members with one
+/// name don't have distinct names.
 pub fn law_what_is_not_json()
     ensures object_ends { (members : Members) (other : Value) (text more : List ℕ) →
         IsValue (Object members) text → IsValue other (text ++ more) → more ≡ [] }
@@ -51,6 +56,8 @@ pub fn law_what_is_not_json()
         ¬ (HasDistinctNames (Object (Member name value (Member name other others)))) }
     ensures line_feed { (value : Value) → ¬ (IsValue value (codes "{\"a\":\"\n\"}")) }
     ensures lone_surrogate { (value : Value) → ¬ (IsValue value (codes "\"\\ud83d\"")) }
+    ensures turned_surrogates { (value : Value) → ¬ (IsValue value (codes "\"\\ude00\\ud83d\"")) }
+    ensures surrogate_and_letter { (value : Value) → ¬ (IsValue value (codes "\"\\ud83d\\u0041\"")) }
 {}
 
 /// The objects of answers, of two streams that differ, of shown items, end marks, comments and ends are JSON: one object

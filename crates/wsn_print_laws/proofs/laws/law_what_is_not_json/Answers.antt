@@ -1,5 +1,5 @@
 use Rattle.std.proofs.Common.{[], ◌∷◌, refl}
-use Rattle.wsn_print_laws.proofs.RefusedTexts.{object_ends, object_not_cut, no_empty, no_bare_name, no_colon, no_value, no_last_comma, no_digits, no_raw_line_feed, no_lone_surrogate}
+use Rattle.wsn_print_laws.proofs.RefusedTexts.{object_ends, object_not_cut, no_empty, no_bare_name, no_colon, no_value, no_last_comma, no_digits, no_raw_line_feed, no_lone_surrogate, no_turned_surrogates, no_surrogate_and_letter}
 use Rattle.wsn_print_laws.proofs.laws.law_what_is_not_json.Goals as goal
 
 pub returns-clause-object_ends : goal.returns-clause-object_ends
@@ -40,6 +40,12 @@ returns-clause-line_feed c = no_raw_line_feed
 
 pub returns-clause-lone_surrogate : goal.returns-clause-lone_surrogate
 returns-clause-lone_surrogate c = no_lone_surrogate
+
+pub returns-clause-turned_surrogates : goal.returns-clause-turned_surrogates
+returns-clause-turned_surrogates c = no_turned_surrogates
+
+pub returns-clause-surrogate_and_letter : goal.returns-clause-surrogate_and_letter
+returns-clause-surrogate_and_letter c = no_surrogate_and_letter
 
 pub returns-clause-same_name : goal.returns-clause-same_name
 returns-clause-same_name c = λ name value other others distinct. distinct.0.0 refl
