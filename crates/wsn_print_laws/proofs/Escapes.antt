@@ -12,7 +12,7 @@ use Rattle.hex.proofs.HexLemmas.{decode_of-encode_lower, decode_of-encode_upper}
 use Rattle.wsn_print.specs.ShownText.{is_from, unicode_escape}
 use Rattle.wsn_print.specs.QuotedTexts.{unescaped, IsUnicodeEscape}
 use Rattle.wsn_print.specs.DifferingPayloads.{ascii_escape, ascii_character}
-use Rattle.wsn_print_laws.specs.JsonText.{IsSurrogatePair, IsCharacter, AreCharacters, String, IsValue}
+use Rattle.wsn_print_laws.specs.JsonText.{IsOfSurrogates, IsSurrogatePair, IsCharacter, AreCharacters, String, IsValue}
 
 -- ---- escapes
 
@@ -28,12 +28,35 @@ escape_is c fits =
 scalar_most : (c : ℕ) → IsScalar c → c < 0x110000
 scalar_most c is = grind (arith, nat_tests)
 
+-- ---- the two surrogates of a character
+
+surrogates_of : (c : ℕ) → IsScalar c → 0x10000 ≤ c → IsOfSurrogates (0xd800 + (c - 0x10000) / 0x400) (0xdc00 + (c - 0x10000) % 0x400) c
+surrogates_of c is high =
+    let most : c < 0x110000 = scalar_most c is in
+    (omega arith, omega arith, omega arith, omega arith, omega arith)
+
+pub some_surrogates : (c : ℕ) → IsScalar c → 0x10000 ≤ c → (high : ℕ) × (low : ℕ) × IsOfSurrogates high low c
+some_surrogates c is high = (0xd800 + (c - 0x10000) / 0x400, 0xdc00 + (c - 0x10000) % 0x400, surrogates_of c is high)
+
+pub one_pair : (high low other_high other_low c : ℕ) → IsOfSurrogates high low c → IsOfSurrogates other_high other_low c → (high ≡ other_high) × (low ≡ other_low)
+one_pair high low other_high other_low c is also =
+    (omega (arith, is.0, is.1, is.2, is.3, is.4, also.0, also.1, also.2, also.3, also.4), omega (arith, is.0, is.1, is.2, is.3, is.4, also.0, also.1, also.2, also.3, also.4))
+
+scalar_from : (c : ℕ) → 0x10000 ≤ c → c < 0x110000 → IsScalar c
+scalar_from c least most = grind (arith, nat_tests)
+
+pub one_scalar : (high low c : ℕ) → IsOfSurrogates high low c → IsScalar c × (0x10000 ≤ c)
+one_scalar high low c is =
+    let least : 0x10000 ≤ c = omega (arith, is.4) in
+    let most : c < 0x110000 = omega (arith, is.0, is.1, is.2, is.3, is.4) in
+    (scalar_from c least most, least)
+
 pair_is : (c : ℕ) → IsScalar c → 0x10000 ≤ c → IsSurrogatePair c (unicode_escape (0xd800 + (c - 0x10000) / 0x400) ++ unicode_escape (0xdc00 + (c - 0x10000) % 0x400))
 pair_is c is high =
     let most : c < 0x110000 = scalar_most c is in (
       0xd800 + (c - 0x10000) / 0x400,
       0xdc00 + (c - 0x10000) % 0x400,
-      (omega arith, omega arith, omega arith, omega arith, omega arith),
+      surrogates_of c is high,
       (
         unicode_escape (0xd800 + (c - 0x10000) / 0x400),
         unicode_escape (0xdc00 + (c - 0x10000) % 0x400),

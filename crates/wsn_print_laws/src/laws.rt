@@ -1,6 +1,7 @@
 //! The laws. Each function does nothing: its contract is the law.
 
-ghost use Rattle.std.specs.Prelude.{◌≡◌, ◌≢◌, ◌⊎◌, ℕ, Option, None, Some, List, [], ◌∷◌, ◌++◌, codes};
+ghost use Rattle.std.specs.Prelude.{◌≡◌, ◌≢◌, ◌≤◌, ◌⊎◌, ℕ, Option, None, Some, List, [], ◌∷◌, ◌++◌, codes};
+ghost use Rattle.std.specs.Char.{IsScalar};
 ghost use Rattle.wsn_wire.specs.declared.endpoint.Role.{Role};
 ghost use Rattle.wsn_wire.specs.declared.refusal.Reason.TheVariants.{TextBad};
 ghost use Rattle.wsn_wire.specs.Frame.{Frame, IsBytes};
@@ -19,7 +20,7 @@ ghost use Rattle.wsn_print.specs.QuotedTexts.{ShowsTextReason};
 ghost use Rattle.wsn_print.specs.ShownObjects.{Position, item_object, end_object, comment_object};
 ghost use Rattle.wsn_show.specs.declared.ended_by.EndedBy.{EndedBy};
 ghost use Rattle.wsn_show.specs.EndedBy.{ended_by_object};
-ghost use Rattle.wsn_print_laws.specs.JsonText.{Value, String, Object, Members, Member, IsValue, HasDistinctNames, IsJsonLine, IsObjectLine};
+ghost use Rattle.wsn_print_laws.specs.JsonText.{Value, String, Object, Members, Member, IsOfSurrogates, IsValue, HasDistinctNames, IsJsonLine, IsObjectLine};
 ghost use Rattle.wsn_print_laws.specs.ShownItems.{IsPositionInRange, IsItemInRange, LookAlike};
 ghost use Rattle.wsn_print_laws.specs.ShownDifferences.{IsDifferenceInRange, AreNoFrames, DifferAlike};
 ghost use Rattle.wsn_print_laws.specs.Answers.{IsInU64, IsVerdictInRange, IsPrintedWhole, IsHeadInRange, IsReportInRange, IsComparisonInRange, IsComparisonPrintedWhole, Answer, answer_object, IsAnswerInRange, IsAnswerPrintedWhole};
@@ -29,9 +30,14 @@ pub fn law_one_value()
     ensures { (value other : Value) (line : List ℕ) → IsJsonLine value line → IsJsonLine other line → value ≡ other }
 {}
 
-/// Two escaped surrogates are one character, as in the example of RFC 8259, section 7: the G clef, U+1D11E.
+/// Each character beyond U+FFFF has one high and one low surrogate, and any two are those of one. The example of RFC 8259,
+/// section 7, is the G clef, U+1D11E.
 pub fn law_surrogates_are_a_character()
-    ensures { IsValue (String (0x1d11e ∷ [])) (codes "\"\\uD834\\uDD1E\"") }
+    ensures pair { (c : ℕ) → IsScalar c → 0x10000 ≤ c → (high : ℕ) × (low : ℕ) × IsOfSurrogates high low c }
+    ensures one_pair { (high low other_high other_low c : ℕ) → IsOfSurrogates high low c →
+        IsOfSurrogates other_high other_low c → (high ≡ other_high) × (low ≡ other_low) }
+    ensures character { (high low c : ℕ) → IsOfSurrogates high low c → IsScalar c × (0x10000 ≤ c) }
+    ensures clef { IsValue (String (0x1d11e ∷ [])) (codes "\"\\uD834\\uDD1E\"") }
 {}
 
 /// The grammar refuses what isn't JSON. An object's text is no text if bytes follow it, or if its last bytes are missing.

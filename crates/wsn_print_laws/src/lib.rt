@@ -12,7 +12,8 @@
 //!
 //! Each of these objects is JSON with distinct names ([`laws::law_objects_are_json`]). `specs/JsonText.antt` says which
 //! bytes are JSON, and of which value, by the grammar of RFC 8259. No bytes are a text of two values
-//! ([`laws::law_one_value`]), and [`laws::law_what_is_not_json`] has texts that the grammar refuses.
+//! ([`laws::law_one_value`]), and [`laws::law_what_is_not_json`] has texts that the grammar refuses. Which character two
+//! escaped surrogates are, [`laws::law_surrogates_are_a_character`] determines.
 //!
 //! The definitions of the objects are those of `wsn_print` (`specs/Objects.antt`, `ShownObjects.antt`,
 //! `DifferenceText.antt`) and of `wsn_show` (`specs/EndedBy.antt`), whose functions write them. Nothing here runs.
