@@ -41,8 +41,8 @@ pub fn law_surrogates_are_a_character()
 {}
 
 /// The grammar refuses what isn't JSON. An object's text is no text if bytes follow it, or if its last bytes are missing.
-/// No value has any of these texts, the last of which escape a surrogate without its partner, and two members with one
-/// name don't have distinct names.
+/// No value has any of these texts, and two members with one name don't have distinct names. The last three texts escape a
+/// surrogate without its partner, which readers take differently (RFC 8259, section 8.2).
 pub fn law_what_is_not_json()
     ensures object_ends { (members : Members) (other : Value) (text more : List ℕ) →
         IsValue (Object members) text → IsValue other (text ++ more) → more ≡ [] }
