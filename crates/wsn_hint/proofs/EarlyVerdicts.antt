@@ -51,3 +51,9 @@ pub two_at_front : (bytes : List ℕ) → 2 ≤ length bytes → bytes ≡ get_o
 two_at_front [] some = absurd (omega (arith, some))
 two_at_front (b ∷ []) some = absurd (omega (arith, some))
 two_at_front (b ∷ c ∷ rest) some = refl
+
+-- The bytes are refused in one way.
+pub one_refusal : (role : Role) (limits : Limits) (bytes : List ℕ) (one other : Refusal) → HasVerdict role limits bytes (Refused one) → HasVerdict role limits bytes (Refused other) → one ≡ other
+one_refusal role limits bytes one other of_one of_other =
+    let same : Refused one ≡ Refused other = (one_verdict role limits bytes of_one.0 of_other.0 (Refused one) (Refused other) of_one.1 of_other.1).1 in
+    cc

@@ -1,2 +1,4 @@
 mod EarlyVerdicts
+mod FirstFits
 mod KeptBytes
+mod LineStarts

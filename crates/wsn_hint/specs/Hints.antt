@@ -1,9 +1,12 @@
 -- What a hint says of the input that begins with the bytes.
-use Rattle.std.specs.Prelude.{◌≡◌, ℕ, ◌+◌, ◌<◌, ◌≤◌, ◌⊎◌, true, List, [], ◌∷◌, ◌++◌, length, take, drop, codes}
+use Rattle.std.specs.Prelude.{◌≡◌, ℕ, ◌+◌, ◌%◌, ◌<◌, ◌≤◌, ◌⊎◌, true, Option, None, Some, List, [], ◌∷◌, ◌++◌, length, take, drop, codes}
 use Rattle.std.specs.Char.{is_ascii_hexdigit}
 use Rattle.std.specs.List.{AllByRecursion, Contains, take_while}
 use Rattle.wsn_wire.specs.declared.endpoint.Role.{Role}
+use Rattle.wsn_wire.specs.declared.length_forms.Lengths.TheVariants.{Shortest}
+use Rattle.wsn_wire.specs.declared.endpoint.Role.TheVariants.{Client, Server}
 use Rattle.wsn_wire.specs.declared.refusal.Reason.{Reason}
+use Rattle.wsn_wire.specs.declared.refusal.Reason.TheVariants.{ReservedBits, MaskMissing, MaskPresent}
 use Rattle.wsn_wire.specs.Frame.{Frame}
 use Rattle.wsn_rules.specs.declared.verdict.Verdict.{Verdict}
 use Rattle.wsn_rules.specs.Limits.{Limits}
@@ -53,9 +56,13 @@ BeginsHttp bytes =
     ⊎ Begins (codes "CONNECT ") bytes ⊎ Begins (codes "OPTIONS ") bytes ⊎ Begins (codes "TRACE ") bytes
     ⊎ Begins (codes "PATCH ") bytes
 
--- There are at least two bytes, and an endpoint may have sent the first two, under some limits.
+-- the greatest limits, with the shortest encoding of each length
+abbrev pub greatest_limits : Limits
+greatest_limits = record { message = 16777216; input = 1099511627776; frames = None; lengths = Shortest }
+
+-- There are at least two bytes, and an endpoint may have sent the first two, under the greatest limits.
 abbrev pub MayBeStream : List ℕ → Type 0
-MayBeStream bytes = (2 ≤ length bytes) × ((role : Role) × (limits : Limits) × IsUnrefused role limits (take 2 bytes))
+MayBeStream bytes = (2 ≤ length bytes) × ((role : Role) × IsUnrefused role greatest_limits (take 2 bytes))
 
 -- The first byte of the head of a text or binary frame, in one frame or more, without RSV bits (RFC 6455 section 5.2).
 abbrev pub IsDataHead : ℕ → Type 0
@@ -79,6 +86,10 @@ IsTextByte byte = (byte ≡ 9) ⊎ (byte ≡ 10) ⊎ (byte ≡ 13) ⊎ ((0x20 �
 abbrev pub IsControl : ℕ → Type 0
 IsControl byte =
     (byte ≤ 6) ⊎ ((14 ≤ byte) × (byte ≤ 26)) ⊎ ((28 ≤ byte) × (byte ≤ 31)) ⊎ (byte ≡ 127)
+
+-- All the bytes are of a text in ASCII, and they are more than three.
+abbrev pub IsText : List ℕ → Type 0
+IsText bytes = (3 < length bytes) × AllByRecursion IsTextByte bytes
 
 -- One of the bytes is such a control character.
 abbrev pub HasControl : List ℕ → Type 0
@@ -132,23 +143,22 @@ abbrev pub IsHexByte : ℕ → Type 0
 IsHexByte byte =
     IsHexDigit byte ⊎ (byte ≡ 32) ⊎ (byte ≡ 58) ⊎ (byte ≡ 9) ⊎ (byte ≡ 13) ⊎ (byte ≡ 10)
 
--- The bytes are hexadecimal digits, and what stands between them; the first is a digit.
+-- At least four bytes are hexadecimal digits, and what stands between them; the first is a digit. The digits at the
+-- front are in pairs, or they are all there is.
 pub record IsHexText (bytes : List ℕ) : Type 0 where
   pub first : ℕ
   pub rest : List ℕ
   pub is : bytes ≡ first ∷ rest
+  pub some : 4 ≤ length bytes
   pub digit : IsHexDigit first
   pub all : AllByRecursion IsHexByte bytes
+  pub pairs : (digits_at_start bytes % 2 ≡ 0) ⊎ (digits_at_start bytes ≡ length bytes)
 
 -- The bytes begin with c or s, and what follows an endpoint's letter in a capture: a space or a dot.
 abbrev pub BeginsSmall : List ℕ → Type 0
 BeginsSmall bytes =
     Begins (99 ∷ 32 ∷ []) bytes ⊎ Begins (99 ∷ 46 ∷ []) bytes
     ⊎ Begins (115 ∷ 32 ∷ []) bytes ⊎ Begins (115 ∷ 46 ∷ []) bytes
-
--- The bytes begin with C or S and a space, as a capture's line with bytes does.
-abbrev pub BeginsLine : List ℕ → Type 0
-BeginsLine bytes = Begins (67 ∷ 32 ∷ []) bytes ⊎ Begins (83 ∷ 32 ∷ []) bytes
 
 -- The bytes begin with digits, none or more, and a space or a colon.
 abbrev pub HasBlank : List ℕ → Type 0
@@ -176,14 +186,31 @@ pub record BeginsNoLine (bytes : List ℕ) : Type 0 where
   pub is : bytes ≡ first ∷ second ∷ rest
   pub none : ¬ (MayBeginLine first second)
 
--- The bytes begin as a line of a capture does: with C or S and a space or a dot, or with a comment after a space.
+-- The bytes begin with C or S, a space and two digits, as a capture's line with bytes does.
+pub record BeginsLine (bytes : List ℕ) : Type 0 where
+  pub letter : ℕ
+  pub high : ℕ
+  pub low : ℕ
+  pub rest : List ℕ
+  pub is : bytes ≡ letter ∷ 32 ∷ high ∷ low ∷ rest
+  pub endpoint : (letter ≡ 67) ⊎ (letter ≡ 83)
+  pub digits : IsHexDigit high × IsHexDigit low
+
+-- The bytes begin with a line that is C or S and a dot, as a capture's end mark is.
+pub record BeginsEndMark (bytes : List ℕ) : Type 0 where
+  pub letter : ℕ
+  pub rest : List ℕ
+  pub is : bytes ≡ letter ∷ 46 ∷ rest
+  pub endpoint : (letter ≡ 67) ⊎ (letter ≡ 83)
+  pub end : (rest ≡ []) ⊎ Begins (13 ∷ []) rest ⊎ Begins (10 ∷ []) rest
+
+-- The bytes begin as a line of a capture does: one with bytes, an end mark, or a comment after a space.
 abbrev pub BeginsCapture : List ℕ → Type 0
-BeginsCapture bytes =
-    BeginsLine bytes ⊎ Begins (67 ∷ 46 ∷ []) bytes ⊎ Begins (83 ∷ 46 ∷ []) bytes ⊎ Begins (35 ∷ 32 ∷ []) bytes
+BeginsCapture bytes = BeginsLine bytes ⊎ BeginsEndMark bytes ⊎ Begins (35 ∷ 32 ∷ []) bytes
 
 -- What the hint says is so of an input that begins with these bytes: a mark or the text of a first line is at the front;
--- the first two bytes are what an endpoint may send, under the same limits or some; or all of them are of a text, or one
--- is of none. No other hint is given.
+-- the first two bytes are what an endpoint may send; or all of them are of a text, or one is of none. No other hint is
+-- given.
 abbrev pub Fits : Limits → List ℕ → Hint → Type 0
 Fits limits bytes Empty = bytes ≡ []
 Fits limits bytes Pcap = BeginsPcap bytes
@@ -195,15 +222,58 @@ Fits limits bytes (OtherRole other) = IsUnrefused other limits (take 2 bytes)
 Fits limits bytes Stream = MayBeStream bytes
 Fits limits bytes Compressed = (role : Role) × BeginsCompressed role limits bytes
 Fits limits bytes Hexadecimal = IsHexText bytes
-Fits limits bytes Text = AllByRecursion IsTextByte bytes
+Fits limits bytes Text = IsText bytes
 Fits limits bytes Capture = BeginsCapture bytes
-Fits limits bytes Json = Begins (0x7b ∷ []) bytes
+Fits limits bytes Json = BeginsNoLine bytes × Begins (0x7b ∷ []) bytes
 Fits limits bytes SmallLetters = BeginsSmall bytes
 Fits limits bytes Blanks = BeginsBlanks bytes
 Fits limits bytes CaptureToShow = BeginsCapture bytes
 Fits limits bytes HttpHead = BeginsHttp bytes
 Fits limits bytes HexDump = BeginsHexDump bytes
 Fits limits bytes OffsetDump = BeginsOffsetDump bytes
-Fits limits bytes OtherText = BeginsNoLine bytes × AllByRecursion IsTextByte bytes
+Fits limits bytes OtherText = BeginsNoLine bytes × IsText bytes
 Fits limits bytes Binary = BeginsNoLine bytes × HasControl bytes
 Fits limits bytes hint = ⊥
+
+-- The hint fits a stream that begins with these bytes and is refused for this reason, where this endpoint is said to
+-- have sent it. Compressed frames are no text; frames of the other endpoint are refused for their masking.
+abbrev pub FitsRefused : Role → Limits → Reason → List ℕ → Hint → Type 0
+FitsRefused role limits reason bytes Compressed =
+    (reason ≡ ReservedBits) × BeginsCompressed role limits bytes × ¬ (AllByRecursion IsTextByte bytes)
+FitsRefused role limits reason bytes (OtherRole Server) =
+    (reason ≡ MaskMissing) × IsUnrefused Server limits (take 2 bytes)
+FitsRefused role limits reason bytes (OtherRole Client) =
+    (reason ≡ MaskPresent) × IsUnrefused Client limits (take 2 bytes)
+FitsRefused role limits reason bytes hint = Fits limits bytes hint
+
+-- ---- which hint is given
+
+-- The result is the first of these hints that fits, or none if none does.
+abbrev pub IsFirstFit : (Hint → Type 0) → List Hint → Option Hint → Type 0
+IsFirstFit fits [] result = result ≡ None
+IsFirstFit fits (hint ∷ later) result =
+    (fits hint × (result ≡ Some hint)) ⊎ (¬ (fits hint) × IsFirstFit fits later result)
+
+-- the formats of files that begin with a mark
+abbrev pub marked_hints : List Hint
+marked_hints = ByteOrderMark ∷ Pcap ∷ PcapNg ∷ Gzip ∷ Tls ∷ []
+
+-- the formats of texts
+abbrev pub written_hints : List Hint
+written_hints = HttpHead ∷ HexDump ∷ OffsetDump ∷ Hexadecimal ∷ []
+
+-- the formats, in the order in which they are tried
+abbrev pub format_hints : List Hint
+format_hints = marked_hints ++ written_hints
+
+-- the hints for a capture of which a line isn't accepted, in the order in which they are tried
+abbrev pub capture_hints : List Hint
+capture_hints = format_hints ++ (Stream ∷ Json ∷ SmallLetters ∷ OtherText ∷ Binary ∷ Blanks ∷ [])
+
+-- the hints for a stream of no known format that is refused early
+abbrev pub frame_hints : List Hint
+frame_hints = Compressed ∷ OtherRole Server ∷ OtherRole Client ∷ Text ∷ []
+
+-- the hints for a stream that is refused early, in the order in which they are tried
+abbrev pub stream_hints : List Hint
+stream_hints = Capture ∷ format_hints ++ frame_hints

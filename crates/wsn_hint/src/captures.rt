@@ -1,6 +1,7 @@
-ghost use Rattle.std.specs.Prelude.{◌≡◌, ◌↔◌, true, IsTrue, IfSome};
+ghost use Rattle.std.specs.Prelude.{◌↔◌, IsTrue, IfSome, [], ◌∷◌};
 ghost use Rattle.wsn_rules.specs.Limits.{Limits};
-ghost use Rattle.wsn_hint.specs.Hints.{Fits, BeginsNoLine, HasBlank, HasControl, IsControl, MayBeStream, MayBeginLine};
+ghost use Rattle.wsn_hint.specs.Hints.{Fits, IsFirstFit, BeginsNoLine, HasBlank, HasControl, IsControl, MayBeStream, MayBeginLine, capture_hints};
+ghost use Rattle.wsn_hint.specs.declared.hint.Hint.TheVariants.{Binary, Blanks, Json, OtherText, SmallLetters};
 
 use crate::early_verdict::is_lawful_start;
 use crate::formats::{after_digits, format_of};
@@ -11,9 +12,11 @@ use wsn_wire::Role;
 
 /// The hint for an input whose first bytes are these, its first 16 or all of them if there are fewer, where a capture is
 /// read and a line isn't accepted: they are of another format, the stream of one endpoint, a first line that is nearly
-/// one of a capture, another text or a binary file. `None` for any other bytes, such as those of a capture.
+/// one of a capture, another text or a binary file: the first hint of `capture_hints` (specs/Hints.antt) that fits.
+/// `None` for any other bytes, such as those of a capture.
 pub fn capture_hint_of(first: &[u8]) -> Option<Hint>
-    ensures { (limits : Limits) → IfSome result (Fits limits first.now) }
+    ensures first { (limits : Limits) → IsFirstFit (Fits limits first.now) capture_hints result }
+    ensures fits { (limits : Limits) → IfSome result (Fits limits first.now) }
 {
     match format_of(first) {
         Some(hint) => Some(hint),
@@ -25,7 +28,7 @@ pub fn capture_hint_of(first: &[u8]) -> Option<Hint>
 
 /// The hint for a first line that is nearly one of a capture.
 fn line_hint(first: &[u8]) -> Option<Hint>
-    ensures { (limits : Limits) → IfSome result (Fits limits first.now) }
+    ensures { (limits : Limits) → IsFirstFit (Fits limits first.now) (Blanks ∷ []) result }
 {
     match first {
         [b'C' | b'S', b' ', rest @ ..] if has_blank(rest) => Some(Hint::Blanks),
@@ -37,7 +40,8 @@ fn line_hint(first: &[u8]) -> Option<Hint>
 /// binary file.
 fn file_hint(first: &[u8]) -> Option<Hint>
     requires { BeginsNoLine first.now }
-    ensures { (limits : Limits) → IfSome result (Fits limits first.now) }
+    ensures { (limits : Limits) → IsFirstFit (Fits limits first.now)
+        (Json ∷ SmallLetters ∷ OtherText ∷ Binary ∷ []) result }
 {
     match first {
         [b'{', ..] => Some(Hint::Json),
@@ -50,14 +54,14 @@ fn file_hint(first: &[u8]) -> Option<Hint>
 
 /// Whether a blank or a colon comes after the digits that these bytes begin with.
 fn has_blank(first: &[u8]) -> bool
-    ensures { result ≡ true → HasBlank first.now }
+    ensures { IsTrue result ↔ HasBlank first.now }
 {
     matches!(after_digits(first), [b' ', ..] | [b':', ..])
 }
 
 /// Whether no line of a capture begins with these bytes.
 fn begins_no_line(first: &[u8]) -> bool
-    ensures { result ≡ true → BeginsNoLine first.now }
+    ensures { IsTrue result ↔ BeginsNoLine first.now }
 {
     match first {
         [byte, next, ..] => !may_begin_line(*byte, *next),
@@ -75,7 +79,7 @@ fn may_begin_line(byte: u8, next: u8) -> bool
 
 /// Whether one of these bytes is a control character that no text has.
 fn has_control(first: &[u8]) -> bool
-    ensures { result ≡ true → HasControl first.now }
+    ensures { IsTrue result ↔ HasControl first.now }
 {
     first.iter().any(|byte| is_control(*byte))
 }
@@ -88,7 +92,7 @@ fn is_control(byte: u8) -> bool
 
 /// Whether these bytes, at least two, may begin the stream of an endpoint. No line of a capture begins with such a byte.
 fn is_stream(first: &[u8]) -> bool
-    ensures { result ≡ true → MayBeStream first.now }
+    ensures { IsTrue result ↔ MayBeStream first.now }
 {
     match Limits::new(MESSAGE_MAX, INPUT_MAX) {
         Some(limits) if first.len() > 1 => {

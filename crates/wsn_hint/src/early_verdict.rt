@@ -1,26 +1,42 @@
-ghost use Rattle.std.specs.Prelude.{◌≡◌, true, take, IfSome};
+ghost use Rattle.std.specs.Prelude.{◌≡◌, ◌<◌, ◌≤◌, None, true, take, length, IfSome};
+ghost use Rattle.wsn_rules.specs.declared.verdict.Verdict.TheVariants.{Refused};
 ghost use Rattle.wsn_scan.specs.Judging.{IsUnrefused};
 ghost use Rattle.wsn_hint.specs.Hints.{HasVerdict};
 
-use wsn_rules::{Limits, Verdict};
+use wsn_rules::{Limits, Refusal, Verdict};
 use wsn_scan::judge;
 use wsn_wire::{Input, Role};
 
 /// The verdict on the first two bytes alone; `None` if the input limit is less.
 pub fn early_verdict(first: &[u8], role: Role, limits: Limits) -> Option<Verdict>
-    ensures { IfSome result (HasVerdict role limits (take 2 first.now)) }
+    ensures verdict { IfSome result (HasVerdict role limits (take 2 first.now)) }
+    ensures none { result ≡ None → limits.input < length (take 2 first.now) }
 {
-    let mut start = &first[..first.len().min(2)];
-    judge(&mut Input::new(&mut start), role, limits).ok()
+    judge(&mut Input::lent(&first[..first.len().min(2)]), role, limits).ok()
 }
 
 /// Whether the first two bytes are no evidence for a refusal, so that a lawful stream may begin with them.
 pub fn is_lawful_start(first: &[u8], role: Role, limits: Limits) -> bool
-    ensures { result ≡ true → IsUnrefused role limits (take 2 first.now) }
+    ensures unrefused { result ≡ true → IsUnrefused role limits (take 2 first.now) }
+    ensures given { 2 ≤ limits.input → IsUnrefused role limits (take 2 first.now) → result ≡ true }
 {
     match early_verdict(first, role, limits) {
         Some(Verdict::Accepted(_summary)) => true,
         Some(Verdict::Cut(_summary)) => true,
-        _ => false,
+        Some(Verdict::Refused(_refusal)) => false,
+        None => false,
+    }
+}
+
+/// The refusal for which the first two bytes are evidence.
+pub fn early_refusal(first: &[u8], role: Role, limits: Limits) -> Option<Refusal>
+    ensures refused { IfSome result (λ refusal. HasVerdict role limits (take 2 first.now) (Refused refusal)) }
+    ensures none { result ≡ None → 2 ≤ limits.input → IsUnrefused role limits (take 2 first.now) }
+{
+    match early_verdict(first, role, limits) {
+        Some(Verdict::Refused(refusal)) => Some(refusal),
+        Some(Verdict::Accepted(_summary)) => None,
+        Some(Verdict::Cut(_summary)) => None,
+        None => None,
     }
 }

@@ -1,13 +1,23 @@
-ghost use Rattle.std.specs.Prelude.{◌≡◌, ◌↔◌, ◌≤◌, true, IsTrue, length, IfSome};
+ghost use Rattle.std.specs.Prelude.{◌≡◌, ◌↔◌, ◌≤◌, IsTrue, length};
 ghost use Rattle.std.specs.List.{AllByRecursion};
 ghost use Rattle.wsn_rules.specs.Limits.{Limits};
-ghost use Rattle.wsn_hint.specs.Hints.{Fits, BeginsByte, BeginsGroup, BeginsHexDump, BeginsHttp, BeginsOffsetDump, BeginsSpacedByte, IsHexByte, IsHexDigit, IsHexText, after_digits, digits_at_start};
+ghost use Rattle.wsn_hint.specs.Hints.{Fits, IsFirstFit, BeginsByte, BeginsGroup, BeginsHexDump, BeginsHttp, BeginsOffsetDump, BeginsSpacedByte, IsHexByte, IsHexDigit, IsHexText, after_digits, digits_at_start, format_hints, marked_hints, written_hints};
 
 use crate::hint::Hint;
 
 /// The file format or text that begins with these bytes, other than a capture. `None` if they begin no known one.
 pub fn format_of(first: &[u8]) -> Option<Hint>
-    ensures { (limits : Limits) → IfSome result (Fits limits first.now) }
+    ensures { (limits : Limits) → IsFirstFit (Fits limits first.now) format_hints result }
+{
+    match marked_format_of(first) {
+        Some(hint) => Some(hint),
+        None => written_format_of(first),
+    }
+}
+
+/// The format whose mark is at the front.
+fn marked_format_of(first: &[u8]) -> Option<Hint>
+    ensures { (limits : Limits) → IsFirstFit (Fits limits first.now) marked_hints result }
 {
     match first {
         [0xef, 0xbb, 0xbf, ..] => Some(Hint::ByteOrderMark),
@@ -18,6 +28,15 @@ pub fn format_of(first: &[u8]) -> Option<Hint>
         [0x0a, 0x0d, 0x0d, 0x0a, ..] => Some(Hint::PcapNg),
         [0x1f, 0x8b, 8, ..] => Some(Hint::Gzip),
         [0x14..=0x17, 3, 0..=4, ..] => Some(Hint::Tls),
+        _ => None,
+    }
+}
+
+/// The format of a text that begins with these bytes: the head of an HTTP message, a dump or hexadecimal digits.
+fn written_format_of(first: &[u8]) -> Option<Hint>
+    ensures { (limits : Limits) → IsFirstFit (Fits limits first.now) written_hints result }
+{
+    match first {
         _ if is_http_head(first) => Some(Hint::HttpHead),
         _ if is_hex_dump(first) => Some(Hint::HexDump),
         _ if is_offset_dump(first) => Some(Hint::OffsetDump),
@@ -28,7 +47,7 @@ pub fn format_of(first: &[u8]) -> Option<Hint>
 
 /// Whether these bytes begin as the first line of an HTTP request or response does.
 fn is_http_head(first: &[u8]) -> bool
-    ensures { result ≡ true → BeginsHttp first.now }
+    ensures { IsTrue result ↔ BeginsHttp first.now }
 {
     matches!(
         first,
@@ -47,13 +66,13 @@ fn is_http_head(first: &[u8]) -> bool
 
 /// Whether these bytes begin with an offset of eight digits, a colon, a space and a digit.
 fn is_hex_dump(first: &[u8]) -> bool
-    ensures { result ≡ true → BeginsHexDump first.now }
+    ensures { IsTrue result ↔ BeginsHexDump first.now }
 {
     digits_at_start(first) == 8 && is_xxd_gap(after_digits(first))
 }
 
 fn is_xxd_gap(rest: &[u8]) -> bool
-    ensures { result ≡ true → BeginsGroup rest.now }
+    ensures { IsTrue result ↔ BeginsGroup rest.now }
 {
     match rest {
         [b':', b' ', digit, ..] => digit.is_ascii_hexdigit(),
@@ -63,14 +82,14 @@ fn is_xxd_gap(rest: &[u8]) -> bool
 
 /// Whether these bytes begin with an offset of six to eight digits, one or two spaces and a byte in two digits.
 fn is_offset_dump(first: &[u8]) -> bool
-    ensures { result ≡ true → BeginsOffsetDump first.now }
+    ensures { IsTrue result ↔ BeginsOffsetDump first.now }
 {
     matches!(digits_at_start(first), 6..=8) && is_dumped_gap(after_digits(first))
 }
 
 /// Whether these bytes begin with one or two spaces and a byte.
 fn is_dumped_gap(rest: &[u8]) -> bool
-    ensures { result ≡ true → BeginsSpacedByte rest.now }
+    ensures { IsTrue result ↔ BeginsSpacedByte rest.now }
 {
     match rest {
         [b' ', b' ', byte @ ..] => is_dumped_byte(byte),
@@ -81,7 +100,7 @@ fn is_dumped_gap(rest: &[u8]) -> bool
 
 /// Whether these bytes begin with a byte in two digits, and a space or an LF.
 fn is_dumped_byte(byte: &[u8]) -> bool
-    ensures { result ≡ true → BeginsByte byte.now }
+    ensures { IsTrue result ↔ BeginsByte byte.now }
 {
     match byte {
         [high, low, b' ', ..] => is_pair(*high, *low),
@@ -91,14 +110,14 @@ fn is_dumped_byte(byte: &[u8]) -> bool
 }
 
 fn is_pair(high: u8, low: u8) -> bool
-    ensures { result ≡ true → IsHexDigit high × IsHexDigit low }
+    ensures { IsTrue result ↔ (IsHexDigit high × IsHexDigit low) }
 {
     high.is_ascii_hexdigit() && low.is_ascii_hexdigit()
 }
 
 /// Whether these bytes begin with digits, two for each byte, and are digits, spaces, colons and line ends.
 fn is_hexadecimal(first: &[u8]) -> bool
-    ensures { result ≡ true → IsHexText first.now }
+    ensures { IsTrue result ↔ IsHexText first.now }
 {
     let digits = digits_at_start(first);
     match first {
@@ -110,7 +129,7 @@ fn is_hexadecimal(first: &[u8]) -> bool
 }
 
 fn are_hex_bytes(bytes: &[u8]) -> bool
-    ensures { result ≡ true → AllByRecursion IsHexByte bytes.now }
+    ensures { IsTrue result ↔ AllByRecursion IsHexByte bytes.now }
 {
     bytes.iter().all(|byte| is_hex_byte(*byte))
 }

@@ -1,29 +1,35 @@
-ghost use Rattle.std.specs.Prelude.{◌≡◌, ◌⊎◌, ◌↔◌, ◌+◌, ℕ, true, IsTrue, Some, IsSome, IfSome, List, [], ◌++◌};
+ghost use Rattle.std.specs.Prelude.{◌≡◌, ◌≢◌, ◌⊎◌, ◌↔◌, ◌+◌, ◌≤◌, ℕ, true, IsTrue, None, Some, IsSome, IfSome, List, [], ◌++◌, take};
 ghost use Rattle.std.specs.List.{AllByRecursion};
+ghost use Rattle.wsn_rules.specs.declared.verdict.Refusal.{Refusal};
+ghost use Rattle.wsn_rules.specs.declared.verdict.Verdict.TheVariants.{Refused};
 ghost use Rattle.wsn_hint.specs.declared.hint.Hint.TheVariants.{Empty};
-ghost use Rattle.wsn_hint.specs.Hints.{IsRefusedEarly, Fits, IsDataHead, BeginsCompressed, BeginsCapture, IsTextByte};
+ghost use Rattle.wsn_hint.specs.Hints.{HasVerdict, IsRefusedEarly, Fits, FitsRefused, IsFirstFit, frame_hints, stream_hints, IsDataHead, BeginsCompressed, BeginsCapture, IsTextByte};
 
-use crate::early_verdict::{early_verdict, is_lawful_start};
+use crate::early_verdict::{early_refusal, is_lawful_start};
 use crate::formats::format_of;
 use crate::hint::Hint;
-use wsn_rules::{Limits, Verdict};
+use wsn_rules::Limits;
 use wsn_wire::{Reason, Role};
 
 /// The hint for an input whose first bytes are these, read as the stream that `role` sent: its first 16 bytes, or all of
 /// them if there are fewer.
 ///
 /// `None` unless the stream is refused at offset 0 or 1, or is empty; and if its first bytes look like nothing known.
+/// Otherwise the first hint of `stream_hints` (specs/Hints.antt) that fits, if the input limit is at least 2.
 /// `OtherRole` is given only if that endpoint may send the first two bytes (RFC 6455 section 5.1).
 pub fn hint_of(first: &[u8], role: Role, limits: Limits) -> Option<Hint>
     ensures refused { IsSome result → (first.now ≡ [])
         ⊎ ((later : List ℕ) → IsRefusedEarly role limits (first.now ++ later)) }
     ensures empty { first.now ≡ [] → result ≡ Some Empty }
     ensures fits { IfSome result (Fits limits first.now) }
+    ensures first { 2 ≤ limits.input → (refusal : Refusal)
+        → HasVerdict role limits (take 2 first.now) (Refused refusal)
+        → IsFirstFit (FitsRefused role limits refusal.reason first.now) stream_hints result }
 {
     if first.is_empty() {
         return Some(Hint::Empty);
     }
-    let Some(Verdict::Refused(refusal)) = early_verdict(first, role, limits) else {
+    let Some(refusal) = early_refusal(first, role, limits) else {
         return None;
     };
     if is_capture_text(first) {
@@ -38,7 +44,9 @@ pub fn hint_of(first: &[u8], role: Role, limits: Limits) -> Option<Hint>
 /// The hint for a stream that is refused at offset 0 or 1 for this reason, and is of no known format: compressed, the
 /// other endpoint's, or a text.
 fn frame_hint(first: &[u8], reason: Reason, role: Role, limits: Limits) -> Option<Hint>
-    ensures { IfSome result (Fits limits first.now) }
+    ensures fits { IfSome result (Fits limits first.now) }
+    ensures first { 2 ≤ limits.input
+        → IsFirstFit (FitsRefused role limits reason first.now) frame_hints result }
 {
     match reason {
         Reason::ReservedBits if is_compressed_start(first, role, limits) && !is_text(first) => {
@@ -58,7 +66,8 @@ fn frame_hint(first: &[u8], reason: Reason, role: Role, limits: Limits) -> Optio
 /// Whether these bytes begin with a text or binary frame that is lawful but for RSV1, as compression sets it (RFC 7692
 /// section 6).
 pub fn is_compressed_start(first: &[u8], role: Role, limits: Limits) -> bool
-    ensures { result ≡ true → BeginsCompressed role limits first.now }
+    ensures compressed { result ≡ true → BeginsCompressed role limits first.now }
+    ensures given { 2 ≤ limits.input → BeginsCompressed role limits first.now → result ≡ true }
 {
     match first {
         [head, second, ..] => match without_compression(*head) {
@@ -71,7 +80,8 @@ pub fn is_compressed_start(first: &[u8], role: Role, limits: Limits) -> bool
 
 /// The first byte of the head of a text or binary frame, without RSV1; `None` if this isn't such a byte with RSV1 alone.
 fn without_compression(head: u8) -> Option<u8>
-    ensures { IfSome result (λ plain. (head ≡ plain + 0x40) × IsDataHead plain) }
+    ensures plain { IfSome result (λ plain. (head ≡ plain + 0x40) × IsDataHead plain) }
+    ensures none { result ≡ None → (plain : ℕ) → IsDataHead plain → head ≢ plain + 0x40 }
 {
     match head {
         0x41 => Some(0x01),
@@ -84,7 +94,7 @@ fn without_compression(head: u8) -> Option<u8>
 
 /// Whether all these bytes are of a text in ASCII.
 pub fn is_text(first: &[u8]) -> bool
-    ensures { result ≡ true → AllByRecursion IsTextByte first.now }
+    ensures { IsTrue result ↔ AllByRecursion IsTextByte first.now }
 {
     first.iter().all(|byte| is_text_byte(*byte))
 }
@@ -97,7 +107,7 @@ fn is_text_byte(byte: u8) -> bool
 
 /// Whether these bytes begin a line of a capture that has bytes, an end mark, or a comment after a space.
 fn is_capture_text(first: &[u8]) -> bool
-    ensures { result ≡ true → BeginsCapture first.now }
+    ensures { IsTrue result ↔ BeginsCapture first.now }
 {
     match first {
         [b'C' | b'S', b' ', high, low, ..] => high.is_ascii_hexdigit() && low.is_ascii_hexdigit(),

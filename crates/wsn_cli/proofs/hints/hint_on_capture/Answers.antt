@@ -19,7 +19,7 @@ pub returns-then-is_faulty_line : goal.returns-then-is_faulty_line
 returns-then-is_faulty_line g c =
     let limits = job_limits c.args.job.now in
     or_else (Fits limits (take 16 c.args.first.now)) (FitsSides c.args.side limits c.args.first.now) c.capture_hint_of.result
-    (subst (λ (bytes : List ℕ). IfSome c.capture_hint_of.result (Fits limits bytes)) c.mark_of.ensures (c.capture_hint_of.ensures limits))
+    (subst (λ (bytes : List ℕ). IfSome c.capture_hint_of.result (Fits limits bytes)) c.mark_of.ensures (c.capture_hint_of.ensures.fits limits))
 
 pub returns-else-is_faulty_line : goal.returns-else-is_faulty_line
 returns-else-is_faulty_line g c =

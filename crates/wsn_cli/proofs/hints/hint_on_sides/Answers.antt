@@ -6,4 +6,4 @@ use Rattle.wsn_cli.proofs.hints.hint_on_sides.Goals as goal
 
 pub returns-in-Some-clause-fits : goal.returns-in-Some-clause-fits
 returns-in-Some-clause-fits c =
-    rw c.looks.ensures (subst (λ (o : Option Hint). IfSome o (Fits c.args.comparison.limits c.args.failed.now)) c.in-Some.is (c.capture_hint_of.ensures c.args.comparison.limits))
+    rw c.looks.ensures (subst (λ (o : Option Hint). IfSome o (Fits c.args.comparison.limits c.args.failed.now)) c.in-Some.is (c.capture_hint_of.ensures.fits c.args.comparison.limits))

@@ -1,20 +1,60 @@
-use Rattle.std.proofs.Common.{rules, take, inr}
+use Rattle.std.proofs.Common.{◌≡◌, Option, Some, ◌++◌, take, inr, subst}
+use Rattle.std.specs.Prelude.{IfSome}
+use Rattle.wsn_rules.specs.declared.verdict.Refusal.{Refusal}
 use Rattle.wsn_rules.specs.declared.verdict.Verdict.TheVariants.{Refused}
-use Rattle.wsn_hint.specs.Hints.{HasVerdict}
-use Rattle.wsn_hint.proofs.EarlyVerdicts.{refused_early}
+use Rattle.wsn_hint.specs.declared.hint.Hint.{Hint}
+use Rattle.wsn_hint.specs.declared.hint.Hint.TheVariants.{Capture}
+use Rattle.wsn_hint.specs.Hints.{Fits, FitsRefused, HasVerdict, IsFirstFit, format_hints, frame_hints}
+use Rattle.wsn_hint.proofs.EarlyVerdicts.{one_refusal, refused_early}
+use Rattle.wsn_hint.proofs.FirstFits.{fits_of_first, first_of_more, first_after, first_past}
 use Rattle.wsn_hint.proofs.streams.hint_of.Goals as goal
 
-pub returns-then-is_capture_text-clause-refused : goal.returns-then-is_capture_text-clause-refused
-returns-then-is_capture_text-clause-refused c some =
-    let has : HasVerdict c.args.role c.args.limits (take 2 c.args.first.now) (Refused c.in-Some-Refused.refusal) = search rules in
-    inr (λ later. refused_early c.args.role c.args.limits c.args.first.now later c.in-Some-Refused.refusal has)
+pub returns-in_default-clause-first : goal.returns-in_default-clause-first
+returns-in_default-clause-first c = λ some refusal has.
+    absurd (c.early_refusal.ensures.none c.in_default.is some has.0 refusal.place refusal.reason has.1)
 
-pub returns-in-Some-clause-refused : goal.returns-in-Some-clause-refused
-returns-in-Some-clause-refused c some =
-    let has : HasVerdict c.args.role c.args.limits (take 2 c.args.first.now) (Refused c.in-Some-Refused.refusal) = search rules in
-    inr (λ later. refused_early c.args.role c.args.limits c.args.first.now later c.in-Some-Refused.refusal has)
+pub returns-then-is_capture_text-clause-refused : goal.returns-then-is_capture_text-clause-refused
+returns-then-is_capture_text-clause-refused c = λ given.
+    let own = subst (λ (o : Option Refusal). IfSome o (λ refusal. HasVerdict c.args.role c.args.limits (take 2 c.args.first.now) (Refused refusal))) c.in-Some.is c.early_refusal.ensures.refused in
+    inr (λ later. refused_early c.args.role c.args.limits c.args.first.now later c.in-Some.refusal own)
+
+pub returns-in-Some-format_of-clause-refused : goal.returns-in-Some-format_of-clause-refused
+returns-in-Some-format_of-clause-refused c = λ given.
+    let own = subst (λ (o : Option Refusal). IfSome o (λ refusal. HasVerdict c.args.role c.args.limits (take 2 c.args.first.now) (Refused refusal))) c.in-Some.is c.early_refusal.ensures.refused in
+    inr (λ later. refused_early c.args.role c.args.limits c.args.first.now later c.in-Some.refusal own)
+
+pub returns-in-Some-format_of-clause-fits : goal.returns-in-Some-format_of-clause-fits
+returns-in-Some-format_of-clause-fits c =
+    let fits = Fits c.args.limits c.args.first.now in
+    let hint = c.in-Some-format_of.hint in
+    fits_of_first fits format_hints (Some hint)
+    (subst (λ (o : Option Hint). IsFirstFit fits format_hints o) c.in-Some-format_of.is (c.format_of.ensures c.args.limits))
+
+pub returns-in-Some-format_of-clause-first : goal.returns-in-Some-format_of-clause-first
+returns-in-Some-format_of-clause-first c = λ some refusal has.
+    let first = c.args.first.now in
+    let limits = c.args.limits in
+    let fits = FitsRefused c.args.role limits refusal.reason first in
+    let result : Option Hint = Some c.in-Some-format_of.hint in
+    first_past fits Capture (format_hints ++ frame_hints) result c.is_capture_text.result c.is_capture_text.ensures c.if-is_capture_text.false
+    (first_of_more fits format_hints frame_hints c.in-Some-format_of.hint
+    (subst (λ (o : Option Hint). IsFirstFit (Fits limits first) format_hints o) c.in-Some-format_of.is (c.format_of.ensures limits)))
 
 pub returns-in-None-clause-refused : goal.returns-in-None-clause-refused
-returns-in-None-clause-refused c some =
-    let has : HasVerdict c.args.role c.args.limits (take 2 c.args.first.now) (Refused c.in-Some-Refused.refusal) = search rules in
-    inr (λ later. refused_early c.args.role c.args.limits c.args.first.now later c.in-Some-Refused.refusal has)
+returns-in-None-clause-refused c = λ given.
+    let own = subst (λ (o : Option Refusal). IfSome o (λ refusal. HasVerdict c.args.role c.args.limits (take 2 c.args.first.now) (Refused refusal))) c.in-Some.is c.early_refusal.ensures.refused in
+    inr (λ later. refused_early c.args.role c.args.limits c.args.first.now later c.in-Some.refusal own)
+
+pub returns-in-None-clause-first : goal.returns-in-None-clause-first
+returns-in-None-clause-first c = λ some refusal has.
+    let first = c.args.first.now in
+    let role = c.args.role in
+    let limits = c.args.limits in
+    let result = c.frame_hint.result in
+    let own = subst (λ (o : Option Refusal). IfSome o (λ r. HasVerdict role limits (take 2 first) (Refused r))) c.in-Some.is c.early_refusal.ensures.refused in
+    let same : c.in-Some.refusal ≡ refusal = one_refusal role limits (take 2 first) c.in-Some.refusal refusal own has in
+    let fits = FitsRefused role limits refusal.reason first in
+    first_past fits Capture (format_hints ++ frame_hints) result c.is_capture_text.result c.is_capture_text.ensures c.if-is_capture_text.false
+    (first_after fits format_hints frame_hints result
+    (subst (λ (o : Option Hint). IsFirstFit (Fits limits first) format_hints o) c.in-None.is (c.format_of.ensures limits))
+    (subst (λ (r : Refusal). IsFirstFit (FitsRefused role limits r.reason first) frame_hints result) same (c.frame_hint.ensures.first some)))
