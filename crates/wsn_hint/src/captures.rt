@@ -11,9 +11,8 @@ use wsn_rules::{INPUT_MAX, Limits, MESSAGE_MAX};
 use wsn_wire::Role;
 
 /// The hint for an input whose first bytes are these, its first 16 or all of them if there are fewer, where a capture is
-/// read and a line isn't accepted: they are of another format, the stream of one endpoint, a first line that is nearly
-/// one of a capture, another text or a binary file: the first hint of `capture_hints` (specs/Hints.antt) that fits.
-/// `None` for any other bytes, such as those of a capture.
+/// read and a line isn't accepted: the first of `capture_hints` (specs/Hints.antt) that fits them. `None` if none fits,
+/// as for the bytes of a capture.
 pub fn capture_hint_of(first: &[u8]) -> Option<Hint>
     ensures first { (limits : Limits) → IsFirstFit (Fits limits first.now) capture_hints result }
     ensures fits { (limits : Limits) → IfSome result (Fits limits first.now) }

@@ -5,7 +5,8 @@
 //! is read as a plan. A [`Hint`] has a line that says what to do next. A hint changes no answer: the bytes are those that
 //! were read in passing ([`CaptureStart`], `wsn_io::FirstBytes`).
 //!
-//! `specs/Hints.antt` defines when a stream has a hint, `specs/SideHints.antt` when the sides of a capture have one.
+//! `specs/Hints.antt` defines which hint a stream or a faulty capture has, `specs/SideHints.antt` when the sides of a
+//! capture have one.
 #![tactic(auto)]
 
 mod capture_start;
