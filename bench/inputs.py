@@ -14,14 +14,16 @@ NORMAL_CLOSE = b"\x03\xe8"
 ROLES = ("client", "server")
 # The bytes of a block of short to long messages. The longer a message, the fewer instructions a byte takes.
 SHORTEST, SHORT, LONG, LONGEST = 60_000, 300_000, 600_000, 2_000_000
-# The bytes of a capture's block, which are hexadecimal digits.
-LINES = 200_000
+# The same of a capture, which has two hexadecimal digits for each byte, by the length of its lines.
+SHORT_LINES, LONG_LINES = 200_000, 1_500_000
+# The most bytes of a plan that the program reads, which is 64 MiB, less some for an end.
+PLAN_MOST = 67_000_000
 
 # A sign for each byte.
 SIGNS = (b"abcdefghijklmnopqrstuvwxyz     ABCDEF0123456789,.-:;" * 5)[:256]
 WORDS = "привет 天気 naïve ok 😀 как dela 今日は où € 😎👍 да é спасибо no 東京".split()
 NAMES = "user text room price at status title payload".split()
-VALUES = ("true", "false", "null", "[]", '"Malmö"', '"shipped today"', '"the quick order was filled"', '"Anna"')
+VALUES = ("true", "false", "null", "[]", '"free"', '"shipped today"', '"the quick order was filled"', '"Anna"')
 
 
 def ascii_text(made: random.Random, size: int) -> bytes:
@@ -43,11 +45,11 @@ def binary_data(made: random.Random, size: int) -> bytes:
     return made.randbytes(size)
 
 
-def json_text(made: random.Random) -> bytes:
-    """A JSON object of 50 to 2,000 bytes, more often a short one."""
-    wanted, text = made.randrange(50, made.randrange(51, 1_970)), f'{{"id":{made.randrange(1_000_000)}'
+def json_text(made: random.Random, values: Sequence[str] = VALUES) -> bytes:
+    """A JSON object of 50 to 2,000 bytes, more often a short one, whose members are numbers or have these values."""
+    wanted, text = made.randrange(50, made.randrange(51, 1_950)), f'{{"id":{made.randrange(1_000_000)}'
     while len(text) < wanted:
-        value = made.choice(VALUES) if made.random() < 0.7 else made.randrange(100_000)
+        value = made.choice(values) if made.random() < 0.7 else made.randrange(100_000)
         text += f',"{made.choice(NAMES)}":{value}'
     return (text + "}").encode()
 
@@ -163,6 +165,11 @@ def json_message(stream: Stream) -> None:
     stream.add(TEXT, json_text(stream.made))
 
 
+def json_with_malmo(stream: Stream) -> None:
+    """A JSON message of which most have a character that isn't ASCII."""
+    stream.add(TEXT, json_text(stream.made, (*VALUES, '"Malmö"')))
+
+
 def longer_lengths(stream: Stream) -> None:
     """A text of 20 or 200 bytes, whose length takes two or eight bytes."""
     size = stream.made.choice((20, 200))
@@ -224,6 +231,7 @@ def other_inputs() -> Dict[str, StreamInput]:
             inputs[f"fragments-{size}-{role}"] = StreamInput(role, block, fragments(size))
         inputs[f"controls-{role}"] = StreamInput(role, SHORT, fragments(100, with_pings=True))
         inputs[f"longer-{role}"] = StreamInput(role, SHORT, longer_lengths, close, ("--lengths", "any"))
+    inputs["json-malmo-client"] = StreamInput("client", LONG, json_with_malmo)
     inputs["refused-text-client"] = StreamInput("client", LONG, json_message, bad_text)
     inputs["refused-head-server"] = StreamInput("server", SHORT, messages("ascii", [20]), bad_head)
     return inputs
@@ -288,20 +296,22 @@ REFUSED_END = b"C 81850000000048656cff6f\nS 880203ef\nC.\nS.\n"
 class CaptureInput(NamedTuple):
     """How a capture is made."""
 
+    block: int
     put: PutCapture
     end: bytes = CAPTURE_END
 
 
 CAPTURES: Dict[str, CaptureInput] = {
-    "capture-1": CaptureInput(cut_json(1)),
-    "capture-2": CaptureInput(cut_json(2)),
-    "capture-64": CaptureInput(full_line(64)),
-    "capture-1000": CaptureInput(full_line(1_000)),
-    "capture-4096": CaptureInput(full_line(4_096)),
-    "capture-comments": CaptureInput(commented),
-    "capture-many": CaptureInput(many_frames),
-    "capture-across": CaptureInput(across_lines),
-    "capture-refused": CaptureInput(cut_json(1_448), REFUSED_END),
+    "capture-1": CaptureInput(SHORT_LINES, cut_json(1)),
+    "capture-2": CaptureInput(SHORT_LINES, cut_json(2)),
+    "capture-64": CaptureInput(SHORT_LINES, full_line(64)),
+    "capture-1000": CaptureInput(LONG_LINES, full_line(1_000)),
+    "capture-4096": CaptureInput(LONG_LINES, full_line(4_096)),
+    "capture-comments": CaptureInput(LONG_LINES, commented),
+    "capture-many": CaptureInput(LONG_LINES, many_frames),
+    "capture-across": CaptureInput(LONG_LINES, across_lines),
+    "capture-refused": CaptureInput(LONG_LINES, cut_json(1_448), REFUSED_END),
+    "capture-refused-1": CaptureInput(SHORT_LINES, cut_json(1), REFUSED_END),
 }
 
 
@@ -324,7 +334,7 @@ def made_parts(name: str, seed: str, block: int) -> Dict[str, Part]:
     made = random.Random(f"{seed} {name}")
     if name in CAPTURES:
         capture = Capture(made)
-        while len(capture.text) < max(block, LINES):
+        while len(capture.text) < max(block, CAPTURES[name].block):
             CAPTURES[name].put(capture)
         return {"": Part(bytes(capture.text), CAPTURES[name].end)}
     wanted = STREAMS[name]
@@ -346,9 +356,11 @@ def write(folder: pathlib.Path, name: str, seed: str) -> None:
 
 
 def write_long(folder: pathlib.Path, name: str, seed: str, size: int) -> None:
-    """Writes an input's files, with so many blocks of a megabyte that the largest file has about `size` bytes."""
+    """Writes an input's files, with so many blocks of a megabyte that it has about `size` bytes, or its plan the most
+    that a plan may have."""
     parts = made_parts(name, seed, 1_000_000)
-    times = max(1, size // max(len(part.block) for part in parts.values()))
+    plan = len(parts[".plan"].block) if ".plan" in parts else 1
+    times = max(1, min(size // len(parts[""].block), PLAN_MOST // plan))
     for suffix, part in parts.items():
         part.write(folder / f"{name}{suffix}", times)
 
