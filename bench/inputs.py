@@ -16,8 +16,9 @@ ROLES = ("client", "server")
 SHORTEST, SHORT, LONG, LONGEST = 60_000, 300_000, 600_000, 2_000_000
 # The same of a capture, which has two hexadecimal digits for each byte, by the length of its lines.
 SHORT_LINES, LONG_LINES = 200_000, 1_500_000
-# The most bytes of a plan that the program reads, which is 64 MiB, less some for an end.
-PLAN_MOST = 67_000_000
+# The most bytes of a plan and lines of a capture that a long input has. The program reads a few more: 64 MiB of a
+# plan, 1,000,000 lines of a capture.
+PLAN_MOST, LINES_MOST = 67_000_000, 999_000
 
 # A sign for each byte.
 SIGNS = (b"abcdefghijklmnopqrstuvwxyz     ABCDEF0123456789,.-:;" * 5)[:256]
@@ -356,11 +357,12 @@ def write(folder: pathlib.Path, name: str, seed: str) -> None:
 
 
 def write_long(folder: pathlib.Path, name: str, seed: str, size: int) -> None:
-    """Writes an input's files, with so many blocks of a megabyte that it has about `size` bytes, or its plan the most
-    that a plan may have."""
+    """Writes an input's files, with so many blocks of a megabyte that it has about `size` bytes, or the most that the
+    program reads."""
     parts = made_parts(name, seed, 1_000_000)
-    plan = len(parts[".plan"].block) if ".plan" in parts else 1
-    times = max(1, min(size // len(parts[""].block), PLAN_MOST // plan))
+    block = parts[""].block
+    most = PLAN_MOST // len(parts[".plan"].block) if name in STREAMS else LINES_MOST // block.count(b"\n")
+    times = max(1, min(size // len(block), most))
     for suffix, part in parts.items():
         part.write(folder / f"{name}{suffix}", times)
 
