@@ -7,7 +7,7 @@ import datetime
 import re
 from typing import Iterable, Iterator, NamedTuple, Optional
 
-from handshake import Head
+from handshake import Head, names_in, shown_name
 
 LINE = 4096  # The maximum bytes that a line has, as 8,192 digits.
 TEXT = 8194  # The maximum characters of a line.
@@ -39,10 +39,10 @@ def front(opened: int, request: Head, answer: Head) -> str:
     """The comments at the front of a capture: when the connection was open, what was asked, answered and agreed on."""
     lines = [comment(f"open since {time_of_day(opened)}"), comment(f"path: {request.path}")]
     lines += [comment(f"answer: {answer.line}")]
-    for name in "subprotocol", "extensions":
-        field = "protocol" if name == "subprotocol" else name
-        value = answer.value(f"sec-websocket-{field}")
-        lines += [comment(f"{name}: {value}")] if value else []
+    protocols = names_in(answer.value("sec-websocket-protocol"))
+    lines += [comment(f"subprotocol: {', '.join(map(shown_name, protocols))}")] if protocols else []
+    extensions = answer.value("sec-websocket-extensions")
+    lines += [comment(f"extensions: {extensions}")] if extensions else []
     return "".join(lines)
 
 

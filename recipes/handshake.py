@@ -206,7 +206,7 @@ def faults(request: Head, answer: Head) -> List[str]:
     found = ["accept is wrong"] if answer.value("sec-websocket-accept") != accept_of(request) else []
     offered = set(names_in(request.value("sec-websocket-protocol")))
     chosen = names_in(answer.value("sec-websocket-protocol"))
-    found += [f"subprotocol {name} was not offered" for name in chosen if name not in offered]
+    found += [f"subprotocol {shown_name(name)} was not offered" for name in chosen if name not in offered]
     offered = {name.lower() for name in names_in(request.value("sec-websocket-extensions"))}
     chosen = names_in(answer.value("sec-websocket-extensions"))
     return found + [f"extension {name} was not offered" for name in chosen if name.lower() not in offered]
@@ -216,6 +216,18 @@ def accept_of(request: Head) -> str:
     """The value of Sec-WebSocket-Accept with which a request is answered (RFC 6455, 4.2.2); none without a key."""
     key = request.value("sec-websocket-key").encode("latin-1")
     return base64.b64encode(hashlib.sha1(key + GUID, usedforsecurity=False).digest()).decode() if key else ""
+
+
+# What looks like a token: a JWT, a UUID, 16 letters and digits in a row, or a long name.
+TOKEN = re.compile(
+    r"\beyJ|[0-9a-f]{8}-(?:[0-9a-f]{4}-){3}[0-9a-f]{12}|(?=[a-z]*[0-9])(?=[0-9]*[a-z])[0-9a-z]{16}|.{64}",
+    re.IGNORECASE)  # fmt: skip
+LEFT_OUT = "(left out: it looks like a token)"
+
+
+def shown_name(name: str) -> str:
+    """A subprotocol's name, or that it looks like a token: browsers can send one in no other field."""
+    return LEFT_OUT if TOKEN.search(name) else name
 
 
 def names_in(text: str) -> List[str]:

@@ -316,6 +316,43 @@ def record_says_how_a_handshake_failed(folder):
 
 
 @test
+def record_says_what_a_failed_handshake_answered(folder):
+    """Fields and the first 1,000 bytes of the body, escaped, but not of an answer to a request for a page."""
+    head = b"HTTP/1.1 403 Forbidden\r\nWWW-Authenticate: Bearer realm=x\r\nContent-Type: text/plain\r\n"
+    body = "no\x1b ü ".encode() + b"a" * 2000
+    answer = head + b"Content-Length: %d\r\n\r\n" % len(body) + body
+    with sessions(folder) as all_sessions:
+        for ask in b"GET / HTTP/1.1\r\nHost: x\r\n\r\n", ASK:
+            client, server = all_sessions.connect()
+            client.sendall(ask)
+            until(server, b"\r\n\r\n")
+            server.sendall(answer)
+            same(exactly(client, len(answer)), answer, "the answer")
+            client.close()
+        said = said_of(all_sessions, "the body begins")
+        want(said.endswith("the body begins: no\\x1b \\xfc " + "a" * 993), f"the body: {said!r}")
+        want(said_of(all_sessions, "WWW-Authenticate").endswith(": WWW-Authenticate: Bearer realm=x"), "a field")
+        want(said_of(all_sessions, "Content-Type").endswith(": Content-Type: text/plain"), "a field")
+
+
+@test
+def record_writes_no_token(folder):
+    """A subprotocol that looks like a token is in no comment and isn't printed; a name is."""
+    for name, is_kept in (
+        ("chat", True), ("graphql-transport-ws", True), ("actioncable-v1-json", True), ("v4.base64.channel.k8s.io", True),
+        ("eyJhbGciOiJIUzI1NiJ9.e30.abc", False), ("base64url.bearer.authorization.k8s.io.c2VjcmV0LXRva2VuMTIz", False),
+        ("123e4567-e89b-12d3-a456-426614174000", False), ("0123456789abcdef0123456789abcdef", False),
+    ):  # fmt: skip
+        with sessions(folder / name) as all_sessions:
+            answer = ANSWER[:-2] + b"Sec-WebSocket-Protocol: " + name.encode() + b"\r\n\r\n"
+            for each in all_sessions.open(ASK.replace(b"/chat", b"/"), answer)[:2]:
+                each.close()
+            written = all_sessions.recorded().decode() + "".join(all_sessions.proxy.said).replace(str(folder / name), "")
+        same(written.count(name), 3 if is_kept else 0, f"where {name} is")
+        same(written.count("(left out: it looks like a token)"), 0 if is_kept else 3, f"instead of {name}")
+
+
+@test
 def record_takes_out_the_offer(folder):
     """--plain takes the offer of extensions out; without it the offer stays and what is agreed on is reported."""
     with sessions(folder, "--plain") as all_sessions:
