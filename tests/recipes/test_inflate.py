@@ -80,16 +80,25 @@ def inflate_keeps_the_rest(folder):
 
 @test
 def inflate_refuses(folder):
-    """What isn't deflate's, goes on after a final block, is too long, or was agreed on in another way."""
+    """What isn't deflate's, goes on after a final block, or is too long: what came before it. What was agreed on in
+    another way or is no capture: nothing."""
     bomb = zlib.compressobj(wbits=-15)
     bomb = (bomb.compress(bytes(1 << 25)) + bomb.flush(zlib.Z_SYNC_FLUSH))[:-4]
     bomb = b"\xc2\x7f" + len(bomb).to_bytes(8, "big") + bomb
     one = bytes.fromhex("c107f248cdc9c90700")
+    for frames, words, wanted in (
+        ([b"\xc1\x02\xff\xff"], [], "line 3: the payload isn't deflate's"),
+        ([bytes.fromhex("c10af348cdc9c90700002a2a")], [], "line 3: data after the final block"),
+        ([bomb[at : at + 4096] for at in range(0, len(bomb), 4096)], [], "has more than 16777216 bytes"),
+        ([bytes.fromhex("c10af248cdc9c9f700110000")], ["--limit", "5"], "line 3: the inflated message has more than 5 bytes"),
+    ):
+        together = [] if len(frames) > 1 else [capture(b"\x89\x00", one + frames[0] + one)]
+        for given in (capture(one, *frames, one), *together):
+            out, said = inflate(given, *words, status=1)
+            want(said.count("\n") == 1 and wanted in said and "what came before it is written" in said, f"{wanted}: {said}")
+            same([data for first, data in frames_of(sides(out)[1]) if first == 0x81], [b"Hello"], "what came before it")
+            want(wanted in out.decode().splitlines()[-1], f"{wanted}: the comment at the end")
     for given, words, wanted in (
-        (capture(b"\xc1\x02\xff\xff"), [], "line 2: the payload isn't deflate's"),
-        (capture(bytes.fromhex("c10af348cdc9c90700002a2a")), [], "line 2: data after the final block"),
-        (capture(*(bomb[at : at + 4096] for at in range(0, len(bomb), 4096))), [], "has more than 16777216 bytes"),
-        (capture(one), ["--limit", "4"], "line 2: the inflated message has more than 4 bytes"),
         (capture(one, agreed="#"), [], "line 2: a compressed frame, and the capture doesn't say what was agreed on"),
         (capture(one, agreed="# extensions: foo"), [], "only permessage-deflate can be inflated"),
         (capture(one, agreed=AGREED + "; server_max_window_bits=7"), [], "is from 8 to 15, and not 7"),
@@ -106,7 +115,7 @@ def inflate_refuses(folder):
     same(frames_of(sides(inflate(capture(one), "--limit", "5")[0])[1]), [(0x81, b"Hello")], "at the limit")
     words = ["--extensions", "permessage-deflate; server_no_context_takeover"]
     same(frames_of(sides(inflate(capture(one, agreed="#"), *words)[0])[1]), [(0x81, b"Hello")], "--extensions")
-    inflate(capture(one, bytes.fromhex("c105f200110000"), agreed="#"), *words, status=2)
+    inflate(capture(one, bytes.fromhex("c105f200110000"), agreed="#"), *words, status=1)
 
 
 @test

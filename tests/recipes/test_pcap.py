@@ -478,6 +478,24 @@ def pcap_with_what_tcp_repeats(folder):
 
 
 @test
+def pcap_from_standard_input(folder):
+    """The same list and capture as of the file; what isn't a pcap is called standard input."""
+    pcap = SAMPLES / "basic.pcap"
+    for words in ["-"], ["-", "0"]:
+        out, said = pcap2wsn(*words, input=pcap.read_bytes())
+        same((out, said), pcap2wsn(pcap, *words[1:]), f"{words}")
+    for given, words, wanted in (
+        (b"", ["-"], "standard input is empty"),
+        (pcap.read_bytes(), ["-", "7"], "standard input has no connection 7"),
+        (b"C 8800\n", ["-"], "standard input is a capture already, and no pcap: wsn show -"),
+    ):
+        out, said = pcap2wsn(*words, input=given, status=2)
+        want(out == b"" and said.startswith(f"pcap2wsn: {wanted}"), f"{words}: {short(said)}")
+    shutil.copy(pcap, folder / "-")
+    same(pcap2wsn("./-", "0", cwd=folder)[0], pcap2wsn(pcap, "0")[0], "a file with that name")
+
+
+@test
 def pcap_with_odd_names(folder):
     """Files with blanks, quotes and a hyphen in front."""
     needs("tshark")
