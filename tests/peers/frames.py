@@ -2,6 +2,8 @@
 import struct
 
 CLOSE, PING, PONG = 8, 9, 10
+# Instead of the code of a Close of one byte.
+ONE_BYTE = "one byte"
 
 
 class Seen:
@@ -78,5 +80,16 @@ def control(opcode, payload, masks):
 
 
 def close_code(payload):
-    """The code of a Close's payload, or '-' if it has none."""
-    return str(int.from_bytes(payload[:2], "big")) if len(payload) >= 2 else "-"
+    """The code of a Close's payload, '-' if that is empty, or the one byte that is no code."""
+    return str(int.from_bytes(payload[:2], "big")) if len(payload) >= 2 else ONE_BYTE if payload else "-"
+
+
+def frame_of(wire, offset):
+    """The frame that has this byte, or None."""
+    return next((frame for frame in frames_of(wire) if frame.start <= offset < frame.end), None)
+
+
+def close_in(wire, offset):
+    """The code of the Close that has this byte, or None."""
+    frame = frame_of(wire, offset)
+    return close_code(frame.payload) if frame and frame.opcode == CLOSE else None

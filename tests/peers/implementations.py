@@ -14,18 +14,20 @@ class CannotRun(Exception):
 
 
 class Peer:
-    """`packages` are Debian's, the one with the implementation first; `flags` are for the compiler, or Java's class path;
-    `jobs` is the maximum number of sessions at once; `note` is for the page; `words` come before the role on the command
-    line; a variant of another peer isn't counted. Of one that at times loses the Close with which it fails a
-    connection, no such Close is compared; of one that fails connections without a code, an answer without a code to a
-    Close is a failure unless its user is told of the Close."""
+    """`packages` are Debian's, the one with the implementation first; `flags` are for the compiler, or Java's class
+    path; `jobs` is the maximum number of sessions at once; `note` is for its page; `words` come before the role on the
+    command line. A variant, which isn't counted, is the peer `of` with what is `set`; the others have their defaults.
+    Of a peer that at times loses the Close with which it fails a connection, no such Close is compared."""
 
-    def __init__(self, name, file, packages, roles=BOTH, flags="", jobs=48, note="", built_as=None, words=(),
-                 is_variant=False, loses_close=False, fails_without_code=False):
+    def __init__(self, name, file, packages, roles=BOTH, flags="", jobs=48, note="", built_as=None, words=(), of=None,
+                 set="", loses_close=False):
         self.name, self.file, self.packages, self.roles = name, file, packages.split(), roles
         self.flags, self.jobs, self.note, self.words = flags, jobs, note, words
-        self.is_variant, self.loses_close, self.fails_without_code = is_variant, loses_close, fails_without_code
+        self.of, self.set, self.loses_close = of, set, loses_close
         self.stem = built_as or file.split(".")[0]
+
+    def is_variant(self):
+        return self.of is not None
 
     def version(self):
         """Debian's version of the first package."""
@@ -114,34 +116,40 @@ TOMCAT = ":".join(f"/usr/share/java/tomcat10-{name}.jar" for name in (
 
 PEERS = [
     Peer("websockets", "python_websockets.py", "python3-websockets"),
+    Peer("websockets without a limit", "python_websockets.py", "python3-websockets", words=("unlimited",),
+         of="websockets", set="`max_size=None`"),
     Peer("wsproto", "python_wsproto.py", "python3-wsproto", note=LOW_LEVEL),
     Peer("aiohttp", "python_aiohttp.py", "python3-aiohttp"),
+    Peer("aiohttp without a limit", "python_aiohttp.py", "python3-aiohttp", words=("unlimited",), of="aiohttp",
+         set="`max_msg_size=0`"),
     Peer("Tornado", "python_tornado.py", "python3-tornado"),
     Peer("Autobahn", "python_autobahn.py", "python3-autobahn"),
-    Peer("websocket-client", "python_websocket_client.py", "python3-websocket", roles=("client",)),
+    Peer("websocket-client", "python_websocket_client.py", "python3-websocket", roles=("client",),
+         note="Read by `recv()`, whose user isn't told a Close's code."),
+    Peer("websocket-client by recv_data()", "python_websocket_client.py", "python3-websocket", roles=("client",),
+         words=("data",), of="websocket-client", set="read by `recv_data()`"),
     Peer("ws4py", "python_ws4py.py", "python3-ws4py"),
     Peer("gevent-websocket", "python_gevent_websocket.py", "python3-gevent-websocket", roles=("server",),
-         fails_without_code=True,
-         note="Its Closes have no code, only a reason, and its user isn't told of a Close: whether it accepts one "
-         "can't be told, and it counts as refused."),
+         note="Its Closes have no code, only a reason, and its user isn't told of a Close: whether it accepts one can't "
+         "be told."),
     Peer("ws", "node_ws.js", "node-ws"),
     Peer("websocket-driver (Node)", "node_websocket_driver.js", "node-websocket-driver", note=LOW_LEVEL),
     Peer("faye-websocket", "node_faye_websocket.js", "node-faye-websocket"),
-    Peer("wslay", "c_wslay.c", "libwslay-dev libssl-dev", flags="-lwslay -lcrypto", fails_without_code=True,
-         note=LOW_LEVEL),
+    Peer("wslay", "c_wslay.c", "libwslay-dev libssl-dev", flags="-lwslay -lcrypto",
+         note=LOW_LEVEL + " So the connection ends when `wslay_event_recv` fails, and a Close that is queued then isn't "
+         "sent."),
     Peer("websocketpp", "cpp_websocketpp.cpp", "libwebsocketpp-dev libboost1.81-dev"),
     Peer("Boost.Beast", "cpp_beast.cpp", "libboost1.81-dev"),
     Peer("libwebsockets", "c_libwebsockets.c", "libwebsockets-dev", flags="-lwebsockets",
          note="It gives its user parts of messages; the program joins them."),
     Peer("libwebsockets with checked text", "c_libwebsockets.c", "libwebsockets-dev",
-         flags="-DVALIDATE_UTF8 -lwebsockets", built_as="c_libwebsockets_utf8", is_variant=True,
-         note="With `LWS_SERVER_OPTION_VALIDATE_UTF8`, which is off by default."),
+         flags="-DVALIDATE_UTF8 -lwebsockets", built_as="c_libwebsockets_utf8", of="libwebsockets",
+         set="`LWS_SERVER_OPTION_VALIDATE_UTF8`"),
     Peer("libsoup 3", "c_libsoup.c", "libsoup-3.0-dev", flags="`pkg-config --cflags --libs libsoup-3.0`",
          built_as="libsoup3"),
     Peer("libsoup 3 without a limit", "c_libsoup.c", "libsoup-3.0-dev",
-         flags="-DNO_LIMIT `pkg-config --cflags --libs libsoup-3.0`",
-         built_as="libsoup3_no_limit", is_variant=True,
-         note="With `soup_websocket_connection_set_max_incoming_payload_size(socket, 0)`."),
+         flags="-DNO_LIMIT `pkg-config --cflags --libs libsoup-3.0`", built_as="libsoup3_no_limit", of="libsoup 3",
+         set="`max_incoming_payload_size` 0"),
     Peer("libsoup 2.4", "c_libsoup.c", "libsoup2.4-dev", flags="`pkg-config --cflags --libs libsoup-2.4`",
          built_as="libsoup2"),
     Peer("Qt 5", "cpp_qt.cpp", "libqt5websockets5-dev", flags="`pkg-config --cflags --libs Qt5WebSockets`",
@@ -155,27 +163,40 @@ PEERS = [
     Peer("gorilla/websocket", "go_gorilla.go", "golang-github-gorilla-websocket-dev golang-go",
          note="Its documentation leaves it to its user to check that text is UTF-8."),
     Peer("nhooyr.io/websocket", "go_nhooyr.go", "golang-nhooyr-websocket-dev golang-go"),
+    Peer("nhooyr.io/websocket with a limit of 1 GiB", "go_nhooyr.go", "golang-nhooyr-websocket-dev golang-go",
+         words=("unlimited",), of="nhooyr.io/websocket", set="`SetReadLimit(1 << 30)`"),
     Peer("x/net/websocket", "go_net.go", "golang-golang-x-net-dev golang-go",
-         note="It gives its user each fragment as a message."),
+         note="It gives its user each fragment as a message, and as server ends the connection at any Close."),
     Peer("websocket-driver (Ruby)", "ruby_websocket_driver.rb", "ruby-websocket-driver", note=LOW_LEVEL),
     Peer("websocket (Ruby)", "ruby_websocket.rb", "ruby-websocket", note=SILENT),
     Peer("em-websocket", "ruby_em_websocket.rb", "ruby-em-websocket", roles=("server",)),
     Peer("Mojolicious", "perl_mojolicious.pl", "libmojolicious-perl",
          note="As client it sends a second Close if its own is answered before it has ended the connection."),
     Peer("Protocol::WebSocket", "perl_protocol_websocket.pl", "libprotocol-websocket-perl", note=SILENT),
+    Peer("Protocol::WebSocket without a limit", "perl_protocol_websocket.pl", "libprotocol-websocket-perl",
+         words=("unlimited",), of="Protocol::WebSocket", set="`max_payload_size => 0`"),
     Peer("java.net.http", "JavaHttpClient.java", "openjdk-17-jdk-headless", roles=("client",), loses_close=True,
          note="It gives its user parts of messages; the program joins them. When it fails a connection, its Close "
          "comes in some sessions and not in others, so the code isn't compared."),
     Peer("Jetty", "JavaJetty.java", "libjetty9-java libjetty9-extra-java default-jdk-headless", flags=JETTY),
     Peer("Tomcat", "JavaTomcat.java", "libtomcat10-embed-java libtomcat10-java default-jdk-headless", flags=TOMCAT),
+    Peer("Tomcat with buffers of 1 MiB", "JavaTomcat.java",
+         "libtomcat10-embed-java libtomcat10-java default-jdk-headless", flags=TOMCAT, words=("unlimited",), of="Tomcat",
+         set="`setDefaultMax..BufferSize(1 << 20)`"),
     Peer("websockets (Haskell)", "haskell_websockets.hs", "libghc-websockets-dev ghc"),
     Peer("websockets (Haskell) with checked text", "haskell_websockets.hs", "libghc-websockets-dev ghc",
-         words=("strict",), is_variant=True,
-         note="With `connectionStrictUnicode`, which is off by default and makes no difference to a client."),
+         words=("strict",), of="websockets (Haskell)", set="`connectionStrictUnicode`",
+         note="It makes no difference to a client."),
     Peer("lua-http", "lua_http.lua", "lua-http lua5.1", jobs=24,
          note="If a frame whose length has two bytes comes in parts, its `receive` raises an error, which the program "
          "doesn't catch: then it answers nothing and reports no end, and the connection stays until its memory is "
          "reclaimed, which the program prevents."),
     Peer("Chromium", "browser.py", "chromium", roles=("client",), words=("chromium",)),
-    Peer("Firefox", "browser.py", "firefox-esr", roles=("client",), words=("firefox",)),
+    Peer("Firefox", "browser.py", "firefox-esr", roles=("client",), words=("firefox",),
+         note="Its preferences allow 500 connections at once."),
 ]
+NAMES = {peer.name: peer for peer in PEERS}
+
+
+def other(role):
+    return "client" if role == "server" else "server"

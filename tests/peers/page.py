@@ -1,248 +1,190 @@
-"""docs/PEERS.md, of the results of a run."""
+"""docs/PEERS.md, a page for each implementation in docs/peers, and docs/peers/results.json, of the results of a run."""
+import json
 import os
 import re
-import time
 
+import cases
 import differences
-import implementations
+import pages
+import rules
 import verdicts
 
 HERE = os.path.dirname(os.path.realpath(__file__))
-PAGE = f"{verdicts.TOP}/docs/PEERS.md"
-# The longest stream whose bytes are written out.
-SHOWN = 64
-# Each rule's word, a short title for it, and what the RFC requires of the receiver: to fail the connection or to close
-# it, or nothing beside what it requires of the sender.
-RULES = (
-    ("reserved-bits", "reserved bits", "must fail", "5.2"),
-    ("reserved-opcode", "opcode", "must fail", "5.2"),
-    ("control-not-final", "control without FIN", "-", "5.5"),
-    ("nothing-to-continue", "nothing to continue", "-", "5.4"),
-    ("message-open", "message open", "-", "5.4"),
-    ("mask-missing", "no mask", "must close", "5.1"),
-    ("mask-present", "mask", "must close", "5.1"),
-    ("control-too-long", "control too long", "-", "5.5"),
-    ("close-one-byte", "Close of one byte", "-", "5.5.1"),
-    ("length-top-bit", "length's top bit", "-", "5.2"),
-    ("length-not-minimal", "longer length", "-", "5.2"),
-    ("close-code", "code", "-", "7.4"),
-    ("close-reason", "reason", "must fail if it reads it as text", "8.1"),
-    ("text-bad", "text bad", "must fail", "8.1"),
-    ("text-cut", "text cut", "must fail", "8.1"),
-)
-VALID = "valid"
-# How a stream was sent, for the rows of what differs only then.
-HOWS = {"whole": "", "bytes": ", if it comes byte by byte", "early": ", if it comes with the handshake's answer"}
-# The order of the rows of an implementation, and what each is about.
-KINDS = (
-    (differences.ACCEPTS, "Accepts what `wsn` refuses"),
-    (differences.HANGS, "Neither accepts nor refuses"),
-    (differences.REFUSES, "Refuses what `wsn` accepts"),
-    (differences.MESSAGES, "Gives its user something else"),
-    (differences.FAULT, "Ends, or doesn't report the end"),
-    (differences.PINGS, "Answers pings in another way"),
-    (differences.CLOSES, "Answers a Close in another way"),
-    (differences.EARLIER, "Fails the connection earlier"),
-    (differences.LATER, "Fails the connection later"),
-    (differences.CODE, "Closes with another code"),
-    (differences.NO_CLOSE, "Fails the connection without a Close"),
-)
-
-
-def escaped(data):
-    """For printf: printable bytes as they are, others in octal."""
-    plain = b"abcdefghijklmnopqrstuvwxyzABCDEFGHIJKLMNOPQRSTUVWXYZ,.!?"
-    return "".join(chr(byte) if byte in plain else f"\\{byte:03o}" for byte in data)
-
-
-def command(case):
-    """A line of the shell that repeats the verdict."""
-    judge = f"./wsn judge --role {case.role}"
-    parts = [part for part in re.split(rb"(a{40,})", case.wire) if part]
-    if sum(len(part) for part in parts if set(part) != {ord("a")}) > SHOWN or len(parts) > 5:
-        quote = '"' if "'" in case.name else "'"
-        return f"tests/peers/run --bytes {quote}{case.name}{quote} {case.role} \\| {judge}"
-    words = [f"head -c {len(part)} /dev/zero \\| tr '\\0' a" if set(part) == {ord("a")} and len(part) >= 40
-             else f"printf '{escaped(part)}'" for part in parts]
-    if len(words) == 1:
-        return f"{words[0]} \\| {judge}"
-    return f"{{ {'; '.join(words)}; }} \\| {judge}"
-
-
-class Role:
-    """A peer's results in one role, beside the cases."""
-
-    def __init__(self, results, cases):
-        self.rows = [(cases[result["case"]], result) for result in results]
-        self.count = len(self.rows)
-
-    def by_kind(self, kind):
-        """The cases of each word of this kind. A stream sent byte by byte counts only if it differs then alone."""
-        whole = {case.number for case, result in self.rows if result["how"] == "whole" and has_kind(result, kind)}
-        found = {}
-        for case, result in self.rows:
-            if result["how"] != "whole" and case.number in whole:
-                continue
-            for one, words in result["found"]:
-                if one == kind:
-                    words += HOWS[result["how"]]
-                    found.setdefault(words, []).append(case)
-        return found
-
-    def of_rule(self, rule):
-        """The results of the streams that are refused for a reason, or are valid. Those that are damaged at random may
-        have several faults, and are left out."""
-        return [result for case, result in self.rows
-                if (case.verdict.reason or VALID) == rule and not (case.is_damaged and case.verdict.reason)]
-
-
-def label_of(case):
-    """The reason of a stream, for the rows."""
-    return "damaged at random" if case.is_damaged and case.verdict.reason else case.verdict.reason or case.verdict.word
-
-
-def has_kind(result, kind):
-    return any(one == kind for one, _ in result["found"])
-
-
-def mark(results):
-    """A cell of the table by rules."""
-    if not results:
-        return ""
-    count = {kind: sum(has_kind(result, kind) for result in results) for kind, _ in KINDS}
-    letters = ""
-    if count[differences.ACCEPTS]:
-        letters += "A" if count[differences.ACCEPTS] == len(results) else "a"
-    letters += "h" if count[differences.HANGS] else ""
-    moments = [words for result in results for kind, words in result["found"] if kind == differences.LATER]
-    if moments:
-        letters += "f" if set(moments) == {differences.MOMENTS["frame"]} else "m"
-    codes = {words for result in results for kind, words in result["found"] if kind == differences.CODE}
-    letters += ("s" if codes & {"1002", "1007"} else "") + ("c" if codes - {"1002", "1007"} else "")
-    letters += "x" if count[differences.NO_CLOSE] else ""
-    others = ("MESSAGES", "FAULT", "PINGS", "CLOSES", "EARLIER")
-    letters += "r" if count[differences.REFUSES] else ""
-    letters += "o" if any(count[getattr(differences, name)] for name in others) else ""
-    return letters or "="
+# Which part of the bad bytes is nearly all.
+NEARLY = 0.8
+PAGE, FOLDER = f"{verdicts.TOP}/docs/PEERS.md", f"{verdicts.TOP}/docs/peers"
 
 
 def table(header, rows):
-    lines = ["| " + " | ".join(header) + " |", "|" + "---|" * len(header)]
-    return "\n".join(lines + ["| " + " | ".join(row) + " |" for row in rows])
+    lines = ["|" + "|".join(header) + "|", "|" + "---|" * len(header)]
+    return "\n".join(lines + ["|" + "|".join(row) + "|" for row in rows])
 
 
-def reasons_of(found, of_all):
-    """`WORD 3 of 5` for each reason of these cases."""
-    counts = {}
-    for case in found:
-        counts[label_of(case)] = counts.get(label_of(case), 0) + 1
-    return ", ".join(f"{word} {count} of {of_all[word]}" for word, count in counts.items())
+def both(cells):
+    """A cell of the roles: server and client, or one if they are alike."""
+    return ", ".join(cells) if len(set(cells)) > 1 else cells[0]
 
 
-def names_of(found):
-    """The shortest streams by name, and the shortest one's command."""
-    found = sorted(found, key=lambda case: ("frames" in case.name and "seed" in case.name, len(case.wire)))
-    names = "; ".join(case.name for case in found[:3]) + (f"; and {len(found) - 3} others" if len(found) > 3 else "")
-    return names, f"`{command(found[0])}`"
+def upstream(version):
+    """A version without what Debian adds."""
+    return re.sub(r"^\d+:|[+~-].*$", "", version)
 
 
-def rows_of(role):
-    of_all = {}
-    for case, result in role.rows:
-        if result["how"] == "whole":
-            of_all[label_of(case)] = of_all.get(label_of(case), 0) + 1
-    for kind, title in KINDS:
-        for words, found in role.by_kind(kind).items():
-            yield [f"{title}: {words}", reasons_of(found, of_all), *names_of(found)]
+def is_failure(row):
+    """Whether a refused stream was refused."""
+    return row.case.verdict.word == "refused" and not row.has(
+        differences.ACCEPTS, differences.UNTOLD, differences.HANGS, differences.OWN_LIMIT, differences.FAULT)
 
 
-def summary_of(role):
-    different = sum(1 for _, result in role.rows if result["found"])
-    counts = [f"{title[0].lower()}{title[1:]}: {count}" for kind, title in KINDS
-              if (count := sum(has_kind(result, kind) for _, result in role.rows))]
-    line = f"{role.count} sessions, {role.count - different} as `wsn` has it"
-    return line + (f"; {', '.join(counts)}." if counts else ".")
+def valid_cell(rows):
+    """The valid streams that are refused without leave."""
+    valid = {row.case.number for row in rows if row.case.rule == cases.VALID}
+    refused = {row.case.number for row in rows if row.case.rule == cases.VALID and row.has(differences.REFUSES)}
+    return f"{len(refused)}/{len(valid)}"
 
 
-def matrix(roles):
-    header = ["Implementation", "Role", *[title for _, title, _, _ in RULES], VALID]
-    rows = [[name, role, *[mark(results.of_rule(rule)) for rule, *_ in RULES], mark(results.of_rule(VALID))]
-            for name, role, results in roles]
-    return table(header, rows)
+def others_cell(rows):
+    """The valid streams at which something else differs."""
+    kinds = (differences.MESSAGES, differences.PINGS, differences.CLOSES, differences.FAULT)
+    valid = [row for row in rows if row.case.rule in (cases.VALID, cases.UNSETTLED)]
+    refused = {row.case.number for row in valid if row.has(differences.OWN_LIMIT)
+               or row.case.rule == cases.VALID and row.has(differences.REFUSES)}  # fmt: skip
+    odd = {row.case.number for row in valid if row.has(*kinds, differences.REFUSES)} - refused
+    return f"{len(odd)}/{len({row.case.number for row in valid})}"
 
 
-def accepted_by(rule, roles):
-    """The implementations that accept some streams of a rule, with the role if it is but one of two."""
-    by_name, tried = {}, {}
-    variants = {peer.name for peer in implementations.PEERS if peer.is_variant}
-    for name, role, results in roles:
-        if name in variants:
-            continue
-        if found := results.of_rule(rule):
-            tried.setdefault(name, []).append(role)
-            if any(has_kind(result, differences.ACCEPTS) for result in found):
-                by_name.setdefault(name, []).append(role)
-    names = [name + (f" (as {found[0]})" if len(found) < len(tried[name]) else "") for name, found in by_name.items()]
-    return f"{len(names)} of {len(tried)}: " + ", ".join(names) if names else f"none of {len(tried)}"
+def silent_cell(rows):
+    """The failed connections that end without a Close."""
+    failed = [row for row in rows if row.how == "whole" and row.case.rule != cases.DAMAGED and is_failure(row)]
+    if any(words == differences.LOST for row in failed for _, words in row.found):
+        return "some"
+    return f"{sum(row.has(differences.NO_CLOSE) for row in failed)}/{len(failed)}" if failed else "-"
 
 
-def rules_table(roles):
-    rows = [[title, f"`{word}`", "the receiver " + duty if duty != "-" else "only the sender is bound", section,
-             accepted_by(word, roles)] for word, title, duty, section in RULES]
-    return table(["Column", "Reason", "RFC 6455", "Section", "Some of these streams are accepted by"], rows)
+def later_codes_cell(rows):
+    """The Closes with codes that may be refused, and are."""
+    asked = {row.case.number for row in rows if row.case.verdict.close and row.case.may_be_refused()}
+    refused = {row.case.number for row in rows if row.has(differences.MAY_REFUSE)}
+    return f"{len(refused)}/{len(asked)}"
 
 
-def peers_table(entries):
-    notes = {peer.name: peer for peer in implementations.PEERS}
-    rows = []
-    for entry in entries:
-        peer = notes[entry["name"]]
-        missing = "; ".join(f"not run as {role}: {why.splitlines()[0]}" for role, why in entry["missing"].items())
-        rows.append([peer.name, entry.get("version", "-"), " ".join(peer.packages), ", ".join(entry["roles"]) or "-",
-                     " ".join(filter(None, (peer.note, missing)))])
-    return table(["Implementation", "Version", "Debian's packages", "Roles", "Notes"], rows)
+def at_once_cell(rows):
+    """The bad texts that are refused at the bad byte, and not only at the frame's or message's end."""
+    failed = [row for row in rows if row.case.rule == "text-bad" and row.how == "steps" and is_failure(row)]
+    at_once = [row for row in failed if not row.has(differences.LATER)]
+    return f"{len(at_once)}/{len(failed)}" if failed else "-"
 
 
-def sent_table(entries):
-    rows = []
-    for entry in entries:
-        for role, sent in entry.get("sent", {}).items():
-            rows.append([entry["name"], role, f"`{sent['verdict']}`", f"`{sent['long']}`", sent["keys"],
-                         sent["kinds"] + "".join(f"; not {what}" for what in sent["missing"])])
-    return table(["Implementation", "Role", "Short texts", "Texts of 65,535 and 65,536 bytes", "Keys", "It sends"], rows)
+def limit_cell(rows):
+    """The shortest message that is refused with 1009."""
+    sizes = [max(map(len, (payload for _, payload in row.case.verdict.messages)), default=0) for row in rows
+             if row.case.rule == cases.VALID and row.has(differences.OWN_LIMIT)]
+    return f"{min(sizes):,}" if sizes else "-"
 
 
-def read(name, roles=()):
-    """A part that is written by hand. `{REASON}` becomes the number of implementations that accept such streams."""
-    with open(f"{HERE}/{name}", encoding="utf-8") as file:
-        text = file.read().strip()
-    for word, *_ in RULES if roles else ():
-        text = text.replace(f"{{{word}}}", accepted_by(word, roles).split(":")[0])
+def cells_of(peer, columns):
+    return [both([column(rows) for rows in peer.roles.values()]) for column in columns]
+
+
+def counted(rule):
+    return lambda rows: rules.Count(rows, *rule.keys).cell()
+
+
+def link(peer):
+    """The name with its page, its role if it is but one, and what is set."""
+    role = f" ({peer.peer.roles[0]})" if len(peer.peer.roles) == 1 else ""
+    setting = f", {peer.peer.set}" if peer.peer.set else ""
+    return f"[{peer.peer.of or peer.name}](peers/{pages.slug(peer.peer)}.md){role}{setting}"
+
+
+def rows_of(compared, columns, more=lambda peer: []):
+    """A row for each implementation, and for a variant if it isn't as the implementation itself."""
+    cells = {peer.name: cells_of(peer, columns) for peer in compared if peer.roles}
+    for peer in compared:
+        if peer.roles and not (peer.is_variant() and cells[peer.name] == cells.get(peer.peer.of)):
+            yield [link(peer), *more(peer), *cells[peer.name]]
+
+
+def must_table(compared):
+    header = ["Implementation", "Version", *[rule.title for rule in rules.MUST], "valid"]
+    columns = [*map(counted, rules.MUST), valid_cell]
+    return table(header, rows_of(compared, columns, lambda peer: [upstream(peer.version)]))
+
+
+def sender_table(compared):
+    header = ["Implementation", *[rule.title for rule in rules.SENDER]]
+    return table(header, rows_of(compared, [*map(counted, rules.SENDER)]))
+
+
+def choices_table(compared):
+    header = ["Implementation", "no Close", "at the bad byte", "refuses 1010, 1012 to 1014", rules.ABOVE.title,
+              "too long", "other answers"]
+    columns = [silent_cell, at_once_cell, later_codes_cell, counted(rules.ABOVE), limit_cell, others_cell]
+    return table(header, rows_of(compared, columns))
+
+
+def refuses_later_codes(rows):
+    """Whether it refuses all codes that were registered after the RFC."""
+    refused = {row.case.verdict.close for row in rows if row.has(differences.MAY_REFUSE)}
+    return refused >= set(cases.LATER_CODES)
+
+
+def finds_at_once(rows):
+    """Whether it finds nearly every bad byte of a text where it comes."""
+    found, _, failed = at_once_cell(rows).partition("/")
+    return failed != "" and int(found) >= NEARLY * int(failed)
+
+
+def measured(compared):
+    """What was measured, and when."""
+    tried = sum(1 for peer in compared if peer.roles and not peer.is_variant())
+    count = sum(len(rows) for peer in compared for rows in peer.roles.values())
+    days = sorted({peer.day for peer in compared if peer.roles})
+    when = days[0] if len(days) == 1 else f"{days[0]} to {days[-1]} (each page has its day)"
+    return f"{when}: {tried} implementations, {count:,} sessions."
+
+
+def filled_in(compared):
+    """What page.md leaves out: numbers, by the rule of which they count the implementations that accept, and tables."""
+    accepted = {key: rules.accepted_by(key, compared) for rule in rules.ALL for key in rule.keys}
+    parts = {key: f"{len(names)} of {tried}" for key, (names, tried) in accepted.items()}
+    counted = [peer for peer in compared if peer.roles and not peer.is_variant()]
+    for key, test in (("later-codes", refuses_later_codes), ("at-once", finds_at_once)):
+        parts[key] = str(sum(any(map(test, peer.roles.values())) for peer in counted))
+    return {**parts, "measured": measured(compared), "must-table": must_table(compared),
+            "sender-table": sender_table(compared), "choices-table": choices_table(compared)}
+
+
+def page(compared):
+    with open(f"{HERE}/page.md", encoding="utf-8") as file:
+        text = file.read()
+    for key, part in filled_in(compared).items():
+        text = text.replace(f"{{{key}}}", part)
     return text
 
 
-def page(entries, cases_of, seconds):
-    """The whole page. The parts that are written by hand are advice.md and reading.md."""
-    other = {"server": "client", "client": "server"}
-    by_number = {role: {case.number: case for case in cases_of[other[role]]} for role in other}
-    roles = [(entry["name"], role, Role(entry["roles"][role], by_number[role]))
-             for entry in entries for role in other if role in entry["roles"]]
-    count = sum(results.count for _, _, results in roles)
-    peers = {peer.name for peer in implementations.PEERS if not peer.is_variant}
-    tried = sum(1 for entry in entries if entry["roles"] and entry["name"] in peers)
-    parts = ["# What other implementations do", read("advice.md", roles), "## By rule", read("reading.md"), matrix(roles),
-             rules_table(roles), "## The implementations", peers_table(entries), read("missing.md"),
-             f"This run: {time.strftime('%Y-%m-%d', time.gmtime())}, {tried} implementations, "
-             f"{count:,} sessions, {seconds / 60:.0f} minutes.", "## What each does in another way", read("rows.md")]
-    for name, role, results in roles:
-        parts += [f"### {name}, as {role}", summary_of(results)]
-        rows = list(rows_of(results))
-        if rows:
-            parts.append(table(["What", "Reasons", "Streams", "To repeat the verdict"], rows))
-    parts += ["## What each sends", read("sent.md"), sent_table(entries)]
-    return "\n\n".join(parts) + "\n"
+def write_text(path, text):
+    with open(path, "w", encoding="utf-8") as file:
+        file.write(text)
 
 
-def write(entries, cases_of, seconds):
-    with open(PAGE, "w", encoding="utf-8") as file:
-        file.write(page(entries, cases_of, seconds))
+def write_json(path, compared, cases_of):
+    """Each implementation on a line, so that a change of one is a change of one line."""
+    data = pages.data(compared, cases_of)
+    lines = [f"{json.dumps(key)}: {json.dumps(value)}" for key, value in data.items() if key != "implementations"]
+    peers = ",\n".join(json.dumps(entry) for entry in data["implementations"])
+    write_text(path, "{\n" + ",\n".join(lines) + ',\n"implementations": [\n' + peers + "\n]}\n")
+
+
+def write(compared, cases_of):
+    os.makedirs(FOLDER, exist_ok=True)
+    write_text(PAGE, page(compared))
+    names = set()
+    for peer in compared:
+        if not peer.is_variant():
+            names.add(f"{pages.slug(peer.peer)}.md")
+            write_text(f"{FOLDER}/{pages.slug(peer.peer)}.md", pages.page_of(peer, compared))
+    write_json(f"{FOLDER}/results.json", compared, cases_of)
+    for old in os.listdir(FOLDER):
+        if old.endswith(".md") and old not in names:
+            os.remove(f"{FOLDER}/{old}")

@@ -14,8 +14,8 @@ LONGS = [b"a" * 65535, b"a" * 65536]
 NAMES = {frames.CLOSE: "a Close", frames.PING: "a ping", frames.PONG: "a pong"}
 
 
-def slug(name, role):
-    return f"{re.sub('[^a-z0-9]+', '-', name.lower()).strip('-')}-{role}"
+def slug(name):
+    return re.sub("[^a-z0-9]+", "-", name.lower()).strip("-")
 
 
 async def record(command, role, environment):
@@ -79,12 +79,15 @@ def is_kept(path, wire):
         return without_keys(file.read()) == without_keys(wire)
 
 
-def keep(recorded):
-    """Writes the samples and their verdicts; `recorded` has name, role, short and long bytes."""
+def keep(compared):
+    """Writes the samples and their verdicts."""
+    recorded = [(peer.name, role, *wires) for peer in compared if not peer.is_variant()
+                for role, wires in peer.wires.items()]
     os.makedirs(SAMPLES, exist_ok=True)
     lines, names = [], set()
     for name, role, short, long in recorded:
-        kept = [(slug(name, role), short)] + ([(slug(name, role) + "-long", long)] if (name, role) == LONG_KEPT else [])
+        stem = f"{slug(name)}-{role}"
+        kept = [(stem, short)] + ([(f"{stem}-long", long)] if (name, role) == LONG_KEPT else [])
         for stem, wire in kept:
             names.add(f"{stem}.bin")
             if not is_kept(f"{SAMPLES}/{stem}.bin", wire):

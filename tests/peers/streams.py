@@ -224,7 +224,9 @@ def length_refusals():
     yield Stream("a ping of 65,536 bytes", ping("a" * 65536))
     yield Stream("a Close of 126 bytes", close(1000, "a" * 124))
     yield Stream("a ping of 125 bytes whose length has two bytes", ping("a" * 125, form=2))
+    yield Stream("an empty ping whose length has two bytes", ping("", form=2))
     yield Stream("an empty ping whose length has eight bytes", ping("", form=8))
+    yield Stream("a pong of 1 byte whose length has two bytes", pong("p", form=2))
     yield Stream("a Close whose length has two bytes", close(1000, form=2))
     yield Stream("a ping of 126 bytes between fragments", begun("Hel"), ping("a" * 126), rest("lo"))
     for size, form in ((0, 2), (1, 2), (125, 2), (0, 8), (125, 8), (126, 8)):
@@ -295,7 +297,9 @@ def cuts():
     """Streams that end inside a frame or a message, and then the connection."""
     yield Stream("one byte of a frame", b"\x81")
     yield Stream("a text without its last byte", text("Hell", length=5))
-    yield Stream("a length without its last byte", binary(b"", form=2, length=126, mask=False), role="server")
+    yield Stream("a length without its last byte", b"\x82\x7e\x00", role="server")
+    yield Stream("a length without its last byte", b"\x82\xfe\x00", role="client")
+    yield Stream("a head without its payload", binary(b"", form=2, length=126))
     yield Stream("a message without its last fragment", begun("Hello"))
     yield Stream("a message, then half of the next", text("Hello"), begun("Hello"))
     yield Stream("a ping without its last byte", ping("Hell", length=5))

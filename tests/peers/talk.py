@@ -1,6 +1,7 @@
 """A peer's program, and sessions with it: bytes are sent step by step, and what the peer does is noted."""
 import asyncio
 import base64
+import dataclasses
 import hashlib
 import os
 import re
@@ -18,31 +19,66 @@ PAUSE = 0.05
 RECORDED = 0.5
 PROBE = b"still here?"
 ENDED = "its program ends"
+# Bytes beyond this number are kept as their length and a digest.
+KEPT = 64
+
+
+def shortened(data):
+    """Bytes as they are kept and compared."""
+    return data.hex() if len(data) <= KEPT else f"{len(data)} bytes {hashlib.sha256(data).hexdigest()[:16]}"
+
+
+@dataclasses.dataclass
+class Seen:
+    """What is kept of a session: messages, how many came before the offending byte was sent, the codes of the peer's
+    Closes, its pongs, whether it ended the connection, the step at which it failed it, and what its user was told."""
+
+    messages: list
+    before: int
+    closes: list
+    pongs: list
+    ended: bool
+    failed_at: str | None
+    reported: str | None
+    fault: str | None
+
+    def code(self):
+        """The code of the peer's Close, '-' for none in it, or None without a Close."""
+        return self.closes[0] if self.closes else None
+
+    def is_alive(self):
+        """Whether the ping after the stream was answered."""
+        return shortened(PROBE) in self.pongs
 
 
 class Session:
-    """What a peer did: what its user was given, what it sent, and at which step it failed the connection."""
+    """What a peer does: what its user is given, and at which step, what it sends, and when it fails the connection."""
 
     def __init__(self, name):
         self.name = name
-        self.messages, self.reported = [], None
+        self.messages, self.steps, self.step, self.reported = [], [], None, None
         self.sent, self.ended, self.fault = b"", False, None
-        self.failed_at = None
+        # Whether the connection had ended before the driver ended it.
+        self.was_ended, self.failed_at = False, None
         self.is_over, self.came = asyncio.Event(), asyncio.Event()
 
     def frames(self):
         return frames.whole_frames(self.sent)
 
-    def close(self):
-        """The code of the Close that the peer sent, '-' for none in it, or None without a Close."""
-        closes = [frame.payload for frame in self.frames() if frame.opcode == frames.CLOSE]
-        return frames.close_code(closes[0]) if closes else None
+    def closes(self):
+        return [frames.close_code(frame.payload) for frame in self.frames() if frame.opcode == frames.CLOSE]
 
     def pongs(self):
         return [frame.payload for frame in self.frames() if frame.opcode == frames.PONG]
 
     def has_failed(self):
-        return self.ended or self.close() is not None
+        return self.ended or bool(self.closes())
+
+    def seen(self):
+        messages = [[kind, shortened(payload)] for kind, payload in self.messages]
+        before = sum(step in (None, "before") for step in self.steps)
+        return Seen(messages, before, self.closes(), [shortened(pong) for pong in self.pongs()], self.was_ended,
+                    self.failed_at, self.reported, self.fault)
 
 
 class Program:
@@ -108,6 +144,7 @@ class Program:
                 session.is_over.set()
             elif re.fullmatch("([0-9a-f]{2})*", rest[0]):
                 session.messages.append((kind, bytes.fromhex(rest[0])))
+                session.steps.append(session.step)
             else:
                 session.fault = "its program prints a line that is malformed"
         for session in self.sessions.values():
@@ -148,7 +185,6 @@ class Program:
         if not head.startswith("HTTP/1.1 101"):
             raise OSError(f"the handshake is answered with {head[:80]!r}")
         return reader, writer
-
 
     async def reach(self):
         """A connection with the server, which may be ready before it listens."""
@@ -269,6 +305,7 @@ async def probe(program, name, steps, is_answered, patience=1):
         return session
     writer, listening = connection
     for word, data in steps:
+        session.step = word
         if word == "early":
             pass
         elif word == "end":
@@ -285,6 +322,7 @@ async def probe(program, name, steps, is_answered, patience=1):
             break
     # What the peer still sends, such as a Close after a pong.
     await wait_until(session, lambda: session.ended, STEP * patience / 2)
+    session.was_ended = session.ended
     await hang_up(session, writer, patience)
     listening.cancel()
     return session
@@ -306,7 +344,7 @@ async def recorded(program, name):
         return session
     writer, listening = connection
     masks, answered = program.role == "server", 0
-    while not session.ended and session.close() is None:
+    while not session.has_failed():
         before = len(session.sent)
         await wait_until(session, lambda: len(session.sent) > before or session.ended, OPENING)
         if len(session.sent) == before:

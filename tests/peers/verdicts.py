@@ -18,6 +18,8 @@ class Verdict:
         self.line = line
         self.word, *fields = line.split()
         self.offset = int(fields[0])
+        self.tail = int(fields[2]) if self.word == "accepted" else 0
+        self.is_unfinished = self.word == "accepted" and fields[4] != "-"
         self.reason, self.code = (fields[1], fields[2]) if self.word == "refused" else (None, None)
         kinds = {1: "text", 2: "binary"}
         self.messages = [(kinds[event.opcode], event.payload) for event in events if event.opcode in kinds]

@@ -66,8 +66,6 @@ public class JavaJetty {
     public static class Servlet extends WebSocketServlet {
         @Override
         public void configure(WebSocketServletFactory factory) {
-            factory.getPolicy().setMaxTextMessageSize(1 << 24);
-            factory.getPolicy().setMaxBinaryMessageSize(1 << 24);
             factory.setCreator((request, response) -> new Talk(request.getRequestPath().substring(1)));
         }
     }
@@ -92,8 +90,6 @@ public class JavaJetty {
             return;
         }
         WebSocketClient client = new WebSocketClient();
-        client.getPolicy().setMaxTextMessageSize(1 << 24);
-        client.getPolicy().setMaxBinaryMessageSize(1 << 24);
         client.start();
         Lines.urls((url, name) -> {
             try {

@@ -63,7 +63,12 @@ public class JavaTomcat {
         }
     }
 
+    // With the word `unlimited` before the role.
+    static boolean isUnlimited;
+
     static void limit(WebSocketContainer container) {
+        if (!isUnlimited)
+            return;
         container.setDefaultMaxTextMessageBufferSize(1 << 20);
         container.setDefaultMaxBinaryMessageBufferSize(1 << 20);
     }
@@ -88,6 +93,9 @@ public class JavaTomcat {
 
     public static void main(String[] words) throws Exception {
         java.util.logging.LogManager.getLogManager().reset();
+        isUnlimited = words[0].equals("unlimited");
+        if (isUnlimited)
+            words = java.util.Arrays.copyOfRange(words, 1, words.length);
         if (words[0].equals("server")) {
             serve(Integer.parseInt(words[1]));
             return;

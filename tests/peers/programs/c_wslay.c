@@ -75,7 +75,6 @@ static void run(struct talk *talk, int is_client) {
         wslay_event_context_client_init(&context, &calls, talk);
     else
         wslay_event_context_server_init(&context, &calls, talk);
-    wslay_event_config_set_max_recv_msg_length(context, 1 << 30);
     say(context, talk->name);
     while (!talk->is_over && (wslay_event_want_read(context) || wslay_event_want_write(context))) {
         char byte;
@@ -85,7 +84,6 @@ static void run(struct talk *talk, int is_client) {
         if (wslay_event_recv(context))
             break;
     }
-    wslay_event_send(context);
     int code = wslay_event_get_status_code_received(context);
     wslay_event_context_free(context);
     close(talk->socket);

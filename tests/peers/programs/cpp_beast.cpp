@@ -29,7 +29,6 @@ static void say(stream &socket, const std::string &name) {
 
 static void talk(stream &socket, const std::string &name) {
     try {
-        socket.read_message_max(0);
         say(socket, name);
         for (;;) {
             beast::flat_buffer buffer;

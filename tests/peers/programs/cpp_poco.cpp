@@ -65,8 +65,6 @@ static bool receive(WebSocket &socket, const std::string &name, Joined &joined) 
 static void talk(WebSocket &socket, const std::string &name) {
     Joined joined;
     try {
-        socket.setMaxPayloadSize(1 << 30);
-        socket.setReceiveTimeout(Poco::Timespan(3600, 0));
         say(socket, name);
         while (receive(socket, name, joined))
             ;

@@ -32,7 +32,9 @@ func say(connection *websocket.Conn, name string) {
 
 func talk(connection *websocket.Conn, name string) {
 	defer connection.Close(websocket.StatusInternalError, "")
-	connection.SetReadLimit(1 << 30)
+	if isUnlimited {
+		connection.SetReadLimit(1 << 30)
+	}
 	say(connection, name)
 	for {
 		kind, data, err := connection.Read(context.Background())
@@ -50,8 +52,7 @@ func main() {
 			talk(connection, request.URL.Path[1:])
 		}
 	}, func(url, name string) {
-		options := &websocket.DialOptions{CompressionMode: websocket.CompressionDisabled}
-		if connection, _, err := websocket.Dial(context.Background(), url, options); err == nil {
+		if connection, _, err := websocket.Dial(context.Background(), url, nil); err == nil {
 			talk(connection, name)
 		}
 	})

@@ -15,6 +15,17 @@ var binaryMessage = []byte{0, 1, 254, 255}
 
 var printing sync.Mutex
 
+// Whether the word `unlimited` comes before the role, which then is the first word.
+var isUnlimited = isAsked("unlimited")
+
+func isAsked(setting string) bool {
+	found := os.Args[1] == setting
+	if found {
+		os.Args = os.Args[1:]
+	}
+	return found
+}
+
 func line(words ...any) {
 	printing.Lock()
 	defer printing.Unlock()

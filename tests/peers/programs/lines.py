@@ -7,6 +7,14 @@ FRAGMENTS = ("Hel", "lo")
 PRINTING = threading.Lock()
 
 
+def is_asked(setting):
+    """Whether the word of a setting is before the role, which then is the first word."""
+    found = sys.argv[1] == setting
+    if found:
+        del sys.argv[1]
+    return found
+
+
 def texts(name):
     """What a session of this name begins with: none if the peer is only to listen."""
     if name.startswith("long"):

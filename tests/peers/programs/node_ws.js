@@ -21,7 +21,7 @@ function say(socket, name) {
 }
 
 if (process.argv[2] === 'server') {
-  const server = new WebSocketServer({ host: '127.0.0.1', port: +process.argv[3], perMessageDeflate: false });
+  const server = new WebSocketServer({ host: '127.0.0.1', port: +process.argv[3] });
   server.on('listening', () => lines.line('ready'));
   server.on('connection', (socket, request) => {
     const name = request.url.slice(1);
@@ -29,5 +29,5 @@ if (process.argv[2] === 'server') {
     say(socket, name);
   });
 } else {
-  lines.urls((url, name) => talk(new WebSocket(url, { perMessageDeflate: false }), name));
+  lines.urls((url, name) => talk(new WebSocket(url), name));
 }

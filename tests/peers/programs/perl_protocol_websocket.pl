@@ -9,6 +9,8 @@ use Protocol::WebSocket::Handshake::Client;
 use Protocol::WebSocket::Handshake::Server;
 
 $| = 1;
+my @limit = $ARGV[0] eq 'unlimited' ? (max_payload_size => 0) : ();
+shift @ARGV if @limit;
 $SIG{CHLD} = 'IGNORE';
 $SIG{PIPE} = 'IGNORE';
 
@@ -67,7 +69,7 @@ sub talk {
     syswrite $socket, $handshake->to_string unless $masked;
     $name //= substr $handshake->req->resource_name, 1;
     say_all($socket, $masked, $name);
-    my $frame = Protocol::WebSocket::Frame->new(max_payload_size => 0);
+    my $frame = Protocol::WebSocket::Frame->new(@limit);
     my $code;
     eval {
         while (!defined $code) {

@@ -6,6 +6,8 @@ import aiohttp
 import lines
 from aiohttp import web
 
+OPTIONS = {"max_msg_size": 0} if lines.is_asked("unlimited") else {}
+
 
 async def talk(socket, name):
     for text in lines.texts(name):
@@ -22,7 +24,7 @@ async def talk(socket, name):
 
 
 async def handle(request):
-    socket = web.WebSocketResponse(compress=False, max_msg_size=0)
+    socket = web.WebSocketResponse(**OPTIONS)
     await socket.prepare(request)
     await talk(socket, request.path.lstrip("/"))
     return socket
@@ -30,7 +32,7 @@ async def handle(request):
 
 async def connect(url, name):
     async with aiohttp.ClientSession() as session:
-        async with session.ws_connect(url, compress=0, max_msg_size=0) as socket:
+        async with session.ws_connect(url, **OPTIONS) as socket:
             await talk(socket, name)
 
 

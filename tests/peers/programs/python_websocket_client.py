@@ -1,6 +1,9 @@
-"""websocket-client: its WebSocket class, a thread for each connection."""
+"""websocket-client: its WebSocket class, a thread for each connection. By `recv()`, or with the word `data` before the
+role by `recv_data()`."""
 import lines
 import websocket
+
+BY_DATA = lines.is_asked("data")
 
 
 def say(socket, name):
@@ -15,16 +18,28 @@ def say(socket, name):
         socket.close(1000, b"bye")
 
 
+def receive(socket, name):
+    """Messages until a Close, which `recv` reports as an empty text."""
+    while socket.connected:
+        message = socket.recv()
+        if socket.connected:
+            lines.message(name, message)
+
+
+def receive_data(socket, name):
+    """Messages until a Close, whose code it returns."""
+    while socket.connected:
+        opcode, payload = socket.recv_data()
+        if opcode == websocket.ABNF.OPCODE_CLOSE:
+            return int.from_bytes(payload[:2], "big") if len(payload) > 1 else None
+        lines.line(name, "text" if opcode == websocket.ABNF.OPCODE_TEXT else "binary", payload.hex())
+
+
 def connect(url, name):
     socket, code = websocket.create_connection(url), None
     try:
         say(socket, name)
-        while socket.connected:
-            opcode, payload = socket.recv_data()
-            if opcode == websocket.ABNF.OPCODE_CLOSE:
-                code = int.from_bytes(payload[:2], "big") if len(payload) > 1 else None
-                break
-            lines.line(name, "text" if opcode == websocket.ABNF.OPCODE_TEXT else "binary", payload.hex())
+        code = (receive_data if BY_DATA else receive)(socket, name)
     except Exception as error:  # The documentation has no base class of what recv raises.
         code = type(error).__name__
     socket.shutdown()

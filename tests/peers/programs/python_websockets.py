@@ -5,7 +5,7 @@ import sys
 import lines
 import websockets
 
-OPTIONS = {"compression": None, "ping_interval": None, "max_size": None}
+OPTIONS = {"max_size": None} if lines.is_asked("unlimited") else {}
 
 
 async def say(connection, name):
