@@ -2,7 +2,7 @@
 import frames
 import talk
 
-ACCEPTS, UNTOLD, HANGS = "accepts what is refused", "can't be told", "neither accepts nor refuses"
+ACCEPTS, UNKNOWN, HANGS = "accepts what is refused", "can't be known", "neither accepts nor refuses"
 REFUSES, MAY_REFUSE, OWN_LIMIT = "refuses what is accepted", "refuses a code that it may", "a limit of its own"
 LATER, EARLIER, CODE, NO_CLOSE = "later", "earlier", "another close code", "no Close"
 MESSAGES, PINGS, CLOSES, FAULT = "other messages", "pings", "Closes", "fault"
@@ -67,7 +67,7 @@ def differences(case, how, seen, peer, usual):
         if seen.fault.startswith("no connection"):
             return
     found = list(of_stream(case, how, seen, peer, usual))
-    if not (found and found[0][0] in (ACCEPTS, UNTOLD, HANGS)):
+    if not (found and found[0][0] in (ACCEPTS, UNKNOWN, HANGS)):
         yield from in_messages(case.verdict, seen)
     yield from found
 
@@ -146,16 +146,16 @@ def of_close(case, seen, peer, usual):
 
 
 def close_taken(seen, own, usual):
-    """ACCEPTS or UNTOLD if a Close that is refused is answered as any Close, or None. `usual` is the answer to one with
-    the code 1000. If that might as well be a failure, the user must be told of the Close."""
+    """ACCEPTS or UNKNOWN if a Close that is refused is answered as any Close, or None. `usual` is the answer to one with
+    the code 1000. If that might as well be a failure, it must be reported to the user."""
     how = answer_to_close(seen, own)
     if how == usual and how in (ENDS, NOTHING, "-"):
-        return ACCEPTS if is_told(seen, own) else UNTOLD
+        return ACCEPTS if is_reported(seen, own) else UNKNOWN
     return ACCEPTS if how in (SAME, "1000", "-") else None
 
 
-def is_told(seen, own):
-    """Whether the peer's user is told of a Close with this code."""
+def is_reported(seen, own):
+    """Whether a Close with this code is reported to the peer's user."""
     return seen.reported == own or own in ("-", frames.ONE_BYTE) and seen.reported == "1005"
 
 
@@ -173,7 +173,7 @@ def has_gone_on(case, seen):
 
 
 def taken(case, seen, usual):
-    """ACCEPTS, UNTOLD or HANGS if a peer doesn't refuse what is refused, or None. Messages count that came after the
+    """ACCEPTS, UNKNOWN or HANGS if a peer doesn't refuse what is refused, or None. Messages count that came after the
     offending byte was sent, pongs, and answers to a Close; but not after the connection has failed."""
     own = frames.close_in(case.wire, case.verdict.offset)
     if later_messages(case, seen) > 0 or not seen.failed_at and has_gone_on(case, seen):
@@ -196,8 +196,8 @@ def taken_how(case, seen):
         return "it goes on"
     if seen.closes:
         return f"it answers with {answer_in_words(seen, own)}"
-    if own is not None and is_told(seen, own):
-        return "its user is told of it"
+    if own is not None and is_reported(seen, own):
+        return "it is reported to its user"
     return "it ends the connection, as at any Close" if seen.ended else WAITS
 
 

@@ -125,13 +125,13 @@ PEERS = [
     Peer("Tornado", "python_tornado.py", "python3-tornado"),
     Peer("Autobahn", "python_autobahn.py", "python3-autobahn"),
     Peer("websocket-client", "python_websocket_client.py", "python3-websocket", roles=("client",),
-         note="Read by `recv()`, whose user isn't told a Close's code."),
+         note="Read by `recv()`, which reports no Close's code."),
     Peer("websocket-client by recv_data()", "python_websocket_client.py", "python3-websocket", roles=("client",),
          words=("data",), of="websocket-client", set="read by `recv_data()`"),
     Peer("ws4py", "python_ws4py.py", "python3-ws4py"),
     Peer("gevent-websocket", "python_gevent_websocket.py", "python3-gevent-websocket", roles=("server",),
-         note="Its Closes have no code, only a reason, and its user isn't told of a Close: whether it accepts one can't "
-         "be told."),
+         note="Its Closes have no code, only a reason, and none is reported to its user: whether it accepts one can't "
+         "be known."),
     Peer("ws", "node_ws.js", "node-ws"),
     Peer("websocket-driver (Node)", "node_websocket_driver.js", "node-websocket-driver", note=LOW_LEVEL),
     Peer("faye-websocket", "node_faye_websocket.js", "node-faye-websocket"),

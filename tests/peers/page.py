@@ -33,7 +33,7 @@ def upstream(version):
 def is_failure(row):
     """Whether a refused stream was refused."""
     return row.case.verdict.word == "refused" and not row.has(
-        differences.ACCEPTS, differences.UNTOLD, differences.HANGS, differences.OWN_LIMIT, differences.FAULT)
+        differences.ACCEPTS, differences.UNKNOWN, differences.HANGS, differences.OWN_LIMIT, differences.FAULT)
 
 
 def valid_cell(rows):

@@ -10,7 +10,7 @@ import rules
 # The order of the rows of an implementation, what each is about, and what the RFC leaves to the receiver.
 KINDS = (
     (differences.ACCEPTS, "Accepts what `wsn` refuses"),
-    (differences.UNTOLD, "Does as with a valid Close, so whether it accepts can't be told"),
+    (differences.UNKNOWN, "Does as with a valid Close, so whether it accepts can't be known"),
     (differences.HANGS, "Neither accepts nor refuses"),
     (differences.REFUSES, "Refuses what `wsn` accepts"),
     (differences.MAY_REFUSE, "Refuses a code that it may refuse"),

@@ -49,7 +49,7 @@ def is_only_in_parts(found):
 
 class Count:
     """What became of the streams of a rule, in one role: how many a peer accepts, how many of them only if they come in
-    parts, how many it neither accepts nor refuses, of how many that can't be told, and at how many its program ends.
+    parts, how many it neither accepts nor refuses, of how many that can't be known, and at how many its program ends.
     Those that are refused for a limit of the peer's own aren't counted."""
 
     def __init__(self, rows, *keys):
@@ -62,18 +62,18 @@ class Count:
         others = [found for found in counted if found not in accepted]
         self.all, self.accepted = len(counted), len(accepted)
         self.in_parts = sum(map(is_only_in_parts, accepted))
-        self.untold = sum(any(row.has(differences.UNTOLD) for row in found) for found in others)
-        self.waits = sum(any(row.has(differences.HANGS) for row in found) for found in others) - self.untold
-        self.waits = max(self.waits, 0)
+        unknown = [found for found in others if any(row.has(differences.UNKNOWN) for row in found)]
+        self.unknown = len(unknown)
+        self.waits = sum(any(row.has(differences.HANGS) for row in found) for found in others if found not in unknown)
         self.ends = sum(any((differences.FAULT, talk.ENDED) in row.found for row in found) for found in others)
 
     def cell(self):
         """`2/9`; with `*` if some are accepted only in parts, `w`, `?` and `!` for those that are neither."""
         if not self.all:
             return "-"
-        if self.untold == self.all:
+        if self.unknown == self.all:
             return "?"
-        numbers = ((self.waits, "w"), (self.untold, "?"), (self.ends, "!"))
+        numbers = ((self.waits, "w"), (self.unknown, "?"), (self.ends, "!"))
         marks = "".join(f" {number}{mark}" for number, mark in numbers if number)
         return f"{self.accepted}/{self.all}{'*' if self.in_parts else ''}{marks}"
 

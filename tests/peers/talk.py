@@ -31,7 +31,8 @@ def shortened(data):
 @dataclasses.dataclass
 class Seen:
     """What is kept of a session: messages, how many came before the offending byte was sent, the codes of the peer's
-    Closes, its pongs, whether it ended the connection, the step at which it failed it, and what its user was told."""
+    Closes, its pongs, whether it ended the connection, the step at which it failed it, and the code that was reported
+    to its user."""
 
     messages: list
     before: int
