@@ -26,6 +26,7 @@ use Rattle.wsn_scan.specs.declared.frame_reader.FrameReader.{FrameReader}
 use Rattle.wsn_scan.specs.declared.part.Part.{Part}
 use Rattle.wsn_scan.specs.FrameReaders.{HasTaken, held_payload}
 use Rattle.wsn_scan.specs.Positions.{Position, BetweenFrames, IsTakenOf}
+use Rattle.wsn_scan.specs.Parts.{IsWholeMessage}
 use Rattle.wsn_scan.specs.ReadParts.{TakesPart}
 use Rattle.wsn_scan.specs.Refill.{chunk_size}
 use Rattle.wsn_scan.proofs.ReaderReports.{reported_of}
@@ -36,7 +37,7 @@ use Rattle.wsn_events.specs.declared.reassembly.Reassembly.{Reassembly}
 use Rattle.wsn_events.specs.declared.source.Next.TheVariants as nexts
 use Rattle.wsn_events.specs.EventsMeant.{meant}
 use Rattle.wsn_events.specs.EventReaders.{HasGiven, IsGiven, IsNextEvent, answered, held_of, offset_of, frames_of}
-use Rattle.wsn_events.specs.LentMessages.{IsWholeMessage, LendsMessage, lent_message}
+use Rattle.wsn_events.specs.LentMessages.{LendsMessage, lent_message}
 use Rattle.wsn_events.specs.Reassembly.{HasBegun, IsReassembled, IsBetweenFrames, IsInFrame, IsPlacedAt, offset_given, frames_given}
 use Rattle.wsn_events.specs.TakenEvents.{held_bytes}
 use Rattle.wsn_events.proofs.GivenSoFar.{all_came, given_first}

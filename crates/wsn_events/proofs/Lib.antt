@@ -22,4 +22,6 @@ pub mod PassedOver
 pub mod Normalising
 pub mod TakenEvents
 pub mod LentMessages
+pub mod LentNext
+pub mod LentTurns
 pub mod WholeNormalForms

@@ -21,7 +21,7 @@ use Rattle.wsn_io.specs.declared.stop.Stop.{Stop}
 use Rattle.wsn_io.specs.declared.stop.Stop.TheVariants as stops
 use Rattle.wsn_scan.specs.Positions.{Position, BetweenFrames, InFrame, IsTakenOf}
 use Rattle.wsn_scan.specs.FrameReaders.{HasTaken, IsReading, held_payload}
-use Rattle.wsn_scan.specs.Parts.{IsPartAt}
+use Rattle.wsn_scan.specs.Parts.{IsPartAt, IsWholeMessage}
 use Rattle.wsn_scan.specs.ReadParts.{ReadsOn, TakesPart, IsHaltedAt, IsNextPart}
 use Rattle.wsn_scan.specs.Refill.{chunk_size}
 use Rattle.wsn_scan.proofs.FrameEnds.{unfinished_few}
@@ -35,7 +35,7 @@ use Rattle.wsn_events.specs.declared.source.Next.{Next}
 use Rattle.wsn_events.specs.declared.source.Next.TheVariants as nexts
 use Rattle.wsn_events.specs.EventsMeant.{meant}
 use Rattle.wsn_events.specs.EventReaders.{HasGiven, IsAtWork, IsNextEvent, GoesOn, IsEvent, answered, held_of}
-use Rattle.wsn_events.specs.LentMessages.{IsWholeMessage, LendsMessage, lent_message}
+use Rattle.wsn_events.specs.LentMessages.{LendsMessage, lent_message}
 use Rattle.wsn_events.specs.Turns.{IsNextTurn, TakesTurn, GivesEvent}
 use Rattle.wsn_events.specs.Reassembly.{IsReassembled, IsBetweenFrames, IsInFrame, IsEventOf, IsPlacedAt}
 use Rattle.wsn_events.specs.Sources.{IsHalted}

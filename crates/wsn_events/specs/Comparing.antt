@@ -2,6 +2,7 @@
 -- the part of a stream's events that is compared.
 use Rattle.std.specs.Prelude.{◌≡◌, ◌≢◌, ℕ, ◌+◌, ◌⊎◌, true, false, Option, None, Some, Result, Ok, Err, List, take, slice_get, ⊤}
 use Rattle.wsn_wire.specs.declared.endpoint.Role.{Role}
+use Rattle.wsn_wire.specs.declared.opcode.Kind.{Kind}
 use Rattle.wsn_wire.specs.Frame.{Frame}
 use Rattle.wsn_io.specs.Transfer.{Incoming, IsReceived}
 use Rattle.wsn_rules.specs.declared.verdict.Summary.{Summary}
@@ -16,7 +17,9 @@ use Rattle.wsn_rules.specs.declared.compared.Compared.{Compared}
 use Rattle.wsn_rules.specs.declared.compared.Compared.TheVariants.{Equal, Different, NotAccepted}
 use Rattle.wsn_events.specs.declared.comparing.Round.{Round}
 use Rattle.wsn_events.specs.declared.comparing.Round.TheVariants.{Alike, Unlike, Over}
+use Rattle.wsn_events.specs.declared.event_reader.EventReader.{EventReader}
 use Rattle.wsn_events.specs.Sources.{IsLast, IsHalted}
+use Rattle.wsn_events.specs.TakenEvents.{held_bytes}
 use Rattle.wsn_events.specs.Turns.{MeantTurn, OfEvent, OfVerdict}
 
 -- The first k events are the same, and then the lists differ: in the next event, or one list has ended.
@@ -37,6 +40,14 @@ IsRoundOf (OfEvent event) (OfVerdict verdict) Unlike = ⊤
 IsRoundOf (OfVerdict verdict) (OfEvent event) Unlike = ⊤
 IsRoundOf (OfVerdict verdict) (OfVerdict other) (Over v w) = (v ≡ verdict) × (w ≡ other)
 IsRoundOf turn other round = ⊥
+
+-- Both sources lend a message, and these are the same.
+pub record AreLentAlike {A : Type 0} (reading : EventReader A) (lent : Option Kind) (other : EventReader A)
+    (other_lent : Option Kind) : Type 0 where
+  pub kind : Kind
+  pub is : lent ≡ Some kind
+  pub other_is : other_lent ≡ Some kind
+  pub same : held_bytes reading ≡ held_bytes other
 
 -- The verdict is accepted.
 abbrev pub IsAnAccepted : Verdict → Type 0

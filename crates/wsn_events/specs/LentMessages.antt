@@ -1,5 +1,5 @@
 -- A message that an event source lends: one whole frame, whose payload the source's reader holds.
-use Rattle.std.specs.Prelude.{◌≡◌, ℕ, ◌≤◌, true, List, [], ◌∷◌, ◌++◌, length}
+use Rattle.std.specs.Prelude.{◌≡◌, ℕ, ◌<◌, ◌≤◌, true, Option, None, IfSome, IfNone, List, [], ◌∷◌, ◌++◌, length}
 use Rattle.wsn_wire.specs.declared.endpoint.Role.{Role}
 use Rattle.wsn_wire.specs.declared.opcode.Kind.{Kind}
 use Rattle.wsn_wire.specs.Frame.{Frame, stream}
@@ -7,21 +7,12 @@ use Rattle.wsn_rules.specs.Lawful.{IsLawful}
 use Rattle.wsn_rules.specs.LawfulEvents.{IsLawfulEvent}
 use Rattle.wsn_rules.specs.Limits.{Limits}
 use Rattle.wsn_rules.specs.Meaning.{MeantEvent, Message, event_at, meaning}
-use Rattle.wsn_rules.specs.NormalForm.{op_of}
 use Rattle.wsn_rules.specs.ShownStream.{event_offset, event_frames}
-use Rattle.wsn_scan.specs.declared.part.Part.{Part}
 use Rattle.wsn_scan.specs.Positions.{BetweenFrames}
 use Rattle.wsn_scan.specs.Refill.{chunk_size}
 use Rattle.wsn_events.specs.declared.event_reader.EventReader.{EventReader}
-use Rattle.wsn_events.specs.EventReaders.{HasGiven, offset_of, frames_of}
+use Rattle.wsn_events.specs.EventReaders.{HasGiven, answered, offset_of, frames_of, readings_left}
 use Rattle.wsn_events.specs.TakenEvents.{held_bytes}
-
--- The part is a whole message of this kind: of one frame, which is final.
-pub record IsWholeMessage (part : Part) (kind : Kind) : Type 0 where
-  pub begins : part.begins ≡ true
-  pub ends : part.ends ≡ true
-  pub final : part.head.fin ≡ true
-  pub op : part.head.op ≡ op_of kind
 
 -- the message of this kind whose payload is the bytes that a source holds
 abbrev pub lent_message : {A : Type 0} → EventReader A → Kind → MeantEvent
@@ -48,3 +39,11 @@ pub record LendsMessage {A : Type 0} (role : Role) (limits : Limits) (reading : 
   pub payload_is : held_bytes reading ≡ frame.payload
   pub offset : offset_of reading ≡ event_offset before frame
   pub count : frames_of reading ≡ event_frames before frame
+
+-- What a call of `take_message` did: it lends the next event, a message, or nothing has changed.
+pub record MayLend {A : Type 0} (before reading : EventReader A) (lent : Option Kind) : Type 0 where
+  pub taken : IfSome lent (λ kind. (role : Role) (limits : Limits) (came : List ℕ) (given : List MeantEvent) →
+      HasGiven role limits before came given → LendsMessage role limits reading came given kind)
+  pub going : IfSome lent (λ _. answered before ≡ None)
+  pub none : IfNone lent (reading ≡ before)
+  pub falls : IfSome lent (λ _. readings_left reading < readings_left before)

@@ -23,5 +23,5 @@ pub use Rattle.wsn_events.specs.EventReaders.{IsAsBefore, HasGiven, IsAtWork, Go
 pub use Rattle.wsn_events.specs.Reassembly.{IsReassembled, IsBetweenFrames, IsInFrame, IsEventOf, offset_given, frames_given, IsPlacedAt}
 pub use Rattle.wsn_rules.specs.declared.compared.Compared.{Compared}
 pub use Rattle.wsn_events.specs.TakenEvents.{TakesEventsAfter, PutsTaken, held_bytes}
-pub use Rattle.wsn_events.specs.LentMessages.{LendsMessage}
+pub use Rattle.wsn_events.specs.LentMessages.{LendsMessage, MayLend}
 pub use Rattle.wsn_events.specs.Turns.{TakesTurn, GivesEvent, own_turn}

@@ -6,13 +6,13 @@ ghost use Rattle.wsn_rules.specs.Meaning.{MeantEvent, Message};
 ghost use Rattle.wsn_events.specs.Sources.{IsLast};
 ghost use Rattle.wsn_rules.specs.LeftOut.{events_without};
 ghost use Rattle.wsn_events.specs.Excerpts.{IsContrasted, KeepsFirst, KeepsOf, index_in};
-ghost use Rattle.wsn_events.specs.Comparing.{IsComparisonOutcome, IsAnAccepted, IsRoundOf, IsComparedBy, IsCompared, IsComparisonOfBy, IsComparisonOf};
+ghost use Rattle.wsn_events.specs.Comparing.{IsComparisonOutcome, IsAnAccepted, IsRoundOf, AreLentAlike, IsComparedBy, IsCompared, IsComparisonOfBy, IsComparisonOf};
 ghost use Rattle.wsn_events.specs.Turns.{OfEvent, IsLawfulTurn, meant_next, meant_turn};
 
 use crate::equal_bytes::are_equal;
 use crate::event::{is_message, is_same};
 use crate::first_difference::{FirstDifference, excerpt_of};
-use crate::leaving_out::turn_without;
+use crate::leaving_out::turn_after;
 use crate::payload::payload_of;
 use crate::payload_difference::PayloadDifference;
 use crate::source::{Next, Source};
@@ -100,8 +100,14 @@ pub fn contrast<A: Allocator + Copy, R: Read, S: Read>(
     let mut index = 0;
     let mut difference = None;
     loop {
-        let turn = turn_without(&mut events, first, without)?;
-        let other = turn_without(&mut others, second, without)?;
+        let lent = events.take_message();
+        let other_lent = others.take_message();
+        if are_alike(&events, lent, &others, other_lent) {
+            index += 1;
+            continue;
+        }
+        let turn = turn_after(lent, &mut events, first, without)?;
+        let other = turn_after(other_lent, &mut others, second, without)?;
         let round = end_round(&mut difference, index, &events, &turn, &others, &other);
         if let Round::Over(verdict, other) = round {
             let compared = outcome(verdict, other, index_of(&difference));
@@ -110,6 +116,22 @@ pub fn contrast<A: Allocator + Copy, R: Read, S: Read>(
         give_back(&mut events, turn);
         give_back(&mut others, other);
         index += 1;
+    }
+}
+
+/// Whether both sources lend a message, and these are the same.
+#[inline(always)]
+fn are_alike<A: Allocator + Copy>(
+    events: &Source<A>,
+    lent: Option<Kind>,
+    others: &Source<A>,
+    other: Option<Kind>,
+) -> bool
+    ensures { result ≡ true → AreLentAlike events.now lent others.now other }
+{
+    match (lent, other) {
+        (Some(kind), Some(other)) => kind == other && are_equal(events.taken(), others.taken()),
+        _ => false,
     }
 }
 

@@ -1,5 +1,5 @@
 ghost use Rattle.std.specs.Prelude.{IfSome};
-ghost use Rattle.wsn_events.specs.LentMessages.{IsWholeMessage};
+ghost use Rattle.wsn_scan.specs.Parts.{IsWholeMessage};
 
 use crate::event::Event;
 use crate::reassembly::Reassembly;
@@ -19,7 +19,7 @@ pub struct EventReader<A: Allocator> {
 }
 
 impl<A: Allocator + Copy> EventReader<A> {
-    ghost use Rattle.std.specs.Prelude.{◌≡◌, ℕ, ◌<◌, ◌≤◌, List, [], None, Some, true, false};
+    ghost use Rattle.std.specs.Prelude.{◌≡◌, ℕ, ◌<◌, ◌≤◌, List, [], None, Some, true, false, IfSome, IfNone};
     ghost use Rattle.wsn_events.specs.Words.{Role, MeantEvent, HasGiven, IsAsBefore, IsAtWork, GoesOn, IsNextEvent, IsEvent, TakesTurn, GivesEvent, answered, held_of, offset_of, frames_of, readings_left, TakesEventsAfter, held_bytes, LendsMessage};
 
     /// A source that has read nothing.
@@ -120,6 +120,20 @@ impl<A: Allocator + Copy> EventReader<A> {
                 }
             }
         }
+    }
+
+    /// Takes the next event if it is a message that [`FrameReader::next_message`] takes, and lends it.
+    #[inline(always)]
+    pub fn take_message(&mut self) -> Option<Kind>
+        requires { IsAtWork self.old }
+        ensures taken { IfSome result (λ kind. (role : Role) (limits : _) (came : List ℕ) (given : List MeantEvent) →
+            HasGiven role limits self.old came given → LendsMessage role limits self.new came given kind) }
+        ensures none { IfNone result (self.new ≡ self.old) }
+        ensures falls { IfSome result (λ _. readings_left self.new < readings_left self.old) }
+    {
+        let (kind, place) = self.reader.next_message()?;
+        self.reassembly.begin_lent(kind, place);
+        Some(kind)
     }
 
     /// The message that it lends, as an event of its own.

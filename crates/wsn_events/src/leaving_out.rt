@@ -1,8 +1,8 @@
-ghost use Rattle.std.specs.Prelude.{◌≡◌, ℕ, ◌<◌, None, Some, IfOk, List, MatchOption, Result, true, false};
+ghost use Rattle.std.specs.Prelude.{◌≡◌, ℕ, ◌<◌, None, Some, IfOk, IfSome, IfNone, Ok, List, MatchOption, Result, true, false};
 ghost use Rattle.wsn_rules.specs.Meaning.{MeantEvent};
 ghost use Rattle.wsn_events.specs.Words.{Role, Verdict, Stop, HasGiven, GivesEvent, answered, readings_left, next_of, own_turn};
 ghost use Rattle.wsn_events.specs.EventReaders.{HasBegunOrEnded};
-ghost use Rattle.wsn_events.specs.LeavingOut.{is_turn_left_out, TakesTurnWithout};
+ghost use Rattle.wsn_events.specs.LeavingOut.{is_turn_left_out, ReadsTurn, TakesTurnWithout};
 
 use crate::event::Event;
 use crate::source::{Next, Source};
@@ -11,7 +11,7 @@ use std::alloc::Allocator;
 use std::io::Read;
 use wsn_rules::Without;
 use wsn_scan::Stop;
-use wsn_wire::Input;
+use wsn_wire::{Input, Kind};
 
 /// Reads on to the next event that isn't left out, or to the verdict, as [`Source::next_turn`] does.
 #[inline(always)]
@@ -35,6 +35,26 @@ pub fn turn_without<A: Allocator + Copy, R: Read>(
         if let Some(turn) = unless_left_out(source.next_turn(input)?, without) {
             return Ok(turn);
         }
+    }
+}
+
+/// The turn of a source that may have lent a message just now: that message, or else what [`turn_without`] reads on to.
+#[inline(always)]
+pub fn turn_after<A: Allocator + Copy, R: Read>(
+    lent: Option<Kind>,
+    source: &mut Source<A>,
+    input: &mut Input<R>,
+    without: Without,
+) -> Result<Turn<A>, Stop>
+    requires begun { HasBegunOrEnded source.old }
+    requires readable { answered source.old ≡ None → input.old.failed ≡ false }
+    ensures lent { IfSome lent (λ kind. (result ≡ Ok (Turn.Lent kind)) × (source.new ≡ source.old)
+        × (input.new ≡ input.old)) }
+    ensures own { IfNone lent (ReadsTurn without input.old input.new source.old source.new result) }
+{
+    match lent {
+        Some(kind) => Ok(Turn::Lent(kind)),
+        None => turn_without(source, input, without),
     }
 }
 

@@ -1,4 +1,5 @@
 use crate::event::{Event, Small};
+use crate::putting::op_of;
 use std::alloc::Allocator;
 use std::mem;
 use wsn_scan::{CHUNK, Part};
@@ -22,6 +23,7 @@ pub struct Reassembly<A: Allocator> {
 impl<A: Allocator + Copy> Reassembly<A> {
     ghost use Rattle.std.specs.Prelude.{◌≡◌, ◌≢◌, ℕ, ◌+◌, ◌<◌, ◌^◌, List, [], ◌∷◌, ◌++◌, true, false, length, IfSome, IfNone};
     ghost use Rattle.wsn_rules.specs.Group.{unfinished};
+    ghost use Rattle.wsn_rules.specs.NormalForm.{op_of};
     ghost use Rattle.wsn_wire.specs.Frame.{stream};
     ghost use Rattle.wsn_events.specs.Words.{Role, Frame, is_control, IsLawful, IsLawfulControl, Position, IsPartAt, IsReassembled, IsBetweenFrames, IsInFrame, IsEventOf, offset_given, frames_given, IsPlacedAt};
 
@@ -99,6 +101,7 @@ impl<A: Allocator + Copy> Reassembly<A> {
     }
 
     /// Begins a frame with this opcode at this offset.
+    #[inline(always)]
     #[tactic(none)]
     fn begin_frame(&mut self, op: Op, place: u64)
         ensures { (fs : List Frame) → length (unfinished fs) + 1 < 2 ^ 64 → place ≡ length (stream fs) →
@@ -112,6 +115,15 @@ impl<A: Allocator + Copy> Reassembly<A> {
             Op::Continue => self.frames = self.frames.saturating_add(1),
             _ => self.body.clear(),
         }
+    }
+
+    /// Begins a message of this kind with a frame at this offset.
+    #[inline(always)]
+    pub fn begin_lent(&mut self, kind: Kind, place: u64)
+        ensures { (fs : List Frame) → length (unfinished fs) + 1 < 2 ^ 64 → place ≡ length (stream fs) →
+            IsBetweenFrames self.old fs → IsInFrame self.new fs (op_of kind) [] }
+    {
+        self.begin_frame(op_of(kind), place);
     }
 
     /// Begins a message with the frame that has begun.

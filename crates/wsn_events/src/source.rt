@@ -9,7 +9,7 @@ use std::alloc::{Allocator, Global};
 use std::io::Read;
 use std::marker::Model;
 use wsn_scan::{Limits, Stop, Verdict};
-use wsn_wire::{Input, Role};
+use wsn_wire::{Input, Kind, Role};
 
 /// What [`Source::next`] returns.
 #[derive(Drop)]
@@ -37,7 +37,7 @@ impl<A: Allocator> Model for Source<A> {
 }
 
 impl<A: Allocator + Copy> Source<A> {
-    ghost use Rattle.wsn_events.specs.Words.{Role, MeantEvent, Verdict, Stop, HasGiven, IsAsBefore, GoesOn, IsEvent, answered, held_of, offset_of, frames_of, readings_left, next_of, TakesEventsAfter, held_bytes, TakesTurn, GivesEvent, own_turn};
+    ghost use Rattle.wsn_events.specs.Words.{Role, MeantEvent, Verdict, Stop, HasGiven, IsAsBefore, GoesOn, IsEvent, answered, held_of, offset_of, frames_of, readings_left, next_of, TakesEventsAfter, held_bytes, TakesTurn, GivesEvent, MayLend, own_turn};
 
     /// A source that has read nothing. `role` is the endpoint that sent the stream. It allocates no memory.
     pub fn new(alloc: A, role: Role, limits: Limits) -> Self
@@ -111,6 +111,20 @@ impl<A: Allocator + Copy> Source<A> {
         match self.reading.answer() {
             Some(answer) => Ok(Turn::Own(Next::Done(answer?))),
             None => self.reading.next_turn(input),
+        }
+    }
+
+    /// Takes the next event if it is a message that [`FrameReader::next_message`](wsn_scan::FrameReader::next_message)
+    /// takes, of one frame that is whole in the chunk that was read last, and lends it: returns its kind, and
+    /// [`Source::taken`] returns its bytes until the next call that changes the source. Otherwise, and once the source has
+    /// ended, nothing changes. It reads nothing and allocates nothing.
+    #[inline(always)]
+    pub fn take_message(&mut self) -> Option<Kind>
+        ensures { MayLend self.old self.new result }
+    {
+        match self.reading.answer() {
+            Some(_) => None,
+            None => self.reading.take_message(),
         }
     }
 

@@ -1,6 +1,6 @@
 -- All of a stream's events, kept, at each answer of their source.
-use Rattle.std.proofs.Common.{◌≡◌, ℕ, ◌+◌, Result, Ok, Err, false, List, [], ◌∷◌, ◌++◌, map, take, inl, inr, sym, ap, ◌∙◌, subst}
-use Rattle.wsn_io.proofs.Received.{received_none, received_on}
+use Rattle.std.proofs.Common.{◌≡◌, ℕ, ◌+◌, ◌≤◌, Option, Some, IfSome, Result, Ok, Err, false, List, [], ◌∷◌, ◌++◌, length, map, take, append-nil, inl, inr, sym, ap, ◌∙◌, subst}
+use Rattle.wsn_io.proofs.Received.{consumed_none, received_none, received_on}
 use Rattle.wsn_wire.specs.declared.endpoint.Role.{Role}
 use Rattle.wsn_wire.specs.declared.opcode.Kind.{Kind}
 use Rattle.wsn_io.specs.Transfer.{Incoming, IsReceived}
@@ -18,7 +18,7 @@ use Rattle.wsn_events.specs.EventsMeant.{meant}
 use Rattle.wsn_events.specs.declared.turn.Turn.{Turn}
 use Rattle.wsn_events.specs.declared.turn.Turn.TheVariants as turns
 use Rattle.wsn_events.specs.EventReaders.{HasGiven, IsAsBefore}
-use Rattle.wsn_events.specs.LentMessages.{lent_message}
+use Rattle.wsn_events.specs.LentMessages.{LendsMessage, MayLend, lent_message}
 use Rattle.wsn_events.specs.Sources.{IsLast}
 use Rattle.wsn_events.specs.Turns.{TakesTurn, GivesEvent}
 use Rattle.wsn_plan.specs.declared.gathering.Gathered.{Gathered}
@@ -73,6 +73,23 @@ module _ {A B : Type 0} (role : Role) (limits : Limits) (old : Incoming) where
     received = gathered.received;
     readable = gathered.readable;
   }
+
+  -- nothing has changed
+  pub still : (mid : Incoming) (source next : EventReader A) (events : List (Kept B)) → next ≡ source → HasGathered role limits old mid source events → HasGathered role limits old mid next events
+  still mid source next events same gathered = subst (λ (s : EventReader A). HasGathered role limits old mid s events) (sym same) gathered
+
+  -- the source lends a message at once
+  pub lends_at_once : (mid : Incoming) (source next : EventReader A) (events : List (Kept B)) (gathered : HasGathered role limits old mid source events) (lent : Option Kind) → MayLend source next lent → (kind : Kind) → lent ≡ Some kind
+      → TakesTurn role limits mid mid next gathered.came (map kept_meant events) (Ok (turns.Lent kind))
+  lends_at_once mid source next events gathered lent may kind is =
+      let taken = subst (λ (l : Option Kind). IfSome l (λ k. (r : Role) (b : Limits) (came : List ℕ) (given : List MeantEvent) → HasGiven r b source came given → LendsMessage r b next came given k)) is may.taken in
+      let lends = taken role limits gathered.came (map kept_meant events) gathered.has in
+      record {
+        more = [];
+        consumed = consumed_none mid;
+        few = subst (λ (bs : List ℕ). length bs ≤ limits.input + 1) (sym (append-nil gathered.came)) gathered.has.has_taken.buffered.few;
+        next = (subst (λ (bs : List ℕ). LendsMessage role limits next bs (map kept_meant events) kind) (sym (append-nil gathered.came)) lends, gathered.readable);
+      }
 
   module _ (mid new : Incoming) (source next : EventReader A) (events : List (Kept B)) (gathered : HasGathered role limits old mid source events) where
     -- the source's next turn, after the bytes that had come

@@ -2,7 +2,7 @@
 use Rattle.std.proofs.Common.{◌≡◌, ℕ, ◌+◌, ◌-◌, ◌<◌, ◌≤◌, true, false, Option, None, Ok, List, [], ◌∷◌, ◌++◌, length, take, drop, refl, sym, ap, ◌∙◌, subst, append_assoc, append-nil, take-append-drop, length-drop, arith}
 use Rattle.std.proofs.lemmas.List.{map-append}
 use Rattle.std.proofs.Math.Seq.{take-add}
-use borrow.Rule.Slice.PartMut.{mid_of, put_mid}
+use borrow.Rule.Slice.PartMut.{mid_of, put_mid, put_same}
 use Rattle.wsn_wire.specs.declared.endpoint.Role.{Role}
 use Rattle.wsn_wire.specs.Frame.{Frame, IsBytes, stream}
 use Rattle.wsn_rules.specs.declared.head_info.HeadInfo.{HeadInfo}
@@ -132,6 +132,13 @@ module _ (old new : Scan) (chunk after : List ℕ) (n : ℕ) (found : Taken) (pa
           rest = one.since;
           whole = one.has_scanned.has_consumed.whole;
         }
+
+-- nothing was consumed
+pub stays : (old scan next : Scan) (chunk here share : List ℕ) (before plan : List Step) (at : ℕ) → IsPlannedTo old scan chunk here before plan at → (next ≡ scan) × (share ≡ mid_of at (length here - at) here)
+    → IsPlannedTo old next chunk (put_mid at (length here - at) here share) before plan at
+stays old scan next chunk here share before plan at so_far same =
+    let back : put_mid at (length here - at) here share ≡ here = ap (λ (ys : List ℕ). put_mid at (length here - at) here ys) same.1 ∙ put_same at (length here - at) here in
+    subst (λ (bs : List ℕ). IsPlannedTo old next chunk bs before plan at) (sym back) (subst (λ (s : Scan). IsPlannedTo old s chunk here before plan at) (sym same.0) so_far)
 
 -- ---- one call more
 

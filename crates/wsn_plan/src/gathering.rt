@@ -34,6 +34,10 @@ pub(crate) fn gather<A: Allocator + Copy, B: Allocator + Copy, R: Read>(
     let mut source = Source::new(alloc, role, limits);
     let mut events = Vec::new(alloc);
     loop {
+        if let Some(kind) = source.take_message() {
+            keep_message(room, &mut events, kind, source.taken())?;
+            continue;
+        }
         match source.next_turn(input)? {
             Turn::Lent(kind) => keep_message(room, &mut events, kind, source.taken())?,
             Turn::Own(Next::Event(event)) => {

@@ -71,6 +71,11 @@ fn plan_chunk<A: Allocator>(
     let mut part = Part::new();
     let mut at = 0;
     while at < chunk.len() {
+        if let Some((taken, head)) = scan.next_event(&mut chunk[at..]) {
+            at += taken;
+            plan.push(step_of(&head))?;
+            continue;
+        }
         let (taken, found) = scan.next(&mut chunk[at..], &mut part);
         at += taken;
         match found {

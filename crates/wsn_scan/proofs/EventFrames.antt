@@ -1,7 +1,7 @@
 -- A frame that ends an event, and the event's normal frame in its place.
-use Rattle.std.proofs.Common.{◌≡◌, ◌↔◌, ℕ, suc, ◌+◌, ◌-◌, ◌≤◌, Bool, true, false, not, Option, None, Some, List, [], ◌∷◌, ◌++◌, length, take, drop, refl, sym, ap, ◌∙◌, subst, arith, append-nil, length-append, take-append-drop}
+use Rattle.std.proofs.Common.{◌≡◌, ◌↔◌, ℕ, suc, ◌+◌, ◌-◌, ◌<◌, ◌≤◌, Bool, true, false, not, Option, None, Some, List, [], ◌∷◌, ◌++◌, length, take, drop, refl, sym, ap, ◌∙◌, subst, arith, append-nil, length-append, take-append-drop}
 use Rattle.std.specs.Prelude.{IsSome, IfSome}
-use Rattle.std.proofs.lemmas.List.{take_all, take-append-le, length-take-le}
+use Rattle.std.proofs.lemmas.List.{take_all, take-take, take-append-le, length-take-le}
 use Rattle.std.proofs.Math.Seq.{take-append-add, drop-append-add}
 use borrow.Rule.Slice.PartMut.{mid_of, put_mid, take_put}
 use Rattle.wsn_wire.specs.declared.endpoint.Role.{Role}
@@ -53,6 +53,11 @@ key_fits role limits group head bytes h = of head.key h.of_four h.whole
     of None four whole = tt
     of (Some key) four whole = let size : length bytes ≡ suc (suc (length (h.lengths ++ key))) = ap (λ (bs : List ℕ). length bs) whole in omega (arith, size, length-append h.lengths key, four.0)
 
+-- the first byte of a final frame, by its head
+pub first_of : (role : Role) (limits : Limits) (head : Head) (piece : List ℕ) (start : ℕ) → 0 < start → IsHead role limits [] head (take start piece) → head.first.fin ≡ true → take 1 piece ≡ first_byte true head.first.op ∷ []
+first_of role limits head piece start some h final =
+    sym (take-take 1 start piece (omega (arith, some))) ∙ ap (λ (bs : List ℕ). take 1 bs) h.whole ∙ ap (λ (fin : Bool). first_byte fin head.first.op ∷ []) final
+
 -- ---- the event
 
 -- a key of zeros changes no byte
@@ -72,7 +77,7 @@ kind_back Pong plain begins = absurd cc
 abbrev normal_as : Role → Op → List ℕ → Frame
 normal_as role op payload = record { fin = true; op = op; key = normal_key role; form = Shortest; payload = payload }
 
-normal_of : (role : Role) (limits : Limits) (fs : List Frame) (f : Frame) → LawAt role limits fs f → unfinished fs ≡ [] → normal_frame role (event_at fs f) ≡ normal_as role f.op f.payload
+pub normal_of : (role : Role) (limits : Limits) (fs : List Frame) (f : Frame) → LawAt role limits fs f → unfinished fs ≡ [] → normal_frame role (event_at fs f) ≡ normal_as role f.op f.payload
 normal_of role limits fs f law none = by (is_control f.op) refl
   where
     by : (control : Bool) → is_control f.op ≡ control → normal_frame role (event_at fs f) ≡ normal_as role f.op f.payload

@@ -4,6 +4,7 @@ pub mod CountedParts
 pub mod EmptyFrames
 pub mod EventFrames
 pub mod EventHeads
+pub mod EventParts
 pub mod EventRuns
 pub mod FedPieces
 pub mod FollowedScans

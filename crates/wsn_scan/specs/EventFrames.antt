@@ -11,6 +11,7 @@ use Rattle.wsn_rules.specs.Lawful.{LawAt, IsLawful}
 use Rattle.wsn_rules.specs.Accepted.{HasNoClose}
 use Rattle.wsn_rules.specs.Meaning.{MeantEvent, event_at, meaning}
 use Rattle.wsn_rules.specs.NormalForm.{normal_frame, normal_form}
+use Rattle.wsn_scan.specs.declared.part.Part.{Part}
 use Rattle.wsn_scan.specs.declared.scan.Scan.{Scan}
 use Rattle.wsn_scan.specs.declared.scan.events.EventFrame.{EventFrame}
 use Rattle.wsn_scan.specs.declared.stage.Stage.TheVariants as stages
@@ -49,6 +50,10 @@ IsEventFrame role limits piece after found =
 abbrev pub info_found : ℕ → EventFrame → HeadInfo
 info_found place found =
     record { place = place; fin = true; op = found.op; key = found.key; form = Shortest; len = found.len }
+
+-- the part of a piece that is all of a frame with this head: the piece has this many bytes of it
+abbrev pub whole_part : HeadInfo → ℕ → Part
+whole_part head size = record { head = head; begins = true; ends = true; start = size - head.len }
 
 -- ---- a run of frames
 

@@ -1,7 +1,9 @@
 -- What a call takes of a stream's frames.
 use Rattle.std.specs.Prelude.{◌≡◌, ◌≢◌, ℕ, ◌<◌, ◌⊎◌, ⊤, true, false, Option, None, Some, List, [], ◌∷◌, ◌++◌, length}
+use Rattle.wsn_wire.specs.declared.opcode.Kind.{Kind}
 use Rattle.wsn_wire.specs.Frame.{Frame, stream}
 use Rattle.wsn_rules.specs.Heads.{info_of}
+use Rattle.wsn_rules.specs.NormalForm.{op_of}
 use Rattle.wsn_rules.specs.declared.verdict.Refusal.{Refusal}
 use Rattle.wsn_rules.specs.Accepted.{HasNoClose, EndsWithClose}
 use Rattle.wsn_frame.specs.Payloads.{unmasked_by}
@@ -30,6 +32,13 @@ pub record IsPart (fs : List Frame) (at : Position) (part : Part) (payload : Lis
   pub before : List ℕ
   pub is_at : IsPartAt at part before
   pub goes_on : GoesOn fs before part payload frames position
+
+-- The part is a whole message of this kind: of one frame, which is final.
+pub record IsWholeMessage (part : Part) (kind : Kind) : Type 0 where
+  pub begins : part.begins ≡ true
+  pub ends : part.ends ≡ true
+  pub final : part.head.fin ≡ true
+  pub op : part.head.op ≡ op_of kind
 
 -- What a call has found after the frames fs, at this position: nothing yet; a part of a frame with this payload; no more
 -- frames, after a Close; or a refusal.

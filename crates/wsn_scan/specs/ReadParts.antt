@@ -1,6 +1,7 @@
 -- What a reader of frames returns, and what that says of the bytes that came.
 use Rattle.std.specs.Prelude.{◌≡◌, ℕ, ◌+◌, ◌≤◌, true, false, Option, None, Some, Result, Ok, Err, List, ◌++◌, length, take}
 use Rattle.wsn_wire.specs.declared.endpoint.Role.{Role}
+use Rattle.wsn_wire.specs.declared.opcode.Kind.{Kind}
 use Rattle.wsn_wire.specs.Frame.{Frame, stream}
 use Rattle.wsn_io.specs.Transfer.{Incoming, IsConsumed}
 use Rattle.wsn_io.specs.declared.stop.Stop.{Stop}
@@ -12,7 +13,7 @@ use Rattle.wsn_scan.specs.declared.frame_reader.FrameReader.{FrameReader}
 use Rattle.wsn_scan.specs.declared.part.Part.{Part}
 use Rattle.wsn_scan.specs.Judging.{IsReached, IsStopped}
 use Rattle.wsn_scan.specs.Positions.{Position, begun_at}
-use Rattle.wsn_scan.specs.Parts.{IsPart}
+use Rattle.wsn_scan.specs.Parts.{IsPart, IsWholeMessage}
 use Rattle.wsn_scan.specs.FrameReaders.{HasTaken, held_payload}
 use Rattle.wsn_scan.specs.Refill.{chunk_size}
 
@@ -25,6 +26,14 @@ pub record TakesPart (role : Role) (limits : Limits) (reader : FrameReader) (par
   pub is_part : IsPart fs at part (held_payload reader) frames position
   pub has_taken : HasTaken role limits reader came frames position
   pub soon : part.ends ≡ true → length came ≤ length (stream frames) + chunk_size
+
+-- It takes a whole message of this kind, whose frame's first byte is at this offset, and holds the message's bytes.
+pub record TakesMessage (role : Role) (limits : Limits) (reader : FrameReader) (kind : Kind) (place : ℕ) (came : List ℕ)
+    (fs : List Frame) (at : Position) : Type 0 where
+  pub part : Part
+  pub whole : IsWholeMessage part kind
+  pub place_is : part.head.place ≡ place
+  pub takes : TakesPart role limits reader part came fs at
 
 -- All of these bytes are taken: each whole frame to its end, and each head.
 abbrev pub AllTaken : Role → Limits → List ℕ → List Frame → Position → Type 0

@@ -1,17 +1,18 @@
-ghost use Rattle.std.specs.Prelude.{◌≡◌, ℕ, ◌+◌, ◌<◌, ◌≤◌, ◌↔◌, List, [], None, Ok, true, false, length, IsSome};
+ghost use Rattle.std.specs.Prelude.{◌≡◌, ℕ, ◌+◌, ◌<◌, ◌≤◌, ◌↔◌, List, [], None, Ok, true, false, ◌∷◌, length, take, IfSome, IfNone, IsSome};
 ghost use Rattle.std.specs.List.{slice_range};
-ghost use Rattle.wsn_wire.specs.Frame.{Frame, IsBytes};
+ghost use Rattle.wsn_wire.specs.Frame.{Frame, IsBytes, first_byte};
+ghost use Rattle.wsn_rules.specs.NormalForm.{op_of};
 ghost use Rattle.wsn_scan.specs.Refill.{chunk_size};
-ghost use Rattle.wsn_scan.specs.Scans.{HasNoRest, IsAdvance, room_of, refusal_in};
-ghost use Rattle.wsn_scan.specs.EventFrames.{TakesEvents, IsIdle};
+ghost use Rattle.wsn_scan.specs.Scans.{AdvancesFrom, HasNoRest, IsAdvance, room_of, refusal_in};
+ghost use Rattle.wsn_scan.specs.EventFrames.{TakesEvents, IsIdle, whole_part};
 
 use crate::part::{Part, Taken};
 use crate::refill::{CHUNK, refill};
 use crate::scan::Scan;
 use std::io::Read;
 use wsn_io::Stop;
-use wsn_rules::{Limits, Verdict};
-use wsn_wire::{Input, Role};
+use wsn_rules::{HeadInfo, Limits, Verdict};
+use wsn_wire::{Input, Kind, Role};
 
 /// Reads an input and takes it apart into its frames as they come, and then gives the verdict (RFC 6455 section 5.2). It
 /// holds at most [`CHUNK`] bytes of the input.
@@ -32,7 +33,7 @@ pub struct FrameReader {
 }
 
 impl FrameReader {
-    ghost use Rattle.wsn_scan.specs.Words.{Position, BetweenFrames, HasTaken, IsReading, parts_left, held_payload, ReadsOn, StepsOn, Progresses, IsUsed, IsFilled, TakesRun};
+    ghost use Rattle.wsn_scan.specs.Words.{Position, BetweenFrames, HasTaken, IsReading, parts_left, held_payload, ReadsOn, StepsOn, Progresses, IsUsed, IsFilled, TakesRun, TakesMessage};
 
     /// A reader that has read nothing. `role` is the endpoint that sent the stream. It allocates no memory.
     #[tactic(none)]
@@ -90,6 +91,26 @@ impl FrameReader {
                 }
             }
         }
+    }
+
+    /// Takes the frame that comes next if it is a message of its own, whole in the buffer, and [`Scan::next_event`] takes
+    /// it (RFC 6455 section 5.4). Returns the message's kind and the offset of its frame;
+    /// [`payload`](FrameReader::payload) then returns its bytes. Otherwise nothing changes. It reads nothing.
+    #[inline(always)]
+    pub fn next_message(&mut self) -> Option<(Kind, u64)>
+        requires { IsReading self.old }
+        ensures taken { IfSome result (λ message. (role : Role) (limits : Limits) (came : List ℕ) (fs : List Frame)
+            (at : Position) → HasTaken role limits self.old came fs at →
+            TakesMessage role limits self.new message.0 message.1 came fs at) }
+        ensures none { IfNone result (self.new ≡ self.old) }
+        ensures falls { IfSome result (λ _. parts_left self.new < parts_left self.old) }
+    {
+        let from = self.at;
+        let kind = message_kind(&self.buffer[from..self.end])?;
+        let (count, head) = event_in(&mut self.scan, &mut self.buffer, from, self.end)?;
+        self.at = from + count;
+        self.from = self.at - head.len as usize;
+        Some((kind, head.place))
     }
 
     /// Takes the frames that come next if each is whole in the buffer, ends an event and leaves no message open (RFC 6455
@@ -188,6 +209,39 @@ fn part_in(
     ensures whole { result.1 ≡ Taken.Part → part.new.ends ≡ true → HasNoRest scan.new }
 {
     scan.next(&mut buffer[at..end], part)
+}
+
+/// The kind of message that a frame is, by its first byte; `None` if it is none of one frame (RFC 6455 section 5.2).
+#[inline(always)]
+fn message_kind(frame: &[u8]) -> Option<Kind>
+    ensures { IfSome result (λ kind. take 1 frame.now ≡ first_byte true (op_of kind) ∷ []) }
+{
+    match frame.first() {
+        Some(0x81) => Some(Kind::Text),
+        Some(0x82) => Some(Kind::Binary),
+        _ => None,
+    }
+}
+
+/// Passes `buffer[at..end]` to the scan, which takes an event. The bytes after those consumed don't change.
+#[inline(always)]
+fn event_in(scan: &mut Scan, buffer: &mut [u8], at: usize, end: usize) -> Option<(usize, HeadInfo)>
+    requires within { (at ≤ end) × (end ≤ length buffer.old) }
+    requires fits { end ≤ room_of scan.old + at }
+    ensures in_bytes { IsBytes (slice_range buffer.old at end) }
+    ensures taken { IfSome result (λ found. AdvancesFrom scan.old.stage scan.old scan.new (slice_range buffer.old at end)
+        (slice_range buffer.new at end) found.0 Taken.Part (whole_part found.1 found.0)) }
+    ensures first { IfSome result (λ found. (found.1.fin ≡ true)
+        × (take 1 (slice_range buffer.old at end) ≡ first_byte true found.1.op ∷ [])) }
+    ensures within { IfSome result (λ found. (0 < found.0) × (at + found.0 ≤ end) × (found.1.len ≤ found.0)) }
+    ensures kept { IfSome result (λ found.
+        slice_range buffer.new (at + found.0) end ≡ slice_range buffer.old (at + found.0) end) }
+    ensures room { IfSome result (λ found. room_of scan.new + found.0 ≡ room_of scan.old) }
+    ensures reported { IfSome result (λ _. refusal_in scan.new ≡ None) }
+    ensures whole { IfSome result (λ _. HasNoRest scan.new) }
+    ensures none { IfNone result ((scan.new ≡ scan.old) × (buffer.new ≡ buffer.old)) }
+{
+    scan.next_event(&mut buffer[at..end])
 }
 
 /// Passes `buffer[at..end]` to the scan, which takes events. The bytes after those consumed don't change.

@@ -1,13 +1,15 @@
 //! Runs of frames that are whole in a piece and each end an event, with the event's normal frame written in their place.
-ghost use Rattle.std.specs.Prelude.{◌≡◌, ◌≢◌, ◌+◌, ◌<◌, ◌≤◌, ◌⊎◌, true, false, None, Ok, List, [], ◌∷◌, length, drop, IsTrue, IfSome, IfNone};
+ghost use Rattle.std.specs.Prelude.{◌≡◌, ◌≢◌, ◌+◌, ◌<◌, ◌≤◌, ◌⊎◌, true, false, None, Ok, List, [], ◌∷◌, length, take, drop, IsTrue, IfSome, IfNone};
 ghost use Rattle.wsn_wire.specs.Frame.{Frame, IsBytes, first_byte};
 ghost use Rattle.wsn_frame.specs.declared.payload_check.PayloadCheck.{PayloadCheck};
 ghost use Rattle.wsn_frame.specs.OpenMessages.{IsOpenMessage};
 ghost use Rattle.wsn_frame.specs.PayloadChecks.{HasChecked, IsChecked};
 ghost use Rattle.wsn_frame.specs.PartialHeads.{encoded_form};
-ghost use Rattle.wsn_scan.specs.EventFrames.{IsEventFrame, TakesEvents, IsIdle, info_found, with_key_cleared};
+ghost use Rattle.wsn_rules.specs.NormalForm.{op_of};
+ghost use Rattle.wsn_scan.specs.EventFrames.{IsEventFrame, TakesEvents, IsIdle, info_found, whole_part, with_key_cleared};
 ghost use Rattle.wsn_scan.specs.Feeding.{ConsumesPrefix};
-ghost use Rattle.wsn_scan.specs.Scans.{room_of, refusal_in};
+ghost use Rattle.wsn_scan.specs.Scans.{AdvancesFrom, HasNoRest, room_of, refusal_in};
+ghost use Rattle.wsn_scan.specs.declared.part.Taken.{Taken};
 
 use super::Scan;
 use crate::stage::Stage;
@@ -91,6 +93,12 @@ impl Scan {
         requires { length piece.old ≤ room_of self.old }
         ensures taken { IfSome result (λ found. IsBytes piece.old →
             ConsumesPrefix self.old self.new piece.old found.0 (found.1 ∷ [])) }
+        ensures part { IfSome result (λ found. AdvancesFrom self.old.stage self.old self.new piece.old piece.new found.0
+            Taken.Part (whole_part found.1 found.0)) }
+        ensures first { IfSome result (λ found. (found.1.fin ≡ true)
+            × (take 1 piece.old ≡ first_byte true found.1.op ∷ [])) }
+        ensures whole { IfSome result (λ found. (found.1.len ≤ found.0) × HasNoRest self.new) }
+        ensures reported { IfSome result (λ _. refusal_in self.new ≡ None) }
         ensures within { IfSome result (λ found. (0 < found.0) × (found.0 ≤ length piece.old)) }
         ensures kept { IfSome result (λ found. drop found.0 piece.new ≡ drop found.0 piece.old) }
         ensures room { IfSome result (λ found. room_of self.new + found.0 ≡ room_of self.old) }
@@ -130,7 +138,9 @@ fn take_event(context: &FrameContext, piece: &mut [u8]) -> Option<EventFrame>
     requires { context.now.message ≡ None }
     ensures taken { IfSome result (λ frame. IsBytes piece.old →
         IsEventFrame context.now.role context.now.limits piece.old piece.new frame) }
-    ensures within { IfSome result (λ frame. (0 < frame.size) × (frame.size ≤ length piece.old)) }
+    ensures first { IfSome result (λ frame. take 1 piece.old ≡ first_byte true frame.op ∷ []) }
+    ensures within { IfSome result (λ frame. (0 < frame.size) × (frame.size ≤ length piece.old)
+        × (frame.len ≤ frame.size)) }
     ensures kept { IfSome result (λ frame. drop frame.size piece.new ≡ drop frame.size piece.old) }
     ensures none { IfNone result (piece.new ≡ piece.old) }
 {

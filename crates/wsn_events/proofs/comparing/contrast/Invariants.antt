@@ -9,8 +9,8 @@ use Rattle.wsn_events.proofs.comparing.contrast.Given as goal
 
 -- The bytes that came of both streams, the events given, and the first difference of what is left of them, if there is
 -- one so far.
-abbrev pub invariant-loop-others : goal.invariant-loop-others
-invariant-loop-others g l = record {
+abbrev pub invariant-loop-lent : goal.invariant-loop-lent
+invariant-loop-lent g l = record {
   came : List ℕ;
   given : List MeantEvent;
   followed : HasFollowed l.fn.role l.fn.limits l.fn.first l.first l.events came given;
@@ -22,5 +22,5 @@ invariant-loop-others g l = record {
   rounds : l.index + (pending l.events + pending l.others) ≤ 2 ^ 50;
 }
 
-abbrev pub decreases-loop-others : goal.decreases-loop-others
-decreases-loop-others g l = pending l.events + pending l.others
+abbrev pub decreases-loop-lent : goal.decreases-loop-lent
+decreases-loop-lent g l = pending l.events + pending l.others

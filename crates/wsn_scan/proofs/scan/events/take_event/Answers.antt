@@ -1,4 +1,4 @@
-use Rattle.std.proofs.Common.{◌≡◌, ◌+◌, ◌-◌, ◌<◌, ◌≤◌, ℕ, List, Option, Ok, [], ◌++◌, length, take, drop, take-append-drop, ap, refl, sym, ◌∙◌, subst, arith, rules}
+use Rattle.std.proofs.Common.{◌≡◌, ◌+◌, ◌-◌, ◌<◌, ◌≤◌, ℕ, List, Option, Ok, true, [], ◌∷◌, ◌++◌, length, take, drop, take-append-drop, ap, refl, sym, ◌∙◌, subst, arith, rules}
 use Rattle.std.proofs.lemmas.List.{length-take-le}
 use borrow.Rule.Slice.PartMut.{mid_of, mid_len, put_mid}
 use Rattle.wsn_wire.specs.Frame.{IsBytes, first_byte}
@@ -15,7 +15,7 @@ use Rattle.wsn_frame.proofs.PayloadMore.{length-unmasked_by}
 use Rattle.wsn_scan.specs.declared.scan.events.EventFrame.{EventFrame}
 use Rattle.wsn_scan.specs.EventFrames.{IsEventFrame}
 use Rattle.wsn_scan.proofs.EmptyFrames.{empty_event, kept_after_head}
-use Rattle.wsn_scan.proofs.EventFrames.{ends_event, key_fits, key_room, written_after, kept_before}
+use Rattle.wsn_scan.proofs.EventFrames.{ends_event, first_of, key_fits, key_room, written_after, kept_before}
 use Rattle.wsn_rules.proofs.PlanTheory.MessageFrames.{bytes_take}
 use Rattle.wsn_scan.proofs.scan.events.take_event.Goals as goal
 
@@ -99,6 +99,28 @@ returns-then-head-eq0-clause-taken c in_piece =
     (empty_event role limits head piece bytes start c.if-head-eq0.true found.1 e.cleared c.take_empty.auto.bytes in_piece
     (λ group none. found.2 group (subst (λ (m : Option OpenMessage). IsOpenMessage m group) (sym c.requires) none)) e.plain.0 e.plain.1 e.plain.2)
 
+pub returns-clause-first : goal.returns-clause-first
+returns-clause-first c =
+    let head = c.in_ok-start.head in
+    let start = c.in_ok-start.start in
+    let is_head = c.in_ok-start.ensures.2 [] (subst (λ (m : Option OpenMessage). IsOpenMessage m []) (sym c.requires) refl) in
+    first_of c.args.context.now.role c.args.context.now.limits head c.args.piece.now start c.in_ok-start.ensures.0 is_head (c.is_plain.ensures c.if-not-is_plain.false).0
+
+pub returns-then-head-eq0-clause-first : goal.returns-then-head-eq0-clause-first
+returns-then-head-eq0-clause-first c =
+    let head = c.in_ok-start.head in
+    let start = c.in_ok-start.start in
+    let e = c.in_ok-frame.ensures in
+    let is_head = c.in_ok-start.ensures.2 [] (subst (λ (m : Option OpenMessage). IsOpenMessage m []) (sym c.requires) refl) in
+    subst (λ (frame : EventFrame). take 1 c.args.piece.now ≡ first_byte true frame.op ∷ []) (sym e.taken)
+    (first_of c.args.context.now.role c.args.context.now.limits head c.args.piece.now start c.in_ok-start.ensures.0 is_head e.plain.0)
+
+pub returns-in_err-frame-clause-first : goal.returns-in_err-frame-clause-first
+returns-in_err-frame-clause-first c = search rules
+
+pub returns-in_err-start-clause-first : goal.returns-in_err-start-clause-first
+returns-in_err-start-clause-first c = search rules
+
 pub returns-then-head-eq0-clause-within : goal.returns-then-head-eq0-clause-within
 returns-then-head-eq0-clause-within c =
     let start = c.in_ok-start.start in
@@ -106,8 +128,8 @@ returns-then-head-eq0-clause-within c =
     let found = c.in_ok-start.ensures in
     let size : length (take start piece) ≡ start = length-take-le start piece found.1 in
     let some = found.0 in
-    subst (λ (frame : EventFrame). (0 < frame.size) × (frame.size ≤ length piece)) (sym c.in_ok-frame.ensures.taken)
-    (omega (arith, size, some), omega (arith, size, found.1))
+    subst (λ (frame : EventFrame). (0 < frame.size) × (frame.size ≤ length piece) × (frame.len ≤ frame.size)) (sym c.in_ok-frame.ensures.taken)
+    (omega (arith, size, some), omega (arith, size, found.1), omega arith)
 
 pub returns-then-head-eq0-clause-kept : goal.returns-then-head-eq0-clause-kept
 returns-then-head-eq0-clause-kept c =
