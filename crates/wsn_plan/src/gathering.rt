@@ -4,7 +4,7 @@ ghost use Rattle.wsn_events.specs.EventsMeant.{meant};
 ghost use Rattle.wsn_plan.specs.Gathering.{IsGathered};
 ghost use Rattle.wsn_plan.specs.KeptEvents.{kept_meant};
 
-use crate::kept::{Kept, to_keep};
+use crate::kept::{Kept, copy_of, to_keep};
 use std::alloc::Allocator;
 use std::io::Read;
 use wsn_events::{Event, Next, Source, Turn};
@@ -60,7 +60,7 @@ fn keep_message<A: Allocator, B: Allocator>(
         ≡ map kept_meant events.old.items ++ Message kind text.now ∷ []) }
     ensures stop { IfErr result (λ stop. stop ≡ Stop.Memory) }
 {
-    let text = text.to_vec(room).map_err(|_| Stop::Memory)?;
+    let text = copy_of(room, text).ok_or(Stop::Memory)?;
     events
         .push(Kept::Message(kind, text))
         .map_err(|_| Stop::Memory)

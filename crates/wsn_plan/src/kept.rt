@@ -23,7 +23,7 @@ pub(crate) fn to_keep<A: Allocator, B: Allocator>(room: B, event: &Event<A>) -> 
     ensures { IfSome result (λ kept. kept_meant kept ≡ meant event.now) }
 {
     match event {
-        Event::Message(kind, text) => Some(Kept::Message(*kind, text.to_vec(room).ok()?)),
+        Event::Message(kind, text) => Some(Kept::Message(*kind, copy_of(room, text)?)),
         Event::Ping(body) => control(room, Op::Ping, body),
         Event::Pong(body) => control(room, Op::Pong, body),
         Event::Close(None) => control(room, Op::Close, &[]),
@@ -35,7 +35,7 @@ pub(crate) fn to_keep<A: Allocator, B: Allocator>(room: B, event: &Event<A>) -> 
 fn control<A: Allocator>(alloc: A, op: Op, body: &[u8]) -> Option<Kept<A>>
     ensures { IfSome result (λ kept. kept_meant kept ≡ meant_event.Control op body.now) }
 {
-    let body = body.to_vec(alloc).ok()?;
+    let body = copy_of(alloc, body)?;
     Some(Kept::Control(op, body))
 }
 
@@ -46,4 +46,14 @@ fn close<A: Allocator>(alloc: A, code: u16, reason: &[u8]) -> Option<Kept<A>>
     let mut body = code.to_be_bytes().to_vec(alloc).ok()?;
     body.extend_from_slice(reason).ok()?;
     Some(Kept::Control(Op::Close, body))
+}
+
+/// A copy of the bytes in exact room; `None` if an allocation fails. No bytes need no memory.
+#[inline(always)]
+pub(crate) fn copy_of<A: Allocator>(room: A, bytes: &[u8]) -> Option<Vec<u8, A>>
+    ensures { IfSome result (λ copy. copy.items ≡ bytes.now) }
+{
+    let mut copy = Vec::with_capacity(room, bytes.len()).ok()?;
+    copy.extend_from_slice(bytes).ok()?;
+    Some(copy)
 }
