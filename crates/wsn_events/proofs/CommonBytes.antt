@@ -1,9 +1,9 @@
 -- The bytes at the beginning that two payloads share, counted one after another.
-use Rattle.std.proofs.Common.{◌≡◌, ◌≢◌, ℕ, suc, ◌+◌, ◌<◌, ◌≤◌, min, Bool, true, false, ◌==◌, if◌then◌else◌, ◌||◌, nat_lt, None, Some, List, [], ◌∷◌, length, drop, get_or, refl, sym, ap, ◌∙◌, subst, drop-cons, arith, inl, inr}
+use Rattle.std.proofs.Common.{◌≡◌, ◌≢◌, ℕ, suc, ◌+◌, ◌<◌, min, Bool, true, false, ◌==◌, if◌then◌else◌, List, [], ◌∷◌, length, drop, get_or, refl, ap, ◌∙◌, subst, drop-cons, arith, inl, inr}
 use Rattle.std.proofs.lemmas.Bool.Decides.{nat_tests}
 use Rattle.std.proofs.lemmas.Bool.{cases_lt}
 use Rattle.std.proofs.lemmas.List.{drop_all}
-use Rattle.wsn_print.specs.DifferingPayloads.{common_length, place_between}
+use Rattle.wsn_print.specs.DifferingPayloads.{common_length}
 
 same_head : (a b : ℕ) (xs ys : List ℕ) → a ≡ b → common_length (a ∷ xs) (b ∷ ys) ≡ common_length xs ys + 1
 same_head a b xs ys is =

@@ -1,5 +1,5 @@
 -- A message that a source lends right after what it has given, without reading on.
-use Rattle.std.proofs.Common.{◌≡◌, ℕ, ◌+◌, ◌<◌, ◌≤◌, ◌^◌, List, [], ◌++◌, length, take, sym, ap, ◌∙◌, subst, arith, length-append}
+use Rattle.std.proofs.Common.{◌≡◌, ℕ, ◌+◌, ◌<◌, ◌^◌, List, [], length, take, sym, ap, ◌∙◌, subst, arith, length-append}
 use Rattle.std.proofs.lemmas.List.{length-take}
 use Rattle.wsn_wire.specs.declared.endpoint.Role.{Role}
 use Rattle.wsn_wire.specs.declared.opcode.Kind.{Kind}
@@ -11,7 +11,7 @@ use Rattle.wsn_rules.specs.Meaning.{MeantEvent}
 use Rattle.wsn_rules.specs.NormalForm.{op_of}
 use Rattle.wsn_scan.specs.declared.frame_reader.FrameReader.{FrameReader}
 use Rattle.wsn_scan.specs.FrameReaders.{held_payload}
-use Rattle.wsn_scan.specs.Positions.{Position, IsTakenOf}
+use Rattle.wsn_scan.specs.Positions.{IsTakenOf}
 use Rattle.wsn_scan.specs.ReadParts.{TakesMessage}
 use Rattle.wsn_scan.proofs.FollowedScans.{begins_at}
 use Rattle.wsn_scan.proofs.FrameEnds.{unfinished_few}

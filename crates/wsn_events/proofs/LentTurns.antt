@@ -1,21 +1,19 @@
 -- The turn of a source that may have lent a message just now.
-use Rattle.std.proofs.Common.{◌≡◌, ℕ, ◌<◌, Option, None, Some, IfSome, IfNone, IfOk, Result, Ok, List, [], ◌++◌, ◌+◌, ◌≤◌, length, false, refl, sym, ap, ◌∙◌, subst, append-nil}
+use Rattle.std.proofs.Common.{◌≡◌, ℕ, ◌<◌, Option, None, Some, IfSome, IfNone, Result, Ok, List, [], ◌++◌, ◌+◌, ◌≤◌, length, false, refl, sym, ap, ◌∙◌, subst, append-nil}
 use Rattle.wsn_wire.specs.declared.endpoint.Role.{Role}
 use Rattle.wsn_wire.specs.declared.opcode.Kind.{Kind}
 use Rattle.wsn_io.specs.declared.stop.Stop.{Stop}
 use Rattle.wsn_io.specs.Transfer.{Incoming}
 use Rattle.wsn_io.proofs.Received.{consumed_none}
-use Rattle.wsn_rules.specs.declared.verdict.Verdict.{Verdict}
 use Rattle.wsn_rules.specs.declared.without.Without.{Without}
 use Rattle.wsn_rules.specs.Limits.{Limits}
 use Rattle.wsn_rules.specs.Meaning.{MeantEvent}
 use Rattle.wsn_events.specs.declared.event_reader.EventReader.{EventReader}
 use Rattle.wsn_events.specs.declared.turn.Turn.{Turn}
 use Rattle.wsn_events.specs.declared.turn.Turn.TheVariants.{Lent}
-use Rattle.wsn_events.specs.EventReaders.{HasGiven, HasBegunOrEnded, IsAtWork, answered, next_of, readings_left}
-use Rattle.wsn_events.specs.LeavingOut.{is_turn_left_out, TakesTurnWithout, ReadsTurn}
+use Rattle.wsn_events.specs.EventReaders.{HasGiven, HasBegunOrEnded, IsAtWork, answered, readings_left}
+use Rattle.wsn_events.specs.LeavingOut.{ReadsTurn}
 use Rattle.wsn_events.specs.LentMessages.{LendsMessage, MayLend}
-use Rattle.wsn_events.specs.Turns.{GivesEvent, own_turn}
 use Rattle.wsn_events.proofs.GivenSoFar.{begun_sound}
 
 -- what holds anyway

@@ -1,5 +1,5 @@
 -- Where an event stands in a stream, as more bytes come and where the stream is accepted.
-use Rattle.std.proofs.Common.{◌≡◌, ℕ, ◌≤◌, Bool, true, false, cond, Option, None, Some, Ok, List, [], ◌∷◌, ◌++◌, length, refl, sym, ap, ◌∙◌, subst, append_assoc, length-append, arith}
+use Rattle.std.proofs.Common.{◌≡◌, ℕ, ◌≤◌, true, false, Option, None, Some, Ok, List, [], ◌∷◌, ◌++◌, length, refl, sym, ap, ◌∙◌, subst, append_assoc}
 use Rattle.wsn_wire.specs.declared.endpoint.Role.{Role}
 use Rattle.wsn_wire.specs.Frame.{Frame, stream}
 use Rattle.wsn_io.specs.Transfer.{Incoming}
@@ -13,8 +13,6 @@ use Rattle.wsn_rules.specs.Limits.{Limits}
 use Rattle.wsn_rules.specs.Meaning.{MeantEvent, event_at, meaning}
 use Rattle.wsn_rules.specs.ShownStream.{event_offset, event_frames}
 use Rattle.wsn_rules.specs.ShownStream.Item.{Event}
-use Rattle.wsn_rules.proofs.Groups.{meaning_push}
-use Rattle.wsn_rules.proofs.Prefixes.{same_front}
 use Rattle.wsn_rules.proofs.ShownEvents.{shown_in_accepted, none_in_accepted}
 use Rattle.wsn_print.specs.DifferingPayloads.{event_in}
 use Rattle.wsn_events.specs.declared.event.Event as code

@@ -5,7 +5,6 @@ ghost use Rattle.wsn_frame.specs.declared.payload_check.PayloadCheck.{PayloadChe
 ghost use Rattle.wsn_frame.specs.OpenMessages.{IsOpenMessage};
 ghost use Rattle.wsn_frame.specs.PayloadChecks.{HasChecked, IsChecked};
 ghost use Rattle.wsn_frame.specs.PartialHeads.{encoded_form};
-ghost use Rattle.wsn_rules.specs.NormalForm.{op_of};
 ghost use Rattle.wsn_scan.specs.EventFrames.{IsEventFrame, TakesEvents, IsIdle, info_found, whole_part, with_key_cleared};
 ghost use Rattle.wsn_scan.specs.Feeding.{ConsumesPrefix};
 ghost use Rattle.wsn_scan.specs.Scans.{AdvancesFrom, HasNoRest, room_of, refusal_in};

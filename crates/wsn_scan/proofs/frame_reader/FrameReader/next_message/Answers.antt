@@ -1,4 +1,4 @@
-use Rattle.std.proofs.Common.{◌≡◌, ◌+◌, ◌-◌, ◌≤◌, refl, sym, ◌∙◌, arith}
+use Rattle.std.proofs.Common.{refl, sym, ◌∙◌, arith}
 use Rattle.wsn_scan.specs.declared.part.Taken.TheVariants as taken
 use Rattle.wsn_scan.specs.EventFrames.{whole_part}
 use Rattle.wsn_scan.proofs.EventParts.{op_by_first}

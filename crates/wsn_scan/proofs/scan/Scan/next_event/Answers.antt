@@ -1,7 +1,6 @@
-use Rattle.std.proofs.Common.{◌≡◌, ℕ, ◌-◌, [], ◌∷◌, true, take, refl, sym, ap, ◌∙◌, subst, arith, rules}
+use Rattle.std.proofs.Common.{ℕ, ◌-◌, [], ◌∷◌, true, refl, sym, ap, ◌∙◌, subst, arith, rules}
 use Rattle.wsn_wire.specs.Frame.{first_byte}
 use Rattle.wsn_wire.specs.declared.opcode.Op.{Op}
-use Rattle.wsn_scan.specs.declared.part.Part.{Part}
 use Rattle.wsn_scan.specs.declared.part.Taken.TheVariants as taken
 use Rattle.wsn_scan.specs.Scans.{AdvancesFrom}
 use Rattle.wsn_scan.proofs.EventParts.{event_part}
