@@ -221,10 +221,21 @@ fn refusal(alloc: Global, words: &[String]) -> Result<Usage, AllocError> {
         Ok(_matches) => return Ok(Usage::Own(Mistake::Other)),
         Err(error) => error,
     };
-    if error.kind() == ErrorKind::OutOfMemory {
-        return Ok(Usage::Memory);
+    match error.kind() {
+        ErrorKind::OutOfMemory => Ok(Usage::Memory),
+        ErrorKind::UnknownArgument if is_capture_as_it_is(words) => {
+            Ok(Usage::Own(Mistake::CaptureAsItIs))
+        }
+        _ => Ok(Usage::Clap(error.to_string(alloc)?)),
     }
-    Ok(Usage::Clap(error.to_string(alloc)?))
+}
+
+/// Whether these words of a command line name a command that reads captures as they are, and `--capture`.
+fn is_capture_as_it_is(words: &[String]) -> bool {
+    let reads_captures = words
+        .get(1)
+        .is_some_and(|word| matches!(word.as_str(), "show" | "closing"));
+    reads_captures && words.iter().any(|word| word.as_str() == "--capture")
 }
 
 /// The job that a command's name and arguments ask for.

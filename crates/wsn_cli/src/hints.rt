@@ -27,8 +27,9 @@ const MARK: usize = 16;
 /// fewer. `status` is the run's exit status, `said` what it put on standard error, and `side` the side of a capture that
 /// it read, if it read one.
 ///
-/// A stream may have one if it has a verdict; a capture if a line of it isn't accepted, if a side that is read is
-/// refused, if it is empty, or if `closing` reads it and bytes follow a Close. A job that prints JSON has none.
+/// A stream may have one if it has a verdict, or if `payload` reads it; a capture if a line of it isn't accepted, if a
+/// side that is read is refused, if it is empty, or if `closing` reads it and bytes follow a Close. A job that prints JSON
+/// has none.
 pub fn hint_on_run<A: Allocator>(
     job: &Job<A>,
     side: Option<Role>,
@@ -55,7 +56,7 @@ pub fn hint_on_run<A: Allocator>(
 fn hint_on_stream<A: Allocator>(job: &Job<A>, role: Role, first: &[u8], status: u8) -> Option<Hint>
     ensures { IfSome result (Fits (job_limits job.now) (take 16 first.now)) }
 {
-    if status == FAULT {
+    if status == FAULT && !is_payload(job) {
         return None;
     }
     let hint = hint_of(mark_of(first), role, limits_of(job))?;
@@ -91,13 +92,18 @@ fn hint_on_lines<A: Allocator>(
 {
     let hint = match status {
         ACCEPTED if !first.is_empty() => None,
-        FAULT => return None,
+        FAULT if !is_payload(job) => return None,
         _ => sides_hint_of(first, side, limits_of(job)),
     };
     match hint {
         Some(hint) => Some(hint),
         None => unlisted_hint(job, side, first),
     }
+}
+
+/// Whether the job is `payload`, whose status is a fault's where nothing begins at its offset.
+fn is_payload<A: Allocator>(job: &Job<A>) -> bool {
+    matches!(job, Job::Payload(..))
 }
 
 /// The hint at bytes after a Close, for `closing`, which doesn't list them.

@@ -17,6 +17,8 @@ pub enum Mistake {
     SignedNumber,
     /// Two inputs are standard input.
     TwoStandardInputs,
+    /// `--capture` for a command that reads captures alone, or without `--role`.
+    CaptureAsItIs,
     /// A word isn't UTF-8.
     NotUtf8,
     /// Any other rule.
@@ -39,6 +41,8 @@ impl Mistake {
             Mistake::SignedNumber => "hint: a number is written in digits alone: 5, not +5",
             Mistake::TwoStandardInputs =>
                 "hint: two inputs are standard input (-, or no FILE): name a file for one",
+            Mistake::CaptureAsItIs =>
+                "hint: show and closing read a capture as it is: leave out --capture",
             Mistake::NotUtf8 =>
                 "hint: an argument isn't UTF-8: give such a file as standard input, with <",
             Mistake::Other => "hint: 'wsn help COMMAND' lists what a command accepts",

@@ -3,7 +3,7 @@
 use crate::answer_lines::expect_answer;
 
 /// A missing or unknown word, and a role or number out of its range.
-static WRONG: [&str; 50] = [
+static WRONG: [&str; 48] = [
     "wsn",
     "wsn other",
     "wsn judge",
@@ -21,14 +21,12 @@ static WRONG: [&str; 50] = [
     "wsn judge --role server --role server",
     "wsn judge --role server file other",
     "wsn closing file other",
-    "wsn closing --capture",
     "wsn explain --capture",
     "wsn judge --role server --capture --capture",
     "wsn same --role client a",
     "wsn same --role client a b c",
     "wsn closing --role server",
     "wsn closing --view 5",
-    "wsn show --capture",
     "wsn same --role client a b --without text",
     "wsn same --role client a b --without ping,text",
     "wsn judge --role client --without ping",
@@ -63,9 +61,9 @@ fn clap_refuses_wrong_words(rt: HostRuntime) {
     }
 }
 
-/// Options of `recut` that don't go together, a key that isn't eight digits, a number with a sign, and two inputs that
-/// are both standard input: with each the mistake.
-static REFUSED: [(&str, &str); 24] = [
+/// Options of `recut` that don't go together, a key that isn't eight digits, a number with a sign, two inputs that are both
+/// standard input, and a capture that is read as it is: with each the mistake.
+static REFUSED: [(&str, &str); 26] = [
     ("wsn recut --role server", "NoPlanOrSize"),
     ("wsn recut --role server --plan p --size 2", "PlanAndSize"),
     (
@@ -102,6 +100,8 @@ static REFUSED: [(&str, &str); 24] = [
     ("wsn same --role server --capture - -", "TwoStandardInputs"),
     ("wsn recut --role server --plan -", "TwoStandardInputs"),
     ("wsn recut --role server --plan - -", "TwoStandardInputs"),
+    ("wsn show --capture", "CaptureAsItIs"),
+    ("wsn closing --capture capture", "CaptureAsItIs"),
 ];
 
 #[test]

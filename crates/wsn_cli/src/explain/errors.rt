@@ -9,8 +9,9 @@ usage: the words of the command line don't go together, or one isn't UTF-8; the
 line 'hint: ..' after it says what is wrong.
 Usual causes, at recut: neither or both of --plan and --size; --weave or --key
 with --plan; --key with --role server; a key that isn't 8 hexadecimal digits.
-At same and recut: two inputs that are both standard input. At any command: a
-number with a sign (+5); a file name with bytes that aren't UTF-8.
+At same and recut: two inputs that are both standard input. At show and closing:
+--capture, since they read a capture as it is. At any command: a number with a
+sign (+5); a file name with bytes that aren't UTF-8.
 Next: 'wsn help recut' has an example of each form. A file of any name can be
 given by its descriptor: wsn same --role R /dev/fd/3 b.bin 3< \"$file\"
 ",

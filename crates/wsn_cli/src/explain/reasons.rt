@@ -88,7 +88,7 @@ that went through xxd -r -p, so both sides' bytes; a home-made client, or a
 server's library used as a client; a tool that recorded unmasked frames.
 Next: --role is the endpoint that sent the bytes: try --role server. Of a
 capture, add --capture and leave xxd out. Else the client is at fault.
-16 of 32 servers accept it (aiohttp, Tornado, Qt): see docs/PEERS.md.
+15 of 32 servers accept it (aiohttp, Tornado, Qt): see docs/PEERS.md.
 ",
     },
     Entry {
@@ -103,7 +103,7 @@ passes on a client's frames unchanged; a client's library used in a server.
 Next: --role is the endpoint that sent the bytes: try --role client. If the
 server did send them, its frames' keys are the client's if they were passed on:
 sed -n 's/^S //p' CAPTURE | xxd -r -p | wsn frames --role client lists them.
-20 of 34 clients accept it (Firefox, aiohttp, Qt): see docs/PEERS.md.
+19 of 34 clients accept it (Firefox, aiohttp, Qt): see docs/PEERS.md.
 ",
     },
     Entry {
@@ -111,14 +111,14 @@ sed -n 's/^S //p' CAPTURE | xxd -r -p | wsn frames --role client lists them.
         text: "\
 control-too-long, code 1002: a Close, ping or pong whose length field, the low
 seven bits of its second byte, is 126 or 127.
-RFC 6455, 5.5: the payload of a control frame has at most 125 bytes.
-Usual causes: a Close with a whole error message as its reason, which may have
-123 bytes; a ping that carries data. Or no frame begins here: bytes are missing,
-an earlier length is wrong, or two threads wrote at once.
-Next: 'wsn show CAPTURE' ends the line 'refused' with the frame's two bytes; the
-first says which it is: 88 a Close, 89 a ping, 8a a pong. Shorten the reason at
-the sender: count bytes, cut between characters.
-18 of 36 implementations accept some (Jetty, Tomcat): see docs/PEERS.md.
+RFC 6455, 5.5: the payload of a control frame has at most 125 bytes. An empty
+ping as 89 7f and eight zeros has this reason, too, though it breaks 5.2 alone.
+Usual causes: a whole error message as a Close's reason, which may have 123
+bytes; a ping that carries data. Or no frame begins here: bytes are missing.
+Next: 'wsn show CAPTURE' ends the line 'refused' with the frame's two bytes: 88
+is a Close, 89 a ping, 8a a pong. Shorten a reason between two characters.
+9 of 36 implementations accept over 125 bytes (Poco, em-websocket), 16 of 36 a
+longer encoding of fewer (Jetty, Tomcat): see docs/PEERS.md.
 ",
     },
     Entry {
@@ -146,7 +146,7 @@ is wrong, or two threads wrote at once; a negative number at the sender (ff ff
 Next: see the eight bytes: xxd -s $((OFFSET - 7)) -l 8 FILE. If they make sense
 when read backwards, it is the byte order. If not, look at the frame before this
 one in 'wsn frames'.
-10 of 36 implementations accept it (websockets, aiohttp): see docs/PEERS.md.
+8 of 36 implementations accept it (em-websocket, lua-http): see docs/PEERS.md.
 ",
     },
     Entry {
@@ -189,7 +189,7 @@ an HTTP status such as 500; the low byte first (e803 is 59395); no code before
 the reason, so that its first two letters are read as one.
 Next: 'wsn show CAPTURE' ends the line 'refused' with the code, unmasked, in hex
 (03ee is 1006). In a relay, send no code for 1005, and 1001 or 1011 for 1006.
-16 of 36 implementations accept some (Chromium, Firefox): see docs/PEERS.md.
+13 of 36 accept some (Chromium, Firefox), 15 of 36 over 4999: see docs/PEERS.md.
 ",
     },
     Entry {
@@ -203,7 +203,7 @@ message of the system in another encoding (Latin-1, GBK, Shift JIS).
 Next: 'wsn show CAPTURE' ends the line 'refused' with the code and the reason up
 to that byte, in hex. At the sender, convert the reason to UTF-8 first, then
 shorten it between two characters. A short reason in ASCII is the safest.
-11 of 36 implementations accept some (nhooyr, wslay): see docs/PEERS.md.
+12 of 36 implementations accept some (nhooyr, wslay): see docs/PEERS.md.
 ",
     },
     Entry {
@@ -212,8 +212,8 @@ shorten it between two characters. A short reason in ASCII is the safest.
 text-bad, code 1007: the byte at OFFSET is the first that can't follow what came
 before in UTF-8. It is the last byte of the bad character, and may be innocent:
 in Latin-1, \"Ren\\xe9 \" is refused at the space; the bad character is e9 20.
-RFC 6455, 5.6: the payload of a text message is UTF-8; 8.1: if it isn't, the
-receiver must fail the connection.
+RFC 6455, 5.6: the payload of a text message is UTF-8; 8.1: if it isn't, who
+reads it as text must fail the connection.
 Usual causes: text in Latin-1 or Windows-1252 (92 is an apostrophe); binary data
 sent as text (gzip: 1f 8b); surrogates one by one (ed a0 ..); c0 80, from Java.
 Next: the line 'bad-character' of 'wsn show' has it, with the text before it:
@@ -233,7 +233,7 @@ where bytes are meant.
 Next: in 'wsn show CAPTURE' 'unread' begins with the next frame. If its text
 begins with a byte from 80 to bf, both are one text. Send the blocks as
 fragments of one message, or keep a begun character for the next block.
-13 of 36 implementations accept some (Boost.Beast, gorilla): see docs/PEERS.md.
+12 of 36 implementations accept some (Boost.Beast, gorilla): see docs/PEERS.md.
 ",
     },
     Entry {
