@@ -4,10 +4,9 @@ import collections
 import json
 import os
 import struct
-import subprocess
 
 import pcaps
-from harness import SAMPLES, TOP, WSN, Skipped, needs, run, said_in, same, short, sides, test, want
+from harness import SAMPLES, TOP, WSN, Skipped, has_hpack, needs, run, said_in, same, short, sides, test, want
 from test_pcap import HANDSHAKE, ends, pcap2wsn
 
 HTTP2 = SAMPLES / "http2"
@@ -19,8 +18,7 @@ END_STREAM, END_HEADERS, PADDED, PRIORITY = 1, 4, 8, 32
 
 def needs_hpack():
     """Skips the test where the recipes don't find the library hpack."""
-    words = ["python3", "-c", "import sys; sys.path.append(sys.argv[1]); import http2; sys.exit(http2.library() is None)"]
-    if subprocess.run([*words, TOP / "recipes"], check=False).returncode != 0:
+    if not has_hpack():
         raise Skipped("without python3-hpack")
 
 
