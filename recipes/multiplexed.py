@@ -189,7 +189,7 @@ class Streams:
                 self.known[event.stream] = None  # As in HTTP/1.1, these bytes belong to no request.
         elif event.kind == "end":
             stream.end(side, time)
-        else:
+        elif event.kind == "reset":
             stream.take_reset(side, time)
 
     def meet(self, side: str, event: Event, time: int) -> None:
