@@ -254,7 +254,8 @@ def http2_that_lacks_a_segment_says_so(folder):
     was over before that is whole."""
     needs_hpack()
     over = [("C", frame(DATA, 1, b"\x88\x80abcd", END_STREAM)), ("S", frame(DATA, 1, b"\x88\0", END_STREAM))]
-    talk = [*BEGIN, *opening(1), *opening(3, "/two"), *over]
+    reset = ("C", frame(RST_STREAM, 5, struct.pack("!I", 8)))
+    talk = [*BEGIN, *opening(1), *opening(3, "/two"), *over, *opening(5), reset]
     data = [("CS"[at % 2], frame(DATA, 3, bytes([at]) * (20 + at))) for at in range(8)]
     last = [(side, frame(DATA, 3, b"", END_STREAM)) for side in "CS"]
     packets = session([*talk, *data, *last])
@@ -270,6 +271,8 @@ def http2_that_lacks_a_segment_says_so(folder):
         same(sides(out)[2], {other}, f"the end marks without packet {place + 1}")
         out, said = pcap2wsn(folder / "lost.pcap", "0.1")
         same((sides(out), said), ((b"\x88\x80abcd", b"\x88\0", {"C", "S"}), ""), "the stream that was over before that")
+        out, said = pcap2wsn(folder / "lost.pcap", "0.5")
+        same((ends(out), said), (["# reset by the client", "C.", "S."], ""), "the stream that was reset before that")
         said = pcap2wsn(folder / "lost.pcap", status=1)[1]
         same("streams that begin later aren't listed" in said, side == "C", f"what is said of the list: {said}")
     pcaps.write(folder / "lost.pcap", pcaps.without(packets, [2 + len(BEGIN) + 3]))  # The answer of stream 3.
