@@ -176,8 +176,10 @@ class Streams:
 
     def take_event(self, side: str, event: Event, time: int) -> None:
         """What a side says of a stream."""
-        if event.stream not in self.known:
-            self.meet(side, event, time)
+        if self.is_other(side, event):
+            self.known[event.stream] = None
+        elif event.kind == "head" and event.stream not in self.known:
+            self.known[event.stream] = Stream(self, event.stream, time)
         stream = self.known.get(event.stream)
         if stream is None:
             return
@@ -192,12 +194,13 @@ class Streams:
         elif event.kind == "reset":
             stream.take_reset(side, time)
 
-    def meet(self, side: str, event: Event, time: int) -> None:
-        """The first that is said of a stream. Without the request it isn't known what it is."""
-        if event.kind == "push" or (side == "C" and event.kind == "head" and not asks_for_frames(event.fields)):
-            self.known[event.stream] = None
-        elif event.kind == "head" or (side == "S" and event.kind == "data"):
-            self.known[event.stream] = Stream(self, event.stream, time)
+    def is_other(self, side: str, event: Event) -> bool:
+        """Whether this shows that a stream isn't WebSocket: the server promises it, or another request begins it."""
+        stream = self.known.get(event.stream)
+        if event.kind == "push":
+            return stream is None
+        begins = side == "C" and event.kind == "head" and (stream is None or stream.request is None)
+        return begins and not asks_for_frames(event.fields)
 
     def end(self, side: str, time: int) -> None:
         """A side ends its direction of the connection."""

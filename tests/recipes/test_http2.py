@@ -201,6 +201,8 @@ def http2_takes_frames_apart(folder):
         ("in pieces of 7", pcaps.split(packets, 7)),
         ("out of order and repeated", pcaps.repeated(pcaps.shuffled(pcaps.split(packets, 60)))),
         ("the server's first bytes first", [*packets[:2], packets[3], packets[2], *packets[4:]]),
+        ("all of the server first", sorted(packets, key=lambda each: pcaps.Segment(each).source == 40000)),
+        ("all of the client first", sorted(packets, key=lambda each: pcaps.Segment(each).source == 80)),
     ):
         pcaps.write(folder / "mixed.pcap", mangled)
         for stream, path in (1, "/one"), (5, "/five"):
@@ -243,6 +245,9 @@ def http2_has_the_ends_in_their_order(folder):
     broken = pcaps.packet((80, 40000), last.seq + len(last.payload), 0, 4)
     pcaps.write(folder / "made.pcap", [*packets, broken])
     same(ends(pcap2wsn(folder / "made.pcap", "0.1")[0]), reset["S"], "the connection's reset")
+    head = [("C", frame(HEADERS, 1, asking(), END_HEADERS) + frame(DATA, 1, b"\x89\x80abcd", END_STREAM))]
+    out = pcap2wsn(made(folder, [*BEGIN, *head, ("S", frame(HEADERS, 1, OK, END_HEADERS))]), "0.1")[0]
+    same((ends(out), sides(out)[0]), (["C.", "S."], b"\x89\x80abcd"), "a client that doesn't wait for the answer")
     head = [("C", frame(HEADERS, 1, asking(), END_HEADERS | END_STREAM))]
     answer = [("S", frame(HEADERS, 1, OK, END_HEADERS | END_STREAM))]
     same(ends(pcap2wsn(made(folder, [*BEGIN, *head, *answer]), "0.1")[0]), ["C.", "S."], "ends with the heads")
