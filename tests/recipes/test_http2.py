@@ -229,6 +229,8 @@ def http2_has_the_ends_in_their_order(folder):
         ("a reset by the client", [("C", cancel)], reset["C"], 6),
         ("a reset by the server", [("S", cancel)], reset["S"], 6),
         ("bytes on their way", [("S", cancel), late], reset["S"], 12),
+        ("bytes after its own end", [("C", end), late, ("S", end)], ["C.", "S."], 6),
+        ("bytes after its own reset", [("C", cancel), late], reset["C"], 6),
         ("an answer to a reset", [("S", cancel), ("C", cancel)], reset["S"], 6),
         ("a reset after an end", [("S", end), ("C", cancel)], ["S.", *reset["C"][:2]], 6),
         ("a reset after its own end", [("S", end + cancel)], ["S.", "C."], 6),
