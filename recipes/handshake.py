@@ -203,10 +203,15 @@ GUID = b"258EAFA5-E914-47DA-95CA-C5AB0DC85B11"  # What a key is joined with (RFC
 
 def faults(request: Head, answer: Head) -> List[str]:
     """What is wrong with an answer 101, so that the client must fail the connection (RFC 6455, 4.1)."""
-    found = ["accept is wrong"] if answer.value("sec-websocket-accept") != accept_of(request) else []
+    wrong = answer.value("sec-websocket-accept") != accept_of(request)
+    return ["accept is wrong"] * wrong + unoffered(request, answer)
+
+
+def unoffered(request: Head, answer: Head) -> List[str]:
+    """What an answer chooses and the request doesn't offer, for which the client must fail the connection, too."""
     offered = set(names_in(request.value("sec-websocket-protocol")))
     chosen = names_in(answer.value("sec-websocket-protocol"))
-    found += [f"subprotocol {shown_name(name)} was not offered" for name in chosen if name not in offered]
+    found = [f"subprotocol {shown_name(name)} was not offered" for name in chosen if name not in offered]
     offered = {name.lower() for name in names_in(request.value("sec-websocket-extensions"))}
     chosen = names_in(answer.value("sec-websocket-extensions"))
     return found + [f"extension {name} was not offered" for name in chosen if name.lower() not in offered]

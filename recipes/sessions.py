@@ -1,76 +1,38 @@
-"""WebSocket sessions of a pcap: their handshakes, and their captures."""
+"""WebSocket sessions of a pcap: what each TCP connection carries, in HTTP/1.1, in HTTP/2, or after the handshake."""
 
-import pathlib
 import re
-import shutil
-from typing import BinaryIO, List, Optional, Tuple
+from typing import Callable, List, Optional, Sequence, Tuple
 
-from captures import NAMES, Lines, comment, escaped, front, time_of_day
-from handshake import Head, Malformed, Opening, faults
-from names import named
+from captures import NAMES, comment, time_of_day
+from handshake import HEAD_LIMIT, Head, Malformed, Opening, faults
+from http2 import PREFACE, is_settings, library
+from multiplexed import OTHER, Streams
 from packets import FIN, RST, Segment, nodes
+from recorded import Recorded, Sink
 from streams import Connection, Direction, Lack
 from tshark import Record
 
-MEMORY = 1 << 16  # The maximum characters of a capture that are kept in memory.
-OF_EXTENSIONS = "warning: the server agreed on", "warning: frames that use it"  # How the notes of extensions begin.
 
+class Session(Recorded):
+    """What is known of a connection: whether it is WebSocket, or has streams that are."""
 
-class Sink:
-    """Lines of a capture that come before it is known what is written in front of them."""
-
-    def __init__(self, part: pathlib.Path):
-        self.part = part
-        self.texts: List[str] = []
-        self.size = 0
-
-    def put(self, text: str) -> None:
-        """Keeps lines."""
-        if text:
-            self.texts.append(text)
-            self.size += len(text)
-            if self.size > MEMORY:
-                with open(self.part, "ab") as file:
-                    file.write(self.taken())
-
-    def taken(self) -> bytes:
-        """The lines in memory, which it forgets."""
-        data = "".join(self.texts).encode()
-        self.texts, self.size = [], 0
-        return data
-
-    def write(self, file: BinaryIO, before: str) -> None:
-        """Writes all, after other lines."""
-        file.write(before.encode())
-        if self.part.exists():
-            with open(self.part, "rb") as part:
-                shutil.copyfileobj(part, file, 1 << 20)
-            self.part.unlink()
-        file.write(self.taken())
-
-
-class Session:
-    """What is known of a connection: whether it is WebSocket, and its capture's lines if there is a sink for them."""
-
-    def __init__(self, connection: Connection, midway: bool, sink: Optional[Sink]):
+    def __init__(self, connection: Connection, midway: bool, sink_of: Callable[[str], Optional[Sink]]):
+        super().__init__(str(connection.number), sink_of(str(connection.number)))
         self.connection = connection
         self.midway = midway
-        self.sink = sink
+        self.sink_of = sink_of
         self.opening = Opening()
         self.early = [b"", b""]  # The first bytes of each direction, before it is known whose they are.
         self.sides: Optional[str] = None  # The letters of both directions.
         self.is_other = False  # Neither HTTP nor, with `midway`, anything with data.
-        self.lines: Optional[Lines] = None
-        self.front = ""
-        self.notes: List[str] = []
+        self.is_http2 = False
+        self.streams: Optional[Streams] = None  # Those of HTTP/2.
         self.hello = b""  # The first bytes of TLS.
         self.is_opened = False  # Keys have opened its TLS.
         self.locked: List[List[bytes]] = [[], []]  # Bytes in TLS after a gap that isn't closed yet.
         self.ending: List[Tuple[int, int]] = []  # Directions that ended and have no end mark yet, and the time.
         self.reset_time = 0
-        self.asked = 0  # The time of the last request for frames or, if it was refused, of the answer.
-        self.first = 0  # The direction that sent the first bytes, the time of these, and of the last packet with some.
-        self.began = self.last = 0
+        self.first = 0  # The direction that sent the first bytes.
 
     # What comes from the connection
 
@@ -122,7 +84,7 @@ class Session:
             self.take(self.sides[index], data, time)
             return
         self.early[index] += data
-        if len(self.early[index]) < (2 if self.midway else 4):
+        if len(self.early[index]) < (2 if self.midway else 4) or self.waits_for_client(self.early[index]):
             return
         is_client = self.side_of(self.early[index]) == "C"
         self.sides = "CS" if is_client == (index == 0) else "SC"
@@ -130,19 +92,28 @@ class Session:
             if self.early[each]:
                 self.take(self.sides[each], self.early[each], time)
 
+    def waits_for_client(self, data: bytes) -> bool:
+        """Whether a server of HTTP/2 sends this, of which the client's first bytes haven't come yet."""
+        return not self.midway and is_settings(data) and len(data) < HEAD_LIMIT
+
     def side_of(self, data: bytes) -> str:
         """The side that sends what begins so."""
         if not self.midway:
-            self.is_other = not re.match(rb"HTTP|[A-Z]+( |$)", data[:8])
+            self.is_http2 = data[:4] == PREFACE[:4]
+            self.is_other = not re.match(rb"HTTP|[A-Z]+( |$)", data[:8]) or (self.is_http2 and library() is None)
+            if self.is_http2 and not self.is_other:
+                self.streams = Streams(self, self.sink_of)
             return "S" if data.startswith(b"HTTP") else "C"
-        if data[:4] in (b"GET ", b"HTTP"):
+        if data[:4] in (b"GET ", b"HTTP", PREFACE[:4]):
             self.notes.append("warning: the connection begins with its handshake: leave -m out")
         self.open(self.began, comment(f"recorded since {time_of_day(self.began)}"))
         return "C" if data[1] & 0x80 else "S"
 
     def take(self, side: str, data: bytes, time: int) -> None:
         """Bytes of a side."""
-        if self.lines is None:
+        if self.streams is not None:
+            self.streams.take(side, data, time)
+        elif self.lines is None:
             self.take_opening(side, data, time)
         elif self.sink is not None:
             self.check_first(side, data)
@@ -155,8 +126,9 @@ class Session:
         try:
             is_done = opening.take(side, data)
         except Malformed:
-            self.is_other = True
-            return
+            self.is_other, is_done = True, False
+        self.request = opening.request if opening.answer else opening.asked
+        self.answer, self.refused = opening.answer, opening.refusal
         if (opening.asked, opening.refusal) != before:
             self.asked = time
         if is_done and opening.request is not None and opening.answer is not None:
@@ -164,19 +136,10 @@ class Session:
 
     def begin_frames(self, request: Head, answer: Head, time: int) -> None:
         """The handshake is whole."""
-        self.open(time, front(time, request, answer))
-        self.notes += faults(request, answer)
-        if self.extensions != "-":
-            self.notes.append(f"{OF_EXTENSIONS[0]} {self.extensions}")
-            inflate = named("recipes/inflate")
-            self.notes.append(f"{OF_EXTENSIONS[1]} are refused; {inflate} takes permessage-deflate away")
+        self.begin(request, answer, faults(request, answer), time)
         for each in "CS":
             if self.opening.held[each]:
                 self.take(each, self.opening.held[each], time)
-
-    def open(self, time: int, lines: str) -> None:
-        """Frames come from now on."""
-        self.lines, self.front = Lines(time), lines
 
     def check_first(self, side: str, data: bytes) -> None:
         """Warns if a side's first bytes can't begin a frame, where that was taken for granted."""
@@ -187,51 +150,48 @@ class Session:
 
     def put_ends(self) -> None:
         """Writes the end marks of directions that ended with the last packet, or before the handshake was whole."""
-        if self.lines is None or self.sides is None:
+        if self.sides is None or (self.lines is None and self.streams is None):
             return
         for index, time in self.ending:
-            if self.sink is not None:
-                self.sink.put(self.lines.end(self.sides[index], time))
+            if self.streams is not None:
+                self.streams.end(self.sides[index], time)
+            elif self.lines is not None:
+                self.put(self.lines.end(self.sides[index], time))
         self.ending = []
 
-    def finish(self, is_cut: bool) -> bool:
-        """Nothing more comes. Writes a reset's end marks, and notes what is missing; whether anything is."""
-        assert self.lines is not None and self.sides is not None
+    def settle(self) -> None:
+        """Nothing more comes."""
         for direction in self.connection.directions:
             self.unlock(direction, self.last)
+            if self.streams is not None and self.connection.reset_by is not None:
+                direction.ended = True
         self.put_ends()
-        self.put_reset()
-        lacks = False
-        for side in "CS":
-            direction = self.connection.directions[self.sides.index(side)]
-            words = self.words(direction, is_cut)
-            if words:
-                self.notes.append(f"{NAMES[side]}: whole up to byte {self.lines.bytes[side]} of its frames: {words}")
-                lacks = True
-            elif self.lacks_end(direction):
-                self.notes.append(f"{NAMES[side]}: the end of its direction isn't in the pcap, all bytes before it are")
-        if self.sink is not None:
-            self.sink.put(self.lines.flush())
-        return lacks
 
     def put_reset(self) -> None:
         """Writes the end marks of directions that a reset ended, the sender's first."""
-        sender = self.connection.reset_by
-        if sender is None or self.lines is None or self.sides is None or self.sink is None:
+        if self.reset is None or self.sides is None:
             return
-        open_ones = [each for each in (sender, self.connection.other(sender)) if not each.ended]
-        if open_ones:
-            self.sink.put(self.lines.reset(self.sides[sender.index], self.reset_time))
-        for direction in open_ones:
-            lack = direction.lack()
-            direction.ended = True
-            if lack is None or lack.kind == "end":
-                self.sink.put(self.lines.end(self.sides[direction.index], self.reset_time))
+        sender, time = self.reset
+        still_open = [side for side in (sender, OTHER[sender]) if not self.direction_of(side).ended]
+        whole = [side for side in still_open if (lack := self.direction_of(side).lack()) is None or lack.kind == "end"]
+        for side in still_open:
+            self.direction_of(side).ended = True
+        self.put_reset_of(sender, time, still_open, whole)
 
-    def lacks_end(self, direction: Direction) -> bool:
-        """Whether only the packet that ends a direction is missing."""
-        lack = direction.lack()
-        return lack is not None and lack.kind == "end" and not direction.ended
+    # What is missing
+
+    def direction_of(self, side: str) -> Direction:
+        """The direction of a side."""
+        assert self.sides is not None
+        return self.connection.directions[self.sides.index(side)]
+
+    def lacks(self, is_cut: bool) -> List[str]:
+        """What is missing of both directions, in words."""
+        return [words for each in self.connection.directions if (words := self.words(each, is_cut))]
+
+    def missing(self, side: str, is_cut: bool) -> str:
+        """What is missing of a side, in words; empty if it is whole."""
+        return self.words(self.direction_of(side), is_cut)
 
     def words(self, direction: Direction, is_cut: bool) -> str:
         """What is missing of a direction, in words; empty if it is whole."""
@@ -240,32 +200,37 @@ class Session:
             return in_words(lack, bool(self.hello))
         return "the pcap is cut short in a packet" if is_cut and not direction.ended else ""
 
+    def lacks_end(self, side: str) -> bool:
+        """Whether only the packet that ends a side's direction is missing."""
+        direction = self.direction_of(side)
+        lack = direction.lack()
+        return lack is not None and lack.kind == "end" and not direction.ended
+
     # What is known of it
+
+    @property
+    def parts(self) -> Sequence[Recorded]:
+        """What can be WebSocket of it: its streams or, if it isn't HTTP/2, itself."""
+        return [self] if self.streams is None else self.streams.all()
 
     @property
     def is_session(self) -> bool:
         """Whether a capture can be written."""
-        if self.midway:
-            return self.began > 0
-        return self.lines is not None
+        return self.began > 0 if self.midway else self.lines is not None
 
     @property
-    def failed(self) -> str:
-        """How its handshake failed: the answer's status, or that there is none; empty if it didn't fail."""
-        if self.midway or self.lines is not None or self.opening.asked is None:
-            return ""
-        return f"HTTP {self.opening.refusal.status}" if self.opening.refusal else "no answer"
+    def reset(self) -> Optional[Tuple[str, int]]:
+        """The side that reset the connection, and when."""
+        sender = self.connection.reset_by
+        return (self.sides[sender.index], self.reset_time) if self.sides and sender is not None else None
 
-    @property
-    def refusal(self) -> str:
-        """How its handshake failed, in words."""
-        if self.opening.refusal:
-            return f"the request for {self.path} has the answer {escaped(self.opening.refusal.line)}"
-        words, sender = f"the request for {self.path} has no answer", self.connection.reset_by
+    def broken_off(self) -> List[str]:
+        """Who ended or reset it before an answer, in words; nothing if nobody did."""
         names = ("client", "server") if self.first == 0 else ("server", "client")
         if self.ending:
-            return f"{words}; the {names[self.ending[0][0]]} ended the connection"
-        return f"{words}; the {names[sender.index]} reset the connection" if sender is not None else words
+            return [f"the {names[self.ending[0][0]]} ended the connection"]
+        sender = self.connection.reset_by
+        return [f"the {names[sender.index]} reset the connection"] if sender is not None else []
 
     @property
     def is_begun(self) -> bool:
@@ -273,17 +238,6 @@ class Session:
         asked = self.opening.request or (Head(self.opening.held["C"]) if self.opening.held["C"] else None)
         answered = Head(self.opening.held["S"])
         return self.lines is None and ((asked is not None and asked.asks_for_frames) or answered.status == 101)
-
-    @property
-    def extensions(self) -> str:
-        """The extensions that the server agreed on, or -."""
-        return escaped(self.opening.answer.value("sec-websocket-extensions") if self.opening.answer else "") or "-"
-
-    @property
-    def path(self) -> str:
-        """The request's path, or -."""
-        request = self.opening.request if self.opening.answer else self.opening.asked
-        return escaped(request.path if request else "") or "-"
 
     @property
     def nodes(self) -> Tuple[str, str]:

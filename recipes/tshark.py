@@ -34,12 +34,14 @@ class Reader:
         self.is_cut = False
 
     def words(self) -> List[str]:
-        """The command's first words: TLS is looked for on every port, and what is in it stays as it is."""
+        """The command's first words: TLS is looked for on every port, and what is in it stays as it is. With its HTTP/2,
+        tshark leaves bytes out."""
         keys = ["-o", f"tls.keylog_file:{os.path.abspath(self.keylog)}"] if self.keylog else []
         switches = ["tcp.desegment_tcp_streams", "tcp.reassemble_out_of_order", "tcp.analyze_sequence_numbers"]
         options = [word for switch in switches for word in ("-o", f"{switch}:TRUE")]
-        decode = ["-d", "tcp.port==1-65535,tls", "-d", "tls.port==1-65535,data", "--disable-protocol", "http"]
-        return ["tshark", "-n", "-r", os.path.abspath(self.pcap), *keys, *options, *decode]
+        decode = ["-d", "tcp.port==1-65535,tls", "-d", "tls.port==1-65535,data"]
+        disable = ["--disable-protocol", "http", "--disable-protocol", "http2"]
+        return ["tshark", "-n", "-r", os.path.abspath(self.pcap), *keys, *options, *decode, *disable]
 
     @contextlib.contextmanager
     def output(self, *words: str) -> Iterator[IO[bytes]]:

@@ -60,6 +60,12 @@ def needs(*programs):
         raise Skipped(f"without {', '.join(missing)}")
 
 
+def has_hpack():
+    """Whether the recipes find the library hpack, Debian's package python3-hpack."""
+    words = ["python3", "-B", "-c", "import http2, sys; sys.exit(http2.library() is None)"]
+    return subprocess.run(words, cwd=TOP / "recipes", check=False).returncode == 0
+
+
 def python_with_websockets():
     """A Python that has websockets, Debian's package python3-websockets."""
     for python in sys.executable, "/usr/bin/python3":

@@ -17,11 +17,11 @@ import tempfile
 import time
 
 import pcaps
-from harness import (HERE, SAMPLES, SECONDS, TOP, WSN, Failed, Skipped, needs, python_with_websockets, run, same, started,
-                     test, wait_for, want)  # fmt: skip
+from harness import (HERE, SAMPLES, SECONDS, TOP, WSN, Failed, Skipped, has_hpack, needs, python_with_websockets, run, same,
+                     started, test, wait_for, want)  # fmt: skip
 
 # Words of a command, and the program that it needs for them.
-NEEDS = {"tls.pcap": "tshark", "tshark": "tshark", "text2pcap": "text2pcap", "socat": "socat", "jq": "jq",
+NEEDS = {"tls.pcap": "tshark", "chromium.keys": "tshark", "tshark": "tshark", "text2pcap": "text2pcap", "socat": "socat", "jq": "jq",
          "mitmdump": "mitmdump", "xxd": "xxd"}  # fmt: skip
 
 # The names of what a command writes.
@@ -83,6 +83,8 @@ class Page:
         for word, program in NEEDS.items():
             if kind == "command" and re.search(rf"\b{word}\b", words) and not shutil.which(program):
                 return f"without {program}"
+        if kind == "command" and "/http2/" in words and not has_hpack():
+            return "without python3-hpack"
         reads = re.sub(WRITES, "", words)
         if kind == "command" and any(re.search(rf"(?<![\w/]){name}\b", reads) for name in self.lost):
             return self.missing or "without what skipped ones write"
