@@ -192,7 +192,7 @@ def mixed():
 
 @test
 def http2_takes_frames_apart(folder):
-    """Padding, priority, header blocks in parts, other streams, pushes, trailers; in segments of each size, out of order."""
+    """Padding, priority, header blocks in parts, other streams, pushes, trailers; in small segments, out of order."""
     needs_hpack()
     packets = session(mixed())
     for what, mangled in (
@@ -215,7 +215,7 @@ def http2_takes_frames_apart(folder):
 
 @test
 def http2_has_the_ends_in_their_order(folder):
-    """END_STREAM is an end, RST_STREAM a reset unless its sender had ended the stream; TCP's end or reset are of all."""
+    """END_STREAM is an end, RST_STREAM a reset unless its sender had ended the stream; TCP's are those of all."""
     needs_hpack()
     talk = [*BEGIN, *opening(1), ("C", frame(DATA, 1, b"\x81\x80abcd"))]
     cancel = frame(RST_STREAM, 1, struct.pack("!I", 8))
@@ -271,8 +271,9 @@ def http2_that_lacks_a_segment_says_so(folder):
         place = 2 + len(talk) + at
         pcaps.write(folder / "lost.pcap", pcaps.without(packets, [place]))
         out, said = pcap2wsn(folder / "lost.pcap", "0.3", status=1)
-        before, name, other = b"".join(whole[side][: at // 2]), {"C": "client", "S": "server"}[side], "CS".replace(side, "")
-        want(f"{name}: whole up to byte {len(before)} of its frames: {29 + at if at < 8 else 9} bytes missing" in said, said)
+        name, other = {"C": ("client", "S"), "S": ("server", "C")}[side]
+        before, size = b"".join(whole[side][: at // 2]), 29 + at if at < 8 else 9
+        want(f"{name}: whole up to byte {len(before)} of its frames: {size} bytes missing" in said, said)
         got = dict(zip("CS", sides(out)))
         same((got[side], got[other]), (before, b"".join(whole[other])), f"without packet {place + 1}")
         same(sides(out)[2], {other}, f"the end marks without packet {place + 1}")
@@ -331,7 +332,8 @@ def http2_says_how_a_handshake_failed(folder):
     out, said = pcap2wsn(made(folder, [*BEGIN, *talk]), "0.1")
     wrong = ["subprotocol mqtt was not offered", "extension x-one was not offered"]
     same(said.splitlines()[:2], [f"pcap2wsn: {line}" for line in wrong], "what is said of an answer")
-    same(said_in(out)[3:7], ["# subprotocol: mqtt", "# extensions: x-one; a=1", *(f"# {line}" for line in wrong)], "front")
+    front = ["subprotocol: mqtt", "extensions: x-one; a=1", *wrong]
+    same(said_in(out)[3:7], [f"# {line}" for line in front], "the front")
     get = field(":method", "GET") + field(":path", "/") + field(":scheme", "https")
     talk = [("C", frame(HEADERS, 1, get, END_HEADERS | END_STREAM)), ("S", frame(HEADERS, 1, OK, END_HEADERS))]
     want("has no WebSocket handshake" in pcap2wsn(made(folder, [*BEGIN, *talk]), status=2)[1], "another request")
