@@ -3,6 +3,7 @@
 import collections
 import json
 import os
+import pathlib
 import struct
 
 import pcaps
@@ -229,6 +230,7 @@ def http2_has_the_ends_in_their_order(folder):
         ("a reset by the client", [("C", cancel)], reset["C"], 6),
         ("a reset by the server", [("S", cancel)], reset["S"], 6),
         ("bytes on their way", [("S", cancel), late], reset["S"], 12),
+        ("trailers", [("S", frame(HEADERS, 1, field("x", "y"), END_HEADERS | END_STREAM))], ["S.", "C."], 6),
         ("bytes after its own end", [("C", end), late, ("S", end)], ["C.", "S."], 6),
         ("bytes after its own reset", [("C", cancel), late], reset["C"], 6),
         ("an answer to a reset", [("S", cancel), ("C", cancel)], reset["S"], 6),
@@ -250,9 +252,8 @@ def http2_has_the_ends_in_their_order(folder):
     head = [("C", frame(HEADERS, 1, asking(), END_HEADERS) + frame(DATA, 1, b"\x89\x80abcd", END_STREAM))]
     out = pcap2wsn(made(folder, [*BEGIN, *head, ("S", frame(HEADERS, 1, OK, END_HEADERS))]), "0.1")[0]
     same((ends(out), sides(out)[0]), (["C.", "S."], b"\x89\x80abcd"), "a client that doesn't wait for the answer")
-    head = [("C", frame(HEADERS, 1, asking(), END_HEADERS | END_STREAM))]
-    answer = [("S", frame(HEADERS, 1, OK, END_HEADERS | END_STREAM))]
-    same(ends(pcap2wsn(made(folder, [*BEGIN, *head, *answer]), "0.1")[0]), ["C.", "S."], "ends with the heads")
+    both = [("C", frame(HEADERS, 1, asking(), END_HEADERS)), ("S", frame(HEADERS, 1, OK, END_HEADERS | END_STREAM))]
+    same(ends(pcap2wsn(made(folder, [*BEGIN, *both]), "0.1")[0]), ["S.", "C."], "an end with the answer")
 
 
 @test
@@ -353,6 +354,14 @@ def http2_that_is_malformed_says_so(folder):
         out, said = pcap2wsn(made(folder, [*talk, ("S", frame(DATA, 1, b"\x8a\0") + bad)]), "0.1", status=1)
         same(sides(out), (b"\x8a\x80abcd", b"\x89\0\x8a\0", {"C"}), what)
         same(said, "pcap2wsn: server: whole up to byte 4 of its frames: the HTTP/2 is malformed there\n", what)
+
+
+@test
+def http2_finds_the_library_of_debian(folder):
+    """Also where the recipes run by another Python than Debian's."""
+    if not pathlib.Path("/usr/lib/python3/dist-packages/hpack").exists():
+        raise Skipped("without python3-hpack")
+    want(has_hpack(), "the library isn't found")
 
 
 @test
