@@ -159,7 +159,7 @@ def padded(kind, stream, payload, flags, padding):
 def mixed():
     """Requests in parts, with padding and priority; other streams, whose header blocks count too; DATA of each kind."""
     weight = struct.pack("!IB", 0, 200)
-    block = asking("/one")
+    block = bytes.fromhex("3fe1ff03") + asking("/one")  # First a table of 65,536 bytes (RFC 7541, 6.3 and 5.1).
     third = field(":method", "CONNECT", b"\x40") + field(":protocol", "other", b"\x40") + field(":path", "/three")
     # The entry 63 of the table, and the name of 62, which stream 3 put there (RFC 7541, 6.1 and 6.2.2).
     fifth = b"\xbf\x0f\x2f\x09websocket" + field(":path", "/five")
