@@ -248,7 +248,10 @@ def http2_has_the_ends_in_their_order(folder):
     last = [pcaps.Segment(each) for each in packets if pcaps.Segment(each).source == 80][-1]
     broken = pcaps.packet((80, 40000), last.seq + len(last.payload), 0, 4)
     pcaps.write(folder / "made.pcap", [*packets, broken])
-    same(ends(pcap2wsn(folder / "made.pcap", "0.1")[0]), reset["S"], "the connection's reset")
+    whole = pcap2wsn(folder / "made.pcap", "0.1")
+    same((ends(whole[0]), whole[1]), (reset["S"], ""), "the connection's reset")
+    (folder / "made.pcap").write_bytes((folder / "made.pcap").read_bytes() + b"cut")
+    same(pcap2wsn(folder / "made.pcap", "0.1"), whole, "a pcap that is cut short after that")
     head = [("C", frame(HEADERS, 1, asking(), END_HEADERS) + frame(DATA, 1, b"\x89\x80abcd", END_STREAM))]
     out = pcap2wsn(made(folder, [*BEGIN, *head, ("S", frame(HEADERS, 1, OK, END_HEADERS))]), "0.1")[0]
     same((ends(out), sides(out)[0]), (["C.", "S."], b"\x89\x80abcd"), "a client that doesn't wait for the answer")
