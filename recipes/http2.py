@@ -56,7 +56,7 @@ def frame_at(data: bytearray) -> Optional[Frame]:
 
 
 class Event(NamedTuple):
-    """What a side says of a stream: `head` (with fields), `data`, `end`, `reset`, or `push` (it promises the stream)."""
+    """What a side says of a stream: `head` (with fields), `data`, `end`, `reset`, or `push` (a promise of it)."""
 
     stream: int
     kind: str
@@ -87,7 +87,7 @@ class Frames:
             yield from events
 
     def step(self) -> Optional[List[Event]]:
-        """Takes one thing off: the preface, a frame, or what is there of a DATA frame; None if more bytes are needed."""
+        """Takes off the preface, a frame, or what is there of a DATA frame; None if more bytes are needed."""
         if self.preface:
             return self.take_preface()
         if self.data is not None:

@@ -97,8 +97,8 @@ class Stream(Recorded):
             self.is_whole = not self.streams.missing(OTHER[side], False)
 
     def put_reset(self) -> None:
-        """Writes the end marks of sides that a reset ended. If its sender had ended the stream, it is only the end of the
-        other side: HAProxy sends both to a client that hasn't ended it."""
+        """Writes the end marks of sides that a reset ended. If its sender had ended the stream, it is only the end of
+        the other side: HAProxy sends both to a client that hasn't ended it."""
         found = self.reset or self.streams.carrier.reset
         if found is None:
             return

@@ -46,8 +46,8 @@ class Sink:
 
 
 class Recorded:
-    """What a connection and a stream of HTTP/2 share: a name in the list, the handshake's answer, and the capture's lines
-    if there is a sink for them."""
+    """What a connection and a stream of HTTP/2 share: a name in the list, the handshake, and the capture's lines if
+    there is a sink for them."""
 
     def __init__(self, name: str, sink: Optional[Sink]):
         self.name = name

@@ -34,8 +34,8 @@ class Reader:
         self.is_cut = False
 
     def words(self) -> List[str]:
-        """The command's first words: TLS is looked for on every port, and what is in it stays as it is. With its HTTP/2,
-        tshark leaves bytes out."""
+        """The command's first words: TLS is looked for on every port, and what is in it stays as it is. With its own
+        HTTP/2 tshark leaves bytes out."""
         keys = ["-o", f"tls.keylog_file:{os.path.abspath(self.keylog)}"] if self.keylog else []
         switches = ["tcp.desegment_tcp_streams", "tcp.reassemble_out_of_order", "tcp.analyze_sequence_numbers"]
         options = [word for switch in switches for word in ("-o", f"{switch}:TRUE")]

@@ -3,6 +3,7 @@
 import collections
 import json
 import os
+import pathlib
 import struct
 
 import pcaps
@@ -158,7 +159,7 @@ def padded(kind, stream, payload, flags, padding):
 def mixed():
     """Requests in parts, with padding and priority; other streams, whose header blocks count too; DATA of each kind."""
     weight = struct.pack("!IB", 0, 200)
-    block = asking("/one")
+    block = bytes.fromhex("3fe1ff03") + asking("/one")  # First a table of 65,536 bytes (RFC 7541, 6.3 and 5.1).
     third = field(":method", "CONNECT", b"\x40") + field(":protocol", "other", b"\x40") + field(":path", "/three")
     # The entry 63 of the table, and the name of 62, which stream 3 put there (RFC 7541, 6.1 and 6.2.2).
     fifth = b"\xbf\x0f\x2f\x09websocket" + field(":path", "/five")
@@ -192,7 +193,7 @@ def mixed():
 
 @test
 def http2_takes_frames_apart(folder):
-    """Padding, priority, header blocks in parts, other streams, pushes, trailers; in segments of each size, out of order."""
+    """Padding, priority, header blocks in parts, other streams, pushes, trailers; in small segments, out of order."""
     needs_hpack()
     packets = session(mixed())
     for what, mangled in (
@@ -215,7 +216,7 @@ def http2_takes_frames_apart(folder):
 
 @test
 def http2_has_the_ends_in_their_order(folder):
-    """END_STREAM is an end, RST_STREAM a reset unless its sender had ended the stream; TCP's end or reset are of all."""
+    """END_STREAM is an end, RST_STREAM a reset unless its sender had ended the stream; TCP's are those of all."""
     needs_hpack()
     talk = [*BEGIN, *opening(1), ("C", frame(DATA, 1, b"\x81\x80abcd"))]
     cancel = frame(RST_STREAM, 1, struct.pack("!I", 8))
@@ -229,6 +230,7 @@ def http2_has_the_ends_in_their_order(folder):
         ("a reset by the client", [("C", cancel)], reset["C"], 6),
         ("a reset by the server", [("S", cancel)], reset["S"], 6),
         ("bytes on their way", [("S", cancel), late], reset["S"], 12),
+        ("trailers", [("S", frame(HEADERS, 1, field("x", "y"), END_HEADERS | END_STREAM))], ["S.", "C."], 6),
         ("bytes after its own end", [("C", end), late, ("S", end)], ["C.", "S."], 6),
         ("bytes after its own reset", [("C", cancel), late], reset["C"], 6),
         ("an answer to a reset", [("S", cancel), ("C", cancel)], reset["S"], 6),
@@ -246,13 +248,15 @@ def http2_has_the_ends_in_their_order(folder):
     last = [pcaps.Segment(each) for each in packets if pcaps.Segment(each).source == 80][-1]
     broken = pcaps.packet((80, 40000), last.seq + len(last.payload), 0, 4)
     pcaps.write(folder / "made.pcap", [*packets, broken])
-    same(ends(pcap2wsn(folder / "made.pcap", "0.1")[0]), reset["S"], "the connection's reset")
+    whole = pcap2wsn(folder / "made.pcap", "0.1")
+    same((ends(whole[0]), whole[1]), (reset["S"], ""), "the connection's reset")
+    (folder / "made.pcap").write_bytes((folder / "made.pcap").read_bytes() + b"cut")
+    same(pcap2wsn(folder / "made.pcap", "0.1"), whole, "a pcap that is cut short after that")
     head = [("C", frame(HEADERS, 1, asking(), END_HEADERS) + frame(DATA, 1, b"\x89\x80abcd", END_STREAM))]
     out = pcap2wsn(made(folder, [*BEGIN, *head, ("S", frame(HEADERS, 1, OK, END_HEADERS))]), "0.1")[0]
     same((ends(out), sides(out)[0]), (["C.", "S."], b"\x89\x80abcd"), "a client that doesn't wait for the answer")
-    head = [("C", frame(HEADERS, 1, asking(), END_HEADERS | END_STREAM))]
-    answer = [("S", frame(HEADERS, 1, OK, END_HEADERS | END_STREAM))]
-    same(ends(pcap2wsn(made(folder, [*BEGIN, *head, *answer]), "0.1")[0]), ["C.", "S."], "ends with the heads")
+    both = [("C", frame(HEADERS, 1, asking(), END_HEADERS)), ("S", frame(HEADERS, 1, OK, END_HEADERS | END_STREAM))]
+    same(ends(pcap2wsn(made(folder, [*BEGIN, *both]), "0.1")[0]), ["S.", "C."], "an end with the answer")
 
 
 @test
@@ -271,8 +275,9 @@ def http2_that_lacks_a_segment_says_so(folder):
         place = 2 + len(talk) + at
         pcaps.write(folder / "lost.pcap", pcaps.without(packets, [place]))
         out, said = pcap2wsn(folder / "lost.pcap", "0.3", status=1)
-        before, name, other = b"".join(whole[side][: at // 2]), {"C": "client", "S": "server"}[side], "CS".replace(side, "")
-        want(f"{name}: whole up to byte {len(before)} of its frames: {29 + at if at < 8 else 9} bytes missing" in said, said)
+        name, other = {"C": ("client", "S"), "S": ("server", "C")}[side]
+        before, size = b"".join(whole[side][: at // 2]), 29 + at if at < 8 else 9
+        want(f"{name}: whole up to byte {len(before)} of its frames: {size} bytes missing" in said, said)
         got = dict(zip("CS", sides(out)))
         same((got[side], got[other]), (before, b"".join(whole[other])), f"without packet {place + 1}")
         same(sides(out)[2], {other}, f"the end marks without packet {place + 1}")
@@ -331,7 +336,8 @@ def http2_says_how_a_handshake_failed(folder):
     out, said = pcap2wsn(made(folder, [*BEGIN, *talk]), "0.1")
     wrong = ["subprotocol mqtt was not offered", "extension x-one was not offered"]
     same(said.splitlines()[:2], [f"pcap2wsn: {line}" for line in wrong], "what is said of an answer")
-    same(said_in(out)[3:7], ["# subprotocol: mqtt", "# extensions: x-one; a=1", *(f"# {line}" for line in wrong)], "front")
+    front = ["subprotocol: mqtt", "extensions: x-one; a=1", *wrong]
+    same(said_in(out)[3:7], [f"# {line}" for line in front], "the front")
     get = field(":method", "GET") + field(":path", "/") + field(":scheme", "https")
     talk = [("C", frame(HEADERS, 1, get, END_HEADERS | END_STREAM)), ("S", frame(HEADERS, 1, OK, END_HEADERS))]
     want("has no WebSocket handshake" in pcap2wsn(made(folder, [*BEGIN, *talk]), status=2)[1], "another request")
@@ -351,6 +357,14 @@ def http2_that_is_malformed_says_so(folder):
         out, said = pcap2wsn(made(folder, [*talk, ("S", frame(DATA, 1, b"\x8a\0") + bad)]), "0.1", status=1)
         same(sides(out), (b"\x8a\x80abcd", b"\x89\0\x8a\0", {"C"}), what)
         same(said, "pcap2wsn: server: whole up to byte 4 of its frames: the HTTP/2 is malformed there\n", what)
+
+
+@test
+def http2_finds_the_library_of_debian(folder):
+    """Also where the recipes run by another Python than Debian's."""
+    if not pathlib.Path("/usr/lib/python3/dist-packages/hpack").exists():
+        raise Skipped("without python3-hpack")
+    want(has_hpack(), "the library isn't found")
 
 
 @test

@@ -21,8 +21,8 @@ from harness import (HERE, SAMPLES, SECONDS, TOP, WSN, Failed, Skipped, has_hpac
                      started, test, wait_for, want)  # fmt: skip
 
 # Words of a command, and the program that it needs for them.
-NEEDS = {"tls.pcap": "tshark", "chromium.keys": "tshark", "tshark": "tshark", "text2pcap": "text2pcap", "socat": "socat", "jq": "jq",
-         "mitmdump": "mitmdump", "xxd": "xxd"}  # fmt: skip
+NEEDS = {"tls.pcap": "tshark", "chromium.keys": "tshark", "tshark": "tshark", "text2pcap": "text2pcap",
+         "socat": "socat", "jq": "jq", "mitmdump": "mitmdump", "xxd": "xxd"}  # fmt: skip
 
 # The names of what a command writes.
 WRITES = r"(?:> |--out |-R |^recipes/record .* )([\w.]+)"
