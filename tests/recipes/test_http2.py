@@ -242,6 +242,8 @@ def http2_has_the_ends_in_their_order(folder):
     ):
         out, warned = pcap2wsn(made(folder, talk + said), "0.1")
         same((ends(out), len(sides(out)[0]), warned), (wanted, size, ""), what)
+    pcaps.write(folder / "made.pcap", session(talk)[:-1])
+    same(ends(pcap2wsn(folder / "made.pcap", "0.1")[0]), ["C.", "S."], "the last packet ends the connection")
     packets = session(talk)[:-3]
     pcaps.write(folder / "made.pcap", packets)
     same(ends(pcap2wsn(folder / "made.pcap", "0.1")[0]), [], "none")
