@@ -384,6 +384,8 @@ def http2_without_the_library(folder):
     out, said = pcap2wsn(folder / "both.pcap", status=1, env=environment)
     same((out.split()[0], said), (b"1", f"pcap2wsn: connection 0 {wanted}"), "the list")
     same(sides(pcap2wsn(folder / "both.pcap", "1", env=environment)[0])[1], b"\x88\0", "another session")
+    said = pcap2wsn(folder / "both.pcap", "0.1", status=2, env=environment)[1]
+    same(said, f"pcap2wsn: connection 0 of {folder / 'both.pcap'} {wanted}", "its stream")
 
 
 @test
