@@ -242,6 +242,8 @@ def http2_has_the_ends_in_their_order(folder):
     ):
         out, warned = pcap2wsn(made(folder, talk + said), "0.1")
         same((ends(out), len(sides(out)[0]), warned), (wanted, size, ""), what)
+    pcaps.write(folder / "made.pcap", session(talk)[:-1])
+    same(ends(pcap2wsn(folder / "made.pcap", "0.1")[0]), ["C.", "S."], "the last packet ends the connection")
     packets = session(talk)[:-3]
     pcaps.write(folder / "made.pcap", packets)
     same(ends(pcap2wsn(folder / "made.pcap", "0.1")[0]), [], "none")
@@ -382,6 +384,8 @@ def http2_without_the_library(folder):
     out, said = pcap2wsn(folder / "both.pcap", status=1, env=environment)
     same((out.split()[0], said), (b"1", f"pcap2wsn: connection 0 {wanted}"), "the list")
     same(sides(pcap2wsn(folder / "both.pcap", "1", env=environment)[0])[1], b"\x88\0", "another session")
+    said = pcap2wsn(folder / "both.pcap", "0.1", status=2, env=environment)[1]
+    same(said, f"pcap2wsn: connection 0 of {folder / 'both.pcap'} {wanted}", "its stream")
 
 
 @test
