@@ -25,7 +25,7 @@ function explanation(word) {
 
 /** A session as `layOut` takes it. Throws an Error if a line isn't accepted. */
 function partsOf({ name, capture }, code) {
-  const bytes = bytesOf(capture), [shown, wire] = [false, true].map(frames => code.show(bytes, frames));
+  const bytes = bytesOfCapture(capture), [shown, wire] = [false, true].map(frames => code.show(bytes, frames));
   if (shown.status === 2) throw new LineError(shown.message, capture);
   const words = wordsIn(objectsOf(shown.text));
   const explained = Object.fromEntries(words.map(word => [word, explanation(word)]));

@@ -82,7 +82,7 @@ const LABELS = {
   tail: row => [make("span", "kind", "tail"), " ", ...bytesWords("bytes", row.bytes), " after the Close"],
   end: row => [`the ${row.side}'s direction ended`],
   silence: row => [`${row.seconds.toFixed(1)} s of silence`],
-  comment: row => [field("text", "text", ...row.hex === undefined ? visible(row.text) : byteParts(bytesOf(row.hex)))],
+  comment: row => [field("text", "text", ...row.hex === undefined ? visible(row.text) : byteParts(bytesOfHex(row.hex)))],
 };
 
 /** The words on an arrow. */

@@ -38,7 +38,7 @@ function fileName(session, ending) {
   return session.name.replace(/\.capture$/, "").replace(/[^\p{L}\p{N}._ -]/gu, "_") + ending;
 }
 
-function bytesOf(capture) {
+function bytesOfCapture(capture) {
   return Uint8Array.from(capture, character => character.charCodeAt(0));
 }
 
@@ -134,7 +134,7 @@ function barOf(session, save) {
   const names = [make("span", "brand", "wsn"), make("span", "name", session.name), make("span", "gap")];
   const bar = make("header", "bar", ...names,
     button(save.label, () => offer(fileName(session, ".html"), [save.source()], "text/html")),
-    button("Save capture", () => offer(fileName(session, ".capture"), [bytesOf(session.capture)], "text/plain")),
+    button("Save capture", () => offer(fileName(session, ".capture"), [bytesOfCapture(session.capture)], "text/plain")),
     button("Light / dark", switchTheme));
   bar.querySelector("button").title = "Saves this page with its capture: one file for a ticket";
   return bar;

@@ -81,7 +81,7 @@ function frameOf(listed) {
   const least = listed.length < 126 ? 0 : listed.length < 65536 ? 2 : 8;
   const keyAt = listed.offset + 2 + ({ two: 2, eight: 8 }[listed.form] ?? least);
   const payloadAt = keyAt + (listed.key ? 4 : 0);
-  const key = listed.key && bytesOf(listed.key);
+  const key = listed.key && bytesOfHex(listed.key);
   return { ...listed, keyBytes: key, keyAt, payloadAt, end: payloadAt + listed.length };
 }
 
@@ -94,7 +94,7 @@ class Session {
     this.endedBy = objects.find(object => object.type === "ended-by") ?? null;
     this.entries = objects.filter(object => object !== this.report && object !== this.endedBy);
     for (const entry of this.entries)
-      if (entry.type === "comment") entry.text ??= escapedBytes(bytesOf(entry.hex));
+      if (entry.type === "comment") entry.text ??= escapedBytes(bytesOfHex(entry.hex));
     this.frames = { client: [], server: [] };
     this.wire = objectsOf(wire).filter(object => object.type === "frame").map(frameOf);
     for (const frame of this.wire) this.frames[frame.side].push(frame);

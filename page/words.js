@@ -77,7 +77,7 @@ function visible(text, keepLines = false) {
 }
 
 /** The bytes that digits stand for. */
-function bytesOf(hex) {
+function bytesOfHex(hex) {
   return Uint8Array.from(hex.match(/../g) ?? [], pair => parseInt(pair, 16));
 }
 
