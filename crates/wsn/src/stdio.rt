@@ -79,18 +79,23 @@ pub fn open<R: Runtime>(
     rt: &R,
     file: &Option<String>,
 ) -> Result<NamedInput<R::Reader, R::File>, u8> {
-    let Some(name) = file else {
+    open_named(rt, name_of(file))
+}
+
+/// Opens the input with this name, as [`open`] does: `-` is standard input.
+pub fn open_named<R: Runtime>(rt: &R, name: &str) -> Result<NamedInput<R::Reader, R::File>, u8> {
+    if name == "-" {
         return Ok(NamedInput::StandardInput(rt.reader()));
-    };
+    }
     match fs::open(rt, name) {
         Ok(file) => {
             if is_folder(&file) {
-                Err(diagnose_unread(rt, name.as_str(), Unread::Folder))
+                Err(diagnose_unread(rt, name, Unread::Folder))
             } else {
                 Ok(NamedInput::File(file))
             }
         }
-        Err(error) => Err(diagnose_unread(rt, name.as_str(), Unread::of(error.kind()))),
+        Err(error) => Err(diagnose_unread(rt, name, Unread::of(error.kind()))),
     }
 }
 

@@ -1,5 +1,6 @@
 -- The inputs that a command line names.
-use Rattle.std.specs.Prelude.{◌≡◌, ◌⊎◌, ℕ, Option, None, Some, IsSome, List, String, codes, string_bytes}
+use Rattle.std.specs.Prelude.{◌≡◌, ◌⊎◌, ℕ, ◌+◌, if◌then◌else◌, Option, None, Some, IsSome, List, [], ◌∷◌, String, codes, string_bytes}
+use Rattle.std.specs.Str.{bytes_eq}
 
 -- The input that a word names: standard input without a word and for `-`, and for any other word the file of that name.
 abbrev pub IsInputNamed : {A : Type 0} → Option (List ℕ) → Option (String A) → Type 0
@@ -10,3 +11,8 @@ IsInputNamed (Some word) (Some file) = (string_bytes file ≡ word) × ¬ (word 
 -- At most one of the two inputs is standard input.
 abbrev pub AreApart : {A : Type 0} → Option (String A) → Option (String A) → Type 0
 AreApart first second = IsSome first ⊎ IsSome second
+
+-- The number of the words that name standard input.
+abbrev pub dashes : List (List ℕ) → ℕ
+dashes [] = 0
+dashes (word ∷ words) = (if bytes_eq word (codes "-") then 1 else 0) + dashes words

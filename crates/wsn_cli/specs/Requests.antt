@@ -1,14 +1,14 @@
 -- The requests that a command line makes.
-use Rattle.std.specs.Prelude.{◌≡◌, ◌^◌, ℕ, Option, None, Some, IfSome, List, codes}
+use Rattle.std.specs.Prelude.{◌≡◌, ◌≤◌, ◌^◌, ℕ, Option, None, Some, IfSome, List, map, codes, string_bytes}
 use Rattle.wsn_wire.specs.declared.endpoint.Role.{Role}
 use Rattle.wsn_rules.specs.Limits.{Limits, InRange}
 use Rattle.wsn_print.specs.declared.format.Format.{Format}
 use Rattle.wsn_command.specs.Jobs.{MayRun, job_role}
 use Rattle.wsn_command.specs.declared.job.Job.{Job}
 use Rattle.wsn_command.specs.declared.job.Job.TheVariants.{Judge, Frames, Normal, Plan, Recut, Payload, ShowStream, Closing, Show}
-use Rattle.wsn_cli.specs.Inputs.{AreApart}
+use Rattle.wsn_cli.specs.Inputs.{AreApart, dashes}
 use Rattle.wsn_cli.specs.declared.request.Request.{Request}
-use Rattle.wsn_cli.specs.declared.request.Request.TheVariants.{Run, RecutBy, Same, Help}
+use Rattle.wsn_cli.specs.declared.request.Request.TheVariants.{Run, RecutBy, Same, Closings, Help}
 
 -- The limits are in range, and the input limit is the greatest: no option changes it.
 pub record AreAskedLimits (limits : Limits) : Type 0 where
@@ -65,4 +65,10 @@ CanBeDone (RecutBy role limits plan file side) =
     AreAskedLimits limits × AreApart plan file × IfSome side (λ own. own ≡ role)
 CanBeDone (Same comparison first second side) =
     AreAskedLimits comparison.limits × AreApart first second × IfSome side (λ own. own ≡ comparison.role)
+CanBeDone (Closings limits format files) = AreAskedLimits limits × (dashes (map string_bytes files.items) ≤ 1)
 CanBeDone (Help text) = Unit {0}
+
+-- The request is for the captures that these words name, in order.
+abbrev pub NamesFiles : List (List ℕ) → Request → Type 0
+NamesFiles names (Closings limits format files) = map string_bytes files.items ≡ names
+NamesFiles names request = ⊥

@@ -9,6 +9,7 @@ ghost use Rattle.wsn_command.specs.declared.job.Job.TheVariants.{Show, ShowStrea
 ghost use Rattle.wsn_cli.specs.Options.{IsAsked, IsAskedMaximum};
 ghost use Rattle.wsn_cli.specs.Requests.{AreAskedLimits, CanBeDone, job_at, job_format, job_limits, job_name};
 
+use crate::closings::closings_of;
 use crate::error_words::shown_in_errors;
 use crate::escaped::Escaped;
 use crate::explain::{explanation, list_of_words, similar_words};
@@ -16,7 +17,7 @@ use crate::help;
 use crate::mistake::Mistake;
 use crate::options::{
     at_of, check_digits, comparison_of, file, file_of, format_of, limits_of, role, role_of,
-    side_of, style_of, with_at, with_capture, with_events_view, with_file, with_json, with_limits,
+    side_of, style_of, with_at, with_capture, with_events_view, with_file, with_files, with_json, with_limits,
     with_role, with_view, with_wire, with_without,
 };
 use crate::recut_options::{recut_of, with_recuts};
@@ -47,8 +48,8 @@ enum Reads {
     StreamToCut,
     /// Two streams, sent by endpoints of one role.
     Streams,
-    /// A capture of both sides.
-    Capture,
+    /// Captures of both sides.
+    Captures,
     /// A capture of both sides, to be shown.
     CaptureToShow,
     /// Nothing: its arguments are words to be explained.
@@ -117,7 +118,7 @@ static COMMANDS: [Described; 10] = [
         name: "closing",
         about: help::CLOSING,
         details: help::CLOSING_DETAILS,
-        reads: Reads::Capture,
+        reads: Reads::Captures,
         has_json: true,
     },
     Described {
@@ -139,7 +140,7 @@ fn command<'a>(alloc: Global, described: &'a Described) -> Result<Command<'a>, A
         Reads::StreamAt => with_at(alloc, with_stream(alloc, command)?),
         Reads::StreamToCut => with_recuts(alloc, command),
         Reads::Streams => with_streams(alloc, command),
-        Reads::Capture => with_file(alloc, command),
+        Reads::Captures => with_files(alloc, command),
         Reads::CaptureToShow => with_shown(alloc, command),
         Reads::Words => return with_words(alloc, command),
     };
@@ -305,6 +306,18 @@ fn run_of(alloc: Global, name: &str, matches: &ArgMatches<'_>) -> Result<Request
     })
 }
 
+/// The request of `closing`: over one capture, or a line for each of several.
+fn closing_of(alloc: Global, matches: &ArgMatches<'_>) -> Result<Request, Usage>
+    ensures { IfOk result CanBeDone }
+{
+    let names = matches.get_strs("file").unwrap_or(&["-"]);
+    if names.len() > 1 || matches.get_flag("each") {
+        closings_of(alloc, matches, names)
+    } else {
+        run_of(alloc, "closing", matches)
+    }
+}
+
 /// The request of `same`: two inputs, and how they are compared. The error is `TwoStandardInputs` if both are
 /// standard input.
 fn same_of(alloc: Global, matches: &ArgMatches<'_>) -> Result<Request, Usage>
@@ -374,6 +387,7 @@ pub fn asked(alloc: Global, words: &[String]) -> Result<Request, Usage>
         "explain" => explained(alloc, command),
         "same" => same_of(alloc, command),
         "recut" => recut_of(alloc, command),
+        "closing" => closing_of(alloc, command),
         _ => run_of(alloc, name, command),
     }
 }

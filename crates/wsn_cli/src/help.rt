@@ -287,6 +287,11 @@ With --json it prints an object: {\"type\":\"report\",\"client\":{\"state\":\"cl
 \"code\":1000},\"server\":{\"state\":\"ended\"},\"first\":\"client\",\"echo\":null,
 \"client_sees\":1006,\"server_sees\":1000,\"outcome\":\"abnormal\"}, in one line; - is
 null, and a refused side has offset, reason and code.
+Of several FILEs, or with --each, it prints a line for each: its name, the
+outcome, and how the client's and the server's stream ended, between tabs; with
+--json the object, which begins with a member file. A FILE without an answer is
+reported on standard error after its name, and the next one is read. The status
+is the greatest of all.
 A malformed line gives status 2, and line N: WORD on standard error, with N
 from 1 and WORD too-many-lines, too-long, bad-form, bad-hex, after-end or
 input-limit.

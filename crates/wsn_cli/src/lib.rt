@@ -8,6 +8,7 @@
 //! `specs/Inputs.antt` defines which input a word names, `specs/Requests.antt` which requests can be carried out.
 #![tactic(auto)]
 
+mod closings;
 mod command_line;
 mod compared_hint;
 mod error_words;

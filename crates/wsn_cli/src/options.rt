@@ -132,6 +132,18 @@ pub fn with_capture<'a>(alloc: Global, command: Command<'a>) -> Result<Command<'
     command.arg(capture.help(help))
 }
 
+/// Adds `--each`, and the names of the files that are read in place of standard input.
+pub fn with_files<'a>(alloc: Global, command: Command<'a>) -> Result<Command<'a>, AllocError> {
+    let each = Arg::new(alloc, "each")
+        .long("each")
+        .action(ArgAction::SetTrue)
+        .help("Print a line for each FILE, also if it is one");
+    let help = "The files to read, or - for standard input; of\nseveral, a line for each\n[default: -]";
+    let files = file(alloc, "file", "FILE", help);
+    let files = files.action(ArgAction::Append).num_args(0..);
+    command.arg(each)?.arg(files)
+}
+
 /// Adds the name of the file that is read in place of standard input.
 pub fn with_file<'a>(alloc: Global, command: Command<'a>) -> Result<Command<'a>, AllocError> {
     let help = "The file to read, or - for standard input\n[default: -]";

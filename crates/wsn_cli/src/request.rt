@@ -1,6 +1,7 @@
 use crate::mistake::Mistake;
 use std::alloc::{AllocError, AllocFailed};
 use wsn_command::{Comparison, Job};
+use wsn_print::Format;
 use wsn_rules::Limits;
 use wsn_wire::Role;
 
@@ -28,6 +29,12 @@ pub enum Request {
         first: Option<String>,
         second: Option<String>,
         side: Option<Role>,
+    },
+    /// Print how the connection closed in each of these captures: files, or standard input for `-`, which is at most one.
+    Closings {
+        limits: Limits,
+        format: Format,
+        files: Vec<String>,
     },
     /// Print this text: help or the version.
     Help(String),

@@ -10,6 +10,7 @@ use Rattle.wsn_io.specs.declared.stop.Stop.TheVariants as stop
 use Rattle.wsn_print.specs.FaultText.{line_fault_line}
 use Rattle.wsn_print.specs.declared.format.Format.{Format}
 use Rattle.wsn_print.specs.Formats.{report_text}
+use Rattle.wsn_print.specs.NamedReportText.{named_report_text}
 use Rattle.wsn_print.specs.Statuses.{outcome_status}
 use Rattle.wsn_print.specs.StopText.{stop_line}
 use Rattle.wsn_show.specs.declared.showing.ShowStop.{ShowStop}
@@ -17,15 +18,25 @@ use Rattle.wsn_show.specs.declared.showing.ShowStop.TheVariants.{Capture, Write}
 use Rattle.wsn_job.specs.Channels.{Channels}
 use Rattle.wsn_job.specs.Diagnostics.{IsDiagnosed}
 
--- The report was printed, in this format; before a stop, nothing was. If a write failed, there is a report, and a prefix
--- of its text was printed.
-abbrev pub IsReportPrinted : Format → Limits → Incoming → Incoming → Outgoing → Outgoing → Result Report ShowStop → Type 0
-IsReportPrinted format limits old new before after (Ok report) =
-    IsCaptureJudged limits old new (Ok report) × IsWritten before after (report_text format report)
-IsReportPrinted format limits old new before after (Err (Capture stopped)) =
+-- The text of the report was printed; before a stop, nothing was. If a write failed, there is a report, and a prefix of
+-- its text was printed.
+abbrev pub IsTextPrinted :
+    (Report → List ℕ) → Limits → Incoming → Incoming → Outgoing → Outgoing → Result Report ShowStop → Type 0
+IsTextPrinted text limits old new before after (Ok report) =
+    IsCaptureJudged limits old new (Ok report) × IsWritten before after (text report)
+IsTextPrinted text limits old new before after (Err (Capture stopped)) =
     IsCaptureJudged limits old new (Err stopped) × (after ≡ before)
-IsReportPrinted format limits old new before after (Err Write) =
-    (report : Report) × IsCaptureJudged limits old new (Ok report) × IsPartlyWritten before after (report_text format report)
+IsTextPrinted text limits old new before after (Err Write) =
+    (report : Report) × IsCaptureJudged limits old new (Ok report) × IsPartlyWritten before after (text report)
+
+-- The report was printed in this format.
+abbrev pub IsReportPrinted : Format → Limits → Incoming → Incoming → Outgoing → Outgoing → Result Report ShowStop → Type 0
+IsReportPrinted format = IsTextPrinted (report_text format)
+
+-- The report was printed in this format, in one line with the name of the capture's file.
+abbrev pub IsNamedReportPrinted :
+    Format → List ℕ → Limits → Incoming → Incoming → Outgoing → Outgoing → Result Report ShowStop → Type 0
+IsNamedReportPrinted format name = IsTextPrinted (named_report_text format name)
 
 -- the exit status for a report or a stop: 2 for a stop
 abbrev pub closing_status : Result Report ShowStop → ℕ
@@ -47,4 +58,10 @@ IsClosingDiagnosed (Err stopped) old new = IsDiagnosed old new (closing_stop_lin
 abbrev pub IsClosingRun : Format → Limits → Channels → Channels → ℕ → Type 0
 IsClosingRun format limits before after status = (done : Result Report ShowStop)
     × IsReportPrinted format limits before.input after.input before.output after.output done
+    × (status ≡ closing_status done) × IsClosingDiagnosed done before.errors after.errors
+
+-- `closing` of one of several captures: the same, but for the text.
+abbrev pub IsNamedClosingRun : Format → List ℕ → Limits → Channels → Channels → ℕ → Type 0
+IsNamedClosingRun format name limits before after status = (done : Result Report ShowStop)
+    × IsNamedReportPrinted format name limits before.input after.input before.output after.output done
     × (status ≡ closing_status done) × IsClosingDiagnosed done before.errors after.errors

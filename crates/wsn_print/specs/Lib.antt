@@ -15,6 +15,7 @@ pub mod CharacterText
 pub mod ShownObjects
 pub mod ShownParts
 pub mod Formats
+pub mod NamedReportText
 pub mod QuotedTexts
 pub mod DifferingPayloads
 pub mod DifferenceText

@@ -13,11 +13,12 @@
 //! They take only the part of a payload that a [`ViewLimit`] shows.
 //!
 //! Each answer and each entry can also be a JSON object in one line: `put_.._object` writes it, and [`put_verdict_as`],
-//! [`put_report_as`] and [`put_compared_as`] write an answer in a [`Format`]. An [`EntryFront`] says
-//! where an entry is. [`put_difference_as`] writes a difference with the events that differ.
+//! [`put_report_as`] and [`put_compared_as`] write an answer in a [`Format`], and [`put_named_report`] the report on one of
+//! several captures. An [`EntryFront`] says where an entry is. [`put_difference_as`] writes a difference with the events
+//! that differ.
 //!
 //! `specs/Fields.antt` defines the fields of lines; `VerdictText`, `HeadText`, `ReportText`, `ComparisonText`,
-//! `FaultText`, `StopText`, `PayloadText`, `ShownText` and `CharacterText` define the lines, `Json`, `Objects` and
+//! `FaultText`, `StopText`, `PayloadText`, `NamedReportText`, `ShownText` and `CharacterText` define the lines, `Json`, `Objects` and
 //! `ShownObjects` the objects, `Formats` the texts in each format, `DifferenceText` a difference with its events,
 //! `DifferingPayloads` where their payloads differ, and `Statuses` the exit statuses. `ShownParts` says what the
 //! arguments of the functions that show an entry stand for, `QuotedTexts` what a quoted text is ([`quoted_laws`]).
@@ -43,6 +44,7 @@ mod json;
 mod kept_bytes;
 mod kept_digits;
 mod line;
+mod named_reports;
 mod object_views;
 mod objects;
 mod parts;
@@ -75,6 +77,7 @@ pub use format::{
 pub use head_lines::HeadLines;
 pub use kept_bytes::KeptBytes;
 pub use line::Line;
+pub use named_reports::put_named_report;
 pub use objects::{put_compared_object, put_report_object, put_verdict_object};
 pub use parts::{put, put_form, put_key, put_number};
 pub use payloads::{line_of_inside, line_of_nothing};

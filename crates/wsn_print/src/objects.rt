@@ -156,7 +156,7 @@ pub(crate) fn push_refusal<const MAX: usize>(line: &mut Line<MAX>, key: &str, re
     push_number_field(line, "code", u64::from(reason.code()));
 }
 
-fn line_of_report(report: &Report) -> Line<REPORT_MAX>
+pub(crate) fn line_of_report(report: &Report) -> Line<REPORT_MAX>
     ensures { result ≡ report_object report.now }
 {
     let mut line = Line::new();

@@ -23,6 +23,7 @@ ghost use Rattle.wsn_io.specs.declared.stop.Stop.TheVariants as stop;
 ghost use Rattle.wsn_print.specs.ComparisonText.{comparison_line};
 ghost use Rattle.wsn_print.specs.FaultText.{recut_fault_line, unfinished_line, line_fault_line};
 ghost use Rattle.wsn_print.specs.StopText.{stop_line};
+ghost use Rattle.wsn_print.specs.NamedReportText.{named_report_line, named_report_object};
 ghost use Rattle.wsn_print.specs.ReportText.{report_lines};
 ghost use Rattle.wsn_print.specs.Statuses.{verdict_status, comparison_status, outcome_status};
 
@@ -183,6 +184,37 @@ pub fn of_stops()
     ensures input_limit { stop_line stop.InputLimit ≡ codes "input limit\n" }
     ensures memory { stop_line stop.Memory ≡ codes "out of memory\n" }
     ensures write { stop_line stop.Write ≡ codes "write failed\n" }
+{}
+
+/// The line and the object of a report on one of several captures; a line feed in the file's name is escaped.
+pub fn of_named_reports()
+    ensures line { named_report_line (codes "a\nb.capture") (record {
+      client = side.Closed (Some 1000);
+      server = side.Refused (record { place = 11; reason = TextBad });
+      first = Some Client;
+      echo = None;
+      client_sees = Some 1006;
+      server_sees = Some 1000;
+      outcome = outcome.Failed;
+    }) ≡ codes "a\\u000ab.capture\tfailed\tclosed 1000\trefused 11 text-bad 1007\n" }
+    ensures running { named_report_line (codes "b") (record {
+      client = side.Closed None;
+      server = side.Running;
+      first = Some Client;
+      echo = None;
+      client_sees = None;
+      server_sees = Some 1005;
+      outcome = outcome.Half;
+    }) ≡ codes "b\thalf\tclosed -\trunning\n" }
+    ensures object { named_report_object (codes "a\"b") (record {
+      client = side.Cut;
+      server = side.Ended;
+      first = None;
+      echo = None;
+      client_sees = Some 1006;
+      server_sees = Some 1006;
+      outcome = outcome.Abnormal;
+    }) ≡ codes "{\"file\":\"a\\\"b\",\"type\":\"report\",\"client\":{\"state\":\"cut\"},\"server\":{\"state\":\"ended\"},\"first\":null,\"echo\":null,\"client_sees\":1006,\"server_sees\":1006,\"outcome\":\"abnormal\"}\n" }
 {}
 
 /// The seven lines of reports: each word of each field.

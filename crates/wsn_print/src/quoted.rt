@@ -29,7 +29,7 @@ pub fn put_comment<W: Write>(to: &mut Output<W>, text: &[u8]) -> Result<(), Stop
     put_line(to, b"\n")
 }
 
-fn put_comment_text<W: Write>(to: &mut Output<W>, text: &[u8]) -> Result<(), Stop>
+pub(crate) fn put_comment_text<W: Write>(to: &mut Output<W>, text: &[u8]) -> Result<(), Stop>
     requires { to.old.failed ≡ false }
     ensures { IsWrittenOrStops to.old to.new (comment_text text.now) result }
 {
