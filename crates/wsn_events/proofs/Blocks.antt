@@ -1,6 +1,6 @@
 -- Blocks of bytes that are compared at once.
 use Rattle.std.specs.Prelude.{IsTrue, nat_eq}
-use Rattle.std.proofs.Common.{◌≡◌, ℕ, ◌+◌, ◌^◌, ◌%◌, ◌≤◌, ◌↔◌, Bool, true, false, not, cond, eqb, List, [], ◌∷◌, ◌++◌, map, length, take, drop, refl, sym, ap, ◌∙◌, arith, w8, eqb-true, eq-eqb}
+use Rattle.std.proofs.Common.{◌≡◌, ℕ, ◌+◌, ◌^◌, ◌%◌, ◌<◌, ◌≤◌, ◌↔◌, Bool, true, false, not, cond, eqb, List, [], ◌∷◌, ◌++◌, map, length, take, drop, get_or, drop-cons, refl, sym, ap, ◌∙◌, arith, w8, eqb-true, eq-eqb}
 use Rattle.std.proofs.lemmas.Simd.{tops_compared, mask_l-mod, length-zip2}
 use Rattle.std.proofs.lemmas.List.{length-drop, take-take, take_all, take-append-drop}
 use lib.Seq.{take-add}
@@ -22,27 +22,33 @@ mask_of_same [] = refl
 mask_of_same (x ∷ xs) =
     ap (λ (t : Bool). mask_l (not t ∷ zip2 (λ (a b : ℕ). not (eqb a b)) xs xs)) (eq-eqb x x refl) ∙ omega (arith, mask_of_same xs)
 
--- The same of what `simd_ne` and `to_bitmask` make of two blocks.
-pub same_blocks : (xs ys : List ℕ) → length xs ≡ 64 → length ys ≡ 64 →
+-- The same of what `simd_ne` and `to_bitmask` make of two blocks of n bytes.
+pub same_blocks : (n : ℕ) (xs ys : List ℕ) → n ≤ 64 → length xs ≡ n → length ys ≡ n →
     IsTrue (nat_eq (mask_l (map (top 7) (zip2 (λ (a b : ℕ). cond (not (eqb a b)) 255 0) xs ys)) % 2 ^ 64) 0) ↔ (xs ≡ ys)
-same_blocks xs ys size others =
+same_blocks n xs ys few size others =
     let differ : ℕ → ℕ → Bool = λ a b. not (eqb a b) in
     let mask : mask_l (map (top 7) (zip2 (λ (a b : ℕ). cond (not (eqb a b)) 255 0) xs ys)) % 2 ^ 64 ≡ mask_l (zip2 (λ (a b : ℕ). not (eqb a b)) xs ys) =
     ap (λ (bs : List Bool). mask_l bs % 2 ^ 64) (tops_compared w8 (λ (a b : ℕ). not (eqb a b)) xs ys)
-    ∙ mask_l-mod (zip2 (λ (a b : ℕ). not (eqb a b)) xs ys) 64 (omega (arith, length-zip2 (λ (a b : ℕ). not (eqb a b)) xs ys (size ∙ sym others), size)) in (
+    ∙ mask_l-mod (zip2 (λ (a b : ℕ). not (eqb a b)) xs ys) 64 (omega (arith, length-zip2 (λ (a b : ℕ). not (eqb a b)) xs ys (size ∙ sym others), size, few)) in (
       λ none. same_of_mask xs ys (size ∙ sym others) (sym mask ∙ eqb-true _ _ none),
       λ same. eq-eqb _ _ (mask ∙ ap (λ (zs : List ℕ). mask_l (zip2 (λ (a b : ℕ). not (eqb a b)) xs zs)) (sym same) ∙ mask_of_same xs),
     )
 
--- A longer prefix is the same, by a block.
-pub same_further : (at : ℕ) (xs ys : List ℕ) → take at xs ≡ take at ys → take 64 (drop at xs) ≡ take 64 (drop at ys) → take (at + 64) xs ≡ take (at + 64) ys
-same_further at xs ys front block =
-    take-add at 64 xs ∙ ap (λ (bs : List ℕ). bs ++ take 64 (drop at xs)) front ∙ ap (λ (bs : List ℕ). take at ys ++ bs) block ∙ sym (take-add at 64 ys)
+-- A longer prefix is the same, by a block of n bytes.
+pub same_further : (n at : ℕ) (xs ys : List ℕ) → take at xs ≡ take at ys → take n (drop at xs) ≡ take n (drop at ys) → take (at + n) xs ≡ take (at + n) ys
+same_further n at xs ys front block =
+    take-add at n xs ∙ ap (λ (bs : List ℕ). bs ++ take n (drop at xs)) front ∙ ap (λ (bs : List ℕ). take at ys ++ bs) block ∙ sym (take-add at n ys)
 
--- Bytes are the same if a prefix is, and a block that begins there or earlier and ends with them.
-pub same_to_end : (at last : ℕ) (xs ys : List ℕ) → length xs ≡ length ys → length xs ≡ last + 64 → last ≤ at → take at xs ≡ take at ys → take 64 (drop last xs) ≡ take 64 (drop last ys) → xs ≡ ys
-same_to_end at last xs ys both size reached front block =
+-- Bytes are the same if a prefix is, and a block of n bytes that begins there or earlier and ends with them.
+pub same_to_end : (n at last : ℕ) (xs ys : List ℕ) → length xs ≡ length ys → length xs ≡ last + n → last ≤ at → take at xs ≡ take at ys → take n (drop last xs) ≡ take n (drop last ys) → xs ≡ ys
+same_to_end n at last xs ys both size reached front block =
     let start : take last xs ≡ take last ys = sym (take-take last at xs reached) ∙ ap (λ (bs : List ℕ). take last bs) front ∙ take-take last at ys reached in
     let end : drop last xs ≡ drop last ys =
-    sym (take_all 64 (drop last xs) (omega (arith, length-drop last xs, size))) ∙ block ∙ take_all 64 (drop last ys) (omega (arith, length-drop last ys, size, both)) in
+    sym (take_all n (drop last xs) (omega (arith, length-drop last xs, size))) ∙ block ∙ take_all n (drop last ys) (omega (arith, length-drop last ys, size, both)) in
     sym (take-append-drop last xs) ∙ ap (λ (bs : List ℕ). bs ++ drop last xs) start ∙ ap (λ (bs : List ℕ). take last ys ++ bs) end ∙ take-append-drop last ys
+
+-- One byte more is the same.
+pub same_byte : (at : ℕ) (xs ys : List ℕ) → at < length xs → at < length ys → take at xs ≡ take at ys → get_or xs at 0 ≡ get_or ys at 0 → take (at + 1) xs ≡ take (at + 1) ys
+same_byte at xs ys one two front same =
+    same_further 1 at xs ys front
+    (ap (λ (bs : List ℕ). take 1 bs) (drop-cons xs at 0 one) ∙ ap (λ (b : ℕ). b ∷ []) same ∙ sym (ap (λ (bs : List ℕ). take 1 bs) (drop-cons ys at 0 two)))

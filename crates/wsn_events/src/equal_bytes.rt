@@ -6,17 +6,55 @@ use std::simd::prelude::*;
 /// The number of bytes in a block.
 const BLOCK: usize = 64;
 
-/// Whether both have the same bytes, by blocks of 64. The last block overlaps the one before it.
+/// The number of bytes in a short block.
+const WORD: usize = 4;
+
+/// Whether both have the same bytes. Up to three are compared one by one, others by blocks, the last of which overlaps the
+/// one before it: at most eight by two of 4, and 64 or more by blocks of 64.
 #[inline(always)]
 pub(crate) fn are_equal(bytes: &[u8], others: &[u8]) -> bool
     ensures { IsTrue result ↔ (bytes.now ≡ others.now) }
 {
-    if bytes.len() != others.len() {
+    let len = bytes.len();
+    if len != others.len() {
         return false;
     }
-    let Some(last) = bytes.len().checked_sub(BLOCK) else {
+    if len >= BLOCK {
+        return are_equal_in_blocks(bytes, others);
+    }
+    if len > 2 * WORD {
         return bytes == others;
-    };
+    }
+    if len < WORD {
+        return are_equal_each(bytes, others);
+    }
+    are_equal_words(bytes, others, 0) && are_equal_words(bytes, others, len - WORD)
+}
+
+/// Whether both, of the same number of bytes, have the same ones.
+#[inline(always)]
+fn are_equal_each(bytes: &[u8], others: &[u8]) -> bool
+    requires { length bytes.now ≡ length others.now }
+    ensures { IsTrue result ↔ (bytes.now ≡ others.now) }
+{
+    let mut at = 0;
+    while at < bytes.len() {
+        if bytes[at] != others[at] {
+            return false;
+        }
+        at += 1;
+    }
+    true
+}
+
+/// Whether both, of the same number of bytes, at least 64, have the same ones.
+#[inline(always)]
+fn are_equal_in_blocks(bytes: &[u8], others: &[u8]) -> bool
+    requires long { BLOCK ≤ length bytes.now }
+    requires same { length bytes.now ≡ length others.now }
+    ensures { IsTrue result ↔ (bytes.now ≡ others.now) }
+{
+    let last = bytes.len() - BLOCK;
     let mut at = 0;
     while at < last {
         if !are_equal_blocks(bytes, others, at) {
@@ -36,6 +74,17 @@ fn are_equal_blocks(bytes: &[u8], others: &[u8], at: usize) -> bool
     let block = u8x64::from_slice(&bytes[at..]);
     let other = u8x64::from_slice(&others[at..]);
     block.simd_ne(other).to_bitmask() == 0
+}
+
+/// Whether the four bytes of both from offset `at` on are the same.
+#[inline(always)]
+fn are_equal_words(bytes: &[u8], others: &[u8], at: usize) -> bool
+    requires { (at + WORD ≤ length bytes.now) × (at + WORD ≤ length others.now) }
+    ensures { IsTrue result ↔ (take WORD (drop at bytes.now) ≡ take WORD (drop at others.now)) }
+{
+    let word = u8x4::from_slice(&bytes[at..]);
+    let other = u8x4::from_slice(&others[at..]);
+    word.simd_ne(other).to_bitmask() == 0
 }
 
 /// The number of bytes at the beginning that are the same in both.

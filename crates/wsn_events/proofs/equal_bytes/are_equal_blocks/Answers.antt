@@ -5,5 +5,5 @@ use Rattle.wsn_events.proofs.equal_bytes.are_equal_blocks.Goals as goal
 pub returns : goal.returns
 returns c =
     let at = c.args.at in
-    same_blocks _ _ (length-take-le 64 (drop at c.args.bytes.now) (omega (arith, length-drop at c.args.bytes.now, c.requires.0)))
+    same_blocks 64 _ _ (omega arith) (length-take-le 64 (drop at c.args.bytes.now) (omega (arith, length-drop at c.args.bytes.now, c.requires.0)))
     (length-take-le 64 (drop at c.args.others.now) (omega (arith, length-drop at c.args.others.now, c.requires.1)))

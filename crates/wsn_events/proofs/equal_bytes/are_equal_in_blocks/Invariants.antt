@@ -1,5 +1,5 @@
 use Rattle.std.proofs.Common.{◌≡◌, ◌+◌, ◌-◌, ◌<◌, take}
-use Rattle.wsn_events.proofs.equal_bytes.are_equal.Given as goal
+use Rattle.wsn_events.proofs.equal_bytes.are_equal_in_blocks.Given as goal
 
 -- The bytes before `at` are the same.
 abbrev pub invariant-loop-at : goal.invariant-loop-at
