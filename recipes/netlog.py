@@ -22,6 +22,7 @@ CHUNK = 1 << 20  # The characters that are read at once.
 RESET = -101  # ERR_CONNECTION_RESET, as the log has it.
 UNKNOWN = "the log lacks its connection's beginning, or has TLS inside TLS there, or it isn't TCP"
 UPGRADED = -173  # ERR_WS_UPGRADE, with which a request ends once its connection is a WebSocket.
+UNPACKING = EOFError, zlib.error, gzip.BadGzipFile  # What is raised where a gzip file is cut or damaged.
 CLIENT, SERVER = 0, 1  # The directions of a connection.
 
 
@@ -34,6 +35,14 @@ def opened(path: str) -> BinaryIO:
     file = sys.stdin.buffer if path == "-" else open(path, "rb")
     is_packed = file.peek(2)[:2] == b"\x1f\x8b"
     return gzip.GzipFile(fileobj=file) if is_packed else file  # type: ignore[return-value]
+
+
+def front_of(file: BinaryIO) -> bytes:
+    """The first two bytes, which stay. NoNetLog, if they can't be unpacked."""
+    try:
+        return file.peek(2)[:2]  # type: ignore[attr-defined, no-any-return]
+    except UNPACKING as error:
+        raise NoNetLog("it can't be unpacked") from error
 
 
 class Event(NamedTuple):
@@ -65,7 +74,7 @@ class Text:
         self.at = 0
         try:
             read = self.file.read(max(CHUNK, len(self.text)))
-        except (EOFError, zlib.error, gzip.BadGzipFile):
+        except UNPACKING:
             read = ""
         if not read:
             raise Cut
@@ -147,7 +156,8 @@ class Log:
     def take_constants(self, constants: Any) -> None:
         """Reads the names of events, phases and errors, and the time's beginning."""
         try:
-            self.names = {constants["logEventTypes"][name]: name for name in NAMES if name in constants["logEventTypes"]}
+            types = constants["logEventTypes"]
+            self.names = {types[name]: name for name in NAMES if name in types}
             phases = constants["logEventPhase"]
             self.phases = {number: name.removeprefix("PHASE_") for name, number in phases.items()}
             self.errors = {number: name for name, number in constants.get("netError", {}).items()}
@@ -163,8 +173,9 @@ class Log:
                 return None
             time = (int(given["time"]) + self.offset) * 1000
             phase = self.phases.get(given["phase"], "")
-            parameters = given.get("params")
-            return Event(name, phase, int(given["source"]["id"]), time, parameters if isinstance(parameters, dict) else {})
+            given_parameters = given.get("params")
+            parameters = given_parameters if isinstance(given_parameters, dict) else {}
+            return Event(name, phase, int(given["source"]["id"]), time, parameters)
         except (KeyError, TypeError, ValueError) as error:
             raise NoNetLog(f"an event isn't a net log's: {str(given)[:80]}") from error
 

@@ -3,7 +3,8 @@
     netlogs.py FOLDER
 
 Writes NAME.json, cut down to the events of these sessions, and for each session NAME/PATH.capture: what recipes/record
-wrote between the browser, or HAProxy after it, and the server. Required: Chromium, haproxy, openssl, python3-websockets.
+wrote between the browser, or HAProxy after it, and the server. Required: Chromium, haproxy, openssl and
+python3-websockets.
 """
 
 import base64
@@ -211,15 +212,16 @@ def cut_down(whole, kept, ports):
     events = [each for each in log["events"]
               if each["source"]["id"] in mine and not left_out.search(names[each["type"]])]  # fmt: skip
     used = {"logEventTypes": {event["type"] for event in events}, "netError": {0, -101, -102, -173}}
-    small = {name: constants[name] for name in ("logCaptureMode", "logEventPhase", "logFormatVersion", "timeTickOffset")}
+    whole_ones = "logCaptureMode", "logEventPhase", "logFormatVersion", "timeTickOffset"
+    small = {name: constants[name] for name in whole_ones}
     for name, numbers in used.items():
         small[name] = {word: number for word, number in constants[name].items() if number in numbers}
 
     def line(value):
         return json.dumps(value, separators=(",", ":"), sort_keys=True)
 
-    text = ",\n".join(map(line, events))
-    kept.write_text(f'{{"constants":{line(small)},\n"events": [\n{text}],\n"polledData": [{{}}]\n}}\n', encoding="utf-8")
+    front, text = f'{{"constants":{line(small)},\n"events": [\n', ",\n".join(map(line, events))
+    kept.write_text(f'{front}{text}],\n"polledData": [{{}}]\n}}\n', encoding="utf-8")
 
 
 if __name__ == "__main__":

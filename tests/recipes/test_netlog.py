@@ -1,5 +1,5 @@
-"""recipes/netlog2wsn: recorded net logs of Chromium, the same mangled, and logs made here, of which it is known what they
-have."""
+"""recipes/netlog2wsn: recorded net logs of Chromium, the same mangled, and logs made here, of which it is known what
+they have."""
 
 import base64
 import gzip
@@ -30,8 +30,8 @@ def rows_of(out):
 
 
 def gives_what_was_seen(folder, name, status=0):
-    """A log has the sessions that recipes/record saw, and their bytes. After the browser closed the socket it lacks what
-    the server sent."""
+    """A log has the sessions that recipes/record saw, and their bytes. It lacks what the server sent after the browser
+    closed the socket."""
     if name == "h2" and not has_hpack():
         return
     rows = rows_of(netlog2wsn(folder / f"{name}.json", status=status)[0])
@@ -58,7 +58,8 @@ def netlog_gives_what_the_recorder_saw(folder):
     out, said = netlog2wsn(NETLOG / "ws.json")
     rows = rows_of(out)
     same(rows["forbidden"][6:9], ["0", "0", "HTTP 403"], "a handshake that failed")
-    same(ends(netlog2wsn(NETLOG / "ws.json", rows["reset"][0])[0])[-3:], ["# reset by the server", "S.", "C."], "a reset")
+    out = netlog2wsn(NETLOG / "ws.json", rows["reset"][0])[0]
+    same(ends(out), ["# reset by the server", "S.", "C."], "a reset")
     want(re.search(r"no request for ws://127.0.0.1:\d+/nowhere was sent: ERR_CONNECTION_REFUSED\n", said), said)
     want(said.count(SECRETS) == 1, f"the warning: {said}")
     same(netlog2wsn(NETLOG / "ws.json", rows["chat"][0])[1], "", "what is said of a capture")
@@ -103,8 +104,8 @@ def events_of(text):
 
 @test
 def netlog_cut_anywhere_says_so(folder):
-    """Cut inside an event: what came before it is there, and nothing else; no end of the client, status 1 or, before the
-    handshake is whole, 2."""
+    """Cut inside an event: what came before it is there, and nothing else; no end of the client, status 1. Before the
+    handshake is whole, status 2."""
     for name, layer in ("ws", ""), ("wss", "SSL_"):
         text = (NETLOG / f"{name}.json").read_text()
         lines = text.splitlines(keepends=True)
@@ -131,6 +132,7 @@ NAMES = ["SOCKET_ALIVE", "TCP_CONNECT", "SSL_CONNECT", "SOCKS5_CONNECT", "SOCKET
          "HTTP_TRANSACTION_SEND_REQUEST_HEADERS", "WEBSOCKET_RECV_FRAME_HEADER", "SOMETHING"]  # fmt: skip
 BEGUN = [("SOCKET_ALIVE", 1, {}), ("TCP_CONNECT", 2, {"local_address": "[::1]:40000", "remote_address": "[::1]:80"})]
 CLOSED = ("SOCKET_ALIVE", 2, {})
+SENT = ("HTTP_TRANSACTION_SEND_REQUEST_HEADERS", 0, {}, 9)  # That of source 9.
 
 
 def passed(side, data, layer=""):
@@ -198,15 +200,16 @@ def netlog_through_proxies(folder):
         log = made(folder, [*BEGUN, *before, CLOSED])
         same(sides(netlog2wsn(log, "7")[0]), (CLOSE, HELLO, {"C"}), what)
         same(netlog2wsn(log)[0].count(b"\n"), 1, f"{what}: the list")
-    request = [("REQUEST_ALIVE", 1, {"url": "wss://a:80/chat?key=x"}, 9), ("HTTP_TRANSACTION_SEND_REQUEST_HEADERS", 0, {}, 9)]
+    request = [("REQUEST_ALIVE", 1, {"url": "wss://a:80/chat?key=x"}, 9), SENT]
     said = netlog2wsn(made(folder, [*BEGUN, *request, tls, tls, *inside]), status=2)[1]
-    want("has no WebSocket handshake: wss://a:80/chat isn't listed: the log lacks" in said and "TLS inside TLS" in said, said)
+    want("has no WebSocket handshake: wss://a:80/chat isn't listed: " in said and "TLS inside TLS" in said, said)
 
 
 @test
 def netlog_says_what_the_list_lacks(folder):
-    """WebSockets that no connection of the log has, and those that were open before it began: status 1, or 2 for none."""
-    asked = ("REQUEST_ALIVE", 1, {"url": "ws://a/other?key=x"}, 9), ("HTTP_TRANSACTION_SEND_REQUEST_HEADERS", 0, {}, 9)
+    """WebSockets that no connection of the log has, and those that were open before it began: status 1, or 2 without any
+    other."""
+    asked = ("REQUEST_ALIVE", 1, {"url": "ws://a/other?key=x"}, 9), SENT
     early = ("WEBSOCKET_RECV_FRAME_HEADER", 0, {}, 10)
     unsent = ("REQUEST_ALIVE", 1, {"url": "ws://b/"}, 11), ("REQUEST_ALIVE", 2, {"net_error": -105}, 11)
     for what, more, words, status in (
@@ -222,7 +225,8 @@ def netlog_says_what_the_list_lacks(folder):
     silent = [(name, phase, {"byte_count": len(each.get("bytes", "x"))}) for name, phase, each in TALK]
     said = netlog2wsn(made(folder, [*BEGUN, *silent]), status=2)[1]
     want("has no bytes: record it with --net-log-capture-mode=Everything" in said, said)
-    out, said = netlog2wsn(made(folder, [*BEGUN, *TALK, silent[1], passed("S", HELLO), passed("C", CLOSE)]), "7", status=1)
+    log = made(folder, [*BEGUN, *TALK, silent[1], passed("S", HELLO), passed("C", CLOSE)])
+    out, said = netlog2wsn(log, "7", status=1)
     same(sides(out), (CLOSE * 2, HELLO, set()), "bytes that the log lacks")
     want("server: whole up to byte 7 of its frames: the net log has no bytes of what comes then" in said, said)
 
@@ -245,13 +249,16 @@ def netlog_that_is_none(folder):
     """What is no net log, and what has no WebSocket: a line that says so, and what to do; status 2, nothing written."""
     text = (NETLOG / "ws.json").read_text()
     files = {"empty.json": "", "text.json": "no log\n", "other.json": '{"a": 1}', "list.json": "[1, 2]",
-             "some.har": '{"log": {"version": "1.2", "entries": []}}', "some.capture": "C 8180\n", "begun.json": text[:300],
-             "odd.json": '{"constants": {"logEventTypes": 1}, "events": []}', "deep.json": '{"a":' + "[" * 100_000}  # fmt: skip
+             "some.har": '{"log": {"version": "1.2", "entries": []}}', "some.capture": "C 8180\n",
+             "odd.json": '{"constants": {"logEventTypes": 1}, "events": []}', "begun.json": text[:300],
+             "deep.json": '{"a":' + "[" * 100_000}  # fmt: skip
     for name, content in files.items():
         (folder / name).write_text(content)
     (folder / "cut.gz").write_bytes(gzip.compress(text.encode())[:90])
+    (folder / "odd.gz").write_bytes(b"\x1f\x8bodd, not gzip")
     shutil.copy(SAMPLES / "basic.pcap", folder)
-    plain = made(folder, [*BEGUN, passed("C", b"GET / HTTP/1.1\r\n\r\n"), passed("S", b"HTTP/1.1 200 OK\r\n\r\n"), CLOSED])
+    page = [passed("C", b"GET / HTTP/1.1\r\n\r\n"), passed("S", b"HTTP/1.1 200 OK\r\n\r\n")]
+    plain = made(folder, [*BEGUN, *page, CLOSED])
     for words, wanted in (
         (["empty.json"], "empty.json is no net log of Chromium: it is empty"),
         (["text.json"], "it isn't JSON"),
@@ -262,6 +269,7 @@ def netlog_that_is_none(folder):
         (["odd.json"], "its constants aren't a net log's"),
         (["deep.json"], "no net log of Chromium"),
         (["cut.gz"], "no net log of Chromium"),
+        (["odd.gz"], "odd.gz is no net log of Chromium: it can't be unpacked"),
         (["some.capture"], "some.capture is a capture already, and no net log: wsn show some.capture"),
         (["basic.pcap"], "basic.pcap is a pcap, and no net log: recipes/pcap2wsn reads it"),
         (["nowhere.json"], "nowhere.json: No such file"),
