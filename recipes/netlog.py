@@ -9,6 +9,7 @@ import binascii
 import gzip
 import io
 import json
+import re
 import sys
 import zlib
 from typing import Any, BinaryIO, Callable, Dict, Iterator, List, NamedTuple, Optional, Set, TextIO, Tuple
@@ -19,6 +20,7 @@ from sessions import Session
 from streams import Connection, Direction
 
 CHUNK = 1 << 20  # The characters that are read at once.
+LATEST = 253_402_300_800_000_000  # The end of the year 9999, in microseconds since 1970.
 RESET = -101  # ERR_CONNECTION_RESET, as the log has it.
 UNKNOWN = "the log lacks its connection's beginning, or has TLS inside TLS there, or it isn't TCP"
 UPGRADED = -173  # ERR_WS_UPGRADE, with which a request ends once its connection is a WebSocket.
@@ -172,6 +174,8 @@ class Log:
             if name is None:
                 return None
             time = (int(given["time"]) + self.offset) * 1000
+            if not 0 <= time < LATEST:
+                raise ValueError(time)
             phase = self.phases.get(given["phase"], "")
             given_parameters = given.get("params")
             parameters = given_parameters if isinstance(given_parameters, dict) else {}
@@ -258,7 +262,7 @@ class Socket:
         size = event.parameters.get("byte_count")
         if index == SERVER and size == 0:
             self.session.add(SERVER, event.time, FIN)
-        elif layer == self.layers and not self.in_proxy and isinstance(size, int):
+        elif layer == self.layers and not self.in_proxy and isinstance(size, int) and size > 0:
             self.session.add(index, event.time, 0, size, data_of(event)[:size])
 
 
@@ -271,10 +275,10 @@ def data_of(event: Event) -> bytes:
 
 
 class Request:
-    """A request for a WebSocket: its URL without the query, which often holds a password, and how it ended."""
+    """A request for a WebSocket: its URL without the parts that can hold a password, and how it ended."""
 
     def __init__(self, url: str):
-        self.url = url.partition("?")[0].partition("#")[0]
+        self.url = re.sub(r"//[^/]*@", "//", url.partition("?")[0].partition("#")[0], count=1)
         self.is_sent = False
         self.error = ""
 
@@ -304,10 +308,10 @@ class Requests:
 
     def take_known(self, request: Request, event: Event, errors: Dict[int, str]) -> None:
         """An event of a request for a WebSocket."""
-        number = event.parameters.get("net_error", 0)
+        number = event.parameters.get("net_error")
         if event.name in SENDS or number == UPGRADED:
             request.is_sent = True
-        elif event.name == "REQUEST_ALIVE" and event.phase == "END" and number:
+        elif event.name == "REQUEST_ALIVE" and event.phase == "END" and isinstance(number, int):
             request.error = errors.get(number, str(number))
 
     def unsent(self) -> List[str]:

@@ -211,7 +211,7 @@ def netlog_says_what_the_list_lacks(folder):
     other."""
     asked = ("REQUEST_ALIVE", 1, {"url": "ws://a/other?key=x"}, 9), SENT
     early = ("WEBSOCKET_RECV_FRAME_HEADER", 0, {}, 10)
-    unsent = ("REQUEST_ALIVE", 1, {"url": "ws://b/"}, 11), ("REQUEST_ALIVE", 2, {"net_error": -105}, 11)
+    unsent = ("REQUEST_ALIVE", 1, {"url": "ws://me:key=x@b/"}, 11), ("REQUEST_ALIVE", 2, {"net_error": -105}, 11)
     for what, more, words, status in (
         ("nothing", [], "", 0),
         ("another request", asked, "ws://a/other isn't listed: the log lacks its connection's beginning", 1),
