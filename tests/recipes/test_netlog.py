@@ -148,10 +148,10 @@ def made(folder, events, source=7):
     constants = {"logEventTypes": {name: at for at, name in enumerate(NAMES)}, "timeTickOffset": 1_700_000_000_000,
                  "logEventPhase": {"PHASE_NONE": 0, "PHASE_BEGIN": 1, "PHASE_END": 2},
                  "netError": {"ERR_NAME_NOT_RESOLVED": -105}}  # fmt: skip
-    told = [{"type": NAMES.index(name), "phase": phase, "params": parameters, "time": str(1000 + at),
-             "source": {"id": other[0] if other else source, "type": 1}}
-            for at, (name, phase, parameters, *other) in enumerate(events)]  # fmt: skip
-    (folder / "made.json").write_text(json.dumps({"constants": constants, "events": told, "polledData": []}))
+    written = [{"type": NAMES.index(name), "phase": phase, "params": parameters, "time": str(1000 + at),
+                "source": {"id": other[0] if other else source, "type": 1}}
+               for at, (name, phase, parameters, *other) in enumerate(events)]  # fmt: skip
+    (folder / "made.json").write_text(json.dumps({"constants": constants, "events": written, "polledData": []}))
     return folder / "made.json"
 
 
