@@ -108,7 +108,7 @@ class Layout:
         if not end or "\n" in text[start:end]:
             return "text", self.lines(text)
         parts = PARTS.findall(text, start, end)
-        is_spaced = are_spaced(parts)
+        is_spaced = ", " in text and are_spaced(parts)
         rows = indented(parts, is_spaced)
         if not (text.isascii() and text.isprintable()):
             rows = [self.escaped(row) for row in rows]

@@ -4,9 +4,9 @@ import itertools
 import json
 import random
 import re
+import resource
 import struct
 import sys
-import time
 
 from harness import SAMPLES, SECONDS, TOP, WSN, needs, run, same, test, want
 
@@ -230,9 +230,10 @@ def said_of_many_messages_takes_seconds(folder):
     for name, planted in zip(names, ((), (5, 99_000))):
         capture(name, "S", [frame(FIN | TEXT, message.format(at, -at if at in planted else at).encode())
                             for at in range(100_000)])  # fmt: skip
-    began = time.monotonic()
+    before = resource.getrusage(resource.RUSAGE_CHILDREN)
     out, _ = run("env", f"WSN={WSN}", TOP / "recipes/check", "--diff", *names, status=1)
-    seconds = time.monotonic() - began
+    after = resource.getrusage(resource.RUSAGE_CHILDREN)
+    seconds = after.ru_utime + after.ru_stime - before.ru_utime - before.ru_stime
     changed = [line[0] + line[1:].strip() for line in out.decode().splitlines() if '"bid"' in line and line[0] in "+-"]
     same(changed, ['-"bid":5.25,', '+"bid":-5.25,', '-"bid":99000.25,', '+"bid":-99000.25,'], "what differs")
-    want(seconds < SECONDS, f"{seconds:.0f} seconds")
+    want(seconds < SECONDS, f"{seconds:.0f} seconds of a processor")
