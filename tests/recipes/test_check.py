@@ -196,6 +196,8 @@ def no_recipe_builds_the_program(folder):
     same((out.split(b"\t")[8], said.decode()), (b"-", f"pcap2wsn: the outcomes are left out: {why}\n"), "outcomes")
     same((folder / "one/0.capture").exists(), True, "its capture")
     same((folder / "calls").read_text(), "no --version\n" * 5, "what the launcher is asked")
+    _, said = run("env", f"WSN={folder}/none", folder / "recipes/said", capture, "client", status=2)
+    same(said.decode(), f"said: WSN names {folder}/none, and that is no program that can be run\n", "a wrong WSN")
     (folder / "calls").unlink()
     made = folder / "crates/wsn/out/wsn"
     made.parent.mkdir(parents=True)
