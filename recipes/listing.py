@@ -13,7 +13,7 @@ from typing import BinaryIO, Dict, Iterator, List, Optional
 from captures import comment, seconds, time_of_day
 from http2 import NO_LIBRARY
 from names import called, named
-from program import program
+from program import NoProgram, program
 from recorded import OF_EXTENSIONS, Recorded, Sink
 from sessions import Session
 from streams import Connection
@@ -195,17 +195,18 @@ def capture_of(reading: Reading, session: Recorded) -> pathlib.Path:
 
 
 def put_rows(reading: Reading, found: List[Recorded], paths: List[pathlib.Path]) -> None:
-    """Prints the list. For a list alone the program isn't built, since that takes long."""
-    words: List[str] = []
+    """Prints the list, without outcomes if the program isn't there: it takes half an hour to build."""
+    path = ""
     if any(session.lines is not None for session in found):
-        words = program(reading.asked.folder is not None)
-        if not words and reading.asked.folder is None:
-            say("the outcomes are missing, since the program wsn isn't here: build it, or name it by WSN=FILE")
+        try:
+            path = program()
+        except NoProgram as missing:
+            say(f"the outcomes are left out: {missing}")
     if reading.asked.folder is None and any(session.extensions != "-" for session in found):
         inflate = named("recipes/inflate")
         say(f"warning: frames that use an extension are refused; {inflate} takes permessage-deflate away")
     with concurrent.futures.ThreadPoolExecutor(os.cpu_count()) as pool:
-        for session, outcome in zip(found, pool.map(outcome_of, paths, itertools.repeat(words))):
+        for session, outcome in zip(found, pool.map(outcome_of, paths, itertools.repeat(path))):
             print(*row(session), reading.failed(session) or outcome, session.extensions, sep="\t")
 
 
@@ -218,14 +219,18 @@ def row(session: Recorded) -> List[str]:
     return [*numbers, *session.nodes, session.path, str(count["C"]), str(count["S"])]
 
 
-def outcome_of(path: pathlib.Path, words: List[str]) -> str:
-    """The outcome that `wsn closing` prints of a capture; - without one, or without the words that run the program."""
-    if not words or not path.exists():
+def outcome_of(path: pathlib.Path, wsn: str) -> str:
+    """The outcome that `wsn closing` prints of a capture, and the sides at fault; - without one, or without wsn."""
+    if not wsn or not path.exists():
         return "-"
     with open(path, "rb") as file:
-        done = subprocess.run([*words, "closing"], stdin=file, capture_output=True, check=False)
-    found = re.search(rb"^outcome (\S+)$", done.stdout, re.MULTILINE)
-    return found[1].decode() if found else "-"
+        done = subprocess.run([wsn, "closing"], stdin=file, capture_output=True, check=False)
+    report = done.stdout.decode(errors="replace")
+    found = re.search(r"^outcome (\S+)$", report, re.MULTILINE)
+    if not found:
+        return "-"
+    refused = re.findall(r"^(client|server) refused (\S+ \S+) ", report, re.MULTILINE)
+    return " ".join(filter(None, [found[1], ", ".join(map(" ".join, refused))]))
 
 
 def is_capture(front: bytes) -> bool:

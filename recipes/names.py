@@ -4,7 +4,7 @@ import os
 import sys
 
 INSTALLED = {"record": "wsn-record", "pcap2wsn": "wsn-pcap", "netlog2wsn": "wsn-netlog", "inflate": "wsn-inflate",
-             "check": "wsn-check", "build": "wsn-page"}  # fmt: skip
+             "check": "wsn-check", "said": "wsn-said", "build": "wsn-page"}  # fmt: skip
 
 
 def called() -> str:

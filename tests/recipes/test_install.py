@@ -12,7 +12,8 @@ from harness import SECONDS, TOP, WSN, Failed, needs, run, same, test, want
 
 FILES = ["bin/wsn", "share/bash-completion/completions/wsn", "share/man/man1/wsn.1", "share/zsh/site-functions/_wsn"]
 COMMANDS = {"wsn-check": "recipes/check", "wsn-inflate": "recipes/inflate", "wsn-netlog": "recipes/netlog2wsn",
-            "wsn-page": "page/build", "wsn-pcap": "recipes/pcap2wsn", "wsn-record": "recipes/record"}  # fmt: skip
+            "wsn-page": "page/build", "wsn-pcap": "recipes/pcap2wsn", "wsn-record": "recipes/record",
+            "wsn-said": "recipes/said"}  # fmt: skip
 
 
 def environment(**more):
