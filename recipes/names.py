@@ -3,8 +3,8 @@
 import os
 import sys
 
-INSTALLED = {"record": "wsn-record", "pcap2wsn": "wsn-pcap", "inflate": "wsn-inflate", "check": "wsn-check",
-             "build": "wsn-page"}  # fmt: skip
+INSTALLED = {"record": "wsn-record", "pcap2wsn": "wsn-pcap", "netlog2wsn": "wsn-netlog", "inflate": "wsn-inflate",
+             "check": "wsn-check", "said": "wsn-said", "build": "wsn-page"}  # fmt: skip
 
 
 def called() -> str:

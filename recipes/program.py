@@ -5,29 +5,46 @@ import os
 import pathlib
 import shutil
 import subprocess
-from typing import List
+
+ELSE = "or name a built program by WSN=FILE"
+
+
+class NoProgram(Exception):
+    """Why there is no program to call, and what to run."""
 
 
 @functools.lru_cache(maxsize=None)
-def program(builds: bool = True) -> List[str]:
-    """The words that run it: $WSN, the repository's or the installed one, or the one in PATH; none without any.
+def program() -> str:
+    """The path of the program: $WSN, the repository's or the installed one, or the one in PATH.
 
-    The repository's is built first, unless `builds` is False: then it is the one that is built already, or none.
+    No recipe builds it, since its proof takes half an hour: NoProgram, if there is none.
     """
     if os.environ.get("WSN"):
-        return [os.path.abspath(os.environ["WSN"])]
+        return named(os.path.abspath(os.environ["WSN"]))
     here = pathlib.Path(__file__).resolve().parent
     if (here.parent / "wsn").is_file():
-        kept = here.parent / "crates/wsn/out/wsn"
-        return built(str(here.parent / "wsn")) if builds else [str(kept)] if kept.is_file() else []
+        return built(here.parent)
     if (here.parent.parent / "bin/wsn").is_file():
-        return [str(here.parent.parent / "bin/wsn")]
+        return str(here.parent.parent / "bin/wsn")
     found = shutil.which("wsn")
-    return [found] if found else []
+    if not found:
+        raise NoProgram(f"the program wsn isn't here: install it, put it into PATH, {ELSE}")
+    return found
 
 
-def built(launcher: str) -> List[str]:
-    """The words that run the repository's program; none if it can't be built. A build takes minutes, so what it says
-    on standard error is shown, unlike that of later calls."""
-    is_built = subprocess.run([launcher, "--version"], stdout=subprocess.DEVNULL, check=False).returncode == 0
-    return [launcher] if is_built else []
+def named(path: str) -> str:
+    """The program that $WSN names."""
+    if not os.path.isfile(path) or not os.access(path, os.X_OK):
+        raise NoProgram(f"WSN names {path}, and that is no program that can be run")
+    return path
+
+
+def built(top: pathlib.Path) -> str:
+    """The repository's program. Its launcher is asked once whether it is built from the sources that are there: each
+    call of the launcher compares all of them, which takes longer than most answers."""
+    asked = {**os.environ, "WSN_BUILD": "no"}
+    done = subprocess.run([str(top / "wsn"), "--version"], env=asked, capture_output=True, check=False)
+    if done.returncode == 0:
+        return str(top / "crates/wsn/out/wsn")
+    said = done.stderr.decode(errors="replace").strip().removeprefix("wsn: ")
+    raise NoProgram(f"{said or 'the program wsn cannot be run'}; {ELSE}")

@@ -3,7 +3,7 @@
 import shlex
 import shutil
 
-from harness import SAMPLES, TOP, WSN, run, same, test, want
+from harness import SAMPLES, TOP, WSN, needs, run, same, test, want
 
 
 def check(*words, status=0):
@@ -121,9 +121,9 @@ def check_of_what_cannot_be_compared(folder):
         ([folder / "no", folder / "none"], "no: No such file"),
         ([one, two / "basic.capture"], "aren't both folders"),
         ([folder, folder], "has a file *.capture"),
-        ([one], "check [--pings] KEPT NEW"),
-        (["-x", one], "check [--pings] KEPT NEW"),
-        (["--pings", one], "check [--pings] KEPT NEW"),
+        ([one], "check [--pings] [--diff] KEPT NEW"),
+        (["-x", one], "check [--pings] [--diff] KEPT NEW"),
+        (["--pings", one], "check [--pings] [--diff] KEPT NEW"),
     ):
         lines, said = check(*words, status=2)
         want(wanted in said + "".join(lines), f"{words}: {said}")
@@ -131,32 +131,81 @@ def check_of_what_cannot_be_compared(folder):
     want(b"none" in said, "without the program")
 
 
-# A launcher that builds at its first call.
+@test
+def check_shows_all_differences(folder):
+    """With --diff: of each side that differs all places, in place of the command; pings and pongs as elsewhere; of sides
+    with one verdict and other bytes, that what they said before is equal."""
+    needs("diff")
+    kept, new = folder / "kept.capture", folder / "new.capture"
+    kept.write_text("C 81810000000061\nS 8900\nS 81036f6e65\nS 810374776f\nS 820100\nS 880203e8\n")
+    new.write_text("C 81810102030460\nS 81034f6e65\nS 810374776f\nS 820101\nS 8900\nS 880203e9\n")
+    lines, said = check("--diff", kept, new, status=1)
+    same((lines[0], said), ("new.capture: client equal; server different 0", ""), "the line, and no command")
+    shown = [line for line in lines[3:-1] if line[0] in "-+"]
+    zero, one = (f"       0  0{digit}{47 * ' '}." for digit in "01")
+    wanted = ["-  one", "+  One", f"-{zero}", "-close 1000", f"+{one}", "+close 1001"]
+    same(shown, wanted, "the differences")
+    shown = check("--diff", "--pings", kept, new, status=1)[0]
+    same(sorted(line for line in shown if line[1:] == "ping"), ["+ping", "-ping"], "with --pings")
+    kept.write_text("C 818100000000\nS 810161\nS 8101ff\n")
+    new.write_text("C 818100000000\nS 810161\nS 8101fe\n")
+    lines, said = check("--diff", kept, new, status=1)
+    wanted = ["new.capture: client cut alike 6; server both refused 5 text-bad 1007",
+              "server: what was said before the verdict is equal"]  # fmt: skip
+    same((lines[:-1], said), (wanted, ""), "one verdict")
+    lines, said = check("--diff", SAMPLES / "basic.capture", SAMPLES / "ipv6.capture")
+    same((len(lines), said), (2, ""), "two that are equal")
+
+
+# A launcher that is asked whether the program is built, and builds if it is called otherwise.
 LAUNCHER = """#!/bin/sh
 cd "${0%/*}"
-echo "$1" >>calls
-[ ! -e wrong ] || exit 2
-[ -e built ] || { echo 'wsn: building the program' >&2; touch built; }
-echo equal
+echo "$WSN_BUILD $*" >>calls
+[ "$WSN_BUILD" = no ] || { mkdir -p crates/wsn/out; touch building; exit 2; }
+[ -e crates/wsn/out/wsn ] || { echo "wsn: the program isn't built: './wsn --version' builds it" >&2; exit 2; }
+"""
+
+# What stands for the program: it says that it was called, and answers as the program does.
+PROGRAM = """#!/bin/sh
+echo "$1" >>"${0%/*}/calls"
+case $1 in same) echo equal ;; closing) cat >/dev/null; echo outcome clean ;; esac
 """
 
 
 @test
-def a_build_is_said_before_it_begins(folder):
-    """On standard error, by check and by pcap2wsn --all; a build that fails isn't begun again."""
+def no_recipe_builds_the_program(folder):
+    """Without a built one each that requires it says what to run, status 2; the launcher is asked once for any number of
+    captures, and the program itself is called."""
     shutil.copytree(TOP / "recipes", folder / "recipes")
+    shutil.copytree(TOP / "page", folder / "page")
     (folder / "wsn").write_text(LAUNCHER)
     (folder / "wsn").chmod(0o755)
-    kept = SAMPLES / "basic.capture"
-    away = ["env", "-u", "WSN"]
-    for count, said in enumerate([b"wsn: building the program\n", b""]):
-        same(run(*away, folder / "recipes/check", kept, kept)[1], said, f"call {count}")
-    (folder / "built").unlink()
-    words = [folder / "recipes/pcap2wsn", "--all", SAMPLES / "basic.pcap"]
-    said = run(*away, *words, folder / "one")[1]
-    want(said.startswith(b"wsn: building the program\n"), f"pcap2wsn says {said!r}")
-    (folder / "wrong").write_text("")
+    captures = kept(folder / "captures", "basic", "abort", "latin", "ipv6")
+    away, capture = ["env", "-u", "WSN"], captures / "basic.capture"
+    why = "the program isn't built: './wsn --version' builds it; or name a built program by WSN=FILE"
+    for words in (
+        ["recipes/check", captures, captures],
+        ["recipes/said", capture, "client"],
+        ["recipes/record", "--show", "9001", "ws://localhost:9000", folder / "recordings"],
+    ):
+        out, said = run(*away, folder / words[0], *words[1:], status=2)
+        same((out, said.decode()), (b"", f"{words[0].removeprefix('recipes/')}: {why}\n"), f"{words}")
+    out, said = run(*away, folder / "page/build", capture, status=2)
+    same((out, said.decode()), (b"", f"build: basic.capture: {why}\n"), "a page")
+    out, said = run(*away, folder / "recipes/pcap2wsn", "--all", SAMPLES / "basic.pcap", folder / "one")
+    same((out.split(b"\t")[8], said.decode()), (b"-", f"pcap2wsn: the outcomes are left out: {why}\n"), "outcomes")
+    same((folder / "one/0.capture").exists(), True, "its capture")
+    same((folder / "calls").read_text(), "no --version\n" * 5, "what the launcher is asked")
+    _, said = run("env", f"WSN={folder}/none", folder / "recipes/said", capture, "client", status=2)
+    same(said.decode(), f"said: WSN names {folder}/none, and that is no program that can be run\n", "a wrong WSN")
     (folder / "calls").unlink()
-    run(*away, folder / "recipes/check", kept, kept, status=2)
-    run(*away, *words, folder / "two")
-    same((folder / "calls").read_text(), "--version\n" * 2, "the calls of a program that can't be built")
+    made = folder / "crates/wsn/out/wsn"
+    made.parent.mkdir(parents=True)
+    made.write_text(PROGRAM)
+    made.chmod(0o755)
+    out, said = run(*away, folder / "recipes/check", captures, captures)
+    same((out.splitlines()[-1], said), (b"4 captures: 4 equal, 0 alike, 0 different, 0 in error", b""), "a built one")
+    same((folder / "calls").read_text(), "no --version\n", "the launcher's calls")
+    called = (made.parent / "calls").read_text().splitlines()
+    same((called.count("same"), called.count("closing")), (8, 8), "the program's calls")
+    same((folder / "building").exists(), False, "a build")

@@ -11,8 +11,9 @@ import time
 from harness import SECONDS, TOP, WSN, Failed, needs, run, same, test, want
 
 FILES = ["bin/wsn", "share/bash-completion/completions/wsn", "share/man/man1/wsn.1", "share/zsh/site-functions/_wsn"]
-COMMANDS = {"wsn-check": "recipes/check", "wsn-inflate": "recipes/inflate", "wsn-page": "page/build",
-            "wsn-pcap": "recipes/pcap2wsn", "wsn-record": "recipes/record"}  # fmt: skip
+COMMANDS = {"wsn-check": "recipes/check", "wsn-inflate": "recipes/inflate", "wsn-netlog": "recipes/netlog2wsn",
+            "wsn-page": "page/build", "wsn-pcap": "recipes/pcap2wsn", "wsn-record": "recipes/record",
+            "wsn-said": "recipes/said"}  # fmt: skip
 
 
 def environment(**more):
@@ -72,7 +73,7 @@ def recipes_say_the_names_that_they_were_called_by(folder):
             want(f"{own}: " in text and f"{own} -h for help" in text, f"{own} doesn't say its name: {text}")
             want(re.search(rf"^ *(recipes/)?{own} \S", text, re.MULTILINE), f"{own} doesn't begin its help: {text}")
             if own == name:
-                want(not re.search("recipes/|page/build|pcap2wsn", text), f"{own} says another name: {text}")
+                want(not re.search("recipes/|page/build|pcap2wsn|netlog2wsn", text), f"{own} says another name: {text}")
     same(named(folder / "bin/wsn-pcap"), "wsn-inflate", "another recipe, where they are installed")
     same(named("recipes/pcap2wsn"), "recipes/inflate", "another recipe, here")
 

@@ -22,7 +22,7 @@ from harness import (HERE, SAMPLES, SECONDS, TOP, WSN, Failed, Skipped, has_hpac
 
 # Words of a command, and the program that it needs for them.
 NEEDS = {"tls.pcap": "tshark", "chromium.keys": "tshark", "tshark": "tshark", "text2pcap": "text2pcap",
-         "socat": "socat", "jq": "jq", "mitmdump": "mitmdump", "xxd": "xxd"}  # fmt: skip
+         "socat": "socat", "curl": "curl", "jq": "jq", "mitmdump": "mitmdump", "xxd": "xxd"}  # fmt: skip
 
 # The names of what a command writes.
 WRITES = r"(?:> |--out |-R |^recipes/record .* )([\w.]+)"
@@ -83,7 +83,7 @@ class Page:
         for word, program in NEEDS.items():
             if kind == "command" and re.search(rf"\b{word}\b", words) and not shutil.which(program):
                 return f"without {program}"
-        if kind == "command" and "/http2/" in words and not has_hpack():
+        if kind == "command" and re.search("/http2/|h2.json", words) and not has_hpack():
             return "without python3-hpack"
         reads = re.sub(WRITES, "", words)
         if kind == "command" and any(re.search(rf"(?<![\w/]){name}\b", reads) for name in self.lost):

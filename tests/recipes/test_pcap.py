@@ -272,27 +272,40 @@ def pcap_lists_what_is_missing(folder):
     want(second.startswith("pcap2wsn: warning: frames that use an extension are refused; recipes/inflate "), said)
     rows = [line.split("\t") for line in out.decode().splitlines()]
     agreed = "permessage-deflate; server_max_window_bits=12; client_max_window_bits=12"
-    wanted = [["/chat", "47", size, "failed", agreed] for size in ("9", "31")]
+    failed = "failed client 0 reserved-bits, server 0 reserved-bits"
+    wanted = [["/chat", "47", size, failed, agreed] for size in ("9", "31")]
     same([row[5:] for row in rows], wanted, "the list")
 
 
 @test
 def pcap_lists_without_the_program(folder):
-    """Where it isn't built, a list says so and has no outcomes; it doesn't begin a build, which takes long."""
+    """Where it isn't built, a list says so and has no outcomes; no build begins, which takes long."""
     shutil.copytree(TOP / "recipes", folder / "recipes")
-    (folder / "wsn").write_text("#!/bin/sh\necho built >>\"${0%/*}/calls\"\n")
+    (folder / "wsn").write_text("#!/bin/sh\n[ \"$WSN_BUILD\" = no ] && [ -e \"${0%/*}/crates\" ] || exit 2\n")
     (folder / "wsn").chmod(0o755)
     words = ["env", "-u", "WSN", folder / "recipes/pcap2wsn", SAMPLES / "basic.pcap"]
     out, said = run(*words)
     same(out.split(b"\t")[8:], [b"-", b"-\n"], "the outcome, and the extensions")
-    want(said.startswith(b"pcap2wsn: the outcomes are missing"), f"what is said: {said}")
-    want(not (folder / "calls").exists(), "a build")
+    want(said.startswith(b"pcap2wsn: the outcomes are left out: "), f"what is said: {said}")
     made = folder / "crates/wsn/out/wsn"
     made.parent.mkdir(parents=True)
     made.write_text("#!/bin/sh\ncat >/dev/null; echo outcome clean\n")
     made.chmod(0o755)
     out, said = run(*words)
     same((out.split(b"\t")[8:], said), ([b"clean", b"-\n"], b""), "with a built one")
+
+
+@test
+def pcap_lists_who_is_at_fault(folder):
+    """After `failed` each refused side, with offset and reason: one of them, and both of a compressed session."""
+    for name, wanted in (
+        ("latin", "failed server 11 text-bad"),
+        ("deflate", "failed client 0 reserved-bits, server 0 reserved-bits"),
+        ("basic", "clean"),
+        ("abort", "abnormal"),
+    ):
+        out, _ = pcap2wsn(SAMPLES / f"{name}.pcap", env={**os.environ, "WSN": WSN})
+        same(out.decode().split("\t")[8], wanted, name)
 
 
 @test

@@ -24,7 +24,7 @@ RESET = struct.pack("ii", 1, 0)
 class Sessions:
     """A proxy, and a server that gives out its connections."""
 
-    def __init__(self, stack, folder, *words, path="", end=signal.SIGINT, tls=None):
+    def __init__(self, stack, folder, *words, path="", end=signal.SIGINT, tls=None, shown=None):
         self.listener = stack.enter_context(socket.create_server(("127.0.0.1", 0)))
         self.listener.settimeout(SECONDS)
         self.stack = stack
@@ -36,7 +36,9 @@ class Sessions:
             self.tls.load_cert_chain(*tls)
         url = f"ws{'s' if tls else ''}://127.0.0.1:{self.server_port}{path}"
         words = [TOP / "recipes/record", *words, str(self.port), url, self.folder]
-        how = {"line": "listening", "stream": "stderr", "end": end, "env": {"SSL_CERT_FILE": str(tls[0])} if tls else {}}
+        words = ["sh", "-c", 'exec setsid "$@" >"$0"', shown, *words] if shown else words
+        environment = {"WSN": WSN, **({"SSL_CERT_FILE": str(tls[0])} if tls else {})}
+        how = {"line": "listening", "stream": "stderr", "end": end, "env": environment}
         self.proxy = stack.enter_context(started(*words, **how))
 
     def connect(self):
@@ -350,6 +352,57 @@ def record_writes_no_token(folder):
             written = all_sessions.recorded().decode() + "".join(all_sessions.proxy.said).replace(str(folder / name), "")
         same(written.count(name), 3 if is_kept else 0, f"where {name} is")
         same(written.count("(left out: it looks like a token)"), 0 if is_kept else 3, f"instead of {name}")
+
+
+@test
+def record_shows_what_passes(folder):
+    """With --show: each line as it happens, with the number of its capture; the report at the end, also after Ctrl-C at a
+    terminal, which all its processes are sent. What is shown of each is what `wsn show` prints of its file."""
+    shown, hello = folder / "shown", bytes.fromhex("818537fa213d7f9f4d5158")
+
+    def lines(number):
+        found = [line.split(" ", 1) for line in shown.read_text().splitlines()]
+        same({name for name, _ in found} - {"0001", "0002"}, set(), "numbers")
+        return [line for name, line in found if name == number]
+
+    def wait(number, pattern):
+        wait_for(lambda: any(re.fullmatch(pattern, line) for line in lines(number)), f"{pattern} of {number}")
+
+    with sessions(folder, "--show", shown=shown) as all_sessions:
+        client, server, _ = all_sessions.open()
+        wait("0001", "# path: /chat")
+        client.sendall(hello)
+        wait("0001", r'C \d\.\d{6} 0 text 5 1 "Hello"')
+        other = all_sessions.open()
+        other[1].sendall(b"\x82\x02\x00\xff")
+        wait("0002", r"S \d\.\d{6} 0 binary 2 1 00ff")
+        server.sendall(hello[:1] + b"\x02Hi\x88\x02\x03\xe8")
+        wait("0001", r"S \d\.\d{6} 4 close 2 1 1000")
+        exactly(client, 8)
+        client.sendall(b"\x88\x82\0\0\0\0\x03\xe8")
+        server.shutdown(socket.SHUT_WR)
+        client.close()
+        wait("0001", "outcome clean")
+        same("outcome open" in lines("0002"), False, "the other's report, before its end")
+        os.killpg(all_sessions.proxy.pid, signal.SIGINT)
+        all_sessions.proxy.wait(SECONDS)
+        same(all_sessions.proxy.said[-1], "record: stopped\n", "what is said last")
+    for number, status in ("0001", 0), ("0002", 1):
+        wanted = run(WSN, "show", all_sessions.folder / f"{number}.capture", status=status)[0].decode().splitlines()
+        same(lines(number), wanted, f"what is shown of {number}")
+
+
+@test
+def record_goes_on_without_a_reader(folder):
+    """With --show: where standard output ends early, as of `| head`, sessions are recorded all the same."""
+    with sessions(folder, "--show", shown="/dev/full") as all_sessions:
+        for number in 1, 2:
+            client, server, _ = all_sessions.open()
+            client.sendall(b"\x81\x80abcd" * 3)
+            same(exactly(server, 18), b"\x81\x80abcd" * 3, "what passes")
+            client.close()
+            server.close()
+            same(sides(all_sessions.recorded(number))[0], b"\x81\x80abcd" * 3, "what is recorded")
 
 
 @test
