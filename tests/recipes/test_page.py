@@ -22,7 +22,8 @@ from harness import (HERE, SAMPLES, SECONDS, TOP, WSN, Failed, Skipped, has_hpac
 
 # Words of a command, and the program that it needs for them.
 NEEDS = {"tls.pcap": "tshark", "chromium.keys": "tshark", "tshark": "tshark", "text2pcap": "text2pcap",
-         "socat": "socat", "curl": "curl", "jq": "jq", "mitmdump": "mitmdump", "xxd": "xxd"}  # fmt: skip
+         "socat": "socat", "curl": "curl", "jq": "jq", "mitmdump": "mitmdump", "xxd": "xxd",
+         "parallel": "parallel", "sqlite3": "sqlite3"}  # fmt: skip
 
 # The names of what a command writes.
 WRITES = r"(?:> |--out |-R |^recipes/record .* )([\w.]+)"
