@@ -1,6 +1,6 @@
 // Elements, numbers, and texts that came from a capture: these enter the page as text alone.
 
-const HIDDEN = /[\u0000-\u001f\u007f-\u009f\u061c\u200e\u200f\u2028-\u202e\u2066-\u2069\ufeff]/;
+const HIDDEN = /[\u0000-\u001f\u007f-\u009f\u00ad\u034f\u061c\u115f\u1160\u17b4\u17b5\u180e\u200b\u200e\u200f\u2028-\u202e\u2060-\u206f\u3164\ufeff\uffa0\ufff0-\ufff8\u{1bca0}-\u{1bca3}\u{1d173}-\u{1d17a}\u{e0000}-\u{e00ff}\u{e01f0}-\u{e0fff}]/u;
 const SHORT = { "\n": "\\n", "\r": "\\r", "\t": "\\t" };
 
 /** An element with a class and with what is inside it; strings become text. */
@@ -51,9 +51,9 @@ function pairs(hex) {
   return hex.replace(/..(?=.)/g, "$& ");
 }
 
-/** How a hidden character is written. */
+/** How a hidden character is written: beyond U+FFFF by its two surrogates. */
 function escape(character) {
-  return SHORT[character] ?? "\\u" + character.charCodeAt(0).toString(16).padStart(4, "0");
+  return SHORT[character] ?? character.split("").map(unit => "\\u" + unit.charCodeAt(0).toString(16).padStart(4, "0")).join("");
 }
 
 /** A text's first characters, and whether some are left out. No character is cut. */

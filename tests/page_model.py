@@ -7,7 +7,10 @@ import json
 import random
 import re
 
-HIDDEN = re.compile("[\x00-\x1f\x7f-\x9f\u061c\u200e\u200f\u2028-\u202e\u2066-\u2069\ufeff]")
+HIDDEN = re.compile(
+    "[\x00-\x1f\x7f-\x9f\xad\u034f\u061c\u115f\u1160\u17b4\u17b5\u180e\u200b\u200e\u200f\u2028-\u202e\u2060-\u206f\u3164\ufeff\uffa0\ufff0-\ufff8"
+    "\U0001bca0-\U0001bca3\U0001d173-\U0001d17a\U000e0000-\U000e00ff\U000e01f0-\U000e0fff]"
+)
 SHORT = {"\n": "\\n", "\r": "\\r", "\t": "\\t"}
 CHARACTERS = 200  # The characters of a payload in a row.
 DATA = ("text", "binary", "cont")
@@ -23,9 +26,15 @@ class Digits(int):
     """A whole number; a time that has no point keeps its digits, too."""
 
 
+def escape(character):
+    """A character by its number: beyond U+FFFF by its two surrogates."""
+    units = character.encode("utf-16-be").hex()
+    return "".join(f"\\u{units[at : at + 4]}" for at in range(0, len(units), 4))
+
+
 def visible(text):
     """A text as the page writes it."""
-    return HIDDEN.sub(lambda found: SHORT.get(found[0], f"\\u{ord(found[0]):04x}"), text)
+    return HIDDEN.sub(lambda found: SHORT.get(found[0], escape(found[0])), text)
 
 
 def cut(text):
@@ -199,7 +208,7 @@ def sent(capture):
 
 TEXTS = ["Hello", "", "€ 😀", '{"a":[1,{"b":"<i>"}]}', "</script><script>document.title='owned'</script>",
          "<!-- <script>", "line\nfeed\ttab\r", "\x1b[31m \u202e abc \u2066 \u2028", "x" * 199 + "😀😀",
-         "שלום עולם", '"quoted" \\ back', "y" * 5000, "\ufeffmark"]  # fmt: skip
+         "שלום עולם", '"quoted" \\ back', "y" * 5000, "\ufeffmark", "in\u200bvis\U000e0041ible"]  # fmt: skip
 COMMENTS = [" a comment", "", " </script><b>x</b>", " \u202e turned", " 1.", " reset by the server", " path: /</dd><b>x"]
 FAULTS = [
     b"\xc1",

@@ -6,13 +6,22 @@ wire, frames are shown in place of events.
 """
 import re
 
-HIDDEN = re.compile("[\x00-\x1f\x7f-\x9f\u061c\u200e\u200f\u2028-\u202e\u2066-\u2069\ufeff]")
+HIDDEN = re.compile(
+    "[\x00-\x1f\x7f-\x9f\xad\u034f\u061c\u115f\u1160\u17b4\u17b5\u180e\u200b\u200e\u200f\u2028-\u202e\u2060-\u206f\u3164\ufeff\uffa0\ufff0-\ufff8"
+    "\U0001bca0-\U0001bca3\U0001d173-\U0001d17a\U000e0000-\U000e00ff\U000e01f0-\U000e0fff]"
+)
 TIME = re.compile(r"# ((?:0|[1-9][0-9]*)\.[0-9]{1,9})")
 DATA = ("text", "binary", "cont")
 
 
+def escape(character):
+    """A character by its number: beyond U+FFFF by its two surrogates."""
+    units = character.encode("utf-16-be").hex()
+    return "".join(f"\\u{units[at:at + 4]}" for at in range(0, len(units), 4))
+
+
 def escaped(text):
-    return HIDDEN.sub(lambda found: f"\\u{ord(found[0]):04x}", text)
+    return HIDDEN.sub(lambda found: escape(found[0]), text)
 
 
 def quoted(data):

@@ -1,6 +1,6 @@
 -- Two comments that have the same line are the same.
-use Rattle.std.proofs.Common.{◌≡◌, ◌≢◌, ℕ, zero, suc, ◌+◌, ◌*◌, ◌/◌, ◌%◌, ◌<◌, Bool, true, false, ◌==◌, if◌then◌else◌, Ok, List, [], ◌∷◌, ◌++◌, length, codes, refl, sym, ap, ap₂, ◌∙◌, arith, length-append, eqb-true}
-use Rattle.std.specs.Prelude.{⊤, flat_map}
+use Rattle.std.proofs.Common.{◌≡◌, ◌≢◌, ℕ, zero, suc, ◌+◌, ◌-◌, ◌*◌, ◌/◌, ◌%◌, ◌<◌, ◌≤◌, Bool, true, false, ◌==◌, if◌then◌else◌, Ok, List, [], ◌∷◌, ◌++◌, length, codes, refl, sym, ap, ap₂, ◌∙◌, arith, append_assoc, length-append, eqb-true}
+use Rattle.std.specs.Prelude.{⊤, nat_lt, flat_map}
 use Rattle.std.specs.Char.{encode_utf8}
 use Rattle.std.specs.Str.{chars, IsAscii, IsUtf8, encode_utf8_all}
 use Rattle.std.specs.Str.Lossy.{utf8_valid_len}
@@ -13,35 +13,46 @@ use Rattle.hex.specs.Hex as hex
 use Rattle.hex.specs.Hex.{decode_of, encode_lower}
 use Rattle.hex.proofs.HexLemmas.{decode_of-encode_lower, decode_of-ok}
 use Rattle.wsn_wire.specs.Frame.{IsBytes}
-use Rattle.wsn_print.specs.ShownText.{is_from, is_hidden, unicode_escape, comment_character, comment_byte, comment_text, comment_line}
-use Rattle.wsn_print.proofs.JsonTexts.{split, hidden_fits}
+use Rattle.wsn_print.specs.ShownText.{is_from, is_hidden, unicode_escape, ascii_escape, comment_character, comment_byte, comment_text, comment_line}
+use Rattle.wsn_print.proofs.HiddenRanges.{below, hidden_scalar}
+use Rattle.wsn_print.proofs.JsonTexts.{split, at_least}
 use Rattle.wsn_print.proofs.VisibleTexts.{utf8_if_all}
 
 -- ---- the parts of a line
 
--- A character as it is, a backslash that is doubled, a character by two bytes of its number, or a byte.
+-- A character as it is, a backslash that is doubled, a character by its number, one by its two surrogates, or a byte.
 data Part : Type 0 where
   Character : ℕ → Part
   Backslash : Part
-  Escape : ℕ → ℕ → Part
+  Escape : ℕ → Part
+  Pair : ℕ → Part
   Byte : ℕ → Part
+
+abbrev high_of : ℕ → ℕ
+high_of c = 0xd800 + (c - 0x10000) / 0x400
+
+abbrev low_of : ℕ → ℕ
+low_of c = 0xdc00 + (c - 0x10000) % 0x400
 
 abbrev text_of : Part → List ℕ
 text_of (Character c) = encode_utf8 c
 text_of Backslash = 92 ∷ 92 ∷ []
-text_of (Escape high low) = 92 ∷ 117 ∷ encode_lower (high ∷ low ∷ [])
+text_of (Escape c) = unicode_escape c
+text_of (Pair c) = unicode_escape (high_of c) ++ unicode_escape (low_of c)
 text_of (Byte b) = 92 ∷ 120 ∷ encode_lower (b ∷ [])
 
 abbrev number_of : Part → ℕ
 number_of (Character c) = c
 number_of Backslash = 92
-number_of (Escape high low) = high * 256 + low
+number_of (Escape c) = c
+number_of (Pair c) = c
 number_of (Byte b) = b
 
 abbrev IsFit : Part → Type 0
 IsFit (Character c) = c ≢ 92
 IsFit Backslash = ⊤
-IsFit (Escape high low) = IsBytes (high ∷ low ∷ [])
+IsFit (Escape c) = (c < 0x10000) × (0xd800 ≤ c → 0xe000 ≤ c)
+IsFit (Pair c) = (0x10000 ≤ c) × (c < 0x110000)
 IsFit (Byte b) = IsBytes (b ∷ [])
 
 -- ---- a part at the front of a line is the only one
@@ -64,13 +75,35 @@ same_digits xs ys r t fits also long same =
 no_backslash : (c : ℕ) (rest more : List ℕ) → c ≢ 92 → encode_utf8 c ++ rest ≡ 92 ∷ more → ⊥
 no_backslash c rest more isnt same = isnt (char_from_byte (92 ∷ more) rest c (sym same) (omega arith) (omega arith))
 
-one_escape : (high low h l : ℕ) (r t : List ℕ) → IsBytes (high ∷ low ∷ []) → IsBytes (h ∷ l ∷ [])
-    → 92 ∷ 117 ∷ (encode_lower (high ∷ low ∷ []) ++ r) ≡ 92 ∷ 117 ∷ (encode_lower (h ∷ l ∷ []) ++ t) → (Escape high low ≡ Escape h l) × (r ≡ t)
-one_escape high low h l r t fits also same =
-    let following : encode_lower (high ∷ low ∷ []) ++ r ≡ encode_lower (h ∷ l ∷ []) ++ t = cc in
-    let parts = same_digits (high ∷ low ∷ []) (h ∷ l ∷ []) r t fits also refl following in
-    let bytes : high ∷ low ∷ [] ≡ h ∷ l ∷ [] = parts.0 in
-    (cc, parts.1)
+one_number : (c d : ℕ) (r t : List ℕ) → c < 0x10000 → d < 0x10000 → unicode_escape c ++ r ≡ unicode_escape d ++ t → (c ≡ d) × (r ≡ t)
+one_number c d r t fits also same =
+    let following : encode_lower (c / 256 ∷ c % 256 ∷ []) ++ r ≡ encode_lower (d / 256 ∷ d % 256 ∷ []) ++ t = cc in
+    let parts = same_digits (c / 256 ∷ c % 256 ∷ []) (d / 256 ∷ d % 256 ∷ []) r t (omega arith, (omega arith, tt)) (omega arith, (omega arith, tt)) refl following in
+    let bytes : c / 256 ∷ c % 256 ∷ [] ≡ d / 256 ∷ d % 256 ∷ [] = parts.0 in
+    let high : c / 256 ≡ d / 256 = cc in
+    let low : c % 256 ≡ d % 256 = cc in
+    (omega (arith, high, low), parts.1)
+
+one_escape : (c d : ℕ) (r t : List ℕ) → IsFit (Escape c) → IsFit (Escape d) → unicode_escape c ++ r ≡ unicode_escape d ++ t → (Escape c ≡ Escape d) × (r ≡ t)
+one_escape c d r t fits also same =
+    let parts = one_number c d r t fits.0 also.0 same in
+    (ap Escape parts.0, parts.1)
+
+pair_text : (c : ℕ) (r : List ℕ) → text_of (Pair c) ++ r ≡ unicode_escape (high_of c) ++ (unicode_escape (low_of c) ++ r)
+pair_text c r = append_assoc (unicode_escape (high_of c)) (unicode_escape (low_of c)) r
+
+one_pair : (c d : ℕ) (r t : List ℕ) → IsFit (Pair c) → IsFit (Pair d) → text_of (Pair c) ++ r ≡ text_of (Pair d) ++ t → (Pair c ≡ Pair d) × (r ≡ t)
+one_pair c d r t fits also same =
+    let highs = one_number (high_of c) (high_of d) (unicode_escape (low_of c) ++ r) (unicode_escape (low_of d) ++ t) (omega (arith, fits.0, fits.1)) (omega (arith, also.0, also.1)) (sym (pair_text c r) ∙ same ∙ pair_text d t) in
+    let lows = one_number (low_of c) (low_of d) r t (omega arith) (omega arith) highs.1 in
+    let is : c ≡ d = omega (arith, fits.0, also.0, highs.0, lows.0) in
+    (ap Pair is, lows.1)
+
+no_pair : (c d : ℕ) (r t : List ℕ) → IsFit (Escape c) → IsFit (Pair d) → unicode_escape c ++ r ≡ text_of (Pair d) ++ t → ⊥
+no_pair c d r t fits also same =
+    let first = one_number c (high_of d) r (unicode_escape (low_of d) ++ t) fits.0 (omega (arith, also.0, also.1)) (same ∙ pair_text d t) in
+    let least : 0xd800 ≤ c = omega (arith, first.0) in
+    omega (arith, first.0, also.0, also.1, fits.1 least)
 
 one_byte : (b d : ℕ) (r t : List ℕ) → IsBytes (b ∷ []) → IsBytes (d ∷ [])
     → 92 ∷ 120 ∷ (encode_lower (b ∷ []) ++ r) ≡ 92 ∷ 120 ∷ (encode_lower (d ∷ []) ++ t) → (Byte b ≡ Byte d) × (r ≡ t)
@@ -90,19 +123,36 @@ one_part (Character c) (Character d) r t fits also same =
     let parts = encode_same c d r t same in
     (ap Character parts.0, parts.1)
 one_part (Character c) Backslash r t fits also same = absurd (no_backslash c r (92 ∷ t) fits same)
-one_part (Character c) (Escape h l) r t fits also same = absurd (no_backslash c r (117 ∷ (encode_lower (h ∷ l ∷ []) ++ t)) fits same)
+one_part (Character c) (Escape d) r t fits also same = absurd (no_backslash c r (117 ∷ (encode_lower (d / 256 ∷ d % 256 ∷ []) ++ t)) fits same)
+one_part (Character c) (Pair d) r t fits also same =
+    absurd (no_backslash c r (117 ∷ (encode_lower (high_of d / 256 ∷ high_of d % 256 ∷ []) ++ (unicode_escape (low_of d) ++ t))) fits (same ∙ pair_text d t))
 one_part (Character c) (Byte d) r t fits also same = absurd (no_backslash c r (120 ∷ (encode_lower (d ∷ []) ++ t)) fits same)
 one_part Backslash (Character d) r t fits also same = absurd (no_backslash d t (92 ∷ r) also (sym same))
 one_part Backslash Backslash r t fits also same = (refl, cc)
-one_part Backslash (Escape h l) r t fits also same = absurd (other_letter 92 117 r (encode_lower (h ∷ l ∷ []) ++ t) (λ e. omega (arith, e)) same)
+one_part Backslash (Escape d) r t fits also same = absurd (other_letter 92 117 r (encode_lower (d / 256 ∷ d % 256 ∷ []) ++ t) (λ e. omega (arith, e)) same)
+one_part Backslash (Pair d) r t fits also same =
+    absurd (other_letter 92 117 r (encode_lower (high_of d / 256 ∷ high_of d % 256 ∷ []) ++ (unicode_escape (low_of d) ++ t)) (λ e. omega (arith, e)) (same ∙ pair_text d t))
 one_part Backslash (Byte d) r t fits also same = absurd (other_letter 92 120 r (encode_lower (d ∷ []) ++ t) (λ e. omega (arith, e)) same)
-one_part (Escape high low) (Character d) r t fits also same = absurd (no_backslash d t (117 ∷ (encode_lower (high ∷ low ∷ []) ++ r)) also (sym same))
-one_part (Escape high low) Backslash r t fits also same = absurd (other_letter 117 92 (encode_lower (high ∷ low ∷ []) ++ r) t (λ e. omega (arith, e)) same)
-one_part (Escape high low) (Escape h l) r t fits also same = one_escape high low h l r t fits also same
-one_part (Escape high low) (Byte d) r t fits also same = absurd (other_letter 117 120 (encode_lower (high ∷ low ∷ []) ++ r) (encode_lower (d ∷ []) ++ t) (λ e. omega (arith, e)) same)
+one_part (Escape c) (Character d) r t fits also same = absurd (no_backslash d t (117 ∷ (encode_lower (c / 256 ∷ c % 256 ∷ []) ++ r)) also (sym same))
+one_part (Escape c) Backslash r t fits also same = absurd (other_letter 117 92 (encode_lower (c / 256 ∷ c % 256 ∷ []) ++ r) t (λ e. omega (arith, e)) same)
+one_part (Escape c) (Escape d) r t fits also same = one_escape c d r t fits also same
+one_part (Escape c) (Pair d) r t fits also same = absurd (no_pair c d r t fits also same)
+one_part (Escape c) (Byte d) r t fits also same =
+    absurd (other_letter 117 120 (encode_lower (c / 256 ∷ c % 256 ∷ []) ++ r) (encode_lower (d ∷ []) ++ t) (λ e. omega (arith, e)) same)
+one_part (Pair c) (Character d) r t fits also same =
+    absurd (no_backslash d t (117 ∷ (encode_lower (high_of c / 256 ∷ high_of c % 256 ∷ []) ++ (unicode_escape (low_of c) ++ r))) also (sym same ∙ pair_text c r))
+one_part (Pair c) Backslash r t fits also same =
+    absurd (other_letter 117 92 (encode_lower (high_of c / 256 ∷ high_of c % 256 ∷ []) ++ (unicode_escape (low_of c) ++ r)) t (λ e. omega (arith, e)) (sym (pair_text c r) ∙ same))
+one_part (Pair c) (Escape d) r t fits also same = absurd (no_pair d c t r also fits (sym same))
+one_part (Pair c) (Pair d) r t fits also same = one_pair c d r t fits also same
+one_part (Pair c) (Byte d) r t fits also same =
+    absurd (other_letter 117 120 (encode_lower (high_of c / 256 ∷ high_of c % 256 ∷ []) ++ (unicode_escape (low_of c) ++ r)) (encode_lower (d ∷ []) ++ t) (λ e. omega (arith, e)) (sym (pair_text c r) ∙ same))
 one_part (Byte b) (Character d) r t fits also same = absurd (no_backslash d t (120 ∷ (encode_lower (b ∷ []) ++ r)) also (sym same))
 one_part (Byte b) Backslash r t fits also same = absurd (other_letter 120 92 (encode_lower (b ∷ []) ++ r) t (λ e. omega (arith, e)) same)
-one_part (Byte b) (Escape h l) r t fits also same = absurd (other_letter 120 117 (encode_lower (b ∷ []) ++ r) (encode_lower (h ∷ l ∷ []) ++ t) (λ e. omega (arith, e)) same)
+one_part (Byte b) (Escape d) r t fits also same =
+    absurd (other_letter 120 117 (encode_lower (b ∷ []) ++ r) (encode_lower (d / 256 ∷ d % 256 ∷ []) ++ t) (λ e. omega (arith, e)) same)
+one_part (Byte b) (Pair d) r t fits also same =
+    absurd (other_letter 120 117 (encode_lower (b ∷ []) ++ r) (encode_lower (high_of d / 256 ∷ high_of d % 256 ∷ []) ++ (unicode_escape (low_of d) ++ t)) (λ e. omega (arith, e)) (same ∙ pair_text d t))
 one_part (Byte b) (Byte d) r t fits also same = one_byte b d r t fits also same
 
 some_text : (p : Part) (rest : List ℕ) → text_of p ++ rest ≡ [] → ⊥
@@ -110,7 +160,8 @@ some_text (Character c) rest none =
     let size : length (encode_utf8 c ++ rest) ≡ 0 = ap length none in
     absurd (omega (arith, size, length-append (encode_utf8 c) rest, length-encode c, (len_utf8_bounds c).0))
 some_text Backslash rest none = absurd cc
-some_text (Escape high low) rest none = absurd cc
+some_text (Escape c) rest none = absurd cc
+some_text (Pair c) rest none = absurd cc
 some_text (Byte b) rest none = absurd cc
 
 -- ---- parts one after another
@@ -138,22 +189,27 @@ same_parts (p ∷ ps) (q ∷ qs) fit also same =
 -- ---- a comment in UTF-8
 
 abbrev character_part : ℕ → Part
-character_part c = if c == 92 then Backslash else if is_hidden c then Escape (c / 256) (c % 256) else Character c
+character_part c = if c == 92 then Backslash else if is_hidden c then (if nat_lt c 0x10000 then Escape c else Pair c) else Character c
 
 record IsPartOf (p : Part) (n : ℕ) (bytes : List ℕ) : Type 0 where
   text : text_of p ≡ bytes
   fit : IsFit p
   number : number_of p ≡ n
 
+escape_by : (c : ℕ) (few : Bool) → nat_lt c 0x10000 ≡ few → (0xd800 ≤ c → 0xe000 ≤ c) → c < 0x110000
+    → IsPartOf (if few then Escape c else Pair c) c (if few then unicode_escape c else unicode_escape (high_of c) ++ unicode_escape (low_of c))
+escape_by c true test none most = record { text = refl; fit = (below c 0x10000 test, none); number = refl }
+escape_by c false test none most = record { text = refl; fit = (at_least c test, most); number = refl }
+
 character_by : (c : ℕ) (mark hidden : Bool) → (c == 92) ≡ mark → is_hidden c ≡ hidden
-    → IsPartOf (if mark then Backslash else if hidden then Escape (c / 256) (c % 256) else Character c) c
-    (if mark then 92 ∷ c ∷ [] else if hidden then unicode_escape c else encode_utf8 c)
+    → IsPartOf (if mark then Backslash else if hidden then (if nat_lt c 0x10000 then Escape c else Pair c) else Character c) c
+    (if mark then 92 ∷ c ∷ [] else if hidden then ascii_escape c else encode_utf8 c)
 character_by c true hidden mark is =
     let e : c ≡ 92 = eqb-true c 92 mark in
     record { text = ap (λ (n : ℕ). 92 ∷ n ∷ []) (sym e); fit = tt; number = sym e }
 character_by c false true mark is =
-    let small = hidden_fits c is in
-    record { text = refl; fit = (omega arith, (omega arith, tt)); number = omega arith }
+    let scalar = hidden_scalar c is in
+    escape_by c (nat_lt c 0x10000) refl scalar.0 scalar.1
 character_by c false false mark is = record { text = refl; fit = eqb-false c 92 mark; number = refl }
 
 character_is : (c : ℕ) → IsPartOf (character_part c) c (comment_character c)
@@ -213,16 +269,17 @@ byte_numbers (b ∷ bytes) fits = ap₂ (λ (x : ℕ) (xs : List ℕ). x ∷ xs)
 
 -- ---- a line is of one of both
 
-never_a_byte : (c b : ℕ) (mark hidden : Bool) → (if mark then Backslash else if hidden then Escape (c / 256) (c % 256) else Character c) ≡ Byte b → ⊥
-never_a_byte c b true hidden same = absurd cc
-never_a_byte c b false true same = absurd cc
-never_a_byte c b false false same = absurd cc
+never_a_byte : (c b : ℕ) (mark hidden few : Bool) → (if mark then Backslash else if hidden then (if few then Escape c else Pair c) else Character c) ≡ Byte b → ⊥
+never_a_byte c b true hidden few same = absurd cc
+never_a_byte c b false true true same = absurd cc
+never_a_byte c b false true false same = absurd cc
+never_a_byte c b false false few same = absurd cc
 
 small_by : (c b : ℕ) (mark printable : Bool) → (b == 92) ≡ mark → is_from 0x20 0x7e b ≡ printable
     → character_part c ≡ (if mark then Backslash else if printable then Character b else Byte b) → b < 128
 small_by c b true printable mark is same = omega (arith, eqb-true b 92 mark)
 small_by c b false true mark is same = printable_small b is
-small_by c b false false mark is same = absurd (never_a_byte c b (c == 92) (is_hidden c) same)
+small_by c b false false mark is same = absurd (never_a_byte c b (c == 92) (is_hidden c) (nat_lt c 0x10000) same)
 
 all_ascii : (cs bytes : List ℕ) → character_parts cs ≡ byte_parts bytes → IsAscii bytes
 all_ascii cs [] same = IsAscii-nil

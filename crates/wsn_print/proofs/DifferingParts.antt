@@ -1,5 +1,5 @@
 -- What is held of two payloads is enough to show where they differ.
-use Rattle.std.proofs.Common.{◌≡◌, ◌≢◌, ℕ, ◌+◌, ◌-◌, Bool, true, ◌==◌, if◌then◌else◌, Option, None, Some, List, ◌++◌, length, take, sym, ap, ◌∙◌, subst, codes, decimal, append_assoc, arith}
+use Rattle.std.proofs.Common.{◌≡◌, ◌≢◌, ℕ, Bool, true, ◌==◌, if◌then◌else◌, Option, None, Some, List, ◌++◌, length, take, sym, ap, ◌∙◌, subst, codes, decimal, append_assoc, arith}
 use Rattle.std.proofs.lemmas.Bool.Decides.{nat_tests}
 use Rattle.std.specs.Str.Lossy.{utf8_valid_len}
 use Rattle.wsn_rules.specs.Meaning.{MeantEvent}

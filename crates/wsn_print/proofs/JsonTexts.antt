@@ -1,6 +1,6 @@
 -- A quoted text is a JSON string, and a JSON string has one text.
-use Rattle.std.proofs.Common.{◌≡◌, ◌≢◌, ℕ, zero, suc, ◌+◌, ◌*◌, ◌/◌, ◌%◌, ◌<◌, ◌≤◌, inl, inr, Bool, true, false, ◌==◌, ◌||◌, if◌then◌else◌, None, Some, Ok, List, [], ◌∷◌, ◌++◌, length, take, drop, codes, refl, sym, ap, ◌∙◌, subst, arith, length-append}
-use Rattle.std.specs.Prelude.{flat_map}
+use Rattle.std.proofs.Common.{◌≡◌, ◌≢◌, ℕ, zero, suc, ◌+◌, ◌*◌, ◌/◌, ◌%◌, ◌<◌, ◌≤◌, inl, inr, Bool, true, false, ◌==◌, ◌||◌, if◌then◌else◌, None, Some, Ok, List, [], ◌∷◌, ◌++◌, length, take, drop, codes, refl, sym, ap, ◌∙◌, subst, arith, append_assoc, length-append}
+use Rattle.std.specs.Prelude.{◌-◌, ◌⊎◌, nat_lt, flat_map}
 use Rattle.std.proofs.Math.Seq.{take-append_seam, drop-append_seam}
 use Rattle.std.proofs.lemmas.Bool.{cases_Bool, or_parts}
 use Rattle.std.proofs.lemmas.Bool.Decides.{nat_tests}
@@ -10,21 +10,22 @@ use Rattle.std.specs.Char.{encode_utf8}
 use Rattle.std.specs.Str.{chars, IsUtf8, encode_utf8_all}
 use Rattle.hex.specs.Hex.{IsBytes, decode_of, encode_lower}
 use Rattle.hex.proofs.HexLemmas.{decode_of-encode_lower, decode_of-ok}
-use Rattle.wsn_print.specs.ShownText.{is_hidden, unicode_escape, shown_character, quoted_character, quoted}
-use Rattle.wsn_print.specs.QuotedTexts.{unescaped, IsPlain, IsUnicodeEscape, IsJsonCharacter, AreJsonCharacters, IsJsonString}
+use Rattle.wsn_print.specs.ShownText.{is_from, is_hidden, unicode_escape, ascii_escape, shown_character, quoted_character, quoted}
+use Rattle.wsn_print.specs.QuotedTexts.{unescaped, IsPlain, IsShortEscape, IsUnitEscape, IsUnicodeEscape, IsOfSurrogates, IsSurrogatePair, IsJsonCharacter, AreJsonCharacters, IsJsonString}
+use Rattle.wsn_print.proofs.HiddenRanges.{below, hidden_scalar}
 
 -- ---- a quoted text is one
 
-two_bytes : (a b : ℕ) → a < 256 → b < 256 → IsBytes (a ∷ b ∷ [])
+pub two_bytes : (a b : ℕ) → a < 256 → b < 256 → IsBytes (a ∷ b ∷ [])
 two_bytes a b fits_a fits_b zero = fits_a
 two_bytes a b fits_a fits_b (suc zero) = fits_b
 two_bytes a b fits_a fits_b (suc (suc i)) = omega arith
 
-pub hidden_fits : (c : ℕ) → is_hidden c ≡ true → c < 65536
-hidden_fits c hidden = grind (arith, nat_tests)
+from_space : (c : ℕ) → is_from 0x00 0x1f c ≡ false → 0x20 ≤ c
+from_space c isnt = grind (arith, nat_tests, isnt)
 
 visible_from : (c : ℕ) → is_hidden c ≡ false → 0x20 ≤ c
-visible_from c visible = grind (arith, nat_tests)
+visible_from c visible = from_space c (or_parts (is_from 0x00 0x1f c) _ visible).0
 
 no_quote : (c : ℕ) → (c == 34 || c == 92) ≡ false → (c ≢ 34) × (c ≢ 92)
 no_quote c test =
@@ -34,18 +35,50 @@ no_quote c test =
 for_itself : (c : ℕ) → (c == 34 || c == 92) ≡ true → unescaped c ≡ Some c
 for_itself c test = rw test refl
 
-escape_is : (c : ℕ) → c < 65536 → IsUnicodeEscape c (unicode_escape c)
+pub escape_is : (c : ℕ) → c < 65536 → IsUnitEscape c (unicode_escape c)
 escape_is c fits =
     (c / 256, c % 256, encode_lower (c / 256 ∷ c % 256 ∷ []), decode_of-encode_lower (c / 256 ∷ c % 256 ∷ []) (two_bytes (c / 256) (c % 256) (omega arith) (omega arith)), omega arith, refl)
+
+pub surrogates_of : (c : ℕ) → 0x10000 ≤ c → c < 0x110000 → IsOfSurrogates (0xd800 + (c - 0x10000) / 0x400) (0xdc00 + (c - 0x10000) % 0x400) c
+surrogates_of c least most = (omega arith, omega arith, omega arith, omega arith, omega arith)
+
+pair_is : (c : ℕ) → 0x10000 ≤ c → c < 0x110000
+    → IsSurrogatePair c (unicode_escape (0xd800 + (c - 0x10000) / 0x400) ++ unicode_escape (0xdc00 + (c - 0x10000) % 0x400))
+pair_is c least most = (
+  0xd800 + (c - 0x10000) / 0x400,
+  0xdc00 + (c - 0x10000) % 0x400,
+  surrogates_of c least most,
+  (
+    unicode_escape (0xd800 + (c - 0x10000) / 0x400),
+    unicode_escape (0xdc00 + (c - 0x10000) % 0x400),
+    refl,
+    escape_is (0xd800 + (c - 0x10000) / 0x400) (omega arith),
+    escape_is (0xdc00 + (c - 0x10000) % 0x400) (omega arith),
+  ),
+)
+
+pub at_least : (c : ℕ) → nat_lt c 0x10000 ≡ false → 0x10000 ≤ c
+at_least c test = grind (arith, nat_tests)
+
+number_by : (c : ℕ) (few : Bool) → nat_lt c 0x10000 ≡ few → (0xd800 ≤ c → 0xe000 ≤ c) → c < 0x110000
+    → let bytes = if few then unicode_escape c else unicode_escape (0xd800 + (c - 0x10000) / 0x400) ++ unicode_escape (0xdc00 + (c - 0x10000) % 0x400) in
+    IsUnicodeEscape c bytes ⊎ IsSurrogatePair c bytes
+number_by c true test none most = inl (escape_is c (below c 0x10000 test), λ surrogate. absurd (omega (arith, none surrogate.0, surrogate.1)))
+number_by c false test none most = inr (pair_is c (at_least c test) most)
+
+-- A character of Unicode by its number.
+pub number_is : (c : ℕ) → (0xd800 ≤ c → 0xe000 ≤ c) → c < 0x110000 → IsUnicodeEscape c (ascii_escape c) ⊎ IsSurrogatePair c (ascii_escape c)
+number_is c none most = number_by c (nat_lt c 0x10000) refl none most
 
 shown_is : (c : ℕ) → (c == 34 || c == 92) ≡ false → IsJsonCharacter c (shown_character c)
 shown_is c plain = elim (cases_Bool (is_hidden c)) [
   | inl hidden ↦
-      let is : unicode_escape c ≡ shown_character c = sym (ap (λ (b : Bool). if b then unicode_escape c else encode_utf8 c) hidden) in
-      inr (inr (subst (IsUnicodeEscape c) is (escape_is c (hidden_fits c hidden))))
+      let is : ascii_escape c ≡ shown_character c = sym (ap (λ (b : Bool). if b then ascii_escape c else encode_utf8 c) hidden) in
+      let scalar = hidden_scalar c hidden in
+      inr (inr (subst (λ (bytes : List ℕ). IsUnicodeEscape c bytes ⊎ IsSurrogatePair c bytes) is (number_is c scalar.0 scalar.1)))
   | inr visible ↦
-      let no = no_quote c plain in
-      inl (visible_from c visible, no.0, no.1, ap (λ (b : Bool). if b then unicode_escape c else encode_utf8 c) visible)
+      let no_mark = no_quote c plain in
+      inl (visible_from c visible, no_mark.0, no_mark.1, ap (λ (b : Bool). if b then ascii_escape c else encode_utf8 c) visible)
 ]
 
 quoted_is : (c : ℕ) → IsJsonCharacter c (quoted_character c)
@@ -67,7 +100,7 @@ quoted_is_json text =
 -- ---- a JSON string has one text
 
 -- A character as it is doesn't begin with a backslash.
-plain_first : (c : ℕ) (bytes rest more : List ℕ) → IsPlain c bytes → bytes ++ rest ≡ 92 ∷ more → ⊥
+pub plain_first : (c : ℕ) (bytes rest more : List ℕ) → IsPlain c bytes → bytes ++ rest ≡ 92 ∷ more → ⊥
 plain_first c bytes rest more plain same =
     let front : 92 ∷ more ≡ encode_utf8 c ++ rest = sym same ∙ ap (λ (bs : List ℕ). bs ++ rest) plain.3 in
     plain.2 (char_from_byte (92 ∷ more) rest c front (omega arith) (omega arith))
@@ -86,7 +119,7 @@ both_short c d l m r t is_c is_d same =
     let letters : l ≡ m = cc in
     (some_same c d (sym is_c ∙ ap unescaped letters ∙ is_d), cc)
 
-short_or_unicode : (c l : ℕ) (r t : List ℕ) → unescaped l ≡ Some c → 92 ∷ l ∷ r ≡ 92 ∷ 117 ∷ t → ⊥
+pub short_or_unicode : (c l : ℕ) (r t : List ℕ) → unescaped l ≡ Some c → 92 ∷ l ∷ r ≡ 92 ∷ 117 ∷ t → ⊥
 short_or_unicode c l r t is_c same =
     let letter : l ≡ 117 = cc in
     let none : None ≡ Some c = sym (ap unescaped letter) ∙ is_c in
@@ -103,25 +136,67 @@ both_unicode c d high low h l one two r t reads_one reads_two is_c is_d same =
     let same_low : low ≡ l = cc in
     (omega (arith, is_c, is_d, same_high, same_low), parts.1)
 
-one_character : (c d : ℕ) (p q r t : List ℕ) → IsJsonCharacter c p → IsJsonCharacter d q → p ++ r ≡ q ++ t → (c ≡ d) × (r ≡ t)
+-- The escapes of a number and of two surrogates, with what follows them.
+pub unit_bytes : (unit : ℕ) (p r : List ℕ) (is : IsUnitEscape unit p) → p ++ r ≡ 92 ∷ 117 ∷ (is.2 ++ r)
+unit_bytes unit p r is = ap (λ (bs : List ℕ). bs ++ r) is.5
+
+pub pair_bytes : (c : ℕ) (p r : List ℕ) (is : IsSurrogatePair c p) → p ++ r ≡ is.3.0 ++ (is.3.1 ++ r)
+pair_bytes c p r is = ap (λ (bs : List ℕ). bs ++ r) is.3.2 ∙ append_assoc is.3.0 is.3.1 r
+
+pair_begins : (c : ℕ) (p r : List ℕ) (is : IsSurrogatePair c p) → p ++ r ≡ 92 ∷ 117 ∷ (is.3.3.2 ++ (is.3.1 ++ r))
+pair_begins c p r is = pair_bytes c p r is ∙ unit_bytes is.0 is.3.0 (is.3.1 ++ r) is.3.3
+
+pub one_unit : (c d : ℕ) (p q r t : List ℕ) → IsUnitEscape c p → IsUnitEscape d q → p ++ r ≡ q ++ t → (c ≡ d) × (r ≡ t)
+one_unit c d p q r t a b same =
+    both_unicode c d a.0 a.1 b.0 b.1 a.2 b.2 r t a.3 b.3 a.4 b.4 (sym (unit_bytes c p r a) ∙ same ∙ unit_bytes d q t b)
+
+-- Where an escaped character begins, no two surrogates do.
+one_or_two : (c d : ℕ) (p q r t : List ℕ) → IsUnicodeEscape c p → IsSurrogatePair d q → p ++ r ≡ q ++ t → ⊥
+one_or_two c d p q r t one pair same =
+    let first : c ≡ pair.0 = (one_unit c pair.0 p pair.3.0 r (pair.3.1 ++ t) one.0 pair.3.3 (same ∙ pair_bytes d q t pair)).0 in
+    one.1 (omega (arith, first, pair.2.0), omega (arith, first, pair.2.1))
+
+both_pairs : (c d : ℕ) (p q r t : List ℕ) → IsSurrogatePair c p → IsSurrogatePair d q → p ++ r ≡ q ++ t → (c ≡ d) × (r ≡ t)
+both_pairs c d p q r t a b same =
+    let high = one_unit a.0 b.0 a.3.0 b.3.0 (a.3.1 ++ r) (b.3.1 ++ t) a.3.3 b.3.3 (sym (pair_bytes c p r a) ∙ same ∙ pair_bytes d q t b) in
+    let low = one_unit a.1 b.1 a.3.1 b.3.1 r t a.3.4 b.3.4 high.1 in
+    (omega (arith, a.2.4, b.2.4, high.0, low.0), low.1)
+
+-- an escaped character's first two bytes
+pub escape_begins : (c : ℕ) (p r : List ℕ) → IsUnicodeEscape c p ⊎ IsSurrogatePair c p → (more : List ℕ) × (p ++ r ≡ 92 ∷ 117 ∷ more)
+escape_begins c p r (inl a) = (a.0.2 ++ r, unit_bytes c p r a.0)
+escape_begins c p r (inr a) = (a.3.3.2 ++ (a.3.1 ++ r), pair_begins c p r a)
+
+both_escapes : (c d : ℕ) (p q r t : List ℕ) → IsUnicodeEscape c p ⊎ IsSurrogatePair c p → IsUnicodeEscape d q ⊎ IsSurrogatePair d q → p ++ r ≡ q ++ t → (c ≡ d) × (r ≡ t)
+both_escapes c d p q r t (inl a) (inl b) same = one_unit c d p q r t a.0 b.0 same
+both_escapes c d p q r t (inl a) (inr b) same = absurd (one_or_two c d p q r t a b same)
+both_escapes c d p q r t (inr a) (inl b) same = absurd (one_or_two d c q p t r b a (sym same))
+both_escapes c d p q r t (inr a) (inr b) same = both_pairs c d p q r t a b same
+
+plain_or_escape : (c d : ℕ) (p q r t : List ℕ) → IsPlain c p → IsUnicodeEscape d q ⊎ IsSurrogatePair d q → p ++ r ≡ q ++ t → ⊥
+plain_or_escape c d p q r t a b same =
+    let front = escape_begins d q t b in
+    plain_first c p r (117 ∷ front.0) a (same ∙ front.1)
+
+short_or_escape : (c d : ℕ) (p q r t : List ℕ) → IsShortEscape c p → IsUnicodeEscape d q ⊎ IsSurrogatePair d q → p ++ r ≡ q ++ t → ⊥
+short_or_escape c d p q r t a b same =
+    let front = escape_begins d q t b in
+    short_or_unicode c a.0 r front.0 a.1 (ap (λ (bs : List ℕ). bs ++ r) (sym a.2) ∙ same ∙ front.1)
+
+pub one_character : (c d : ℕ) (p q r t : List ℕ) → IsJsonCharacter c p → IsJsonCharacter d q → p ++ r ≡ q ++ t → (c ≡ d) × (r ≡ t)
 one_character c d p q r t (inl a) (inl b) same =
     encode_same c d r t (ap (λ (bs : List ℕ). bs ++ r) (sym a.3) ∙ same ∙ ap (λ (bs : List ℕ). bs ++ t) b.3)
 one_character c d p q r t (inl a) (inr (inl b)) same =
     absurd (plain_first c p r (b.0 ∷ t) a (same ∙ ap (λ (bs : List ℕ). bs ++ t) b.2))
-one_character c d p q r t (inl a) (inr (inr b)) same =
-    absurd (plain_first c p r (117 ∷ (b.2 ++ t)) a (same ∙ ap (λ (bs : List ℕ). bs ++ t) b.5))
+one_character c d p q r t (inl a) (inr (inr b)) same = absurd (plain_or_escape c d p q r t a b same)
 one_character c d p q r t (inr (inl a)) (inl b) same =
     absurd (plain_first d q t (a.0 ∷ r) b (sym same ∙ ap (λ (bs : List ℕ). bs ++ r) a.2))
-one_character c d p q r t (inr (inr a)) (inl b) same =
-    absurd (plain_first d q t (117 ∷ (a.2 ++ r)) b (sym same ∙ ap (λ (bs : List ℕ). bs ++ r) a.5))
+one_character c d p q r t (inr (inr a)) (inl b) same = absurd (plain_or_escape d c q p t r b a (sym same))
 one_character c d p q r t (inr (inl a)) (inr (inl b)) same =
     both_short c d a.0 b.0 r t a.1 b.1 (ap (λ (bs : List ℕ). bs ++ r) (sym a.2) ∙ same ∙ ap (λ (bs : List ℕ). bs ++ t) b.2)
-one_character c d p q r t (inr (inl a)) (inr (inr b)) same =
-    absurd (short_or_unicode c a.0 r (b.2 ++ t) a.1 (ap (λ (bs : List ℕ). bs ++ r) (sym a.2) ∙ same ∙ ap (λ (bs : List ℕ). bs ++ t) b.5))
-one_character c d p q r t (inr (inr a)) (inr (inl b)) same =
-    absurd (short_or_unicode d b.0 t (a.2 ++ r) b.1 (ap (λ (bs : List ℕ). bs ++ t) (sym b.2) ∙ sym same ∙ ap (λ (bs : List ℕ). bs ++ r) a.5))
-one_character c d p q r t (inr (inr a)) (inr (inr b)) same =
-    both_unicode c d a.0 a.1 b.0 b.1 a.2 b.2 r t a.3 b.3 a.4 b.4 (ap (λ (bs : List ℕ). bs ++ r) (sym a.5) ∙ same ∙ ap (λ (bs : List ℕ). bs ++ t) b.5)
+one_character c d p q r t (inr (inl a)) (inr (inr b)) same = absurd (short_or_escape c d p q r t a b same)
+one_character c d p q r t (inr (inr a)) (inr (inl b)) same = absurd (short_or_escape d c q p t r b a (sym same))
+one_character c d p q r t (inr (inr a)) (inr (inr b)) same = both_escapes c d p q r t a b same
 
 some_bytes : (c : ℕ) (bytes rest : List ℕ) → IsJsonCharacter c bytes → bytes ++ rest ≡ [] → ⊥
 some_bytes c bytes rest (inl plain) none =
@@ -130,8 +205,9 @@ some_bytes c bytes rest (inl plain) none =
 some_bytes c bytes rest (inr (inl short)) none =
     let front : 92 ∷ short.0 ∷ rest ≡ [] = ap (λ (bs : List ℕ). bs ++ rest) (sym short.2) ∙ none in
     cc
-some_bytes c bytes rest (inr (inr unicode)) none =
-    let front : 92 ∷ 117 ∷ (unicode.2 ++ rest) ≡ [] = ap (λ (bs : List ℕ). bs ++ rest) (sym unicode.5) ∙ none in
+some_bytes c bytes rest (inr (inr escape)) none =
+    let begins = escape_begins c bytes rest escape in
+    let front : 92 ∷ 117 ∷ begins.0 ≡ [] = sym begins.1 ∙ none in
     cc
 
 same_characters : (cs ds bytes : List ℕ) → AreJsonCharacters cs bytes → AreJsonCharacters ds bytes → cs ≡ ds

@@ -17,5 +17,7 @@ pub mod DigitPairs
 pub mod PutParts
 pub mod MaskedLanes
 pub mod RunTexts
+pub mod HiddenRanges
+pub mod PlainStarts
 pub mod RunCharacters
 pub mod DifferingParts

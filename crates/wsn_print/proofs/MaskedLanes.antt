@@ -8,7 +8,7 @@ use lib.Lanes.{zip2, mask_l, top}
 abbrev pub lane : (ℕ → Bool) → ℕ → ℕ
 lane p x = cond (p x) 255 0
 
-map_same : (f g : ℕ → ℕ) → ((x : ℕ) → f x ≡ g x) → (xs : List ℕ) → map f xs ≡ map g xs
+pub map_same : (f g : ℕ → ℕ) → ((x : ℕ) → f x ≡ g x) → (xs : List ℕ) → map f xs ≡ map g xs
 map_same f g same [] = refl
 map_same f g same (x ∷ xs) = ap₂ (λ y ys. y ∷ ys) (same x) (map_same f g same xs)
 
@@ -57,12 +57,3 @@ pub bits_of : (p q : ℕ → Bool) (lanes xs : List ℕ) → length xs ≡ 16 �
 bits_of p q lanes xs long same is =
     ap (λ ls. mask_l (map (top 7) ls) % 2 ^ 64) is ∙ ap (λ bs. mask_l bs % 2 ^ 64) (tops p xs)
     ∙ mask_l-mod (map p xs) 64 (omega (arith, length-tests p xs, long)) ∙ ap mask_l (tests_same p q same xs)
-
--- tests that are joined from the first to the last, and from the last to the first
-pub same_six : (a b c d e f : Bool) → ((((a || b) || c) || d) || e) || f ≡ a || b || c || d || e || f
-same_six true b c d e f = refl
-same_six false true c d e f = refl
-same_six false false true d e f = refl
-same_six false false false true e f = refl
-same_six false false false false true f = refl
-same_six false false false false false f = refl

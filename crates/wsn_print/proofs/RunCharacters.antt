@@ -1,124 +1,310 @@
 -- Where the hidden characters are in UTF-8.
-use Rattle.std.proofs.Common.{◌≡◌, ℕ, ◌+◌, ◌*◌, ◌/◌, ◌%◌, ◌<◌, ◌≤◌, Bool, false, inl, inr, sym, ap, ◌∙◌, arith}
-use Rattle.std.specs.Prelude.{Option, None, Some, if◌then◌else◌}
-use Rattle.std.proofs.lemmas.Bool.{cases_eq, cases_lt}
+use Rattle.std.proofs.Common.{◌≡◌, ℕ, ◌+◌, ◌*◌, ◌/◌, ◌%◌, ◌<◌, ◌≤◌, Bool, true, false, ◌&&◌, inl, inr, refl, sym, ap, ◌∙◌, arith}
+use Rattle.std.specs.Prelude.{nat_le, nat_lt, Option, None, Some, List, length, get_or, IfSome, if◌then◌else◌}
+use Rattle.std.proofs.lemmas.Bool.{cases_Bool, cases_lt, and_parts}
 use Rattle.std.proofs.lemmas.Bool.Decides.{nat_tests}
-use Rattle.wsn_print.specs.ShownText.{is_hidden}
-use Rattle.wsn_print.specs.Runs.{hidden_of}
+use Rattle.std.proofs.lemmas.List.{get_or_past}
+use Rattle.wsn_print.specs.CharacterText.{is_continuation}
+use Rattle.wsn_print.specs.Runs.{class_of, hidden_from, hidden_of}
+use Rattle.wsn_print.specs.ShownText.{is_from, is_hidden}
+use Rattle.wsn_print.proofs.HiddenRanges.{from_is, from_low, from_high, hidden_scalar, of_one_byte, of_two_bytes, of_three_bytes, of_four_bytes}
 
 -- The hidden character that c is, with some bytes after its first; none, if it isn't hidden.
 abbrev pub hidden_in : ℕ → ℕ → Option (ℕ × ℕ)
 hidden_in c more = if is_hidden c then Some (c, more) else None
 
-visible : (c more : ℕ) → is_hidden c ≡ false → hidden_in c more ≡ None
-visible c more isnt = ap (λ (yes : Bool). if yes then Some (c, more) else None) isnt
+-- ---- the four forms of a character
 
-pub in_one_byte : (c second third : ℕ) → c < 128 → hidden_of c second third ≡ hidden_in c 0
-in_one_byte c second third low = grind (arith, nat_tests, low)
+abbrev pub two : ℕ → ℕ → ℕ
+two b second = b % 32 * 64 + second % 64
 
-after_c2 : (s third : ℕ) → 128 ≤ s → s < 192 → hidden_of 194 s third ≡ hidden_in s 1
-after_c2 s third low high = grind (arith, nat_tests, low, high)
+abbrev pub three : ℕ → ℕ → ℕ → ℕ
+three b second third = (b % 16 * 64 + second % 64) * 64 + third % 64
 
-after_d8 : (s third c : ℕ) → 128 ≤ s → s < 192 → c ≡ 1408 + s → hidden_of 216 s third ≡ hidden_in c 1
-after_d8 s third c low high is = grind (arith, nat_tests, low, high, is)
+abbrev pub four : ℕ → ℕ → ℕ → ℕ → ℕ
+four b second third fourth = ((b % 8 * 64 + second % 64) * 64 + third % 64) * 64 + fourth % 64
 
-other_of_two : (b s third c : ℕ) → 194 ≤ b → b < 224 → (b ≡ 194 → ⊥) → (b ≡ 216 → ⊥) → hidden_of b s third ≡ None
-other_of_two b s third c low high not_c2 not_d8 = grind (arith, nat_tests, low, high, not_c2, not_d8)
+both : (a b : Bool) → a ≡ true → b ≡ true → (a && b) ≡ true
+both true b one two = two
+both false b one two = absurd cc
 
-visible_of_two : (b s c : ℕ) → 195 ≤ b → b < 224 → 128 ≤ s → s < 192 → (b ≡ 216 → ⊥) → c + 12416 ≡ b * 64 + s → is_hidden c ≡ false
-visible_of_two b s c low high s_low s_high not_d8 is =
-    let small : c < 2048 = omega arith in
-    let large : 192 ≤ c = omega arith in
-    let not_61c : c ≡ 0x61c → ⊥ = λ e. not_d8 (omega (arith, e, is)) in
-    grind (arith, nat_tests, small, large, not_61c)
+not_both : (a b : Bool) → a ≡ false → (a && b) ≡ false
+not_both true b isnt = absurd cc
+not_both false b isnt = refl
 
-two_bytes : (b s third c : ℕ) → 194 ≤ b → b < 224 → 128 ≤ s → s < 192 → c + 12416 ≡ b * 64 + s → hidden_of b s third ≡ hidden_in c 1
-two_bytes b s third c low high s_low s_high is = elim (cases_eq b 194) [
-  | inl c2 ↦
-      let same : s ≡ c = omega arith in
-      ap (λ (n : ℕ). hidden_of n s third) c2 ∙ after_c2 s third s_low s_high ∙ ap (λ (n : ℕ). hidden_in n 1) same
-  | inr not_c2 ↦ elim (cases_eq b 216) [
-    | inl d8 ↦ ap (λ (n : ℕ). hidden_of n s third) d8 ∙ after_d8 s third c s_low s_high (omega arith)
-    | inr not_d8 ↦ other_of_two b s third c low high not_c2 not_d8 ∙ sym (visible c 1 (visible_of_two b s c (omega (arith, not_c2)) high s_low s_high not_d8 is))
-  ]
+from_isnt : (low high c : ℕ) → (low ≤ c → c ≤ high → ⊥) → is_from low high c ≡ false
+from_isnt low high c isnt = elim (cases_Bool (is_from low high c)) [
+  | inl is ↦ absurd (isnt (from_low low high c is) (from_high low high c is))
+  | inr other ↦ other
 ]
 
-pub in_two_bytes : (c third : ℕ) → 128 ≤ c → c < 2048 → hidden_of (192 + c / 64) (128 + c % 64) third ≡ hidden_in c 1
-in_two_bytes c third low high =
-    two_bytes (192 + c / 64) (128 + c % 64) third c (omega arith) (omega arith) (omega arith) (omega arith) (omega arith)
+small : (b : ℕ) → b < 128 → nat_lt b 0x80 ≡ true
+small b is = grind (arith, nat_tests)
 
-after_e2_80 : (t c : ℕ) → 128 ≤ t → t < 192 → c ≡ 8064 + t → hidden_of 226 128 t ≡ hidden_in c 2
-after_e2_80 t c low high is = grind (arith, nat_tests, low, high, is)
+large : (b : ℕ) → 128 ≤ b → nat_lt b 0x80 ≡ false
+large b is = grind (arith, nat_tests)
 
-after_e2_81 : (t c : ℕ) → 128 ≤ t → t < 192 → c ≡ 8128 + t → hidden_of 226 129 t ≡ hidden_in c 2
-after_e2_81 t c low high is = grind (arith, nat_tests, low, high, is)
+is_small : (b : ℕ) → nat_lt b 0x80 ≡ true → b < 0x80
+is_small b is = grind (arith, nat_tests)
 
-after_ef_bb : (t c : ℕ) → 128 ≤ t → t < 192 → c ≡ 65088 + t → hidden_of 239 187 t ≡ hidden_in c 2
-after_ef_bb t c low high is = grind (arith, nat_tests, low, high, is)
+continues : (b : ℕ) → 128 ≤ b → b < 192 → is_continuation b ≡ true
+continues b low high = from_is 0x80 0xbf b low (omega arith)
 
-other_after_e2 : (s t : ℕ) → (s ≡ 128 → ⊥) → (s ≡ 129 → ⊥) → hidden_of 226 s t ≡ None
-other_after_e2 s t not_80 not_81 = grind (arith, nat_tests, not_80, not_81)
+least_passes : (least c : ℕ) → least ≤ c → nat_le least c ≡ true
+least_passes least c is = grind (arith, nat_tests)
 
-other_after_ef : (s t : ℕ) → (s ≡ 187 → ⊥) → hidden_of 239 s t ≡ None
-other_after_ef s t not_bb = grind (arith, nat_tests, not_bb)
+least_is : (least c : ℕ) → nat_le least c ≡ true → least ≤ c
+least_is least c is = grind (arith, nat_tests)
 
-other_of_three : (b s t : ℕ) → 224 ≤ b → (b ≡ 226 → ⊥) → (b ≡ 239 → ⊥) → hidden_of b s t ≡ None
-other_of_three b s t low not_e2 not_ef = grind (arith, nat_tests, low, not_e2, not_ef)
+from_least : (least c more : ℕ) → least ≤ c → hidden_from least c more ≡ hidden_in c more
+from_least least c more is = ap (λ (passes : Bool). if passes && is_hidden c then Some (c, more) else None) (least_passes least c is)
 
-visible_after_e2 : (c : ℕ) → 8320 ≤ c → c < 12288 → is_hidden c ≡ false
-visible_after_e2 c low high = grind (arith, nat_tests, low, high)
+first_form : (a : Bool) (w x : Option (ℕ × ℕ)) → a ≡ true → (if a then w else x) ≡ w
+first_form true w x is = refl
+first_form false w x is = absurd cc
 
-visible_after_ef : (c : ℕ) → 61440 ≤ c → (c ≡ 65279 → ⊥) → is_hidden c ≡ false
-visible_after_ef c low isnt = grind (arith, nat_tests, low, isnt)
+second_form : (a b : Bool) (w x y : Option (ℕ × ℕ)) → a ≡ false → b ≡ true → (if a then w else if b then x else y) ≡ x
+second_form true b w x y one is = absurd cc
+second_form false true w x y one is = refl
+second_form false false w x y one is = absurd cc
 
-visible_below_e2 : (c : ℕ) → 2048 ≤ c → c < 8192 → is_hidden c ≡ false
-visible_below_e2 c low high = grind (arith, nat_tests, low, high)
+furtherform : (a b c : Bool) (w x y z : Option (ℕ × ℕ)) → a ≡ false → b ≡ false → c ≡ true → (if a then w else if b then x else if c then y else z) ≡ y
+furtherform true b c w x y z one another is = absurd cc
+furtherform false true c w x y z one another is = absurd cc
+furtherform false false true w x y z one another is = refl
+furtherform false false false w x y z one another is = absurd cc
 
-visible_above_e2 : (c : ℕ) → 12288 ≤ c → c < 61440 → is_hidden c ≡ false
-visible_above_e2 c low high = grind (arith, nat_tests, low, high)
+fourth_form : (a b c d : Bool) (v w x y z : Option (ℕ × ℕ)) → a ≡ false → b ≡ false → c ≡ false → d ≡ true
+    → (if a then v else if b then w else if c then x else if d then y else z) ≡ y
+fourth_form true b c d v w x y z one another further is = absurd cc
+fourth_form false true c d v w x y z one another further is = absurd cc
+fourth_form false false true d v w x y z one another further is = absurd cc
+fourth_form false false false true v w x y z one another further is = refl
+fourth_form false false false false v w x y z one another further is = absurd cc
 
-visible_of_three : (b s t c : ℕ) → 224 ≤ b → b < 240 → 128 ≤ s → s < 192 → 128 ≤ t → t < 192 → (b ≡ 226 → ⊥) → (b ≡ 239 → ⊥)
-    → 2048 ≤ c → c + 925824 ≡ b * 4096 + s * 64 + t → is_hidden c ≡ false
-visible_of_three b s t c low high s_low s_high t_low t_high not_e2 not_ef large is = elim (cases_lt b 226) [
-  | inl below ↦ visible_below_e2 c large (omega arith)
-  | inr above ↦ visible_above_e2 c (omega (arith, not_e2)) (omega (arith, not_ef))
+no_form : (a b c d : Bool) (v w x y : Option (ℕ × ℕ)) → a ≡ false → b ≡ false → c ≡ false → d ≡ false
+    → (if a then v else if b then w else if c then x else if d then y else None) ≡ None
+no_form true b c d v w x y one another further last = absurd cc
+no_form false true c d v w x y one another further last = absurd cc
+no_form false false true d v w x y one another further last = absurd cc
+no_form false false false true v w x y one another further last = absurd cc
+no_form false false false false v w x y one another further last = refl
+
+-- whichever form it is, what follows of it
+by_form : (P : Option (ℕ × ℕ) → Type 0) (a b c d : Bool) (v w x y : Option (ℕ × ℕ)) → (a ≡ true → P v) → (b ≡ true → P w) → (c ≡ true → P x) → (d ≡ true → P y) → P None
+    → P (if a then v else if b then w else if c then x else if d then y else None)
+by_form P true b c d v w x y first second third fourth none = first refl
+by_form P false true c d v w x y first second third fourth none = second refl
+by_form P false false true d v w x y first second third fourth none = third refl
+by_form P false false false true v w x y first second third fourth none = fourth refl
+by_form P false false false false v w x y first second third fourth none = none
+
+-- ---- the character that is encoded
+
+pub in_one_byte : (c second third fourth : ℕ) → c < 128 → hidden_of c second third fourth ≡ hidden_in c 0
+in_one_byte c second third fourth low =
+    first_form _ (hidden_from 0 c 0) _ (small c low) ∙ from_least 0 c 0 (omega arith)
+
+pub in_two_bytes : (c third fourth : ℕ) → 128 ≤ c → c < 2048 → hidden_of (192 + c / 64) (128 + c % 64) third fourth ≡ hidden_in c 1
+in_two_bytes c third fourth low high =
+    let b : ℕ = 192 + c / 64 in
+    let s : ℕ = 128 + c % 64 in
+    let is : two b s ≡ c = omega arith in
+    second_form _ _ _ (hidden_from 0x80 (two b s) 1) _ (large b (omega arith)) (both _ _ (from_is 0xc2 0xdf b (omega arith) (omega arith)) (continues s (omega arith) (omega arith)))
+    ∙ ap (λ (n : ℕ). hidden_from 0x80 n 1) is ∙ from_least 0x80 c 1 low
+
+pub in_three_bytes : (c fourth : ℕ) → 2048 ≤ c → c < 65536
+    → hidden_of (224 + c / 4096) (128 + c / 64 % 64) (128 + c % 64) fourth ≡ hidden_in c 2
+in_three_bytes c fourth low high =
+    let b : ℕ = 224 + c / 4096 in
+    let s : ℕ = 128 + c / 64 % 64 in
+    let t : ℕ = 128 + c % 64 in
+    let is : three b s t ≡ c = omega arith in
+    furtherform _ _ _ _ _ (hidden_from 0x800 (three b s t) 2) _ (large b (omega arith)) (not_both _ _ (from_isnt 0xc2 0xdf b (λ least most. omega arith)))
+    (both _ _ (from_is 0xe0 0xef b (omega arith) (omega arith)) (both _ _ (continues s (omega arith) (omega arith)) (continues t (omega arith) (omega arith))))
+    ∙ ap (λ (n : ℕ). hidden_from 0x800 n 2) is ∙ from_least 0x800 c 2 low
+
+beyond_all : (c more : ℕ) → 0x110000 ≤ c → hidden_in c more ≡ None
+beyond_all c more high = elim (cases_Bool (is_hidden c)) [
+  | inl hidden ↦ absurd (omega (arith, (hidden_scalar c hidden).1))
+  | inr isnt ↦ ap (λ (yes : Bool). if yes then Some (c, more) else None) isnt
 ]
 
-with_e2 : (s t c : ℕ) → 128 ≤ s → s < 192 → 128 ≤ t → t < 192 → c + 925824 ≡ 226 * 4096 + s * 64 + t → hidden_of 226 s t ≡ hidden_in c 2
-with_e2 s t c s_low s_high t_low t_high is = elim (cases_eq s 128) [
-  | inl first ↦ ap (λ (n : ℕ). hidden_of 226 n t) first ∙ after_e2_80 t c t_low t_high (omega arith)
-  | inr not_80 ↦ elim (cases_eq s 129) [
-    | inl second ↦ ap (λ (n : ℕ). hidden_of 226 n t) second ∙ after_e2_81 t c t_low t_high (omega arith)
-    | inr not_81 ↦ other_after_e2 s t not_80 not_81 ∙ sym (visible c 2 (visible_after_e2 c (omega (arith, not_80, not_81)) (omega arith)))
-  ]
+pub in_four_bytes : (c : ℕ) → 65536 ≤ c
+    → hidden_of (240 + c / 262144) (128 + c / 4096 % 64) (128 + c / 64 % 64) (128 + c % 64) ≡ hidden_in c 3
+in_four_bytes c low =
+    let b : ℕ = 240 + c / 262144 in
+    let s : ℕ = 128 + c / 4096 % 64 in
+    let t : ℕ = 128 + c / 64 % 64 in
+    let u : ℕ = 128 + c % 64 in
+    let one = large b (omega arith) in
+    let another = not_both _ (is_continuation s) (from_isnt 0xc2 0xdf b (λ least most. omega arith)) in
+    let third = not_both _ (is_continuation s && is_continuation t) (from_isnt 0xe0 0xef b (λ least most. omega arith)) in
+    elim (cases_lt c 0x140000) [
+      | inl small ↦
+          let is : four b s t u ≡ c = omega arith in
+          fourth_form _ _ _ _ _ _ _ (hidden_from 0x10000 (four b s t u) 3) _ one another third
+          (both _ _ (from_is 0xf0 0xf4 b (omega arith) (omega arith)) (both _ _ (continues s (omega arith) (omega arith)) (both _ _ (continues t (omega arith) (omega arith)) (continues u (omega arith) (omega arith)))))
+          ∙ ap (λ (n : ℕ). hidden_from 0x10000 n 3) is ∙ from_least 0x10000 c 3 low
+      | inr beyond ↦
+          no_form _ _ _ _ _ _ _ _ one another third (not_both _ _ (from_isnt 0xf0 0xf4 b (λ least most. omega arith)))
+          ∙ sym (beyond_all c 3 (omega arith))
+    ]
+
+-- A byte that continues a character begins none.
+pub none_in_continuation : (b second third fourth : ℕ) → 128 ≤ b → b < 192 → hidden_of b second third fourth ≡ None
+none_in_continuation b second third fourth low high =
+    no_form _ _ _ _ (hidden_from 0 b 0) (hidden_from 0x80 (two b second) 1) (hidden_from 0x800 (three b second third) 2) (hidden_from 0x10000 (four b second third fourth) 3)
+    (large b low) (not_both _ _ (from_isnt 0xc2 0xdf b (λ least most. omega arith))) (not_both _ _ (from_isnt 0xe0 0xef b (λ least most. omega arith))) (not_both _ _ (from_isnt 0xf0 0xf4 b (λ least most. omega arith)))
+
+-- ---- no character is hidden that begins with two bytes of no class
+
+not_hidden : (least c more : ℕ) → (least ≤ c → is_hidden c ≡ true → ⊥) → hidden_from least c more ≡ None
+not_hidden least c more isnt = elim (cases_Bool (nat_le least c && is_hidden c)) [
+  | inl is ↦
+      let parts = and_parts (nat_le least c) (is_hidden c) is in
+      absurd (isnt (least_is least c parts.0) parts.1)
+  | inr other ↦ ap (λ (yes : Bool). if yes then Some (c, more) else None) other
 ]
 
-with_ef : (s t c : ℕ) → 128 ≤ s → s < 192 → 128 ≤ t → t < 192 → c + 925824 ≡ 239 * 4096 + s * 64 + t → hidden_of 239 s t ≡ hidden_in c 2
-with_ef s t c s_low s_high t_low t_high is = elim (cases_eq s 187) [
-  | inl bb ↦ ap (λ (n : ℕ). hidden_of 239 n t) bb ∙ after_ef_bb t c t_low t_high (omega arith)
-  | inr not_bb ↦ other_after_ef s t not_bb ∙ sym (visible c 2 (visible_after_ef c (omega arith) (λ e. not_bb (omega (arith, e, is)))))
+no_two : (b second : ℕ) → (is_from 0xc2 0xdf b && is_continuation second) ≡ true → class_of b second ≡ 0 → hidden_from 0x80 (two b second) 1 ≡ None
+no_two b second is none =
+    let parts = and_parts (is_from 0xc2 0xdf b) (is_continuation second) is in
+    let low : 0xc2 ≤ b = from_low 0xc2 0xdf b parts.0 in
+    let high : b ≤ 0xdf = from_high 0xc2 0xdf b parts.0 in
+    let s_low : 0x80 ≤ second = from_low 0x80 0xbf second parts.1 in
+    let s_high : second ≤ 0xbf = from_high 0x80 0xbf second parts.1 in
+    let c : ℕ = two b second in
+    let first_is : b ≡ 192 + c / 64 = omega arith in
+    let second_is : second ≡ 128 + c % 64 = omega arith in
+    not_hidden 0x80 c 1 (λ least hidden. of_two_bytes c least (omega arith) hidden (sym (ap (λ (n : ℕ). class_of n second) first_is ∙ ap (class_of (192 + c / 64)) second_is) ∙ none))
+
+no_three : (b second third : ℕ) → (is_from 0xe0 0xef b && (is_continuation second && is_continuation third)) ≡ true → class_of b second ≡ 0
+    → hidden_from 0x800 (three b second third) 2 ≡ None
+no_three b second third is none =
+    let parts = and_parts (is_from 0xe0 0xef b) (is_continuation second && is_continuation third) is in
+    let more = and_parts (is_continuation second) (is_continuation third) parts.1 in
+    let low : 0xe0 ≤ b = from_low 0xe0 0xef b parts.0 in
+    let high : b ≤ 0xef = from_high 0xe0 0xef b parts.0 in
+    let s_low : 0x80 ≤ second = from_low 0x80 0xbf second more.0 in
+    let s_high : second ≤ 0xbf = from_high 0x80 0xbf second more.0 in
+    let c : ℕ = three b second third in
+    let first_is : b ≡ 224 + c / 64 / 64 = omega arith in
+    let second_is : second ≡ 128 + c / 64 % 64 = omega arith in
+    not_hidden 0x800 c 2 (λ least hidden. of_three_bytes c least (omega arith) hidden (sym (ap (λ (n : ℕ). class_of n second) first_is ∙ ap (class_of (224 + c / 64 / 64)) second_is) ∙ none))
+
+no_four : (b second third fourth : ℕ) → (is_from 0xf0 0xf4 b && (is_continuation second && (is_continuation third && is_continuation fourth))) ≡ true
+    → class_of b second ≡ 0 → hidden_from 0x10000 (four b second third fourth) 3 ≡ None
+no_four b second third fourth is none =
+    let parts = and_parts (is_from 0xf0 0xf4 b) (is_continuation second && (is_continuation third && is_continuation fourth)) is in
+    let more = and_parts (is_continuation second) (is_continuation third && is_continuation fourth) parts.1 in
+    let low : 0xf0 ≤ b = from_low 0xf0 0xf4 b parts.0 in
+    let high : b ≤ 0xf4 = from_high 0xf0 0xf4 b parts.0 in
+    let s_low : 0x80 ≤ second = from_low 0x80 0xbf second more.0 in
+    let s_high : second ≤ 0xbf = from_high 0x80 0xbf second more.0 in
+    let c : ℕ = four b second third fourth in
+    let first_is : b ≡ 240 + c / 4096 / 64 = omega arith in
+    let second_is : second ≡ 128 + c / 4096 % 64 = omega arith in
+    not_hidden 0x10000 c 3 (λ least hidden. of_four_bytes c least hidden (sym (ap (λ (n : ℕ). class_of n second) first_is ∙ ap (class_of (240 + c / 4096 / 64)) second_is) ∙ none))
+
+pub none_hidden : (b second third fourth : ℕ) → class_of b second ≡ 0 → hidden_of b second third fourth ≡ None
+none_hidden b second third fourth none =
+    by_form (λ hidden. hidden ≡ None) (nat_lt b 0x80) (is_from 0xc2 0xdf b && is_continuation second) (is_from 0xe0 0xef b && (is_continuation second && is_continuation third))
+    (is_from 0xf0 0xf4 b && (is_continuation second && (is_continuation third && is_continuation fourth)))
+    (hidden_from 0 b 0) (hidden_from 0x80 (two b second) 1) (hidden_from 0x800 (three b second third) 2) (hidden_from 0x10000 (four b second third fourth) 3)
+    (λ is. not_hidden 0 b 0 (λ least hidden. of_one_byte b second (is_small b is) hidden none))
+    (λ is. no_two b second is none) (λ is. no_three b second third is none) (λ is. no_four b second third fourth is none) refl
+
+-- ---- a hidden character that begins a text
+
+same_pair : (found other : ℕ × ℕ) → Some found ≡ Some other → (found.0 ≡ other.0) × (found.1 ≡ other.1)
+same_pair found other same =
+    let is : found ≡ other = cc in
+    (ap (λ (pair : ℕ × ℕ). pair.0) is, ap (λ (pair : ℕ × ℕ). pair.1) is)
+
+none_or_some : (found : ℕ × ℕ) → None ≡ Some found → ⊥
+none_or_some found same = cc
+
+which : (least n m c more : ℕ) → hidden_from least n m ≡ Some (c, more) → (n ≡ c) × (m ≡ more) × (is_hidden n ≡ true)
+which least n m c more is = elim (cases_Bool (nat_le least n && is_hidden n)) [
+  | inl hidden ↦
+      let same = same_pair (n, m) (c, more) (sym (ap (λ (yes : Bool). if yes then Some (n, m) else None) hidden) ∙ is) in
+      (same.0, same.1, (and_parts (nat_le least n) (is_hidden n) hidden).1)
+  | inr other ↦ absurd (none_or_some (c, more) (sym (ap (λ (yes : Bool). if yes then Some (n, m) else None) other) ∙ is))
 ]
 
-three_bytes : (b s t c : ℕ) → 224 ≤ b → b < 240 → 128 ≤ s → s < 192 → 128 ≤ t → t < 192 → 2048 ≤ c
-    → c + 925824 ≡ b * 4096 + s * 64 + t → hidden_of b s t ≡ hidden_in c 2
-three_bytes b s t c low high s_low s_high t_low t_high large is = elim (cases_eq b 226) [
-  | inl e2 ↦ ap (λ (n : ℕ). hidden_of n s t) e2 ∙ with_e2 s t c s_low s_high t_low t_high (is ∙ ap (λ (n : ℕ). n * 4096 + s * 64 + t) e2)
-  | inr not_e2 ↦ elim (cases_eq b 239) [
-    | inl ef ↦ ap (λ (n : ℕ). hidden_of n s t) ef ∙ with_ef s t c s_low s_high t_low t_high (is ∙ ap (λ (n : ℕ). n * 4096 + s * 64 + t) ef)
-    | inr not_ef ↦
-        other_of_three b s t low not_e2 not_ef
-        ∙ sym (visible c 2 (visible_of_three b s t c low high s_low s_high t_low t_high not_e2 not_ef large is))
-  ]
+character : (least n m c more : ℕ) → hidden_from least n m ≡ Some (c, more) → c < 0x110000
+character least n m c more is =
+    let found = which least n m c more is in
+    omega (arith, found.0, (hidden_scalar n found.2).1)
+
+-- It is one of Unicode.
+pub hidden_number : (b second third fourth c more : ℕ) → hidden_of b second third fourth ≡ Some (c, more) → c < 0x110000
+hidden_number b second third fourth c more =
+    by_form (λ hidden. hidden ≡ Some (c, more) → c < 0x110000) (nat_lt b 0x80) (is_from 0xc2 0xdf b && is_continuation second) (is_from 0xe0 0xef b && (is_continuation second && is_continuation third))
+    (is_from 0xf0 0xf4 b && (is_continuation second && (is_continuation third && is_continuation fourth)))
+    (hidden_from 0 b 0) (hidden_from 0x80 (two b second) 1) (hidden_from 0x800 (three b second third) 2) (hidden_from 0x10000 (four b second third fourth) 3)
+    (λ test is. character 0 b 0 c more is) (λ test is. character 0x80 (two b second) 1 c more is) (λ test is. character 0x800 (three b second third) 2 c more is)
+    (λ test is. character 0x10000 (four b second third fourth) 3 c more is) (λ is. absurd (none_or_some (c, more) is))
+
+is_there : (text : List ℕ) (i : ℕ) → is_continuation (get_or text i 0) ≡ true → i < length text
+is_there text i is = elim (cases_lt i (length text)) [
+  | inl within ↦ within
+  | inr past ↦ absurd (omega (arith, get_or_past text i 0 past, from_low 0x80 0xbf (get_or text i 0) is))
 ]
 
-pub in_three_bytes : (c : ℕ) → 2048 ≤ c → c < 65536
-    → hidden_of (224 + c / 4096) (128 + c / 64 % 64) (128 + c % 64) ≡ hidden_in c 2
-in_three_bytes c low high =
-    three_bytes (224 + c / 4096) (128 + c / 64 % 64) (128 + c % 64) c (omega arith) (omega arith) (omega arith) (omega arith) (omega arith)
-    (omega arith) low (omega arith)
+-- The text has all its bytes.
+pub hidden_within : (text : List ℕ) (c more : ℕ) → 0 < length text
+    → hidden_of (get_or text 0 0) (get_or text 1 0) (get_or text 2 0) (get_or text 3 0) ≡ Some (c, more) → more < length text
+hidden_within text c more some =
+    let b : ℕ = get_or text 0 0 in
+    let second : ℕ = get_or text 1 0 in
+    let third : ℕ = get_or text 2 0 in
+    let fourth : ℕ = get_or text 3 0 in
+    by_form (λ hidden. hidden ≡ Some (c, more) → more < length text) (nat_lt b 0x80) (is_from 0xc2 0xdf b && is_continuation second) (is_from 0xe0 0xef b && (is_continuation second && is_continuation third))
+    (is_from 0xf0 0xf4 b && (is_continuation second && (is_continuation third && is_continuation fourth)))
+    (hidden_from 0 b 0) (hidden_from 0x80 (two b second) 1) (hidden_from 0x800 (three b second third) 2) (hidden_from 0x10000 (four b second third fourth) 3)
+    (λ test is. omega (arith, some, (which 0 b 0 c more is).1))
+    (λ test is. omega (arith, is_there text 1 (and_parts (is_from 0xc2 0xdf b) (is_continuation second) test).1, (which 0x80 (two b second) 1 c more is).1))
+    (λ test is.
+    let parts = and_parts (is_from 0xe0 0xef b) (is_continuation second && is_continuation third) test in
+    omega (arith, is_there text 2 (and_parts (is_continuation second) (is_continuation third) parts.1).1, (which 0x800 (three b second third) 2 c more is).1))
+    (λ test is.
+    let parts = and_parts (is_from 0xf0 0xf4 b) (is_continuation second && (is_continuation third && is_continuation fourth)) test in
+    let more_parts = and_parts (is_continuation second) (is_continuation third && is_continuation fourth) parts.1 in
+    omega (arith, is_there text 3 (and_parts (is_continuation third) (is_continuation fourth) more_parts.1).1, (which 0x10000 (four b second third fourth) 3 c more is).1))
+    (λ is. absurd (none_or_some (c, more) is))
 
-pub in_four_bytes : (c second third : ℕ) → 65536 ≤ c → hidden_of (240 + c / 262144) second third ≡ None
-in_four_bytes c second third high = grind (arith, nat_tests, high)
+pub found_within : (text : List ℕ) (found : Option (ℕ × ℕ)) → 0 < length text
+    → found ≡ hidden_of (get_or text 0 0) (get_or text 1 0) (get_or text 2 0) (get_or text 3 0) → IfSome found (λ hidden. hidden.1 < length text)
+found_within text None some is = tt
+found_within text (Some hidden) some is = hidden_within text hidden.0 hidden.1 some (sym is)
 
-pub none_in_four_bytes : (c : ℕ) → 65536 ≤ c → is_hidden c ≡ false
-none_in_four_bytes c high = grind (arith, nat_tests, high)
+-- ---- by the bytes that begin the text
+
+pub of_three : (b second third fourth : ℕ) → 0xe0 ≤ b → b ≤ 0xef → is_continuation second ≡ true → is_continuation third ≡ true
+    → hidden_of b second third fourth ≡ hidden_from 0x800 (three b second third) 2
+of_three b second third fourth low high one also =
+    furtherform (nat_lt b 0x80) (is_from 0xc2 0xdf b && is_continuation second) (is_from 0xe0 0xef b && (is_continuation second && is_continuation third))
+    (hidden_from 0 b 0) (hidden_from 0x80 (two b second) 1) (hidden_from 0x800 (three b second third) 2)
+    (if is_from 0xf0 0xf4 b && (is_continuation second && (is_continuation third && is_continuation fourth)) then hidden_from 0x10000 (four b second third fourth) 3 else None)
+    (large b (omega arith)) (not_both _ _ (from_isnt 0xc2 0xdf b (λ least most. omega arith))) (both _ _ (from_is 0xe0 0xef b low high) (both _ _ one also))
+
+pub of_four : (b second third fourth : ℕ) → 0xf0 ≤ b → b ≤ 0xf4 → is_continuation second ≡ true → is_continuation third ≡ true → is_continuation fourth ≡ true
+    → hidden_of b second third fourth ≡ hidden_from 0x10000 (four b second third fourth) 3
+of_four b second third fourth low high one also last =
+    fourth_form (nat_lt b 0x80) (is_from 0xc2 0xdf b && is_continuation second) (is_from 0xe0 0xef b && (is_continuation second && is_continuation third))
+    (is_from 0xf0 0xf4 b && (is_continuation second && (is_continuation third && is_continuation fourth)))
+    (hidden_from 0 b 0) (hidden_from 0x80 (two b second) 1) (hidden_from 0x800 (three b second third) 2) (hidden_from 0x10000 (four b second third fourth) 3) None
+    (large b (omega arith)) (not_both _ _ (from_isnt 0xc2 0xdf b (λ least most. omega arith))) (not_both _ _ (from_isnt 0xe0 0xef b (λ least most. omega arith)))
+    (both _ _ (from_is 0xf0 0xf4 b low high) (both _ _ one (both _ _ also last)))
+
+-- No character begins with the byte.
+pub of_none : (b second third fourth : ℕ) → 0x80 ≤ b → (0xc2 ≤ b → 0xf5 ≤ b) → None ≡ hidden_of b second third fourth
+of_none b second third fourth low other =
+    sym (no_form (nat_lt b 0x80) (is_from 0xc2 0xdf b && is_continuation second) (is_from 0xe0 0xef b && (is_continuation second && is_continuation third))
+    (is_from 0xf0 0xf4 b && (is_continuation second && (is_continuation third && is_continuation fourth)))
+    (hidden_from 0 b 0) (hidden_from 0x80 (two b second) 1) (hidden_from 0x800 (three b second third) 2) (hidden_from 0x10000 (four b second third fourth) 3)
+    (large b low) (not_both _ _ (from_isnt 0xc2 0xdf b (λ least most. omega (arith, other least))))
+    (not_both _ _ (from_isnt 0xe0 0xef b (λ least most. omega (arith, other (let more : 0xc2 ≤ b = omega arith in more)))))
+    (not_both _ _ (from_isnt 0xf0 0xf4 b (λ least most. omega (arith, other (let more : 0xc2 ≤ b = omega arith in more))))))

@@ -1,19 +1,19 @@
 -- Texts of which most bytes are copied as they are.
-use Rattle.std.proofs.Common.{◌≡◌, inl, inr, ℕ, ◌+◌, ◌-◌, ◌*◌, ◌/◌, ◌%◌, ◌<◌, ◌≤◌, Bool, true, false, not, cond, ◌||◌, List, [], ◌∷◌, ◌++◌, length, take, drop, get_or, refl, sym, ap, ap₂, ◌∙◌, arith, append_assoc, append-nil, length-take-le, take-take, length-drop}
-use Rattle.std.specs.Prelude.{suc, zero, Option, None, Some, flat_map, nat_lt, ◌==◌, ◌&&◌, if◌then◌else◌}
-use Rattle.std.specs.List.{prefix_len}
-use Rattle.std.proofs.lemmas.List.{take-append-drop, drop-drop, take_all}
+use Rattle.std.proofs.Common.{◌≡◌, inl, inr, ℕ, ◌+◌, ◌-◌, ◌*◌, ◌/◌, ◌%◌, ◌<◌, ◌≤◌, Bool, true, false, not, cond, ◌||◌, List, [], ◌∷◌, ◌++◌, length, take, drop, get_or, refl, sym, ap, ap₂, ◌∙◌, arith, append_assoc, append-nil, take-take, length-drop, eqb-true}
+use Rattle.std.specs.Prelude.{suc, zero, Option, None, Some, flat_map, ◌==◌, if◌then◌else◌}
+use Rattle.std.specs.List.{AllByRecursion, prefix_len}
+use Rattle.std.proofs.lemmas.List.{drop-drop, take_all}
 use Rattle.std.specs.Char.{encode_utf8}
-use Rattle.std.proofs.lemmas.Bool.{cases_lt}
+use Rattle.std.proofs.lemmas.Bool.{cases_lt, or_cases}
 use Rattle.std.proofs.lemmas.Bool.Decides.{nat_tests}
 use Rattle.std.proofs.lemmas.Str.{encode_ascii, chars_from_encodes}
-use Rattle.wsn_print.proofs.RunCharacters.{hidden_in, in_one_byte, in_two_bytes, in_three_bytes, in_four_bytes, none_in_four_bytes}
+use Rattle.wsn_print.proofs.RunCharacters.{hidden_in, in_one_byte, in_two_bytes, in_three_bytes, in_four_bytes, none_in_continuation, none_hidden}
 use Rattle.std.specs.Str.{IsUtf8, chars, encode_utf8_all}
 use Rattle.hex.specs.Hex.{encode_with, encode_lower}
 use Rattle.wsn_print.specs.declared.escapes.Escapes.{Escapes}
 use Rattle.wsn_print.specs.declared.escapes.Escapes.TheVariants.{Comment, Quoted}
-use Rattle.wsn_print.specs.ShownText.{is_from, is_hidden, unicode_escape, shown_character}
-use Rattle.wsn_print.specs.Runs.{escaped, escaped_after, escaped_character, is_plain, begins_hidden, takes_backslash, hidden_of, hidden_at, written_of, more_of, escaped_byte}
+use Rattle.wsn_print.specs.ShownText.{is_hidden, unicode_escape, ascii_escape, shown_character}
+use Rattle.wsn_print.specs.Runs.{escaped, escaped_after, escaped_character, class_of, IsPlainUpTo, takes_backslash, hidden_of, hidden_at, written_of, more_of, escaped_byte}
 
 -- A number's escape, in three parts.
 pub escape_written : (t0 t1 t2 t3 : List ℕ) (a b : ℕ) → t1 ≡ t0 ++ 92 ∷ 117 ∷ [] → t2 ≡ t1 ++ encode_lower (a ∷ [])
@@ -24,69 +24,35 @@ escape_written t0 t1 t2 t3 a b is1 is2 is3 =
     ∙ ap (λ (t : List ℕ). t ++ encode_lower (b ∷ [])) (append_assoc t0 (92 ∷ 117 ∷ []) (encode_lower (a ∷ [])))
     ∙ append_assoc t0 (92 ∷ 117 ∷ encode_lower (a ∷ [])) (encode_lower (b ∷ []))
 
-neither : (a b : Bool) → a || b ≡ false → (a ≡ false) × (b ≡ false)
-neither true b isnt = absurd (cc isnt)
-neither false true isnt = absurd (cc isnt)
-neither false false isnt = (refl, refl)
+-- A character beyond U+FFFF in two escapes.
+pub surrogates_written : (t0 t1 t2 : List ℕ) (high low : ℕ) → t1 ≡ t0 ++ unicode_escape high → t2 ≡ t1 ++ unicode_escape low
+    → t2 ≡ t0 ++ (unicode_escape high ++ unicode_escape low)
+surrogates_written t0 t1 t2 high low one two =
+    two ∙ ap (λ (t : List ℕ). t ++ unicode_escape low) one ∙ append_assoc t0 (unicode_escape high) (unicode_escape low)
 
 is_false : (a : Bool) → not a ≡ true → a ≡ false
 is_false true isnt = absurd (cc isnt)
 is_false false isnt = refl
 
-none_if : (a b c d e f p q r1 r2 u1 u2 v1 v2 : Bool) (x1 x2 x3 x4 x5 x6 : Option (ℕ × ℕ)) → a || b || c || d || e || f ≡ false
-    → (if a || b then x1 else if c && p then x2 else if d && q then x3 else if e && r1 && r2 then x4 else if e && u1 && u2 then x5
-    else if f && v1 && v2 then x6 else None) ≡ None
-none_if true b c d e f p q r1 r2 u1 u2 v1 v2 x1 x2 x3 x4 x5 x6 isnt = absurd (cc isnt)
-none_if false true c d e f p q r1 r2 u1 u2 v1 v2 x1 x2 x3 x4 x5 x6 isnt = absurd (cc isnt)
-none_if false false true d e f p q r1 r2 u1 u2 v1 v2 x1 x2 x3 x4 x5 x6 isnt = absurd (cc isnt)
-none_if false false false true e f p q r1 r2 u1 u2 v1 v2 x1 x2 x3 x4 x5 x6 isnt = absurd (cc isnt)
-none_if false false false false true f p q r1 r2 u1 u2 v1 v2 x1 x2 x3 x4 x5 x6 isnt = absurd (cc isnt)
-none_if false false false false false true p q r1 r2 u1 u2 v1 v2 x1 x2 x3 x4 x5 x6 isnt = absurd (cc isnt)
-none_if false false false false false false p q r1 r2 u1 u2 v1 v2 x1 x2 x3 x4 x5 x6 isnt = refl
-
--- No hidden character begins with a byte with which none begins.
-pub none_hidden : (b second third : ℕ) → begins_hidden b ≡ false → hidden_of b second third ≡ None
-none_hidden b second third isnt =
-    none_if (nat_lt b 0x20) (b == 0x7f) (b == 0xc2) (b == 0xd8) (b == 0xe2) (b == 0xef)
-    (is_from 0x80 0x9f second) (second == 0x9c) (second == 0x80) (is_from 0x8e 0x8f third || is_from 0xa8 0xae third)
-    (second == 0x81) (is_from 0xa6 0xa9 third) (second == 0xbb) (third == 0xbf)
-    (Some (b, 0)) (Some (second, 1)) (Some (0x61c, 1)) (Some (0x2000 + third - 0x80, 2)) (Some (0x2040 + third - 0x80, 2)) (Some (0xfeff, 2)) isnt
-
 written_alone : (escapes : Escapes) (b : ℕ) → takes_backslash escapes b ≡ false → escaped_byte escapes b ≡ b ∷ []
 written_alone escapes b isnt = ap (λ (yes : Bool). if yes then 92 ∷ b ∷ [] else b ∷ []) isnt
 
--- The byte begins no hidden character and takes no backslash, so it is copied as it is.
-abbrev is_copied : Escapes → ℕ → Bool
-is_copied escapes b = not (begins_hidden b || takes_backslash escapes b)
-
 -- A byte with which no hidden character begins is written by itself.
-plain_first : (escapes : Escapes) (b : ℕ) (rest : List ℕ) → is_plain b ≡ true
+plain_first : (escapes : Escapes) (b : ℕ) (rest : List ℕ) → class_of b (get_or rest 0 0) ≡ 0
     → escaped escapes (b ∷ rest) ≡ escaped_byte escapes b ++ escaped escapes rest
 plain_first escapes b rest plain =
     ap (λ (hidden : Option (ℕ × ℕ)). written_of escapes hidden b ++ escaped_after (more_of hidden) escapes rest)
-    (none_hidden b (get_or rest 0 0) (get_or rest 1 0) (is_false _ plain))
-
-plain_next : (escapes : Escapes) (b : ℕ) (run rest : List ℕ)
-    → (prefix_len is_plain run ≡ length run → escaped escapes (run ++ rest) ≡ flat_map (escaped_byte escapes) run ++ escaped escapes rest)
-    → (plain : Bool) → is_plain b ≡ plain → cond plain (1 + prefix_len is_plain run) 0 ≡ suc (length run)
-    → escaped escapes (b ∷ run ++ rest) ≡ (escaped_byte escapes b ++ flat_map (escaped_byte escapes) run) ++ escaped escapes rest
-plain_next escapes b run rest later true is all =
-    plain_first escapes b (run ++ rest) is ∙ ap (λ (bs : List ℕ). escaped_byte escapes b ++ bs) (later (omega (arith, all)))
-    ∙ sym (append_assoc (escaped_byte escapes b) (flat_map (escaped_byte escapes) run) (escaped escapes rest))
-plain_next escapes b run rest later false is all = absurd (omega (arith, all))
-
-plain_run : (escapes : Escapes) (run rest : List ℕ) → prefix_len is_plain run ≡ length run
-    → escaped escapes (run ++ rest) ≡ flat_map (escaped_byte escapes) run ++ escaped escapes rest
-plain_run escapes [] rest plain = refl
-plain_run escapes (b ∷ run) rest plain =
-    plain_next escapes b run rest (λ all. plain_run escapes run rest all) (is_plain b) refl plain
+    (none_hidden b (get_or rest 0 0) (get_or rest 1 0) (get_or rest 2 0) plain)
 
 -- The first bytes of a text, as many as begin no hidden character.
-pub plain_start : (escapes : Escapes) (text : List ℕ) (n : ℕ) → n ≤ length text → prefix_len is_plain (take n text) ≡ n
+pub plain_start : (escapes : Escapes) (text : List ℕ) (n : ℕ) → n ≤ length text → IsPlainUpTo n text
     → escaped escapes text ≡ flat_map (escaped_byte escapes) (take n text) ++ escaped escapes (drop n text)
-plain_start escapes text n within plain =
-    ap (escaped escapes) (sym (take-append-drop n text))
-    ∙ plain_run escapes (take n text) (drop n text) (plain ∙ sym (length-take-le n text within))
+plain_start escapes text zero within plain = refl
+plain_start escapes [] (suc n) within plain = absurd (omega (arith, within))
+plain_start escapes (b ∷ rest) (suc n) within plain =
+    plain_first escapes b rest (plain 0 (omega arith))
+    ∙ ap (λ (bs : List ℕ). escaped_byte escapes b ++ bs) (plain_start escapes rest n (omega (arith, within)) (λ i below. plain (suc i) (omega (arith, below))))
+    ∙ sym (append_assoc (escaped_byte escapes b) (flat_map (escaped_byte escapes) (take n rest)) (escaped escapes (drop n rest)))
 
 unmarked_next : (escapes : Escapes) (b : ℕ) (bytes : List ℕ)
     → (prefix_len (λ x. not (takes_backslash escapes x)) bytes ≡ length bytes → flat_map (escaped_byte escapes) bytes ≡ bytes)
@@ -127,30 +93,21 @@ pub byte_written : (escapes : Escapes) (x m : ℕ) (t0 t1 t2 : List ℕ) → m �
     → t1 ≡ t0 ++ take m (92 ∷ []) → t2 ≡ t1 ++ x ∷ [] → t2 ≡ t0 ++ escaped_byte escapes x
 byte_written escapes x m t0 t1 t2 is one two = byte_by (takes_backslash escapes x) x m t0 t1 t2 is one two
 
--- A byte that begins nothing that is escaped is copied.
-copied_first : (escapes : Escapes) (b : ℕ) (rest : List ℕ) → is_copied escapes b ≡ true
-    → escaped escapes (b ∷ rest) ≡ b ∷ escaped escapes rest
-copied_first escapes b rest copied =
-    let isnt = neither _ _ (is_false _ copied) in
-    ap (λ (hidden : Option (ℕ × ℕ)). written_of escapes hidden b ++ escaped_after (more_of hidden) escapes rest)
-    (none_hidden b (get_or rest 0 0) (get_or rest 1 0) isnt.0)
-    ∙ ap (λ (bs : List ℕ). bs ++ escaped escapes rest) (written_alone escapes b isnt.1)
+high_alone : (escapes : Escapes) (b : ℕ) → 128 ≤ b → escaped_byte escapes b ≡ b ∷ []
+high_alone Comment b low = grind (arith, nat_tests, low)
+high_alone Quoted b low = grind (arith, nat_tests, low)
 
-copied_next : (escapes : Escapes) (b : ℕ) (run rest : List ℕ)
-    → (prefix_len (is_copied escapes) run ≡ length run → escaped escapes (run ++ rest) ≡ run ++ escaped escapes rest)
-    → (copied : Bool) → is_copied escapes b ≡ copied
-    → cond copied (1 + prefix_len (is_copied escapes) run) 0 ≡ suc (length run)
-    → escaped escapes (b ∷ run ++ rest) ≡ b ∷ run ++ escaped escapes rest
-copied_next escapes b run rest later true is all =
-    copied_first escapes b (run ++ rest) is ∙ ap (λ (bs : List ℕ). b ∷ bs) (later (omega (arith, all)))
-copied_next escapes b run rest later false is all = absurd (omega (arith, all))
+-- All bytes continue a character.
+abbrev AreContinuations : List ℕ → Type 0
+AreContinuations = AllByRecursion (λ b. (128 ≤ b) × (b < 192))
 
--- and so are several such bytes
-copied_run : (escapes : Escapes) (run rest : List ℕ) → prefix_len (is_copied escapes) run ≡ length run
-    → escaped escapes (run ++ rest) ≡ run ++ escaped escapes rest
-copied_run escapes [] rest copied = refl
-copied_run escapes (b ∷ run) rest copied =
-    copied_next escapes b run rest (λ all. copied_run escapes run rest all) (is_copied escapes b) refl copied
+-- They are copied.
+copied_run : (escapes : Escapes) (run rest : List ℕ) → AreContinuations run → escaped escapes (run ++ rest) ≡ run ++ escaped escapes rest
+copied_run escapes [] rest are = refl
+copied_run escapes (b ∷ run) rest are =
+    ap (λ (hidden : Option (ℕ × ℕ)). written_of escapes hidden b ++ escaped_after (more_of hidden) escapes (run ++ rest))
+    (none_in_continuation b (get_or (run ++ rest) 0 0) (get_or (run ++ rest) 1 0) (get_or (run ++ rest) 2 0) are.0.0 are.0.1)
+    ∙ ap₂ (λ (xs ys : List ℕ). xs ++ ys) (high_alone escapes b are.0.0) (copied_run escapes run rest are.1)
 
 passes_next : (p : ℕ → Bool) (x n : ℕ) (xs : List ℕ) → (n ≤ prefix_len p xs → prefix_len p (take n xs) ≡ n)
     → (passed : Bool) → p x ≡ passed → suc n ≤ cond passed (1 + prefix_len p xs) 0
@@ -175,18 +132,18 @@ passed_over (suc n) escapes (b ∷ text) = passed_over n escapes text
 
 -- A text begins with a hidden character.
 pub hidden_first : (escapes : Escapes) (text : List ℕ) (c more : ℕ) → 0 < length text
-    → hidden_of (get_or text 0 0) (get_or text 1 0) (get_or text 2 0) ≡ Some (c, more)
-    → escaped escapes text ≡ unicode_escape c ++ escaped escapes (drop (1 + more) text)
+    → hidden_of (get_or text 0 0) (get_or text 1 0) (get_or text 2 0) (get_or text 3 0) ≡ Some (c, more)
+    → escaped escapes text ≡ ascii_escape c ++ escaped escapes (drop (1 + more) text)
 hidden_first escapes [] c more some is = absurd (omega (arith, some))
 hidden_first escapes (b ∷ rest) c more some is =
     let next : suc more ≡ 1 + more = omega arith in
     ap (λ (hidden : Option (ℕ × ℕ)). written_of escapes hidden b ++ escaped_after (more_of hidden) escapes rest) is
-    ∙ ap (λ (bs : List ℕ). unicode_escape c ++ bs)
+    ∙ ap (λ (bs : List ℕ). ascii_escape c ++ bs)
     (passed_over more escapes rest ∙ ap (λ (n : ℕ). escaped escapes (drop n (b ∷ rest))) next)
 
 -- A text begins with a character that isn't hidden, or a part of one.
 pub other_first : (escapes : Escapes) (text : List ℕ) → 0 < length text
-    → hidden_of (get_or text 0 0) (get_or text 1 0) (get_or text 2 0) ≡ None
+    → hidden_of (get_or text 0 0) (get_or text 1 0) (get_or text 2 0) (get_or text 3 0) ≡ None
     → escaped escapes text ≡ escaped_byte escapes (get_or text 0 0) ++ escaped escapes (drop 1 text)
 other_first escapes [] some is = absurd (omega (arith, some))
 other_first escapes (b ∷ rest) some is =
@@ -214,53 +171,54 @@ rest_of n text = take_all (length text - n) (drop n text) (omega (arith, length-
 -- a hidden character, of which some bytes are passed over, or one that isn't
 hidden_or_not : (escapes : Escapes) (c b more : ℕ) (conts rest : List ℕ) (hidden : Bool)
     → hidden_at b (conts ++ rest) ≡ (if hidden then Some (c, more) else None)
-    → drop more (conts ++ rest) ≡ rest → prefix_len (is_copied escapes) conts ≡ length conts
-    → escaped escapes (b ∷ conts ++ rest) ≡ (if hidden then unicode_escape c else escaped_byte escapes b ++ conts) ++ escaped escapes rest
+    → drop more (conts ++ rest) ≡ rest → AreContinuations conts
+    → escaped escapes (b ∷ conts ++ rest) ≡ (if hidden then ascii_escape c else escaped_byte escapes b ++ conts) ++ escaped escapes rest
 hidden_or_not escapes c b more conts rest true is passed copied =
     ap (λ (hidden : Option (ℕ × ℕ)). written_of escapes hidden b ++ escaped_after (more_of hidden) escapes (conts ++ rest)) is
-    ∙ ap (λ (bs : List ℕ). unicode_escape c ++ bs)
+    ∙ ap (λ (bs : List ℕ). ascii_escape c ++ bs)
     (passed_over more escapes (conts ++ rest) ∙ ap (escaped escapes) passed)
 hidden_or_not escapes c b more conts rest false is passed copied =
     ap (λ (hidden : Option (ℕ × ℕ)). written_of escapes hidden b ++ escaped_after (more_of hidden) escapes (conts ++ rest)) is
     ∙ ap (λ (bs : List ℕ). escaped_byte escapes b ++ bs) (copied_run escapes conts rest copied)
     ∙ sym (append_assoc (escaped_byte escapes b) conts (escaped escapes rest))
 
-continues : (escapes : Escapes) (b : ℕ) → 128 ≤ b → b < 192 → is_copied escapes b ≡ true
-continues Comment b low high = grind (arith, nat_tests, low, high)
-continues Quoted b low high = grind (arith, nat_tests, low, high)
+no_backslash : (c : ℕ) → 128 ≤ c → (c == 92) ≡ false
+no_backslash c low = grind (arith, nat_tests)
 
-high_alone : (escapes : Escapes) (b : ℕ) → 128 ≤ b → escaped_byte escapes b ≡ b ∷ []
-high_alone Comment b low = grind (arith, nat_tests, low)
-high_alone Quoted b low = grind (arith, nat_tests, low)
+no_mark : (c : ℕ) → 128 ≤ c → (c == 34 || c == 92) ≡ false
+no_mark c low = grind (arith, nat_tests)
 
 -- a character beyond ASCII
 beyond_ascii : (escapes : Escapes) (c : ℕ) → 128 ≤ c
-    → escaped_character escapes c ≡ (if is_hidden c then unicode_escape c else encode_utf8 c)
-beyond_ascii Comment c low = grind (arith, nat_tests, low)
-beyond_ascii Quoted c low = grind (arith, nat_tests, low)
+    → escaped_character escapes c ≡ (if is_hidden c then ascii_escape c else encode_utf8 c)
+beyond_ascii Comment c low = ap (λ (mark : Bool). if mark then 92 ∷ c ∷ [] else shown_character c) (no_backslash c low)
+beyond_ascii Quoted c low = ap (λ (mark : Bool). if mark then 92 ∷ c ∷ [] else shown_character c) (no_mark c low)
 
-shown_ascii : (c : ℕ) → c < 128 → shown_character c ≡ (if is_hidden c then unicode_escape c else c ∷ [])
-shown_ascii c low = ap (λ (bs : List ℕ). if is_hidden c then unicode_escape c else bs) (encode_ascii c low)
+shown_ascii : (c : ℕ) → c < 128 → shown_character c ≡ (if is_hidden c then ascii_escape c else c ∷ [])
+shown_ascii c low = ap (λ (bs : List ℕ). if is_hidden c then ascii_escape c else bs) (encode_ascii c low)
 
 marked : (escapes : Escapes) (c : ℕ) → takes_backslash escapes c ≡ true → is_hidden c ≡ false
-marked Comment c is = grind (arith, nat_tests, is)
-marked Quoted c is = grind (arith, nat_tests, is)
+marked Comment c is = ap is_hidden (eqb-true c 92 is)
+marked Quoted c is = elim (or_cases (c == 34) (c == 92) is) [
+  | inl quote ↦ ap is_hidden (eqb-true c 34 quote)
+  | inr backslash ↦ ap is_hidden (eqb-true c 92 backslash)
+]
 
 ascii_by : (c : ℕ) (mark : Bool) → (mark ≡ true → is_hidden c ≡ false) → c < 128
     → (if mark then 92 ∷ c ∷ [] else shown_character c)
-    ≡ (if is_hidden c then unicode_escape c else (if mark then 92 ∷ c ∷ [] else c ∷ []) ++ [])
-ascii_by c true visible low = sym (ap (λ (yes : Bool). if yes then unicode_escape c else 92 ∷ c ∷ []) (visible refl))
+    ≡ (if is_hidden c then ascii_escape c else (if mark then 92 ∷ c ∷ [] else c ∷ []) ++ [])
+ascii_by c true visible low = sym (ap (λ (yes : Bool). if yes then ascii_escape c else 92 ∷ c ∷ []) (visible refl))
 ascii_by c false visible low = shown_ascii c low
 
 ascii_character : (escapes : Escapes) (c : ℕ) → c < 128
-    → escaped_character escapes c ≡ (if is_hidden c then unicode_escape c else escaped_byte escapes c ++ [])
+    → escaped_character escapes c ≡ (if is_hidden c then ascii_escape c else escaped_byte escapes c ++ [])
 ascii_character Comment c low = ascii_by c (c == 92) (marked Comment c) low
 ascii_character Quoted c low = ascii_by c (c == 34 || c == 92) (marked Quoted c) low
 
 of_one_byte : (escapes : Escapes) (c : ℕ) (rest : List ℕ) → c < 128
     → escaped escapes (c ∷ rest) ≡ escaped_character escapes c ++ escaped escapes rest
 of_one_byte escapes c rest low =
-    hidden_or_not escapes c c 0 [] rest (is_hidden c) (in_one_byte c (get_or rest 0 0) (get_or rest 1 0) low) refl refl
+    hidden_or_not escapes c c 0 [] rest (is_hidden c) (in_one_byte c (get_or rest 0 0) (get_or rest 1 0) (get_or rest 2 0) low) refl tt
     ∙ ap (λ (bs : List ℕ). bs ++ escaped escapes rest) (sym (ascii_character escapes c low))
 
 two_encoded : (c : ℕ) → 128 ≤ c → c < 2048 → encode_utf8 c ≡ (192 + c / 64) ∷ (128 + c % 64) ∷ []
@@ -277,19 +235,14 @@ four_encoded : (c : ℕ) → 65536 ≤ c
 unfolding encode_utf8
 four_encoded c low = grind (arith, nat_tests, low)
 
-copied_more : (escapes : Escapes) (b : ℕ) (bytes : List ℕ) → 128 ≤ b → b < 192 → prefix_len (is_copied escapes) bytes ≡ length bytes
-    → prefix_len (is_copied escapes) (b ∷ bytes) ≡ length (b ∷ bytes)
-copied_more escapes b bytes low high copied =
-    ap (λ (yes : Bool). cond yes (1 + prefix_len (is_copied escapes) bytes) 0) (continues escapes b low high) ∙ omega (arith, copied)
-
 of_more_bytes : (escapes : Escapes) (c b more : ℕ) (conts rest : List ℕ) → 128 ≤ c → 128 ≤ b → encode_utf8 c ≡ b ∷ conts
     → hidden_at b (conts ++ rest) ≡ hidden_in c more → drop more (conts ++ rest) ≡ rest
-    → prefix_len (is_copied escapes) conts ≡ length conts
+    → AreContinuations conts
     → escaped escapes (encode_utf8 c ++ rest) ≡ escaped_character escapes c ++ escaped escapes rest
 of_more_bytes escapes c b more conts rest low high encoded is passed copied =
     ap (λ (bs : List ℕ). escaped escapes (bs ++ rest)) encoded
     ∙ hidden_or_not escapes c b more conts rest (is_hidden c) is passed copied
-    ∙ ap (λ (bs : List ℕ). (if is_hidden c then unicode_escape c else bs) ++ escaped escapes rest)
+    ∙ ap (λ (bs : List ℕ). (if is_hidden c then ascii_escape c else bs) ++ escaped escapes rest)
     (ap (λ (bs : List ℕ). bs ++ conts) (high_alone escapes b high) ∙ sym encoded)
     ∙ ap (λ (bs : List ℕ). bs ++ escaped escapes rest) (sym (beyond_ascii escapes c low))
 
@@ -297,25 +250,21 @@ of_two_bytes : (escapes : Escapes) (c : ℕ) (rest : List ℕ) → 128 ≤ c →
     → escaped escapes (encode_utf8 c ++ rest) ≡ escaped_character escapes c ++ escaped escapes rest
 of_two_bytes escapes c rest low high =
     of_more_bytes escapes c (192 + c / 64) 1 ((128 + c % 64) ∷ []) rest low (omega arith) (two_encoded c low high)
-    (in_two_bytes c (get_or rest 0 0) low high) refl (copied_more escapes (128 + c % 64) [] (omega arith) (omega arith) refl)
+    (in_two_bytes c (get_or rest 0 0) (get_or rest 1 0) low high) refl ((omega arith, omega arith), tt)
 
 of_three_bytes : (escapes : Escapes) (c : ℕ) (rest : List ℕ) → 2048 ≤ c → c < 65536
     → escaped escapes (encode_utf8 c ++ rest) ≡ escaped_character escapes c ++ escaped escapes rest
 of_three_bytes escapes c rest low high =
     of_more_bytes escapes c (224 + c / 4096) 2 ((128 + c / 64 % 64) ∷ (128 + c % 64) ∷ []) rest (omega arith) (omega arith)
-    (three_encoded c low high) (in_three_bytes c low high) refl
-    (copied_more escapes (128 + c / 64 % 64) ((128 + c % 64) ∷ []) (omega arith) (omega arith)
-    (copied_more escapes (128 + c % 64) [] (omega arith) (omega arith) refl))
+    (three_encoded c low high) (in_three_bytes c (get_or rest 0 0) low high) refl
+    ((omega arith, omega arith), ((omega arith, omega arith), tt))
 
 of_four_bytes : (escapes : Escapes) (c : ℕ) (rest : List ℕ) → 65536 ≤ c
     → escaped escapes (encode_utf8 c ++ rest) ≡ escaped_character escapes c ++ escaped escapes rest
 of_four_bytes escapes c rest low =
-    let is : hidden_in c 3 ≡ None = ap (λ (yes : Bool). if yes then Some (c, 3) else None) (none_in_four_bytes c low) in
     of_more_bytes escapes c (240 + c / 262144) 3 ((128 + c / 4096 % 64) ∷ (128 + c / 64 % 64) ∷ (128 + c % 64) ∷ []) rest (omega arith) (omega arith)
-    (four_encoded c low) (in_four_bytes c (128 + c / 4096 % 64) (128 + c / 64 % 64) low ∙ sym is) refl
-    (copied_more escapes (128 + c / 4096 % 64) ((128 + c / 64 % 64) ∷ (128 + c % 64) ∷ []) (omega arith) (omega arith)
-    (copied_more escapes (128 + c / 64 % 64) ((128 + c % 64) ∷ []) (omega arith) (omega arith)
-    (copied_more escapes (128 + c % 64) [] (omega arith) (omega arith) refl)))
+    (four_encoded c low) (in_four_bytes c low) refl
+    ((omega arith, omega arith), ((omega arith, omega arith), ((omega arith, omega arith), tt)))
 
 of_ascii : (escapes : Escapes) (c : ℕ) (rest : List ℕ) → c < 128
     → escaped escapes (encode_utf8 c ++ rest) ≡ escaped_character escapes c ++ escaped escapes rest

@@ -1,6 +1,6 @@
 -- Nothing of a quoted text or of a comment is hidden.
-use Rattle.std.proofs.Common.{◌≡◌, ℕ, zero, suc, ◌/◌, ◌%◌, ◌<◌, ◌≤◌, inl, inr, Bool, true, false, ◌==◌, ◌&&◌, ◌||◌, if◌then◌else◌, List, [], ◌∷◌, ◌++◌, length, take, slice_index, codes, refl, sym, ap, ◌∙◌, subst, arith, eqb-true}
-use Rattle.std.specs.Prelude.{flat_map}
+use Rattle.std.proofs.Common.{◌≡◌, ℕ, zero, suc, ◌+◌, ◌-◌, ◌/◌, ◌%◌, ◌<◌, ◌≤◌, inl, inr, Bool, true, false, ◌==◌, ◌&&◌, ◌||◌, if◌then◌else◌, List, [], ◌∷◌, ◌++◌, length, take, slice_index, codes, refl, sym, ap, ◌∙◌, subst, arith, eqb-true}
+use Rattle.std.specs.Prelude.{nat_lt, flat_map}
 use Rattle.std.proofs.Math.Seq.{take-length}
 use Rattle.std.proofs.lemmas.Bool.{cases_Bool, and_parts, or_cases, cases_lt}
 use Rattle.std.proofs.lemmas.Bool.Decides.{nat_tests}
@@ -13,9 +13,9 @@ use Rattle.std.specs.Str.{chars, IsAscii, IsUtf8, all_scalars, is_utf8}
 use Rattle.std.specs.Str.Lossy.{utf8_valid_len, valid_len_up_to}
 use Rattle.hex.specs.Hex.{encode_with, encode_lower, lower_digits}
 use Rattle.wsn_wire.specs.Frame.{IsBytes}
-use Rattle.wsn_print.specs.ShownText.{is_from, is_hidden, unicode_escape, shown_character, comment_character, quoted_character, quoted, comment_byte, comment_text}
+use Rattle.wsn_print.specs.ShownText.{is_from, is_hidden, unicode_escape, ascii_escape, shown_character, comment_character, quoted_character, quoted, comment_byte, comment_text}
 use Rattle.wsn_print.specs.QuotedTexts.{IsAllVisible}
-use Rattle.wsn_print.proofs.JsonTexts.{hidden_fits}
+use Rattle.wsn_print.proofs.HiddenRanges.{below, hidden_scalar, printable_shown}
 
 -- ---- texts one after another
 
@@ -42,7 +42,10 @@ abbrev pub IsPrintable : ℕ → Type 0
 IsPrintable b = (0x20 ≤ b) × (b ≤ 0x7e)
 
 printable_visible : (b : ℕ) → IsPrintable b → is_hidden b ≡ false
-printable_visible b range = grind (arith, nat_tests, range.0, range.1)
+printable_visible b range = elim (cases_Bool (is_hidden b)) [
+  | inl hidden ↦ absurd (printable_shown b range.0 range.1 hidden)
+  | inr visible ↦ visible
+]
 
 printable_ascii : (bytes : List ℕ) → AllByRecursion IsPrintable bytes → IsAscii bytes
 printable_ascii [] each = IsAscii-nil
@@ -95,6 +98,16 @@ escape_visible c fits =
     (visible_ascii (codes "\\u") ((omega arith, omega arith), ((omega arith, omega arith), tt)))
     (visible_ascii (encode_lower (c / 256 ∷ c % 256 ∷ [])) (digits_printable (c / 256 ∷ c % 256 ∷ []) (omega arith, (omega arith, tt))))
 
+number_by : (c : ℕ) (few : Bool) → nat_lt c 0x10000 ≡ few → c < 0x110000
+    → IsAllVisible (if few then unicode_escape c else unicode_escape (0xd800 + (c - 0x10000) / 0x400) ++ unicode_escape (0xdc00 + (c - 0x10000) % 0x400))
+number_by c true test most = escape_visible c (below c 0x10000 test)
+number_by c false test most =
+    visible_append (unicode_escape (0xd800 + (c - 0x10000) / 0x400)) (unicode_escape (0xdc00 + (c - 0x10000) % 0x400))
+    (escape_visible (0xd800 + (c - 0x10000) / 0x400) (omega arith)) (escape_visible (0xdc00 + (c - 0x10000) % 0x400) (omega arith))
+
+number_visible : (c : ℕ) → c < 0x110000 → IsAllVisible (ascii_escape c)
+number_visible c most = number_by c (nat_lt c 0x10000) refl most
+
 plain_visible : (c : ℕ) → IsScalar c → is_hidden c ≡ false → IsAllVisible (encode_utf8 c)
 plain_visible c scalar visible =
     let scalars : all_scalars (c ∷ []) ≡ true = rw scalar refl in
@@ -104,9 +117,9 @@ plain_visible c scalar visible =
 shown_visible : (c : ℕ) → IsScalar c → IsAllVisible (shown_character c)
 shown_visible c scalar = elim (cases_Bool (is_hidden c)) [
   | inl hidden ↦
-      subst IsAllVisible (sym (ap (λ (b : Bool). if b then unicode_escape c else encode_utf8 c) hidden)) (escape_visible c (hidden_fits c hidden))
+      subst IsAllVisible (sym (ap (λ (b : Bool). if b then ascii_escape c else encode_utf8 c) hidden)) (number_visible c (hidden_scalar c hidden).1)
   | inr visible ↦
-      subst IsAllVisible (sym (ap (λ (b : Bool). if b then unicode_escape c else encode_utf8 c) visible)) (plain_visible c scalar visible)
+      subst IsAllVisible (sym (ap (λ (b : Bool). if b then ascii_escape c else encode_utf8 c) visible)) (plain_visible c scalar visible)
 ]
 
 escaped_visible : (c : ℕ) → (c == 34 || c == 92) ≡ true → IsAllVisible (92 ∷ c ∷ [])

@@ -1,6 +1,6 @@
 -- Where the payloads of two events differ, and what is shown of both around that place: a line, or a member of a JSON
 -- object.
-use Rattle.std.specs.Prelude.{◌≡◌, ℕ, ◌+◌, ◌-◌, ◌/◌, ◌%◌, ◌==◌, ◌||◌, nat_lt, Bool, true, false, if◌then◌else◌, Option, None, Some, List, [], ◌∷◌, ◌++◌, length, take, drop, flat_map, codes, decimal, ⊤}
+use Rattle.std.specs.Prelude.{◌≡◌, ℕ, ◌+◌, ◌-◌, ◌/◌, ◌==◌, ◌||◌, nat_lt, Bool, true, false, if◌then◌else◌, Option, None, Some, List, [], ◌∷◌, ◌++◌, length, take, drop, flat_map, codes, decimal, ⊤}
 use Rattle.std.specs.Str.{chars}
 use Rattle.wsn_wire.specs.declared.opcode.Kind.TheVariants as kinds
 use Rattle.wsn_rules.specs.Meaning.{MeantEvent, Message}
@@ -12,7 +12,7 @@ use Rattle.wsn_print.specs.Json.{field}
 use Rattle.wsn_print.specs.QuotedTexts.{payload_in}
 use Rattle.wsn_print.specs.ShownObjects.{hex_field, truncated_field}
 use Rattle.wsn_print.specs.ShownParts.{IsFrontOf}
-use Rattle.wsn_print.specs.ShownText.{is_from, unicode_escape, text_part, hex_text, left_out}
+use Rattle.wsn_print.specs.ShownText.{is_from, ascii_escape, text_part, hex_text, left_out}
 
 -- ---- the place
 
@@ -34,12 +34,6 @@ place_in (Some event) (Some other) = place_between (payload_in event) (payload_i
 place_in event other = None
 
 -- ---- a text in printable ASCII characters
-
--- A character by its number: below U+10000 in four hexadecimal digits, otherwise as two surrogates. RFC 8259 section 7.
-abbrev pub ascii_escape : ℕ → List ℕ
-ascii_escape c =
-    if nat_lt c 0x10000 then unicode_escape c
-    else unicode_escape (0xd800 + (c - 0x10000) / 0x400) ++ unicode_escape (0xdc00 + (c - 0x10000) % 0x400)
 
 -- A character: as it is if it is printable, with a backslash before `"` and `\`, and otherwise by its number.
 abbrev pub ascii_character : ℕ → List ℕ

@@ -1,5 +1,5 @@
 -- The JSON objects of verdicts, frames, reports and comparisons, one a line, each with its LF.
-use Rattle.std.specs.Prelude.{ℕ, Bool, true, false, Option, None, Some, List, [], ◌++◌, flat_map, codes}
+use Rattle.std.specs.Prelude.{ℕ, Bool, true, false, Option, None, Some, List, [], ◌++◌, codes}
 use Rattle.hex.specs.Hex.{encode_lower}
 use Rattle.wsn_wire.specs.declared.endpoint.Role.{Role}
 use Rattle.wsn_wire.specs.declared.endpoint.Role.TheVariants.{Client, Server}

@@ -1,5 +1,5 @@
 -- What a quoted text is: a JSON string, of which nothing is hidden. RFC 8259 section 7.
-use Rattle.std.specs.Prelude.{◌≡◌, ◌≢◌, ℕ, ◌+◌, ◌*◌, ◌≤◌, ◌⊎◌, ◌==◌, ◌||◌, false, if◌then◌else◌, Option, None, Some, Ok, List, [], ◌∷◌, ◌++◌, codes, ⊤}
+use Rattle.std.specs.Prelude.{◌≡◌, ◌≢◌, ℕ, ◌+◌, ◌-◌, ◌*◌, ◌≤◌, ◌⊎◌, ◌==◌, ◌||◌, false, if◌then◌else◌, Option, None, Some, Ok, List, [], ◌∷◌, ◌++◌, codes, ⊤}
 use Rattle.std.specs.Char.{encode_utf8}
 use Rattle.std.specs.List.{AllByRecursion}
 use Rattle.std.specs.Str.{chars, IsUtf8}
@@ -32,15 +32,36 @@ IsPlain c bytes = (0x20 ≤ c) × (c ≢ 34) × (c ≢ 92) × (bytes ≡ encode_
 abbrev pub IsShortEscape : ℕ → List ℕ → Type 0
 IsShortEscape c bytes = (letter : ℕ) × (unescaped letter ≡ Some c) × (bytes ≡ 92 ∷ letter ∷ [])
 
--- `\u` and the character's number in four hexadecimal digits.
-abbrev pub IsUnicodeEscape : ℕ → List ℕ → Type 0
-IsUnicodeEscape c bytes =
-    (high : ℕ) × (low : ℕ) × (digits : List ℕ) × (decode_of digits ≡ Ok (high ∷ low ∷ [])) × (c ≡ high * 256 + low)
-    × (bytes ≡ 92 ∷ 117 ∷ digits)
+-- `\u` and a number below 0x10000 in four hexadecimal digits.
+abbrev pub IsUnitEscape : ℕ → List ℕ → Type 0
+IsUnitEscape unit bytes =
+    (high : ℕ) × (low : ℕ) × (digits : List ℕ) × (decode_of digits ≡ Ok (high ∷ low ∷ []))
+    × (unit ≡ high * 256 + low) × (bytes ≡ 92 ∷ 117 ∷ digits)
 
--- One character of a JSON string. (The escape of a character beyond U+FFFF as two surrogates is left out.)
+-- The number is a surrogate: half of a character beyond U+FFFF, and no character.
+abbrev pub IsSurrogate : ℕ → Type 0
+IsSurrogate unit = (0xd800 ≤ unit) × (unit ≤ 0xdfff)
+
+-- The character's number in four digits. So none is escaped that is beyond U+FFFF.
+abbrev pub IsUnicodeEscape : ℕ → List ℕ → Type 0
+IsUnicodeEscape c bytes = IsUnitEscape c bytes × ¬ (IsSurrogate c)
+
+-- The character beyond U+FFFF of a high and a low surrogate.
+abbrev pub IsOfSurrogates : ℕ → ℕ → ℕ → Type 0
+IsOfSurrogates high low c =
+    (0xd800 ≤ high) × (high ≤ 0xdbff) × (0xdc00 ≤ low) × (low ≤ 0xdfff)
+    × (c ≡ 0x10000 + (high - 0xd800) * 0x400 + (low - 0xdc00))
+
+-- The escapes of the two surrogates of a character.
+abbrev pub IsSurrogatePair : ℕ → List ℕ → Type 0
+IsSurrogatePair c bytes =
+    (high : ℕ) × (low : ℕ) × IsOfSurrogates high low c
+    × ((first : List ℕ) × (second : List ℕ) × (bytes ≡ first ++ second) × IsUnitEscape high first × IsUnitEscape low second)
+
+-- One character of a JSON string.
 abbrev pub IsJsonCharacter : ℕ → List ℕ → Type 0
-IsJsonCharacter c bytes = IsPlain c bytes ⊎ (IsShortEscape c bytes ⊎ IsUnicodeEscape c bytes)
+IsJsonCharacter c bytes =
+    IsPlain c bytes ⊎ (IsShortEscape c bytes ⊎ (IsUnicodeEscape c bytes ⊎ IsSurrogatePair c bytes))
 
 -- The characters of a JSON string, one after another.
 abbrev pub AreJsonCharacters : List ℕ → List ℕ → Type 0

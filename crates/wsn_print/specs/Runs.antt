@@ -1,8 +1,10 @@
 -- Texts of which most bytes are copied as they are, and a few characters are escaped.
-use Rattle.std.specs.Prelude.{ℕ, zero, suc, ◌+◌, ◌-◌, ◌==◌, ◌&&◌, ◌||◌, nat_lt, Bool, not, if◌then◌else◌, Option, None, Some, List, [], ◌∷◌, ◌++◌, get_or}
+use Rattle.std.specs.Prelude.{◌≡◌, ℕ, zero, suc, ◌+◌, ◌*◌, ◌/◌, ◌%◌, ◌<◌, ◌==◌, ◌&&◌, ◌||◌, nat_le, nat_lt, Bool, not, if◌then◌else◌, Option, None, Some, List, [], ◌∷◌, ◌++◌, get_or, bit_and}
 use Rattle.wsn_print.specs.declared.escapes.Escapes.{Escapes}
 use Rattle.wsn_print.specs.declared.escapes.Escapes.TheVariants.{Comment, Quoted}
-use Rattle.wsn_print.specs.ShownText.{is_from, unicode_escape, comment_character, quoted_character}
+use Rattle.wsn_print.specs.declared.escapes.TheConstants.{FIRST_HIGH, FIRST_LOW, SECOND_LOW}
+use Rattle.wsn_print.specs.CharacterText.{is_continuation}
+use Rattle.wsn_print.specs.ShownText.{is_from, is_hidden, ascii_escape, comment_character, quoted_character}
 
 -- A character as it is written.
 abbrev pub escaped_character : Escapes → ℕ → List ℕ
@@ -14,25 +16,52 @@ abbrev pub takes_backslash : Escapes → ℕ → Bool
 takes_backslash Comment b = b == 92
 takes_backslash Quoted b = b == 34 || b == 92
 
--- The byte is the first one of some hidden character.
-abbrev pub begins_hidden : ℕ → Bool
-begins_hidden b = nat_lt b 0x20 || b == 0x7f || b == 0xc2 || b == 0xd8 || b == 0xe2 || b == 0xef
+-- ---- where a hidden character may begin
 
--- No hidden character begins with the byte.
+-- The classes of a byte, by its first half and by its second half, and those of the byte after it, by its second half.
+abbrev pub first_high : ℕ → ℕ
+first_high b = get_or FIRST_HIGH (b / 16) 0
+
+abbrev pub first_low : ℕ → ℕ
+first_low b = get_or FIRST_LOW (b % 16) 0
+
+abbrev pub second_low : ℕ → ℕ
+second_low b = get_or SECOND_LOW (b % 16) 0
+
+-- The classes of two bytes, a bit for each. If there is none, no hidden character begins with them.
+abbrev pub class_of : ℕ → ℕ → ℕ
+class_of b second = bit_and (bit_and (first_high b) (first_low b)) (second_low second)
+
+abbrev pub may_hide : ℕ → Bool
+may_hide class = not (class == 0)
+
 abbrev pub is_plain : ℕ → Bool
-is_plain b = not (begins_hidden b)
+is_plain class = not (may_hide class)
+
+-- None of the first n bytes of a text is of a class. A byte that isn't there counts as 0.
+abbrev pub IsPlainUpTo : ℕ → List ℕ → Type 0
+IsPlainUpTo n text = (i : ℕ) → i < n → class_of (get_or text i 0) (get_or text (suc i) 0) ≡ 0
+
+-- ---- the hidden character that begins there
+
+-- The character and the number of its bytes after the first, if it is hidden and not below the least of those with as
+-- many bytes.
+abbrev pub hidden_from : ℕ → ℕ → ℕ → Option (ℕ × ℕ)
+hidden_from least c more = if nat_le least c && is_hidden c then Some (c, more) else None
 
 -- The hidden character that begins with these bytes, and the number of its bytes after the first. A byte that isn't
--- there counts as 0.
-abbrev pub hidden_of : ℕ → ℕ → ℕ → Option (ℕ × ℕ)
-hidden_of b second third =
-    if nat_lt b 0x20 || b == 0x7f then Some (b, 0)
-    else if b == 0xc2 && is_from 0x80 0x9f second then Some (second, 1)
-    else if b == 0xd8 && second == 0x9c then Some (0x61c, 1)
-    else if b == 0xe2 && second == 0x80 && (is_from 0x8e 0x8f third || is_from 0xa8 0xae third) then Some (0x2000 + third - 0x80, 2)
-    else if b == 0xe2 && second == 0x81 && is_from 0xa6 0xa9 third then Some (0x2040 + third - 0x80, 2)
-    else if b == 0xef && second == 0xbb && third == 0xbf then Some (0xfeff, 2)
+-- there counts as 0. RFC 3629 section 3.
+abbrev pub hidden_of : ℕ → ℕ → ℕ → ℕ → Option (ℕ × ℕ)
+hidden_of b second third fourth =
+    if nat_lt b 0x80 then hidden_from 0 b 0
+    else if is_from 0xc2 0xdf b && is_continuation second then hidden_from 0x80 (b % 32 * 64 + second % 64) 1
+    else if is_from 0xe0 0xef b && (is_continuation second && is_continuation third)
+    then hidden_from 0x800 ((b % 16 * 64 + second % 64) * 64 + third % 64) 2
+    else if is_from 0xf0 0xf4 b && (is_continuation second && (is_continuation third && is_continuation fourth))
+    then hidden_from 0x10000 (((b % 8 * 64 + second % 64) * 64 + third % 64) * 64 + fourth % 64) 3
     else None
+
+-- ---- what is written
 
 -- A byte by itself, as it is written.
 abbrev pub escaped_byte : Escapes → ℕ → List ℕ
@@ -40,7 +69,7 @@ escaped_byte escapes b = if takes_backslash escapes b then 92 ∷ b ∷ [] else 
 
 -- How a byte is written that isn't passed over: as an escape, if a hidden character begins with it.
 abbrev pub written_of : Escapes → Option (ℕ × ℕ) → ℕ → List ℕ
-written_of escapes (Some hidden) b = unicode_escape hidden.0
+written_of escapes (Some hidden) b = ascii_escape hidden.0
 written_of escapes None b = escaped_byte escapes b
 
 -- The number of bytes that are passed over after it.
@@ -50,7 +79,7 @@ more_of None = 0
 
 -- The hidden character at the start of a text of at least one byte.
 abbrev pub hidden_at : ℕ → List ℕ → Option (ℕ × ℕ)
-hidden_at b rest = hidden_of b (get_or rest 0 0) (get_or rest 1 0)
+hidden_at b rest = hidden_of b (get_or rest 0 0) (get_or rest 1 0) (get_or rest 2 0)
 
 -- A text as it is written, without some bytes that belong to a character that is written already.
 abbrev pub escaped_after : ℕ → Escapes → List ℕ → List ℕ

@@ -1,5 +1,5 @@
 -- The lines of `show`, each with its LF: entries of what both sides sent, and comments.
-use Rattle.std.specs.Prelude.{ℕ, ◌+◌, ◌*◌, ◌-◌, ◌/◌, ◌%◌, ◌==◌, ◌&&◌, ◌||◌, nat_le, nat_lt, Bool, true, if◌then◌else◌, Option, None, Some, List, [], ◌∷◌, ◌++◌, length, take, drop, flat_map, codes, decimal}
+use Rattle.std.specs.Prelude.{ℕ, ◌+◌, ◌*◌, ◌-◌, ◌/◌, ◌%◌, ◌==◌, ◌&&◌, ◌||◌, nat_le, nat_lt, Bool, true, false, if◌then◌else◌, Option, None, Some, List, [], ◌∷◌, ◌++◌, length, take, drop, flat_map, codes, decimal}
 use Rattle.std.specs.Char.{encode_utf8}
 use Rattle.std.specs.Str.{chars}
 use Rattle.std.specs.Str.Lossy.{utf8_valid_len}
@@ -22,19 +22,38 @@ use Rattle.wsn_print.specs.HeadText.{head_fields}
 abbrev pub is_from : ℕ → ℕ → ℕ → Bool
 is_from low high c = nat_le low c && nat_le c high
 
--- The character has no shape of its own: it moves a terminal's cursor, or changes how the text around it is shown.
-abbrev pub is_hidden : ℕ → Bool
-is_hidden c =
-    is_from 0x00 0x1f c || is_from 0x7f 0x9f c || c == 0x61c || is_from 0x200e 0x200f c || is_from 0x2028 0x202e c
-    || is_from 0x2066 0x2069 c || c == 0xfeff
+-- The number is in one of these ranges, from their first number to their last.
+abbrev pub is_in : List (ℕ × ℕ) → ℕ → Bool
+is_in [] c = false
+is_in (range ∷ ranges) c = is_from range.0 range.1 c || is_in ranges c
 
--- A character below U+10000: `\u` and four lower-case hexadecimal digits.
+-- The control characters, the separators of lines and paragraphs, and Unicode's Default_Ignorable_Code_Point, but for the
+-- joiners U+200C and U+200D and the variation selectors, which shape the characters beside them.
+abbrev pub hidden_ranges : List (ℕ × ℕ)
+hidden_ranges =
+    (0x00, 0x1f) ∷ (0x7f, 0x7f) ∷ (0x80, 0x9f) ∷ (0xad, 0xad) ∷ (0x34f, 0x34f) ∷ (0x61c, 0x61c) ∷ (0x115f, 0x1160)
+    ∷ (0x17b4, 0x17b5) ∷ (0x180e, 0x180e) ∷ (0x200b, 0x200b) ∷ (0x200e, 0x200f) ∷ (0x2028, 0x202e) ∷ (0x2060, 0x206f)
+    ∷ (0x3164, 0x3164) ∷ (0xfeff, 0xfeff) ∷ (0xffa0, 0xffa0) ∷ (0xfff0, 0xfff8) ∷ (0x1bca0, 0x1bca3)
+    ∷ (0x1d173, 0x1d17a) ∷ (0xe0000, 0xe00ff) ∷ (0xe01f0, 0xe0fff) ∷ []
+
+-- The character has no shape of its own: it moves a terminal's cursor, changes how the text around it is shown, or isn't
+-- seen at all.
+abbrev pub is_hidden : ℕ → Bool
+is_hidden c = is_in hidden_ranges c
+
+-- A number below 0x10000: `\u` and four lower-case hexadecimal digits.
 abbrev pub unicode_escape : ℕ → List ℕ
 unicode_escape c = codes "\\u" ++ encode_lower (c / 256 ∷ c % 256 ∷ [])
 
+-- A character by its number: below U+10000 in four hexadecimal digits, otherwise as two surrogates. RFC 8259 section 7.
+abbrev pub ascii_escape : ℕ → List ℕ
+ascii_escape c =
+    if nat_lt c 0x10000 then unicode_escape c
+    else unicode_escape (0xd800 + (c - 0x10000) / 0x400) ++ unicode_escape (0xdc00 + (c - 0x10000) % 0x400)
+
 -- A character, escaped if it is hidden.
 abbrev pub shown_character : ℕ → List ℕ
-shown_character c = if is_hidden c then unicode_escape c else encode_utf8 c
+shown_character c = if is_hidden c then ascii_escape c else encode_utf8 c
 
 -- A character in a comment: a backslash is doubled, since an escape begins with one.
 abbrev pub comment_character : ℕ → List ℕ

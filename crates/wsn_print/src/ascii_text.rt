@@ -2,8 +2,8 @@ ghost use Rattle.std.specs.Prelude.{◌≡◌, [], ◌∷◌, ◌<◌, ◌≤◌
 ghost use Rattle.std.specs.Str.{chars};
 ghost use Rattle.std.specs.Str.Lossy.{utf8_valid_len};
 ghost use Rattle.wsn_io.specs.Stops.{IsWrittenOrStops};
-ghost use Rattle.wsn_print.specs.ShownText.{unicode_escape};
-ghost use Rattle.wsn_print.specs.DifferingPayloads.{ascii_escape, ascii_character, ascii_quoted};
+ghost use Rattle.wsn_print.specs.ShownText.{unicode_escape, ascii_escape};
+ghost use Rattle.wsn_print.specs.DifferingPayloads.{ascii_character, ascii_quoted};
 
 use crate::line::Line;
 use std::io::Write;

@@ -1,7 +1,6 @@
 ghost use Rattle.std.specs.Prelude.{◌≡◌, ℕ, ◌+◌, ◌*◌, ◌-◌, ◌<◌, ◌≤◌, List, ◌++◌, length, take, drop, flat_map, codes};
-ghost use Rattle.std.specs.List.{prefix_len};
-ghost use Rattle.wsn_print.specs.Runs.{escaped, escaped_byte, is_plain};
-ghost use Rattle.wsn_print.specs.ShownText.{unicode_escape};
+ghost use Rattle.wsn_print.specs.Runs.{escaped, escaped_byte, IsPlainUpTo};
+ghost use Rattle.wsn_print.specs.ShownText.{unicode_escape, ascii_escape};
 
 use crate::escapes::{BLOCK, Escapes, hidden_at_start, marks, plain_at_start, takes_backslash};
 use crate::kept_bytes::KeptBytes;
@@ -11,14 +10,14 @@ use std::simd::prelude::*;
 /// The maximum length in bytes of the text that is held.
 const HELD_MAX: usize = 256;
 
-/// The most bytes of a character that is shown: `\u` and four digits.
-pub(crate) const CHARACTER_MAX: usize = 6;
+/// The most bytes of a character that is shown: two surrogates, each `\u` and four digits.
+pub(crate) const CHARACTER_MAX: usize = 12;
 
 /// The most bytes of a block that is shown, each after a backslash.
 const PLAIN_MAX: usize = 32;
 
 /// The room that one turn of a text needs: a block, and a character that is escaped.
-pub(crate) const TURN_MAX: usize = 38;
+pub(crate) const TURN_MAX: usize = 44;
 
 /// Text as it is written, held until then, at most 256 bytes.
 pub(crate) type HeldText = KeptBytes<HELD_MAX>;
@@ -46,7 +45,7 @@ impl HeldText {
     fn add_plain(&mut self, escapes: Escapes, text: &[u8]) -> usize
         requires { length self.old + PLAIN_MAX ≤ 256 }
         ensures within { (result ≤ BLOCK) × (result ≤ length text.now) }
-        ensures plain { prefix_len is_plain (take result text.now) ≡ result }
+        ensures plain { IsPlainUpTo result text.now }
         ensures added { self.new ≡ self.old ++ flat_map (escaped_byte escapes) (take result text.now) }
     {
         if text.len() < BLOCK {
@@ -65,12 +64,11 @@ impl HeldText {
         requires long { BLOCK ≤ length text.now }
         requires within { most ≤ BLOCK }
         ensures few { result ≤ most }
-        ensures plain { prefix_len is_plain (take result text.now) ≡ result }
+        ensures plain { IsPlainUpTo result text.now }
         ensures added { self.new ≡ self.old ++ flat_map (escaped_byte escapes) (take result text.now) }
     {
-        let block = u8x16::from_slice(text);
-        let count = plain_at_start(block).min(most);
-        if marks(escapes, block) != 0 {
+        let count = plain_at_start(text).min(most);
+        if marks(escapes, u8x16::from_slice(text)) != 0 {
             self.len = put_each(escapes, &text[..count], &mut self.bytes, self.len);
             return count;
         }
@@ -126,9 +124,26 @@ fn put_each(escapes: Escapes, bytes: &[u8], text: &mut [u8], start: usize) -> us
     at
 }
 
+/// Writes a character by its number at `at`, below U+10000 in four digits, otherwise as two surrogates (RFC 8259 section
+/// 7), and returns where it ends.
+#[inline(always)]
+fn put_escape(number: u32, text: &mut [u8], at: usize) -> usize
+    requires room { at + CHARACTER_MAX ≤ length text.old }
+    requires character { number < 0x110000 }
+    ensures end { result ≤ at + CHARACTER_MAX }
+    ensures written { take result text.new ≡ take at text.old ++ ascii_escape number }
+{
+    if number < 0x1_0000 {
+        return put_unit(number as u16, text, at);
+    }
+    let over = number - 0x1_0000;
+    let at = put_unit(0xd800 + (over / 0x400) as u16, text, at);
+    put_unit(0xdc00 + (over % 0x400) as u16, text, at)
+}
+
 /// Writes `\u` and the four digits of a number at `at`, and returns where they end.
 #[inline(always)]
-fn put_escape(number: u16, text: &mut [u8], at: usize) -> usize
+fn put_unit(number: u16, text: &mut [u8], at: usize) -> usize
     requires { at + 6 ≤ length text.old }
     ensures end { result ≡ at + 6 }
     ensures written { take result text.new ≡ take at text.old ++ unicode_escape number }

@@ -1,4 +1,4 @@
-ghost use Rattle.std.specs.Prelude.{◌≡◌, ◌+◌, ◌/◌, ◌%◌, ◌<◌, ◌≤◌, [], ◌∷◌, ◌++◌, length, take, codes, decimal};
+ghost use Rattle.std.specs.Prelude.{◌≡◌, ◌+◌, ◌/◌, ◌%◌, ◌<◌, ◌≤◌, [], ◌∷◌, ◌++◌, length, take, drop, codes, decimal};
 ghost use Rattle.hex.specs.Hex.{encode_lower};
 ghost use Rattle.wsn_print.specs.Fields.{key_text, form_text};
 
@@ -30,6 +30,7 @@ pub(crate) fn put_slice(part: &[u8], text: &mut [u8], at: usize) -> usize
     requires { at + length part.now ≤ length text.old }
     ensures end { result ≡ at + length part.now }
     ensures written { take result text.new ≡ take at text.old ++ part.now }
+    ensures rest { drop result text.new ≡ drop result text.old }
 {
     let end = at + part.len();
     text[at..end].copy_from_slice(part);

@@ -89,8 +89,30 @@ pub fn of_quoted_texts()
     ensures u_2010_as_it_is { quoted ((0xe2 ∷ 0x80 ∷ 0x90 ∷ [])) ≡ codes "\"" ++ (0xe2 ∷ 0x80 ∷ 0x90 ∷ []) ++ codes "\"" }
     ensures u_2027_as_it_is { quoted ((0xe2 ∷ 0x80 ∷ 0xa7 ∷ [])) ≡ codes "\"" ++ (0xe2 ∷ 0x80 ∷ 0xa7 ∷ []) ++ codes "\"" }
     ensures u_202f_as_it_is { quoted ((0xe2 ∷ 0x80 ∷ 0xaf ∷ [])) ≡ codes "\"" ++ (0xe2 ∷ 0x80 ∷ 0xaf ∷ []) ++ codes "\"" }
-    ensures u_2065_as_it_is { quoted ((0xe2 ∷ 0x81 ∷ 0xa5 ∷ [])) ≡ codes "\"" ++ (0xe2 ∷ 0x81 ∷ 0xa5 ∷ []) ++ codes "\"" }
-    ensures u_206a_as_it_is { quoted ((0xe2 ∷ 0x81 ∷ 0xaa ∷ [])) ≡ codes "\"" ++ (0xe2 ∷ 0x81 ∷ 0xaa ∷ []) ++ codes "\"" }
+    ensures u_00ad { quoted (0xc2 ∷ 0xad ∷ []) ≡ codes "\"\\u00ad\"" }
+    ensures u_034f { quoted (0xcd ∷ 0x8f ∷ []) ≡ codes "\"\\u034f\"" }
+    ensures u_115f { quoted (0xe1 ∷ 0x85 ∷ 0x9f ∷ []) ≡ codes "\"\\u115f\"" }
+    ensures u_17b5 { quoted (0xe1 ∷ 0x9e ∷ 0xb5 ∷ []) ≡ codes "\"\\u17b5\"" }
+    ensures u_180e { quoted (0xe1 ∷ 0xa0 ∷ 0x8e ∷ []) ≡ codes "\"\\u180e\"" }
+    ensures u_200b { quoted (0xe2 ∷ 0x80 ∷ 0x8b ∷ []) ≡ codes "\"\\u200b\"" }
+    ensures u_2060 { quoted (0xe2 ∷ 0x81 ∷ 0xa0 ∷ []) ≡ codes "\"\\u2060\"" }
+    ensures u_206f { quoted (0xe2 ∷ 0x81 ∷ 0xaf ∷ []) ≡ codes "\"\\u206f\"" }
+    ensures u_3164 { quoted (0xe3 ∷ 0x85 ∷ 0xa4 ∷ []) ≡ codes "\"\\u3164\"" }
+    ensures u_ffa0 { quoted (0xef ∷ 0xbe ∷ 0xa0 ∷ []) ≡ codes "\"\\uffa0\"" }
+    ensures u_fff0 { quoted (0xef ∷ 0xbf ∷ 0xb0 ∷ []) ≡ codes "\"\\ufff0\"" }
+    ensures u_fff8 { quoted (0xef ∷ 0xbf ∷ 0xb8 ∷ []) ≡ codes "\"\\ufff8\"" }
+    ensures u_1bca3 { quoted (0xf0 ∷ 0x9b ∷ 0xb2 ∷ 0xa3 ∷ []) ≡ codes "\"\\ud82f\\udca3\"" }
+    ensures u_1d173 { quoted (0xf0 ∷ 0x9d ∷ 0x85 ∷ 0xb3 ∷ []) ≡ codes "\"\\ud834\\udd73\"" }
+    ensures u_e0001 { quoted (0xf3 ∷ 0xa0 ∷ 0x80 ∷ 0x81 ∷ []) ≡ codes "\"\\udb40\\udc01\"" }
+    ensures u_e01f0 { quoted (0xf3 ∷ 0xa0 ∷ 0x87 ∷ 0xb0 ∷ []) ≡ codes "\"\\udb40\\uddf0\"" }
+    ensures u_e0fff { quoted (0xf3 ∷ 0xa0 ∷ 0xbf ∷ 0xbf ∷ []) ≡ codes "\"\\udb43\\udfff\"" }
+    ensures u_180b_as_it_is { quoted (0xe1 ∷ 0xa0 ∷ 0x8b ∷ []) ≡ codes "\"" ++ (0xe1 ∷ 0xa0 ∷ 0x8b ∷ []) ++ codes "\"" }
+    ensures u_200c_as_it_is { quoted (0xe2 ∷ 0x80 ∷ 0x8c ∷ []) ≡ codes "\"" ++ (0xe2 ∷ 0x80 ∷ 0x8c ∷ []) ++ codes "\"" }
+    ensures u_3163_as_it_is { quoted (0xe3 ∷ 0x85 ∷ 0xa3 ∷ []) ≡ codes "\"" ++ (0xe3 ∷ 0x85 ∷ 0xa3 ∷ []) ++ codes "\"" }
+    ensures u_fe0f_as_it_is { quoted (0xef ∷ 0xb8 ∷ 0x8f ∷ []) ≡ codes "\"" ++ (0xef ∷ 0xb8 ∷ 0x8f ∷ []) ++ codes "\"" }
+    ensures u_fff9_as_it_is { quoted (0xef ∷ 0xbf ∷ 0xb9 ∷ []) ≡ codes "\"" ++ (0xef ∷ 0xbf ∷ 0xb9 ∷ []) ++ codes "\"" }
+    ensures u_e0100_as_it_is { quoted (0xf3 ∷ 0xa0 ∷ 0x84 ∷ 0x80 ∷ []) ≡ codes "\"" ++ (0xf3 ∷ 0xa0 ∷ 0x84 ∷ 0x80 ∷ []) ++ codes "\"" }
+    ensures u_e01ef_as_it_is { quoted (0xf3 ∷ 0xa0 ∷ 0x87 ∷ 0xaf ∷ []) ≡ codes "\"" ++ (0xf3 ∷ 0xa0 ∷ 0x87 ∷ 0xaf ∷ []) ++ codes "\"" }
     ensures u_1f600_as_it_is { quoted ((0xf0 ∷ 0x9f ∷ 0x98 ∷ 0x80 ∷ [])) ≡ codes "\"" ++ (0xf0 ∷ 0x9f ∷ 0x98 ∷ 0x80 ∷ []) ++ codes "\"" }
 {}
 

@@ -17,9 +17,9 @@ use wsn_io::{Output, Stop, put_line};
 /// The most bytes of a byte that is shown: `\x` and two digits.
 const BYTE_MAX: usize = 4;
 
-/// Writes a comment of a capture in one line, with its hidden characters escaped as `\u` and four digits. Of a comment
-/// that isn't UTF-8, each byte that isn't printable ASCII is escaped as `\x` and two digits. A backslash of the comment is
-/// doubled, so no two comments have the same line. `Stop::Write` if the writer fails: a prefix of the line was written.
+/// Writes a comment of a capture in one line, with its hidden characters escaped as `\u` and four digits, beyond
+/// U+FFFF as two surrogates. Of a comment that isn't UTF-8, each byte that isn't printable ASCII is escaped as `\x` and two
+/// digits. A backslash of the comment is doubled, so no two comments have the same line. `Stop::Write` if the writer fails: a prefix of the line was written.
 #[tactic(none)]
 pub fn put_comment<W: Write>(to: &mut Output<W>, text: &[u8]) -> Result<(), Stop>
     requires { to.old.failed ≡ false }

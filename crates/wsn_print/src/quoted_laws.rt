@@ -18,8 +18,8 @@ pub fn law_quoted_is_json()
         IsJsonString other bytes → text ≡ other }
 {}
 
-/// Nothing of a quoted text is hidden: none of its characters moves a terminal's cursor or changes how the text around it
-/// is shown.
+/// Nothing of a quoted text is hidden: none of its characters moves a terminal's cursor, changes how the text around it is
+/// shown, or isn't seen.
 pub fn law_quoted_is_visible()
     ensures { (text : List ℕ) → IsUtf8 text → IsAllVisible (quoted text) }
 {}

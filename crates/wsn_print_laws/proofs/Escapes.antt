@@ -1,42 +1,30 @@
 -- A text in printable ASCII characters is a string: its other characters are escaped, those beyond U+FFFF as two
 -- surrogates.
-use Rattle.std.proofs.Common.{◌≡◌, ℕ, zero, suc, ◌+◌, ◌-◌, ◌/◌, ◌%◌, ◌<◌, ◌≤◌, ◌==◌, ◌||◌, inl, inr, Bool, true, false, if◌then◌else◌, Some, List, [], ◌∷◌, ◌++◌, refl, sym, arith, codes}
-use Rattle.std.specs.Prelude.{nat_lt, flat_map}
+use Rattle.std.proofs.Common.{◌≡◌, ℕ, ◌+◌, ◌-◌, ◌/◌, ◌%◌, ◌<◌, ◌≤◌, ◌==◌, ◌||◌, inl, inr, Bool, true, false, if◌then◌else◌, Some, List, [], ◌∷◌, ◌++◌, refl, sym, arith, codes}
+use Rattle.std.specs.Prelude.{flat_map}
 use Rattle.std.specs.Char.{IsScalar}
 use Rattle.std.specs.List.{AllByRecursion}
 use Rattle.std.proofs.lemmas.Bool.{or_parts}
 use Rattle.std.proofs.lemmas.Bool.Decides.{nat_tests}
 use Rattle.std.proofs.lemmas.Str.{encode_ascii}
-use Rattle.hex.specs.Hex.{IsBytes, encode_with, encode_lower, encode_upper}
-use Rattle.hex.proofs.HexLemmas.{decode_of-encode_lower, decode_of-encode_upper}
-use Rattle.wsn_print.specs.ShownText.{is_from, unicode_escape}
-use Rattle.wsn_print.specs.QuotedTexts.{unescaped, IsUnicodeEscape}
-use Rattle.wsn_print.specs.DifferingPayloads.{ascii_escape, ascii_character}
-use Rattle.wsn_print_laws.specs.JsonText.{IsOfSurrogates, IsSurrogatePair, IsCharacter, AreCharacters, String, IsValue}
-
--- ---- escapes
-
-two_bytes : (a b : ℕ) → a < 256 → b < 256 → IsBytes (a ∷ b ∷ [])
-two_bytes a b fits also zero = fits
-two_bytes a b fits also (suc zero) = also
-two_bytes a b fits also (suc (suc i)) = omega arith
-
-pub escape_is : (c : ℕ) → c < 65536 → IsUnicodeEscape c (unicode_escape c)
-escape_is c fits =
-    (c / 256, c % 256, encode_lower (c / 256 ∷ c % 256 ∷ []), decode_of-encode_lower (c / 256 ∷ c % 256 ∷ []) (two_bytes (c / 256) (c % 256) (omega arith) (omega arith)), omega arith, refl)
+use Rattle.hex.specs.Hex.{encode_with, encode_upper}
+use Rattle.hex.proofs.HexLemmas.{decode_of-encode_upper}
+use Rattle.wsn_print.specs.ShownText.{is_from, ascii_escape}
+use Rattle.wsn_print.specs.QuotedTexts.{unescaped, IsUnitEscape, IsOfSurrogates, IsJsonCharacter}
+use Rattle.wsn_print.specs.DifferingPayloads.{ascii_character}
+use Rattle.wsn_print.proofs.JsonTexts.{two_bytes, surrogates_of, number_is}
+use Rattle.wsn_print_laws.specs.JsonText.{AreCharacters, String, IsValue}
 
 scalar_most : (c : ℕ) → IsScalar c → c < 0x110000
 scalar_most c is = grind (arith, nat_tests)
 
+no_surrogate : (c : ℕ) → IsScalar c → 0xd800 ≤ c → 0xe000 ≤ c
+no_surrogate c is least = grind (arith, nat_tests)
+
 -- ---- the two surrogates of a character
 
-surrogates_of : (c : ℕ) → IsScalar c → 0x10000 ≤ c → IsOfSurrogates (0xd800 + (c - 0x10000) / 0x400) (0xdc00 + (c - 0x10000) % 0x400) c
-surrogates_of c is high =
-    let most : c < 0x110000 = scalar_most c is in
-    (omega arith, omega arith, omega arith, omega arith, omega arith)
-
 pub some_surrogates : (c : ℕ) → IsScalar c → 0x10000 ≤ c → (high : ℕ) × (low : ℕ) × IsOfSurrogates high low c
-some_surrogates c is high = (0xd800 + (c - 0x10000) / 0x400, 0xdc00 + (c - 0x10000) % 0x400, surrogates_of c is high)
+some_surrogates c is high = (0xd800 + (c - 0x10000) / 0x400, 0xdc00 + (c - 0x10000) % 0x400, surrogates_of c high (scalar_most c is))
 
 pub one_pair : (high low other_high other_low c : ℕ) → IsOfSurrogates high low c → IsOfSurrogates other_high other_low c → (high ≡ other_high) × (low ≡ other_low)
 one_pair high low other_high other_low c is also =
@@ -50,32 +38,6 @@ one_scalar high low c is =
     let least : 0x10000 ≤ c = omega (arith, is.4) in
     let most : c < 0x110000 = omega (arith, is.0, is.1, is.2, is.3, is.4) in
     (scalar_from c least most, least)
-
-pair_is : (c : ℕ) → IsScalar c → 0x10000 ≤ c → IsSurrogatePair c (unicode_escape (0xd800 + (c - 0x10000) / 0x400) ++ unicode_escape (0xdc00 + (c - 0x10000) % 0x400))
-pair_is c is high =
-    let most : c < 0x110000 = scalar_most c is in (
-      0xd800 + (c - 0x10000) / 0x400,
-      0xdc00 + (c - 0x10000) % 0x400,
-      surrogates_of c is high,
-      (
-        unicode_escape (0xd800 + (c - 0x10000) / 0x400),
-        unicode_escape (0xdc00 + (c - 0x10000) % 0x400),
-        refl,
-        escape_is (0xd800 + (c - 0x10000) / 0x400) (omega arith),
-        escape_is (0xdc00 + (c - 0x10000) % 0x400) (omega arith),
-      ),
-    )
-
-at_least : (c : ℕ) → nat_lt c 0x10000 ≡ false → 0x10000 ≤ c
-at_least c test = grind (arith, nat_tests)
-
-below : (c : ℕ) → nat_lt c 0x10000 ≡ true → c < 0x10000
-below c test = grind (arith, nat_tests)
-
-escape_by : (c : ℕ) (few : Bool) → nat_lt c 0x10000 ≡ few → IsScalar c
-    → IsCharacter c (if few then unicode_escape c else unicode_escape (0xd800 + (c - 0x10000) / 0x400) ++ unicode_escape (0xdc00 + (c - 0x10000) % 0x400))
-escape_by c true test is = inl (inr (inr (escape_is c (below c test))))
-escape_by c false test is = inr (pair_is c is (at_least c test))
 
 -- ---- characters
 
@@ -95,15 +57,15 @@ no_backslash : (c : ℕ) → (c == 92) ≡ false → c ≡ 92 → ⊥
 no_backslash c test backslash = grind (arith, nat_tests)
 
 printable_by : (c : ℕ) (printable : Bool) → is_from 0x20 0x7e c ≡ printable → (c == 34 || c == 92) ≡ false → IsScalar c
-    → IsCharacter c (if printable then c ∷ [] else ascii_escape c)
+    → IsJsonCharacter c (if printable then c ∷ [] else ascii_escape c)
 printable_by c true test plain is =
     let parts = or_parts (c == 34) (c == 92) plain in
-    inl (inl (from_space c test, no_quote c parts.0, no_backslash c parts.1, sym (encode_ascii c (to_tilde c test))))
-printable_by c false test plain is = escape_by c (nat_lt c 0x10000) refl is
+    inl (from_space c test, no_quote c parts.0, no_backslash c parts.1, sym (encode_ascii c (to_tilde c test)))
+printable_by c false test plain is = inr (inr (number_is c (no_surrogate c is) (scalar_most c is)))
 
 character_by : (c : ℕ) (escaped : Bool) → (c == 34 || c == 92) ≡ escaped → IsScalar c
-    → IsCharacter c (if escaped then 92 ∷ c ∷ [] else (if is_from 0x20 0x7e c then c ∷ [] else ascii_escape c))
-character_by c true test is = inl (inr (inl (c, for_itself c test, refl)))
+    → IsJsonCharacter c (if escaped then 92 ∷ c ∷ [] else (if is_from 0x20 0x7e c then c ∷ [] else ascii_escape c))
+character_by c true test is = inr (inl (c, for_itself c test, refl))
 character_by c false test is = printable_by c (is_from 0x20 0x7e c) refl test is
 
 pub ascii_characters : (cs : List ℕ) → AllByRecursion IsScalar cs → AreCharacters cs (flat_map ascii_character cs)
@@ -113,15 +75,15 @@ ascii_characters (c ∷ cs) are =
 
 -- ---- the G clef
 
-upper_is : (c : ℕ) → c < 65536 → IsUnicodeEscape c (codes "\\u" ++ encode_upper (c / 256 ∷ c % 256 ∷ []))
+upper_is : (c : ℕ) → c < 65536 → IsUnitEscape c (codes "\\u" ++ encode_upper (c / 256 ∷ c % 256 ∷ []))
 upper_is c fits =
     (c / 256, c % 256, encode_upper (c / 256 ∷ c % 256 ∷ []), decode_of-encode_upper (c / 256 ∷ c % 256 ∷ []) (two_bytes (c / 256) (c % 256) (omega arith) (omega arith)), omega arith, refl)
 
-clef_high : IsUnicodeEscape 0xd834 (codes "\\uD834")
+clef_high : IsUnitEscape 0xd834 (codes "\\uD834")
 unfolding encode_with
 clef_high = upper_is 0xd834 (omega arith)
 
-clef_low : IsUnicodeEscape 0xdd1e (codes "\\uDD1E")
+clef_low : IsUnitEscape 0xdd1e (codes "\\uDD1E")
 unfolding encode_with
 clef_low = upper_is 0xdd1e (omega arith)
 
@@ -144,7 +106,7 @@ clef = (
         codes "\\uD834\\uDD1E",
         [],
         refl,
-        inr (0xd834, 0xdd1e, (omega arith, omega arith, omega arith, omega arith, omega arith), (codes "\\uD834", codes "\\uDD1E", refl, clef_high, clef_low)),
+        inr (inr (inr (0xd834, 0xdd1e, (omega arith, omega arith, omega arith, omega arith, omega arith), (codes "\\uD834", codes "\\uDD1E", refl, clef_high, clef_low)))),
         refl,
       ),
       refl,

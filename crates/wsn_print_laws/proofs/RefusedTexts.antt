@@ -1,14 +1,13 @@
 -- Texts that are no value's.
 use Rattle.std.proofs.Common.{◌≡◌, ◌≢◌, ℕ, ◌≤◌, inl, inr, Bool, true, false, if◌then◌else◌, List, [], ◌∷◌, ◌++◌, drop, codes, refl, sym, ap, ◌∙◌, subst, arith, append_assoc, append-nil}
-use Rattle.std.specs.Char.{IsScalar, encode_utf8}
-use Rattle.std.specs.List.{AllByRecursion}
+use Rattle.std.specs.Char.{encode_utf8}
 use Rattle.std.proofs.lemmas.Fmt.{decimal_digit}
 use Rattle.std.proofs.lemmas.Str.{char_from_byte}
 use Rattle.hex.specs.Hex.{encode_with}
-use Rattle.wsn_print.specs.QuotedTexts.{IsUnicodeEscape, IsJsonCharacter}
-use Rattle.wsn_print_laws.specs.JsonText.{Are, ◌and_then◌, IsCharacter, AreCharacters, IsString, IsNumber, Value, Null, True, False, Number, String, Object, Members, End, Member, IsValue, AreOthers}
-use Rattle.wsn_print_laws.proofs.Strings.{are_unescaped, plain_string, one_string, pair_bytes, no_surrogate, one_character, no_quote_first, string_bytes}
-use Rattle.wsn_print_laws.proofs.Escapes.{escape_is}
+use Rattle.wsn_print.specs.QuotedTexts.{IsUnitEscape, IsJsonCharacter}
+use Rattle.wsn_print.proofs.JsonTexts.{escape_is, escape_begins, plain_first, short_or_unicode, unit_bytes, pair_bytes, one_unit}
+use Rattle.wsn_print_laws.specs.JsonText.{Are, ◌and_then◌, AreCharacters, IsString, IsNumber, Value, Null, True, False, Number, String, Object, Members, End, Member, IsValue, AreOthers}
+use Rattle.wsn_print_laws.proofs.Strings.{are_unescaped, plain_string, one_string, string_bytes}
 use Rattle.wsn_print_laws.proofs.Numbers.{is_numeric, AreNumeric, Stops, number_characters, one_number}
 use Rattle.wsn_print_laws.proofs.OneValue.{Begins, kind, begins, one_class, rest_stops, same_kind, one_value, StopsAfter, stops_after}
 use Rattle.wsn_print_laws.proofs.Words.{decimal_number}
@@ -224,7 +223,7 @@ no_line_feed [] inner y x are same =
     let whole : 34 ∷ y ≡ 10 ∷ x = ap (λ (bs : List ℕ). bs ++ (34 ∷ y)) (sym are) ∙ same in
     cc
 no_line_feed (c ∷ cs) inner y x are same =
-    any_character c are.0 (are.1 ++ (34 ∷ y)) x are.3 (sym (append_assoc are.0 are.1 (34 ∷ y)) ∙ ap (λ (bs : List ℕ). bs ++ (34 ∷ y)) (sym are.2) ∙ same)
+    character c are.0 (are.1 ++ (34 ∷ y)) x are.3 (sym (append_assoc are.0 are.1 (34 ∷ y)) ∙ ap (λ (bs : List ℕ). bs ++ (34 ∷ y)) (sym are.2) ∙ same)
   where
     backslash : (xs ys : List ℕ) → 92 ∷ xs ≡ 10 ∷ ys → ⊥
     backslash xs ys same = cc
@@ -237,12 +236,9 @@ no_line_feed (c ∷ cs) inner y x are same =
         let front : 10 ∷ x ≡ encode_utf8 c ++ rest = sym same ∙ ap (λ (bs : List ℕ). bs ++ rest) plain.3 in
         low c plain.0 (char_from_byte (10 ∷ x) rest c front (omega arith) (omega arith))
     character c bytes rest x (inr (inl short)) same = backslash (short.0 ∷ rest) x (ap (λ (bs : List ℕ). bs ++ rest) (sym short.2) ∙ same)
-    character c bytes rest x (inr (inr unicode)) same = backslash (117 ∷ (unicode.2 ++ rest)) x (ap (λ (bs : List ℕ). bs ++ rest) (sym unicode.5) ∙ same)
-
-    any_character : (c : ℕ) (bytes rest x : List ℕ) → IsCharacter c bytes → bytes ++ rest ≡ 10 ∷ x → ⊥
-    any_character c bytes rest x (inl one) same = character c bytes rest x one same
-    any_character c bytes rest x (inr pair) same =
-        character pair.0 pair.3.0 (pair.3.1 ++ rest) x (inr (inr pair.3.3)) (sym (pair_bytes c bytes rest pair) ∙ same)
+    character c bytes rest x (inr (inr escape)) same =
+        let begins = escape_begins c bytes rest escape in
+        backslash (117 ∷ begins.0) x (sym begins.1 ∙ same)
 
 string_at : (v : Value) (p : List ℕ) → kind v ≡ 34 → IsValue v p → (cs : List ℕ) × IsString cs p
 string_at Null p same is = absurd (omega arith)
@@ -269,40 +265,44 @@ no_raw_line_feed v is =
 
 -- What follows an escape isn't the escape of a low surrogate.
 abbrev IsNoPartner : ℕ → List ℕ → Type 0
-IsNoPartner x more = (low : ℕ) (bytes rest : List ℕ) → IsUnicodeEscape low bytes → bytes ++ rest ≡ more → x ≤ 0xdbff → 0xdc00 ≤ low → ⊥
+IsNoPartner x more = (low : ℕ) (bytes rest : List ℕ) → IsUnitEscape low bytes → bytes ++ rest ≡ more → x ≤ 0xdbff → 0xdc00 ≤ low → ⊥
 
-alone_in : (x : ℕ) (escape more cs inner : List ℕ) → IsUnicodeEscape x escape → 0xd800 ≤ x → x ≤ 0xdfff → IsNoPartner x more
-    → AllByRecursion IsScalar cs → AreCharacters cs inner → inner ++ (34 ∷ []) ≡ escape ++ more → ⊥
-alone_in x escape more [] inner is from to none scalar are same =
-    let whole : 34 ∷ [] ≡ 92 ∷ 117 ∷ (is.2 ++ more) = ap (λ (bs : List ℕ). bs ++ (34 ∷ [])) (sym are) ∙ same ∙ ap (λ (bs : List ℕ). bs ++ more) is.5 in
+alone_in : (x : ℕ) (escape more cs inner : List ℕ) → IsUnitEscape x escape → 0xd800 ≤ x → x ≤ 0xdfff → IsNoPartner x more
+    → AreCharacters cs inner → inner ++ (34 ∷ []) ≡ escape ++ more → ⊥
+alone_in x escape more [] inner is from to none are same =
+    let whole : 34 ∷ [] ≡ 92 ∷ 117 ∷ (is.2 ++ more) = ap (λ (bs : List ℕ). bs ++ (34 ∷ [])) (sym are) ∙ same ∙ unit_bytes x escape more is in
     cc
-alone_in x escape more (c ∷ cs) inner is from to none scalar are same =
-    first c are.0 (are.1 ++ (34 ∷ [])) scalar.0 are.3 (sym (append_assoc are.0 are.1 (34 ∷ [])) ∙ ap (λ (bs : List ℕ). bs ++ (34 ∷ [])) (sym are.2) ∙ same)
+alone_in x escape more (c ∷ cs) inner is from to none are same =
+    first c are.0 (are.1 ++ (34 ∷ [])) are.3 (sym (append_assoc are.0 are.1 (34 ∷ [])) ∙ ap (λ (bs : List ℕ). bs ++ (34 ∷ [])) (sym are.2) ∙ same)
   where
-    first : (c : ℕ) (bytes rest : List ℕ) → IsScalar c → IsCharacter c bytes → bytes ++ rest ≡ escape ++ more → ⊥
-    first c bytes rest scalar (inl one) same =
-        let is_x : c ≡ x = (one_character c x bytes escape rest more one (inr (inr is)) same).0 in
-        no_surrogate c scalar (omega (arith, is_x, from)) (omega (arith, is_x, to))
-    first c bytes rest scalar (inr pair) same =
-        let parts = one_character pair.0 x pair.3.0 escape (pair.3.1 ++ rest) more (inr (inr pair.3.3)) (inr (inr is)) (sym (pair_bytes c bytes rest pair) ∙ same) in
+    first : (c : ℕ) (bytes rest : List ℕ) → IsJsonCharacter c bytes → bytes ++ rest ≡ escape ++ more → ⊥
+    first c bytes rest (inl plain) same =
+        plain_first c bytes rest (117 ∷ (is.2 ++ more)) plain (same ∙ unit_bytes x escape more is)
+    first c bytes rest (inr (inl short)) same =
+        short_or_unicode c short.0 rest (is.2 ++ more) short.1 (ap (λ (bs : List ℕ). bs ++ rest) (sym short.2) ∙ same ∙ unit_bytes x escape more is)
+    first c bytes rest (inr (inr (inl unicode))) same =
+        let is_x : c ≡ x = (one_unit c x bytes escape rest more unicode.0 is same).0 in
+        unicode.1 (omega (arith, is_x, from), omega (arith, is_x, to))
+    first c bytes rest (inr (inr (inr pair))) same =
+        let parts = one_unit pair.0 x pair.3.0 escape (pair.3.1 ++ rest) more pair.3.3 is (sym (pair_bytes c bytes rest pair) ∙ same) in
         none pair.1 pair.3.1 rest pair.3.4 parts.1 (omega (arith, parts.0, pair.2.1)) pair.2.2
 
-alone : (v : Value) (x : ℕ) (escape more : List ℕ) → IsUnicodeEscape x escape → 0xd800 ≤ x → x ≤ 0xdfff → IsNoPartner x more → IsValue v (34 ∷ (escape ++ more)) → ⊥
+alone : (v : Value) (x : ℕ) (escape more : List ℕ) → IsUnitEscape x escape → 0xd800 ≤ x → x ≤ 0xdfff → IsNoPartner x more → IsValue v (34 ∷ (escape ++ more)) → ⊥
 alone v x escape more is from to none value =
     let quote : Begins 34 ((34 ∷ (escape ++ more)) ++ []) = (34, (escape ++ more) ++ [], refl, refl) in
     let text = string_at v (34 ∷ (escape ++ more)) (one_class (kind v) 34 ((34 ∷ (escape ++ more)) ++ []) (begins v (34 ∷ (escape ++ more)) [] value) quote) value in
     let whole = string_bytes text.0 (34 ∷ (escape ++ more)) [] text.1 in
-    alone_in x escape more text.0 text.1.1.4.0 is from to none text.1.0 text.1.1.4.3 (sym (ap (drop 1) whole) ∙ append-nil (escape ++ more))
+    alone_in x escape more text.0 text.1.1.4.0 is from to none text.1.1.4.3 (sym (ap (drop 1) whole) ∙ append-nil (escape ++ more))
 
-high_escape : IsUnicodeEscape 0xd83d (codes "\\ud83d")
+high_escape : IsUnitEscape 0xd83d (codes "\\ud83d")
 unfolding encode_with
 high_escape = escape_is 0xd83d (omega arith)
 
-low_escape : IsUnicodeEscape 0xde00 (codes "\\ude00")
+low_escape : IsUnitEscape 0xde00 (codes "\\ude00")
 unfolding encode_with
 low_escape = escape_is 0xde00 (omega arith)
 
-letter_escape : IsUnicodeEscape 0x41 (codes "\\u0041")
+letter_escape : IsUnitEscape 0x41 (codes "\\u0041")
 unfolding encode_with
 letter_escape = escape_is 0x41 (omega arith)
 
@@ -310,7 +310,9 @@ pub no_lone_surrogate : (v : Value) → IsValue v (codes "\"\\ud83d\"") → ⊥
 no_lone_surrogate v = alone v 0xd83d (codes "\\ud83d") (codes "\"") high_escape (omega arith) (omega arith) none
   where
     none : IsNoPartner 0xd83d (codes "\"")
-    none low bytes rest is same high from = no_quote_first low bytes rest [] (inr (inr is)) same
+    none low bytes rest is same high from =
+        let whole : 34 ∷ [] ≡ 92 ∷ 117 ∷ (is.2 ++ rest) = sym same ∙ unit_bytes low bytes rest is in
+        cc
 
 pub no_turned_surrogates : (v : Value) → IsValue v (codes "\"\\ude00\\ud83d\"") → ⊥
 no_turned_surrogates v = alone v 0xde00 (codes "\\ude00") (codes "\\ud83d\"") low_escape (omega arith) (omega arith) none
@@ -323,5 +325,5 @@ no_surrogate_and_letter v = alone v 0xd83d (codes "\\ud83d") (codes "\\u0041\"")
   where
     none : IsNoPartner 0xd83d (codes "\\u0041\"")
     none low bytes rest is same high from =
-        let letter : low ≡ 0x41 = (one_character low 0x41 bytes (codes "\\u0041") rest (codes "\"") (inr (inr is)) (inr (inr letter_escape)) same).0 in
+        let letter : low ≡ 0x41 = (one_unit low 0x41 bytes (codes "\\u0041") rest (codes "\"") is letter_escape same).0 in
         absurd (omega (arith, letter, from))

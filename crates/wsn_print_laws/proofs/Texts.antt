@@ -12,7 +12,7 @@ use Rattle.wsn_print.specs.DifferingPayloads.{ascii_character, ascii_quoted}
 use Rattle.wsn_print.proofs.JsonTexts.{quoted_is_json}
 use Rattle.wsn_print_laws.specs.JsonText.{Value, Null, True, Number, String, Object, Members, End, Member, IsValue, AreOthers, IsJsonLine}
 use Rattle.wsn_print_laws.specs.Answers.{IsInU64}
-use Rattle.wsn_print_laws.proofs.Strings.{are_unescaped, without_surrogates, plain_string}
+use Rattle.wsn_print_laws.proofs.Strings.{are_unescaped, one_after_another, plain_string}
 use Rattle.wsn_print_laws.proofs.Escapes.{ascii_characters}
 use Rattle.wsn_print_laws.proofs.Written.{write, IsPlainValue, text_of}
 use Rattle.wsn_print_laws.proofs.Words.{decimal_number}
@@ -110,7 +110,7 @@ each_scalar (c ∷ cs) all =
 pub quoted_text : (text : List ℕ) → IsUtf8 text → IsTextOf (String (chars text)) (quoted text)
 quoted_text text utf8 =
     let json = quoted_is_json text in
-    record { is = (each_scalar (chars text) (scalars-chars text utf8), (34 ∷ [], json.inner ++ (34 ∷ []), json.between, refl, (json.inner, 34 ∷ [], refl, without_surrogates (chars text) json.inner json.characters, refl))) }
+    record { is = (each_scalar (chars text) (scalars-chars text utf8), (34 ∷ [], json.inner ++ (34 ∷ []), json.between, refl, (json.inner, 34 ∷ [], refl, one_after_another (chars text) json.inner json.characters, refl))) }
 
 pub ascii_text : (text : List ℕ) → IsUtf8 text → IsTextOf (String (chars text)) (ascii_quoted text)
 ascii_text text utf8 =

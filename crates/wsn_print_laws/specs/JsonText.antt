@@ -1,10 +1,10 @@
 -- Which bytes are JSON, and of which value: the grammar of RFC 8259, section by section. Left out is what no object that
 -- is printed has: arrays, spaces between the parts of a text, and escaped surrogates that are no pair. So what is JSON
 -- here is JSON by the RFC, but not the other way round.
-use Rattle.std.specs.Prelude.{◌≡◌, ◌≢◌, ℕ, ◌+◌, ◌*◌, ◌-◌, ◌≤◌, ◌⊎◌, List, [], ◌∷◌, ◌++◌, codes, ⊤}
+use Rattle.std.specs.Prelude.{◌≡◌, ◌≢◌, ℕ, ◌≤◌, ◌⊎◌, List, [], ◌∷◌, ◌++◌, codes, ⊤}
 use Rattle.std.specs.Char.{IsScalar}
 use Rattle.std.specs.List.{AllByRecursion}
-use Rattle.wsn_print.specs.QuotedTexts.{IsUnicodeEscape, IsJsonCharacter}
+use Rattle.wsn_print.specs.QuotedTexts.{IsJsonCharacter}
 
 -- ---- parts of a text
 
@@ -63,25 +63,10 @@ IsNumber = Optional (Are (codes "-")) and_then IsInteger and_then Optional IsFra
 
 -- ---- strings: section 7
 
--- The character beyond U+FFFF of a high and a low surrogate.
-abbrev pub IsOfSurrogates : ℕ → ℕ → ℕ → Type 0
-IsOfSurrogates high low c =
-    (0xd800 ≤ high) × (high ≤ 0xdbff) × (0xdc00 ≤ low) × (low ≤ 0xdfff)
-    × (c ≡ 0x10000 + (high - 0xd800) * 0x400 + (low - 0xdc00))
-
--- The escapes of the two surrogates of a character.
-abbrev pub IsSurrogatePair : ℕ → List ℕ → Type 0
-IsSurrogatePair c = λ bytes.
-    (high : ℕ) × (low : ℕ) × IsOfSurrogates high low c × (IsUnicodeEscape high and_then IsUnicodeEscape low) bytes
-
--- A character: as it is, escaped, or as two surrogates.
-abbrev pub IsCharacter : ℕ → List ℕ → Type 0
-IsCharacter c = IsJsonCharacter c or_else IsSurrogatePair c
-
--- Characters, one after another.
+-- Characters, one after another: each as it is, escaped, or as two surrogates.
 abbrev pub AreCharacters : List ℕ → List ℕ → Type 0
 AreCharacters [] = Are []
-AreCharacters (c ∷ cs) = IsCharacter c and_then AreCharacters cs
+AreCharacters (c ∷ cs) = IsJsonCharacter c and_then AreCharacters cs
 
 -- A string of these characters, between quotation marks. Each is one of Unicode, so none is a surrogate.
 abbrev pub IsString : List ℕ → List ℕ → Type 0

@@ -37,3 +37,10 @@ pub fn expect_none(rt: &impl Abort, alloc: Global, line: &[u8], path: &str) {
     let object = object_of(rt, alloc, line);
     assert!(rt; object.pointer(path).is_none(), "{path}");
 }
+
+/// Fails unless the line is an object with this text at a path.
+pub fn expect_text(rt: &impl Abort, alloc: Global, line: &[u8], path: &str, text: &str) {
+    let object = object_of(rt, alloc, line);
+    let value = object.pointer(path).expect(rt, "a member");
+    assert_eq!(rt; value.as_str(), Some(text), "{path}");
+}

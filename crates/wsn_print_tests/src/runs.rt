@@ -1,5 +1,6 @@
 //! Texts that are quoted and comments, compared with what is written of them character by character.
 
+use crate::reading::expect_text;
 use std::alloc::{AllocError, Global};
 use std::process::Abort;
 use std::str;
@@ -11,7 +12,7 @@ use wsn_print::{
 use wsn_wire::{Op, Role};
 
 /// Characters that are escaped, and others whose bytes are like theirs.
-const CHARACTERS: [char; 48] = [
+const CHARACTERS: [char; 102] = [
     '\0',
     '\n',
     '\u{1f}',
@@ -29,15 +30,36 @@ const CHARACTERS: [char; 48] = [
     '\u{9b}',
     '\u{9f}',
     '\u{a0}',
+    '\u{ac}',
+    '\u{ad}',
+    '\u{ae}',
     '\u{bf}',
     '\u{c0}',
+    '\u{34e}',
+    '\u{34f}',
+    '\u{350}',
     '\u{600}',
     '\u{61b}',
     '\u{61c}',
     '\u{61d}',
     '\u{63f}',
     '\u{640}',
+    '\u{115e}',
+    '\u{115f}',
+    '\u{1160}',
+    '\u{1161}',
+    '\u{17b3}',
+    '\u{17b4}',
+    '\u{17b5}',
+    '\u{17b6}',
+    '\u{180b}',
+    '\u{180d}',
+    '\u{180e}',
+    '\u{180f}',
     '\u{2000}',
+    '\u{200a}',
+    '\u{200b}',
+    '\u{200c}',
     '\u{200d}',
     '\u{200e}',
     '\u{200f}',
@@ -47,38 +69,95 @@ const CHARACTERS: [char; 48] = [
     '\u{202a}',
     '\u{202e}',
     '\u{202f}',
+    '\u{205f}',
+    '\u{2060}',
     '\u{2065}',
     '\u{2066}',
     '\u{2069}',
     '\u{206a}',
+    '\u{206f}',
+    '\u{2070}',
     '\u{20ac}',
+    '\u{3042}',
+    '\u{3163}',
+    '\u{3164}',
+    '\u{3165}',
     '\u{4e2d}',
+    '\u{fe00}',
+    '\u{fe0f}',
     '\u{fefe}',
     '\u{feff}',
     '\u{ff01}',
+    '\u{ff9f}',
+    '\u{ffa0}',
+    '\u{ffa1}',
+    '\u{ffef}',
+    '\u{fff0}',
+    '\u{fff8}',
+    '\u{fff9}',
     '\u{fffd}',
+    '\u{1bc9f}',
+    '\u{1bca0}',
+    '\u{1bca3}',
+    '\u{1bca4}',
+    '\u{1d172}',
+    '\u{1d173}',
+    '\u{1d17a}',
+    '\u{1d17b}',
     '\u{1f600}',
+    '\u{dffff}',
+    '\u{e0000}',
     '\u{e0001}',
+    '\u{e00ff}',
+    '\u{e0100}',
+    '\u{e01ef}',
+    '\u{e01f0}',
+    '\u{e0fff}',
+    '\u{e1000}',
     '\u{10ffff}',
 ];
 
-/// Adds a character as it is written: a hidden one as `\u` and four digits, and a backslash, or a quotation mark of a
-/// quoted text, after a backslash.
+/// Adds a character as it is written: a hidden one as `\u` and four digits, or as two surrogates, and a backslash, or a
+/// quotation mark of a quoted text, after a backslash.
 fn add(out: &mut Vec<u8>, c: char, is_quoted: bool) -> Result<(), AllocError> {
     if c == '\\' || is_quoted && c == '"' {
         out.push(b'\\')?;
     }
     let code = u32::from(c);
-    let is_hidden = matches!(
-        code,
-        0..=0x1f | 0x7f..=0x9f | 0x61c | 0x200e..=0x200f | 0x2028..=0x202e | 0x2066..=0x2069 | 0xfeff
-    );
-    if !is_hidden {
+    if !is_hidden(code) {
         return out.extend_from_slice(c.encode_utf8(&mut [0; 4]).as_bytes());
     }
+    if code < 0x1_0000 {
+        return add_unit(out, code);
+    }
+    add_unit(out, 0xd800 + (code - 0x1_0000) / 0x400)?;
+    add_unit(out, 0xdc00 + (code - 0x1_0000) % 0x400)
+}
+
+/// Whether a character is hidden: a control character, a separator, or one of Unicode's Default_Ignorable_Code_Point that
+/// is no joiner and no variation selector.
+fn is_hidden(code: u32) -> bool {
+    let is_control = matches!(code, 0..=0x1f | 0x7f..=0x9f | 0x2028..=0x2029);
+    let is_ignorable = matches!(
+        code,
+        0xad | 0x34f | 0x61c | 0x115f..=0x1160 | 0x17b4..=0x17b5 | 0x180b..=0x180f | 0x200b..=0x200f
+    ) || matches!(
+        code,
+        0x202a..=0x202e | 0x2060..=0x206f | 0x3164 | 0xfe00..=0xfe0f | 0xfeff | 0xffa0 | 0xfff0..=0xfff8
+    ) || matches!(code, 0x1_bca0..=0x1_bca3 | 0x1_d173..=0x1_d17a | 0xe_0000..=0xe_0fff);
+    let is_joiner = matches!(code, 0x200c..=0x200d);
+    let is_selector = matches!(
+        code,
+        0x180b..=0x180d | 0x180f | 0xfe00..=0xfe0f | 0xe_0100..=0xe_01ef
+    );
+    is_control || is_ignorable && !is_joiner && !is_selector
+}
+
+/// Adds `\u` and four digits.
+fn add_unit(out: &mut Vec<u8>, unit: u32) -> Result<(), AllocError> {
     out.extend_from_slice(b"\\u")?;
     for shift in [12, 8, 4, 0u32] {
-        let digit = (code >> shift) % 16;
+        let digit = (unit >> shift) % 16;
         let digits = b"0123456789abcdef";
         out.push(digits[digit as usize])?;
     }
@@ -109,7 +188,7 @@ fn whole(bytes: &[u8]) -> &str {
     }
 }
 
-/// Fails unless a comment is written as it should be, in words and as an object.
+/// Fails unless a comment is written as it should be, in words and as an object, which is read as JSON with this text.
 fn expect_comment(rt: &impl Abort, alloc: Global, text: &str) {
     let mut line = Vec::new(alloc);
     assert_eq!(rt;
@@ -130,6 +209,7 @@ fn expect_comment(rt: &impl Abort, alloc: Global, text: &str) {
     let front = b"{\"type\":\"comment\",\"line\":7,\"text\":\"";
     let expected = written(alloc, front, text, true, b"\"}\n").expect(rt, "memory");
     assert_eq!(rt; object.as_slice(), expected.as_slice(), "{text}");
+    expect_text(rt, alloc, object.as_slice(), "/text", text);
 }
 
 /// Fails unless at most this many bytes of a message's text are written as they should be, in words and as an object.
@@ -271,7 +351,7 @@ fn all_characters_cut_at_each_byte(rt: HostRuntime) {
     for c in CHARACTERS {
         text.push(c).expect(&rt, "memory");
     }
-    for most in 0..=150u16 {
+    for most in 0..=316u16 {
         expect_view(&rt, alloc, text.as_str(), most);
     }
     for count in 0..=text.len() {
@@ -288,7 +368,7 @@ fn random_texts(rt: HostRuntime) {
         let mut text = String::new(alloc);
         for _ in 0..round % 100 {
             state = state.wrapping_mul(1_664_525).wrapping_add(1_013_904_223);
-            let which = (state >> 16) as usize % 96;
+            let which = (state >> 16) as usize % 204;
             text.push(CHARACTERS.get(which).copied().unwrap_or('a'))
                 .expect(&rt, "memory");
         }
@@ -307,7 +387,7 @@ fn random_texts_cut_at_each_byte(rt: HostRuntime) {
         let mut text = String::new(alloc);
         for _ in 0..round % 20 {
             state = state.wrapping_mul(1_664_525).wrapping_add(1_013_904_223);
-            let which = (state >> 16) as usize % 60;
+            let which = (state >> 16) as usize % 127;
             text.push(CHARACTERS.get(which).copied().unwrap_or('a'))
                 .expect(&rt, "memory");
         }

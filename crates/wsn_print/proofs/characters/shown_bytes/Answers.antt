@@ -1,4 +1,4 @@
-use Rattle.std.proofs.Common.{◌≡◌, List, ℕ, Bool, [], if◌then◌else◌, sym, ap, ◌∙◌}
+use Rattle.std.proofs.Common.{ℕ, Bool, [], if◌then◌else◌, sym, ap, ◌∙◌}
 use Rattle.wsn_print.specs.ShownParts.{character_of}
 use Rattle.wsn_print.specs.CharacterText.{shown_bytes}
 use Rattle.wsn_print.proofs.HeldViews.{not_zero}

@@ -82,14 +82,102 @@ pub returns-clause-u_202f_as_it_is : goal.returns-clause-u_202f_as_it_is
 unfolding digits encode_with utf8_valid_len is_utf8 chars encode_utf8
 returns-clause-u_202f_as_it_is c = refl
 
-pub returns-clause-u_2065_as_it_is : goal.returns-clause-u_2065_as_it_is
-unfolding digits encode_with utf8_valid_len is_utf8 chars encode_utf8
-returns-clause-u_2065_as_it_is c = refl
-
-pub returns-clause-u_206a_as_it_is : goal.returns-clause-u_206a_as_it_is
-unfolding digits encode_with utf8_valid_len is_utf8 chars encode_utf8
-returns-clause-u_206a_as_it_is c = refl
-
 pub returns-clause-u_1f600_as_it_is : goal.returns-clause-u_1f600_as_it_is
 unfolding digits encode_with utf8_valid_len is_utf8 chars encode_utf8
 returns-clause-u_1f600_as_it_is c = refl
+
+pub returns-clause-u_00ad : goal.returns-clause-u_00ad
+unfolding digits encode_with utf8_valid_len is_utf8 chars encode_utf8
+returns-clause-u_00ad c = refl
+
+pub returns-clause-u_034f : goal.returns-clause-u_034f
+unfolding digits encode_with utf8_valid_len is_utf8 chars encode_utf8
+returns-clause-u_034f c = refl
+
+pub returns-clause-u_115f : goal.returns-clause-u_115f
+unfolding digits encode_with utf8_valid_len is_utf8 chars encode_utf8
+returns-clause-u_115f c = refl
+
+pub returns-clause-u_17b5 : goal.returns-clause-u_17b5
+unfolding digits encode_with utf8_valid_len is_utf8 chars encode_utf8
+returns-clause-u_17b5 c = refl
+
+pub returns-clause-u_180e : goal.returns-clause-u_180e
+unfolding digits encode_with utf8_valid_len is_utf8 chars encode_utf8
+returns-clause-u_180e c = refl
+
+pub returns-clause-u_200b : goal.returns-clause-u_200b
+unfolding digits encode_with utf8_valid_len is_utf8 chars encode_utf8
+returns-clause-u_200b c = refl
+
+pub returns-clause-u_2060 : goal.returns-clause-u_2060
+unfolding digits encode_with utf8_valid_len is_utf8 chars encode_utf8
+returns-clause-u_2060 c = refl
+
+pub returns-clause-u_206f : goal.returns-clause-u_206f
+unfolding digits encode_with utf8_valid_len is_utf8 chars encode_utf8
+returns-clause-u_206f c = refl
+
+pub returns-clause-u_3164 : goal.returns-clause-u_3164
+unfolding digits encode_with utf8_valid_len is_utf8 chars encode_utf8
+returns-clause-u_3164 c = refl
+
+pub returns-clause-u_ffa0 : goal.returns-clause-u_ffa0
+unfolding digits encode_with utf8_valid_len is_utf8 chars encode_utf8
+returns-clause-u_ffa0 c = refl
+
+pub returns-clause-u_fff0 : goal.returns-clause-u_fff0
+unfolding digits encode_with utf8_valid_len is_utf8 chars encode_utf8
+returns-clause-u_fff0 c = refl
+
+pub returns-clause-u_fff8 : goal.returns-clause-u_fff8
+unfolding digits encode_with utf8_valid_len is_utf8 chars encode_utf8
+returns-clause-u_fff8 c = refl
+
+pub returns-clause-u_1bca3 : goal.returns-clause-u_1bca3
+unfolding digits encode_with utf8_valid_len is_utf8 chars encode_utf8
+returns-clause-u_1bca3 c = refl
+
+pub returns-clause-u_1d173 : goal.returns-clause-u_1d173
+unfolding digits encode_with utf8_valid_len is_utf8 chars encode_utf8
+returns-clause-u_1d173 c = refl
+
+pub returns-clause-u_e0001 : goal.returns-clause-u_e0001
+unfolding digits encode_with utf8_valid_len is_utf8 chars encode_utf8
+returns-clause-u_e0001 c = refl
+
+pub returns-clause-u_e01f0 : goal.returns-clause-u_e01f0
+unfolding digits encode_with utf8_valid_len is_utf8 chars encode_utf8
+returns-clause-u_e01f0 c = refl
+
+pub returns-clause-u_e0fff : goal.returns-clause-u_e0fff
+unfolding digits encode_with utf8_valid_len is_utf8 chars encode_utf8
+returns-clause-u_e0fff c = refl
+
+pub returns-clause-u_180b_as_it_is : goal.returns-clause-u_180b_as_it_is
+unfolding digits encode_with utf8_valid_len is_utf8 chars encode_utf8
+returns-clause-u_180b_as_it_is c = refl
+
+pub returns-clause-u_200c_as_it_is : goal.returns-clause-u_200c_as_it_is
+unfolding digits encode_with utf8_valid_len is_utf8 chars encode_utf8
+returns-clause-u_200c_as_it_is c = refl
+
+pub returns-clause-u_3163_as_it_is : goal.returns-clause-u_3163_as_it_is
+unfolding digits encode_with utf8_valid_len is_utf8 chars encode_utf8
+returns-clause-u_3163_as_it_is c = refl
+
+pub returns-clause-u_fe0f_as_it_is : goal.returns-clause-u_fe0f_as_it_is
+unfolding digits encode_with utf8_valid_len is_utf8 chars encode_utf8
+returns-clause-u_fe0f_as_it_is c = refl
+
+pub returns-clause-u_fff9_as_it_is : goal.returns-clause-u_fff9_as_it_is
+unfolding digits encode_with utf8_valid_len is_utf8 chars encode_utf8
+returns-clause-u_fff9_as_it_is c = refl
+
+pub returns-clause-u_e0100_as_it_is : goal.returns-clause-u_e0100_as_it_is
+unfolding digits encode_with utf8_valid_len is_utf8 chars encode_utf8
+returns-clause-u_e0100_as_it_is c = refl
+
+pub returns-clause-u_e01ef_as_it_is : goal.returns-clause-u_e01ef_as_it_is
+unfolding digits encode_with utf8_valid_len is_utf8 chars encode_utf8
+returns-clause-u_e01ef_as_it_is c = refl

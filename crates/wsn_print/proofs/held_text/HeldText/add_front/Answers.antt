@@ -2,16 +2,10 @@ use Rattle.std.proofs.Common.{◌≡◌, ◌++◌, ◌≤◌, ℕ, List, length,
 use Rattle.std.specs.Prelude.{flat_map}
 use Rattle.std.specs.List.{prefix_len}
 use Rattle.std.proofs.lemmas.Simd.{leading_from_mask_l}
-use Rattle.wsn_print.specs.Runs.{escaped_byte, is_plain, takes_backslash}
+use Rattle.wsn_print.specs.Runs.{escaped_byte, takes_backslash}
 use Rattle.wsn_print.specs.declared.escapes.Escapes.{Escapes}
 use Rattle.wsn_print.proofs.RunTexts.{first_pass, unmarked}
 use Rattle.wsn_print.proofs.held_text.HeldText.add_front.Goals as goal
-
--- The first bytes of a block are plain.
-plain_front : (text : List ℕ) (n found : ℕ) → found ≡ prefix_len is_plain (take 16 text) → n ≤ found → n ≤ 16 → prefix_len is_plain (take n text) ≡ n
-plain_front text n found is few short =
-    subst (λ (xs : List ℕ). prefix_len is_plain xs ≡ n) (take-take n 16 text short)
-    (first_pass is_plain (take 16 text) n (omega (arith, is, few)))
 
 -- The first bytes of a block without a mark are copied.
 copied_front : (escapes : Escapes) (text : List ℕ) (n : ℕ) → 16 ≤ length text → n ≤ 16
@@ -27,8 +21,7 @@ pub put_front-self-inside-requires-clause-front : goal.put_front-self-inside-req
 put_front-self-inside-requires-clause-front c = omega (arith, length-take-le 16 c.args.text.now c.requires.long)
 
 pub returns-clause-plain : goal.returns-clause-plain
-returns-clause-plain c =
-    plain_front c.args.text.now c.min-count.result c.plain_at_start.result c.plain_at_start.ensures (omega arith) (omega arith)
+returns-clause-plain c = λ i below. c.plain_at_start.ensures.plain i (omega arith)
 
 pub returns-clause-added : goal.returns-clause-added
 returns-clause-added c =
@@ -38,5 +31,4 @@ returns-clause-added c =
     ∙ sym (copied_front c.args.escapes c.args.text.now c.min-count.result c.requires.long (omega arith) (leading_from_mask_l (takes_backslash c.args.escapes) (take 16 c.args.text.now) (omega (arith, c.marks.ensures)))))
 
 pub returns-then-marks-ne0-clause-plain : goal.returns-then-marks-ne0-clause-plain
-returns-then-marks-ne0-clause-plain c =
-    plain_front c.args.text.now c.min-count.result c.plain_at_start.result c.plain_at_start.ensures (omega arith) (omega arith)
+returns-then-marks-ne0-clause-plain c = λ i below. c.plain_at_start.ensures.plain i (omega arith)

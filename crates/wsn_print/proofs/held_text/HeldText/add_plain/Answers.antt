@@ -1,14 +1,13 @@
-use Rattle.std.proofs.Common.{◌≡◌, ◌++◌, ℕ, List, ap, subst, ◌∙◌}
+use Rattle.std.proofs.Common.{◌++◌, ℕ, List, ap, ◌∙◌, arith}
 use Rattle.std.specs.Prelude.{flat_map}
-use Rattle.std.specs.List.{prefix_len}
-use Rattle.wsn_print.specs.Runs.{escaped_byte, is_plain}
+use Rattle.wsn_print.specs.Runs.{escaped_byte}
+use Rattle.wsn_print.proofs.PlainStarts.{plain_in_text}
 use Rattle.wsn_print.proofs.RunTexts.{starts_alike}
 use Rattle.wsn_print.proofs.held_text.HeldText.add_plain.Goals as goal
 
 pub returns-then-text-lt-BLOCK-clause-plain : goal.returns-then-text-lt-BLOCK-clause-plain
 returns-then-text-lt-BLOCK-clause-plain c =
-    subst (λ (xs : List ℕ). prefix_len is_plain xs ≡ c.add_front.result)
-    (starts_alike c.put_slice-end.new.text c.args.text.now c.put_slice-end.result c.add_front.result c.put_slice-end.ensures.written c.add_front.ensures.few)
+    plain_in_text c.put_slice-end.new.text c.args.text.now c.put_slice-end.result c.add_front.result c.put_slice-end.ensures.written c.put_slice-end.ensures.rest (omega arith)
     c.add_front.ensures.plain
 
 pub returns-then-text-lt-BLOCK-clause-added : goal.returns-then-text-lt-BLOCK-clause-added

@@ -1,6 +1,6 @@
 use Rattle.std.proofs.Common.{◌/◌, ◌%◌}
 use Rattle.wsn_print.proofs.RunTexts.{escape_written}
-use Rattle.wsn_print.proofs.held_text.put_escape.Goals as goal
+use Rattle.wsn_print.proofs.held_text.put_unit.Goals as goal
 
 pub returns-clause-written : goal.returns-clause-written
 returns-clause-written c =
