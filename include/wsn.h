@@ -159,7 +159,8 @@ wsn_answer wsn_same_view(const wsn_options *options,
  * 1: it isn't; `output` has what came of its payload, up to the offending byte
  * if it is refused, and `message` the verdict. 2: none begins there; `output`
  * is empty, and `message` says what is there, such as "nothing begins at 5; it
- * is in the text at 0". Or 2 for the other reasons above.
+ * is in the text at 0" or, where the stream ends in a frame's head, "nothing
+ * begins at 9 but a head: cut 10". Or 2 for the other reasons above.
  */
 wsn_answer wsn_payload(const wsn_options *options,
                        const void *stream, size_t stream_size, uint64_t at,

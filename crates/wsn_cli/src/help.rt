@@ -73,6 +73,11 @@ nothing is written, the status is 2, and this line goes to standard error:
   nothing begins at OFFSET; it is in the KIND at START
             the offset is in a frame of the text, binary, ping, pong or close
             that begins at START
+  nothing begins at OFFSET but a head: VERDICT
+            the stream ends in the head of a frame that begins there, or is
+            refused in it
+  nothing begins at OFFSET; it is in the head at START: VERDICT
+            the same, of the head that begins at START
   nothing begins at OFFSET: VERDICT
             all frames end before it
 

@@ -30,7 +30,7 @@ use Rattle.wsn_job.specs.Channels.{Channels, channels}
 use Rattle.wsn_job.specs.Diagnostics.{IsDiagnosed, IsStopDiagnosed}
 use Rattle.wsn_job.specs.Jobs.{IsRun}
 use Rattle.wsn_job.specs.Plans.{IsPlanPrinted, IsPlanDiagnosed}
-use Rattle.wsn_payload.specs.declared.answer.Payload.TheVariants.{Whole, Unfinished, Inside, Nothing}
+use Rattle.wsn_payload.specs.declared.answer.Payload.TheVariants.{Whole, Unfinished, Inside, Head, Nothing}
 use Rattle.wsn_payload.specs.declared.answer.Payload.{Payload as Taken}
 use Rattle.wsn_payload.specs.Payloads.{IsPayloadTaken}
 use Rattle.wsn_job.specs.Payloads.{IsPayloadDiagnosed}
@@ -117,6 +117,7 @@ module _ (role : Role) (limits : Limits) (old new : Incoming) (failed : new.fail
   payload_taken at before after (Ok Whole) is = let h : new.failed ≡ false = is.answer.3 in absurd cc
   payload_taken at before after (Ok (Unfinished verdict)) is = reached is.came verdict is.answer.3
   payload_taken at before after (Ok (Inside event)) is = let h : new.failed ≡ false = is.answer.2 in absurd cc
+  payload_taken at before after (Ok (Head start verdict)) is = reached is.came verdict is.answer.2
   payload_taken at before after (Ok (Nothing verdict)) is = reached is.came verdict is.answer.2
   payload_taken at before after (Err stop.Read) is = refl
   payload_taken at before after (Err stop.InputLimit) is = let h : new.failed ≡ false = is.answer.3.2 in absurd cc

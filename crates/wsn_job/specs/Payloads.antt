@@ -6,9 +6,9 @@ use Rattle.wsn_io.specs.declared.stop.Stop.{Stop}
 use Rattle.wsn_rules.specs.Limits.{Limits}
 use Rattle.wsn_print.specs.StopText.{stop_line}
 use Rattle.wsn_print.specs.VerdictText.{verdict_line}
-use Rattle.wsn_print.specs.PayloadText.{inside_line, nothing_line}
+use Rattle.wsn_print.specs.PayloadText.{inside_line, begun_head_line, nothing_line}
 use Rattle.wsn_payload.specs.declared.answer.Payload.{Payload}
-use Rattle.wsn_payload.specs.declared.answer.Payload.TheVariants.{Whole, Unfinished, Inside, Nothing}
+use Rattle.wsn_payload.specs.declared.answer.Payload.TheVariants.{Whole, Unfinished, Inside, Head, Nothing}
 use Rattle.wsn_payload.specs.Payloads.{IsPayloadTaken}
 use Rattle.wsn_job.specs.Channels.{Channels}
 use Rattle.wsn_job.specs.Diagnostics.{IsDiagnosed}
@@ -21,11 +21,12 @@ payload_status (Ok answer) = 2
 payload_status (Err stopped) = 2
 
 -- Nothing is said of a complete event. Otherwise one line says at which verdict it isn't complete, that no event begins
--- at the offset, or that the work stopped.
+-- at the offset, or only a head, or that the work stopped.
 abbrev pub IsPayloadDiagnosed : ℕ → Result Payload Stop → Outgoing → Outgoing → Type 0
 IsPayloadDiagnosed at (Ok Whole) old new = new ≡ old
 IsPayloadDiagnosed at (Ok (Unfinished verdict)) old new = IsDiagnosed old new (verdict_line verdict)
 IsPayloadDiagnosed at (Ok (Inside event)) old new = IsDiagnosed old new (inside_line at event.op event.offset)
+IsPayloadDiagnosed at (Ok (Head start verdict)) old new = IsDiagnosed old new (begun_head_line at start verdict)
 IsPayloadDiagnosed at (Ok (Nothing verdict)) old new = IsDiagnosed old new (nothing_line at verdict)
 IsPayloadDiagnosed at (Err stopped) old new = IsDiagnosed old new (stop_line stopped)
 

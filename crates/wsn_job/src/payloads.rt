@@ -5,7 +5,7 @@ use crate::diagnostics::{diagnose, diagnose_stop, diagnose_verdict};
 use std::io::Write;
 use wsn_io::{Output, Stop};
 use wsn_payload::Payload;
-use wsn_print::{line_of_inside, line_of_nothing};
+use wsn_print::{line_of_begun_head, line_of_inside, line_of_nothing};
 
 /// Writes to `errors` what isn't in the payload: the verdict at which the event isn't complete, that nothing begins at
 /// the offset, or a stop.
@@ -22,6 +22,9 @@ pub(crate) fn diagnose_payload<E: Write>(
         Ok(Payload::Inside(event)) => {
             diagnose(errors, line_of_inside(at, event.op, event.offset).bytes());
         }
+        Ok(Payload::Head { offset, verdict }) => {
+            diagnose(errors, line_of_begun_head(at, offset, &verdict).bytes());
+        }
         Ok(Payload::Nothing(verdict)) => diagnose(errors, line_of_nothing(at, &verdict).bytes()),
         Err(stop) => diagnose_stop(errors, stop),
     }
@@ -34,6 +37,6 @@ pub(crate) fn status(done: Result<Payload, Stop>) -> u8
     match done {
         Ok(Payload::Whole) => 0,
         Ok(Payload::Unfinished(_)) => 1,
-        Ok(Payload::Inside(_) | Payload::Nothing(_)) | Err(_) => 2,
+        Ok(Payload::Inside(_) | Payload::Head { .. } | Payload::Nothing(_)) | Err(_) => 2,
     }
 }

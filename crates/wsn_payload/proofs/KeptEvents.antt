@@ -1,5 +1,5 @@
 -- What is kept of the event that begins at an offset, as frames begin, go on and end.
-use Rattle.std.proofs.Common.{◌≡◌, ◌≢◌, ℕ, ◌+◌, ◌<◌, ◌≤◌, ◌↔◌, ◌⊎◌, Bool, true, false, not, List, [], ◌∷◌, ◌++◌, length, if◌then◌else◌, inl, inr, refl, sym, ap, ◌∙◌, subst, append-nil, append_assoc, arith, length-append, eqb-true, eq-eqb}
+use Rattle.std.proofs.Common.{◌≡◌, ◌≢◌, ℕ, ◌+◌, ◌<◌, ◌≤◌, ◌↔◌, ◌⊎◌, Bool, true, false, not, None, Some, List, [], ◌∷◌, ◌++◌, length, if◌then◌else◌, inl, inr, refl, sym, ap, ◌∙◌, subst, append-nil, append_assoc, arith, length-append, eqb-true, eq-eqb}
 use Rattle.std.specs.Prelude.{nat_eq}
 use Rattle.std.proofs.lemmas.Bool.{cases_Bool, cond-true, cond-false}
 use Rattle.wsn_wire.specs.declared.endpoint.Role.{Role}
@@ -104,12 +104,12 @@ module _ (kept : EventAt) (at : ℕ) (fs : List Frame) (info : HeadInfo) (text :
       λ same. own_is ∙ eq-eqb start.offset kept.at (offset_is ∙ same ∙ sym k.sought),
     )
 
-    frame_kept : (begun : Bool) → KeepsFrame (record { at = kept.at; message = message; own = own; begun = begun }) fs (InFrame info []) at
+    frame_kept : (begun : Bool) → KeepsFrame (record { at = kept.at; message = message; own = own; begun = begun; next = None }) fs (InFrame info []) at
     frame_kept begun = (kept_open, joined, own_frame)
 
     -- the frame belongs to the event
-    pub begins_own : own ≡ true → Keeps (record { at = kept.at; message = message; own = own; begun = true }) at fs (InFrame info []) text
-    begins_own holds = record { sought = k.sought; frame = frame_kept true; begun = inr (begins, by kept.begun k.begun) }
+    pub begins_own : own ≡ true → Keeps (record { at = kept.at; message = message; own = own; begun = true; next = None }) at fs (InFrame info []) text
+    begins_own holds = record { sought = k.sought; frame = frame_kept true; next = refl; begun = inr (begins, by kept.begun k.begun) }
       where
         begins : event_offset fs f ≡ at
         begins = own_frame.0 holds
@@ -130,8 +130,8 @@ module _ (kept : EventAt) (at : ℕ) (fs : List Frame) (info : HeadInfo) (text :
             ]
 
     -- it doesn't, and the event has begun
-    pub begins_other : own ≡ false → kept.begun ≡ true → Keeps (record { at = kept.at; message = message; own = own; begun = kept.begun }) at fs (InFrame info []) text
-    begins_other fails begun = record { sought = k.sought; frame = frame_kept kept.begun; begun = subst (λ (b : Bool). HasBegunAt b fs (InFrame info []) at text) (sym begun) within }
+    pub begins_other : own ≡ false → kept.begun ≡ true → Keeps (record { at = kept.at; message = message; own = own; begun = kept.begun; next = None }) at fs (InFrame info []) text
+    begins_other fails begun = record { sought = k.sought; frame = frame_kept kept.begun; next = refl; begun = subst (λ (b : Bool). HasBegunAt b fs (InFrame info []) at text) (sym begun) within }
       where
         open_at : IsOpenAt fs at text
         open_at = subst (λ (b : Bool). HasBegunAt b fs BetweenFrames at text) begun k.begun
@@ -144,10 +144,10 @@ module _ (kept : EventAt) (at : ℕ) (fs : List Frame) (info : HeadInfo) (text :
             ]
 
     -- it ends before the offset
-    pub begins_before : kept.begun ≡ false → end_of info ≤ kept.at → Keeps (record { at = kept.at; message = message; own = own; begun = kept.begun }) at fs (InFrame info []) text
+    pub begins_before : kept.begun ≡ false → end_of info ≤ kept.at → Keeps (record { at = kept.at; message = message; own = own; begun = kept.begun; next = None }) at fs (InFrame info []) text
     begins_before none ends =
         let was : EndBefore fs BetweenFrames at × (text ≡ []) = subst (λ (b : Bool). HasBegunAt b fs BetweenFrames at text) none k.begun in
-        record { sought = k.sought; frame = frame_kept kept.begun; begun = subst (λ (b : Bool). HasBegunAt b fs (InFrame info []) at text) (sym none) (subst (λ (n : ℕ). end_of info ≤ n) k.sought ends, was.1) }
+        record { sought = k.sought; frame = frame_kept kept.begun; next = refl; begun = subst (λ (b : Bool). HasBegunAt b fs (InFrame info []) at text) (sym none) (subst (λ (n : ℕ). end_of info ≤ n) k.sought ends, was.1) }
 
     -- the offset is in it
     pub begins_elsewhere : own ≡ false → kept.begun ≡ false → kept.at < end_of info → IsElsewhere fs info at start × (text ≡ [])
@@ -186,6 +186,7 @@ module _ (kept : EventAt) (at : ℕ) (fs : List Frame) (info : HeadInfo) (part m
   goes_on place k = record {
     sought = k.sought;
     frame = (k.frame.0, λ other. ((k.frame.1 other).0, (k.frame.1 other).1 ∙ first_alike (unfinished fs) here longer refl), k.frame.2);
+    next = k.next;
     begun = by kept.begun k.begun;
   }
     where
@@ -269,10 +270,10 @@ module _ (role : Role) (limits : Limits) (kept : EventAt) (at : ℕ) (fs : List 
           (is.0 ∙ sym (offset_after_fragment fs f data_frame more), is.1 ∙ ap first_op (sym (unfinished_more fs f data_frame more)))
 
   abbrev after : EventAt
-  after = record kept { own = false }
+  after = record kept { own = false; next = Some (end_of info) }
 
   pub ends_other : (kept.own ≡ true → f.fin ≡ false) → Keeps after at (fs ++ f ∷ []) BetweenFrames text
-  ends_other unless = record { sought = k.sought; frame = (open_after, refl); begun = by kept.begun k.begun }
+  ends_other unless = record { sought = k.sought; frame = (open_after, refl); next = ap Some (frame_end fs f); begun = by kept.begun k.begun }
     where
       begun_after : IsBegunAt fs (InFrame info f.payload) at text → IsOpenAt (fs ++ f ∷ []) at text
       begun_after (inl is) =

@@ -1,6 +1,7 @@
 pub mod OpenMessages
 pub mod KeptEvents
 pub mod TakenParts
+pub mod EndedAnswers
 pub mod SoughtSteps
 pub mod SoughtPieces
 pub mod SoughtInputs

@@ -28,8 +28,8 @@ use Rattle.wsn_scan.specs.Positions.{Position, BetweenFrames, InFrame}
 use Rattle.wsn_scan.proofs.WholeInputs.{not_past}
 use Rattle.wsn_payload.specs.declared.answer.EventStart.{EventStart}
 use Rattle.wsn_payload.specs.declared.answer.Payload.{Payload}
-use Rattle.wsn_payload.specs.declared.answer.Payload.TheVariants.{Whole, Unfinished, Inside, Nothing}
-use Rattle.wsn_payload.specs.EventsAt.{content, end_of, judged_bytes, IsWholeAt, IsRestAt, IsBegunAt, EndBefore, AreApart, IsUnfinishedAt, EndsBefore, IsInsideAt}
+use Rattle.wsn_payload.specs.declared.answer.Payload.TheVariants.{Whole, Unfinished, Inside, Head, Nothing}
+use Rattle.wsn_payload.specs.EventsAt.{content, end_of, judged_bytes, IsWholeAt, IsRestAt, IsBegunAt, EndBefore, AreApart, IsUnfinishedAt, EndsBefore, IsInHeadAt, IsAfterAll, IsInsideAt}
 use Rattle.wsn_payload.specs.Payloads.{IsPartAt, IsPayloadOfAll}
 use Rattle.wsn_payload.proofs.OpenMessages.{open_before, offset_within, apart_from_control, frame_end}
 use Rattle.wsn_payload.proofs.OneEvent.{ArePast, past_more, past_within, one_event, not_begun, not_before, place_of}
@@ -98,6 +98,23 @@ module _ (role : Role) (limits : Limits) (bytes : List ℕ) where
     -- With no event at the offset, the stream has one verdict.
     pub one_before : (v w : Verdict) → EndsBefore role limits bytes v at → EndsBefore role limits bytes w at → v ≡ w
     one_before v w a b = (one_apart v w a.frames b.frames a.position b.position a.are_apart b.are_apart).0
+
+    -- The head in which the offset is begins at one offset.
+    pub one_head : (v w : Verdict) (start other : ℕ) → IsInHeadAt role limits bytes v at start → IsInHeadAt role limits bytes w at other → (v ≡ w) × (start ≡ other)
+    one_head v w start other a b =
+        let same = one_apart v w a.ends.frames b.ends.frames a.ends.position b.ends.position a.ends.are_apart b.ends.are_apart in
+        (same.0, a.begins ∙ ap (λ (fs : List Frame). length (stream fs)) same.1 ∙ sym b.begins)
+
+    -- An offset in a head isn't after all that came, nor after a Close.
+    pub head_not_after : (v w : Verdict) (start : ℕ) → IsInHeadAt role limits bytes v at start → IsAfterAll role limits bytes w at → ⊥
+    head_not_after v w start a b =
+        elim (b.no_head (sym same.2 ∙ a.between)) [
+          | inl closed ↦ a.no_close closed.0 [] closed.1 (same.1 ∙ closed.3) closed.2
+          | inr ends ↦ let reached = a.reached in omega (arith, reached, ends, ap (λ (u : Verdict). length (judged_bytes u bytes)) same.0)
+        ]
+      where
+        same : (v ≡ w) × (a.ends.frames ≡ b.ends.frames) × (a.ends.position ≡ b.ends.position)
+        same = one_apart v w a.ends.frames b.ends.frames a.ends.position b.ends.position a.ends.are_apart b.ends.are_apart
 
     -- If the event has begun, not all frames end before the offset.
     pub unfinished_not_before : (v w : Verdict) (payload : List ℕ) → IsUnfinishedAt role limits bytes v at payload → EndsBefore role limits bytes w at → ⊥
@@ -379,7 +396,8 @@ module _ (role : Role) (limits : Limits) (at : ℕ) (all : List ℕ) where
   whole_payload payload w before after (Ok Whole) says is = (refl, subst (IsWritten before after) (one_whole role limits all at is.0 payload is.1 w) is.2)
   whole_payload payload w before after (Ok (Unfinished v)) says is = absurd (whole_not_part role limits all at v payload is.0 w (inl is.1))
   whole_payload payload w before after (Ok (Inside start)) says is = absurd (whole_not_inside role limits all at payload start w is.0)
-  whole_payload payload w before after (Ok (Nothing v)) says is = absurd (whole_not_part role limits all at v payload [] w (inr (is.0, refl)))
+  whole_payload payload w before after (Ok (Head start v)) says is = absurd (whole_not_part role limits all at v payload [] w (inr (is.0.ends, refl)))
+  whole_payload payload w before after (Ok (Nothing v)) says is = absurd (whole_not_part role limits all at v payload [] w (inr (is.0.ends, refl)))
   whole_payload payload w before after (Err stop.InputLimit) says is = absurd (whole_not_part role limits within at is.1.0 payload is.0 (whole_within payload w) is.1.1)
   whole_payload payload w before after (Err stop.Read) says is = absurd says
   whole_payload payload w before after (Err stop.Memory) says is = absurd says
@@ -390,7 +408,8 @@ module _ (role : Role) (limits : Limits) (at : ℕ) (all : List ℕ) where
   inside_payload start w before after (Ok Whole) says is = absurd (whole_not_inside role limits all at is.0 start is.1 w)
   inside_payload start w before after (Ok (Unfinished v)) says is = absurd (inside_not_part role limits all at start w v is.0 (inl is.1))
   inside_payload start w before after (Ok (Inside other)) says is = (answer_alike (Inside other) (Inside start) (ap Inside (one_inside role limits all at other start is.0 w)), is.1)
-  inside_payload start w before after (Ok (Nothing v)) says is = absurd (inside_not_part role limits all at start w v [] (inr (is.0, refl)))
+  inside_payload start w before after (Ok (Head other v)) says is = absurd (inside_not_part role limits all at start w v [] (inr (is.0.ends, refl)))
+  inside_payload start w before after (Ok (Nothing v)) says is = absurd (inside_not_part role limits all at start w v [] (inr (is.0.ends, refl)))
   inside_payload start w before after (Err stop.InputLimit) says is = absurd (inside_not_part role limits within at start (inside_within start w) is.1.0 is.0 is.1.1)
   inside_payload start w before after (Err stop.Read) says is = absurd says
   inside_payload start w before after (Err stop.Memory) says is = absurd says
@@ -411,13 +430,22 @@ module _ (role : Role) (limits : Limits) (at : ℕ) (all : List ℕ) where
     one_payload (Ok (Unfinished v)) (Ok (Unfinished w)) says also one two =
         let same = one_unfinished role limits all at v w one.0 two.0 one.1 two.1 in
         (answer_alike (Unfinished v) (Unfinished w) (ap Unfinished same.0), alike one.0 two.0 same.1 one.2 two.2)
-    one_payload (Ok (Unfinished v)) (Ok (Nothing w)) says also one two = absurd (unfinished_not_before role limits all at v w one.0 one.1 two.0)
+    one_payload (Ok (Unfinished v)) (Ok (Head start w)) says also one two = absurd (unfinished_not_before role limits all at v w one.0 one.1 two.0.ends)
+    one_payload (Ok (Unfinished v)) (Ok (Nothing w)) says also one two = absurd (unfinished_not_before role limits all at v w one.0 one.1 two.0.ends)
     one_payload (Ok (Unfinished v)) (Err stop.InputLimit) says also one two = absurd (not_past role limits all one.1.frames v one.1.are_apart.is_verdict one.3 two.3 two.4)
-    one_payload (Ok (Nothing v)) (Ok (Unfinished w)) says also one two = absurd (unfinished_not_before role limits all at w v two.0 two.1 one.0)
-    one_payload (Ok (Nothing v)) (Ok (Nothing w)) says also one two = (answer_alike (Nothing v) (Nothing w) (ap Nothing (one_before role limits all at v w one.0 two.0)), alike [] [] refl one.1 two.1)
-    one_payload (Ok (Nothing v)) (Err stop.InputLimit) says also one two = absurd (not_past role limits all one.0.frames v one.0.are_apart.is_verdict one.2 two.3 two.4)
+    one_payload (Ok (Head start v)) (Ok (Unfinished w)) says also one two = absurd (unfinished_not_before role limits all at w v two.0 two.1 one.0.ends)
+    one_payload (Ok (Head start v)) (Ok (Head next w)) says also one two =
+        let same = one_head role limits all at v w start next one.0 two.0 in
+        (answer_alike (Head start v) (Head next w) (λ i. Head (same.1 i) (same.0 i)), alike [] [] refl one.1 two.1)
+    one_payload (Ok (Head start v)) (Ok (Nothing w)) says also one two = absurd (head_not_after role limits all at v w start one.0 two.0)
+    one_payload (Ok (Head start v)) (Err stop.InputLimit) says also one two = absurd (not_past role limits all one.0.ends.frames v one.0.ends.are_apart.is_verdict one.2 two.3 two.4)
+    one_payload (Ok (Nothing v)) (Ok (Unfinished w)) says also one two = absurd (unfinished_not_before role limits all at w v two.0 two.1 one.0.ends)
+    one_payload (Ok (Nothing v)) (Ok (Head start w)) says also one two = absurd (head_not_after role limits all at w v start two.0 one.0)
+    one_payload (Ok (Nothing v)) (Ok (Nothing w)) says also one two = (answer_alike (Nothing v) (Nothing w) (ap Nothing (one_before role limits all at v w one.0.ends two.0.ends)), alike [] [] refl one.1 two.1)
+    one_payload (Ok (Nothing v)) (Err stop.InputLimit) says also one two = absurd (not_past role limits all one.0.ends.frames v one.0.ends.are_apart.is_verdict one.2 two.3 two.4)
     one_payload (Err stop.InputLimit) (Ok (Unfinished w)) says also one two = absurd (not_past role limits all two.1.frames w two.1.are_apart.is_verdict two.3 one.3 one.4)
-    one_payload (Err stop.InputLimit) (Ok (Nothing w)) says also one two = absurd (not_past role limits all two.0.frames w two.0.are_apart.is_verdict two.2 one.3 one.4)
+    one_payload (Err stop.InputLimit) (Ok (Head start w)) says also one two = absurd (not_past role limits all two.0.ends.frames w two.0.ends.are_apart.is_verdict two.2 one.3 one.4)
+    one_payload (Err stop.InputLimit) (Ok (Nothing w)) says also one two = absurd (not_past role limits all two.0.ends.frames w two.0.ends.are_apart.is_verdict two.2 one.3 one.4)
     one_payload (Err stop.InputLimit) (Err stop.InputLimit) says also one two = (refl, alike one.0 two.0 (one_part role limits within at one.1.0 two.1.0 one.0 two.0 one.1.1 two.1.1) one.2 two.2)
     one_payload (Err stop.Read) other says also one two = absurd says
     one_payload (Err stop.Memory) other says also one two = absurd says

@@ -1,5 +1,5 @@
 -- An input of which a payload is taken: the answer is right for the bytes that came.
-use Rattle.std.proofs.Common.{◌≡◌, ℕ, ◌+◌, ◌≤◌, Bool, true, false, Option, None, Some, Result, Ok, Err, List, [], ◌∷◌, ◌++◌, length, take, drop, if◌then◌else◌, inl, inr, refl, sym, ap, ◌∙◌, subst, append_assoc, append-nil, length-append, take-append-drop, arith}
+use Rattle.std.proofs.Common.{◌≡◌, ℕ, ◌+◌, ◌<◌, ◌≤◌, ◌⊎◌, Bool, true, false, Option, None, Some, Result, Ok, Err, List, [], ◌∷◌, ◌++◌, length, take, drop, if◌then◌else◌, inl, inr, refl, sym, ap, ◌∙◌, subst, append_assoc, append-nil, length-append, take-append-drop, arith}
 use Rattle.std.proofs.KnownBytes.{Appends-nil}
 use Rattle.std.proofs.lemmas.Bool.{cond-true, cond-false}
 use Rattle.std.proofs.lemmas.List.{length-take-le, take-take, take_all, take-append-le}
@@ -12,6 +12,7 @@ use Rattle.wsn_wire.specs.declared.endpoint.Role.{Role}
 use Rattle.wsn_wire.specs.Frame.{Frame, stream}
 use Rattle.wsn_rules.specs.declared.verdict.Verdict.{Verdict}
 use Rattle.wsn_rules.specs.declared.verdict.Verdict.TheVariants.{Accepted, Cut, Refused}
+use Rattle.wsn_rules.specs.Accepted.{EndsWithClose}
 use Rattle.wsn_rules.specs.Limits.{Limits}
 use Rattle.wsn_rules.specs.Verdict.{IsRefused, IsVerdict}
 use Rattle.wsn_rules.proofs.StaysRefused.{place_within}
@@ -26,12 +27,14 @@ use Rattle.wsn_scan.proofs.Unrefused.{unrefused_first, place_after}
 use Rattle.wsn_scan.proofs.WholeInputs.{of_all as verdict_of_all}
 use Rattle.wsn_payload.specs.declared.answer.EventStart.{EventStart}
 use Rattle.wsn_payload.specs.declared.answer.Payload.{Payload}
-use Rattle.wsn_payload.specs.declared.answer.Payload.TheVariants.{Whole, Unfinished, Inside, Nothing}
+use Rattle.wsn_payload.specs.declared.answer.Payload.TheVariants.{Whole, Unfinished, Inside, Head, Nothing}
 use Rattle.wsn_payload.specs.declared.event_at.EventAt.{EventAt}
-use Rattle.wsn_payload.specs.EventsAt.{IsWholeAt, IsRestAt, judged_bytes, AreApart, IsUnfinishedAt, EndsBefore, IsInsideAt}
-use Rattle.wsn_payload.specs.Following.{HasBegunAt, Keeps, HasSought, IsRefusedHere, IsAnsweredAt, SeeksThrough}
+use Rattle.wsn_payload.specs.EventsAt.{IsWholeAt, IsRestAt, judged_bytes, AreApart, IsUnfinishedAt, EndsBefore, IsInHeadAt, IsAfterAll, IsInsideAt}
+use Rattle.wsn_payload.specs.Following.{HasBegunAt, Keeps, is_judged, answer_without_event, ended_answer, HasSought, IsRefusedHere, IsAnsweredAt, SeeksThrough}
 use Rattle.wsn_payload.specs.Payloads.{IsPartAt, IsPayloadInFront, IsPayloadAnswer, IsPayloadTaken, IsPayloadOfAll, IsWrittenBut}
 use Rattle.wsn_scan.proofs.FollowedScans.{room_within, unrefused_so_far, judged_so_far}
+use Rattle.wsn_payload.proofs.EndedAnswers.{IsAnswered, answered_without, in_head, after_all}
+use Rattle.wsn_payload.proofs.EndedAnswers.IsAnswered.{InHead, AfterAll}
 use Rattle.wsn_payload.proofs.SoughtSteps.{apart, part_of}
 
 -- ---- more bytes
@@ -126,7 +129,7 @@ module _ (role : Role) (limits : Limits) (at : ℕ) where
       reached (Cut s) is_w = (h.frames, is_w, at_end, fits, same ∙ read.unfailed)
       reached (Refused r) is_w = absurd (none_refused h.frames r.place r.reason is_w)
 
-      pub ended : (answer : Payload) → answer ≡ (if kept.begun then Unfinished v else Nothing v) → IsPayloadTaken role limits at old new first now (Ok answer)
+      pub ended : (answer : Payload) → answer ≡ ended_answer kept v → IsPayloadTaken role limits at old new first now (Ok answer)
       ended answer answer_is = record {
         came = came;
         received = received_of (limits.input + 1) old new came (consumed_end old mid new came read.consumed nothing) (omega (arith, fits));
@@ -136,11 +139,23 @@ module _ (role : Role) (limits : Limits) (at : ℕ) where
         where
           by : (b : Bool) → kept.begun ≡ b → HasBegunAt b h.frames h.position at h.payload → IsPayloadAnswer role limits at new came first now (Ok answer)
           by true begun has =
-              subst (λ (a : Payload). IsPayloadAnswer role limits at new came first now (Ok a)) (sym (answer_is ∙ cond-true kept.begun (Unfinished v) (Nothing v) begun))
+              subst (λ (a : Payload). IsPayloadAnswer role limits at new came first now (Ok a)) (sym (answer_is ∙ cond-true kept.begun (Unfinished v) (answer_without_event kept.next (is_judged v kept.at) v) begun))
               (h.payload, record { frames = h.frames; position = h.position; are_apart = apart role limits scan came h.frames h.position h.rest h.followed v is; is_begun = has }, h.written, reached v is)
-          by false begun has =
-              subst (λ (a : Payload). IsPayloadAnswer role limits at new came first now (Ok a)) (sym (answer_is ∙ cond-false kept.begun (Unfinished v) (Nothing v) begun))
-              (record { frames = h.frames; position = h.position; are_apart = apart role limits scan came h.frames h.position h.rest h.followed v is; end = has.0 }, subst (IsWritten first now) has.1 h.written, reached v is)
+          by false begun has = by_answer (answered_without kept v answer answer_is begun)
+            where
+              none : IsWritten first now []
+              none = subst (IsWritten first now) has.1 h.written
+
+              are_apart : AreApart role limits came v h.frames h.position
+              are_apart = apart role limits scan came h.frames h.position h.rest h.followed v is
+
+              by_answer : IsAnswered kept v answer → IsPayloadAnswer role limits at new came first now (Ok answer)
+              by_answer (InHead start next judged it) =
+                  subst (λ (a : Payload). IsPayloadAnswer role limits at new came first now (Ok a)) (sym it)
+                  (in_head role limits came h.frames at kept h.position h.payload h.keeps v are_apart has.0 start next judged, none, reached v is)
+              by_answer (AfterAll why it) =
+                  subst (λ (a : Payload). IsPayloadAnswer role limits at new came first now (Ok a)) (sym it)
+                  (after_all role limits came h.frames at kept h.position h.payload h.keeps v are_apart has.0 why, none, reached v is)
 
     -- ---- one read gave a chunk
 
@@ -268,7 +283,8 @@ module _ (role : Role) (limits : Limits) (at : ℕ) where
           by (Unfinished v) w =
               (w.1.0, subst (λ (bs : List ℕ). IsUnfinishedAt role limits bs v at w.1.0) (sym (after_first n)) (w.1.1 later), w.1.2, refused_reached n v given.2.0 w.0)
           by (Inside start) w = (subst (λ (bs : List ℕ). IsInsideAt role limits bs at start) (sym (after_first n)) (inside_longer role limits (came ++ take n piece) later at start w.0), w.1, unfailed_now)
-          by (Nothing v) w = (subst (λ (bs : List ℕ). EndsBefore role limits bs v at) (sym (after_first n)) (w.1 later), w.2, refused_reached n v given.2.0 w.0)
+          by (Head start v) w = (subst (λ (bs : List ℕ). IsInHeadAt role limits bs v at start) (sym (after_first n)) (w.1 later), w.2, refused_reached n v given.2.0 w.0)
+          by (Nothing v) w = (subst (λ (bs : List ℕ). IsAfterAll role limits bs v at) (sym (after_first n)) (w.1 later), w.2, refused_reached n v given.2.0 w.0)
 
 -- ---- an input whose bytes are known
 
@@ -305,6 +321,9 @@ module _ (role : Role) (limits : Limits) (at : ℕ) (old new : Incoming) (before
         is_rest = subst (λ (bs : List ℕ). IsRestAt role limits fs (drop (length (stream fs)) bs) position) (sym (same_judged rest v fs left is a.is_verdict reached)) a.is_rest;
       }
 
+      ends_all : (rest : List ℕ) (v : Verdict) → new.remaining ≡ Some rest → all ≡ came ++ rest → EndsBefore role limits came v at → IsReached role limits new came v → EndsBefore role limits all v at
+      ends_all rest v left is u reached = record { frames = u.frames; position = u.position; are_apart = apart_all rest v u.frames u.position left is u.are_apart reached; end = u.end }
+
       by_answer : (rest : List ℕ) → new.remaining ≡ Some rest → all ≡ came ++ rest → (r : Result Payload Stop) → IsPayloadAnswer role limits at new came before after r → IsPayloadOfAll role limits at all before after r
       by_answer rest left is (Ok Whole) w = (w.0, subst (λ (bs : List ℕ). IsWholeAt role limits bs at w.0) (sym is) (whole_longer role limits came rest at w.0 w.1), w.2)
       by_answer rest left is (Ok (Unfinished v)) w =
@@ -315,9 +334,26 @@ module _ (role : Role) (limits : Limits) (at : ℕ) (old new : Incoming) (before
             (judged_all rest v u.frames left is u.are_apart.is_verdict w.3).1,
           )
       by_answer rest left is (Ok (Inside start)) w = (subst (λ (bs : List ℕ). IsInsideAt role limits bs at start) (sym is) (inside_longer role limits came rest at start w.0), w.1)
+      by_answer rest left is (Ok (Head start v)) w =
+          let u = w.0.ends in
+          let same = same_judged rest v u.frames left is u.are_apart.is_verdict w.2 in (
+            record {
+              ends = ends_all rest v left is u w.2;
+              between = w.0.between;
+              no_close = w.0.no_close;
+              begins = w.0.begins;
+              reached = subst (λ (bs : List ℕ). at < length bs) (sym same) w.0.reached;
+            },
+            w.1,
+            (judged_all rest v u.frames left is u.are_apart.is_verdict w.2).1,
+          )
       by_answer rest left is (Ok (Nothing v)) w =
-          let u = w.0 in (
-            record { frames = u.frames; position = u.position; are_apart = apart_all rest v u.frames u.position left is u.are_apart w.2; end = u.end },
+          let u = w.0.ends in
+          let same = same_judged rest v u.frames left is u.are_apart.is_verdict w.2 in (
+            record {
+              ends = ends_all rest v left is u w.2;
+              no_head = λ between. subst (λ (bs : List ℕ). EndsWithClose u.frames ⊎ (length bs ≤ at)) (sym same) (w.0.no_head between);
+            },
             w.1,
             (judged_all rest v u.frames left is u.are_apart.is_verdict w.2).1,
           )

@@ -34,14 +34,16 @@ use Rattle.wsn_scan.specs.Positions.{Position, BetweenFrames, InFrame, begun_at}
 use Rattle.wsn_scan.specs.Scans.{HasScanned, IsReachedBy, IsRefusedThere, refusal_in}
 use Rattle.wsn_scan.proofs.HeadsSoFar.{heads_reported}
 use Rattle.wsn_payload.specs.declared.answer.Payload.{Payload}
-use Rattle.wsn_payload.specs.declared.answer.Payload.TheVariants.{Whole, Unfinished, Inside, Nothing}
+use Rattle.wsn_payload.specs.declared.answer.Payload.TheVariants.{Whole, Unfinished, Inside, Head, Nothing}
 use Rattle.wsn_payload.specs.declared.event_at.EventAt.{EventAt}
 use Rattle.wsn_payload.specs.EventsAt.{IsWholeAt, IsRestAt, IsBegunAt, judged_bytes, AreApart, IsInsideAt}
 use Rattle.wsn_scan.specs.FollowedScans.{HasFollowed, IsCall}
-use Rattle.wsn_payload.specs.Following.{HasBegunAt, Keeps, MayBegin, EndsEvent, TakesPart, own_part, HasSought, IsRefusedHere, IsStepOf, SeeksOn}
+use Rattle.wsn_payload.specs.Following.{HasBegunAt, Keeps, MayBegin, EndsEvent, TakesPart, own_part, is_judged, answer_without_event, ended_answer, HasSought, IsRefusedHere, IsStepOf, SeeksOn}
 use Rattle.wsn_payload.specs.Payloads.{IsPartAt, IsPayloadInFront, IsWrittenBut}
 use Rattle.wsn_scan.proofs.FollowedScans.{wire_payload_is, few, lawful_done, whole_is, rest_few, room_within, unrefused_so_far, judged_so_far, in_frame, between, reached, same_follows, reach, part_follows, refused_there, refused_begun}
 use Rattle.wsn_scan.proofs.FoundHeads.{heads_after}
+use Rattle.wsn_payload.proofs.EndedAnswers.{IsAnswered, answered_without, in_head, after_all}
+use Rattle.wsn_payload.proofs.EndedAnswers.IsAnswered.{InHead, AfterAll}
 use Rattle.wsn_payload.proofs.KeptEvents.{goes_on}
 use Rattle.wsn_payload.proofs.OpenMessages.{open_or_not, offset_within}
 
@@ -273,6 +275,7 @@ module _ (role : Role) (limits : Limits) (at : ℕ) (old new : Scan) (piece afte
         } in
         subst (SeeksOn role limits at new kept_after came piece first out) (sym is) (most, (there, nothing))
     part_step kept_after out (Ok (Some (Unfinished v))) t given is = absurd t
+    part_step kept_after out (Ok (Some (Head start v))) t given is = absurd t
     part_step kept_after out (Ok (Some (Nothing v))) t given is = absurd t
     part_step kept_after out (Err stopped) t given is =
         subst (SeeksOn role limits at new kept_after came piece first out) (sym is) (
@@ -349,7 +352,7 @@ module _ (role : Role) (limits : Limits) (at : ℕ) (old new : Scan) (piece afte
     most_refused : length (came ++ share) ≤ limits.input
     most_refused = let room = reaches.0.has_consumed.room in omega (arith, room)
 
-    pub refused_step : (out : Outgoing) → IsWritten now out (own_part kept evidence) → (answer : Payload) → answer ≡ (if kept.begun then Unfinished (Refused refusal) else Nothing (Refused refusal))
+    pub refused_step : (out : Outgoing) → IsWritten now out (own_part kept evidence) → (answer : Payload) → answer ≡ ended_answer kept (Refused refusal)
         → SeeksOn role limits at new kept came piece first out (Ok (n, Some answer))
     refused_step out written answer answer_is = by kept.begun refl kept_here.begun
       where
@@ -358,13 +361,21 @@ module _ (role : Role) (limits : Limits) (at : ℕ) (old new : Scan) (piece afte
 
         by : (b : Bool) → kept.begun ≡ b → HasBegunAt b done (with_evidence h.position evidence) at text → SeeksOn role limits at new kept came piece first out (Ok (n, Some answer))
         by true is_begun has =
-            let it : answer ≡ Unfinished (Refused refusal) = answer_is ∙ cond-true kept.begun (Unfinished (Refused refusal)) (Nothing (Refused refusal)) is_begun in
+            let it : answer ≡ Unfinished (Refused refusal) = answer_is ∙ cond-true kept.begun (Unfinished (Refused refusal)) (answer_without_event kept.next (is_judged (Refused refusal) kept.at) (Refused refusal)) is_begun in
             subst (λ (a : Payload). SeeksOn role limits at new kept came piece first out (Ok (n, Some a))) (sym it)
             (most_refused, (here_refused, (text, (λ later. record { frames = done; position = with_evidence h.position evidence; are_apart = refused_apart later; is_begun = has }), all)))
-        by false is_begun has =
-            let it : answer ≡ Nothing (Refused refusal) = answer_is ∙ cond-false kept.begun (Unfinished (Refused refusal)) (Nothing (Refused refusal)) is_begun in
-            subst (λ (a : Payload). SeeksOn role limits at new kept came piece first out (Ok (n, Some a))) (sym it)
-            (most_refused, (here_refused, (λ later. record { frames = done; position = with_evidence h.position evidence; are_apart = refused_apart later; end = has.0 }), subst (IsWritten first out) has.1 all))
+        by false is_begun has = at_end (answered_without kept (Refused refusal) answer answer_is is_begun)
+          where
+            nothing : IsWritten first out []
+            nothing = subst (IsWritten first out) has.1 all
+
+            at_end : IsAnswered kept (Refused refusal) answer → SeeksOn role limits at new kept came piece first out (Ok (n, Some answer))
+            at_end (InHead start next judged it) =
+                subst (λ (a : Payload). SeeksOn role limits at new kept came piece first out (Ok (n, Some a))) (sym it)
+                (most_refused, (here_refused, (λ later. in_head role limits ((came ++ share) ++ later) done at kept (with_evidence h.position evidence) text kept_here (Refused refusal) (refused_apart later) has.0 start next judged), nothing))
+            at_end (AfterAll why it) =
+                subst (λ (a : Payload). SeeksOn role limits at new kept came piece first out (Ok (n, Some a))) (sym it)
+                (most_refused, (here_refused, (λ later. after_all role limits ((came ++ share) ++ later) done at kept (with_evidence h.position evidence) text kept_here (Refused refusal) (refused_apart later) has.0 why), nothing))
 
     pub refused_failed : (out : Outgoing) → kept.own ≡ true → IsPartlyWritten now out (own_part kept evidence)
         → ((payload : List ℕ) × IsPayloadInFront role limits (came ++ piece) at payload × IsPartlyWritten first out payload) × IsWrittenBut (length piece) role limits at (came ++ piece) first out

@@ -49,7 +49,7 @@ module _ (role : Role) (limits : Limits) (kept : EventAt) (at : ℕ) (fs frames 
     abbrev pub frame : Frame
     frame = (t.goes_on.ends ends).0
 
-    head_is : part.head ≡ info_of (length (stream fs)) frame
+    pub head_is : part.head ≡ info_of (length (stream fs)) frame
     head_is = (t.goes_on.ends ends).1
 
     pub frames_are : frames ≡ fs ++ frame ∷ []
@@ -60,9 +60,6 @@ module _ (role : Role) (limits : Limits) (kept : EventAt) (at : ℕ) (fs frames 
 
     pub lawful : IsLawful role limits (fs ++ frame ∷ [])
     lawful = subst (IsLawful role limits) frames_are t.lawful
-
-    pub final_is : frame.fin ≡ part.head.fin
-    final_is = sym (ap (λ (i : HeadInfo). i.fin) head_is)
 
     pub whole_frame : Keeps kept at fs (InFrame (info_of (length (stream fs)) frame) frame.payload) (text ++ more)
     whole_frame =

@@ -100,6 +100,23 @@ pub record EndsBefore (role : Role) (limits : Limits) (bytes : List ℕ) (verdic
   pub are_apart : AreApart role limits bytes verdict frames position
   pub end : EndBefore frames position at
 
+-- The same, and the offset is in a head that begins at the offset `start`, after the frames and without a Close: no
+-- complete head comes there that is valid so far, but bytes up to this offset, of which the verdict takes account.
+pub record IsInHeadAt (role : Role) (limits : Limits) (bytes : List ℕ) (verdict : Verdict) (at start : ℕ)
+    : Type 0 where
+  pub ends : EndsBefore role limits bytes verdict at
+  pub between : ends.position ≡ BetweenFrames
+  pub no_close : HasNoClose ends.frames
+  pub begins : start ≡ length (stream ends.frames)
+  pub reached : at < length (judged_bytes verdict bytes)
+
+-- The frames end before the offset or at it, and what comes after them begins no head there: they end with a Close, or
+-- all bytes of which the verdict takes account end before the offset or at it.
+pub record IsAfterAll (role : Role) (limits : Limits) (bytes : List ℕ) (verdict : Verdict) (at : ℕ) : Type 0 where
+  pub ends : EndsBefore role limits bytes verdict at
+  pub no_head : ends.position ≡ BetweenFrames →
+      EndsWithClose ends.frames ⊎ (length (judged_bytes verdict bytes) ≤ at)
+
 -- The event of a frame with this head, after the frames `before`: the opcode of its first frame, and the offset at which
 -- it begins.
 pub record IsStartOf (before : List Frame) (info : HeadInfo) (start : EventStart) : Type 0 where

@@ -1,5 +1,5 @@
 -- What is kept of the event that begins at an offset, while a scan takes the parts of frames.
-use Rattle.std.specs.Prelude.{◌≡◌, ◌≢◌, ℕ, ◌+◌, ◌^◌, ◌<◌, ◌≤◌, ◌↔◌, ◌⊎◌, Bool, true, false, IfSome, Option, None, Some, Result, Ok, Err, List, [], ◌∷◌, ◌++◌, length, take, if◌then◌else◌}
+use Rattle.std.specs.Prelude.{◌≡◌, ◌≢◌, ℕ, ◌+◌, ◌^◌, ◌<◌, ◌≤◌, ◌↔◌, ◌⊎◌, nat_lt, nat_le, Bool, true, false, IfSome, Option, None, Some, Result, Ok, Err, List, [], ◌∷◌, ◌++◌, length, take, if◌then◌else◌}
 use Rattle.wsn_io.specs.Transfer.{Outgoing, IsWritten, IsPartlyWritten}
 use Rattle.wsn_io.specs.declared.stop.Stop.{Stop}
 use Rattle.wsn_io.specs.declared.stop.Stop.TheVariants as stop
@@ -9,7 +9,7 @@ use Rattle.wsn_wire.specs.Frame.{Frame, IsKey, is_control, stream}
 use Rattle.wsn_rules.specs.declared.head_info.HeadInfo.{HeadInfo}
 use Rattle.wsn_rules.specs.declared.verdict.Refusal.{Refusal}
 use Rattle.wsn_rules.specs.declared.verdict.Verdict.{Verdict}
-use Rattle.wsn_rules.specs.declared.verdict.Verdict.TheVariants.{Refused}
+use Rattle.wsn_rules.specs.declared.verdict.Verdict.TheVariants.{Accepted, Cut, Refused}
 use Rattle.wsn_rules.specs.Limits.{Limits}
 use Rattle.wsn_rules.specs.Group.{unfinished, IsOpen, first_op}
 use Rattle.wsn_rules.specs.Meaning.{event_at}
@@ -20,9 +20,9 @@ use Rattle.wsn_scan.specs.Positions.{Position, BetweenFrames, InFrame}
 use Rattle.wsn_scan.specs.FollowedScans.{HasFollowed}
 use Rattle.wsn_payload.specs.declared.answer.EventStart.{EventStart}
 use Rattle.wsn_payload.specs.declared.answer.Payload.{Payload}
-use Rattle.wsn_payload.specs.declared.answer.Payload.TheVariants.{Whole, Unfinished, Inside, Nothing}
+use Rattle.wsn_payload.specs.declared.answer.Payload.TheVariants.{Whole, Unfinished, Inside, Head, Nothing}
 use Rattle.wsn_payload.specs.declared.event_at.EventAt.{EventAt}
-use Rattle.wsn_payload.specs.EventsAt.{content, IsWholeAt, IsBegunAt, end_of, EndBefore, IsUnfinishedAt, EndsBefore, IsStartOf, IsInsideAt}
+use Rattle.wsn_payload.specs.EventsAt.{content, IsWholeAt, IsBegunAt, end_of, EndBefore, IsUnfinishedAt, IsInHeadAt, IsAfterAll, IsStartOf, IsInsideAt}
 use Rattle.wsn_payload.specs.Payloads.{IsPayloadInFront, IsWrittenBut}
 
 -- The opcode and the offset of the first frame of the open message are kept, if one is open.
@@ -43,6 +43,11 @@ KeepsFrame kept fs (InFrame info part) at =
     × (is_control info.op ≡ false → KeepsJoined kept fs (frame_so_far info part))
     × ((kept.own ≡ true) ↔ (event_offset fs (frame_so_far info part) ≡ at))
 
+-- The offset at which the next frame begins; none in a frame.
+abbrev pub next_at : List Frame → Position → Option ℕ
+next_at fs BetweenFrames = Some (length (stream fs))
+next_at fs (InFrame info part) = None
+
 -- Whether the event that begins at the offset has begun, and what has come of its payload.
 abbrev pub HasBegunAt : Bool → List Frame → Position → ℕ → List ℕ → Type 0
 HasBegunAt true fs position at payload = IsBegunAt fs position at payload
@@ -52,6 +57,7 @@ HasBegunAt false fs position at payload = EndBefore fs position at × (payload �
 pub record Keeps (kept : EventAt) (at : ℕ) (fs : List Frame) (position : Position) (payload : List ℕ) : Type 0 where
   pub sought : kept.at ≡ at
   pub frame : KeepsFrame kept fs position at
+  pub next : kept.next ≡ next_at fs position
   pub begun : HasBegunAt kept.begun fs position at payload
 
 -- A frame with this head may begin after the frames: it continues an open message, or begins one if none is open. Its
@@ -110,6 +116,26 @@ TakesPart kept at fs info frames position payload before after (Err stopped) =
     × (IsBegunAt frames position at (payload ++ more)
     ⊎ ((f : Frame) × (frames ≡ fs ++ f ∷ []) × EndsEvent fs f at (payload ++ more))))
 
+-- ---- where the stream has its verdict
+
+-- The verdict takes account of the byte at this offset: it is in a frame or in a head, and isn't after the offending
+-- byte.
+abbrev pub is_judged : Verdict → ℕ → Bool
+is_judged (Accepted summary) at = nat_lt at summary.used
+is_judged (Cut summary) at = nat_lt at summary.used
+is_judged (Refused refusal) at = nat_le at refusal.place
+
+-- The answer of an offset at which no event has begun: in the head of the next frame, or after all that came.
+abbrev pub answer_without_event : Option ℕ → Bool → Verdict → Payload
+answer_without_event (Some start) true verdict = Head start verdict
+answer_without_event next judged verdict = Nothing verdict
+
+-- The answer where the stream has this verdict.
+abbrev pub ended_answer : EventAt → Verdict → Payload
+ended_answer kept verdict =
+    if kept.begun then Unfinished verdict
+    else answer_without_event kept.next (is_judged verdict kept.at) verdict
+
 -- ---- over the bytes
 
 -- The scan has consumed the bytes that came and has not refused them. Of the event this is kept, and what has come of
@@ -151,9 +177,12 @@ IsAnsweredAt role limits at bytes before after (Unfinished verdict) =
     × IsWritten before after payload)
 IsAnsweredAt role limits at bytes before after (Inside start) =
     IsInsideAt role limits bytes at start × IsWritten before after []
+IsAnsweredAt role limits at bytes before after (Head start verdict) =
+    IsRefusedHere role limits bytes verdict
+    × ((later : List ℕ) → IsInHeadAt role limits (bytes ++ later) verdict at start) × IsWritten before after []
 IsAnsweredAt role limits at bytes before after (Nothing verdict) =
     IsRefusedHere role limits bytes verdict
-    × ((later : List ℕ) → EndsBefore role limits (bytes ++ later) verdict at) × IsWritten before after []
+    × ((later : List ℕ) → IsAfterAll role limits (bytes ++ later) verdict at) × IsWritten before after []
 
 -- The result of a call that consumed n bytes, after which a part gave this.
 abbrev pub IsStepOf : ℕ → Result (Option Payload) Stop → Result (ℕ × Option Payload) Stop → Type 0

@@ -10,8 +10,8 @@ use Rattle.wsn_rules.specs.Limits.{Limits}
 use Rattle.wsn_scan.specs.Judging.{IsReached, IsStopped, IsUnrefused, IsWithinLimit}
 use Rattle.wsn_scan.specs.Refill.{chunk_size}
 use Rattle.wsn_payload.specs.declared.answer.Payload.{Payload}
-use Rattle.wsn_payload.specs.declared.answer.Payload.TheVariants.{Whole, Unfinished, Inside, Nothing}
-use Rattle.wsn_payload.specs.EventsAt.{IsWholeAt, IsUnfinishedAt, EndsBefore, IsInsideAt}
+use Rattle.wsn_payload.specs.declared.answer.Payload.TheVariants.{Whole, Unfinished, Inside, Head, Nothing}
+use Rattle.wsn_payload.specs.EventsAt.{IsWholeAt, IsUnfinishedAt, EndsBefore, IsInHeadAt, IsAfterAll, IsInsideAt}
 
 -- What has come in these bytes of the payload of an event that isn't complete: of the one that begins at the offset; or
 -- nothing, since all frames end before it or at it.
@@ -45,8 +45,8 @@ pub record IsWrittenBut (most : ℕ) (role : Role) (limits : Limits) (at : ℕ) 
   pub written : IsWrittenAtLeast role limits at done before after
 
 -- The answer is right for the bytes that came, and this was written. The event is complete: all of its payload. It isn't,
--- at the verdict: what has come of it. The offset is inside an event, or after all frames: nothing. After a failed write:
--- a prefix of its payload in some of the bytes. At any other stop: what has come of it within the limit.
+-- at the verdict: what has come of it. The offset is inside an event, in a head, or after all that came: nothing. After a
+-- failed write: a prefix of its payload in some of the bytes. At any other stop: what has come of it within the limit.
 abbrev pub IsPayloadAnswer : Role → Limits → ℕ → Incoming → List ℕ → Outgoing → Outgoing → Result Payload Stop → Type 0
 IsPayloadAnswer role limits at new came before after (Ok Whole) =
     (payload : List ℕ) × IsWholeAt role limits came at payload × IsWritten before after payload × (new.failed ≡ false)
@@ -55,8 +55,10 @@ IsPayloadAnswer role limits at new came before after (Ok (Unfinished verdict)) =
     × IsReached role limits new came verdict
 IsPayloadAnswer role limits at new came before after (Ok (Inside start)) =
     IsInsideAt role limits came at start × IsWritten before after [] × (new.failed ≡ false)
+IsPayloadAnswer role limits at new came before after (Ok (Head start verdict)) =
+    IsInHeadAt role limits came verdict at start × IsWritten before after [] × IsReached role limits new came verdict
 IsPayloadAnswer role limits at new came before after (Ok (Nothing verdict)) =
-    EndsBefore role limits came verdict at × IsWritten before after [] × IsReached role limits new came verdict
+    IsAfterAll role limits came verdict at × IsWritten before after [] × IsReached role limits new came verdict
 IsPayloadAnswer role limits at new came before after (Err stop.Write) =
     (payload : List ℕ) × IsPayloadInFront role limits came at payload × IsPartlyWritten before after payload
     × (new.failed ≡ false)
@@ -85,8 +87,10 @@ IsPayloadOfAll role limits at all before after (Ok (Unfinished verdict)) =
     × IsWithinLimit limits all verdict
 IsPayloadOfAll role limits at all before after (Ok (Inside start)) =
     IsInsideAt role limits all at start × IsWritten before after []
+IsPayloadOfAll role limits at all before after (Ok (Head start verdict)) =
+    IsInHeadAt role limits all verdict at start × IsWritten before after [] × IsWithinLimit limits all verdict
 IsPayloadOfAll role limits at all before after (Ok (Nothing verdict)) =
-    EndsBefore role limits all verdict at × IsWritten before after [] × IsWithinLimit limits all verdict
+    IsAfterAll role limits all verdict at × IsWritten before after [] × IsWithinLimit limits all verdict
 IsPayloadOfAll role limits at all before after (Err stop.InputLimit) =
     (payload : List ℕ) × ((verdict : Verdict) × IsPartAt role limits (take limits.input all) verdict at payload)
     × IsWritten before after payload × (limits.input < length all) × IsUnrefused role limits (take limits.input all)

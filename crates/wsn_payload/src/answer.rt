@@ -21,6 +21,9 @@ pub enum Payload {
     Unfinished(Verdict),
     /// No event begins at the offset: it is in a frame of the event that begins here.
     Inside(EventStart),
-    /// No event begins at the offset: all frames end before it or at it, and the stream has this verdict.
+    /// No event begins at the offset: it is in a head that begins at `offset` and isn't complete, since the stream ends
+    /// inside it or is refused there.
+    Head { offset: u64, verdict: Verdict },
+    /// No event begins at the offset: all that came ends before it or at it, or a Close does. The stream has this verdict.
     Nothing(Verdict),
 }

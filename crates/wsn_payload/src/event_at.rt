@@ -1,6 +1,7 @@
 ghost use Rattle.std.specs.Prelude.{◌≡◌, ◌<◌, ◌≤◌, ◌^◌, IfSome};
 ghost use Rattle.wsn_wire.specs.Frame.{IsKey, head_bytes};
 ghost use Rattle.wsn_payload.specs.EventsAt.{end_of as end_of_frame};
+ghost use Rattle.wsn_payload.specs.Following.{is_judged as is_judged_byte};
 
 use crate::answer::{EventStart, Payload};
 use std::io::Write;
@@ -19,6 +20,8 @@ pub struct EventAt {
     own: bool,
     /// The event has begun.
     begun: bool,
+    /// The offset at which the next frame begins; `None` in a frame.
+    next: Option<u64>,
 }
 
 impl EventAt {
@@ -32,7 +35,7 @@ impl EventAt {
     ghost use Rattle.wsn_scan.specs.Parts.{IsPartAt};
     ghost use Rattle.wsn_scan.specs.Positions.{Position, BetweenFrames, InFrame};
     ghost use Rattle.wsn_scan.specs.FollowedScans.{IsTaken};
-    ghost use Rattle.wsn_payload.specs.Following.{Keeps, MayBegin, BeginsFrame, EndsFrame, TakesPart, own_part};
+    ghost use Rattle.wsn_payload.specs.Following.{Keeps, MayBegin, BeginsFrame, EndsFrame, TakesPart, own_part, ended_answer};
 
     /// No part has come.
     #[tactic(none)]
@@ -47,6 +50,7 @@ impl EventAt {
             },
             own: false,
             begun: false,
+            next: Some(0),
         }
     }
 
@@ -61,8 +65,7 @@ impl EventAt {
     ) -> Result<Option<Payload>, Stop>
         requires { output.old.failed ≡ false }
         ensures { (role : Role) (limits : Limits) (at : ℕ) (fs frames : List Frame) (from position : Position)
-            (rest before share since text : List ℕ) → (part.now.begins ≡ true → MayBegin fs part.now.head) →
-            part.now.head.place ≡ length (stream fs) → IsPartAt from part.now before →
+            (rest before share since text : List ℕ) → MayBegin fs part.now.head → IsPartAt from part.now before →
             IsTaken role limits fs rest before part.now payload.now share frames position since →
             Keeps self.old at fs from text →
             TakesPart self.new at fs part.now.head frames position text output.old output.new result }
@@ -73,7 +76,7 @@ impl EventAt {
             }
         }
         self.put(payload, output)?;
-        if part.ends && self.end(part.head.fin) {
+        if part.ends && self.end(&part.head) {
             return Ok(Some(Payload::Whole));
         }
         Ok(None)
@@ -87,6 +90,7 @@ impl EventAt {
     {
         self.message = self.joined(head);
         let start = self.start_of(head);
+        self.next = None;
         self.own = start.offset == self.at;
         if self.own {
             self.begun = true;
@@ -138,25 +142,28 @@ impl EventAt {
 
     /// Ends the frame, and returns whether that completes the event.
     #[tactic(none)]
-    fn end(&mut self, final_frame: bool) -> bool
+    fn end(&mut self, head: &HeadInfo) -> bool
         ensures { (role : Role) (limits : Limits) (at : ℕ) (fs : List Frame) (f : Frame) (text : List ℕ) →
-            f.fin ≡ final_frame → IsLawful role limits (fs ++ f ∷ []) →
+            head.now ≡ info_of (length (stream fs)) f → MayBegin fs head.now → IsLawful role limits (fs ++ f ∷ []) →
             Keeps self.old at fs (InFrame (info_of (length (stream fs)) f) f.payload) text →
             EndsFrame self.new at fs f text result }
     {
         let own = self.own;
         self.own = false;
-        own && final_frame
+        self.next = Some(end_of(head));
+        own && head.fin
     }
 
     /// The answer where the stream has its verdict.
     pub fn ended(&self, verdict: Verdict) -> Payload
-        ensures { result ≡ (if self.now.begun then Payload.Unfinished verdict else Payload.Nothing verdict) }
+        ensures { result ≡ ended_answer self.now verdict }
     {
         if self.begun {
-            Payload::Unfinished(verdict)
-        } else {
-            Payload::Nothing(verdict)
+            return Payload::Unfinished(verdict);
+        }
+        match self.next {
+            Some(offset) if is_judged(&verdict, self.at) => Payload::Head { offset, verdict },
+            _ => Payload::Nothing(verdict),
         }
     }
 }
@@ -188,4 +195,15 @@ fn end_of(head: &HeadInfo) -> u64
     head.place
         .saturating_add(2 + length + key)
         .saturating_add(head.len)
+}
+
+/// Whether the verdict takes account of the byte at an offset: it is in a frame or in a head, and isn't after the
+/// offending byte.
+fn is_judged(verdict: &Verdict, at: u64) -> bool
+    ensures { result ≡ is_judged_byte verdict.now at }
+{
+    match verdict {
+        Verdict::Accepted(summary) | Verdict::Cut(summary) => at < summary.used,
+        Verdict::Refused(refusal) => at <= refusal.place,
+    }
 }

@@ -11,7 +11,7 @@ ghost use Rattle.wsn_rules.specs.Limits.{Limits};
 ghost use Rattle.wsn_rules.specs.Meaning.{event_at};
 ghost use Rattle.wsn_rules.specs.ShownStream.{event_offset};
 ghost use Rattle.wsn_rules.specs.Verdict.{IsVerdict};
-ghost use Rattle.wsn_payload.specs.EventsAt.{content, IsWholeAt, IsUnfinishedAt, EndsBefore, IsInsideAt};
+ghost use Rattle.wsn_payload.specs.EventsAt.{content, IsWholeAt, IsUnfinishedAt, EndsBefore, IsInHeadAt, IsInsideAt};
 ghost use Rattle.wsn_payload.specs.Payloads.{IsPayloadOfAll};
 ghost use Rattle.wsn_payload.specs.declared.answer.EventStart.{EventStart};
 ghost use Rattle.wsn_payload.specs.declared.answer.Payload.{Payload};
@@ -19,7 +19,7 @@ ghost use Rattle.wsn_payload.specs.declared.answer.Payload.TheVariants.{Whole};
 
 /// An event of a stream whose first frame begins at an offset is complete there, within the input limit, and what
 /// [`payload`](crate::payload) writes of a complete event there is its payload and no other. It isn't unfinished, not
-/// all frames end before it, and the offset is in no frame of another event.
+/// all frames end before it, and the offset is in no head and in no frame of another event.
 pub fn law_payload_of_event()
     ensures some { (role : Role) (limits : Limits) (bytes : List ℕ) (fs before later : List Frame) (f : Frame)
         (verdict : Verdict) →
@@ -38,6 +38,10 @@ pub fn law_payload_of_event()
         (verdict other : Verdict) →
         IsVerdict role limits bytes fs verdict → fs ≡ before ++ f ∷ later → f.fin ≡ true →
         EndsBefore role limits bytes other (event_offset before f) → ⊥ }
+    ensures complete { (role : Role) (limits : Limits) (bytes : List ℕ) (fs before later : List Frame) (f : Frame)
+        (verdict other : Verdict) (start : ℕ) →
+        IsVerdict role limits bytes fs verdict → fs ≡ before ++ f ∷ later → f.fin ≡ true →
+        IsInHeadAt role limits bytes other (event_offset before f) start → ⊥ }
     ensures own { (role : Role) (limits : Limits) (bytes : List ℕ) (fs before later : List Frame) (f : Frame)
         (verdict : Verdict) (start : EventStart) →
         IsVerdict role limits bytes fs verdict → fs ≡ before ++ f ∷ later → f.fin ≡ true →

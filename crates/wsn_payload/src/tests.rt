@@ -63,3 +63,17 @@ fn nothing_is_written_where_no_event_begins(rt: HostRuntime) {
     let past = expect_written(&rt, CLIENT, Role::Client, 11, b"");
     assert!(rt; matches!(&past, Payload::Nothing(Verdict::Accepted(_))));
 }
+
+#[test]
+fn nothing_is_written_of_a_head(rt: HostRuntime) {
+    let first = expect_written(&rt, &SERVER[..10], Role::Server, 9, b"");
+    assert!(rt;
+        matches!(&first, Payload::Head { offset, verdict: Verdict::Cut(_) } if *offset == 9)
+    );
+    let refused = expect_written(&rt, CLIENT, Role::Server, 1, b"");
+    assert!(rt;
+        matches!(&refused, Payload::Head { offset, verdict: Verdict::Refused(_) } if *offset == 0)
+    );
+    let past = expect_written(&rt, CLIENT, Role::Server, 2, b"");
+    assert!(rt; matches!(&past, Payload::Nothing(Verdict::Refused(_))));
+}

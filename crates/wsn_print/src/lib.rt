@@ -80,7 +80,7 @@ pub use line::Line;
 pub use named_reports::put_named_report;
 pub use objects::{put_compared_object, put_report_object, put_verdict_object};
 pub use parts::{put, put_form, put_key, put_number};
-pub use payloads::{line_of_inside, line_of_nothing};
+pub use payloads::{line_of_begun_head, line_of_inside, line_of_nothing};
 pub use quoted::put_comment;
 pub use reports::put_report;
 pub use shown::{

@@ -77,10 +77,12 @@ Next: ls -l FILE. In the printed name, \\x1b and the like are control characters
         text: "\
 nothing begins at OFFSET: no message, ping, pong or Close has its first frame
 there, so payload writes nothing. After it: the event in whose frames the offset
-lies, or the stream's verdict, if all frames end before it.
+lies; 'but a head' or 'it is in the head at START', and the stream's verdict, if
+the stream ends in a frame's head, or is refused in it; or the verdict alone, if
+all that came ends before the offset, or a Close does.
 Usual causes: the offset of a message's second frame, of a byte inside a frame,
-or of a refusal's PLACE; the other side's offset, so the other --role; a capture
-without --capture.
+or of a refusal's PLACE; a stream that is cut short; the other side's offset, so
+the other --role; a capture without --capture.
 Next: give the offset that the line names, or one that show prints behind SIDE
 and TIME.
 ",

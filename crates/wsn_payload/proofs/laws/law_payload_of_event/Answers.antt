@@ -24,6 +24,10 @@ pub returns-clause-reached : goal.returns-clause-reached
 returns-clause-reached c = λ role limits bytes fs before later f verdict other is parts final u.
     never_before role limits bytes fs before later f verdict is parts final (all_of_verdict role limits bytes fs verdict is).lawful other u
 
+pub returns-clause-complete : goal.returns-clause-complete
+returns-clause-complete c = λ role limits bytes fs before later f verdict other start is parts final u.
+    never_before role limits bytes fs before later f verdict is parts final (all_of_verdict role limits bytes fs verdict is).lawful other u.ends
+
 pub returns-clause-own : goal.returns-clause-own
 returns-clause-own c = λ role limits bytes fs before later f verdict start is parts final w.
     let all = all_of_verdict role limits bytes fs verdict is in

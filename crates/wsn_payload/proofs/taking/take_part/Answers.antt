@@ -1,13 +1,12 @@
-use Rattle.std.proofs.Common.{◌≡◌, if◌then◌else◌, Option, Result, Ok, Err, take, refl, sym, ap, ◌∙◌, subst}
+use Rattle.std.proofs.Common.{◌≡◌, Option, Result, Ok, Err, take, refl, sym, ap, ◌∙◌, subst}
 use Rattle.std.proofs.lemmas.Result.{err_from_is_err_and}
 use Rattle.wsn_io.specs.declared.stop.Stop.{Stop}
 use Rattle.wsn_scan.specs.declared.part.Taken.{Taken}
 use Rattle.wsn_scan.specs.Scans.{refusal_in}
 use Rattle.wsn_rules.specs.declared.verdict.Verdict.{Verdict}
 use Rattle.wsn_payload.specs.declared.answer.Payload.{Payload}
-use Rattle.wsn_payload.specs.declared.answer.Payload.TheVariants.{Unfinished, Nothing}
 use Rattle.wsn_scan.specs.FollowedScans.{IsCall}
-use Rattle.wsn_payload.specs.Following.{TakesPart, SeeksOn}
+use Rattle.wsn_payload.specs.Following.{TakesPart, SeeksOn, ended_answer}
 use Rattle.wsn_scan.proofs.FollowedScans.{part_taken, reach}
 use Rattle.wsn_scan.proofs.ReaderCalls.{refused_as}
 use Rattle.wsn_scan.proofs.ReaderSteps.{refusal_by}
@@ -30,7 +29,7 @@ returns-in_err-answer-in-Part-clause-seeks g c role limits at came first h =
     let call = subst (λ (f : Taken). IsCall old new piece after n f part) c.in-Part.is (c.call-count.ensures.call c.call-count.ensures.in_bytes) in
     let r = reach role limits old new piece after n part came h.frames h.position h.rest h.followed call in
     let may = may_begin role limits at old new piece after n part came first c.args.output.now c.args.event.now h call in
-    let taken = c.take.ensures role limits at h.frames r.frames h.position r.position h.rest r.found.before (take n piece) r.since h.payload (λ begins. may) may.place r.found.is_at
+    let taken = c.take.ensures role limits at h.frames r.frames h.position r.position h.rest r.found.before (take n piece) r.since h.payload may r.found.is_at
     (part_taken role limits old new piece after n part came h.frames h.position h.rest h.followed call) h.keeps in
     let failed = subst (λ (x : Result (Option Payload) Stop). TakesPart c.take.new.self at h.frames part.head r.frames r.position h.payload c.args.output.now c.take.new.output x) c.in_err-answer-in-Part.was taken in
     let out = err_from_is_err_and c.from_residual.result c.from_residual.ensures.1 in
@@ -48,7 +47,7 @@ returns-in_ok-answer-in-Part-clause-seeks g c role limits at came first h =
     let call = subst (λ (f : Taken). IsCall old new piece after n f part) c.in-Part.is (c.call-count.ensures.call c.call-count.ensures.in_bytes) in
     let r = reach role limits old new piece after n part came h.frames h.position h.rest h.followed call in
     let may = may_begin role limits at old new piece after n part came first c.args.output.now c.args.event.now h call in
-    let taken = c.take.ensures role limits at h.frames r.frames h.position r.position h.rest r.found.before (take n piece) r.since h.payload (λ begins. may) may.place r.found.is_at
+    let taken = c.take.ensures role limits at h.frames r.frames h.position r.position h.rest r.found.before (take n piece) r.since h.payload may r.found.is_at
     (part_taken role limits old new piece after n part came h.frames h.position h.rest h.followed call) h.keeps in
     let given = subst (λ (x : Result (Option Payload) Stop). TakesPart c.take.new.self at h.frames part.head r.frames r.position h.payload c.args.output.now c.take.new.output x) c.in_ok-answer-in-Part.was taken in
     part_step role limits at old new piece after n part came first c.args.output.now c.args.event.now h call c.take.new.self c.take.new.output (Ok c.in_ok-answer-in-Part.answer) given (Ok (n, c.in_ok-answer-in-Part.answer)) refl
@@ -82,4 +81,4 @@ returns-in_ok-put-in-Refused-clause-seeks g c role limits at came first h =
     let refusal = refusal_by (refusal_in new) (call.reported.1 refl) in
     let verdict = refused_as c.finish.result refusal.0 (c.finish.ensures.reported ∙ refusal.1) in
     refused_step role limits at old new piece after n part came first c.args.output.now c.args.event.now h refusal.0 refusal.1 call c.put.new.output c.in_ok-put-in-Refused.ensures.written c.ended.result
-    (c.ended.ensures ∙ ap (λ (v : Verdict). if c.args.event.now.begun then Unfinished v else Nothing v) verdict)
+    (c.ended.ensures ∙ ap (λ (v : Verdict). ended_answer c.args.event.now v) verdict)
