@@ -14,7 +14,9 @@ use Rattle.wsn_print.specs.Statuses.{outcome_status}
 use Rattle.wsn_print.specs.StopText.{stop_line}
 use Rattle.wsn_show.specs.declared.showing.ShowStop.{ShowStop}
 use Rattle.wsn_show.specs.declared.showing.ShowStop.TheVariants.{Capture, Write}
+use Rattle.wsn_command.specs.declared.answered.Ran.{Ran}
 use Rattle.wsn_job.specs.Channels.{Channels}
+use Rattle.wsn_job.specs.Answers.{ran_with, report_answer}
 use Rattle.wsn_job.specs.Diagnostics.{IsDiagnosed}
 
 -- The report was printed, in this format; before a stop, nothing was. If a write failed, there is a report, and a prefix
@@ -43,8 +45,8 @@ abbrev pub IsClosingDiagnosed : Result Report ShowStop → Outgoing → Outgoing
 IsClosingDiagnosed (Ok report) old new = new ≡ old
 IsClosingDiagnosed (Err stopped) old new = IsDiagnosed old new (closing_stop_line stopped)
 
--- `closing`: its channels before and after, and the exit status, are of one answer.
-abbrev pub IsClosingRun : Format → Limits → Channels → Channels → ℕ → Type 0
-IsClosingRun format limits before after status = (done : Result Report ShowStop)
+-- `closing`: its channels before and after, and what it came to, are of one answer.
+abbrev pub IsClosingRun : Format → Limits → Channels → Channels → Ran → Type 0
+IsClosingRun format limits before after ran = (done : Result Report ShowStop)
     × IsReportPrinted format limits before.input after.input before.output after.output done
-    × (status ≡ closing_status done) × IsClosingDiagnosed done before.errors after.errors
+    × (ran ≡ ran_with (closing_status done) (report_answer done)) × IsClosingDiagnosed done before.errors after.errors
