@@ -8,21 +8,21 @@ use std::rt::Runtime;
 use wsn_capture::SideReader;
 use wsn_cli::{Comparison, hint_on_sides, hint_on_streams};
 use wsn_io::{BlockReader, BlockWriter, FirstBytes, Input, Output, Stop, TiedWriter};
-use wsn_job::{run_same, run_same_on_sides};
+use wsn_job::{Ran, run_same, run_same_on_sides};
 use wsn_wire::Role;
 
 /// How a comparison ended.
 #[derive(Clone, Copy)]
 struct Ended {
-    status: u8,
+    ran: Ran,
     /// Whether a read of the first input failed, as it does at a line of a capture that isn't accepted.
     first_failed: bool,
 }
 
 impl Ended {
-    fn new<R: Read>(status: u8, first: &Input<R>) -> Self {
+    fn new<R: Read>(ran: Ran, first: &Input<R>) -> Self {
         Ended {
-            status,
+            ran,
             first_failed: first.failed(),
         }
     }
@@ -81,9 +81,8 @@ fn compare_on<R: Runtime + AllocGlobal, A: Read + Drop, B: Read + Drop>(
                 second.kept(),
                 side,
                 &ended,
-                &diagnosed,
             );
-            ended.status
+            ended.ran.status
         }
         None => diagnose_stop(rt, Stop::Write),
     }
@@ -98,17 +97,16 @@ fn give_hint<R: Eprint>(
     second: &[u8],
     side: Option<Role>,
     ended: &Ended,
-    diagnosed: &OneLine,
 ) {
     let hint = match side {
-        None => hint_on_streams(*comparison, first, second, ended.status),
+        None => hint_on_streams(*comparison, first, second, ended.ran.answer),
         Some(_) => {
             let failed = if ended.first_failed { first } else { second };
             hint_on_sides(
                 *comparison,
                 failed,
                 !ended.first_failed,
-                diagnosed.as_slice(),
+                ended.ran.answer,
             )
         }
     };
@@ -160,7 +158,7 @@ fn compare_streams<A: Allocator + Copy, R: Read + Drop, S: Read + Drop, W: Write
     let mut second = Input::new(&mut second);
     let mut printed = Output::new(writer);
     let mut errors = Output::new(diagnosed);
-    let status = run_same(
+    let ran = run_same(
         alloc,
         &mut first,
         &mut second,
@@ -168,7 +166,7 @@ fn compare_streams<A: Allocator + Copy, R: Read + Drop, S: Read + Drop, W: Write
         &mut printed,
         &mut errors,
     );
-    Ended::new(status, &first)
+    Ended::new(ran, &first)
 }
 
 /// Compares this side of two captures, and prints the answer.
@@ -185,7 +183,7 @@ fn compare_sides<A: Allocator + Copy, R: Read + Drop, S: Read + Drop, W: Write +
     let mut second = Input::new(SideReader::new(BlockReader::new(second), side));
     let mut printed = Output::new(writer);
     let mut errors = Output::new(diagnosed);
-    let status = run_same_on_sides(
+    let ran = run_same_on_sides(
         alloc,
         &mut first,
         &mut second,
@@ -193,5 +191,5 @@ fn compare_sides<A: Allocator + Copy, R: Read + Drop, S: Read + Drop, W: Write +
         &mut printed,
         &mut errors,
     );
-    Ended::new(status, &first)
+    Ended::new(ran, &first)
 }

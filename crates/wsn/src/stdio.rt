@@ -17,7 +17,7 @@ use wsn_cli::{
     CaptureStart, Hint, How, Job, Mistake, Unread, UnreadFile, hint_on_run, plan_hint_of,
 };
 use wsn_io::{BlockReader, BlockWriter, FirstBytes, Input, Output, Stop, TiedReader, TiedWriter};
-use wsn_job::{run, run_on_side};
+use wsn_job::{Ran, run, run_on_side};
 use wsn_plan::{PlanFileFault, read_plan_file};
 use wsn_rules::Limits;
 use wsn_wire::Role;
@@ -139,11 +139,10 @@ fn perform_on<R: Runtime + AllocGlobal, S: Read + Drop>(
         return FAULT;
     }
     match done {
-        Some(status) => {
+        Some(ran) => {
             finish(rt, &diagnosed);
-            let said = diagnosed.as_slice();
-            give_hint(rt, hint_on_run(job, side, first.kept(), status, said));
-            status
+            give_hint(rt, hint_on_run(job, side, first.kept(), ran.answer));
+            ran.status
         }
         None => diagnose_stop(rt, Stop::Write),
     }
@@ -157,8 +156,8 @@ fn give_hint<R: Eprint>(rt: &R, hint: Option<Hint>) {
     }
 }
 
-/// Does a command's work over an input and an output; the output is flushed before each read. Returns the exit status,
-/// and puts what is to be printed on standard error into the given line; `None` if the output failed.
+/// Does a command's work over an input and an output; the output is flushed before each read. Returns the exit status and
+/// the answer, and puts what is to be printed on standard error into the given line; `None` if the output failed.
 fn work<A: Allocator + Copy, R: Read + Drop, W: Write + Drop>(
     alloc: A,
     job: &Job<A>,
@@ -166,7 +165,7 @@ fn work<A: Allocator + Copy, R: Read + Drop, W: Write + Drop>(
     side: Option<Role>,
     output: W,
     diagnosed: &mut OneLine,
-) -> Option<u8>
+) -> Option<Ran>
     requires may_run { MayRun job.now }
     requires own { IsOwnSide job.now side }
 {
@@ -175,7 +174,7 @@ fn work<A: Allocator + Copy, R: Read + Drop, W: Write + Drop>(
     let mut writer = TiedWriter::new(&output);
     let mut printed = Output::new(&mut writer);
     let mut errors = Output::new(diagnosed);
-    let status = match side {
+    let ran = match side {
         None => run(
             alloc,
             job,
@@ -188,7 +187,7 @@ fn work<A: Allocator + Copy, R: Read + Drop, W: Write + Drop>(
             run_on_side(alloc, job, &mut Input::new(side), &mut printed, &mut errors)
         }
     };
-    writer.flush().is_ok().then_some(status)
+    writer.flush().is_ok().then_some(ran)
 }
 
 /// Recuts the stream in a file by the plan in another and returns the exit status. Both are opened before either is

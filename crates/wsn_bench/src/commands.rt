@@ -56,7 +56,7 @@ impl<'a> Printed<'a> {
         let mut errors = OneLine::new();
         let output = RefCell::new(BlockWriter::new(&mut self.text));
         let mut writer = TiedWriter::new(&output);
-        let status = run(
+        let ran = run(
             alloc,
             job,
             &mut Input::new(BlockReader::new(TiedReader::new(input, &output))),
@@ -65,7 +65,7 @@ impl<'a> Printed<'a> {
         );
         let flushed = writer.flush().is_ok();
         drop(output);
-        self.add(status, flushed, errors.as_slice());
+        self.add(ran.status, flushed, errors.as_slice());
     }
 
     /// Runs a command over what this endpoint sent in a capture.
@@ -76,7 +76,7 @@ impl<'a> Printed<'a> {
         let mut errors = OneLine::new();
         let output = RefCell::new(BlockWriter::new(&mut self.text));
         let mut writer = TiedWriter::new(&output);
-        let status = run_on_side(
+        let ran = run_on_side(
             alloc,
             job,
             &mut Input::new(SideReader::new(
@@ -88,7 +88,7 @@ impl<'a> Printed<'a> {
         );
         let flushed = writer.flush().is_ok();
         drop(output);
-        self.add(status, flushed, errors.as_slice());
+        self.add(ran.status, flushed, errors.as_slice());
     }
 
     /// Compares two recordings.
@@ -97,7 +97,7 @@ impl<'a> Printed<'a> {
         let mut errors = OneLine::new();
         let output = RefCell::new(BlockWriter::new(&mut self.text));
         let mut writer = TiedWriter::new(&output);
-        let status = run_same(
+        let ran = run_same(
             alloc,
             &mut Input::new(BlockReader::new(one)),
             &mut Input::new(BlockReader::new(other)),
@@ -107,7 +107,7 @@ impl<'a> Printed<'a> {
         );
         let flushed = writer.flush().is_ok();
         drop(output);
-        self.add(status, flushed, errors.as_slice());
+        self.add(ran.status, flushed, errors.as_slice());
     }
 
     /// Adds what a command printed on both outputs, and its status.

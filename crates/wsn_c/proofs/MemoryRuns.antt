@@ -2,8 +2,9 @@
 use Rattle.std.specs.Prelude.{◌≡◌, ◌++◌, ◌∷◌, ℕ, false, List, [], Option, None, Some, IfSome, Result}
 use Rattle.std.specs.Io.KnownBytes.{Consumes}
 use Rattle.std.specs.declared.alloc.Global.{Global}
-use Rattle.std.proofs.Common.{rules, subst}
+use Rattle.std.proofs.Common.{rules, refl, subst}
 use Rattle.wsn_io.specs.Transfer.{Incoming, Outgoing}
+use Rattle.wsn_command.specs.declared.answered.Ran.{Ran}
 use Rattle.wsn_command.specs.declared.job.Job.{Job}
 use Rattle.wsn_job.specs.Jobs.{IsRun}
 use Rattle.wsn_io.specs.declared.stop.Stop.{Stop}
@@ -18,21 +19,23 @@ use Rattle.wsn_c.specs.declared.options.Asked.{Asked}
 use Rattle.wsn_c.specs.Asking.{AreInRange, IsAsked}
 use Rattle.wsn_c.specs.Calls.{Call, IsRunOver, IsComparedOver, GivesRun, IsCalled, input_of, output_of}
 
-pub runs_over : (job : Job Global) (bytes text said : List ℕ) (exit : ℕ) (left first : Incoming) (o o' e e' : Outgoing)
+pub runs_over : (job : Job Global) (bytes text said : List ℕ) (ran : Ran) (left first : Incoming) (o o' e e' : Outgoing)
     → first ≡ input_of bytes → o ≡ output_of [] false → e ≡ output_of [] false
     → o' ≡ output_of text o'.failed → e' ≡ output_of said e'.failed
-    → IsRun job (channels first o e) (channels left o' e') exit → IsRunOver job bytes text said exit
-runs_over job bytes text said exit left first o o' e e' is_input is_output is_errors printed told run =
+    → IsRun job (channels first o e) (channels left o' e') ran → IsRunOver job bytes text said ran.status
+runs_over job bytes text said ran left first o o' e e' is_input is_output is_errors printed told run =
     let i : Incoming = input_of bytes in let none : Outgoing = output_of [] false in
-    let run1 = subst (λ (x : Incoming). IsRun job (channels x o e) (channels left o' e') exit) is_input run in
-    let run2 = subst (λ (x : Outgoing). IsRun job (channels i x e) (channels left o' e') exit) is_output run1 in
-    let run3 = subst (λ (x : Outgoing). IsRun job (channels i none x) (channels left o' e') exit) is_errors run2 in
-    let run4 = subst (λ (x : Outgoing). IsRun job (channels i none none) (channels left x e') exit) printed run3 in
+    let run1 = subst (λ (x : Incoming). IsRun job (channels x o e) (channels left o' e') ran) is_input run in
+    let run2 = subst (λ (x : Outgoing). IsRun job (channels i x e) (channels left o' e') ran) is_output run1 in
+    let run3 = subst (λ (x : Outgoing). IsRun job (channels i none x) (channels left o' e') ran) is_errors run2 in
+    let run4 = subst (λ (x : Outgoing). IsRun job (channels i none none) (channels left x e') ran) printed run3 in
     record {
       left = left;
       printing_failed = o'.failed;
       saying_failed = e'.failed;
-      run = subst (λ (x : Outgoing). IsRun job (channels i none none) (channels left (output_of text o'.failed) x) exit) told run4;
+      ran = ran;
+      status = refl;
+      run = subst (λ (x : Outgoing). IsRun job (channels i none none) (channels left (output_of text o'.failed) x) ran) told run4;
     }
 
 pub compares_over : (comparison : Comparison) (first second text said : List ℕ) (answer : Result Compared Stop) (exit : ℕ)

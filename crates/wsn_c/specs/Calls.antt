@@ -2,6 +2,7 @@
 use Rattle.std.specs.Prelude.{◌≡◌, ◌++◌, ℕ, Bool, true, false, Option, Result, List, [], None, Some, length, take, drop, codes}
 use Rattle.std.specs.declared.alloc.Global.{Global}
 use Rattle.wsn_io.specs.Transfer.{Incoming, Outgoing}
+use Rattle.wsn_command.specs.declared.answered.Ran.{Ran}
 use Rattle.wsn_command.specs.declared.job.Job.{Job}
 use Rattle.wsn_job.specs.Jobs.{IsRun}
 use Rattle.wsn_job.specs.Channels.{channels, compared_channels}
@@ -64,8 +65,10 @@ pub record IsRunOver (job : Job Global) (bytes text said : List ℕ) (exit : ℕ
   pub left : Incoming
   pub printing_failed : Bool
   pub saying_failed : Bool
+  pub ran : Ran
   pub run : IsRun job (channels (input_of bytes) (output_of [] false) (output_of [] false))
-      (channels left (output_of text printing_failed) (output_of said saying_failed)) exit
+      (channels left (output_of text printing_failed) (output_of said saying_failed)) ran
+  pub status : exit ≡ ran.status
 
 -- The call gives what the command's run over these bytes prints.
 abbrev pub GivesRun : Job Global → List ℕ → Call → Type 0

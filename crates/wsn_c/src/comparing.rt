@@ -82,7 +82,7 @@ fn compare(
     };
     let mut printed = Output::new(Text::new(alloc));
     let mut said = Output::new(Text::new(alloc));
-    let status = run_same(
+    let ran = run_same(
         alloc,
         &mut Input::lent(first),
         &mut Input::lent(second),
@@ -91,7 +91,7 @@ fn compare(
         &mut said,
     );
     give(
-        status,
+        ran.status,
         printed.into_writer().as_slice(),
         said.into_writer().as_slice(),
         output,

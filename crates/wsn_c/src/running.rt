@@ -21,9 +21,9 @@ pub(crate) fn run_over(
 {
     let mut printed = Output::new(Text::new(alloc));
     let mut said = Output::new(Text::new(alloc));
-    let status = run(alloc, job, &mut Input::lent(bytes), &mut printed, &mut said);
+    let ran = run(alloc, job, &mut Input::lent(bytes), &mut printed, &mut said);
     give(
-        status,
+        ran.status,
         printed.into_writer().as_slice(),
         said.into_writer().as_slice(),
         output,

@@ -1,6 +1,7 @@
 //! What the printed words mean: the texts of `wsn explain`.
 
 mod codes;
+mod comments;
 mod errors;
 mod frames;
 mod lines;
@@ -29,7 +30,7 @@ struct Group {
 }
 
 /// All words, in the order in which they are listed.
-fn groups() -> [Group; 11] {
+fn groups() -> [Group; 12] {
     [
         Group::new("Verdicts", verdicts::verdict_entries()),
         Group::new("Reasons of a refusal", reasons::reason_entries()),
@@ -42,6 +43,7 @@ fn groups() -> [Group; 11] {
         ),
         Group::new("Outcomes", reports::outcome_entries()),
         Group::new("Close codes", codes::code_entries()),
+        Group::new("Comments in captures", comments::comment_entries()),
         Group::new("Plans, and why one doesn't fit", plans::plan_entries()),
         Group::new("Malformed captures and plans", lines::line_entries()),
         Group::new("Errors", errors::error_entries()),

@@ -1,62 +1,60 @@
 ghost use Rattle.std.specs.Prelude.{◌≡◌, ◌↔◌, ◌⊎◌, IsTrue, None, Some, IfSome, IsSome, List, ℕ, take, if◌then◌else◌};
 ghost use Rattle.wsn_print.specs.declared.format.Format.TheVariants.{Json};
 ghost use Rattle.wsn_rules.specs.Limits.{Limits};
+ghost use Rattle.wsn_command.specs.declared.answered.Answer.TheVariants.{FaultyLine, Stopped};
 ghost use Rattle.wsn_hint.specs.Hints.{Fits};
-ghost use Rattle.wsn_hint.specs.SideHints.{FitsSides};
 ghost use Rattle.wsn_command.specs.Jobs.{job_role};
 ghost use Rattle.wsn_cli.specs.Requests.{job_format, job_limits};
+ghost use Rattle.wsn_cli.specs.RunHints.{IsCaptureHint, IsHandshakeHint, IsLinesHint, IsReportHint, refused_side, refused_sides};
 
 use crate::compared_hint::ComparedHint;
 use std::alloc::Allocator;
-use wsn_command::{Comparison, Job};
-use wsn_hint::{Hint, after_close_hint_of, capture_hint_of, hint_of, sides_hint_of};
+use wsn_command::{Answer, Comparison, Job};
+use wsn_hint::{
+    Hint, RefusedSides, after_close_hint_of, capture_hint_of, handshake_hint_of, hint_of,
+    sides_hint_of,
+};
 use wsn_print::Format;
-use wsn_rules::Limits;
+use wsn_rules::{Limits, Refusal, Side, Verdict};
 use wsn_wire::Role;
-
-/// The exit status of a run in which no side that is read is refused.
-const ACCEPTED: u8 = 0;
-
-/// The exit status of a run without an answer.
-const FAULT: u8 = 2;
 
 /// The number of bytes by which a file's format is known.
 const MARK: usize = 16;
 
 /// The hint on a job's run over an input whose first bytes are `first`, its first 65,536 or all of them if there are
-/// fewer. `status` is the run's exit status, `said` what it put on standard error, and `side` the side of a capture that
-/// it read, if it read one.
+/// fewer. `answer` is the run's answer, and `side` the side of a capture that it read, if it read one.
 ///
-/// A stream may have one if it has a verdict, or if `payload` reads it; a capture if a line of it isn't accepted, if a
-/// side that is read is refused, if it is empty, or if `closing` reads it and bytes follow a Close. A job that prints JSON
-/// has none.
+/// A stream may have one if there is an answer; a capture if a line of it isn't accepted, if a side that is read is
+/// refused, if it is empty, or if `closing` or `show` reads it and its handshake's answer is wrong, or `closing` does and
+/// bytes follow a Close. A job that prints JSON has none.
 pub fn hint_on_run<A: Allocator>(
     job: &Job<A>,
     side: Option<Role>,
     first: &[u8],
-    status: u8,
-    said: &[u8],
+    answer: Answer,
 ) -> Option<Hint>
     ensures json { job_format job.now ≡ Some Json → result ≡ None }
+    ensures stopped { answer ≡ Stopped → result ≡ None }
     ensures stream { side ≡ None → IsSome (job_role job.now)
         → IfSome result (Fits (job_limits job.now) (take 16 first.now)) }
-    ensures fits { IfSome result (λ hint. Fits (job_limits job.now) (take 16 first.now) hint
-        ⊎ FitsSides side (job_limits job.now) first.now hint) }
+    ensures capture { (IsSome side ⊎ (job_role job.now ≡ None)) → (job_format job.now ≡ Some Json → ⊥)
+        → IsCaptureHint job.now side first.now answer result }
 {
     if is_json(job) {
         return None;
     }
-    if side.is_some() || job.role().is_none() {
-        return hint_on_capture(job, side, first, status, said);
+    match (side, job.role()) {
+        (None, Some(role)) => hint_on_stream(job, role, first, answer),
+        _ => hint_on_capture(job, side, first, answer),
     }
-    hint_on_stream(job, job.role()?, first, status)
 }
 
 /// The hint on a job's run over the stream that `role` sent.
-fn hint_on_stream<A: Allocator>(job: &Job<A>, role: Role, first: &[u8], status: u8) -> Option<Hint>
-    ensures { IfSome result (Fits (job_limits job.now) (take 16 first.now)) }
+fn hint_on_stream<A: Allocator>(job: &Job<A>, role: Role, first: &[u8], answer: Answer) -> Option<Hint>
+    ensures stopped { answer ≡ Stopped → result ≡ None }
+    ensures fits { IfSome result (Fits (job_limits job.now) (take 16 first.now)) }
 {
-    if status == FAULT && !is_payload(job) {
+    if let Answer::Stopped = answer {
         return None;
     }
     let hint = hint_of(mark_of(first), role, limits_of(job))?;
@@ -68,50 +66,82 @@ fn hint_on_capture<A: Allocator>(
     job: &Job<A>,
     side: Option<Role>,
     first: &[u8],
-    status: u8,
-    said: &[u8],
+    answer: Answer,
 ) -> Option<Hint>
-    ensures { IfSome result (λ hint. Fits (job_limits job.now) (take 16 first.now) hint
-        ⊎ FitsSides side (job_limits job.now) first.now hint) }
+    ensures { IsCaptureHint job.now side first.now answer result }
 {
-    if is_faulty_line(said) {
-        capture_hint_of(mark_of(first))
-    } else {
-        hint_on_lines(job, side, first, status)
+    match answer {
+        Answer::FaultyLine => capture_hint_of(mark_of(first)),
+        Answer::Stopped => None,
+        _ => hint_on_lines(job, first, refused_sides(side, answer)),
     }
 }
 
-/// The hint on a job's run over a capture whose lines are accepted.
-fn hint_on_lines<A: Allocator>(
-    job: &Job<A>,
-    side: Option<Role>,
-    first: &[u8],
-    status: u8,
-) -> Option<Hint>
-    ensures { IfSome result (FitsSides side (job_limits job.now) first.now) }
+/// The hint on a job's run over a capture whose lines are accepted, of which these sides are refused.
+fn hint_on_lines<A: Allocator>(job: &Job<A>, first: &[u8], refused: RefusedSides) -> Option<Hint>
+    ensures { IsLinesHint job.now first.now refused result }
 {
-    let hint = match status {
-        ACCEPTED if !first.is_empty() => None,
-        FAULT if !is_payload(job) => return None,
-        _ => sides_hint_of(first, side, limits_of(job)),
-    };
-    match hint {
+    match sides_hint_of(first, refused) {
         Some(hint) => Some(hint),
-        None => unlisted_hint(job, side, first),
+        None => report_hint(job, first, refused),
     }
 }
 
-/// Whether the job is `payload`, whose status is a fault's where nothing begins at its offset.
-fn is_payload<A: Allocator>(job: &Job<A>) -> bool {
-    matches!(job, Job::Payload(..))
+/// The hint on a report without one on its sides: for `show` and `closing` that the handshake's answer is wrong, if no
+/// side is refused; for `closing`, which doesn't list them, at bytes after a Close.
+fn report_hint<A: Allocator>(job: &Job<A>, first: &[u8], refused: RefusedSides) -> Option<Hint>
+    ensures { IsReportHint job.now first.now refused result }
+{
+    match job {
+        Job::Show(_, _) => handshake_hint(first, refused),
+        Job::Closing(limits, _) => match handshake_hint(first, refused) {
+            Some(hint) => Some(hint),
+            None => after_close_hint_of(first, *limits),
+        },
+        _ => None,
+    }
 }
 
-/// The hint at bytes after a Close, for `closing`, which doesn't list them.
-fn unlisted_hint<A: Allocator>(job: &Job<A>, side: Option<Role>, first: &[u8]) -> Option<Hint>
-    ensures { IfSome result (FitsSides side (job_limits job.now) first.now) }
+/// The hint that the handshake's answer is wrong, if no side is refused.
+fn handshake_hint(first: &[u8], refused: RefusedSides) -> Option<Hint>
+    ensures { IsHandshakeHint first.now refused result }
 {
-    match (job, side) {
-        (Job::Closing(limits, _), None) => after_close_hint_of(first, *limits),
+    match (refused.client, refused.server) {
+        (None, None) => handshake_hint_of(first),
+        _ => None,
+    }
+}
+
+/// Why the sides of a capture are refused, by the answer: of both sides, or of the one that was read.
+fn refused_sides(side: Option<Role>, answer: Answer) -> RefusedSides
+    ensures { result ≡ refused_sides side answer }
+{
+    match (side, answer) {
+        (_, Answer::Report(report)) => RefusedSides {
+            client: refused_side(report.client),
+            server: refused_side(report.server),
+        },
+        (Some(Role::Client), Answer::Verdict(Verdict::Refused(refusal))) => RefusedSides {
+            client: Some(refusal),
+            server: None,
+        },
+        (Some(Role::Server), Answer::Verdict(Verdict::Refused(refusal))) => RefusedSides {
+            client: None,
+            server: Some(refusal),
+        },
+        _ => RefusedSides {
+            client: None,
+            server: None,
+        },
+    }
+}
+
+/// Why a side of a report is refused, if it is.
+fn refused_side(side: Side) -> Option<Refusal>
+    ensures { result ≡ refused_side side }
+{
+    match side {
+        Side::Refused(refusal) => Some(refusal),
         _ => None,
     }
 }
@@ -123,19 +153,20 @@ fn mark_of(first: &[u8]) -> &[u8]
     &first[..first.len().min(MARK)]
 }
 
-/// The hint on a comparison of two streams whose first bytes are these: that of the first stream that has one. `status`
-/// is the run's exit status.
+/// The hint on a comparison of two streams whose first bytes are these: that of the first stream that has one. `answer`
+/// is the run's answer.
 pub fn hint_on_streams(
     comparison: Comparison,
     first: &[u8],
     second: &[u8],
-    status: u8,
+    answer: Answer,
 ) -> Option<ComparedHint>
     ensures json { comparison.format ≡ Json → result ≡ None }
+    ensures stopped { answer ≡ Stopped → result ≡ None }
     ensures fits { IfSome result (λ compared. IfSome compared.hint
         (Fits comparison.limits (if compared.is_second then second.now else first.now))) }
 {
-    if status == FAULT || comparison.format == Format::Json {
+    if answer == Answer::Stopped || comparison.format == Format::Json {
         return None;
     }
     let Comparison { role, limits, .. } = comparison;
@@ -146,31 +177,27 @@ pub fn hint_on_streams(
     Some(ComparedHint::looks(true, hint))
 }
 
-/// The hint on a comparison of one side of two captures, of which a line isn't accepted if that is `said` on standard
-/// error: which capture has the line, and what it looks like. `failed` has the first bytes of the capture whose reading
-/// failed, the second if `is_second`.
+/// The hint on a comparison of one side of two captures, if the run's answer is that a line isn't accepted: which capture
+/// has the line, and what it looks like. `failed` has the first bytes of the capture whose reading failed, the second if
+/// `is_second`.
 pub fn hint_on_sides(
     comparison: Comparison,
     failed: &[u8],
     is_second: bool,
-    said: &[u8],
+    answer: Answer,
 ) -> Option<ComparedHint>
     ensures json { comparison.format ≡ Json → result ≡ None }
+    ensures line { IsSome result → answer ≡ FaultyLine }
     ensures input { IfSome result (λ compared. compared.is_second ≡ is_second) }
     ensures fits { IfSome result (λ compared. IfSome compared.hint (Fits comparison.limits failed.now)) }
 {
-    if comparison.format == Format::Json || !is_faulty_line(said) {
+    if comparison.format == Format::Json || answer != Answer::FaultyLine {
         return None;
     }
     match capture_hint_of(failed) {
         Some(hint) => Some(ComparedHint::looks(is_second, hint)),
         None => Some(ComparedHint::has_line(is_second)),
     }
-}
-
-/// Whether a line of a capture is reported.
-fn is_faulty_line(said: &[u8]) -> bool {
-    said.starts_with(b"line ")
 }
 
 /// The limits under which the job reads its input.

@@ -4,13 +4,13 @@ use std::alloc::Global;
 use std::io::Read;
 use std::process::Abort;
 use wsn_cli::{
-    CaptureStart, ComparedHint, Comparison, Format, Hint, Job, Without, after_close_hint_of,
+    Answer, CaptureStart, ComparedHint, Comparison, Format, Hint, Job, RefusedSides, Without,
     capture_hint_of, hint_of, hint_on_run, hint_on_sides, hint_on_streams, plan_hint_of,
     sides_hint_of,
 };
 use wsn_print::{Style, ViewLimit};
-use wsn_rules::{Detail, INPUT_MAX, Limits, MESSAGE_MAX};
-use wsn_wire::Role;
+use wsn_rules::{Detail, INPUT_MAX, Limits, MESSAGE_MAX, Refusal, Verdict};
+use wsn_wire::{Reason, Role};
 
 fn limits(rt: &impl Abort, message: u32) -> Limits {
     Limits::new(message, INPUT_MAX).expect(rt, "limits in range")
@@ -247,164 +247,14 @@ fn an_empty_stream_has_a_hint_and_so_has_an_empty_capture(rt: HostRuntime) {
     assert_eq!(rt; of_stream(&rt, &[], Role::Server), Some(Hint::Empty));
     assert_eq!(rt; capture_hint_of(&[]), None);
     assert_eq!(rt; plan_hint_of(&[]), None);
-    for side in [None, Some(Role::Client), Some(Role::Server)] {
-        assert_eq!(rt; of_sides(&rt, "", side), Some(Hint::Empty));
-        assert_eq!(rt; of_sides(&rt, "# no bytes\nC.\nS.\n", side), None);
-    }
-}
-
-/// The hint on the sides of a capture under the greatest limits.
-fn of_sides(rt: &impl Abort, text: &str, side: Option<Role>) -> Option<Hint> {
-    sides_hint_of(text.as_bytes(), side, limits(rt, MESSAGE_MAX))
-}
-
-/// Captures with a refused side: the hint where both sides are read, where the client's is, and where the server's is.
-/// `c107f248cdc9c90700` is "Hello", compressed (RFC 7692 section 7.2.3.1); `c9`, `a1` and `e1` have other bits or
-/// another opcode.
-static REFUSED: [(&str, Option<Hint>, Option<Hint>, Option<Hint>); 15] = [
-    (
-        "# extensions: permessage-deflate; client_max_window_bits=12\nC c187912ec62e63660be75829c6\nS c107f248cdc9c90700\n",
-        Some(Hint::Compressed),
-        Some(Hint::Compressed),
-        Some(Hint::Compressed),
-    ),
-    (
-        "C c187912ec62e63660be75829c6\nS c107f248cdc9c90700\n",
-        Some(Hint::MaybeCompressed),
-        Some(Hint::MaybeCompressed),
-        Some(Hint::MaybeCompressed),
-    ),
-    (
-        "# 0.000120\nC 8180000000\nC 00\nS 8900\nS 4103f248\nS cd",
-        Some(Hint::MaybeCompressed),
-        None,
-        Some(Hint::MaybeCompressed),
-    ),
-    (
-        "# extensions: x-other, permessage-deflate\r\nS 8900\r\nS a103f248cd\r\n",
-        Some(Hint::Compressed),
-        None,
-        Some(Hint::Compressed),
-    ),
-    (
-        "# extensions: permessage-deflate\nS c1",
-        Some(Hint::Compressed),
-        None,
-        Some(Hint::Compressed),
-    ),
-    (
-        "# path: /permessage-deflate\nS a103f248cd\n",
-        None,
-        None,
-        None,
-    ),
-    ("S c1\n", None, None, None),
-    ("S c900\nC a18500000000\n", None, None, None),
-    ("S c187912ec62e63660be75829c6\nC e185", None, None, None),
-    (
-        "C 810548656c6c6f\nS 818500000000\n",
-        Some(Hint::Exchanged),
-        Some(Hint::Exchanged),
-        Some(Hint::Exchanged),
-    ),
-    ("C 810548656c6c6f\nS 8900\n", None, None, None),
-    (
-        "C 818000000000\nC 8900\nS 8900\nS 818000000000\n",
-        None,
-        None,
-        None,
-    ),
-    (
-        "S 810548656c6c6f\nS 81074772fcdf656e21\nC 888200000000\n",
-        Some(Hint::NotUtf8),
-        None,
-        Some(Hint::NotUtf8),
-    ),
-    (
-        "C 818100000000ff\nS c107f248cdc9c90700\n",
-        Some(Hint::MaybeCompressed),
-        Some(Hint::NotUtf8),
-        Some(Hint::MaybeCompressed),
-    ),
-    (
-        "C 818100000000ff\nS 8801ff\n",
-        Some(Hint::NotUtf8),
-        Some(Hint::NotUtf8),
-        None,
-    ),
-];
-
-#[test]
-fn a_refused_side_is_compressed_exchanged_or_no_utf8(rt: HostRuntime) {
-    for row in REFUSED.iter() {
-        assert_eq!(rt; of_sides(&rt, row.0, None), row.1, "{}", row.0);
-        assert_eq!(rt;
-            of_sides(&rt, row.0, Some(Role::Client)),
-            row.2,
-            "{}",
-            row.0
-        );
-        assert_eq!(rt;
-            of_sides(&rt, row.0, Some(Role::Server)),
-            row.3,
-            "{}",
-            row.0
-        );
-    }
-}
-
-/// The first bytes of a longer capture may end inside a line, after an odd digit.
-#[test]
-fn a_line_that_is_cut_hides_no_refusal_before_it(rt: HostRuntime) {
-    let cut = "S 8900\nS c107f248cdc9c90700\nC 8";
-    assert_eq!(rt; of_sides(&rt, cut, None), Some(Hint::MaybeCompressed));
+    let none = RefusedSides {
+        client: None,
+        server: None,
+    };
+    assert_eq!(rt; sides_hint_of(&[], none), Some(Hint::Empty));
     assert_eq!(rt;
-        of_sides(&rt, "S c107f248cdc9c907\nS 0", None),
-        Some(Hint::MaybeCompressed)
-    );
-    assert_eq!(rt; of_sides(&rt, "S 8900\nS c107f", None), None);
-}
-
-/// Bytes after a Close: of the server, of the client, of both, of none; and bytes after a Close that isn't whole.
-static AFTER: [(&str, Option<Hint>); 6] = [
-    ("S 88008900\n", Some(Hint::AfterClose(Role::Server))),
-    (
-        "C 888000000000\nS 8800\nC 00\n",
-        Some(Hint::AfterClose(Role::Client)),
-    ),
-    (
-        "S 880000\nC 88800000000000\n",
-        Some(Hint::AfterClose(Role::Client)),
-    ),
-    ("C 888000000000\nS 8800\nS.\nC.\n", None),
-    ("S 88028900\n", None),
-    ("# no bytes\n", None),
-];
-
-/// Only `closing` has a hint that says so: `show` lists the bytes, and `judge` counts them.
-#[test]
-fn bytes_after_a_close_have_a_hint_in_a_report(rt: HostRuntime) {
-    let greatest = limits(&rt, MESSAGE_MAX);
-    let closing: Job = Job::Closing(greatest, Format::Text);
-    let json: Job = Job::Closing(greatest, Format::Json);
-    let judge: Job = Job::Judge(Role::Server, greatest, Format::Text);
-    for row in AFTER.iter() {
-        let first = row.0.as_bytes();
-        assert_eq!(rt; after_close_hint_of(first, greatest), row.1, "{}", row.0);
-        for status in [0, 1] {
-            assert_eq!(rt; hint_on_run(&closing, None, first, status, &[]), row.1);
-            assert_eq!(rt; hint_on_run(&json, None, first, status, &[]), None);
-        }
-        assert_eq!(rt;
-            hint_on_run(&judge, Some(Role::Server), first, 0, &[]),
-            None
-        );
-        assert_eq!(rt; hint_on_run(&closing, None, first, 2, &[]), None);
-    }
-    let refused = "C 88800000000000\nS c107f248cdc9c90700\n".as_bytes();
-    assert_eq!(rt;
-        hint_on_run(&closing, None, refused, 1, &[]),
-        Some(Hint::MaybeCompressed)
+        sides_hint_of("# no bytes\nC.\nS.\n".as_bytes(), none),
+        None
     );
 }
 
@@ -443,6 +293,12 @@ fn a_plan_has_a_hint_for_a_byte_order_mark_alone(rt: HostRuntime) {
     assert_eq!(rt; plan_hint_of(&[0xef, 0xbb]), None);
 }
 
+/// The answer of a run over a stream that is refused at its first byte.
+const REFUSED: Answer = Answer::Verdict(Verdict::Refused(Refusal {
+    place: 0,
+    reason: Reason::ReservedBits,
+}));
+
 /// A capture has a command line that works: `show` has no option `--capture`, and takes it without `--role`.
 #[test]
 fn a_hint_at_a_capture_suits_the_command(rt: HostRuntime) {
@@ -455,20 +311,20 @@ fn a_hint_at_a_capture_suits_the_command(rt: HostRuntime) {
     let show: Job = Job::ShowStream(Role::Client, greatest, style);
     let judge: Job = Job::Judge(Role::Client, greatest, Format::Text);
     let capture = "C 8180\n".as_bytes();
-    let shown = hint_on_run(&show, None, capture, 1, &[]).expect(&rt, "a hint");
+    let shown = hint_on_run(&show, None, capture, REFUSED).expect(&rt, "a hint");
     assert_eq!(rt;
         shown.line(),
         "hint: this looks like a capture of both sides: leave out --role"
     );
     assert_eq!(rt;
-        hint_on_run(&judge, None, capture, 1, &[]),
+        hint_on_run(&judge, None, capture, REFUSED),
         Some(Hint::Capture)
     );
     assert_eq!(rt;
-        hint_on_run(&show, None, &[0x81, 0x05], 1, &[]),
+        hint_on_run(&show, None, &[0x81, 0x05], REFUSED),
         Some(Hint::OtherRole(Role::Server))
     );
-    assert_eq!(rt; hint_on_run(&show, None, capture, 2, &[]), None);
+    assert_eq!(rt; hint_on_run(&show, None, capture, Answer::Stopped), None);
 }
 
 /// A comparison of two servers' streams under the greatest limits.
@@ -487,13 +343,23 @@ fn comparison(rt: &impl Abort, format: Format) -> Comparison {
 }
 
 /// The hint on a comparison of two streams, in words.
-fn on_streams(rt: &impl Abort, first: &[u8], second: &[u8], status: u8) -> Option<ComparedHint> {
-    hint_on_streams(comparison(rt, Format::Text), first, second, status)
+fn on_streams(
+    rt: &impl Abort,
+    first: &[u8],
+    second: &[u8],
+    answer: Answer,
+) -> Option<ComparedHint> {
+    hint_on_streams(comparison(rt, Format::Text), first, second, answer)
 }
 
 /// The hint on a comparison of two captures, in words.
-fn on_sides(rt: &impl Abort, failed: &[u8], is_second: bool, said: &[u8]) -> Option<ComparedHint> {
-    hint_on_sides(comparison(rt, Format::Text), failed, is_second, said)
+fn on_sides(
+    rt: &impl Abort,
+    failed: &[u8],
+    is_second: bool,
+    answer: Answer,
+) -> Option<ComparedHint> {
+    hint_on_sides(comparison(rt, Format::Text), failed, is_second, answer)
 }
 
 fn expect_line(rt: &impl Abort, alloc: Global, hint: Option<ComparedHint>, expected: &str) {
@@ -509,47 +375,46 @@ fn a_hint_says_which_of_two_streams_it_is_about(rt: HostRuntime) {
     expect_line(
         &rt,
         rt.alloc(),
-        on_streams(&rt, &empty, &masked, 1),
+        on_streams(&rt, &empty, &masked, REFUSED),
         "hint: FIRST is empty: check it, or the command before the pipe",
     );
     expect_line(
         &rt,
         rt.alloc(),
-        on_streams(&rt, &ping, &masked, 1),
+        on_streams(&rt, &ping, &masked, REFUSED),
         "hint: SECOND is masked: did a client send it? --role client",
     );
     expect_line(
         &rt,
         rt.alloc(),
-        on_streams(&rt, "GET / HTTP/1.1".as_bytes(), &ping, 1),
+        on_streams(&rt, "GET / HTTP/1.1".as_bytes(), &ping, REFUSED),
         "hint: FIRST begins with an HTTP head: remove it, LC_ALL=C sed '1,/^\\r$/d'",
     );
-    assert_eq!(rt; on_streams(&rt, &ping, &ping, 0), None);
-    assert_eq!(rt; on_streams(&rt, &empty, &masked, 2), None);
+    assert_eq!(rt; on_streams(&rt, &ping, &ping, Answer::Other), None);
+    assert_eq!(rt; on_streams(&rt, &empty, &masked, Answer::Stopped), None);
     let json = comparison(&rt, Format::Json);
-    assert_eq!(rt; hint_on_streams(json, &empty, &masked, 1), None);
+    assert_eq!(rt; hint_on_streams(json, &empty, &masked, REFUSED), None);
 }
 
 #[test]
 fn a_hint_says_which_of_two_captures_has_the_line(rt: HostRuntime) {
     let (capture, stream) = ("S 8900\nS 8\n".as_bytes(), [0x89, 0x00]);
-    let said = "line 2: bad-hex\n".as_bytes();
+    let line = Answer::FaultyLine;
     expect_line(
         &rt,
         rt.alloc(),
-        on_sides(&rt, capture, true, said),
+        on_sides(&rt, capture, true, line),
         "hint: this line is in SECOND",
     );
     expect_line(
         &rt,
         rt.alloc(),
-        on_sides(&rt, &stream, false, said),
+        on_sides(&rt, &stream, false, line),
         "hint: FIRST is what one endpoint sent, and no capture: leave out --capture",
     );
-    let stop = "read failed\n".as_bytes();
-    assert_eq!(rt; on_sides(&rt, capture, false, stop), None);
+    assert_eq!(rt; on_sides(&rt, capture, false, Answer::Stopped), None);
     let json = comparison(&rt, Format::Json);
-    assert_eq!(rt; hint_on_sides(json, &stream, false, said), None);
+    assert_eq!(rt; hint_on_sides(json, &stream, false, line), None);
 }
 
 /// The next number of a generator with a fixed seed (Numerical Recipes' constants).

@@ -29,7 +29,7 @@ pub fn run_on<A: Allocator + Copy>(
     requires { MayRun job.now }
 {
     let mut err = Vec::new(alloc);
-    let status = run(
+    let ran = run(
         heap,
         job,
         &mut Input::new(&mut reader),
@@ -37,7 +37,7 @@ pub fn run_on<A: Allocator + Copy>(
         &mut Output::new(&mut err),
     );
     CommandRun {
-        status,
+        status: ran.status,
         out: writer.taken,
         err,
     }
@@ -55,7 +55,7 @@ pub fn run_on_side_on<A: Allocator + Copy>(
     requires { MayRunOnSide job.now }
 {
     let mut err = Vec::new(alloc);
-    let status = run_on_side(
+    let ran = run_on_side(
         heap,
         job,
         &mut Input::new(SideReader::new(text, role)),
@@ -63,7 +63,7 @@ pub fn run_on_side_on<A: Allocator + Copy>(
         &mut Output::new(&mut err),
     );
     CommandRun {
-        status,
+        status: ran.status,
         out: writer.taken,
         err,
     }
@@ -78,7 +78,7 @@ pub fn run_same_on_sides_on(
     mut writer: Narrow,
 ) -> CommandRun {
     let mut err = Vec::new(alloc);
-    let status = run_same_on_sides(
+    let ran = run_same_on_sides(
         alloc,
         &mut Input::new(SideReader::new(first, Role::Server)),
         &mut Input::new(SideReader::new(second, Role::Server)),
@@ -87,7 +87,7 @@ pub fn run_same_on_sides_on(
         &mut Output::new(&mut err),
     );
     CommandRun {
-        status,
+        status: ran.status,
         out: writer.taken,
         err,
     }
@@ -103,7 +103,7 @@ pub fn run_same_on<A: Allocator + Copy>(
     mut writer: Narrow,
 ) -> CommandRun {
     let mut err = Vec::new(alloc);
-    let status = run_same(
+    let ran = run_same(
         heap,
         &mut Input::new(&mut first),
         &mut Input::new(&mut second),
@@ -112,7 +112,7 @@ pub fn run_same_on<A: Allocator + Copy>(
         &mut Output::new(&mut err),
     );
     CommandRun {
-        status,
+        status: ran.status,
         out: writer.taken,
         err,
     }

@@ -1,4 +1,7 @@
+mod CommentLines
 mod EarlyVerdicts
 mod FirstFits
 mod KeptBytes
 mod LineStarts
+mod SideFits
+mod SentBytes

@@ -1,54 +1,127 @@
--- What a hint says of the sides of a capture that begins with the text.
-use Rattle.std.specs.Prelude.{◌≡◌, ◌<◌, ℕ, Option, None, Some, List, [], ⊤}
+-- Which hint the sides of a capture have that begins with the text, where it is known why each side that was read is
+-- refused.
+use Rattle.std.specs.Prelude.{◌≡◌, ◌≢◌, ◌+◌, ◌<◌, ◌≤◌, ◌⊎◌, ℕ, Option, None, Some, IfSome, IsSome, List, [], ◌∷◌, drop}
 use Rattle.wsn_wire.specs.declared.endpoint.Role.{Role}
 use Rattle.wsn_wire.specs.declared.endpoint.Role.TheVariants.{Client, Server}
 use Rattle.wsn_wire.specs.declared.refusal.Reason.{Reason}
 use Rattle.wsn_wire.specs.declared.refusal.Reason.TheVariants.{ReservedBits, MaskMissing, MaskPresent, TextBad}
-use Rattle.wsn_wire.specs.Frame.{Frame}
+use Rattle.wsn_rules.specs.declared.verdict.Refusal.{Refusal}
 use Rattle.wsn_rules.specs.declared.verdict.Verdict.TheVariants.{Accepted}
 use Rattle.wsn_rules.specs.declared.verdict.Summary.{Summary}
 use Rattle.wsn_rules.specs.Limits.{Limits}
-use Rattle.wsn_rules.specs.Verdict.{IsRefused}
 use Rattle.wsn_capture.specs.SideTexts.{sent_in}
-use Rattle.wsn_hint.specs.Hints.{HasVerdict}
+use Rattle.wsn_hint.specs.Hints.{HasVerdict, IsDataHead, IsFirstFit}
+use Rattle.wsn_hint.specs.Comments.{IsSaid}
+use Rattle.wsn_hint.specs.declared.comments.Said.TheVariants.{Answer, Compression, WrongAnswer}
+use Rattle.wsn_hint.specs.declared.refused_sides.RefusedSides.{RefusedSides}
 use Rattle.wsn_hint.specs.declared.hint.Hint.{Hint}
-use Rattle.wsn_hint.specs.declared.hint.Hint.TheVariants.{Empty, Compressed, MaybeCompressed, Exchanged, NotUtf8, AfterClose}
+use Rattle.wsn_hint.specs.declared.hint.Hint.TheVariants.{Empty, Compressed, MaybeCompressed, NotAgreed, Exchanged, NotUtf8, AfterClose, WrongHandshake}
 
--- What this endpoint sent, by the text's lines, is refused at this offset for this reason.
-abbrev pub IsSideRefusedAt : Limits → List ℕ → Role → ℕ → Reason → Type 0
-IsSideRefusedAt limits text role place reason =
-    (fs : List Frame) × IsRefused role limits (sent_in role text) fs place reason
+-- By the text's lines, this is the byte that the endpoint sent at this offset.
+abbrev pub IsSentAt : Role → List ℕ → ℕ → ℕ → Type 0
+IsSentAt role text place byte = (later : List ℕ) × (drop place (sent_in role text) ≡ byte ∷ later)
 
--- What this endpoint sent, by the text's lines, is refused for this reason.
-abbrev pub IsSideRefused : Limits → List ℕ → Role → Reason → Type 0
-IsSideRefused limits text role reason = (place : ℕ) × IsSideRefusedAt limits text role place reason
+-- ---- a refused side
 
--- The command reads what this endpoint sent: both endpoints' streams if no side is named.
-abbrev pub IsReadSide : Option Role → Role → Type 0
-IsReadSide None role = ⊤
-IsReadSide (Some side) role = role ≡ side
+-- The byte begins the head of a text or binary frame with RSV1 alone, as compression sets it (RFC 7692 section 6).
+abbrev pub IsCompressedHead : ℕ → Type 0
+IsCompressedHead byte = (plain : ℕ) × (byte ≡ plain + 0x40) × IsDataHead plain
 
--- A side that the command reads is refused for this reason.
-abbrev pub HasRefusedSide : Option Role → Limits → List ℕ → Reason → Type 0
-HasRefusedSide side limits text reason = (role : Role) × IsReadSide side role × IsSideRefused limits text role reason
+-- The hint fits a side that is refused for this reason. The offending byte is known if it is within the text.
+abbrev pub FitsSide : List ℕ → Reason → Option ℕ → Hint → Type 0
+FitsSide text reason byte Compressed =
+    (reason ≡ ReservedBits) × IfSome byte IsCompressedHead × IsSaid Compression text
+FitsSide text reason byte NotAgreed =
+    (reason ≡ ReservedBits) × IsSome byte × IfSome byte IsCompressedHead
+    × IsSaid Answer text × ¬ IsSaid Compression text
+FitsSide text reason byte MaybeCompressed =
+    (reason ≡ ReservedBits) × IsSome byte × IfSome byte IsCompressedHead
+FitsSide text reason byte NotUtf8 = reason ≡ TextBad
+FitsSide text reason byte hint = ⊥
 
--- The first frame of each side has the masking of the other endpoint's frames (RFC 6455 section 5.1).
-abbrev pub AreExchanged : Limits → List ℕ → Type 0
-AreExchanged limits text =
-    IsSideRefusedAt limits text Client 1 MaskMissing × IsSideRefusedAt limits text Server 1 MaskPresent
+-- What the comments say of a compressed frame: that it was agreed on, or that the handshake is known and agreed on
+-- none, or neither.
+abbrev pub IsCompressedHint : List ℕ → Hint → Type 0
+IsCompressedHint text hint =
+    (IsSaid Compression text × (hint ≡ Compressed))
+    ⊎ (¬ IsSaid Compression text × IsSaid Answer text × (hint ≡ NotAgreed))
+    ⊎ (¬ IsSaid Compression text × ¬ IsSaid Answer text × (hint ≡ MaybeCompressed))
+
+-- the hints for a refused side, in the order in which they are tried
+abbrev pub side_hints : List Hint
+side_hints = Compressed ∷ NotAgreed ∷ MaybeCompressed ∷ NotUtf8 ∷ []
+
+-- A side that is refused has the first hint that fits, or none if none does; any other side has none.
+abbrev pub IsSideHint : Role → List ℕ → Option Refusal → Option Hint → Type 0
+IsSideHint role text None result = result ≡ None
+IsSideHint role text (Some refusal) result = (byte : Option ℕ) × IfSome byte (IsSentAt role text refusal.place)
+    × IsFirstFit (FitsSide text refusal.reason byte) side_hints result
+
+-- ---- both sides
+
+-- There is no hint, or only that a text isn't UTF-8.
+abbrev pub IsWeak : Option Hint → Type 0
+IsWeak hint = (hint ≡ None) ⊎ (hint ≡ Some NotUtf8)
+
+-- The result is the client's hint, unless that is weak and the server has one.
+abbrev pub IsLikelier : Option Hint → Option Hint → Option Hint → Type 0
+IsLikelier client server result =
+    (IsWeak client × IsSome server × (result ≡ server)) ⊎ (¬ (IsWeak client × IsSome server) × (result ≡ client))
+
+-- The likelier hint of both sides.
+abbrev pub IsLikelierHint : List ℕ → RefusedSides → Option Hint → Type 0
+IsLikelierHint text refused result = (client : Option Hint) × (server : Option Hint)
+    × IsSideHint Client text refused.client client × IsSideHint Server text refused.server server
+    × IsLikelier client server result
+
+-- The first frame is refused for its masking, which is that of the other endpoint's frames (RFC 6455 section 5.1).
+abbrev pub IsForMask : Role → Refusal → Type 0
+IsForMask Client refusal = (refusal.place ≡ 1) × (refusal.reason ≡ MaskMissing)
+IsForMask Server refusal = (refusal.place ≡ 1) × (refusal.reason ≡ MaskPresent)
+
+-- The second byte of a head has the mask bit of the other endpoint's frames.
+abbrev pub IsOthersMask : Role → ℕ → Type 0
+IsOthersMask Client byte = byte < 0x80
+IsOthersMask Server byte = 0x80 ≤ byte
+
+-- The first frame has the masking of the other endpoint's: it is refused for that, or the side wasn't read, and by the
+-- text's lines it has.
+abbrev pub HasOthersMask : Role → List ℕ → Option Refusal → Type 0
+HasOthersMask role text (Some refusal) = IsForMask role refusal
+HasOthersMask role text None = (byte : ℕ) × IsSentAt role text 1 byte × IsOthersMask role byte
+
+-- Each side has the frames of the other.
+abbrev pub AreExchanged : List ℕ → RefusedSides → Type 0
+AreExchanged text refused =
+    (IsSome refused.client ⊎ IsSome refused.server)
+    × HasOthersMask Client text refused.client × HasOthersMask Server text refused.server
+
+-- Both are refused for that.
+abbrev pub AreRefusedForMasks : Option Refusal → Option Refusal → Type 0
+AreRefusedForMasks (Some client) (Some server) = IsForMask Client client × IsForMask Server server
+AreRefusedForMasks client server = ⊥
+
+-- The hint for an empty text; that the sides are exchanged; or the likelier of both sides' hints. Sides that are both
+-- refused for the other's masking are always said to be exchanged.
+abbrev pub IsSidesHint : List ℕ → RefusedSides → Option Hint → Type 0
+IsSidesHint text refused result =
+    ((text ≡ []) × (result ≡ Some Empty))
+    ⊎ ((text ≢ []) × AreExchanged text refused × (result ≡ Some Exchanged))
+    ⊎ ((text ≢ []) × ¬ AreRefusedForMasks refused.client refused.server × IsLikelierHint text refused result)
+
+-- ---- a report on sides that aren't refused
+
+-- A comment says that the handshake's answer is wrong.
+abbrev pub FitsHandshake : List ℕ → Hint → Type 0
+FitsHandshake text WrongHandshake = IsSaid WrongAnswer text
+FitsHandshake text hint = ⊥
 
 -- This endpoint sent bytes after its Close, by the text's lines (RFC 6455 section 5.5.1).
 abbrev pub HasTail : Limits → List ℕ → Role → Type 0
 HasTail limits text role =
     (summary : Summary) × HasVerdict role limits (sent_in role text) (Accepted summary) × (0 < summary.tail)
 
--- What the hint says is so of the sides. That a refused frame looks compressed, and that a comment says so, tests
--- alone say. No other hint is given.
-abbrev pub FitsSides : Option Role → Limits → List ℕ → Hint → Type 0
-FitsSides side limits text Empty = text ≡ []
-FitsSides side limits text Compressed = HasRefusedSide side limits text ReservedBits
-FitsSides side limits text MaybeCompressed = HasRefusedSide side limits text ReservedBits
-FitsSides side limits text Exchanged = AreExchanged limits text
-FitsSides side limits text NotUtf8 = HasRefusedSide side limits text TextBad
-FitsSides side limits text (AfterClose role) = IsReadSide side role × HasTail limits text role
-FitsSides side limits text hint = ⊥
+-- The hint says that an endpoint sent bytes after its Close, and it did.
+abbrev pub FitsTail : Limits → List ℕ → Hint → Type 0
+FitsTail limits text (AfterClose role) = HasTail limits text role
+FitsTail limits text hint = ⊥

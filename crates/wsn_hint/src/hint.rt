@@ -49,12 +49,17 @@ pub enum Hint {
     Binary,
     /// A capture with a side that is refused where a compressed frame would begin, and no comment that says so.
     MaybeCompressed,
+    /// A capture with a side that is refused where a compressed frame would begin, though its handshake is known and
+    /// agrees on no compression (RFC 7692 section 5).
+    NotAgreed,
     /// A capture in which each side has the frames of the other.
     Exchanged,
     /// A capture with a text that isn't UTF-8.
     NotUtf8,
     /// A capture in which this endpoint sent bytes after its Close (RFC 6455 section 5.5.1).
     AfterClose(Role),
+    /// A capture with an answer to the handshake for which the client must fail the connection (RFC 6455 section 4.1).
+    WrongHandshake,
 }
 
 impl Hint {
@@ -126,6 +131,9 @@ impl Hint {
             Hint::MaybeCompressed => {
                 "hint: compressed? recipes/inflate --extensions permessage-deflate CAPTURE"
             }
+            Hint::NotAgreed => {
+                "hint: compressed, not agreed on: sender's fault; recipes/inflate --extensions .."
+            }
             Hint::Exchanged => {
                 "hint: the sides are exchanged: sed 's/^C/X/; s/^S/C/; s/^X/S/' FILE swaps them"
             }
@@ -137,6 +145,9 @@ impl Hint {
             }
             Hint::AfterClose(Role::Server) => {
                 "hint: the server sent bytes after its Close: 'wsn show' lists them"
+            }
+            Hint::WrongHandshake => {
+                "hint: the handshake's answer is wrong: the client had to fail (RFC 6455, 4.1)"
             }
         }
     }
@@ -171,6 +182,7 @@ impl Hint {
             Hint::OtherText => " is text, but no capture, whose lines are 'C HEX' or 'S HEX'",
             Hint::Binary => " is binary, or text in UTF-16; a capture is plain text",
             Hint::MaybeCompressed => " seems compressed: recipes/inflate --extensions undoes it",
+            Hint::NotAgreed => " has compressed frames, which its handshake doesn't allow",
             Hint::Exchanged => " has its sides exchanged: sed 's/^C/X/; s/^S/C/; s/^X/S/'",
             Hint::NotUtf8 => " has a text that isn't UTF-8: 'wsn explain text-bad'",
             Hint::AfterClose(Role::Client) => {
@@ -179,6 +191,7 @@ impl Hint {
             Hint::AfterClose(Role::Server) => {
                 " has bytes after the server's Close: 'wsn show' lists them"
             }
+            Hint::WrongHandshake => " has a wrong answer to its handshake",
         }
     }
 }

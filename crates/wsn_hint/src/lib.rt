@@ -1,20 +1,22 @@
 //! Hints: which everyday mistake an input looks like, by its first bytes.
 //!
 //! [`hint_of`] is for an input that is read as a stream, [`capture_hint_of`] for a capture of which a line isn't
-//! accepted, [`sides_hint_of`] and [`after_close_hint_of`] for any other capture, and [`plan_hint_of`] for an input that
-//! is read as a plan. A [`Hint`] has a line that says what to do next. A hint changes no answer: the bytes are those that
-//! were read in passing ([`CaptureStart`], `wsn_io::FirstBytes`).
+//! accepted, [`sides_hint_of`], [`handshake_hint_of`] and [`after_close_hint_of`] for any other capture, and
+//! [`plan_hint_of`] for an input that is read as a plan. A [`Hint`] has a line that says what to do next. A hint changes
+//! no answer: it goes by the answer, and by bytes that were read in passing ([`CaptureStart`], `wsn_io::FirstBytes`).
 //!
-//! `specs/Hints.antt` defines which hint a stream or a faulty capture has, `specs/SideHints.antt` when the sides of a
-//! capture have one.
+//! `specs/Hints.antt` defines which hint a stream or a faulty capture has, `specs/SideHints.antt` which the sides of a
+//! capture have, and `specs/Comments.antt` what a capture's comments say.
 #![tactic(auto)]
 
 mod capture_start;
 mod captures;
+mod comments;
 mod early_verdict;
 mod formats;
 mod hint;
 mod plans;
+mod refused_sides;
 mod sides;
 mod streams;
 
@@ -22,5 +24,6 @@ pub use capture_start::CaptureStart;
 pub use captures::capture_hint_of;
 pub use hint::Hint;
 pub use plans::plan_hint_of;
-pub use sides::{after_close_hint_of, sides_hint_of};
+pub use refused_sides::RefusedSides;
+pub use sides::{after_close_hint_of, handshake_hint_of, sides_hint_of};
 pub use streams::hint_of;

@@ -1,47 +1,54 @@
-ghost use Rattle.std.specs.Prelude.{◌≡◌, ◌⊎◌, Option, [], true, None, Some, IfSome};
-ghost use Rattle.wsn_wire.specs.declared.endpoint.Role.{Role};
+ghost use Rattle.std.specs.Prelude.{◌≡◌, ◌↔◌, ◌≢◌, [], ◌∷◌, IsTrue, true, false, None, Some, IfSome};
 ghost use Rattle.wsn_capture.specs.SideTexts.{sent_in};
-ghost use Rattle.wsn_hint.specs.declared.hint.Hint.TheVariants.{Empty};
-ghost use Rattle.wsn_hint.specs.Hints.{HasVerdict};
-ghost use Rattle.wsn_hint.specs.SideHints.{AreExchanged, FitsSides, HasTail, IsReadSide, IsSideRefusedAt};
+ghost use Rattle.wsn_wire.specs.declared.refusal.Reason.TheVariants.{ReservedBits};
+ghost use Rattle.wsn_hint.specs.declared.hint.Hint.TheVariants.{WrongHandshake};
+ghost use Rattle.wsn_hint.specs.Hints.{HasVerdict, IsFirstFit};
+ghost use Rattle.wsn_hint.specs.SideHints.{AreExchanged, AreRefusedForMasks, FitsHandshake, FitsSide, FitsTail, HasOthersMask, HasTail, IsCompressedHead, IsCompressedHint, IsForMask, IsOthersMask, IsSentAt, IsLikelier, IsSideHint, IsSidesHint, IsWeak, side_hints};
 
+use crate::comments::{Said, is_said};
 use crate::hint::Hint;
-use crate::streams::is_compressed_start;
-use memchr::memmem;
-use std::io::Read;
+use crate::refused_sides::RefusedSides;
+use crate::streams::without_compression;
 use wsn_capture::SideReader;
-use wsn_rules::{Limits, Verdict};
+use wsn_rules::{Limits, Refusal, Verdict};
 use wsn_scan::judge;
 use wsn_wire::{Input, Reason, Role};
 
-/// The hint for a capture that begins with these bytes, its first 65,536 or all of them if there are fewer, and whose
-/// lines are accepted. `side` is the endpoint whose stream is read, or `None` for both.
+/// The number of bytes of a side that are read at once.
+const CHUNK: usize = 512;
+
+/// The hint for a capture that begins with these bytes, its first 65,536 or all of them if there are fewer, whose lines
+/// are accepted, and of which these sides are refused.
 ///
-/// `None` unless the capture is empty, or a side that is read is refused within these bytes.
-pub fn sides_hint_of(first: &[u8], side: Option<Role>, limits: Limits) -> Option<Hint>
-    ensures empty { first.now ≡ [] → result ≡ Some Empty }
-    ensures fits { IfSome result (FitsSides side limits first.now) }
+/// `None` unless the capture is empty or one of the sides is refused: then the first hint of `side_hints`
+/// (specs/SideHints.antt) that fits a refused side, or that the sides are exchanged. The offending byte is looked at if
+/// it is within these bytes, and comments are.
+pub fn sides_hint_of(first: &[u8], refused: RefusedSides) -> Option<Hint>
+    ensures { IsSidesHint first.now refused result }
 {
     if first.is_empty() {
         return Some(Hint::Empty);
     }
-    if are_exchanged(first, limits) {
+    if are_exchanged(first, refused) {
         return Some(Hint::Exchanged);
     }
-    match side {
-        Some(role) => side_hint(first, role, limits),
-        None => {
-            let client = side_hint(first, Role::Client, limits);
-            let server = side_hint(first, Role::Server, limits);
-            likelier(client, server)
-        }
-    }
+    let client = side_hint(first, Role::Client, refused.client);
+    let server = side_hint(first, Role::Server, refused.server);
+    likelier(client, server)
+}
+
+/// The hint for such a capture of which no side is refused: that a comment says what is wrong with the answer to the
+/// handshake, so that the client must fail the connection (RFC 6455 section 4.1).
+pub fn handshake_hint_of(first: &[u8]) -> Option<Hint>
+    ensures { IsFirstFit (FitsHandshake first.now) (WrongHandshake ∷ []) result }
+{
+    is_said(first, Said::WrongAnswer).then_some(Hint::WrongHandshake)
 }
 
 /// The hint for such a capture of which both sides are read and only the report is printed: that an endpoint sent bytes
 /// after its Close (RFC 6455 section 5.5.1), the client if both did. `None` unless it did within these bytes.
 pub fn after_close_hint_of(first: &[u8], limits: Limits) -> Option<Hint>
-    ensures { IfSome result (FitsSides None limits first.now) }
+    ensures { IfSome result (FitsTail limits first.now) }
 {
     if has_tail(first, Role::Client, limits) {
         return Some(Hint::AfterClose(Role::Client));
@@ -59,51 +66,6 @@ fn has_tail(first: &[u8], role: Role, limits: Limits) -> bool
     }
 }
 
-/// The likelier of two sides' hints: another encoding comes last.
-fn likelier(client: Option<Hint>, server: Option<Hint>) -> Option<Hint>
-    ensures { (result ≡ client) ⊎ (result ≡ server) }
-{
-    match (client, server) {
-        (None | Some(Hint::NotUtf8), Some(hint)) => Some(hint),
-        _ => client,
-    }
-}
-
-/// Whether the first frame of each side has the masking of the other endpoint's frames.
-fn are_exchanged(first: &[u8], limits: Limits) -> bool
-    ensures { result ≡ true → AreExchanged limits first.now }
-{
-    is_refused_at_1(first, Role::Client, Reason::MaskMissing, limits)
-        && is_refused_at_1(first, Role::Server, Reason::MaskPresent, limits)
-}
-
-/// Whether what this endpoint sent, by the lines of these bytes, is refused at offset 1 for this reason.
-fn is_refused_at_1(first: &[u8], role: Role, reason: Reason, limits: Limits) -> bool
-    ensures { result ≡ true → IsSideRefusedAt limits first.now role 1 reason }
-{
-    match side_verdict(first, role, limits) {
-        Some(Verdict::Refused(refusal)) => refusal.place == 1 && refusal.reason == reason,
-        _ => false,
-    }
-}
-
-/// The hint for the side of one endpoint, if it is refused: compressed, or a text in another encoding.
-fn side_hint(first: &[u8], role: Role, limits: Limits) -> Option<Hint>
-    ensures { (side : Option Role) → IsReadSide side role → IfSome result (FitsSides side limits first.now) }
-{
-    let Some(Verdict::Refused(refusal)) = side_verdict(first, role, limits) else {
-        return None;
-    };
-    match refusal.reason {
-        Reason::ReservedBits if has_compression_comment(first) => Some(Hint::Compressed),
-        Reason::ReservedBits if is_compressed_at(first, role, refusal.place, limits) => {
-            Some(Hint::MaybeCompressed)
-        }
-        Reason::TextBad => Some(Hint::NotUtf8),
-        _ => None,
-    }
-}
-
 /// The verdict on what this endpoint sent, by the lines of these bytes. `None` if a line isn't accepted, and if the
 /// input limit is less.
 fn side_verdict(first: &[u8], role: Role, limits: Limits) -> Option<Verdict>
@@ -112,23 +74,137 @@ fn side_verdict(first: &[u8], role: Role, limits: Limits) -> Option<Verdict>
     judge(&mut Input::new(SideReader::new(first, role)), role, limits).ok()
 }
 
-/// Whether at this offset of the side a compressed frame may begin.
-fn is_compressed_at(first: &[u8], role: Role, place: u64, limits: Limits) -> bool {
-    let head = head_at(first, role, place).unwrap_or([0; 2]);
-    is_compressed_start(&head, role, limits)
+/// The likelier of two sides' hints: another encoding comes last.
+fn likelier(client: Option<Hint>, server: Option<Hint>) -> Option<Hint>
+    ensures { IsLikelier client server result }
+{
+    if is_weak(client) && server.is_some() {
+        server
+    } else {
+        client
+    }
 }
 
-/// Two bytes of the side from this offset on; `None` if there are fewer.
-fn head_at(first: &[u8], role: Role, place: u64) -> Option<[u8; 2]> {
-    let mut sent = SideReader::new(first, role).bytes();
-    let head = sent.nth(usize::try_from(place).ok()?)?.ok()?;
-    let second = sent.next()?.ok()?;
-    Some([head, second])
+/// Whether there is no hint, or only that a text isn't UTF-8.
+fn is_weak(hint: Option<Hint>) -> bool
+    ensures { IsTrue result ↔ IsWeak hint }
+{
+    match hint {
+        None => true,
+        Some(hint) => hint == Hint::NotUtf8,
+    }
 }
 
-/// Whether a comment says that compression was agreed on.
-fn has_compression_comment(first: &[u8]) -> bool {
-    first.split(|byte| *byte == b'\n').any(|line| {
-        line.starts_with(b"# extensions: ") && memmem::find(line, b"permessage-deflate").is_some()
-    })
+/// Whether the first frame of each side has the masking of the other endpoint's frames. The second byte of a side that
+/// isn't known to be refused is looked at.
+fn are_exchanged(first: &[u8], refused: RefusedSides) -> bool
+    ensures exchanged { result ≡ true → AreExchanged first.now refused }
+    ensures not { result ≡ false → AreRefusedForMasks refused.client refused.server → ⊥ }
+{
+    match (refused.client, refused.server) {
+        (Some(client), Some(server)) => {
+            is_for_mask(client, Role::Client) && is_for_mask(server, Role::Server)
+        }
+        (Some(client), None) => {
+            is_for_mask(client, Role::Client) && has_others_mask(first, Role::Server)
+        }
+        (None, Some(server)) => {
+            is_for_mask(server, Role::Server) && has_others_mask(first, Role::Client)
+        }
+        (None, None) => false,
+    }
+}
+
+/// Whether this endpoint's first frame is refused for its masking.
+fn is_for_mask(refusal: Refusal, role: Role) -> bool
+    ensures { IsTrue result ↔ IsForMask role refusal }
+{
+    match role {
+        Role::Client => refusal.place == 1 && refusal.reason == Reason::MaskMissing,
+        Role::Server => refusal.place == 1 && refusal.reason == Reason::MaskPresent,
+    }
+}
+
+/// Whether this endpoint's first frame has the masking of the other's, by the lines of these bytes.
+fn has_others_mask(first: &[u8], role: Role) -> bool
+    ensures { result ≡ true → HasOthersMask role first.now None }
+{
+    match byte_at(first, role, 1) {
+        Some(byte) => is_others_mask(byte, role),
+        None => false,
+    }
+}
+
+fn is_others_mask(byte: u8, role: Role) -> bool
+    ensures { IsTrue result ↔ IsOthersMask role byte }
+{
+    match role {
+        Role::Client => byte < 0x80,
+        Role::Server => byte >= 0x80,
+    }
+}
+
+/// The hint for the side of one endpoint, if it is refused.
+fn side_hint(first: &[u8], role: Role, refusal: Option<Refusal>) -> Option<Hint>
+    ensures { IsSideHint role first.now refusal result }
+{
+    let Some(refusal) = refusal else {
+        return None;
+    };
+    match refusal.reason {
+        Reason::ReservedBits => bits_hint(first, byte_at(first, role, refusal.place)),
+        Reason::TextBad => Some(Hint::NotUtf8),
+        _ => None,
+    }
+}
+
+/// The hint for a side that is refused for the reserved bits of this byte, if it is known: compressed, as agreed or not.
+fn bits_hint(first: &[u8], byte: Option<u8>) -> Option<Hint>
+    ensures { IsFirstFit (FitsSide first.now ReservedBits byte) side_hints result }
+{
+    match byte {
+        Some(byte) if is_compressed_head(byte) => Some(compressed_hint(first)),
+        Some(_) => None,
+        None if is_said(first, Said::Compression) => Some(Hint::Compressed),
+        None => None,
+    }
+}
+
+/// What the comments say of a compressed frame: agreed on or not, or nothing.
+fn compressed_hint(first: &[u8]) -> Hint
+    ensures { IsCompressedHint first.now result }
+{
+    if is_said(first, Said::Compression) {
+        return Hint::Compressed;
+    }
+    if is_said(first, Said::Answer) {
+        Hint::NotAgreed
+    } else {
+        Hint::MaybeCompressed
+    }
+}
+
+fn is_compressed_head(byte: u8) -> bool
+    ensures { IsTrue result ↔ IsCompressedHead byte }
+{
+    without_compression(byte).is_some()
+}
+
+/// The byte at this offset of what the endpoint sent, by the lines of these bytes.
+fn byte_at(first: &[u8], role: Role, place: u64) -> Option<u8>
+    ensures { IfSome result (IsSentAt role first.now place) }
+{
+    let mut side = Input::new(SideReader::new(first, role));
+    let mut chunk = [0; CHUNK];
+    let mut before = place;
+    loop {
+        let count = side.read(&mut chunk)?;
+        if before < count as u64 {
+            return Some(chunk[before as usize]);
+        }
+        if count == 0 {
+            return None;
+        }
+        before -= count as u64;
+    }
 }

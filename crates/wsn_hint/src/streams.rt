@@ -79,7 +79,7 @@ pub fn is_compressed_start(first: &[u8], role: Role, limits: Limits) -> bool
 }
 
 /// The first byte of the head of a text or binary frame, without RSV1; `None` if this isn't such a byte with RSV1 alone.
-fn without_compression(head: u8) -> Option<u8>
+pub fn without_compression(head: u8) -> Option<u8>
     ensures plain { IfSome result (λ plain. (head ≡ plain + 0x40) × IsDataHead plain) }
     ensures none { result ≡ None → (plain : ℕ) → IsDataHead plain → head ≢ plain + 0x40 }
 {

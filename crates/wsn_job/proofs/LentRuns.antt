@@ -14,6 +14,7 @@ use Rattle.wsn_show.specs.declared.showing.ShowStop.TheVariants.{Capture, Write}
 use Rattle.wsn_plan.specs.declared.planning.PlanAnswer.{PlanAnswer}
 use Rattle.wsn_plan.specs.declared.planning.PlanAnswer.TheVariants as planning
 use Rattle.wsn_command.specs.declared.comparison.Comparison.{Comparison}
+use Rattle.wsn_command.specs.declared.answered.Ran.{Ran}
 use Rattle.wsn_command.specs.declared.job.Job.{Job}
 use Rattle.wsn_command.specs.declared.job.Job.TheVariants.{Judge, Frames, Normal, Plan, Recut, Payload, ShowStream, Closing, Show}
 use Rattle.wsn_job.specs.Channels.{Channels, ComparedChannels}
@@ -54,16 +55,16 @@ report_is_read format limits old new before after (Ok report) printed = received
 report_is_read format limits old new before after (Err (Capture stopped)) printed = received_is_read _ old new _ printed.0.received
 report_is_read format limits old new before after (Err Write) printed = received_is_read _ old new _ printed.1.received
 
-pub run_is_read : {A : Type 0} (job : Job A) (before after : Channels) (status : ℕ) → IsRun job before after status → IsRead before.input after.input
-run_is_read (Judge role limits format) before after status run = verdict_is_read format role limits _ _ _ _ run.0 run.1
-run_is_read (Frames role limits format) before after status run = received_is_read _ _ _ _ run.1.received
-run_is_read (Normal role limits) before after status run = received_is_read _ _ _ _ run.1.received
-run_is_read (Plan role limits) before after status run = plan_is_read role limits _ _ _ _ run.0 run.1
-run_is_read (Recut role limits how) before after status run = received_is_read _ _ _ _ run.1.received
-run_is_read (Payload role limits at) before after status run = received_is_read _ _ _ _ run.1.received
-run_is_read (ShowStream role limits style) before after status run = received_is_read _ _ _ _ run.1.received
-run_is_read (Closing limits format) before after status run = report_is_read format limits _ _ _ _ run.0 run.1
-run_is_read (Show limits style) before after status run = received_is_read _ _ _ _ run.1.received
+pub run_is_read : {A : Type 0} (job : Job A) (before after : Channels) (ran : Ran) → IsRun job before after ran → IsRead before.input after.input
+run_is_read (Judge role limits format) before after ran run = verdict_is_read format role limits _ _ _ _ run.0 run.1
+run_is_read (Frames role limits format) before after ran run = received_is_read _ _ _ _ run.1.received
+run_is_read (Normal role limits) before after ran run = received_is_read _ _ _ _ run.1.received
+run_is_read (Plan role limits) before after ran run = plan_is_read role limits _ _ _ _ run.0 run.1
+run_is_read (Recut role limits how) before after ran run = received_is_read _ _ _ _ run.1.received
+run_is_read (Payload role limits at) before after ran run = received_is_read _ _ _ _ run.1.received
+run_is_read (ShowStream role limits style) before after ran run = received_is_read _ _ _ _ run.1.received
+run_is_read (Closing limits format) before after ran run = report_is_read format limits _ _ _ _ run.0 run.1
+run_is_read (Show limits style) before after ran run = received_is_read _ _ _ _ run.1.received
 
 -- No read of either failed.
 abbrev AreRead : ComparedChannels → ComparedChannels → Type 0

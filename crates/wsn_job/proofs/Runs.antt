@@ -7,11 +7,11 @@ use Rattle.wsn_job.specs.declared.done.Done.TheVariants as done
 use Rattle.wsn_job.specs.Channels.{Channels}
 use Rattle.wsn_job.specs.Jobs.{IsRun}
 use Rattle.wsn_job.specs.Payloads.{IsPayloadDiagnosed}
-use Rattle.wsn_job.specs.Work.{IsDone, IsDoneDiagnosed, done_status}
+use Rattle.wsn_job.specs.Work.{IsDone, IsDoneDiagnosed, done_ran}
 
 pub run_of_done : {A : Type 0} (job : Job A) (before after : Channels) (d : Done A) →
     IsDone job before.input after.input before.output after.output d → IsDoneDiagnosed d before.errors after.errors →
-    IsRun job before after (done_status d)
+    IsRun job before after (done_ran d)
 run_of_done (Judge role limits format) before after (done.Judge answer) is said = (answer, is, refl, said)
 run_of_done (Frames role limits format) before after (done.Frames answer) is said = (answer, is, refl, said)
 run_of_done (Normal role limits) before after (done.Normal answer) is said = (answer, is, refl, said)

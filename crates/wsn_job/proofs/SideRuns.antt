@@ -1,5 +1,5 @@
 -- A job on a side whose read failed ended with the stop `Read`.
-use Rattle.std.proofs.Common.{◌≡◌, ℕ, true, false, Result, Ok, Err, List, refl, sym, subst, inl, inr}
+use Rattle.std.proofs.Common.{◌≡◌, ℕ, true, false, Result, Ok, Err, List, refl, sym, ap, subst, inl, inr}
 use Rattle.wsn_wire.specs.declared.endpoint.Role.{Role}
 use Rattle.wsn_io.specs.Transfer.{Incoming, Outgoing}
 use Rattle.wsn_io.specs.declared.stop.Stop.{Stop}
@@ -22,22 +22,27 @@ use Rattle.wsn_plan.specs.declared.planning.PlanAnswer.TheVariants as plans
 use Rattle.wsn_plan.specs.declared.recutting.RecutAnswer.{RecutAnswer}
 use Rattle.wsn_plan.specs.Planning.{IsPlanned}
 use Rattle.wsn_plan.specs.Recutting.{Planner, IsRecut}
+use Rattle.wsn_command.specs.declared.answered.Answer.{Answer}
+use Rattle.wsn_command.specs.declared.answered.Answer.TheVariants.{FaultyLine, Stopped}
+use Rattle.wsn_command.specs.declared.answered.Ran.{Ran}
 use Rattle.wsn_command.specs.declared.job.Job.{Job}
 use Rattle.wsn_command.specs.declared.job.Job.TheVariants.{Judge, Frames, Normal, Plan, Recut, Payload, ShowStream, Closing, Show}
 use Rattle.wsn_job.specs.declared.done.Done.{Done}
 use Rattle.wsn_job.specs.declared.done.Done.TheVariants as done
 use Rattle.wsn_job.specs.Channels.{Channels, channels}
+use Rattle.wsn_print.specs.Statuses.{verdict_status}
+use Rattle.wsn_job.specs.Answers.{ran_with, verdict_answer, plan_answer, recut_answer, payload_answer}
 use Rattle.wsn_job.specs.Diagnostics.{IsDiagnosed, IsStopDiagnosed}
 use Rattle.wsn_job.specs.Jobs.{IsRun}
-use Rattle.wsn_job.specs.Plans.{IsPlanPrinted, IsPlanDiagnosed}
+use Rattle.wsn_job.specs.Plans.{IsPlanPrinted, IsPlanDiagnosed, plan_status}
 use Rattle.wsn_payload.specs.declared.answer.Payload.TheVariants.{Whole, Unfinished, Inside, Head, Nothing}
 use Rattle.wsn_payload.specs.declared.answer.Payload.{Payload as Taken}
 use Rattle.wsn_payload.specs.Payloads.{IsPayloadTaken}
-use Rattle.wsn_job.specs.Payloads.{IsPayloadDiagnosed}
-use Rattle.wsn_job.specs.Recuts.{IsRecutDiagnosed, planned_by}
+use Rattle.wsn_job.specs.Payloads.{IsPayloadDiagnosed, payload_status}
+use Rattle.wsn_job.specs.Recuts.{IsRecutDiagnosed, planned_by, recut_status}
 use Rattle.wsn_job.specs.Sides.{MayRunOnSide, IsFaultySide, IsRunOnSide}
 use Rattle.wsn_job.specs.Verdicts.{IsVerdictPrinted, IsVerdictDiagnosed}
-use Rattle.wsn_job.specs.Work.{IsDone, IsDoneDiagnosed, done_status}
+use Rattle.wsn_job.specs.Work.{IsDone, IsDoneDiagnosed, done_ran, done_status}
 use Rattle.wsn_job.proofs.Runs.{run_of_done}
 
 module _ (role : Role) (limits : Limits) (old new : Incoming) (failed : new.failed ≡ true) where
@@ -124,41 +129,49 @@ module _ (role : Role) (limits : Limits) (old new : Incoming) (failed : new.fail
   payload_taken at before after (Err stop.Memory) is = absurd is.answer.3
   payload_taken at before after (Err stop.Write) is = let h : new.failed ≡ false = is.answer.3 in absurd cc
 
+-- A failed read leaves no answer.
+no_answer : {A : Type 0} (status : Result A Stop → ℕ) (answered : Result A Stop → Answer) (result : Result A Stop) →
+    answered (Err stop.Read) ≡ Stopped → result ≡ Err stop.Read →
+    ran_with (status result) Stopped ≡ ran_with (status result) (answered result)
+no_answer {A} status answered result none stopped =
+    subst (λ (r : Result A Stop). ran_with (status r) Stopped ≡ ran_with (status r) (answered r)) (sym stopped)
+    (ap (λ (answer : Answer). ran_with (status (Err stop.Read)) answer) (sym none))
+
 -- With `read failed` on standard error, the work is a run.
 pub run_of_failed_read : {A : Type 0} (job : Job A) (before after : Channels) (d : Done A) → MayRunOnSide job →
     IsDone job before.input after.input before.output after.output d → after.input.failed ≡ true →
     (errors : Outgoing) → IsDiagnosed before.errors errors (stop_line stop.Read) →
-    IsRun job before (record after { errors = errors }) (done_status d)
+    IsRun job before (record after { errors = errors }) (ran_with (done_status d) Stopped)
 run_of_failed_read (Judge role limits format) before after (done.Judge answer) may is failed errors said =
     let stopped = verdict_printed role limits before.input after.input failed format before.output after.output answer is in
-    (answer, is, refl, subst (λ (a : Result Verdict Stop). IsStopDiagnosed a before.errors errors) (sym stopped) said)
+    (answer, is, no_answer verdict_status verdict_answer answer refl stopped, subst (λ (a : Result Verdict Stop). IsStopDiagnosed a before.errors errors) (sym stopped) said)
 run_of_failed_read (Frames role limits format) before after (done.Frames answer) may is failed errors said =
     let stopped = listed role limits before.input after.input failed format before.output after.output answer is in
-    (answer, is, refl, subst (λ (a : Result Verdict Stop). IsStopDiagnosed a before.errors errors) (sym stopped) said)
+    (answer, is, no_answer verdict_status verdict_answer answer refl stopped, subst (λ (a : Result Verdict Stop). IsStopDiagnosed a before.errors errors) (sym stopped) said)
 run_of_failed_read (Normal role limits) before after (done.Normal answer) may is failed errors said =
     let stopped = normalised role limits before.input after.input failed before.output after.output answer is in
-    (answer, is, refl, subst (λ (a : Result Verdict Stop). IsVerdictDiagnosed a before.errors errors) (sym stopped) said)
+    (answer, is, no_answer verdict_status verdict_answer answer refl stopped, subst (λ (a : Result Verdict Stop). IsVerdictDiagnosed a before.errors errors) (sym stopped) said)
 run_of_failed_read {A} (Plan role limits) before after (done.Plan answer) may is failed errors said =
     let stopped = plan_printed role limits before.input after.input failed before.output after.output answer is in
-    (answer, is, refl, subst (λ (a : Result (PlanAnswer A) Stop). IsPlanDiagnosed a before.errors errors) (sym stopped) said)
+    (answer, is, no_answer plan_status plan_answer answer refl stopped, subst (λ (a : Result (PlanAnswer A) Stop). IsPlanDiagnosed a before.errors errors) (sym stopped) said)
 run_of_failed_read (Recut role limits how) before after (done.Recut answer) may is failed errors said =
     let stopped = recut role limits before.input after.input failed (planned_by how) before.output after.output answer is in
-    (answer, is, refl, subst (λ (a : Result RecutAnswer Stop). IsRecutDiagnosed a before.errors errors) (sym stopped) said)
+    (answer, is, no_answer recut_status recut_answer answer refl stopped, subst (λ (a : Result RecutAnswer Stop). IsRecutDiagnosed a before.errors errors) (sym stopped) said)
 run_of_failed_read (Payload role limits at) before after (done.Payload place answer) may is failed errors said =
     let stopped = payload_taken role limits before.input after.input failed at before.output after.output answer is.1 in
-    (answer, is.1, refl, subst (λ (a : Result Taken Stop). IsPayloadDiagnosed at a before.errors errors) (sym stopped) said)
+    (answer, is.1, no_answer payload_status payload_answer answer refl stopped, subst (λ (a : Result Taken Stop). IsPayloadDiagnosed at a before.errors errors) (sym stopped) said)
 run_of_failed_read (ShowStream role limits style) before after (done.ShowStream answer) may is failed errors said =
     let stopped = stream_shown role limits before.input after.input failed style before.output after.output answer is in
-    (answer, is, refl, subst (λ (a : Result Verdict Stop). IsStopDiagnosed a before.errors errors) (sym stopped) said)
+    (answer, is, no_answer verdict_status verdict_answer answer refl stopped, subst (λ (a : Result Verdict Stop). IsStopDiagnosed a before.errors errors) (sym stopped) said)
 run_of_failed_read (Closing limits format) before after d may is failed errors said = let h : false ≡ true = may.1 in absurd cc
 run_of_failed_read (Show limits style) before after d may is failed errors said = let h : false ≡ true = may.1 in absurd cc
 run_of_failed_read job before after d may is failed errors said = absurd is
 
 -- A run over a side that ended with no faulty line.
-pub side_run : {A : Type 0} (job : Job A) (old new : Incoming) (before after quiet said : Outgoing) (d : Done A) (status : ℕ) →
-    IsDone job old new before after d → IsDoneDiagnosed d quiet said → status ≡ done_status d →
-    IsRunOnSide job (channels old before quiet) (channels new after said) status
-side_run job old new before after quiet said d status is diagnosed ends =
+pub side_run : {A : Type 0} (job : Job A) (old new : Incoming) (before after quiet said : Outgoing) (d : Done A)
+    (ran : Ran) → IsDone job old new before after d → IsDoneDiagnosed d quiet said → ran ≡ done_ran d →
+    IsRunOnSide job (channels old before quiet) (channels new after said) ran
+side_run job old new before after quiet said d ran is diagnosed ends =
     let run = run_of_done job (channels old before quiet) (channels new after said) d is diagnosed in
     inl (rw ends run)
 
@@ -166,15 +179,17 @@ side_run job old new before after quiet said d status is diagnosed ends =
 pub side_run_to_line : {A : Type 0} (job : Job A) (old new : Incoming) (before after quiet said : Outgoing) (d : Done A)
     (status number : ℕ) (fault : LineFault) → MayRunOnSide job → IsDone job old new before after d →
     IsFaultySide new number fault → IsDiagnosed quiet said (line_fault_line number (fault_word fault)) →
-    status ≡ done_status d → IsRunOnSide job (channels old before quiet) (channels new after said) status
+    status ≡ done_status d →
+    IsRunOnSide job (channels old before quiet) (channels new after said) (ran_with status FaultyLine)
 side_run_to_line job old new before after quiet said d status number fault may is faulty diagnosed ends =
     let run : (errors : Outgoing) → IsDiagnosed quiet errors (stop_line stop.Read) →
-    IsRun job (channels old before quiet) (channels new after errors) (done_status d) =
+    IsRun job (channels old before quiet) (channels new after errors) (ran_with (done_status d) Stopped) =
     run_of_failed_read job (channels old before quiet) (channels new after said) d may is faulty.failed in
     inr (record {
       number = number;
       fault = fault;
       faulty = faulty;
       said = diagnosed;
+      answer = refl;
       run = λ errors read. rw ends (run errors read);
     })

@@ -15,7 +15,9 @@ use Rattle.wsn_print.specs.Statuses.{outcome_status}
 use Rattle.wsn_print.specs.StopText.{stop_line}
 use Rattle.wsn_show.specs.declared.showing.ShowStop.{ShowStop}
 use Rattle.wsn_show.specs.declared.showing.ShowStop.TheVariants.{Capture, Write}
+use Rattle.wsn_command.specs.declared.answered.Ran.{Ran}
 use Rattle.wsn_job.specs.Channels.{Channels}
+use Rattle.wsn_job.specs.Answers.{ran_with, report_answer}
 use Rattle.wsn_job.specs.Diagnostics.{IsDiagnosed}
 
 -- The text of the report was printed; before a stop, nothing was. If a write failed, there is a report, and a prefix of
@@ -54,11 +56,11 @@ abbrev pub IsClosingDiagnosed : Result Report ShowStop → Outgoing → Outgoing
 IsClosingDiagnosed (Ok report) old new = new ≡ old
 IsClosingDiagnosed (Err stopped) old new = IsDiagnosed old new (closing_stop_line stopped)
 
--- `closing`: its channels before and after, and the exit status, are of one answer.
-abbrev pub IsClosingRun : Format → Limits → Channels → Channels → ℕ → Type 0
-IsClosingRun format limits before after status = (done : Result Report ShowStop)
+-- `closing`: its channels before and after, and what it came to, are of one answer.
+abbrev pub IsClosingRun : Format → Limits → Channels → Channels → Ran → Type 0
+IsClosingRun format limits before after ran = (done : Result Report ShowStop)
     × IsReportPrinted format limits before.input after.input before.output after.output done
-    × (status ≡ closing_status done) × IsClosingDiagnosed done before.errors after.errors
+    × (ran ≡ ran_with (closing_status done) (report_answer done)) × IsClosingDiagnosed done before.errors after.errors
 
 -- `closing` of one of several captures: the same, but for the text.
 abbrev pub IsNamedClosingRun : Format → List ℕ → Limits → Channels → Channels → ℕ → Type 0

@@ -10,7 +10,9 @@ use Rattle.wsn_print.specs.PayloadText.{inside_line, begun_head_line, nothing_li
 use Rattle.wsn_payload.specs.declared.answer.Payload.{Payload}
 use Rattle.wsn_payload.specs.declared.answer.Payload.TheVariants.{Whole, Unfinished, Inside, Head, Nothing}
 use Rattle.wsn_payload.specs.Payloads.{IsPayloadTaken}
+use Rattle.wsn_command.specs.declared.answered.Ran.{Ran}
 use Rattle.wsn_job.specs.Channels.{Channels}
+use Rattle.wsn_job.specs.Answers.{ran_with, payload_answer}
 use Rattle.wsn_job.specs.Diagnostics.{IsDiagnosed}
 
 -- the exit status: 0 if the event is complete, 1 if it isn't, 2 if none begins at the offset, and for a stop
@@ -30,8 +32,8 @@ IsPayloadDiagnosed at (Ok (Head start verdict)) old new = IsDiagnosed old new (b
 IsPayloadDiagnosed at (Ok (Nothing verdict)) old new = IsDiagnosed old new (nothing_line at verdict)
 IsPayloadDiagnosed at (Err stopped) old new = IsDiagnosed old new (stop_line stopped)
 
--- `payload`: its channels before and after, and the exit status, are of one answer.
-abbrev pub IsPayloadRun : Role → Limits → ℕ → Channels → Channels → ℕ → Type 0
-IsPayloadRun role limits at before after status = (done : Result Payload Stop)
+-- `payload`: its channels before and after, and what it came to, are of one answer.
+abbrev pub IsPayloadRun : Role → Limits → ℕ → Channels → Channels → Ran → Type 0
+IsPayloadRun role limits at before after ran = (done : Result Payload Stop)
     × IsPayloadTaken role limits at before.input after.input before.output after.output done
-    × (status ≡ payload_status done) × IsPayloadDiagnosed at done before.errors after.errors
+    × (ran ≡ ran_with (payload_status done) (payload_answer done)) × IsPayloadDiagnosed at done before.errors after.errors

@@ -12,7 +12,9 @@ use Rattle.wsn_plan.specs.declared.recutting.RecutAnswer.TheVariants.{Done, NotA
 use Rattle.wsn_plan.specs.Recutting.{Planner, IsRecut}
 use Rattle.wsn_command.specs.declared.job.How.{How}
 use Rattle.wsn_command.specs.declared.job.How.TheVariants.{ByPlan, BySize}
+use Rattle.wsn_command.specs.declared.answered.Ran.{Ran}
 use Rattle.wsn_job.specs.Channels.{Channels}
+use Rattle.wsn_job.specs.Answers.{ran_with, recut_answer}
 use Rattle.wsn_job.specs.Diagnostics.{IsDiagnosed}
 use Rattle.wsn_print.specs.StopText.{stop_line}
 
@@ -34,8 +36,8 @@ IsRecutDiagnosed (Ok (NotAccepted verdict)) old new = IsDiagnosed old new (verdi
 IsRecutDiagnosed (Ok (Fault step why)) old new = IsDiagnosed old new (recut_fault_line step why)
 IsRecutDiagnosed (Err stopped) old new = IsDiagnosed old new (stop_line stopped)
 
--- `recut`: its channels before and after, and the exit status, are of one answer.
-abbrev pub IsRecutRun : {A : Type 0} → Role → Limits → How A → Channels → Channels → ℕ → Type 0
-IsRecutRun role limits how before after status = (done : Result RecutAnswer Stop)
+-- `recut`: its channels before and after, and what it came to, are of one answer.
+abbrev pub IsRecutRun : {A : Type 0} → Role → Limits → How A → Channels → Channels → Ran → Type 0
+IsRecutRun role limits how before after ran = (done : Result RecutAnswer Stop)
     × IsRecut role limits (planned_by how) before.input after.input before.output after.output done
-    × (status ≡ recut_status done) × IsRecutDiagnosed done before.errors after.errors
+    × (ran ≡ ran_with (recut_status done) (recut_answer done)) × IsRecutDiagnosed done before.errors after.errors

@@ -10,7 +10,11 @@ use Rattle.wsn_capture.specs.declared.line_fault.LineFault.{LineFault}
 use Rattle.wsn_capture.specs.LineFaults.{fault_word}
 use Rattle.wsn_capture.specs.SideTexts.{sentinel}
 use Rattle.wsn_command.specs.declared.job.Job.{Job}
+use Rattle.wsn_command.specs.declared.answered.Answer.{Answer}
+use Rattle.wsn_command.specs.declared.answered.Answer.TheVariants.{FaultyLine, Stopped}
+use Rattle.wsn_command.specs.declared.answered.Ran.{Ran}
 use Rattle.wsn_job.specs.Channels.{Channels}
+use Rattle.wsn_job.specs.Answers.{compared_answer, ran_with}
 use Rattle.wsn_job.specs.Diagnostics.{IsDiagnosed, IsStopDiagnosed}
 use Rattle.wsn_command.specs.Jobs.{MayRun, job_role}
 use Rattle.wsn_job.specs.Jobs.{IsRun}
@@ -24,27 +28,29 @@ pub record IsFaultySide (side : Incoming) (number : ℕ) (fault : LineFault) : T
   pub failed : side.failed ≡ true
   pub left : IfSome side.remaining (λ left. left ≡ sentinel number fault ∷ [])
 
--- The faulty line is reported. With `read failed` in its place, it is a run as over any input.
-pub record IsRunToFaultyLine {A : Type 0} (job : Job A) (before after : Channels) (status : ℕ) : Type 0 where
+-- The faulty line is reported, and is why there is no answer. With `read failed` in its place, it is a run as over any
+-- input, that stopped.
+pub record IsRunToFaultyLine {A : Type 0} (job : Job A) (before after : Channels) (ran : Ran) : Type 0 where
   pub number : ℕ
   pub fault : LineFault
   pub faulty : IsFaultySide after.input number fault
   pub said : IsDiagnosed before.errors after.errors (line_fault_line number (fault_word fault))
+  pub answer : ran.answer ≡ FaultyLine
   pub run : (errors : Outgoing) → IsDiagnosed before.errors errors (stop_line stop.Read) →
-      IsRun job before (record after { errors = errors }) status
+      IsRun job before (record after { errors = errors }) (ran_with ran.status Stopped)
 
 -- A run over a side: a run as over any input, or one that reports a faulty line.
-abbrev pub IsRunOnSide : {A : Type 0} → Job A → Channels → Channels → ℕ → Type 0
-IsRunOnSide job before after status = IsRun job before after status ⊎ IsRunToFaultyLine job before after status
+abbrev pub IsRunOnSide : {A : Type 0} → Job A → Channels → Channels → Ran → Type 0
+IsRunOnSide job before after ran = IsRun job before after ran ⊎ IsRunToFaultyLine job before after ran
 
 -- The faulty line is that of the first side that failed.
 abbrev pub IsFirstFaultySide : Incoming → Incoming → ℕ → LineFault → Type 0
 IsFirstFaultySide first second number fault =
     IsFaultySide first number fault ⊎ ((first.failed ≡ false) × IsFaultySide second number fault)
 
--- What a comparison of two sides reports: its stop, if there is one, or a faulty line in the place of `read failed`.
-abbrev pub IsSameDiagnosed : Incoming → Incoming → Result Compared Stop → Outgoing → Outgoing → Type 0
-IsSameDiagnosed first second done old new =
-    IsStopDiagnosed done old new
-    ⊎ ((number : ℕ) × (fault : LineFault) × IsFirstFaultySide first second number fault
+-- What a comparison of two sides answers and reports: as over any inputs; or a faulty line in the place of `read failed`.
+abbrev pub IsSameDiagnosed : Incoming → Incoming → Result Compared Stop → Answer → Outgoing → Outgoing → Type 0
+IsSameDiagnosed first second done answer old new =
+    ((answer ≡ compared_answer done) × IsStopDiagnosed done old new)
+    ⊎ ((answer ≡ FaultyLine) × (number : ℕ) × (fault : LineFault) × IsFirstFaultySide first second number fault
     × (done ≡ Err stop.Read) × IsDiagnosed old new (line_fault_line number (fault_word fault)))

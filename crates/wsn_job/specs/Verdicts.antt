@@ -1,5 +1,5 @@
 -- What the commands with a verdict do: `judge`, `frames` and `normal`.
-use Rattle.std.specs.Prelude.{◌≡◌, ℕ, Result, Ok, Err}
+use Rattle.std.specs.Prelude.{◌≡◌, Result, Ok, Err}
 use Rattle.wsn_wire.specs.declared.endpoint.Role.{Role}
 use Rattle.wsn_io.specs.Transfer.{Incoming, Outgoing, IsWritten, IsPartlyWritten}
 use Rattle.wsn_rules.specs.declared.verdict.Verdict.{Verdict}
@@ -14,7 +14,9 @@ use Rattle.wsn_io.specs.declared.stop.Stop.TheVariants as stop
 use Rattle.wsn_scan.specs.Judging.{IsJudged}
 use Rattle.wsn_list.specs.Listing.{IsListedAs}
 use Rattle.wsn_events.specs.Normalised.{IsNormalised}
+use Rattle.wsn_command.specs.declared.answered.Ran.{Ran}
 use Rattle.wsn_job.specs.Channels.{Channels}
+use Rattle.wsn_job.specs.Answers.{ran_with, verdict_answer}
 use Rattle.wsn_job.specs.Diagnostics.{IsDiagnosed, IsStopDiagnosed}
 use Rattle.wsn_print.specs.StopText.{stop_line}
 
@@ -36,24 +38,24 @@ IsVerdictDiagnosed (Ok (Accepted summary)) old new = new ≡ old
 IsVerdictDiagnosed (Ok verdict) old new = IsDiagnosed old new (verdict_line verdict)
 IsVerdictDiagnosed (Err stopped) old new = IsDiagnosed old new (stop_line stopped)
 
--- ---- a command's run: its channels before and after, and the exit status
+-- ---- a command's run: its channels before and after, and what it came to
 
 -- `judge`: the verdict was printed.
-abbrev pub IsJudgeRun : Format → Role → Limits → Channels → Channels → ℕ → Type 0
-IsJudgeRun format role limits before after status = (done : Result Verdict Stop)
+abbrev pub IsJudgeRun : Format → Role → Limits → Channels → Channels → Ran → Type 0
+IsJudgeRun format role limits before after ran = (done : Result Verdict Stop)
     × IsVerdictPrinted format role limits before.input after.input before.output after.output done
-    × (status ≡ verdict_status done)
+    × (ran ≡ ran_with (verdict_status done) (verdict_answer done))
     × IsStopDiagnosed done before.errors after.errors
 
 -- `frames`: the frames were printed, and then the verdict.
-abbrev pub IsFramesRun : Format → Role → Limits → Channels → Channels → ℕ → Type 0
-IsFramesRun format role limits before after status = (done : Result Verdict Stop)
+abbrev pub IsFramesRun : Format → Role → Limits → Channels → Channels → Ran → Type 0
+IsFramesRun format role limits before after ran = (done : Result Verdict Stop)
     × IsListedAs format role limits before.input after.input before.output after.output done
-    × (status ≡ verdict_status done)
+    × (ran ≡ ran_with (verdict_status done) (verdict_answer done))
     × IsStopDiagnosed done before.errors after.errors
 
 -- `normal`: the normal form of the input's meaning was written.
-abbrev pub IsNormalRun : Role → Limits → Channels → Channels → ℕ → Type 0
-IsNormalRun role limits before after status = (done : Result Verdict Stop)
-    × IsNormalised role limits before.input after.input before.output after.output done × (status ≡ verdict_status done)
+abbrev pub IsNormalRun : Role → Limits → Channels → Channels → Ran → Type 0
+IsNormalRun role limits before after ran = (done : Result Verdict Stop)
+    × IsNormalised role limits before.input after.input before.output after.output done × (ran ≡ ran_with (verdict_status done) (verdict_answer done))
     × IsVerdictDiagnosed done before.errors after.errors

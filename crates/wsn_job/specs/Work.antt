@@ -6,8 +6,11 @@ use Rattle.wsn_list.specs.Listing.{IsListedAs}
 use Rattle.wsn_events.specs.Normalised.{IsNormalised}
 use Rattle.wsn_command.specs.declared.job.Job.{Job}
 use Rattle.wsn_command.specs.declared.job.Job.TheVariants.{Judge, Frames, Normal, Plan, Recut, Payload, ShowStream, Closing, Show}
+use Rattle.wsn_command.specs.declared.answered.Answer.{Answer}
+use Rattle.wsn_command.specs.declared.answered.Ran.{Ran}
 use Rattle.wsn_job.specs.declared.done.Done.{Done}
 use Rattle.wsn_job.specs.declared.done.Done.TheVariants as done
+use Rattle.wsn_job.specs.Answers.{ran_with, verdict_answer, plan_answer, recut_answer, payload_answer, report_answer}
 use Rattle.wsn_job.specs.Diagnostics.{IsStopDiagnosed}
 use Rattle.wsn_job.specs.Verdicts.{IsVerdictPrinted, IsVerdictDiagnosed}
 use Rattle.wsn_job.specs.Plans.{IsPlanPrinted, IsPlanDiagnosed, plan_status}
@@ -50,6 +53,22 @@ done_status (done.Payload at answer) = payload_status answer
 done_status (done.ShowStream answer) = verdict_status answer
 done_status (done.Closing answer) = closing_status answer
 done_status (done.Show answer) = closing_status answer
+
+-- the answer
+abbrev pub done_answer : {A : Type 0} → Done A → Answer
+done_answer (done.Judge answer) = verdict_answer answer
+done_answer (done.Frames answer) = verdict_answer answer
+done_answer (done.Normal answer) = verdict_answer answer
+done_answer (done.Plan answer) = plan_answer answer
+done_answer (done.Recut answer) = recut_answer answer
+done_answer (done.Payload at answer) = payload_answer answer
+done_answer (done.ShowStream answer) = verdict_answer answer
+done_answer (done.Closing answer) = report_answer answer
+done_answer (done.Show answer) = report_answer answer
+
+-- what the run came to
+abbrev pub done_ran : {A : Type 0} → Done A → Ran
+done_ran d = ran_with (done_status d) (done_answer d)
 
 -- What is written to standard error.
 abbrev pub IsDoneDiagnosed : {A : Type 0} → Done A → Outgoing → Outgoing → Type 0

@@ -2,20 +2,22 @@ ghost use Rattle.std.specs.Prelude.{◌≡◌, ◌⊎◌, ℕ, false, true, List
 ghost use Rattle.wsn_job.specs.Channels.{compared_channels};
 ghost use Rattle.wsn_io.specs.Stops.{IsWrittenOrStops};
 ghost use Rattle.wsn_events.specs.Excerpts.{HasExcerpts};
+ghost use Rattle.wsn_job.specs.Answers.{compared_answer, ran_with};
 ghost use Rattle.wsn_job.specs.Comparisons.{IsAnswerText};
 ghost use Rattle.wsn_job.specs.Words.{Stop, Compared, IsComparisonPrinted, comparison_status, IsStopDiagnosed};
 
+use crate::answers;
 use crate::diagnostics::diagnose_if_stopped;
 use std::alloc::Allocator;
 use std::io::{Read, Write};
-use wsn_command::Comparison;
+use wsn_command::{Comparison, Ran};
 use wsn_events::{Compared, FirstDifference, contrast};
 use wsn_print::{ViewLimit, put_compared_as, put_difference_as, status_of_comparison};
 use wsn_scan::Stop;
 use wsn_wire::{Input, Output};
 
 /// Compares the meaning of two streams that endpoints of one role sent, prints the answer, and returns the program's exit
-/// status.
+/// status and the answer.
 ///
 /// In words, the answer is the line `equal`, with status 0; `different K`, with status 1, where K is the index, from 0, of
 /// the first event that differs; or, for a stream that isn't accepted, `first ` or `second ` and its verdict's line, with
@@ -31,24 +33,28 @@ pub fn run_same<A: Allocator + Copy, R: Read, S: Read, W: Write, E: Write>(
     comparison: Comparison,
     output: &mut Output<W>,
     errors: &mut Output<E>,
-) -> u8
+) -> Ran
     requires first { first.old.failed ≡ false }
     requires second { second.old.failed ≡ false }
     requires writable { output.old.failed ≡ false }
     ensures done { (done : Result Compared Stop)
         × IsComparisonPrinted comparison (compared_channels first.old second.old output.old)
         (compared_channels first.new second.new output.new) done
-        × (result ≡ comparison_status done) × IsStopDiagnosed done errors.old errors.new }
-    ensures status { (result ≡ 0) ⊎ (result ≡ 1) ⊎ (result ≡ 2) }
+        × (result ≡ ran_with (comparison_status done) (compared_answer done))
+        × IsStopDiagnosed done errors.old errors.new }
+    ensures status { (result.status ≡ 0) ⊎ (result.status ≡ 1) ⊎ (result.status ≡ 2) }
 
     // A failed read or write always gives status 2.
-    ensures read { first.new.failed ≡ true → result ≡ 2 }
-    ensures read_second { second.new.failed ≡ true → result ≡ 2 }
-    ensures write { output.new.failed ≡ true → result ≡ 2 }
+    ensures read { first.new.failed ≡ true → result.status ≡ 2 }
+    ensures read_second { second.new.failed ≡ true → result.status ≡ 2 }
+    ensures write { output.new.failed ≡ true → result.status ≡ 2 }
 {
     let done = print_comparison(alloc, first, second, comparison, output);
     diagnose_if_stopped(done, errors);
-    status_of_comparison(done)
+    Ran {
+        status: status_of_comparison(done),
+        answer: answers::of_comparison(done),
+    }
 }
 
 /// Compares two streams and prints the answer.

@@ -1,9 +1,10 @@
 use crate::diagnostics::diagnose_if_stopped;
 use crate::verdicts::diagnose_unless_accepted;
-use crate::{closings, payloads, plans, recuts};
+use crate::{answers, closings, payloads, plans, recuts};
 use std::alloc::Allocator;
 use std::io::Write;
 use wsn_capture::Report;
+use wsn_command::{Answer, Ran};
 use wsn_io::{Output, Stop};
 use wsn_payload::Payload;
 use wsn_plan::{PlanAnswer, RecutAnswer};
@@ -28,7 +29,7 @@ pub(crate) enum Done<A: Allocator> {
 
 impl<A: Allocator> Done<A> {
     ghost use Rattle.std.specs.Prelude.{◌≡◌};
-    ghost use Rattle.wsn_job.specs.Work.{IsDoneDiagnosed, done_status};
+    ghost use Rattle.wsn_job.specs.Work.{IsDoneDiagnosed, done_answer, done_ran, done_status};
 
     /// Writes to `errors` what the job says there: a stop's line, or that of an answer that isn't on standard output.
     #[tactic(none)]
@@ -61,6 +62,31 @@ impl<A: Allocator> Done<A> {
             Done::Recut(done) => recuts::status(*done),
             Done::Payload(_, done) => payloads::status(*done),
             Done::Closing(done) | Done::Show(done) => closings::status(*done),
+        }
+    }
+
+    /// The answer.
+    #[tactic(none)]
+    pub fn answer(&self) -> Answer
+        ensures { result ≡ done_answer self.now }
+    {
+        match self {
+            Done::Judge(done) | Done::Frames(done) | Done::Normal(done) | Done::ShowStream(done) =>
+                answers::of_verdict(*done),
+            Done::Plan(done) => answers::of_plan(done),
+            Done::Recut(done) => answers::of_recut(*done),
+            Done::Payload(_, done) => answers::of_payload(*done),
+            Done::Closing(done) | Done::Show(done) => answers::of_report(*done),
+        }
+    }
+
+    /// What the run came to.
+    pub fn ran(&self) -> Ran
+        ensures { result ≡ done_ran self.now }
+    {
+        Ran {
+            status: self.status(),
+            answer: self.answer(),
         }
     }
 }

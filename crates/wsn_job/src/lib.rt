@@ -1,5 +1,5 @@
 //! What each command of the program does, over any reader and writers: what it prints on standard output, the line on
-//! standard error, and the exit status.
+//! standard error, the exit status, and its answer ([`Ran`]).
 //!
 //! [`run`] does a [`Job`], the work of a command that reads one input; [`run_same`] compares two inputs.
 //! [`run_on_side`] and [`run_same_on_sides`] do the same over one endpoint's side of a capture, and report a line that
@@ -7,6 +7,7 @@
 //! `specs/Sides.antt` what a run over a side does. [`status_examples`] has exit statuses that are computed from them.
 #![tactic(auto)]
 
+mod answers;
 mod closings;
 mod comparisons;
 mod diagnostics;
@@ -24,6 +25,6 @@ pub use closings::run_named_closing;
 pub use comparisons::run_same;
 pub use running::run;
 pub use sides::{run_on_side, run_same_on_sides};
-pub use wsn_command::{Comparison, How, Job};
+pub use wsn_command::{Answer, Comparison, How, Job, Ran};
 pub use wsn_print::Format;
 pub use wsn_rules::Without;

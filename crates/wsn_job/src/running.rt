@@ -11,16 +11,16 @@ use crate::recuts::recut_input;
 use crate::verdicts::print_verdict;
 use std::alloc::Allocator;
 use std::io::{Read, Write};
-use wsn_command::Job;
+use wsn_command::{Job, Ran};
 use wsn_events::normalise;
 use wsn_list::list_as;
 use wsn_payload::payload;
 use wsn_show::{show, show_stream};
 use wsn_wire::{Input, Output};
 
-/// Does a command's work and returns the program's exit status.
+/// Does a command's work and returns the program's exit status and the answer.
 ///
-/// 0: the command did its work on an accepted stream, or both sides of the connection sent a Close. 1: any other
+/// Status 0: the command did its work on an accepted stream, or both sides of the connection sent a Close. 1: any other
 /// answer; one that isn't printed on `output` is reported in one line on `errors`. 2: a stop, which is reported in one
 /// line on `errors`. What can't be written to `errors` is dropped.
 #[tactic(none)]
@@ -30,21 +30,21 @@ pub fn run<A: Allocator + Copy, R: Read, W: Write, E: Write>(
     input: &mut Input<R>,
     output: &mut Output<W>,
     errors: &mut Output<E>,
-) -> u8
+) -> Ran
     requires readable { input.old.failed ≡ false }
     requires writable { output.old.failed ≡ false }
     requires may_run { MayRun job.now }
     ensures done { IsRun job.now (channels input.old output.old errors.old)
         (channels input.new output.new errors.new) result }
-    ensures status { (result ≡ 0) ⊎ (result ≡ 1) ⊎ (result ≡ 2) }
+    ensures status { (result.status ≡ 0) ⊎ (result.status ≡ 1) ⊎ (result.status ≡ 2) }
 
     // A failed read or write always gives status 2.
-    ensures read { input.new.failed ≡ true → result ≡ 2 }
-    ensures write { output.new.failed ≡ true → result ≡ 2 }
+    ensures read { input.new.failed ≡ true → result.status ≡ 2 }
+    ensures write { output.new.failed ≡ true → result.status ≡ 2 }
 {
     let done = work(alloc, job, input, output);
     done.diagnose(errors);
-    done.status()
+    done.ran()
 }
 
 /// Does a command's work, but for what it says on standard error.

@@ -3,13 +3,14 @@ ghost use Rattle.wsn_job.specs.Channels.{channels, compared_channels};
 ghost use Rattle.wsn_job.specs.Sides.{MayRunOnSide, IsRunOnSide, IsFaultySide, IsFirstFaultySide, IsSameDiagnosed};
 ghost use Rattle.wsn_job.specs.Words.{Stop, Compared, IsComparisonPrinted, comparison_status};
 
+use crate::answers;
 use crate::comparisons::print_comparison;
 use crate::diagnostics::{diagnose_if_stopped, diagnose_line_fault};
 use crate::running::work;
 use std::alloc::Allocator;
 use std::io::{Read, Write};
 use wsn_capture::{CaptureStop, LineFault, SideReader};
-use wsn_command::{Comparison, Job};
+use wsn_command::{Answer, Comparison, Job, Ran};
 use wsn_events::Compared;
 use wsn_print::status_of_comparison;
 use wsn_scan::Stop;
@@ -35,10 +36,11 @@ impl FaultyLine {
 }
 
 /// Does a command's work over one endpoint's side of a capture, as [`crate::run`] does it over a stream, and returns the
-/// program's exit status.
+/// program's exit status and the answer.
 ///
 /// A line of the capture that isn't accepted ends the work as a failed read does, with status 2, after the bytes of the
-/// lines before it; `errors` reports the line, as `line N: WORD`, in the place of `read failed`.
+/// lines before it; `errors` reports the line, as `line N: WORD`, in the place of `read failed`, and the answer is
+/// `FaultyLine`.
 #[tactic(none)]
 pub fn run_on_side<A: Allocator + Copy, R: Read, W: Write, E: Write>(
     alloc: A,
@@ -46,30 +48,38 @@ pub fn run_on_side<A: Allocator + Copy, R: Read, W: Write, E: Write>(
     side: &mut Input<SideReader<R>>,
     output: &mut Output<W>,
     errors: &mut Output<E>,
-) -> u8
+) -> Ran
     requires readable { side.old.failed ≡ false }
     requires writable { output.old.failed ≡ false }
     requires may_run { MayRunOnSide job.now }
     ensures done { IsRunOnSide job.now (channels side.old output.old errors.old)
         (channels side.new output.new errors.new) result }
-    ensures status { (result ≡ 0) ⊎ (result ≡ 1) ⊎ (result ≡ 2) }
+    ensures status { (result.status ≡ 0) ⊎ (result.status ≡ 1) ⊎ (result.status ≡ 2) }
 
     // A failed read, as at a faulty line, or a failed write always gives status 2.
-    ensures read { side.new.failed ≡ true → result ≡ 2 }
-    ensures write { output.new.failed ≡ true → result ≡ 2 }
+    ensures read { side.new.failed ≡ true → result.status ≡ 2 }
+    ensures write { output.new.failed ≡ true → result.status ≡ 2 }
 {
     let done = work(alloc, job, side, output);
     match faulty_line(side) {
-        Some(line) => line.diagnose(errors),
-        None => done.diagnose(errors),
+        Some(line) => {
+            line.diagnose(errors);
+            Ran {
+                status: done.status(),
+                answer: Answer::FaultyLine,
+            }
+        }
+        None => {
+            done.diagnose(errors);
+            done.ran()
+        }
     }
-    done.status()
 }
 
 /// Compares two sides of captures, both of endpoints of one role, as [`crate::run_same`] compares two streams.
 ///
 /// A line that isn't accepted ends the comparison as a failed read does, with status 2, and `errors` reports the line in
-/// the place of `read failed`: of the first side, if its reads failed.
+/// the place of `read failed`, of the first side, if its reads failed; the answer is `FaultyLine`.
 #[tactic(none)]
 pub fn run_same_on_sides<A: Allocator + Copy, R: Read, S: Read, W: Write, E: Write>(
     alloc: A,
@@ -78,27 +88,40 @@ pub fn run_same_on_sides<A: Allocator + Copy, R: Read, S: Read, W: Write, E: Wri
     comparison: Comparison,
     output: &mut Output<W>,
     errors: &mut Output<E>,
-) -> u8
+) -> Ran
     requires first { first.old.failed ≡ false }
     requires second { second.old.failed ≡ false }
     requires writable { output.old.failed ≡ false }
     ensures done { (done : Result Compared Stop)
         × IsComparisonPrinted comparison (compared_channels first.old second.old output.old)
         (compared_channels first.new second.new output.new) done
-        × (result ≡ comparison_status done) × IsSameDiagnosed first.new second.new done errors.old errors.new }
-    ensures status { (result ≡ 0) ⊎ (result ≡ 1) ⊎ (result ≡ 2) }
+        × (result.status ≡ comparison_status done)
+        × IsSameDiagnosed first.new second.new done result.answer errors.old errors.new }
+    ensures status { (result.status ≡ 0) ⊎ (result.status ≡ 1) ⊎ (result.status ≡ 2) }
 
     // A failed read, as at a faulty line, or a failed write always gives status 2.
-    ensures read { first.new.failed ≡ true → result ≡ 2 }
-    ensures read_second { second.new.failed ≡ true → result ≡ 2 }
-    ensures write { output.new.failed ≡ true → result ≡ 2 }
+    ensures read { first.new.failed ≡ true → result.status ≡ 2 }
+    ensures read_second { second.new.failed ≡ true → result.status ≡ 2 }
+    ensures write { output.new.failed ≡ true → result.status ≡ 2 }
 {
     let done = print_comparison(alloc, first, second, comparison, output);
+    let status = status_of_comparison(done);
     match faulty_line_of_two(done, first, second) {
-        Some(line) => line.diagnose(errors),
-        None => diagnose_if_stopped(done, errors),
+        Some(line) => {
+            line.diagnose(errors);
+            Ran {
+                status,
+                answer: Answer::FaultyLine,
+            }
+        }
+        None => {
+            diagnose_if_stopped(done, errors);
+            Ran {
+                status,
+                answer: answers::of_comparison(done),
+            }
+        }
     }
-    status_of_comparison(done)
 }
 
 /// The faulty line at which a comparison of two sides stopped, if it stopped at a failed read: that of the first side, if

@@ -39,7 +39,7 @@ shows_over limits style bytes text left first o o' done is_input is_output print
     let shown1 = subst (λ (x : Incoming). IsShown limits style x left o o' done) is_input shown in
     let shown2 = subst (λ (x : Outgoing). IsShown limits style (input_of bytes) left x o' done) is_output shown1 in
     let shown3 = subst (λ (x : Outgoing). IsShown limits style (input_of bytes) left (output_of [] false) x done) printed shown2 in
-    record { left = left; printing_failed = o'.failed; run = (done, shown3, refl, diagnosed done) }
+    record { left = left; printing_failed = o'.failed; ran = _; run = (done, shown3, refl, diagnosed done); status = refl }
 
 pub shows_stream_over : (role : Role) (limits : Limits) (style : Style) (bytes text : List ℕ) (left first : Incoming)
     (o o' : Outgoing) (done : Result Verdict Stop) → first ≡ input_of bytes → o ≡ output_of [] false
@@ -49,4 +49,4 @@ shows_stream_over role limits style bytes text left first o o' done is_input is_
     let shown1 = subst (λ (x : Incoming). IsStreamShown role limits style x left o o' done) is_input shown in
     let shown2 = subst (λ (x : Outgoing). IsStreamShown role limits style (input_of bytes) left x o' done) is_output shown1 in
     let shown3 = subst (λ (x : Outgoing). IsStreamShown role limits style (input_of bytes) left (output_of [] false) x done) printed shown2 in
-    record { left = left; printing_failed = o'.failed; run = (done, shown3, refl, stream_diagnosed done) }
+    record { left = left; printing_failed = o'.failed; ran = _; run = (done, shown3, refl, stream_diagnosed done); status = refl }

@@ -8,6 +8,7 @@ use Rattle.wsn_rules.specs.declared.verdict.Verdict.{Verdict}
 use Rattle.wsn_print.specs.StopText.{stop_line}
 use Rattle.wsn_show.specs.declared.showing.ShowStop.{ShowStop}
 use Rattle.wsn_print.specs.declared.style.Style.{Style}
+use Rattle.wsn_command.specs.declared.answered.Ran.{Ran}
 use Rattle.wsn_command.specs.declared.job.Job.{Job}
 use Rattle.wsn_job.specs.Jobs.{IsRun}
 use Rattle.wsn_job.specs.Channels.{channels}
@@ -63,8 +64,10 @@ output_of bytes failed = record { written = Some bytes; failed = failed }
 pub record IsRunOver (job : Job Global) (bytes text said : List ℕ) (exit : ℕ) : Type 0 where
   pub left : Incoming
   pub printing_failed : Bool
+  pub ran : Ran
   pub run : IsRun job (channels (input_of bytes) (output_of [] false) (output_of [] false))
-      (channels left (output_of text printing_failed) (output_of said false)) exit
+      (channels left (output_of text printing_failed) (output_of said false)) ran
+  pub status : exit ≡ ran.status
 
 -- The call gives what the command's run over these bytes prints.
 abbrev pub GivesRun : Job Global → List ℕ → Call → Type 0

@@ -264,13 +264,13 @@ fn expect_status_alone(rt: &impl Abort, alloc: Global, full: Full, prefix: &[u8]
     let job = Job::Closing(greatest(), Format::Text);
     let mut out = Vec::new(alloc);
     let mut err = Narrow::new(alloc, usize::MAX, prefix.len(), full);
-    let status = run(
+    let ran = run(
         alloc,
         &job,
         &mut Input::new(Chopped::new(b"X\n", 1)),
         &mut Output::new(&mut out),
         &mut Output::new(&mut err),
     );
-    expect_of(rt, status == 2 && out.is_empty(), &(full, status));
+    expect_of(rt, ran.status == 2 && out.is_empty(), &(full, ran.status));
     expect_bytes_of(rt, err.taken.as_slice(), prefix, &full);
 }

@@ -97,7 +97,7 @@ fn run_row(
         view: Some(ViewLimit::new(row.view).expect(rt, "a view in range")),
     };
     let mut err = Vec::new(alloc);
-    let status = run_same(
+    let ran = run_same(
         alloc,
         &mut Input::new(&mut Chopped::new(row.first, sizes.0)),
         &mut Input::new(&mut Chopped::new(row.second, sizes.1)),
@@ -106,7 +106,7 @@ fn run_row(
         &mut Output::new(&mut err),
     );
     CommandRun {
-        status,
+        status: ran.status,
         out: writer.taken,
         err,
     }

@@ -94,12 +94,12 @@ hint: TEXT, on standard error: the input looks like an everyday mistake, and
 TEXT says what to do. Output and status are as without it.
 Each command has one for a stream that is empty, or refused at offset 0 or 1;
 for a capture that is empty, or has a malformed line and begins like another
-file, or has a side that looks compressed, exchanged or in another encoding, or
-(closing) bytes after a Close; of two inputs it names FIRST or SECOND; recut has
-one for a plan with a byte order mark. After 'usage' it is about the words. None
-comes with --json.
+file, or a side that looks compressed, exchanged or in another encoding; at show
+and closing for a wrong handshake, at closing for bytes after a Close. Of two
+inputs it names FIRST or SECOND. After 'usage' it is about the words. None comes
+with --json.
 Next: do what it says, and run the command again. It is a guess by the first 16
-bytes (xxd -l 32 FILE shows them), of a capture's sides by the first 65,536.
+bytes (xxd -l 32 FILE shows them), of a capture by comments in the first 65,536.
 ",
     },
 ];

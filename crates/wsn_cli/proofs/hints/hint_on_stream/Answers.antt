@@ -4,8 +4,8 @@ use Rattle.wsn_hint.specs.Hints.{Fits}
 use Rattle.wsn_cli.specs.Requests.{job_limits}
 use Rattle.wsn_cli.proofs.hints.hint_on_stream.Goals as goal
 
-pub returns : goal.returns
-returns g c =
+pub returns-clause-fits : goal.returns-clause-fits
+returns-clause-fits g c =
     let hint = c.in_ok-hint.hint in
     let first = take 16 c.args.first.now in
     let limits = job_limits c.args.job.now in

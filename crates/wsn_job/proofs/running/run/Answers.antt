@@ -4,7 +4,7 @@ use Rattle.wsn_job.proofs.Runs.{run_of_done}
 use Rattle.wsn_job.proofs.running.run.Goals as goal
 
 pub returns-clause-done : goal.returns-clause-done
-returns-clause-done g c = rw c.status.ensures
+returns-clause-done g c = rw c.ran.ensures
     (run_of_done c.args.job.now (channels c.args.input.now c.args.output.now c.args.errors.now)
     (channels c.work-done.new.input c.work-done.new.output c.diagnose.new.errors) c.work-done.result
     c.work-done.ensures.done c.diagnose.ensures)
@@ -19,10 +19,10 @@ pub work-done-requires-clause-may_run : goal.work-done-requires-clause-may_run
 work-done-requires-clause-may_run g c = search rules
 
 pub returns-clause-status : goal.returns-clause-status
-returns-clause-status g c = rw c.status.ensures c.work-done.ensures.status
+returns-clause-status g c = rw c.ran.ensures c.work-done.ensures.status
 
 pub returns-clause-read : goal.returns-clause-read
-returns-clause-read g c = rw c.status.ensures c.work-done.ensures.read
+returns-clause-read g c = rw c.ran.ensures c.work-done.ensures.read
 
 pub returns-clause-write : goal.returns-clause-write
-returns-clause-write g c = rw c.status.ensures c.work-done.ensures.write
+returns-clause-write g c = rw c.ran.ensures c.work-done.ensures.write

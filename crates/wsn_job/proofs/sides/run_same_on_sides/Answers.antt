@@ -1,18 +1,20 @@
-use Rattle.std.proofs.Common.{rules, inl, inr}
-use Rattle.wsn_job.proofs.sides.run_same_on_sides.Goals.{in-Some, in-None}
+use Rattle.std.proofs.Common.{rules, inl, inr, refl}
 use Rattle.wsn_job.proofs.sides.run_same_on_sides.Goals as goal
 
-pub returns-clause-done : goal.returns-clause-done
-returns-clause-done g c = (
+pub returns-in-Some-clause-done : goal.returns-in-Some-clause-done
+returns-in-Some-clause-done g c = (
   c.print_comparison-done.result,
   c.print_comparison-done.ensures,
-  c.status_of_comparison.ensures,
-  elim c.match-faulty_line_of_two.branch [
-    | in-Some w ↦
-        let told = w.in-Some.ensures in
-        rw w.errors-is (inr (w.in-Some.line.number, w.in-Some.line.fault, told.1, told.0, w.diagnose.ensures))
-    | in-None w ↦ rw w.errors-is (inl w.diagnose_if_stopped.ensures)
-  ],
+  c.status_of_comparison-status.ensures,
+  inr (refl, c.in-Some.line.number, c.in-Some.line.fault, c.in-Some.ensures.1, c.in-Some.ensures.0, c.diagnose.ensures),
+)
+
+pub returns-in-None-clause-done : goal.returns-in-None-clause-done
+returns-in-None-clause-done g c = (
+  c.print_comparison-done.result,
+  c.print_comparison-done.ensures,
+  c.status_of_comparison-status.ensures,
+  inl (c.of_comparison.ensures, c.diagnose_if_stopped.ensures),
 )
 
 pub print_comparison-done-requires-clause-first : goal.print_comparison-done-requires-clause-first
@@ -24,14 +26,26 @@ print_comparison-done-requires-clause-second g c = search rules
 pub print_comparison-done-requires-clause-writable : goal.print_comparison-done-requires-clause-writable
 print_comparison-done-requires-clause-writable g c = search rules
 
-pub returns-clause-status : goal.returns-clause-status
-returns-clause-status g c = search rules
+pub returns-in-Some-clause-status : goal.returns-in-Some-clause-status
+returns-in-Some-clause-status g c = search rules
 
-pub returns-clause-read : goal.returns-clause-read
-returns-clause-read g c = search rules
+pub returns-in-Some-clause-read : goal.returns-in-Some-clause-read
+returns-in-Some-clause-read g c = search rules
 
-pub returns-clause-read_second : goal.returns-clause-read_second
-returns-clause-read_second g c = search rules
+pub returns-in-Some-clause-read_second : goal.returns-in-Some-clause-read_second
+returns-in-Some-clause-read_second g c = search rules
 
-pub returns-clause-write : goal.returns-clause-write
-returns-clause-write g c = search rules
+pub returns-in-Some-clause-write : goal.returns-in-Some-clause-write
+returns-in-Some-clause-write g c = search rules
+
+pub returns-in-None-clause-status : goal.returns-in-None-clause-status
+returns-in-None-clause-status g c = search rules
+
+pub returns-in-None-clause-read : goal.returns-in-None-clause-read
+returns-in-None-clause-read g c = search rules
+
+pub returns-in-None-clause-read_second : goal.returns-in-None-clause-read_second
+returns-in-None-clause-read_second g c = search rules
+
+pub returns-in-None-clause-write : goal.returns-in-None-clause-write
+returns-in-None-clause-write g c = search rules

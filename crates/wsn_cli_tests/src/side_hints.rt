@@ -1,0 +1,358 @@
+//! Hints on captures whose lines are accepted: on refused sides, on a wrong handshake, on bytes after a Close.
+
+use std::process::Abort;
+use wsn_cli::{
+    Answer, Format, Hint, Job, RefusedSides, after_close_hint_of, handshake_hint_of, hint_on_run,
+    sides_hint_of,
+};
+use wsn_print::{Style, ViewLimit};
+use wsn_rules::{
+    Detail, INPUT_MAX, Limits, MESSAGE_MAX, Outcome, Refusal, Report, Side, Summary, Verdict,
+};
+use wsn_wire::{Reason, Role};
+
+fn limits(rt: &impl Abort) -> Limits {
+    Limits::new(MESSAGE_MAX, INPUT_MAX).expect(rt, "limits in range")
+}
+
+/// A capture, where and why each of its sides is refused (by RFC 6455), and its hint.
+type Row = (
+    &'static str,
+    Option<(u64, Reason)>,
+    Option<(u64, Reason)>,
+    Option<Hint>,
+);
+
+/// A side that is refused for reserved bits in its first byte.
+const BITS: Option<(u64, Reason)> = Some((0, Reason::ReservedBits));
+
+/// Captures with refused sides. `c107f248cdc9c90700` is "Hello", compressed (RFC 7692 section 7.2.3.1); `c9`, `a1` and
+/// `e1` have other bits or another opcode.
+static REFUSED: [Row; 26] = [
+    (
+        "# extensions: permessage-deflate; client_max_window_bits=12\nC c187912ec62e63660be75829c6\nS c107f248cdc9c90700\n",
+        BITS,
+        BITS,
+        Some(Hint::Compressed),
+    ),
+    (
+        "C c187912ec62e63660be75829c6\nS c107f248cdc9c90700\n",
+        BITS,
+        BITS,
+        Some(Hint::MaybeCompressed),
+    ),
+    (
+        "# 0.000120\nC 8180000000\nC 00\nS 8900\nS 4103f248\nS cd",
+        None,
+        Some((2, Reason::ReservedBits)),
+        Some(Hint::MaybeCompressed),
+    ),
+    (
+        "# extensions: x-other, permessage-deflate\r\nS 8900\r\nS c103f248cd\r\n",
+        None,
+        Some((2, Reason::ReservedBits)),
+        Some(Hint::Compressed),
+    ),
+    (
+        "# extensions: permessage-deflate\nS 8900\nS a103f248cd\n",
+        None,
+        Some((2, Reason::ReservedBits)),
+        None,
+    ),
+    (
+        "# extensions: permessage-deflate\nS c1",
+        None,
+        BITS,
+        Some(Hint::Compressed),
+    ),
+    (
+        "# path: /permessage-deflate\nS a103f248cd\n",
+        None,
+        BITS,
+        None,
+    ),
+    ("S c1\n", None, BITS, Some(Hint::MaybeCompressed)),
+    ("S c900\nC a18500000000\n", BITS, BITS, None),
+    (
+        "S c187912ec62e63660be75829c6\nC e185",
+        BITS,
+        BITS,
+        Some(Hint::MaybeCompressed),
+    ),
+    (
+        "# answer: HTTP/1.1 101 Switching Protocols\nS c107f248cdc9c90700\n",
+        None,
+        BITS,
+        Some(Hint::NotAgreed),
+    ),
+    (
+        "# answer: HTTP/2 200\r\n# extensions: x-other\r\nC c187912ec62e63660be75829c6\r\n",
+        BITS,
+        None,
+        Some(Hint::NotAgreed),
+    ),
+    (
+        "# answer: HTTP/1.1 101\n# extensions: permessage-deflate\nS c107f248cdc9c90700\n",
+        None,
+        BITS,
+        Some(Hint::Compressed),
+    ),
+    (
+        "# answer: HTTP/1.1 101\nS a107f248cdc9c90700\n",
+        None,
+        BITS,
+        None,
+    ),
+    (
+        "# the answer: HTTP/1.1 101\nS c107f248cdc9c90700\n# answered: no\n",
+        None,
+        BITS,
+        Some(Hint::MaybeCompressed),
+    ),
+    (
+        "C 810548656c6c6f\nS 818500000000\n",
+        Some((1, Reason::MaskMissing)),
+        Some((1, Reason::MaskPresent)),
+        Some(Hint::Exchanged),
+    ),
+    (
+        "C 810548656c6c6f\nS 818500000000\n",
+        Some((1, Reason::MaskMissing)),
+        None,
+        Some(Hint::Exchanged),
+    ),
+    (
+        "C 810548656c6c6f\nS 818500000000\n",
+        None,
+        Some((1, Reason::MaskPresent)),
+        Some(Hint::Exchanged),
+    ),
+    (
+        "C 810548656c6c6f\nS 8900\n",
+        Some((1, Reason::MaskMissing)),
+        None,
+        None,
+    ),
+    (
+        "C 818000000000\nC 8900\nS 8900\nS 818000000000\n",
+        Some((7, Reason::MaskMissing)),
+        Some((3, Reason::MaskPresent)),
+        None,
+    ),
+    (
+        "S 810548656c6c6f\nS 81074772fcdf656e21\nC 888200000000\n",
+        None,
+        Some((11, Reason::TextBad)),
+        Some(Hint::NotUtf8),
+    ),
+    (
+        "C 818100000000ff\nS c107f248cdc9c90700\n",
+        Some((6, Reason::TextBad)),
+        BITS,
+        Some(Hint::MaybeCompressed),
+    ),
+    (
+        "C 818100000000ff\nS 8801ff\n",
+        Some((6, Reason::TextBad)),
+        Some((1, Reason::CloseOneByte)),
+        Some(Hint::NotUtf8),
+    ),
+    // a line that is cut hides no byte before it
+    (
+        "S 8900\nS c107f248cdc9c90700\nC 8",
+        None,
+        Some((2, Reason::ReservedBits)),
+        Some(Hint::MaybeCompressed),
+    ),
+    (
+        "S 8900\nS c107f",
+        None,
+        Some((2, Reason::ReservedBits)),
+        None,
+    ),
+    ("S 8900\nC 818000000000\n", None, None, None),
+];
+
+fn refusal_of(at: Option<(u64, Reason)>) -> Option<Refusal> {
+    let (place, reason) = at?;
+    Some(Refusal { place, reason })
+}
+
+#[test]
+fn a_refused_side_is_compressed_exchanged_or_no_utf8(rt: HostRuntime) {
+    for row in REFUSED.iter() {
+        let refused = RefusedSides {
+            client: refusal_of(row.1),
+            server: refusal_of(row.2),
+        };
+        assert_eq!(rt;
+            sides_hint_of(row.0.as_bytes(), refused),
+            row.3,
+            "{}",
+            row.0
+        );
+    }
+}
+
+/// A server's side that is refused beyond all bytes that are kept.
+fn late(reason: Reason) -> RefusedSides {
+    RefusedSides {
+        client: None,
+        server: refusal_of(Some((150_000_000, reason))),
+    }
+}
+
+/// The refusal is beyond the first bytes, which are kept: a comment says what it is, or its reason does.
+#[test]
+fn a_side_that_is_refused_late_has_a_hint_too(rt: HostRuntime) {
+    let plain = "S 8900\nS 8900\n".as_bytes();
+    let agreed = "# extensions: permessage-deflate\nS 8900\n".as_bytes();
+    let known = "# answer: HTTP/1.1 101 Switching Protocols\nS 8900\n".as_bytes();
+    assert_eq!(rt;
+        sides_hint_of(plain, late(Reason::TextBad)),
+        Some(Hint::NotUtf8)
+    );
+    assert_eq!(rt;
+        sides_hint_of(agreed, late(Reason::ReservedBits)),
+        Some(Hint::Compressed)
+    );
+    assert_eq!(rt; sides_hint_of(plain, late(Reason::ReservedBits)), None);
+    assert_eq!(rt; sides_hint_of(known, late(Reason::ReservedBits)), None);
+}
+
+/// Comments that say what is wrong with the answer to a handshake, and others.
+static HANDSHAKES: [(&str, bool); 9] = [
+    ("# accept is wrong\nS.\nC.\n", true),
+    ("# path: /\r\n# accept is wrong\r\n", true),
+    ("S 8900\n# subprotocol mqtt was not offered\n", true),
+    ("# extension permessage-deflate was not offered", true),
+    ("# accept is wrong?\n", false),
+    ("# the accept is wrong\n", false),
+    ("# subprotocol: mqtt\n", false),
+    ("# no extension x was not offered\n", false),
+    ("", false),
+];
+
+#[test]
+fn a_wrong_handshake_has_a_hint_by_its_comments(rt: HostRuntime) {
+    for row in HANDSHAKES.iter() {
+        let expected = row.1.then_some(Hint::WrongHandshake);
+        assert_eq!(rt; handshake_hint_of(row.0.as_bytes()), expected, "{}", row.0);
+    }
+}
+
+/// A report on these sides; what else it says counts for nothing.
+fn report(client: Side, server: Side) -> Answer {
+    Answer::Report(Report {
+        client,
+        server,
+        first: None,
+        echo: None,
+        client_sees: None,
+        server_sees: None,
+        outcome: Outcome::Live,
+    })
+}
+
+fn style(rt: &impl Abort, format: Format) -> Style {
+    Style {
+        view: ViewLimit::new(48).expect(rt, "a view in range"),
+        detail: Detail::Events,
+        format,
+    }
+}
+
+/// `show` and `closing` have a hint on the handshake, unless a side is refused; no command that reads one side has.
+#[test]
+fn a_report_has_a_hint_on_its_handshake(rt: HostRuntime) {
+    let greatest = limits(&rt);
+    let show: Job = Job::Show(greatest, style(&rt, Format::Text));
+    let json: Job = Job::Show(greatest, style(&rt, Format::Json));
+    let closing: Job = Job::Closing(greatest, Format::Text);
+    let judge: Job = Job::Judge(Role::Server, greatest, Format::Text);
+    let first = "# accept is wrong\nS 88008900\nC.\n".as_bytes();
+    let answer = report(Side::Ended, Side::Closed(None));
+    let wrong = Some(Hint::WrongHandshake);
+    assert_eq!(rt; hint_on_run(&show, None, first, answer), wrong);
+    assert_eq!(rt; hint_on_run(&closing, None, first, answer), wrong);
+    assert_eq!(rt; hint_on_run(&json, None, first, answer), None);
+    assert_eq!(rt; hint_on_run(&show, None, first, Answer::Stopped), None);
+    assert_eq!(rt; hint_on_run(&show, None, first, Answer::FaultyLine), None);
+    assert_eq!(rt;
+        hint_on_run(&judge, Some(Role::Server), first, ACCEPTED),
+        None
+    );
+    let refusal = Refusal {
+        place: 6,
+        reason: Reason::TextBad,
+    };
+    let refused = report(Side::Refused(refusal), Side::Ended);
+    assert_eq!(rt;
+        hint_on_run(&show, None, first, refused),
+        Some(Hint::NotUtf8)
+    );
+}
+
+/// The answer of a run over an accepted stream.
+const ACCEPTED: Answer = Answer::Verdict(Verdict::Accepted(Summary {
+    used: 2,
+    tail: 0,
+    unfinished: None,
+    frames: 1,
+    messages: 0,
+    pings: 1,
+    pongs: 0,
+    close: None,
+}));
+
+/// Bytes after a Close: of the server, of the client, of both, of none; and bytes after a Close that isn't whole.
+static AFTER: [(&str, Option<Hint>); 6] = [
+    ("S 88008900\n", Some(Hint::AfterClose(Role::Server))),
+    (
+        "C 888000000000\nS 8800\nC 00\n",
+        Some(Hint::AfterClose(Role::Client)),
+    ),
+    (
+        "S 880000\nC 88800000000000\n",
+        Some(Hint::AfterClose(Role::Client)),
+    ),
+    ("C 888000000000\nS 8800\nS.\nC.\n", None),
+    ("S 88028900\n", None),
+    ("# no bytes\n", None),
+];
+
+/// Only `closing` has a hint that says so: `show` lists the bytes, and `judge` counts them.
+#[test]
+fn bytes_after_a_close_have_a_hint_in_a_report(rt: HostRuntime) {
+    let greatest = limits(&rt);
+    let closing: Job = Job::Closing(greatest, Format::Text);
+    let json: Job = Job::Closing(greatest, Format::Json);
+    let judge: Job = Job::Judge(Role::Server, greatest, Format::Text);
+    let answer = report(Side::Closed(None), Side::Running);
+    for row in AFTER.iter() {
+        let first = row.0.as_bytes();
+        assert_eq!(rt; after_close_hint_of(first, greatest), row.1, "{}", row.0);
+        assert_eq!(rt; hint_on_run(&closing, None, first, answer), row.1);
+        assert_eq!(rt; hint_on_run(&json, None, first, answer), None);
+        assert_eq!(rt;
+            hint_on_run(&judge, Some(Role::Server), first, ACCEPTED),
+            None
+        );
+        assert_eq!(rt; hint_on_run(&closing, None, first, Answer::Stopped), None);
+    }
+    let first = "C 88800000000000\nS c107f248cdc9c90700\n".as_bytes();
+    let refusal = Refusal {
+        place: 0,
+        reason: Reason::ReservedBits,
+    };
+    let refused = report(Side::Closed(None), Side::Refused(refusal));
+    assert_eq!(rt;
+        hint_on_run(&closing, None, first, refused),
+        Some(Hint::MaybeCompressed)
+    );
+    let verdict = Answer::Verdict(Verdict::Refused(refusal));
+    assert_eq!(rt;
+        hint_on_run(&judge, Some(Role::Server), first, verdict),
+        Some(Hint::MaybeCompressed)
+    );
+}

@@ -1,0 +1,17 @@
+use Rattle.std.proofs.Common.{Option, sym, subst}
+use Rattle.wsn_wire.specs.declared.refusal.Reason.{Reason}
+use Rattle.wsn_rules.specs.declared.verdict.Refusal.{Refusal}
+use Rattle.wsn_hint.specs.Hints.{IsFirstFit}
+use Rattle.wsn_hint.specs.SideHints.{FitsSide, IsSideHint, side_hints}
+use Rattle.wsn_hint.proofs.sides.side_hint.Goals as goal
+
+pub returns-in-ReservedBits : goal.returns-in-ReservedBits
+returns-in-ReservedBits c =
+    let text = c.args.first.now in
+    let byte = c.byte_at.result in
+    let result = c.bits_hint.result in
+    subst (λ (o : Option Refusal). IsSideHint c.args.role text o result) (sym c.in-Some.is) (
+      byte,
+      c.byte_at.ensures,
+      subst (λ (reason : Reason). IsFirstFit (FitsSide text reason byte) side_hints result) (sym c.in-ReservedBits.is) c.bits_hint.ensures,
+    )
