@@ -1,3 +1,4 @@
 pub mod Inputs
 pub mod Options
 pub mod Requests
+pub mod ReadRequests

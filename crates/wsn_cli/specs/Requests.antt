@@ -3,7 +3,9 @@ use Rattle.std.specs.Prelude.{◌≡◌, ◌^◌, ℕ, Option, None, Some, IfSom
 use Rattle.wsn_wire.specs.declared.endpoint.Role.{Role}
 use Rattle.wsn_rules.specs.Limits.{Limits, InRange}
 use Rattle.wsn_print.specs.declared.format.Format.{Format}
+use Rattle.wsn_print.specs.declared.style.Style.{Style}
 use Rattle.wsn_command.specs.Jobs.{MayRun, job_role}
+use Rattle.wsn_command.specs.declared.job.How.{How}
 use Rattle.wsn_command.specs.declared.job.Job.{Job}
 use Rattle.wsn_command.specs.declared.job.Job.TheVariants.{Judge, Frames, Normal, Plan, Recut, Payload, ShowStream, Closing, Show}
 use Rattle.wsn_cli.specs.Inputs.{AreApart}
@@ -40,6 +42,17 @@ job_format (Closing limits format) = Some format
 job_format (ShowStream role limits style) = Some style.format
 job_format (Show limits style) = Some style.format
 job_format job = None
+
+-- the style in which a job shows a stream or a capture
+abbrev pub job_style : {A : Type 0} → Job A → Option Style
+job_style (ShowStream role limits style) = Some style
+job_style (Show limits style) = Some style
+job_style job = None
+
+-- how a job recuts
+abbrev pub job_how : {A : Type 0} → Job A → Option (How A)
+job_how (Recut role limits how) = Some how
+job_how job = None
 
 -- the name of a job's command
 abbrev pub job_name : {A : Type 0} → Job A → List ℕ
