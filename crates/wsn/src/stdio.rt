@@ -31,10 +31,10 @@ pub fn diagnose<R: Eprint>(rt: &R, text: &str) -> u8 {
     FAULT
 }
 
-/// Reports words that break a rule of the command line, and which rule, and returns the exit status for a fault.
+/// Reports which rule of the command line its words break, and returns the exit status for a fault.
 pub fn diagnose_usage<R: Eprint>(rt: &R, mistake: Mistake) -> u8 {
-    let hint = mistake.line();
-    let _ = eprintln!(rt; "usage\n{hint}");
+    let line = mistake.line();
+    let _ = eprintln!(rt; "{line}");
     FAULT
 }
 

@@ -16,3 +16,8 @@ AreApart first second = IsSome first ⊎ IsSome second
 abbrev pub dashes : List (List ℕ) → ℕ
 dashes [] = 0
 dashes (word ∷ words) = (if bytes_eq word (codes "-") then 1 else 0) + dashes words
+
+-- The names are the words, or `-` without words.
+abbrev pub AreInputsNamed : Option (List (List ℕ)) → List (List ℕ) → Type 0
+AreInputsNamed None names = names ≡ codes "-" ∷ []
+AreInputsNamed (Some words) names = names ≡ words

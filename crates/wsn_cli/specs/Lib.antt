@@ -2,3 +2,4 @@ pub mod Inputs
 pub mod Options
 pub mod Requests
 pub mod RunHints
+pub mod ReadRequests

@@ -1,9 +1,11 @@
 -- What options ask for, by the texts of their values.
-use Rattle.std.specs.Prelude.{◌≡◌, ℕ, Bool, false, Option, None, Some, option_map, List, codes}
-use Rattle.std.specs.List.{list_any}
+use Rattle.std.specs.Prelude.{◌≡◌, ◌≢◌, ℕ, Bool, true, false, Option, None, Some, option_map, List, [], codes}
+use Rattle.std.specs.Char.{is_ascii_digit}
+use Rattle.std.specs.List.{list_all, list_any}
 use Rattle.std.specs.Str.{bytes_eq}
 use Rattle.std.specs.Str.Parse.{digits_value, without_leading_plus}
-use Rattle.clap.specs.Words.{raw_values}
+use Rattle.clap.specs.Words.{first_value, raw_values}
+use Rattle.clap.specs.declared.parser.matches.Found.{Found}
 use Rattle.clap.specs.declared.parser.matches.MatchedArg.{MatchedArg}
 use Rattle.wsn_rules.specs.declared.without.Without.{Without}
 
@@ -20,6 +22,18 @@ IsAsked (Some text) default n = n ≡ number_in text
 abbrev pub IsAskedMaximum : Option (List ℕ) → Option ℕ → Type 0
 IsAskedMaximum None most = most ≡ None
 IsAskedMaximum (Some text) most = most ≡ Some (number_in text)
+
+-- The value is digits alone, at least one; or there is none.
+abbrev pub IsInDigits : Option (List ℕ) → Type 0
+IsInDigits None = Unit {0}
+IsInDigits (Some text) = (text ≢ []) × (list_all is_ascii_digit text ≡ true)
+
+-- So are the values of all options that take a number.
+abbrev pub AreInDigits : Found → Type 0
+AreInDigits found =
+    IsInDigits (first_value found (codes "limit")) × IsInDigits (first_value found (codes "frames"))
+    × IsInDigits (first_value found (codes "size")) × IsInDigits (first_value found (codes "view"))
+    × IsInDigits (first_value found (codes "at"))
 
 -- the words that an option lists, such as ping,pong
 abbrev pub words_of : Option MatchedArg → Option (List (List ℕ))

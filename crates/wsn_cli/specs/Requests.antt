@@ -3,7 +3,9 @@ use Rattle.std.specs.Prelude.{◌≡◌, ◌≤◌, ◌^◌, ℕ, Option, None, 
 use Rattle.wsn_wire.specs.declared.endpoint.Role.{Role}
 use Rattle.wsn_rules.specs.Limits.{Limits, InRange}
 use Rattle.wsn_print.specs.declared.format.Format.{Format}
+use Rattle.wsn_print.specs.declared.style.Style.{Style}
 use Rattle.wsn_command.specs.Jobs.{MayRun, job_role}
+use Rattle.wsn_command.specs.declared.job.How.{How}
 use Rattle.wsn_command.specs.declared.job.Job.{Job}
 use Rattle.wsn_command.specs.declared.job.Job.TheVariants.{Judge, Frames, Normal, Plan, Recut, Payload, ShowStream, Closing, Show}
 use Rattle.wsn_cli.specs.Inputs.{AreApart, dashes}
@@ -41,6 +43,17 @@ job_format (ShowStream role limits style) = Some style.format
 job_format (Show limits style) = Some style.format
 job_format job = None
 
+-- the style in which a job shows a stream or a capture
+abbrev pub job_style : {A : Type 0} → Job A → Option Style
+job_style (ShowStream role limits style) = Some style
+job_style (Show limits style) = Some style
+job_style job = None
+
+-- how a job recuts
+abbrev pub job_how : {A : Type 0} → Job A → Option (How A)
+job_how (Recut role limits how) = Some how
+job_how job = None
+
 -- the name of a job's command
 abbrev pub job_name : {A : Type 0} → Job A → List ℕ
 job_name (Judge role limits format) = codes "judge"
@@ -67,8 +80,3 @@ CanBeDone (Same comparison first second side) =
     AreAskedLimits comparison.limits × AreApart first second × IfSome side (λ own. own ≡ comparison.role)
 CanBeDone (Closings limits format files) = AreAskedLimits limits × (dashes (map string_bytes files.items) ≤ 1)
 CanBeDone (Help text) = Unit {0}
-
--- The request is for the captures that these words name, in order.
-abbrev pub NamesFiles : List (List ℕ) → Request → Type 0
-NamesFiles names (Closings limits format files) = map string_bytes files.items ≡ names
-NamesFiles names request = ⊥

@@ -1,15 +1,11 @@
-ghost use Rattle.std.specs.Prelude.{◌≡◌, ◌↔◌, None, Some, IsSome, IfOk, IfSome, codes};
-ghost use Rattle.clap.specs.Words.{found_of, first_value, one_text};
-ghost use Rattle.wsn_wire.specs.declared.endpoint.Role.{Role};
-ghost use Rattle.wsn_wire.specs.declared.endpoint.Role.TheVariants.{Server};
-ghost use Rattle.wsn_wire.specs.declared.length_forms.Lengths.TheVariants.{Any};
-ghost use Rattle.wsn_print.specs.declared.format.Format.TheVariants as formats;
+ghost use Rattle.std.specs.Prelude.{◌≡◌, ℕ, List, IfOk, codes};
+ghost use Rattle.clap.specs.Words.{found_of};
 ghost use Rattle.wsn_command.specs.Jobs.{MayRun, job_role};
-ghost use Rattle.wsn_command.specs.declared.job.Job.TheVariants.{Show, ShowStream};
-ghost use Rattle.wsn_cli.specs.Options.{IsAsked, IsAskedMaximum};
-ghost use Rattle.wsn_cli.specs.Requests.{AreAskedLimits, CanBeDone, job_at, job_format, job_limits, job_name};
+ghost use Rattle.wsn_cli.specs.Options.{AreInDigits};
+ghost use Rattle.wsn_cli.specs.Requests.{AreAskedLimits, CanBeDone, IsOwnSide, job_limits};
+ghost use Rattle.wsn_cli.specs.ReadRequests.{AreReadLimits, IsRead, IsReadJob, IsReadSideOf, IsReadStyle};
 
-use crate::closings::closings_of;
+use crate::closings::{closings_of, has_several};
 use crate::error_words::shown_in_errors;
 use crate::escaped::Escaped;
 use crate::explain::{explanation, list_of_words, similar_words};
@@ -17,8 +13,8 @@ use crate::help;
 use crate::mistake::Mistake;
 use crate::options::{
     at_of, check_digits, comparison_of, file, file_of, format_of, limits_of, role, role_of,
-    side_of, style_of, with_at, with_capture, with_events_view, with_file, with_files, with_json, with_limits,
-    with_role, with_view, with_wire, with_without,
+    side_of, style_of, with_at, with_capture, with_events_view, with_file, with_files, with_json,
+    with_limits, with_role, with_view, with_wire, with_without,
 };
 use crate::recut_options::{recut_of, with_recuts};
 use crate::request::{Request, Usage};
@@ -28,6 +24,7 @@ use std::alloc::{AllocError, Global};
 use wsn_command::Job;
 use wsn_print::Style;
 use wsn_rules::Limits;
+use wsn_wire::Role;
 
 /// A command: its name, its help texts, what it reads, and whether it prints an answer that can be JSON.
 struct Described {
@@ -55,6 +52,9 @@ enum Reads {
     /// Nothing: its arguments are words to be explained.
     Words,
 }
+
+/// How clap's text begins if a command has no option `--capture`.
+const NO_CAPTURE: &str = "error: unexpected argument '--capture'";
 
 /// The commands, in the order in which help lists them.
 static COMMANDS: [Described; 10] = [
@@ -219,68 +219,68 @@ fn answered(alloc: Global, words: &[String], error: &Error) -> Result<Request, U
 /// The rule that the words break: clap's text, or `Own` if clap finds none.
 fn refusal(alloc: Global, words: &[String]) -> Result<Usage, AllocError> {
     let error = match program(alloc)?.try_get_matches_from(words) {
-        Ok(_matches) => return Ok(Usage::Own(Mistake::Other)),
+        Ok(matches) => return Ok(mistake_in(&matches)),
         Err(error) => error,
     };
-    match error.kind() {
-        ErrorKind::OutOfMemory => Ok(Usage::Memory),
-        ErrorKind::UnknownArgument if is_capture_as_it_is(words) => {
-            Ok(Usage::Own(Mistake::CaptureAsItIs))
-        }
-        _ => Ok(Usage::Clap(error.to_string(alloc)?)),
+    if error.kind() == ErrorKind::OutOfMemory {
+        return Ok(Usage::Memory);
+    }
+    let text = error.to_string(alloc)?;
+    if reads_captures(words) && text.as_str().starts_with(NO_CAPTURE) {
+        return Ok(Usage::Own(Mistake::CaptureAsItIs));
+    }
+    Ok(Usage::Clap(text))
+}
+
+/// The rule that words break which clap accepts once they are as an error shows them: a number has a sign.
+fn mistake_in(matches: &ArgMatches<'_>) -> Usage {
+    match matches.subcommand() {
+        Some((_name, command)) => check_digits(command)
+            .err()
+            .unwrap_or(Usage::Own(Mistake::Other)),
+        None => Usage::Own(Mistake::Other),
     }
 }
 
-/// Whether these words of a command line name a command that reads captures as they are, and `--capture`.
-fn is_capture_as_it_is(words: &[String]) -> bool {
-    let reads_captures = words
+/// Whether these words of a command line name a command that reads captures as they are.
+fn reads_captures(words: &[String]) -> bool {
+    words
         .get(1)
-        .is_some_and(|word| matches!(word.as_str(), "show" | "closing"));
-    reads_captures && words.iter().any(|word| word.as_str() == "--capture")
+        .is_some_and(|word| matches!(word.as_str(), "show" | "closing"))
 }
 
-/// The job that a command's name and arguments ask for.
-fn job_of(name: &str, matches: &ArgMatches<'_>) -> Option<Job>
-    ensures command { IfSome result (λ job. job_name job ≡ name.now) }
-    ensures may_run { IfSome result MayRun }
-    ensures limits { IfSome result (λ job. AreAskedLimits (job_limits job)) }
-    ensures message { IfSome result (λ job.
-        IsAsked (one_text (found_of matches.now) (codes "limit")) 16777216 (job_limits job).message) }
-    ensures frames { IfSome result (λ job.
-        IsAskedMaximum (one_text (found_of matches.now) (codes "frames")) (job_limits job).frames) }
-    ensures lengths { IfSome result (λ job. (job_limits job).lengths ≡ Any
-        ↔ (first_value (found_of matches.now) (codes "lengths") ≡ Some (codes "any"))) }
-    ensures role { IfSome result (λ job. IfSome (job_role job) (λ role. role ≡ Server
-        ↔ (first_value (found_of matches.now) (codes "role") ≡ Some (codes "server")))) }
-    ensures at { IfSome result (λ job. IfSome (job_at job)
-        (IsAsked (one_text (found_of matches.now) (codes "at")) 0)) }
-    ensures text { (one_text (found_of matches.now) (codes "json") ≡ None)
-        → IfSome result (λ job. IfSome (job_format job) (λ format. format ≡ formats.Text)) }
-    ensures json { (one_text (found_of matches.now) (codes "json") ≡ Some (codes "true"))
-        → IfSome result (λ job. IfSome (job_format job) (λ format. format ≡ formats.Json)) }
+/// The job that a command's name and arguments ask for. The error is `OffsetTooLarge` for an offset of 2^64 or more.
+fn job_of(name: &str, matches: &ArgMatches<'_>) -> Result<Job, Mistake>
+    ensures may_run { IfOk result MayRun }
+    ensures limits { IfOk result (λ job. AreAskedLimits (job_limits job)) }
+    ensures read { IfOk result (IsReadJob name.now (found_of matches.now)) }
 {
     let role = role_of(matches);
-    let limits = limits_of(matches)?;
+    let limits = limits_of(matches).ok_or(Mistake::Other)?;
     match name {
-        "judge" => Some(Job::Judge(role, limits, format_of(matches))),
-        "frames" => Some(Job::Frames(role, limits, format_of(matches))),
-        "payload" => Some(Job::Payload(role, limits, at_of(matches)?)),
-        "normal" => Some(Job::Normal(role, limits)),
-        "plan" => Some(Job::Plan(role, limits)),
-        "closing" => Some(Job::Closing(limits, format_of(matches))),
-        "show" => Some(show_of(matches, limits, style_of(matches)?)),
-        _ => None,
+        "judge" => Ok(Job::Judge(role, limits, format_of(matches))),
+        "frames" => Ok(Job::Frames(role, limits, format_of(matches))),
+        "payload" => {
+            let at = at_of(matches).ok_or(Mistake::OffsetTooLarge)?;
+            Ok(Job::Payload(role, limits, at))
+        }
+        "normal" => Ok(Job::Normal(role, limits)),
+        "plan" => Ok(Job::Plan(role, limits)),
+        "closing" => Ok(Job::Closing(limits, format_of(matches))),
+        "show" => {
+            let style = style_of(matches).ok_or(Mistake::Other)?;
+            Ok(show_of(matches, limits, style))
+        }
+        _ => Err(Mistake::Other),
     }
 }
 
 /// The job of `show`: over a capture, or over the stream of the endpoint that `--role` names.
 fn show_of(matches: &ArgMatches<'_>, limits: Limits, style: Style) -> Job
     ensures may_run { MayRun result }
-    ensures capture { (first_value (found_of matches.now) (codes "role") ≡ None) → result ≡ Show limits style }
-    ensures stream { IsSome (first_value (found_of matches.now) (codes "role"))
-        → (role : Role) × (result ≡ ShowStream role limits style) }
-    ensures role { IfSome (job_role result) (λ role. role ≡ Server
-        ↔ (first_value (found_of matches.now) (codes "role") ≡ Some (codes "server"))) }
+    ensures limits { job_limits result ≡ limits }
+    ensures read { AreReadLimits (found_of matches.now) limits → IsReadStyle (found_of matches.now) style
+        → IsReadJob (codes "show") (found_of matches.now) result }
 {
     match matches.get_str("role") {
         Some(_) => Job::ShowStream(role_of(matches), limits, style),
@@ -290,29 +290,33 @@ fn show_of(matches: &ArgMatches<'_>, limits: Limits, style: Style) -> Job
 
 /// The request of a command that does one job over one input.
 fn run_of(alloc: Global, name: &str, matches: &ArgMatches<'_>) -> Result<Request, Usage>
-    ensures { IfOk result CanBeDone }
+    ensures done { IfOk result CanBeDone }
+    ensures read { IfOk result (IsRead name.now (found_of matches.now)) }
 {
-    let Some(job) = job_of(name, matches) else {
-        return Err(Usage::Own(Mistake::Other));
+    let job = match job_of(name, matches) {
+        Ok(job) => job,
+        Err(mistake) => return Err(Usage::Own(mistake)),
     };
-    let side = match job.role() {
-        Some(role) => side_of(matches, role),
-        None => None,
-    };
-    Ok(Request::Run {
-        job,
-        file: file_of(alloc, matches, "file")?,
-        side,
-    })
+    let side = side_of_job(matches, &job);
+    let file = file_of(alloc, matches, "file")?;
+    Ok(Request::Run { job, file, side })
+}
+
+/// The side of a capture that a job reads, if it reads one.
+fn side_of_job(matches: &ArgMatches<'_>, job: &Job) -> Option<Role>
+    ensures own { IsOwnSide job.now result }
+    ensures read { IsReadSideOf (found_of matches.now) (job_role job.now) result }
+{
+    side_of(matches, job.role()?)
 }
 
 /// The request of `closing`: over one capture, or a line for each of several.
 fn closing_of(alloc: Global, matches: &ArgMatches<'_>) -> Result<Request, Usage>
-    ensures { IfOk result CanBeDone }
+    ensures done { IfOk result CanBeDone }
+    ensures read { IfOk result (IsRead (codes "closing") (found_of matches.now)) }
 {
-    let names = matches.get_strs("file").unwrap_or(&["-"]);
-    if names.len() > 1 || matches.get_flag("each") {
-        closings_of(alloc, matches, names)
+    if has_several(matches) || matches.get_flag("each") {
+        closings_of(alloc, matches)
     } else {
         run_of(alloc, "closing", matches)
     }
@@ -321,7 +325,8 @@ fn closing_of(alloc: Global, matches: &ArgMatches<'_>) -> Result<Request, Usage>
 /// The request of `same`: two inputs, and how they are compared. The error is `TwoStandardInputs` if both are
 /// standard input.
 fn same_of(alloc: Global, matches: &ArgMatches<'_>) -> Result<Request, Usage>
-    ensures { IfOk result CanBeDone }
+    ensures done { IfOk result CanBeDone }
+    ensures read { (name : List ℕ) → name ≡ codes "same" → IfOk result (IsRead name (found_of matches.now)) }
 {
     let first = file_of(alloc, matches, "first")?;
     let second = file_of(alloc, matches, "second")?;
@@ -339,7 +344,8 @@ fn same_of(alloc: Global, matches: &ArgMatches<'_>) -> Result<Request, Usage>
 
 /// The text of `explain`: the explanation of its words, or the list of all words that are explained.
 fn explained(alloc: Global, matches: &ArgMatches<'_>) -> Result<Request, Usage>
-    ensures { IfOk result CanBeDone }
+    ensures done { IfOk result CanBeDone }
+    ensures read { (name : List ℕ) → name ≡ codes "explain" → IfOk result (IsRead name (found_of matches.now)) }
 {
     let Some(words) = matches.get_strs("words") else {
         return Ok(Request::Help(list_of_words(alloc)?));
@@ -367,6 +373,22 @@ fn unexplained(alloc: Global, words: &str) -> Result<String, AllocError> {
     }
 }
 
+/// The request of the command with this name.
+fn request_of(alloc: Global, name: &str, matches: &ArgMatches<'_>) -> Result<Request, Usage>
+    ensures done { IfOk result CanBeDone }
+    ensures read { IfOk result (IsRead name.now (found_of matches.now)) }
+    ensures digits { IfOk result (λ _. AreInDigits (found_of matches.now)) }
+{
+    check_digits(matches)?;
+    match name {
+        "explain" => explained(alloc, matches),
+        "same" => same_of(alloc, matches),
+        "recut" => recut_of(alloc, matches),
+        "closing" => closing_of(alloc, matches),
+        _ => run_of(alloc, name, matches),
+    }
+}
+
 /// Reads the words of a command line, the program's name first, and returns the request that they make: a command with
 /// its options, as the help lists them.
 ///
@@ -379,15 +401,8 @@ pub fn asked(alloc: Global, words: &[String]) -> Result<Request, Usage>
         Ok(matches) => matches,
         Err(error) => return answered(alloc, words, &error),
     };
-    let Some((name, command)) = matches.subcommand() else {
-        return Err(Usage::Own(Mistake::Other));
-    };
-    check_digits(command)?;
-    match name {
-        "explain" => explained(alloc, command),
-        "same" => same_of(alloc, command),
-        "recut" => recut_of(alloc, command),
-        "closing" => closing_of(alloc, command),
-        _ => run_of(alloc, name, command),
+    match matches.subcommand() {
+        Some((name, command)) => request_of(alloc, name, command),
+        None => Err(Usage::Own(Mistake::Other)),
     }
 }

@@ -14,7 +14,10 @@ pub fn shown_in_errors(alloc: Global, words: &[String]) -> Result<Vec<String>, A
             }
             _ => shown.push(format!(in alloc; "{text}")?)?,
         }
-        takes_number = matches!(word.as_str(), "--limit" | "--frames" | "--size" | "--view");
+        takes_number = matches!(
+            word.as_str(),
+            "--limit" | "--frames" | "--size" | "--view" | "--at"
+        );
     }
     Ok(shown)
 }

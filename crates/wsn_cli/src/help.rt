@@ -79,7 +79,7 @@ nothing is written, the status is 2, and this line goes to standard error:
   nothing begins at OFFSET; it is in the head at START: VERDICT
             the same, of the head that begins at START
   nothing begins at OFFSET: VERDICT
-            all frames end before it
+            all that came ends before it, or a Close does
 
 Example: a message in two fragments, and where its second one is
   $ printf '\\001\\003Hel\\200\\002lo' > stream
@@ -350,7 +350,7 @@ Exit status:
   2  no answer; a line on standard error says why: read failed, write failed,
      input limit (more than 2^40 bytes came), out of memory, cannot read FILE:
      WHY, line N: WORD (a malformed line of a capture: 'wsn help closing'),
-     nothing begins at OFFSET (payload), usage; or several lines, if the command
-     line is wrong; or none, if the reader of standard output has ended, as head
-     does
+     nothing begins at OFFSET (payload), usage: WHY; or several lines, if the
+     command line is wrong; or none, if the reader of standard output has ended,
+     as head does
 ";

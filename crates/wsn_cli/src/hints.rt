@@ -50,7 +50,12 @@ pub fn hint_on_run<A: Allocator>(
 }
 
 /// The hint on a job's run over the stream that `role` sent.
-fn hint_on_stream<A: Allocator>(job: &Job<A>, role: Role, first: &[u8], answer: Answer) -> Option<Hint>
+fn hint_on_stream<A: Allocator>(
+    job: &Job<A>,
+    role: Role,
+    first: &[u8],
+    answer: Answer,
+) -> Option<Hint>
     ensures stopped { answer ≡ Stopped → result ≡ None }
     ensures fits { IfSome result (Fits (job_limits job.now) (take 16 first.now)) }
 {

@@ -31,8 +31,8 @@ pub use request::{Request, Usage};
 pub use unread::{Unread, UnreadFile};
 pub use wsn_command::{Answer, Comparison, How, Job};
 pub use wsn_hint::{
-    CaptureStart, Hint, RefusedSides, after_close_hint_of, capture_hint_of, handshake_hint_of, hint_of,
-    plan_hint_of, sides_hint_of,
+    CaptureStart, Hint, RefusedSides, after_close_hint_of, capture_hint_of, handshake_hint_of,
+    hint_of, plan_hint_of, sides_hint_of,
 };
 pub use wsn_print::Format;
 pub use wsn_rules::Without;

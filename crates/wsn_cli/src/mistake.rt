@@ -13,8 +13,10 @@ pub enum Mistake {
     KeyOfServer,
     /// `--key` isn't 8 hexadecimal digits.
     BadKey,
-    /// A number has a sign.
-    SignedNumber,
+    /// A number isn't digits alone.
+    NoNumber,
+    /// An offset is 2^64 or more.
+    OffsetTooLarge,
     /// Two inputs are standard input.
     TwoStandardInputs,
     /// `--capture` for a command that reads captures alone, or without `--role`.
@@ -26,26 +28,29 @@ pub enum Mistake {
 }
 
 impl Mistake {
-    /// The line that says what is wrong, without its LF: at most 80 bytes.
+    /// The line that says what is wrong, without its LF: `usage: ` and a text, at most 80 bytes.
     pub fn line(&self) -> &'static str
         ensures { length result.now ≤ 80 }
     {
         match self {
-            Mistake::NoPlanOrSize => "hint: recut requires --plan PLAN or --size BYTES",
-            Mistake::PlanAndSize => "hint: recut takes --plan or --size, not both",
+            Mistake::NoPlanOrSize => "usage: recut requires --plan PLAN or --size BYTES",
+            Mistake::PlanAndSize => "usage: recut takes --plan or --size, not both",
             Mistake::SizeOptionWithPlan =>
-                "hint: --weave and --key go with --size, not with --plan",
+                "usage: --weave and --key go with --size, not with --plan",
             Mistake::KeyOfServer =>
-                "hint: a server's frames have no key: leave out --key, or use --role client",
-            Mistake::BadKey => "hint: --key takes 8 hexadecimal digits, such as 37fa213d",
-            Mistake::SignedNumber => "hint: a number is written in digits alone: 5, not +5",
+                "usage: a server's frames have no key: leave out --key, or use --role client",
+            Mistake::BadKey => "usage: --key takes 8 hexadecimal digits, such as 37fa213d",
+            Mistake::NoNumber =>
+                "usage: a number is written in digits alone: 5, not +5, 0x5 or 5.0",
+            Mistake::OffsetTooLarge =>
+                "usage: --at takes an OFFSET that show prints: a number below 2^64",
             Mistake::TwoStandardInputs =>
-                "hint: two inputs are standard input (-, or no FILE): name a file for one",
+                "usage: two inputs are standard input (-, or no FILE): name a file for one",
             Mistake::CaptureAsItIs =>
-                "hint: show and closing read a capture as it is: leave out --capture",
+                "usage: show and closing read a capture as it is: leave out --capture",
             Mistake::NotUtf8 =>
-                "hint: an argument isn't UTF-8: give such a file as standard input, with <",
-            Mistake::Other => "hint: 'wsn help COMMAND' lists what a command accepts",
+                "usage: an argument isn't UTF-8: give such a file as standard input, with <",
+            Mistake::Other => "usage: 'wsn help COMMAND' lists what a command accepts",
         }
     }
 }

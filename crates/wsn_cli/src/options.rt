@@ -1,12 +1,12 @@
-ghost use Rattle.std.specs.Prelude.{◌≡◌, ◌↔◌, None, Some, IfOk, IfSome, codes};
+ghost use Rattle.std.specs.Prelude.{◌≡◌, ◌↔◌, Some, IfOk, IfSome, codes};
+ghost use Rattle.std.specs.Char.{is_ascii_digit};
+ghost use Rattle.std.specs.List.{list_all};
 ghost use Rattle.clap.specs.Words.{found_of, first_value, matched_of, one_text};
-ghost use Rattle.wsn_wire.specs.declared.endpoint.Role.TheVariants.{Server};
 ghost use Rattle.wsn_wire.specs.declared.length_forms.Lengths.TheVariants.{Any};
-ghost use Rattle.wsn_rules.specs.declared.detail.Detail.TheVariants.{Events, Frames};
-ghost use Rattle.wsn_print.specs.declared.format.Format.TheVariants as formats;
 ghost use Rattle.wsn_cli.specs.Inputs.{IsInputNamed};
-ghost use Rattle.wsn_cli.specs.Options.{AreLeftOut, IsAsked, IsAskedMaximum, words_of};
+ghost use Rattle.wsn_cli.specs.Options.{AreInDigits, AreLeftOut, IsAsked, IsAskedMaximum, IsInDigits, words_of};
 ghost use Rattle.wsn_cli.specs.Requests.{AreAskedLimits};
+ghost use Rattle.wsn_cli.specs.ReadRequests.{AreReadLimits, IsReadComparison, IsReadFormat, IsReadRole, IsReadSide, IsReadStyle};
 
 use crate::mistake::Mistake;
 use crate::request::Usage;
@@ -73,8 +73,7 @@ fn with_message_limits<'a>(alloc: Global, command: Command<'a>) -> Result<Comman
 /// Adds `--at`.
 pub fn with_at<'a>(alloc: Global, command: Command<'a>) -> Result<Command<'a>, AllocError> {
     let help = "Where the event's first frame begins: the OFFSET\nthat show prints";
-    let at = option(alloc, "at", "OFFSET", help).required(true);
-    command.arg(at.value_parser(value_parser!(u64)))
+    command.arg(option(alloc, "at", "OFFSET", help).required(true))
 }
 
 /// Adds `--view`.
@@ -138,7 +137,8 @@ pub fn with_files<'a>(alloc: Global, command: Command<'a>) -> Result<Command<'a>
         .long("each")
         .action(ArgAction::SetTrue)
         .help("Print a line for each FILE, also if it is one");
-    let help = "The files to read, or - for standard input; of\nseveral, a line for each\n[default: -]";
+    let help =
+        "The files to read, or - for standard input; of\nseveral, a line for each\n[default: -]";
     let files = file(alloc, "file", "FILE", help);
     let files = files.action(ArgAction::Append).num_args(0..);
     command.arg(each)?.arg(files)
@@ -177,15 +177,14 @@ pub fn file_of(
 /// is no capture.
 pub fn side_of(matches: &ArgMatches<'_>, role: Role) -> Option<Role>
     ensures own { IfSome result (λ side. side ≡ role) }
-    ensures stream { (one_text (found_of matches.now) (codes "capture") ≡ None) → result ≡ None }
-    ensures capture { (one_text (found_of matches.now) (codes "capture") ≡ Some (codes "true")) → result ≡ Some role }
+    ensures read { IsReadSide (found_of matches.now) role result }
 {
     matches.get_flag("capture").then_some(role)
 }
 
 /// The endpoint that sent the stream, from `--role`.
 pub fn role_of(matches: &ArgMatches<'_>) -> Role
-    ensures { result ≡ Server ↔ (first_value (found_of matches.now) (codes "role") ≡ Some (codes "server")) }
+    ensures { IsReadRole (found_of matches.now) result }
 {
     match matches.get_str("role") {
         Some("server") => Role::Server,
@@ -206,12 +205,7 @@ fn lengths_of(matches: &ArgMatches<'_>) -> Lengths
 /// input limit is its maximum.
 pub fn limits_of(matches: &ArgMatches<'_>) -> Option<Limits>
     ensures asked { IfSome result AreAskedLimits }
-    ensures message { IfSome result (λ limits.
-        IsAsked (one_text (found_of matches.now) (codes "limit")) 16777216 limits.message) }
-    ensures frames { IfSome result (λ limits.
-        IsAskedMaximum (one_text (found_of matches.now) (codes "frames")) limits.frames) }
-    ensures lengths { IfSome result (λ limits. limits.lengths ≡ Any
-        ↔ (first_value (found_of matches.now) (codes "lengths") ≡ Some (codes "any"))) }
+    ensures read { IfSome result (AreReadLimits (found_of matches.now)) }
 {
     let message = number_of(matches, "limit")?.unwrap_or(MESSAGE_MAX);
     let limits = Limits::new(message, INPUT_MAX)?.with_lengths(lengths_of(matches));
@@ -229,7 +223,7 @@ pub fn at_of(matches: &ArgMatches<'_>) -> Option<u64>
 }
 
 /// The number that an option asks for, or `None` without the option; `None` of that if its value is no number below 2^32.
-fn number_of(matches: &ArgMatches<'_>, name: &str) -> Option<Option<u32>>
+pub fn number_of(matches: &ArgMatches<'_>, name: &str) -> Option<Option<u32>>
     ensures { IfSome result (IsAskedMaximum (one_text (found_of matches.now) name.now)) }
 {
     matches.try_get_one::<u32>(name).ok()
@@ -255,8 +249,7 @@ pub fn without_of(matches: &ArgMatches<'_>) -> Without
 
 /// The format in which the answer is printed, from `--json`.
 pub fn format_of(matches: &ArgMatches<'_>) -> Format
-    ensures text { (one_text (found_of matches.now) (codes "json") ≡ None) → result ≡ formats.Text }
-    ensures json { (one_text (found_of matches.now) (codes "json") ≡ Some (codes "true")) → result ≡ formats.Json }
+    ensures { IsReadFormat (found_of matches.now) result }
 {
     if matches.get_flag("json") {
         Format::Json
@@ -268,15 +261,7 @@ pub fn format_of(matches: &ArgMatches<'_>) -> Format
 /// What is shown, how much of it and in which format, from `--view`, `--wire` and `--json`; `None` if the number of bytes
 /// is out of range.
 pub fn style_of(matches: &ArgMatches<'_>) -> Option<Style>
-    ensures view { IfSome result (λ style. IsAsked (one_text (found_of matches.now) (codes "view")) 48 style.view) }
-    ensures events { (one_text (found_of matches.now) (codes "wire") ≡ None)
-        → IfSome result (λ style. style.detail ≡ Events) }
-    ensures frames { (one_text (found_of matches.now) (codes "wire") ≡ Some (codes "true"))
-        → IfSome result (λ style. style.detail ≡ Frames) }
-    ensures text { (one_text (found_of matches.now) (codes "json") ≡ None)
-        → IfSome result (λ style. style.format ≡ formats.Text) }
-    ensures json { (one_text (found_of matches.now) (codes "json") ≡ Some (codes "true"))
-        → IfSome result (λ style. style.format ≡ formats.Json) }
+    ensures { IfSome result (IsReadStyle (found_of matches.now)) }
 {
     let view = ViewLimit::new(view_of(matches)?.unwrap_or(VIEW_DEFAULT))?;
     let detail = if matches.get_flag("wire") {
@@ -302,23 +287,8 @@ fn view_of(matches: &ArgMatches<'_>) -> Option<Option<u16>>
 /// How two streams are compared, from the options of `same`; `None` if a number is out of range. No events are shown
 /// without `--view`.
 pub fn comparison_of(matches: &ArgMatches<'_>) -> Option<Comparison>
-    ensures role { IfSome result (λ comparison. comparison.role ≡ Server
-        ↔ (first_value (found_of matches.now) (codes "role") ≡ Some (codes "server"))) }
     ensures limits { IfSome result (λ comparison. AreAskedLimits comparison.limits) }
-    ensures message { IfSome result (λ comparison.
-        IsAsked (one_text (found_of matches.now) (codes "limit")) 16777216 comparison.limits.message) }
-    ensures frames { IfSome result (λ comparison.
-        IsAskedMaximum (one_text (found_of matches.now) (codes "frames")) comparison.limits.frames) }
-    ensures lengths { IfSome result (λ comparison. comparison.limits.lengths ≡ Any
-        ↔ (first_value (found_of matches.now) (codes "lengths") ≡ Some (codes "any"))) }
-    ensures text { (one_text (found_of matches.now) (codes "json") ≡ None)
-        → IfSome result (λ comparison. comparison.format ≡ formats.Text) }
-    ensures json { (one_text (found_of matches.now) (codes "json") ≡ Some (codes "true"))
-        → IfSome result (λ comparison. comparison.format ≡ formats.Json) }
-    ensures view { IfSome result (λ comparison.
-        IsAskedMaximum (one_text (found_of matches.now) (codes "view")) comparison.view) }
-    ensures without { IfSome result (λ comparison.
-        AreLeftOut (words_of (matched_of (found_of matches.now) (codes "without"))) comparison.without) }
+    ensures read { IfSome result (IsReadComparison (found_of matches.now)) }
 {
     let limits = limits_of(matches)?;
     let view = match view_of(matches)? {
@@ -334,13 +304,34 @@ pub fn comparison_of(matches: &ArgMatches<'_>) -> Option<Comparison>
     })
 }
 
-/// Refuses a number with any character but digits, such as `+5`, which clap accepts.
-pub fn check_digits(matches: &ArgMatches<'_>) -> Result<(), Usage> {
-    for option in ["limit", "frames", "size", "view", "at"] {
-        let value = matches.get_str(option).unwrap_or("");
-        if !value.bytes().all(|byte| byte.is_ascii_digit()) {
-            return Err(Usage::Own(Mistake::SignedNumber));
-        }
+/// Refuses a number that isn't digits alone, such as `+5`, which clap accepts.
+pub fn check_digits(matches: &ArgMatches<'_>) -> Result<(), Usage>
+    ensures { IfOk result (λ _. AreInDigits (found_of matches.now)) }
+{
+    check_number(matches, "limit")?;
+    check_number(matches, "frames")?;
+    check_number(matches, "size")?;
+    check_number(matches, "view")?;
+    check_number(matches, "at")
+}
+
+/// Refuses a value of this option that isn't digits alone, at least one.
+fn check_number(matches: &ArgMatches<'_>, option: &str) -> Result<(), Usage>
+    ensures { IfOk result (λ _. IsInDigits (first_value (found_of matches.now) option.now)) }
+{
+    let Some(text) = matches.get_str(option) else {
+        return Ok(());
+    };
+    if !text.is_empty() && are_digits(text.as_bytes()) {
+        Ok(())
+    } else {
+        Err(Usage::Own(Mistake::NoNumber))
     }
-    Ok(())
+}
+
+/// Whether all bytes are digits.
+fn are_digits(text: &[u8]) -> bool
+    ensures { result ≡ list_all is_ascii_digit text.now }
+{
+    text.iter().all(|byte| byte.is_ascii_digit())
 }

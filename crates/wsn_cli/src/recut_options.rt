@@ -1,9 +1,12 @@
-ghost use Rattle.std.specs.Prelude.{IfOk};
+ghost use Rattle.std.specs.Prelude.{◌≡◌, ℕ, List, Some, IfOk, IfSome, option_map, codes};
+ghost use Rattle.clap.specs.Words.{found_of, one_text};
+ghost use Rattle.wsn_cli.specs.Options.{IsAskedMaximum};
 ghost use Rattle.wsn_cli.specs.Requests.{CanBeDone};
+ghost use Rattle.wsn_cli.specs.ReadRequests.{IsRead, IsReadKey};
 
 use crate::mistake::Mistake;
 use crate::options::{
-    file_of, limits_of, option, role_of, side_of, with_capture, with_file, with_role,
+    file_of, limits_of, number_of, option, role_of, side_of, with_capture, with_file, with_role,
 };
 use crate::request::{Request, Usage};
 use clap::builder::ValueParser;
@@ -49,23 +52,38 @@ fn with_frames<'a>(alloc: Global, command: Command<'a>) -> Result<Command<'a>, A
 /// The request of `recut`. It has exactly one of a plan and a size, and `--weave` and `--key` only with a size; a key is 8
 /// hexadecimal digits, and a server has none. The error is the first of these rules that is broken.
 pub fn recut_of(alloc: Global, matches: &ArgMatches<'_>) -> Result<Request, Usage>
-    ensures { IfOk result CanBeDone }
+    ensures done { IfOk result CanBeDone }
+    ensures read { (name : List ℕ) → name ≡ codes "recut" → IfOk result (IsRead name (found_of matches.now)) }
 {
-    let weave = matches.get_flag("weave");
-    let key = matches.get_str("key");
-    match (matches.get_str("plan"), matches.get_one::<u32>("size")) {
-        (Some(_), None) if !weave && key.is_none() => recut_by_plan(alloc, matches),
-        (Some(_), None) => Err(Usage::Own(Mistake::SizeOptionWithPlan)),
-        (None, Some(size)) => recut_by_size(alloc, matches, size, weave, key_of(key)?),
-        (Some(_), Some(_)) => Err(Usage::Own(Mistake::PlanAndSize)),
-        (None, None) => Err(Usage::Own(Mistake::NoPlanOrSize)),
+    let Some(size) = size_of(matches) else {
+        return recut_without_size(alloc, matches);
+    };
+    if matches.get_str("plan").is_some() {
+        return Err(Usage::Own(Mistake::PlanAndSize));
     }
+    recut_by_size(alloc, matches, size)
+}
+
+/// The request of `recut` without a size. The error is `NoPlanOrSize` without a plan, and `SizeOptionWithPlan` for
+/// `--weave` or `--key`.
+fn recut_without_size(alloc: Global, matches: &ArgMatches<'_>) -> Result<Request, Usage>
+    ensures done { IfOk result CanBeDone }
+    ensures read { (name : List ℕ) → name ≡ codes "recut" → IfOk result (IsRead name (found_of matches.now)) }
+{
+    if matches.get_str("plan").is_none() {
+        return Err(Usage::Own(Mistake::NoPlanOrSize));
+    }
+    if matches.get_flag("weave") || matches.get_str("key").is_some() {
+        return Err(Usage::Own(Mistake::SizeOptionWithPlan));
+    }
+    recut_by_plan(alloc, matches)
 }
 
 /// The request of `recut` by a plan. The error is `TwoStandardInputs` if the plan and the stream are both on standard
 /// input.
 fn recut_by_plan(alloc: Global, matches: &ArgMatches<'_>) -> Result<Request, Usage>
-    ensures { IfOk result CanBeDone }
+    ensures done { IfOk result CanBeDone }
+    ensures read { (name : List ℕ) → name ≡ codes "recut" → IfOk result (IsRead name (found_of matches.now)) }
 {
     let role = role_of(matches);
     let plan = file_of(alloc, matches, "plan")?;
@@ -83,17 +101,24 @@ fn recut_by_plan(alloc: Global, matches: &ArgMatches<'_>) -> Result<Request, Usa
     }
 }
 
-/// The request of `recut` by size. The error is `KeyOfServer` for a key with a server.
-fn recut_by_size(
-    alloc: Global,
-    matches: &ArgMatches<'_>,
-    size: u32,
-    weave: bool,
-    key: Option<[u8; 4]>,
-) -> Result<Request, Usage>
-    ensures { IfOk result CanBeDone }
+/// The size of the frames, from `--size`; `None` without it.
+fn size_of(matches: &ArgMatches<'_>) -> Option<u32>
+    ensures { IfSome result (λ size. IsAskedMaximum (one_text (found_of matches.now) (codes "size")) (Some size)) }
+{
+    number_of(matches, "size")?
+}
+
+/// The request of `recut` by the size of `--size`. The error is `BadKey` if `--key` isn't 8 hexadecimal digits, and
+/// `KeyOfServer` for a key with a server.
+fn recut_by_size(alloc: Global, matches: &ArgMatches<'_>, size: u32) -> Result<Request, Usage>
+    ensures done { IfOk result CanBeDone }
+    ensures read { (name : List ℕ) → name ≡ codes "recut" →
+        IsAskedMaximum (one_text (found_of matches.now) (codes "size")) (Some size) →
+        IfOk result (IsRead name (found_of matches.now)) }
 {
     let role = role_of(matches);
+    let weave = matches.get_flag("weave");
+    let key = key_of(matches.get_str("key"))?;
     let Some(limits) = limits_of(matches) else {
         return Err(Usage::Own(Mistake::Other));
     };
@@ -108,7 +133,9 @@ fn recut_by_size(
 }
 
 /// The key that these digits encode, if a key is asked for.
-fn key_of(digits: Option<&str>) -> Result<Option<[u8; 4]>, Usage> {
+fn key_of(digits: Option<&str>) -> Result<Option<[u8; 4]>, Usage>
+    ensures { IfOk result (IsReadKey (option_map (λ text. text.now) digits.entry)) }
+{
     let Some(digits) = digits else {
         return Ok(None);
     };

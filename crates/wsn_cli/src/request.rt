@@ -45,7 +45,7 @@ pub enum Request {
 pub enum Usage {
     /// They break a rule of the command line; the text says which.
     Clap(String),
-    /// They break a rule that clap doesn't check; the line `usage` reports it, and a hint says which.
+    /// They break a rule that clap doesn't check.
     Own(Mistake),
     /// An allocation failed.
     Memory,

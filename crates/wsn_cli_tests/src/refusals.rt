@@ -3,15 +3,13 @@
 use crate::answer_lines::expect_answer;
 
 /// A missing or unknown word, and a role or number out of its range.
-static WRONG: [&str; 48] = [
+static WRONG: [&str; 46] = [
     "wsn",
     "wsn other",
     "wsn judge",
     "wsn frames",
     "wsn payload --role server",
     "wsn payload --at 7",
-    "wsn payload --role server --at end",
-    "wsn payload --role server --at 18446744073709551616",
     "wsn normal",
     "wsn plan",
     "wsn recut --size 3",
@@ -61,9 +59,9 @@ fn clap_refuses_wrong_words(rt: HostRuntime) {
     }
 }
 
-/// Options of `recut` that don't go together, a key that isn't eight digits, a number with a sign, two inputs that are both
+/// Options of `recut` that don't go together, a key that isn't eight digits, a number that isn't digits alone, two inputs that are both
 /// standard input, and a capture that is read as it is: with each the mistake.
-static REFUSED: [(&str, &str); 26] = [
+static REFUSED: [(&str, &str); 29] = [
     ("wsn recut --role server", "NoPlanOrSize"),
     ("wsn recut --role server --plan p --size 2", "PlanAndSize"),
     (
@@ -85,17 +83,20 @@ static REFUSED: [(&str, &str); 26] = [
     ("wsn recut --role client --size 2 --key 0102030g", "BadKey"),
     ("wsn recut --role client --size 2 --key -", "BadKey"),
     ("wsn recut --role client --size 2 --key ", "BadKey"),
-    ("wsn judge --role server --limit +5", "SignedNumber"),
-    ("wsn closing --limit=-0", "SignedNumber"),
-    ("wsn payload --role server --at +5", "SignedNumber"),
-    ("wsn show --view +5", "SignedNumber"),
-    ("wsn same --role client a b --view +5", "SignedNumber"),
-    ("wsn same --role client --frames +1 a b", "SignedNumber"),
-    ("wsn recut --role server --size +3", "SignedNumber"),
+    ("wsn judge --role server --limit +5", "NoNumber"),
+    ("wsn closing --limit=-0", "NoNumber"),
+    ("wsn payload --role server --at +5", "NoNumber"),
+    ("wsn payload --role server --at -5", "NoNumber"),
+    ("wsn payload --role server --at end", "NoNumber"),
     (
-        "wsn recut --role server --plan p --limit +5",
-        "SignedNumber",
+        "wsn payload --role server --at 18446744073709551616",
+        "OffsetTooLarge",
     ),
+    ("wsn show --view +5", "NoNumber"),
+    ("wsn same --role client a b --view +5", "NoNumber"),
+    ("wsn same --role client --frames +1 a b", "NoNumber"),
+    ("wsn recut --role server --size +3", "NoNumber"),
+    ("wsn recut --role server --plan p --limit +5", "NoNumber"),
     ("wsn same --role server - -", "TwoStandardInputs"),
     ("wsn same --role server --capture - -", "TwoStandardInputs"),
     ("wsn recut --role server --plan -", "TwoStandardInputs"),

@@ -5,8 +5,8 @@ static ERRORS: [Entry; 8] = [
     Entry {
         words: &["usage"],
         text: "\
-usage: the words of the command line don't go together, or one isn't UTF-8; the
-line 'hint: ..' after it says what is wrong.
+usage: TEXT: the words of the command line don't go together, or one isn't
+UTF-8; TEXT says what is wrong.
 Usual causes, at recut: neither or both of --plan and --size; --weave or --key
 with --plan; --key with --role server; a key that isn't 8 hexadecimal digits.
 At same and recut: two inputs that are both standard input. At show and closing:
@@ -95,8 +95,8 @@ TEXT says what to do. Output and status are as without it.
 Each command has one for a stream that is empty, or refused at offset 0 or 1;
 for a capture that is empty, or has a malformed line and begins like another
 file, or a side that looks compressed, exchanged or in another encoding; at show
-and closing for a wrong handshake, at closing for bytes after a Close. Of two
-inputs it names FIRST or SECOND. After 'usage' it is about the words. None comes
+and closing for a wrong handshake, at closing for bytes after a Close; recut for
+a plan with a byte order mark. Of two inputs it names FIRST or SECOND. None comes
 with --json.
 Next: do what it says, and run the command again. It is a guess by the first 16
 bytes (xxd -l 32 FILE shows them), of a capture by comments in the first 65,536.
