@@ -51,12 +51,14 @@ function closingCard(session) {
 
 /** The top of the page. */
 function headingOf(session, go) {
-  const { outcome } = session.report, isDoubtful = outcome === "failed" && !sidesAtFault(session).length;
+  const { outcome } = session.report, isWrong = isHandshakeWrong(session);
+  const isDoubtful = !isWrong && outcome === "failed" && !sidesAtFault(session).length;
+  const kind = isWrong ? "failed" : isDoubtful ? "doubtful" : outcome;
   const about = make("details", "", make("summary", "", `wsn explain ${outcome}`));
   about.open = sidesAtFault(session).length > 1;
   about.append(make("pre", "explained", session.explained[outcome].trimEnd()));
-  const symbol = make("span", "symbol", isDoubtful ? DOUBT : SYMBOLS[outcome]);
-  const verdict = make("section", `verdict ${isDoubtful ? "doubtful" : outcome}`, symbol,
+  const symbol = make("span", "symbol", isDoubtful ? DOUBT : SYMBOLS[kind]);
+  const verdict = make("section", `verdict ${kind}`, symbol,
     make("div", "", make("h1", "", titleOf(session)), ...sentences(session, go), about));
   symbol.setAttribute("aria-hidden", "true");
   const cards = make("div", "cards", ...SIDES.map(side => sideCard(session, side)), closingCard(session));
