@@ -85,10 +85,13 @@ function byteView(session, view) {
   const cells = titles.map((title, at) => make("span", names[at], title));
   const top = make("div", "byteline titles", make("span", "at", "offset"), ...cells);
   box.append(top);
+  const sent = session.sent[view.side], end = Math.min(view.to, sent.heldTo(start));
+  const first = Math.max(view.from, Math.min(start, sent.heldFrom(start)));
+  const absent = bytes => bytes > 0 ? [make("div", "dim", `${count(bytes, "byte")}, not in this page`)] : [];
   const before = end => {
-    if (end <= view.from) return;
-    const from = Math.max(view.from, end - MORE_BYTES), words = count(end - from, "byte");
-    const label = `Show the ${words} before${from > view.from ? ` of ${number(end - view.from)}` : ""}`;
+    if (end <= first) return;
+    const from = Math.max(first, end - MORE_BYTES), words = count(end - from, "byte");
+    const label = `Show the ${words} before${from > first ? ` of ${number(end - first)}` : ""}`;
     const more = button(label, () => {
       const below = box.scrollHeight - box.scrollTop;
       more.replaceWith(...byteLines(session, view, from, end, width));
@@ -99,10 +102,14 @@ function byteView(session, view) {
     top.after(more);
   };
   before(start);
+  top.after(...absent(first - view.from));
   const draw = (from, most) => {
-    const to = Math.min(view.to, from + most), left = view.to - to;
+    const to = Math.min(end, from + most), left = end - to;
     box.append(...byteLines(session, view, from, to, width));
-    if (left <= 0) return;
+    if (left <= 0) {
+      box.append(...absent(view.to - end));
+      return;
+    }
     const label = `Show ${count(Math.min(left, MORE_BYTES), "more byte")} of ${number(left)}`;
     const more = button(label, () => { more.remove(); draw(to, MORE_BYTES); }, "more");
     box.append(more);

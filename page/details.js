@@ -134,7 +134,7 @@ function unfinishedDetails(session, row) {
   parts.push(place, ...payloadParts(session, row));
   if (row.list.length) parts.push(frameTable(row.list), frameViews(session, row.list));
   if (row.lacks === null) {
-    const from = listed.length ? listed[listed.length - 1].end : 0, to = sent.length;
+    const from = row.event === "head" ? row.offset : listed[listed.length - 1].end, to = sent.length;
     const view = { side: row.side, from, to, payloadAt: to };
     parts.push(heading("A part of the next frame's head"), byteView(session, view));
   }

@@ -25,8 +25,12 @@ function warningsOf(session) {
     const parts = type === "comment" && found.size < MOST_WARNINGS && !found.has(text) && warningParts(text);
     if (parts) found.set(text, make("p", "warning", make("b", "", "Wrong handshake: "), ...parts, "."));
   }
-  const must = make("p", "warning", "The client must fail a connection with such an answer (RFC 6455, 4.1).");
-  return found.size ? [...found.values(), must] : [];
+  return [...found.values()];
+}
+
+/** Whether a comment says that the answer is wrong, so that the client must fail the connection. */
+function isHandshakeWrong({ entries }) {
+  return entries.some(({ type, text }) => type === "comment" && warningParts(text));
 }
 
 /** The handshake in the heading: path, answer, subprotocol, extensions, and warnings; nothing if no comment has any. */

@@ -22,10 +22,22 @@ function seenWords(session, code) {
   return code === null ? "nothing yet" : session.codeName(code);
 }
 
+/** What a page says that has a part of a capture: which, and what else it has. */
+function partOf({ part }) {
+  if (!part) return [];
+  const { first, last, lines, frames: [some, all] } = part;
+  const which = first === last ? `line ${number(first)}` : `lines ${number(first)} to ${number(last)}`;
+  const shown = make("b", "", `This page shows a part of the capture: ${which} of ${number(lines)}`);
+  return [make("p", "part", shown, `, with ${number(some)} of ${count(all, "frame")}. Of other lines it has the `
+    + "messages that go on in these, what is refused or unfinished, the ends, and the comments on the handshake. The "
+    + "headline and the facts are those of the whole capture, and so are line numbers, times and offsets.")];
+}
+
 /** How many events of which kinds a side sent. */
 function sideCounts(session, side) {
-  const events = session.entries.filter(entry => entry.type === "event" && entry.side === side);
-  const of = (...kinds) => events.filter(each => kinds.includes(each.event)).length;
+  const events = session.entries.filter(entry => entry.type === "event" && entry.side === side), { part } = session;
+  const ofKind = kind => part ? part.events[side][kind] ?? 0 : events.filter(each => each.event === kind).length;
+  const of = (...kinds) => kinds.reduce((sum, kind) => sum + ofKind(kind), 0);
   const words = [count(of("text", "binary"), "message")];
   for (const kind of ["ping", "pong"]) if (of(kind)) words.push(count(of(kind), kind));
   return [...words, count(session.sent[side].length, "byte")].join(", ");
@@ -41,8 +53,8 @@ function sideCard(session, side) {
 
 function closingCard(session) {
   const { report } = session, echo = report.echo === null ? "-" : report.echo ? "yes" : "no";
-  const last = session.entries.findLast(entry => entry.line && entry.time);
-  const times = make("p", "dim", last ? `last time in the capture: ${last.time} s` : "no times in this capture");
+  const last = session.part?.time ?? session.entries.findLast(entry => entry.line && entry.time)?.time;
+  const times = make("p", "dim", last ? `last time in the capture: ${last} s` : "no times in this capture");
   const facts = make("dl", "", fact("first", "closed first", report.first),
     fact("echo", "same code back", echo, report.echo === null ? "not both closed" : ""),
     fact("outcome", "outcome", report.outcome));
@@ -51,12 +63,14 @@ function closingCard(session) {
 
 /** The top of the page. */
 function headingOf(session, go) {
-  const { outcome } = session.report, isDoubtful = outcome === "failed" && !sidesAtFault(session).length;
+  const { outcome } = session.report, isWrong = isHandshakeWrong(session);
+  const isDoubtful = !isWrong && outcome === "failed" && !sidesAtFault(session).length;
+  const kind = isWrong ? "failed" : isDoubtful ? "doubtful" : outcome;
   const about = make("details", "", make("summary", "", `wsn explain ${outcome}`));
   about.open = sidesAtFault(session).length > 1;
   about.append(make("pre", "explained", session.explained[outcome].trimEnd()));
-  const symbol = make("span", "symbol", isDoubtful ? DOUBT : SYMBOLS[outcome]);
-  const verdict = make("section", `verdict ${isDoubtful ? "doubtful" : outcome}`, symbol,
+  const symbol = make("span", "symbol", isDoubtful ? DOUBT : SYMBOLS[kind]);
+  const verdict = make("section", `verdict ${kind}`, symbol,
     make("div", "", make("h1", "", titleOf(session)), ...sentences(session, go), about));
   symbol.setAttribute("aria-hidden", "true");
   const cards = make("div", "cards", ...SIDES.map(side => sideCard(session, side)), closingCard(session));

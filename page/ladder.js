@@ -82,6 +82,8 @@ const LABELS = {
   tail: row => [make("span", "kind", "tail"), " ", ...bytesWords("bytes", row.bytes), " after the Close"],
   end: row => [`the ${row.side}'s direction ended`],
   silence: row => [`${row.seconds.toFixed(1)} s of silence`],
+  omitted: ({ low, high }) => [low === high ? `line ${number(low)} isn't shown`
+    : `lines ${number(low)} to ${number(high)} aren't shown`],
   comment: row => [field("text", "text", ...row.hex === undefined ? visible(row.text) : byteParts(bytesOfHex(row.hex)))],
 };
 
@@ -154,7 +156,7 @@ class Ladder {
     if (rows.length <= AT_ONCE) this.drawAll();
     this.blocks.slice(0, 2).forEach(block => this.draw(block));
     this.blocks.slice(2).forEach(block => this.observer.observe(block));
-    if (rows.length && !rows.includes(this.current)) this.choose(rows.find(row => row.type !== "silence") ?? rows[0]);
+    if (rows.length && !rows.includes(this.current)) this.choose(rows.find(row => row.name) ?? rows[0]);
     else if (this.current) this.choose(this.current);
   }
 
@@ -219,7 +221,7 @@ class Ladder {
   }
 
   /** The row so many rows further; those without anything to say are passed. */
-  further(by, wanted = row => row.type !== "silence") {
+  further(by, wanted = row => row.name) {
     let at = this.shown.indexOf(this.current), found = this.current;
     for (const step = Math.sign(by); by !== 0; ) {
       at += step;

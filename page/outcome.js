@@ -25,6 +25,12 @@ function refusedSides({ report }) {
   return SIDES.filter(side => report[side].state === "refused");
 }
 
+/** What comments say of compression: it was agreed on, or no extension was. Nothing if they don't say. */
+function agreement(session) {
+  if (commentLike(session, /^ extensions: .*permessage-deflate/)) return "agreed";
+  return commentLike(session, /^ answer: /) && !commentLike(session, /^ extensions: /) ? "none" : "";
+}
+
 /**
  * Whether a side is refused where a message begins whose first reserved bit is set, and no other one. Unless a comment
  * says that compression was agreed on, the frame has the side's masking.
@@ -40,15 +46,16 @@ function isLikeCompressed({ report, sent }, side, agreed) {
 /**
  * Why refused sides needn't be at fault: `exchanged`, each has the other's masking; else `compressed`, the sides that
  * are refused where a compressed message would begin, and `agreed`, whether a comment says that compression is used.
+ * `unagreed` are such sides if the comments say that no extension was agreed on: these are at fault.
  */
 function doubts(session) {
   const { report } = session, isAt1 = (side, reason) => report[side].offset === 1 && report[side].reason === reason;
   const isInflated = commentLike(session, /^ inflated,/);
-  const agreed = Boolean(commentLike(session, /^ extensions: .*permessage-deflate/));
+  const found = agreement(session), agreed = found === "agreed";
+  const alike = isInflated ? [] : SIDES.filter(side => isLikeCompressed(session, side, agreed));
   return {
     exchanged: isAt1("client", "mask-missing") && isAt1("server", "mask-present"),
-    compressed: isInflated ? [] : SIDES.filter(side => isLikeCompressed(session, side, agreed)),
-    agreed,
+    compressed: found === "none" ? [] : alike, unagreed: found === "none" ? alike : [], agreed,
   };
 }
 
@@ -59,8 +66,13 @@ function sidesAtFault(session) {
 }
 
 function faultTitle(session) {
-  const { exchanged, compressed, agreed } = doubts(session), faulty = sidesAtFault(session);
+  const { exchanged, compressed, unagreed, agreed } = doubts(session), faulty = sidesAtFault(session);
   if (exchanged) return "The sides look exchanged";
+  if (unagreed.length && unagreed.length === faulty.length) {
+    const isBoth = faulty.length > 1, look = isBoth ? "their streams look" : "its stream looks";
+    const who = isBoth ? "Both sides" : `The ${faulty[0]}`;
+    return `${who} broke the protocol: ${look} compressed, and no extension was agreed on`;
+  }
   const streams = compressed.length > 1 ? "Both streams look" : `The ${compressed[0]}'s stream looks`;
   const words = agreed ? "The session is compressed" : `${streams} compressed`;
   if (!faulty.length) return words;
@@ -103,10 +115,27 @@ function breakTitle(session) {
   return `${began} ${close}${cut ? `, then the ${peer} ${cut}` : ""}`;
 }
 
-/** The outcome in a few words. */
-function titleOf(session) {
+/** The outcome in a few words, but for the handshake. */
+function outcomeTitle(session) {
   const { outcome } = session.report;
   return outcome === "failed" ? faultTitle(session) : outcome === "abnormal" ? breakTitle(session) : TITLES[outcome];
+}
+
+/** The outcome in a few words. A wrong answer to the handshake comes first: the client must fail that connection. */
+function titleOf(session) {
+  const { outcome } = session.report, title = outcomeTitle(session);
+  if (!isHandshakeWrong(session)) return title;
+  if (outcome === "abnormal" && session.endedBy.side === "client")
+    return "The handshake's answer is wrong, so the client had to fail the connection";
+  return `The handshake's answer is wrong; ${title[0].toLowerCase()}${title.slice(1)}`;
+}
+
+/** Who is at fault for a wrong handshake, and who ended the connection if the headline doesn't say it. */
+function handshakeSentence(session) {
+  if (!isHandshakeWrong(session)) return [];
+  const ended = session.report.outcome === "abnormal" && session.endedBy.side === "client";
+  return [make("p", "", "The server is at fault: the client must fail a connection with such an answer (RFC 6455, ",
+    `4.1).${ended ? ` ${breakTitle(session)}.` : ""}`)];
 }
 
 /** What is said of a refused side; its offset leads to the row. */
@@ -131,19 +160,28 @@ function characterWords(session, row) {
   return [` The ${characterName(bad)}, `, bytes, `, begins at offset ${bad.offsets[0]}.`];
 }
 
+/** Where these sides set the first reserved bit. */
+function firstBit(sides) {
+  return `The first reserved bit is set where ${sides.length > 1 ? "messages begin" : "a message begins"}, `;
+}
+
 /** What undoes compression, if a side is refused for it: by a comment of the capture, or by the look of it. */
 function compressedSentence(session) {
-  const { compressed, agreed } = doubts(session), code = text => make("code", "", text);
+  const { compressed, unagreed, agreed } = doubts(session), code = text => make("code", "", text);
   const undo = options => code(`recipes/inflate ${options}CAPTURE > inflated.capture`);
   const prevents = [" undoes it; ", code("recipes/record --plain"), " records a session without it."];
   const isRefused = SIDES.some(side => session.report[side].reason === "reserved-bits");
   if (agreed && isRefused)
     return [make("p", "", "A comment in the capture says that the session is compressed, and compression isn't read ",
       "here: ", undo(""), ...prevents)];
+  if (unagreed.length) {
+    const names = "as permessage-deflate sets it, but the handshake's answer names no extension; without one the bit ";
+    return [make("p", "", `${firstBit(unagreed)}${names}must be 0 (RFC 6455, 5.2). To read the session all the same: `,
+      undo("--extensions permessage-deflate "), ".")];
+  }
   if (!compressed.length) return [];
-  const bit = `The first reserved bit is set where ${compressed.length > 1 ? "messages begin" : "a message begins"}, `;
   const ask = "as permessage-deflate sets it; no comment in the capture says whether that was agreed on. If so, ";
-  return [make("p", "", bit, ask, undo("--extensions permessage-deflate "), ...prevents)];
+  return [make("p", "", firstBit(compressed), ask, undo("--extensions permessage-deflate "), ...prevents)];
 }
 
 /** How to put sides right that are exchanged. */
@@ -209,8 +247,13 @@ function failedSentences(session, go) {
   return [...refusals(faulty), ...advice, ...refusals(others), ...resetSentence(session)];
 }
 
-/** The outcome in sentences. */
+/** The headline's sentences. */
 function sentences(session, go) {
+  return [...handshakeSentence(session), ...outcomeSentences(session, go)];
+}
+
+/** The outcome in sentences. */
+function outcomeSentences(session, go) {
   const { outcome } = session.report;
   const unfinished = () => SIDES.flatMap(side => unfinishedSentences(session, side));
   switch (outcome) {

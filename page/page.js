@@ -76,7 +76,7 @@ class Filter {
       if (event.key === "Escape") { this.search.value = ""; this.apply(); }
     });
     this.kinds = new Map();
-    for (const kind of rows.filter(row => row.type !== "silence").map(kindOf))
+    for (const kind of rows.filter(row => row.name).map(kindOf))
       this.kinds.set(kind, (this.kinds.get(kind) ?? 0) + 1);
   }
 
@@ -115,7 +115,7 @@ class Filter {
   }
 
   keeps(row) {
-    if (row.type === "silence") return !this.wanted && !this.off.size;
+    if (BETWEEN.has(row.type)) return !this.wanted && !this.off.size;
     if (this.off.has(row.side) || this.off.has(kindOf(row))) return false;
     return !this.wanted || wordsOf(this.session, row).includes(this.wanted);
   }
@@ -132,10 +132,10 @@ class Filter {
 /** The line of the page's name and its buttons. */
 function barOf(session, save) {
   const names = [make("span", "brand", "wsn"), make("span", "name", session.name), make("span", "gap")];
+  const saveCapture = () => offer(fileName(session, ".capture"), [bytesOfCapture(session.capture)], "text/plain");
   const bar = make("header", "bar", ...names,
     button(save.label, () => offer(fileName(session, ".html"), [save.source()], "text/html")),
-    button("Save capture", () => offer(fileName(session, ".capture"), [bytesOfCapture(session.capture)], "text/plain")),
-    button("Light / dark", switchTheme));
+    session.part ? "" : button("Save capture", saveCapture), button("Light / dark", switchTheme));
   bar.querySelector("button").title = "Saves this page with its capture: one file for a ticket";
   return bar;
 }
@@ -180,8 +180,8 @@ function footerOf(session) {
   const made = `Made by ${session.version}: frames, refusals, the bad characters of texts, the seven facts and the `
     + "outcome are what its ";
   const more = " says. Where a Close's reason goes wrong, where a cut text's last character begins, what looks "
-    + "compressed or exchanged, and the handshake are read from the bytes and comments by this page. It holds the "
-    + "capture, and fetches nothing.";
+    + "compressed or exchanged, and the handshake are read from the bytes and comments by this page. It holds "
+    + `${session.part ? "a part of " : ""}the capture, and fetches nothing.`;
   return make("footer", "", made, make("code", "", "wsn show --json"), more);
 }
 
@@ -210,7 +210,7 @@ function layOut(parts, save = SAVE) {
   const named = () => rows.find(row => row.name && `#${row.name}` === location.hash);
   const heading = headingOf(session, side => visit(refusal(side)));
   document.getElementById("page").replaceChildren(
-    barOf(session, save), make("main", "", ...heading, helpOf(), tools, grid), footerOf(session));
+    barOf(session, save), make("main", "", ...partOf(session), ...heading, helpOf(), tools, grid), footerOf(session));
   new ResizeObserver(() => grid.style.setProperty("--tools", `${tools.offsetHeight}px`)).observe(tools);
   filter.apply();
   globalKeys(filter, ladder, signal);

@@ -1,8 +1,9 @@
 // The rows of the ladder: each entry of `wsn show` in its order, a row more for each fragment before a message's last
-// frame, and one where nothing was sent for a while.
+// frame, one where nothing was sent for a while, and one where the page of a part leaves lines out.
 
 const SILENCE = 1; // Seconds without a line that get a row.
 const MESSAGES = new Set(["text", "binary"]);
+const BETWEEN = new Set(["silence", "omitted"]); // The rows of no entry.
 const PROBLEMS = new Set(["refused", "unfinished", "unread", "tail"]);
 
 /** A row's kind, by which it is filtered. */
@@ -78,17 +79,45 @@ function markLanes(rows) {
   }
 }
 
+/** What a row between two others has of the second: its lanes. */
+function lanesBefore({ ended, bars }) {
+  return { ended, bars: bars.filter(([, part]) => part !== "first").map(([side]) => [side, "through"]) };
+}
+
 /** Puts a row where no line came for a while. */
 function withSilence(rows) {
   const out = [];
   let last = null;
   for (const row of rows) {
     const passed = last !== null && row.line && row.time ? Number(row.time) - Number(last.time) : 0;
-    const bars = row.bars.filter(([, part]) => part !== "first").map(([side]) => [side, "through"]);
-    if (passed >= SILENCE) out.push({ type: "silence", seconds: passed, ended: row.ended, bars });
+    if (passed >= SILENCE) out.push({ type: "silence", seconds: passed, ...lanesBefore(row) });
     out.push(row);
     if (row.line && row.time) last = row;
+    if (row.type === "omitted") last = null;
   }
+  return out;
+}
+
+/** The lines between two that no row is of: those of the page's part aren't among them. */
+function omittedLines({ first, last }, from, to) {
+  const found = [[from + 1, Math.min(to, first) - 1], [Math.max(from, last) + 1, to - 1]];
+  return found.filter(([low, high]) => low <= high);
+}
+
+/** Puts rows where the page of a part leaves lines out. */
+function withOmitted({ part }, rows) {
+  if (!part) return rows;
+  const out = [], end = part.lines + 1, lanes = { ended: rows.at(-1)?.ended ?? [], bars: [] };
+  const omit = (from, to, row) => out.push(...omittedLines(part, from, to)
+    .map(([low, high]) => ({ type: "omitted", low, high, ...lanesBefore(row) })));
+  let from = 0;
+  for (const row of rows) {
+    const to = row.line ?? end;
+    omit(from, to, row);
+    out.push(row);
+    from = Math.max(from, to);
+  }
+  omit(from, end, lanes);
   return out;
 }
 
@@ -96,7 +125,7 @@ function withSilence(rows) {
 function rowsOf(session) {
   const rows = merged(session);
   markLanes(rows);
-  const all = withSilence(rows);
-  for (const row of all) if (row.type !== "silence") row.name = nameOf(row);
+  const all = withSilence(withOmitted(session, rows));
+  for (const row of all) if (!BETWEEN.has(row.type)) row.name = nameOf(row);
   return all;
 }

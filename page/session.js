@@ -15,26 +15,42 @@ function objectsOf(text) {
   });
 }
 
-/** What one side sent: where each line's bytes begin, where their digits are in the capture's text, and when it was. */
+/**
+ * What one side sent: where each line's bytes begin, where their digits are in the capture's text, and when it was;
+ * `held` are the ranges of bytes that the page has: of a part of a capture not all.
+ */
 class SentBytes {
   constructor(capture) {
     this.capture = capture;
     this.starts = [];
     this.digits = [];
     this.times = [];
+    this.held = [];
     this.length = 0;
   }
 
   add(from, to, time) {
+    const end = this.length + (to - from) / 2, last = this.held.at(-1);
     this.starts.push(this.length);
     this.digits.push(from);
     this.times.push(time);
-    this.length += (to - from) / 2;
+    if (last?.to === this.length) last.to = end; else this.held.push({ from: this.length, to: end });
+    this.length = end;
   }
 
-  /** The time of the byte at an offset, as the capture has it; nothing if it has none. */
+  /** Where the bytes end that the page has from an offset on. */
+  heldTo(offset) {
+    return this.held.find(({ from, to }) => from <= offset && offset < to)?.to ?? offset;
+  }
+
+  /** Where the bytes begin that the page has up to an offset. */
+  heldFrom(offset) {
+    return this.held.find(({ from, to }) => from < offset && offset <= to)?.from ?? offset;
+  }
+
+  /** The time of the byte at an offset, as the capture has it; nothing if it has none, or the page lacks the byte. */
   timeAt(offset) {
-    return offset < 0 ? undefined : this.times[this.lineAt(offset)];
+    return this.heldTo(offset) > offset ? this.times[this.lineAt(offset)] : undefined;
   }
 
   /** The number of the line that has the byte at an offset. */
@@ -48,7 +64,7 @@ class SentBytes {
   }
 
   slice(from, to) {
-    const bytes = new Uint8Array(Math.max(0, Math.min(to, this.length) - from));
+    const bytes = new Uint8Array(Math.max(0, Math.min(to, this.heldTo(from)) - from));
     for (let at = from, line = this.lineAt(from); at - from < bytes.length; line++) {
       const end = Math.min(this.starts[line + 1] ?? this.length, from + bytes.length);
       for (let digit = this.digits[line] + 2 * (at - this.starts[line]); at < end; at++, digit += 2)
@@ -60,11 +76,20 @@ class SentBytes {
 
 const TIME = /^# ((?:0|[1-9][0-9]*)\.[0-9]{1,9})$/; // A comment that is the time of the lines after it.
 
-/** The bytes of both sides of a capture's text. */
-function sentBytes(capture) {
+/**
+ * The bytes of both sides of a capture's text. Of a part, `runs` say where lines are left out before some: the place in
+ * the text, both sides' offsets there, and the time; `sent` how much each side sent in all.
+ */
+function sentBytes(capture, { runs = [], sent: all = null } = {}) {
   const sent = { client: new SentBytes(capture), server: new SentBytes(capture) };
-  let time;
+  let time, next = 0;
   for (let at = 0; at < capture.length;) {
+    if (runs[next]?.[0] === at) {
+      const [, client, server, since] = runs[next++];
+      sent.client.length = client;
+      sent.server.length = server;
+      time = since ?? undefined;
+    }
     let end = capture.indexOf("\n", at);
     if (end < 0) end = capture.length;
     const last = capture[end - 1] === "\r" ? end - 1 : end;
@@ -73,6 +98,7 @@ function sentBytes(capture) {
     if (capture[at] === "#") time = TIME.exec(capture.slice(at, last))?.[1] ?? time;
     at = end + 1;
   }
+  if (all) for (const side of SIDES) sent[side].length = all[side];
   return sent;
 }
 
@@ -85,10 +111,10 @@ function frameOf(listed) {
   return { ...listed, keyBytes: key, keyAt, payloadAt, end: payloadAt + listed.length };
 }
 
-/** A session: its entries, frames, report and bytes. */
+/** A session: its entries, frames, report and bytes. Where the page has a part of them, `part` says which. */
 class Session {
-  constructor({ name, version, explained, capture, shown, wire }) {
-    Object.assign(this, { name, version, explained, capture });
+  constructor({ name, version, explained, capture, shown, wire, part }) {
+    Object.assign(this, { name, version, explained, capture, part });
     const objects = objectsOf(shown);
     this.report = objects.find(object => object.type === "report");
     this.endedBy = objects.find(object => object.type === "ended-by") ?? null;
@@ -100,7 +126,7 @@ class Session {
     for (const frame of this.wire) this.frames[frame.side].push(frame);
     this.numbers = {};
     for (const side of SIDES) this.numbers[side] = new Map(this.frames[side].map((frame, at) => [frame.offset, at]));
-    this.sent = sentBytes(capture);
+    this.sent = sentBytes(capture, part);
   }
 
   /** The frame of a side that begins at an offset, if it is listed. */

@@ -39,7 +39,7 @@ def files_in(folder):
 def install_copies_and_removes(folder):
     """Into a folder with a blank in its name, by a relative name too; again; and away, beside other files."""
     prefix = folder / "a prefix"
-    kinds = "recipes/*.py", "page/*.css", "page/*.html", "page/*.js"
+    kinds = "recipes/*.py", "page/*.py", "page/*.css", "page/*.html", "page/*.js"
     parts = [str(path.relative_to(TOP)) for kind in kinds for path in TOP.glob(kind)]
     wanted = [*FILES, *(f"bin/{name}" for name in COMMANDS), "lib/wsn/made",
               *(f"lib/wsn/{name.removeprefix('recipes/')}" for name in [*parts, *COMMANDS.values()])]  # fmt: skip
