@@ -96,8 +96,8 @@ Each command has one for a stream that is empty, or refused at offset 0 or 1;
 for a capture that is empty, or has a malformed line and begins like another
 file, or a side that looks compressed, exchanged or in another encoding; at show
 and closing for a wrong handshake, at closing for bytes after a Close; recut for
-a plan with a byte order mark. Of two inputs it names FIRST or SECOND. None comes
-with --json.
+a plan with a byte order mark. Of two inputs it names FIRST or SECOND. With
+--json none comes.
 Next: do what it says, and run the command again. It is a guess by the first 16
 bytes (xxd -l 32 FILE shows them), of a capture by comments in the first 65,536.
 ",
