@@ -14,7 +14,6 @@ use wsn_rules::Verdict;
 use wsn_show::ShowStop;
 
 /// The verdict, unless the work stopped.
-#[tactic(none)]
 pub(crate) fn of_verdict(done: Result<Verdict, Stop>) -> Answer
     ensures { result ≡ verdict_answer done }
 {
@@ -25,7 +24,6 @@ pub(crate) fn of_verdict(done: Result<Verdict, Stop>) -> Answer
 }
 
 /// The verdict on a stream of which there is no plan for its sake.
-#[tactic(none)]
 pub(crate) fn of_plan<A: Allocator>(done: &Result<PlanAnswer<A>, Stop>) -> Answer
     ensures { result ≡ plan_answer done.now }
 {
@@ -37,7 +35,6 @@ pub(crate) fn of_plan<A: Allocator>(done: &Result<PlanAnswer<A>, Stop>) -> Answe
 }
 
 /// The verdict on a stream that isn't recut for its sake.
-#[tactic(none)]
 pub(crate) fn of_recut(done: Result<RecutAnswer, Stop>) -> Answer
     ensures { result ≡ recut_answer done }
 {
@@ -49,7 +46,6 @@ pub(crate) fn of_recut(done: Result<RecutAnswer, Stop>) -> Answer
 }
 
 /// The verdict on a stream that was read to its end or to a refusal.
-#[tactic(none)]
 pub(crate) fn of_payload(done: Result<Payload, Stop>) -> Answer
     ensures { result ≡ payload_answer done }
 {
@@ -63,7 +59,6 @@ pub(crate) fn of_payload(done: Result<Payload, Stop>) -> Answer
 }
 
 /// The report, unless the work stopped; a line that isn't accepted is a stop of its own.
-#[tactic(none)]
 pub(crate) fn of_report(done: Result<Report, ShowStop>) -> Answer
     ensures { result ≡ report_answer done }
 {
@@ -76,7 +71,6 @@ pub(crate) fn of_report(done: Result<Report, ShowStop>) -> Answer
 }
 
 /// The verdict on the stream that isn't accepted, if one isn't.
-#[tactic(none)]
 pub(crate) fn of_comparison(done: Result<Compared, Stop>) -> Answer
     ensures { result ≡ compared_answer done }
 {

@@ -16,7 +16,6 @@ use wsn_show::ShowStop;
 ///
 /// 0: both sides of the connection sent a Close. 1: any other report. 2: a stop, which is reported in one line on
 /// `errors`, as [`run`](crate::run) reports it. What can't be written to `errors` is dropped.
-#[tactic(none)]
 pub fn run_named_closing<R: Read, W: Write, E: Write>(
     name: &str,
     limits: Limits,
