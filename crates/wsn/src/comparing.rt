@@ -74,14 +74,7 @@ fn compare_on<R: Runtime + AllocGlobal, A: Read + Drop, B: Read + Drop>(
     match ended {
         Some(ended) => {
             finish(rt, &diagnosed);
-            give_hint(
-                rt,
-                &comparison,
-                first.kept(),
-                second.kept(),
-                side,
-                &ended,
-            );
+            give_hint(rt, &comparison, first.kept(), second.kept(), side, &ended);
             ended.ran.status
         }
         None => diagnose_stop(rt, Stop::Write),
@@ -102,12 +95,7 @@ fn give_hint<R: Eprint>(
         None => hint_on_streams(*comparison, first, second, ended.ran.answer),
         Some(_) => {
             let failed = if ended.first_failed { first } else { second };
-            hint_on_sides(
-                *comparison,
-                failed,
-                !ended.first_failed,
-                ended.ran.answer,
-            )
+            hint_on_sides(*comparison, failed, !ended.first_failed, ended.ran.answer)
         }
     };
     if let Some(hint) = hint {

@@ -1,4 +1,4 @@
-ghost use Rattle.std.specs.Prelude.{◌≡◌, ◌≤◌, IfOk, List, ℕ, codes, map, string_bytes};
+ghost use Rattle.std.specs.Prelude.{◌≡◌, ◌≤◌, false, IfOk, List, ℕ, codes, map, string_bytes};
 ghost use Rattle.clap.specs.Words.{found_of, matched_of};
 ghost use Rattle.wsn_cli.specs.Inputs.{AreInputsNamed, dashes};
 ghost use Rattle.wsn_cli.specs.Options.{words_of};
@@ -9,7 +9,7 @@ use crate::mistake::Mistake;
 use crate::options::{format_of, limits_of};
 use crate::request::{Request, Usage};
 use clap::ArgMatches;
-use std::alloc::{AllocError, Global};
+use std::alloc::Global;
 
 /// The request of `closing` for several captures. The error is `TwoStandardInputs` if more than one is standard input.
 pub fn closings_of(alloc: Global, matches: &ArgMatches<'_>) -> Result<Request, Usage>
@@ -39,7 +39,7 @@ pub fn has_several(matches: &ArgMatches<'_>) -> bool {
 }
 
 /// The names of the files to read: `-` if none is named.
-fn files_of(alloc: Global, matches: &ArgMatches<'_>) -> Result<Vec<String>, AllocError>
+fn files_of(alloc: Global, matches: &ArgMatches<'_>) -> Result<Vec<String>, Usage>
     ensures { IfOk result (λ files. AreInputsNamed (words_of (matched_of (found_of matches.now) (codes "file")))
         (map string_bytes files.items)) }
 {
@@ -50,13 +50,12 @@ fn files_of(alloc: Global, matches: &ArgMatches<'_>) -> Result<Vec<String>, Allo
 }
 
 /// These words, each in room of its own.
-fn owned(alloc: Global, words: &[&str]) -> Result<Vec<String>, AllocError>
+fn owned(alloc: Global, words: &[&str]) -> Result<Vec<String>, Usage>
     ensures { IfOk result (λ owned. map string_bytes owned.items ≡ map (λ word. word.now) words.now) }
 {
     let mut owned = Vec::new(alloc);
     for word in words {
-        let word = String::from_str(alloc, word)?;
-        owned.push(word).map_err(|_| AllocError)?;
+        owned.push(String::from_str(alloc, word)?)?;
     }
     Ok(owned)
 }
