@@ -1,4 +1,4 @@
-ghost use Rattle.std.specs.Prelude.{◌≡◌, ◌≤◌, IfOk, List, ℕ, codes, map, string_bytes};
+ghost use Rattle.std.specs.Prelude.{◌≡◌, ◌≤◌, false, IfOk, List, ℕ, codes, map, string_bytes};
 ghost use Rattle.clap.specs.Words.{found_of, matched_of};
 ghost use Rattle.wsn_cli.specs.Inputs.{AreInputsNamed, dashes};
 ghost use Rattle.wsn_cli.specs.Options.{words_of};
