@@ -66,7 +66,6 @@ impl<A: Allocator> Done<A> {
     }
 
     /// The answer.
-    #[tactic(none)]
     pub fn answer(&self) -> Answer
         ensures { result ≡ done_answer self.now }
     {

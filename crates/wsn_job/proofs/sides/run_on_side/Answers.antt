@@ -9,11 +9,11 @@ returns-in-Some-clause-done g c =
     c.in-Some.line.fault c.requires.may_run c.work-done.ensures.done c.in-Some.ensures
     c.diagnose.ensures c.status.ensures
 
-pub returns-in-None-clause-done : goal.returns-in-None-clause-done
-returns-in-None-clause-done g c =
+pub returns-clause-done : goal.returns-clause-done
+returns-clause-done g c =
     side_run c.args.job.now c.args.side.now c.work-done.new.input c.args.output.now c.work-done.new.output
-    c.args.errors.now c.diagnose.new.errors c.work-done.result c.ran.result c.work-done.ensures.done
-    c.diagnose.ensures c.ran.ensures
+    c.args.errors.now c.diagnose-in-None.new.errors c.work-done.result c.ran.result c.work-done.ensures.done
+    c.diagnose-in-None.ensures c.ran.ensures
 
 pub work-done-requires-clause-readable : goal.work-done-requires-clause-readable
 work-done-requires-clause-readable g c = search rules
@@ -33,11 +33,11 @@ returns-in-Some-clause-read g c = rw c.status.ensures c.work-done.ensures.read
 pub returns-in-Some-clause-write : goal.returns-in-Some-clause-write
 returns-in-Some-clause-write g c = rw c.status.ensures c.work-done.ensures.write
 
-pub returns-in-None-clause-status : goal.returns-in-None-clause-status
-returns-in-None-clause-status g c = rw c.ran.ensures c.work-done.ensures.status
+pub returns-clause-status : goal.returns-clause-status
+returns-clause-status g c = rw c.ran.ensures c.work-done.ensures.status
 
-pub returns-in-None-clause-read : goal.returns-in-None-clause-read
-returns-in-None-clause-read g c = rw c.ran.ensures c.work-done.ensures.read
+pub returns-clause-read : goal.returns-clause-read
+returns-clause-read g c = rw c.ran.ensures c.work-done.ensures.read
 
-pub returns-in-None-clause-write : goal.returns-in-None-clause-write
-returns-in-None-clause-write g c = rw c.ran.ensures c.work-done.ensures.write
+pub returns-clause-write : goal.returns-clause-write
+returns-clause-write g c = rw c.ran.ensures c.work-done.ensures.write
