@@ -66,6 +66,19 @@ fn request_line(alloc: Global, request: &Request) -> Result<String, AllocError> 
             let line = format!(in alloc; "{stream}, {first} and {second}{without}{view}{suffix}")?;
             with_side(alloc, &line, *side)
         }
+        Request::Closings {
+            limits,
+            format,
+            files,
+        } => {
+            let limits = limits_line(alloc, limits)?;
+            let mut line = format!(in alloc; "closing {limits}, of each")?;
+            for file in files.as_slice() {
+                line.push_str(" ")?;
+                line.push_str(file.as_str())?;
+            }
+            with_format(alloc, &line, *format)
+        }
         Request::Help(_) => String::from_str(alloc, "help"),
     }
 }

@@ -3,7 +3,7 @@
 use crate::answer_lines::expect_answer;
 
 /// A missing or unknown word, and a role or number out of its range.
-static WRONG: [&str; 46] = [
+static WRONG: [&str; 45] = [
     "wsn",
     "wsn other",
     "wsn judge",
@@ -18,7 +18,6 @@ static WRONG: [&str; 46] = [
     "wsn recut --role Client --size 3",
     "wsn judge --role server --role server",
     "wsn judge --role server file other",
-    "wsn closing file other",
     "wsn explain --capture",
     "wsn judge --role server --capture --capture",
     "wsn same --role client a",
@@ -61,7 +60,7 @@ fn clap_refuses_wrong_words(rt: HostRuntime) {
 
 /// Options of `recut` that don't go together, a key that isn't eight digits, a number that isn't digits alone, two inputs that are both
 /// standard input, and a capture that is read as it is: with each the mistake.
-static REFUSED: [(&str, &str); 29] = [
+static REFUSED: [(&str, &str); 30] = [
     ("wsn recut --role server", "NoPlanOrSize"),
     ("wsn recut --role server --plan p --size 2", "PlanAndSize"),
     (
@@ -103,6 +102,7 @@ static REFUSED: [(&str, &str); 29] = [
     ("wsn recut --role server --plan - -", "TwoStandardInputs"),
     ("wsn show --capture", "CaptureAsItIs"),
     ("wsn closing --capture capture", "CaptureAsItIs"),
+    ("wsn closing - file -", "TwoStandardInputs"),
 ];
 
 #[test]

@@ -271,7 +271,7 @@ fn a_recut_by_size_has_a_key_and_may_weave(rt: HostRuntime) {
 }
 
 /// Without a file, and for `-`, standard input is read; `./-` is a file's name.
-static INPUTS: [(&str, &str); 14] = [
+static INPUTS: [(&str, &str); 16] = [
     (
         "wsn judge --role server file",
         "judge server 16777216 1099511627776 - shortest, from file",
@@ -301,6 +301,14 @@ static INPUTS: [(&str, &str); 14] = [
         "closing 16777216 1099511627776 - shortest, from file",
     ),
     ("wsn closing -", "closing 16777216 1099511627776 - shortest"),
+    (
+        "wsn closing b - a --lengths any",
+        "closing 16777216 1099511627776 - any, of each b - a",
+    ),
+    (
+        "wsn closing --each --json",
+        "closing 16777216 1099511627776 - shortest, of each -, in JSON",
+    ),
     (
         "wsn recut --role server --size 3 file",
         "recut server 16777216 1099511627776 - shortest, size 3 weave false key None, from file",
